@@ -1,15 +1,15 @@
 -- A run of a word on a pair of images, from the loads on.
-use Rattle.std.proofs.Common.{◌≡◌, ◌≢◌, ◌⊎◌, inl, inr, ℕ, ◌+◌, ◌*◌, ◌<◌, ◌≤◌, List, [], ◌∷◌, length, map, Bool, if◌then◌else◌, Option, Some, None, IsSome, option_and_then, Result, Ok, Err, refl, sym, ◌∙◌, ap, subst, arith, true, false, nat_le}
+use Rattle.std.proofs.Common.{◌≡◌, ◌⊎◌, inl, inr, ℕ, ◌+◌, ◌<◌, ◌≤◌, List, [], ◌∷◌, length, map, Bool, if◌then◌else◌, Option, Some, None, IsSome, option_and_then, Result, Ok, Err, refl, sym, ◌∙◌, ap, subst, arith, true, false, nat_le}
 use Rattle.std.proofs.lemmas.Bool.Decides.{nat_tests}
 use Rattle.std.specs.FinMap.{len, entries, len-entries}
 use Rattle.pk_base.specs.Entry.{Entry}
 use Rattle.pk_base.specs.Key.{Key}
-use Rattle.pk_base.specs.Map.{Map, live}
+use Rattle.pk_base.specs.Map.{Map}
 use Rattle.pk_base.specs.Page.{Flash, IsFlash}
 use Rattle.pk_base.specs.Refusal.{Refusal, not_formatted, damaged}
 use Rattle.pk_base.specs.Shape.{Shape, IsShape, limit}
 use Rattle.pk_nand.specs.BoardState.{BoardState, shape_or_none}
-use Rattle.pk_nand.specs.Calls.{Rose, Loaded, LoadFailed, IsReady, longer}
+use Rattle.pk_nand.specs.Calls.{Rose, Loaded, IsReady, longer}
 use Rattle.pk_nand.specs.Effects.{OnlyReading}
 use Rattle.pk_nand.specs.declared.types.LoadFault.{LoadFault}
 use Rattle.pk_nand.specs.declared.types.LoadFault.TheVariants.{Fault, BadImage, Memory}
@@ -21,7 +21,7 @@ use Rattle.pk_model.specs.Sight.{Sight}
 use Rattle.pk_model.specs.Wear.{root_number, roots, is_worn}
 use Rattle.pk_serve.specs.Complete.{NoneRose}
 use Rattle.pk_call.specs.Drive.{HoldsMap}
-use Rattle.pk_scan.specs.Opening.{NotOpened, OnlyReads}
+use Rattle.pk_scan.specs.Opening.{NotOpened}
 use Rattle.pk_scan.proofs.ValuesHeld.{limit_few}
 use Rattle.pk_mirrorwords.proofs.Paging.{keys_few}
 use Rattle.pk_scan.specs.declared.errors.OpenError.{OpenError}
@@ -38,12 +38,11 @@ use Rattle.pk_mirrorrun.specs.PairTold.{EitherUnread, left_by, text_by, KeptFirs
 use Rattle.pk_top.specs.declared.asking.TheConstants.{WORD_FRAMES}
 use Rattle.pk_top.specs.Asks.{word_status}
 use Rattle.pk_top.specs.Ends.{open_status}
-use Rattle.pk_top.specs.Loads.{load_status, HasReason, LoadRefused}
+use Rattle.pk_top.specs.Loads.{load_status, HasReason}
 use Rattle.pk_top.specs.Serves.{NotServed, behind_opening}
-use Rattle.pk_top.specs.Statuses.{GivesNothing, Untouched, HasNoDrive, FlashFailed as FlashHasFailed, Tells}
-use Rattle.pk_top.specs.PairRuns.{NotFound, KeepsPair, AskedPair, NotOpenedPair, AsksPair, FoundPair, OtherShapes, PairRun, HasNoPair, PairFlashFailed, PairTells, LacksPair, PairRefused, PairWhole}
-use Rattle.pk_top.proofs.Telling.{tells_refused, tells_not, tells_no_drive, wants_untouched, wants_sound, gives_same, untouched_same, load_untouched, refused_untouched}
-use Rattle.pk_top.proofs.Completing.{reads_leave}
+use Rattle.pk_top.specs.Statuses.{GivesNothing, Untouched, Tells}
+use Rattle.pk_top.specs.PairRuns.{NotFound, KeepsPair, AskedPair, AsksPair, PairRun, PairTells, LacksPair, PairRefused, PairWhole}
+use Rattle.pk_top.proofs.Telling.{tells_refused, tells_not, tells_no_drive, wants_untouched, wants_sound, untouched_same, load_untouched, refused_untouched}
 
 names_len : (es : List (Key × List ℕ)) → length (map (λ e. e.0) es) ≡ length es
 names_len [] = refl

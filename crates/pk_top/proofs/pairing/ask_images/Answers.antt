@@ -1,8 +1,7 @@
-use Rattle.std.proofs.Common.{refl, sym, subst}
+use Rattle.std.proofs.Common.{refl, subst}
 use Rattle.pk_base.specs.Map.{Map}
 use Rattle.pk_base.specs.Shape.{Shape}
 use Rattle.pk_model.specs.Reading.{Holds}
-use Rattle.pk_scan.specs.declared.errors.OpenError.TheVariants.{Memory}
 use Rattle.pk_parts.specs.Parts.{sight_of}
 use Rattle.pk_mirrorwords.specs.PairTasks.{seen}
 use Rattle.pk_mirrorrun.specs.PairTold.{PairTold}
