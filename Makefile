@@ -34,7 +34,7 @@ install: $(programs)
 	$(INSTALL) -m 755 $(tools) $(home)
 	$(INSTALL) -m 644 launch/run.sh launch/why.sh $(home)/launch
 	$(INSTALL) -m 644 docs/words.txt $(home)/docs
-	$(INSTALL) -m 644 clients/python/pinkdrive.py $(home)/clients/python
+	$(INSTALL) -m 644 clients/python/pinkdrive.py clients/python/pinkmirror.py $(home)/clients/python
 	$(INSTALL) -m 644 clients/python/pinkctl/*.py $(home)/clients/python/pinkctl
 	./pink --version | sed 's/^pink //' >$(home)/VERSION
 	for it in $(tools); do ln -sf ../lib/cezhandru/$$it $(root)/bin/$$it || exit 1; done

@@ -108,7 +108,7 @@ def causes(folder, image):
 def gone(image):
     """The process that had the image open has ended before its words were read, and a kit that is not there."""
     shell = f'. "{TOP}/launch/why.sh"; user_of() {{ echo 999999999; }}; flash_fault "{image}" list'
-    check('a process that has gone: no line of the shell', run('sh', '-c', shell) == (0, 'the image is in use by process 999999999\n', ''))
+    check('a process that has gone: no line of the shell', run('sh', '-c', shell) == (0, f'{image} is in use by process 999999999\n', ''))
     with tempfile.TemporaryDirectory() as folder:
         for name in ('demo.sh', 'build.sh'):
             shutil.copy(f'{TOP}/{name}', folder)
@@ -128,6 +128,32 @@ def words(image):
     ]:  # fmt: skip
         says([image, *given.split()], 2, text)
     says(['get', 'd.img', '61'], 2, 'the image comes first')
+
+
+def pairs(folder, image):
+    other, small, junk = folder + '/other', folder + '/small.img', folder + '/junk'
+    run(PINK, other, 'make', '512', '16', '64')
+    run(PINK, small, 'make', '512', '8', '33')
+    pair = ['mirror', image, other]
+    check('a pair stores', run(PINK, *pair, 'put', '61', '616263') == (0, 'ok\n', ''))
+    check('a pair finds', run(PINK, *pair, 'get', '61') == (0, 'ok 616263\n', ''))
+    check('the second drive has it', run(PINK, other, 'get', '61')[1] == 'ok 616263\n')
+    check('a pair with each change on the disk', run(PINK, *pair, 'del', '61', env={**os.environ, 'PINK_SYNC': '1'})[:2] == (0, 'ok\n'))
+    for given, text in [
+        (['mirror', image], 'mirror takes two images and a word'), (pair, 'mirror takes two images and a word'),
+        (['mirror', image, 'list'], 'two images come first: pink mirror IMAGE IMAGE list'), (['mirror', image, image, 'list'], 'both images are'),
+        (['mirror', 'mirror', image, 'list'], 'cannot be named mirror'), ([*pair, 'stat'], "there is no word 'stat' for a pair"),
+        ([*pair, 'list', '61'], 'list of a pair takes no more words'), ([*pair, 'get', 'zz'], "the key 'zz'"), ([*pair, 'put', '61'], 'put takes KEY BYTES'),
+    ]:  # fmt: skip
+        says(given, 2, text)
+    says(['mirror', image, folder + '/none', 'list'], 8, 'make 512 16 64 would make one for the other image')
+    says(['mirror', junk, image, 'list'], 8, 'junk (5 bytes) is no image of a drive')
+    says(['mirror', image, small, 'list'], 8, 'the drives have different shapes')
+    says(['mirror', image, folder, 'list'], 6, 'is a folder')
+    launcher, program = serving(other)
+    says([*pair, 'list'], 6, f'{other} is in use by process {program} (')
+    launcher.stdin.close()
+    check('the end of the input ends it with 0', launcher.wait(30) == 0)
 
 
 def scripts(folder, image):
@@ -238,6 +264,7 @@ with tempfile.TemporaryDirectory() as folder:
     causes(folder, image)
     gone(image)
     words(image)
+    pairs(folder, image)
     scripts(folder, image)
     signals(image)
     pipes(image)

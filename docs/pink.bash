@@ -1,10 +1,25 @@
 # Completion of ./pink for bash:  . docs/pink.bash
+_pink_pair() {
+    local word=${COMP_WORDS[COMP_CWORD]}
+    case $COMP_CWORD in
+        2 | 3)
+            compopt -o filenames 2>/dev/null
+            COMPREPLY=($(compgen -f -- "$word"))
+            ;;
+        4) COMPREPLY=($(compgen -W "put get del list resync" -- "$word")) ;;
+        *) COMPREPLY=() ;;
+    esac
+}
 _pink() {
     local word=${COMP_WORDS[COMP_CWORD]}
+    if [ "$COMP_CWORD" -gt 1 ] && [ "${COMP_WORDS[1]}" = mirror ]; then
+        _pink_pair
+        return
+    fi
     case $COMP_CWORD in
         1)
             compopt -o filenames 2>/dev/null
-            COMPREPLY=($(compgen -f -- "$word") $(compgen -W "--help --version" -- "$word"))
+            COMPREPLY=($(compgen -f -- "$word") $(compgen -W "mirror --help --version" -- "$word"))
             ;;
         2) COMPREPLY=($(compgen -W "make serve asm show put get del has list stat gen" -- "$word")) ;;
         3)

@@ -5,6 +5,11 @@ why() { # NAME STATUS IMAGE WORDS..
     name=$1
     status=$2
     shift 2
+    if [ "$name" = pink ] && [ "$1" = mirror ]; then
+        shift
+        fault=$(pair_fault "$status" "$@")
+        [ -z "$fault" ] || { echo "$fault" && return; }
+    fi
     case $status in
         2) if [ "$name" = pink ]; then words_fault "$@"; else echo "the words are IMAGE, or IMAGE lines"; fi ;;
         3) input_cut "${2:-}" ;;
@@ -97,6 +102,12 @@ words_fault() { # IMAGE WORDS..
             return
             ;;
     esac
+    operands_fault "$word" "$@"
+}
+
+operands_fault() { # WORD OPERANDS..
+    word=$1
+    shift
     case $word in
         make) wanted=3 operands='P N M' ;;
         serve) wanted=1 operands=FRAMES ;;
@@ -127,6 +138,60 @@ words_fault() { # IMAGE WORDS..
             ;;
         *) echo "the words are none of those that it knows (docs/COMMANDS.md)" ;;
     esac
+}
+
+# A pair of images.
+
+pair_fault() { # STATUS IMAGE IMAGE WORDS..: prints nothing if it has no more to say than of one image
+    case $1 in
+        2)
+            shift
+            pair_words_fault "$@"
+            ;;
+        6)
+            fault=$(open_fault "$2" list)
+            [ -n "$fault" ] || fault=$(open_fault "$3" list)
+            echo "${fault:-a read or write of an image failed, or another process had it open}"
+            ;;
+        8) pair_shape_fault "$2" "$3" ;;
+        10) echo "a drive of the pair is worn" ;;
+    esac
+}
+
+pair_words_fault() { # IMAGE IMAGE WORDS..
+    known='put get del list resync'
+    for image in "${1:-}" "${2:-}"; do
+        case " $known " in
+            *" $image "*) echo "two images come first: pink mirror IMAGE IMAGE $image .." && return ;;
+        esac
+    done
+    if [ $# -lt 3 ]; then
+        echo "mirror takes two images and a word: pink mirror IMAGE IMAGE WORDS.."
+        return
+    elif [ "$1" = mirror ] || [ "$2" = mirror ]; then
+        echo "an image of a pair cannot be named mirror; ./mirror can"
+        return
+    elif [ "$1" = "$2" ]; then
+        echo "both images are $1"
+        return
+    fi
+    word=$3
+    shift 3
+    case $word in
+        list | resync) echo "$word of a pair takes no more words" ;;
+        put | get | del) operands_fault "$word" "$@" ;;
+        *) echo "there is no word '$word' for a pair; the words are $known" ;;
+    esac
+}
+
+pair_shape_fault() { # IMAGE IMAGE
+    one=$(shape_of "$1") two=$(shape_of "$2")
+    fault=$(drive_fault "$1" list "$two")
+    [ -n "$fault" ] || fault=$(drive_fault "$2" list "$one")
+    if [ -z "$fault" ] && [ "$one" != "$two" ]; then
+        fault="the drives have different shapes: $1 has $one, $2 has $two"
+    fi
+    echo "${fault:-an image is damaged, or its making was broken off: see pinkctl check}"
 }
 
 # The input. A file is looked at again from its start; a pipe is gone.
@@ -204,11 +269,11 @@ file_fault() { # IMAGE WORD: why it cannot be opened; prints nothing if nothing 
     fi
 }
 
-flash_fault() { # IMAGE WORD
+open_fault() { # IMAGE WORD: why the system does not read or write it; prints nothing if nothing is seen
     if user=$(user_of "$1"); then
         # The process may have ended by now, so that its file is not there.
         words=$({ tr '\0' ' ' <"/proc/$user/cmdline"; } 2>/dev/null | cut -c 1-80 | sed 's/ *$//')
-        echo "the image is in use by process $user${words:+ ($words)}"
+        echo "$1 is in use by process $user${words:+ ($words)}"
         return
     fi
     fault=$(file_fault "$1" "$2")
@@ -218,38 +283,48 @@ flash_fault() { # IMAGE WORD
         free=$(df -Pk -- "$place" 2>/dev/null | awk 'NR == 2 { print $4 }')
         if [ "${free:-64}" -lt 64 ]; then fault="no space is left on the disk of $1"; fi
     fi
+    echo "$fault"
+}
+
+flash_fault() { # IMAGE WORD
+    fault=$(open_fault "$1" "$2")
     echo "${fault:-a read or write of the image failed, or another process had it open}"
 }
 
 image_fault() { # IMAGE WORD
+    fault=$(drive_fault "$1" "$2")
+    hint=
+    [ "$2" != make ] || [ ! -e "$1" ] || hint=": remove it, or name another file"
+    echo "${fault:-the image is damaged, or its making was broken off: see pinkctl check}$hint"
+}
+
+drive_fault() { # IMAGE WORD [SHAPE]: why there is no drive in it, by its file and its head; prints nothing if nothing is seen
     fault=$(file_fault "$1" "$2")
     if [ -n "$fault" ]; then
         echo "$fault"
         return
     fi
     if [ ! -e "$1" ]; then
-        echo "there is no file $1; pink $1 make 512 16 64 would make a small drive"
+        hint="pink $1 make 512 16 64 would make a small drive"
+        [ -z "${3:-}" ] || hint="pink $1 make $3 would make one for the other image"
+        echo "there is no file $1; $hint"
         return
     fi
-    hint=
-    [ "$2" != make ] || hint=": remove it, or name another file"
     size=$(wc -c <"$1" | tr -d ' ')
-    # shellcheck disable=SC2046  # the bytes of the head are words
-    set -- "$1" $(od -An -v -tu1 -N 32 -- "$1" 2>/dev/null)
-    if [ "$*" = "$1" ] || [ "${2:-} ${3:-} ${4:-} ${5:-} ${6:-} ${7:-} ${8:-} ${9:-}" != "80 73 78 75 73 77 71 49" ]; then
-        echo "$1 ($size bytes) is no image of a drive$hint"
+    # shellcheck disable=SC2046  # the three numbers of a shape are words
+    set -- "$1" $(shape_of "$1")
+    if [ $# -ne 4 ]; then
+        echo "$1 ($size bytes) is no image of a drive"
         return
     fi
-    shift 9
-    page=$(($1 + $2 * 256)) pages=$(($5 + $6 * 256)) blocks=$(($9 + ${10} * 256))
-    echo "$(size_fault "$size" "$page" "$pages" "$blocks")$hint"
+    wanted=$((32 + $3 * $4 * ($2 + 1)))
+    [ "$size" -eq "$wanted" ] || echo "$1 has $size bytes, and by its head it should have $wanted"
 }
 
-size_fault() { # SIZE PAGE PAGES BLOCKS: what is wrong with an image whose head has the text of one
-    wanted=$((32 + $3 * $4 * ($2 + 1)))
-    if [ "$1" -ne "$wanted" ]; then
-        echo "the image has $1 bytes, and by its head it should have $wanted"
-    else
-        echo "the image is damaged, or its making was broken off: see pinkctl check"
-    fi
+shape_of() { # IMAGE: the bytes of a page, the pages of a block and the blocks, by its head; prints nothing if it has none
+    # shellcheck disable=SC2046  # the bytes of the head are words
+    set -- $(od -An -v -tu1 -N 32 -- "$1" 2>/dev/null)
+    [ "${1:-} ${2:-} ${3:-} ${4:-} ${5:-} ${6:-} ${7:-} ${8:-}" = "80 73 78 75 73 77 71 49" ] || return
+    shift 8
+    echo "$((${1:-0} + ${2:-0} * 256)) $((${5:-0} + ${6:-0} * 256)) $((${9:-0} + ${10:-0} * 256))"
 }

@@ -97,6 +97,12 @@ REFUSALS_KEPT = 1000
 """Refusals that nobody waited for are kept up to this number; more are counted."""
 
 
+def image_word(image: Path) -> str:
+    """The path of an image as a word of the program, which takes `mirror` as the word of a pair."""
+    path = os.fspath(image)
+    return os.path.join(".", path) if path == "mirror" else path
+
+
 class Opcode(enum.IntEnum):
     """The commands of the drive."""
 
@@ -517,7 +523,7 @@ class _Session:
         self._out = bytearray()
         # The launcher gives its place to the program, so signals to the process reach the program.
         self.process = subprocess.Popen(
-            [program, image, "serve", str(frames)],
+            [program, image_word(image), "serve", str(frames)],
             bufsize=0,
             stdin=subprocess.PIPE,
             stdout=subprocess.PIPE,
@@ -1010,7 +1016,7 @@ def make(
     """Makes the image of a drive without keys; `DriveEnded` with status 9 if there is one."""
     words = ["make", *map(str, (page_bytes, block_pages, blocks))]
     run = subprocess.run(
-        [program or PROGRAM, os.fspath(image), *words],
+        [program or PROGRAM, image_word(image), *words],
         stdin=subprocess.DEVNULL,
         stderr=stderr,
         env={**os.environ, "PINK_EXEC": "1"},

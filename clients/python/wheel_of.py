@@ -27,7 +27,7 @@ def project() -> dict:
 
 def sources() -> list:
     """The files of the client and of the tools."""
-    return ["pinkdrive.py", *sorted(glob.glob("pinkctl/*.py", root_dir=HERE))]
+    return ["pinkdrive.py", "pinkmirror.py", *sorted(glob.glob("pinkctl/*.py", root_dir=HERE))]
 
 
 def metadata() -> bytes:

@@ -25,7 +25,7 @@ from typing import Callable, Deque, Dict, List, NamedTuple, Optional, Set, Tuple
 from . import resp
 from .program import pink  # first: it puts the client on the path
 import pinkdrive
-from pinkdrive import ENTRY, KEY_BYTES, RECORD, Opcode, Report
+from pinkdrive import ENTRY, KEY_BYTES, RECORD, Opcode, Report, image_word
 from .resp import NIL, NO_ITEMS, OK, PONG, array, bulk, error, integer
 from .status import Exit, ToolError
 STORE, RETRIEVE, LIST = int(Opcode.STORE), int(Opcode.RETRIEVE), int(Opcode.LIST)
@@ -87,7 +87,7 @@ class Link:
     def __init__(self, program: str, image: str, frames: int) -> None:
         self.image = image
         self.process = subprocess.Popen(
-            [program, image, "serve", str(frames)],
+            [program, image_word(image), "serve", str(frames)],
             bufsize=0,
             stdin=subprocess.PIPE,
             stdout=subprocess.PIPE,

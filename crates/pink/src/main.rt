@@ -2,11 +2,14 @@
 #![tactic(auto)]
 
 use pk_file::FileBoard;
-use pk_top::{Status, run};
+use pk_top::{Status, run, run_pair};
 use std::env;
 use std::env::VarError;
 use std::io::ErrorKind;
 use std::process::ExitCode;
+
+/// The word before the paths of a pair of images; no image is named so.
+const PAIR: &str = "mirror";
 
 /// The words behind the program's name; the status where they cannot be had.
 fn words_of(rt: &HostRuntime) -> Result<Vec<String>, Status> {
@@ -53,7 +56,36 @@ fn run_on(rt: &HostRuntime, image: &str, words: &[&str]) -> Status {
     }
 }
 
-/// Does what the words ask for, of which the first is the path of the image file.
+/// Does over the two image files of these paths what the other words ask for. Texts go out over the first.
+fn run_on_pair(rt: &HostRuntime, image: &str, other: &str, words: &[&str]) -> Status {
+    if image == other || image == PAIR || other == PAIR {
+        return Status::WORDS;
+    }
+    let mut first = board_over(rt, image);
+    let mut second = board_over(rt, other);
+    let status = run_pair(rt.alloc(), words, &mut first, &mut second);
+    match first.finish() {
+        Ok(()) => status,
+        Err(_) => Status::OUTPUT,
+    }
+}
+
+/// Does what the words ask for: of a pair, after its name and the paths of both image files; else after the path of one.
+fn obey_texts(rt: &HostRuntime, words: &[&str]) -> Status {
+    match words.split_first() {
+        Some((image, rest)) if *image == PAIR => match rest.split_first() {
+            Some((first, rest)) => match rest.split_first() {
+                Some((second, rest)) => run_on_pair(rt, first, second, rest),
+                None => Status::WORDS,
+            },
+            None => Status::WORDS,
+        },
+        Some((image, rest)) => run_on(rt, image, rest),
+        None => Status::WORDS,
+    }
+}
+
+/// The same of texts that are owned.
 fn obey(rt: &HostRuntime, words: &[String]) -> Status {
     let mut texts = Vec::new(rt.alloc());
     for word in words {
@@ -61,10 +93,7 @@ fn obey(rt: &HostRuntime, words: &[String]) -> Status {
             return Status::MEMORY;
         }
     }
-    match texts.as_slice().split_first() {
-        Some((image, rest)) => run_on(rt, image, rest),
-        None => Status::WORDS,
-    }
+    obey_texts(rt, texts.as_slice())
 }
 
 fn main(rt: HostRuntime) -> ExitCode {

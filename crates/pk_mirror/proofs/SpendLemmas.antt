@@ -1,5 +1,5 @@
 -- How many commands of a resync change the second drive's map.
-use Rattle.std.proofs.Common.{◌≡◌, inl, inr, ℕ, ◌+◌, ◌-◌, ◌⊎◌, ◌≤◌, ◌==◌, cond, if◌then◌else◌, List, [], ◌∷◌, ◌++◌, Bool, true, false, Option, Some, None, is_some, Result, Ok, refl, sym, ap, subst, ◌∙◌, arith}
+use Rattle.std.proofs.Common.{◌≡◌, inl, inr, ℕ, ◌+◌, ◌-◌, ◌⊎◌, ◌≤◌, ◌==◌, cond, if◌then◌else◌, List, [], ◌∷◌, ◌++◌, Bool, true, false, Option, Some, None, is_some, refl, sym, ap, ◌∙◌, arith}
 use Rattle.std.specs.List.{AllByRecursion}
 use Rattle.std.specs.FinMap.{get, insert, remove, len, contains_key, len-insert, len-remove}
 use Rattle.pk_base.specs.Key.{Key}
@@ -11,9 +11,9 @@ use Rattle.pk_host.specs.Port.{PortState, Took}
 use Rattle.pk_host.specs.Calls.{TookSome, Fetches, Deletes, Tests, Leaves, delete_of, store_of}
 use Rattle.pk_host.specs.declared.types.StoreRule.TheVariants.{Any}
 use Rattle.pk_mirror.specs.Causes.{OnlyAsks, AreAsking}
-use Rattle.pk_mirror.specs.Agreement.{NoOther, HaveSame, AreAny, IsPart}
+use Rattle.pk_mirror.specs.Agreement.{NoOther, AreAny, IsPart}
 use Rattle.pk_mirror.specs.Visits.{Visits, VisitsAll}
-use Rattle.pk_mirror.specs.Spending.{OnlyLooks, LooksOr, count_of, AreOfResync, Spent, Spending, to_delete, to_store, Deleted, Deleting, Stored, Storing}
+use Rattle.pk_mirror.specs.Spending.{OnlyLooks, LooksOr, count_of, AreOfResync, Spent, Spending, Deleted, Deleting, Stored, Storing}
 use Rattle.pk_mirror.proofs.MapLemmas.{part_insert, len_of_part, some_len, some_same}
 use Rattle.pk_mirror.proofs.KeyLemmas.{found_some}
 

@@ -1,26 +1,23 @@
 -- A word of a pair: the resync before it, and what it asks then.
-use Rattle.std.proofs.Common.{◌≡◌, inl, inr, ℕ, ◌+◌, ◌≤◌, ◌⊎◌, ◌==◌, if◌then◌else◌, List, [], ◌∷◌, ◌++◌, Option, Some, None, true, false, Result, Ok, Err, refl, sym, ap, subst, ◌∙◌, arith}
+use Rattle.std.proofs.Common.{◌≡◌, inl, inr, ℕ, ◌+◌, ◌⊎◌, ◌==◌, if◌then◌else◌, List, [], ◌∷◌, ◌++◌, Option, Some, false, refl, sym, ap, subst, ◌∙◌, arith}
 use Rattle.std.proofs.lemmas.List.{append_assoc}
-use Rattle.std.specs.List.{AllByRecursion}
-use Rattle.std.specs.FinMap.{len}
 use Rattle.pk_base.specs.Shape.{Shape, limit}
 use Rattle.pk_base.specs.Map.{Map}
 use Rattle.pk_nvme.specs.Command.{Command}
 use Rattle.pk_nvme.specs.declared.opcode.TheConstants.{STORE, DELETE}
-use Rattle.pk_nvme.specs.declared.status.TheConstants.{UNRECOVERED_ERROR}
 use Rattle.pk_host.specs.Port.{PortState, Took}
 use Rattle.pk_host.specs.Calls.{AtMostOne, TookSome, store_of, delete_of}
 use Rattle.pk_host.specs.declared.types.StoreRule.TheVariants.{Any}
-use Rattle.pk_words.specs.Lines.{failed_line, status_line}
+use Rattle.pk_words.specs.Lines.{status_line}
 use Rattle.pk_mirror.specs.declared.error.Side.{Side}
 use Rattle.pk_mirror.specs.declared.error.Side.TheVariants.{First, Second}
 use Rattle.pk_mirror.specs.declared.error.MirrorError.{MirrorError}
 use Rattle.pk_mirror.specs.declared.error.MirrorError.TheVariants.{Refused, Port, Split}
 use Rattle.pk_mirror.specs.Pair.{Mirrored, IsPair}
 use Rattle.pk_mirror.specs.Causes.{OnlyAsks, AreAsking, IsCause, IsReadError}
-use Rattle.pk_mirror.specs.Spending.{OnlyLooks, LooksOr, count_of, AreOfResync}
+use Rattle.pk_mirror.specs.Spending.{LooksOr, count_of, AreOfResync}
 use Rattle.pk_mirrorwords.specs.PairTasks.{PairTask, put, get, delete, list, resync, change_of, text_of, map_left}
-use Rattle.pk_mirrorwords.specs.PairAnswers.{IsToldPair, IsInStep, PairUnread, PairFault, PairDone, PairSaid, PairFails, AreChange, AreOfFirst, AreOfPair, HaveOneChange, AreOfSecond}
+use Rattle.pk_mirrorwords.specs.PairAnswers.{IsToldPair, IsInStep, PairDone, PairSaid, PairFails, AreChange, AreOfFirst, AreOfPair, HaveOneChange, AreOfSecond}
 use Rattle.pk_mirrorwords.proofs.Paging.{unread_later, fault_later}
 
 -- ---- commands

@@ -1,24 +1,21 @@
 -- The keys of a pair, page by page into one text.
-use Rattle.std.proofs.Common.{◌≡◌, inl, inr, ℕ, ◌⊎◌, ◌+◌, ◌-◌, ◌*◌, ◌<◌, ◌≤◌, List, [], ◌∷◌, ◌++◌, length, map, take, filter, nat_lt, slice_index_or, Bool, true, false, Option, Some, None, Result, Ok, Err, refl, sym, ap, subst, ◌∙◌, arith}
+use Rattle.std.proofs.Common.{◌≡◌, inl, inr, ℕ, ◌⊎◌, ◌+◌, ◌-◌, ◌*◌, ◌<◌, ◌≤◌, List, [], ◌∷◌, ◌++◌, length, map, take, slice_index_or, Bool, true, false, Option, Some, None, Result, Ok, Err, refl, sym, ap, subst, ◌∙◌, arith}
 use Rattle.std.proofs.lemmas.List.{append-nil, append_assoc, length-append, take_all}
 use Rattle.std.proofs.lemmas.Grind.{flat_map-append}
-use Rattle.std.specs.Ordering.{is_lt}
 use Rattle.std.specs.FinMap.{keys, entries}
 use Rattle.std.specs.List.{AllByRecursion}
 use Rattle.pk_base.specs.Fields.{AreBytes}
 use Rattle.pk_base.specs.Key.{Key, IsKey}
-use Rattle.pk_base.specs.Shape.{Shape, IsShape, limit, charge}
+use Rattle.pk_base.specs.Shape.{Shape, IsShape, limit}
 use Rattle.pk_base.specs.Map.{Map, IsMap, live, pages_in}
 use Rattle.pk_segfmt.proofs.StoredLemmas.{charge_some}
 use Rattle.pk_nvme.specs.Bytes.{RoomyList}
 use Rattle.pk_nvme.specs.Command.{Command, key_or_none}
-use Rattle.pk_nvme.specs.Reply.{Reply}
-use Rattle.pk_nvme.specs.declared.status.TheConstants.{UNRECOVERED_ERROR}
 use Rattle.pk_nand.specs.Calls.{Rose}
 use Rattle.pk_host.specs.declared.types.HostError.{HostError}
 use Rattle.pk_host.specs.Port.{PortState, Took}
 use Rattle.pk_host.specs.Calls.{Gives, TookSome, AtMostOne, list_of, retrieve_of}
-use Rattle.pk_host.specs.Listing.{above, page_after, Pages, Follows, listed_by}
+use Rattle.pk_host.specs.Listing.{above, Pages, Follows, listed_by}
 use Rattle.pk_host.proofs.PageLemmas.{next_page}
 use Rattle.pk_words.specs.Lines.{key_line, key_lines}
 use Rattle.pk_words.proofs.LineLemmas.{one_more}
@@ -74,8 +71,8 @@ pages_some : (shape : Shape) → IsShape shape → (es : List (Key × List ℕ))
 pages_some shape is [] = omega arith
 pages_some shape is (e ∷ es) = let rest = pages_some shape is es in let one = charge_some shape is (length e.1) in omega (arith, rest, one)
 
-few_keys : (shape : Shape) (m : Map) → IsShape shape → length (keys m) ≤ live shape m
-few_keys shape m is = let names = names_length (entries m) in let pages = pages_some shape is (entries m) in omega (arith, names, pages)
+pub keys_few : (shape : Shape) (m : Map) → IsShape shape → length (keys m) ≤ live shape m
+keys_few shape m is = let names = names_length (entries m) in let pages = pages_some shape is (entries m) in omega (arith, names, pages)
 
 -- ---- a page
 
@@ -120,7 +117,7 @@ module _ (p : PortState) (last : Option Key) (text : List ℕ) (listed : IsListe
         let (front, split, lines, most) = listed.lines m told in
         let rest = rest_of next some refl m told in
         let few : live shape m ≤ limit shape = subst (λ (s : Shape). live s m ≤ limit s) same (subst (λ (n : ℕ). live p.shape m ≤ n) limit_is within) in
-        let all = few_keys shape m is_shape in
+        let all = keys_few shape m is_shape in
         let one : length (keys m) ≡ length front + length (keys_after last m) = ap (λ (ks : List Key). length ks) split ∙ length-append front (keys_after last m) in
         let two : length (keys_after last m) ≡ length page + length (above next (keys m)) = ap (λ (ks : List Key). length ks) rest ∙ length-append page (above next (keys m)) in
         omega (arith, wide, few, most, all, one, two)

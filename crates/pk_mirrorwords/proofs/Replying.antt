@@ -1,8 +1,8 @@
 -- What a pair's word says, from how each drive answered its command.
-use Rattle.std.proofs.Common.{◌≡◌, ◌≢◌, inl, inr, ℕ, ◌≤◌, ◌⊎◌, ◌==◌, if◌then◌else◌, List, [], ◌∷◌, length, take, Bool, true, false, Option, Some, None, Result, Ok, Err, refl, sym, ap, subst, ◌∙◌}
+use Rattle.std.proofs.Common.{◌≡◌, ◌≢◌, inl, inr, ℕ, ◌≤◌, ◌==◌, if◌then◌else◌, List, length, take, Bool, true, false, Option, Some, None, Result, Ok, Err, refl, sym, ap, subst, ◌∙◌}
 use Rattle.std.proofs.lemmas.Bool.{eqb-true}
 use Rattle.std.specs.FinMap.{get}
-use Rattle.pk_base.specs.Key.{Key, IsKey}
+use Rattle.pk_base.specs.Key.{Key}
 use Rattle.pk_base.specs.Shape.{Shape, greatest}
 use Rattle.pk_base.specs.Map.{Map, IsMap, live}
 use Rattle.pk_nvme.specs.Command.{Command}
@@ -10,28 +10,26 @@ use Rattle.pk_nvme.specs.Reply.{Reply, refusal}
 use Rattle.pk_nvme.specs.Opcode.{op_of}
 use Rattle.pk_nvme.specs.declared.opcode.Opcode.{Opcode}
 use Rattle.pk_nvme.specs.declared.status.TheConstants.{SUCCESSFUL_COMPLETION, KEY_DOES_NOT_EXIST, UNRECOVERED_ERROR}
-use Rattle.pk_nand.specs.Calls.{Rose}
-use Rattle.pk_model.specs.Answer.{refused, reply, reply_of, success, map_after, Answer}
-use Rattle.pk_model.specs.Run.{StepIn}
+use Rattle.pk_model.specs.Answer.{refused, reply, reply_of, map_after, Answer}
 use Rattle.pk_host.specs.declared.types.HostError.{HostError}
 use Rattle.pk_host.specs.declared.types.HostError.TheVariants.{Refused as HostRefused, Port as HostPort, Memory}
-use Rattle.pk_host.specs.Port.{PortState, Replies}
-use Rattle.pk_host.specs.Calls.{Gives, Fetches, IsFront, stored, existed}
-use Rattle.pk_words.specs.Lines.{status_line, value_line, failed_line}
+use Rattle.pk_host.specs.Port.{PortState}
+use Rattle.pk_host.specs.Calls.{Fetches, IsFront, stored, existed}
+use Rattle.pk_words.specs.Lines.{status_line, value_line}
 use Rattle.pk_mirror.specs.declared.error.Side.{Side}
 use Rattle.pk_mirror.specs.declared.error.Side.TheVariants.{First, Second}
 use Rattle.pk_mirror.specs.declared.error.MirrorError.{MirrorError}
 use Rattle.pk_mirror.specs.declared.error.MirrorError.TheVariants.{Refused, Port, Split}
 use Rattle.pk_mirror.specs.Pair.{Mirrored, IsPair}
-use Rattle.pk_mirror.specs.Causes.{IsOn, Decides, IsCause, IsReadError, RefusedBy}
+use Rattle.pk_mirror.specs.Causes.{IsOn, Decides, IsCause, IsReadError}
 use Rattle.pk_mirror.specs.Writes.{Writes, Mirrors, FirstKept, SecondReadFailed}
 use Rattle.pk_mirror.specs.Asks.{Asks, KeepsMaps}
-use Rattle.pk_mirror.proofs.ReplyLemmas.{Tells, err_same}
+use Rattle.pk_mirror.proofs.ReplyLemmas.{Tells}
 use Rattle.pk_mirror.proofs.WriteLemmas.{refused_or_port, on_refused, on_port, true_false}
 use Rattle.pk_mirror.proofs.KeyLemmas.{found_some, found_none}
 use Rattle.pk_mirror.proofs.MapLemmas.{value_fits}
-use Rattle.pk_mirrorwords.specs.PairTasks.{PairTask, put, get as ask_value, delete, list, resync, status_by, answered_line, text_of, map_left}
-use Rattle.pk_mirrorwords.specs.PairAnswers.{PairUnread, PairFault, PairDone, PairSaid, PairFails}
+use Rattle.pk_mirrorwords.specs.PairTasks.{PairTask, status_by, answered_line, text_of, map_left}
+use Rattle.pk_mirrorwords.specs.PairAnswers.{PairDone, PairFails}
 
 some_same : {X : Type 0} (x y : X) → ◌≡◌ {A = Option X} (Some x) (Some y) → x ≡ y
 some_same x y e = cc

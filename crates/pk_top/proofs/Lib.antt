@@ -7,3 +7,4 @@ mod Answering
 mod Images
 mod Runs
 mod Resting
+mod Pairs

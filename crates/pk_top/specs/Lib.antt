@@ -8,4 +8,6 @@ pub mod Resting
 pub mod Serves
 pub mod Asks
 pub mod Makes
+pub mod PairWords
+pub mod PairRuns
 pub mod Sessions

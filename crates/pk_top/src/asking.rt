@@ -19,7 +19,7 @@ use std::alloc::Global;
 pub const WORD_FRAMES: u32 = 36;
 
 /// The status of an end.
-fn of_word_end(end: WordEnd) -> Status
+pub fn of_word_end(end: WordEnd) -> Status
     ensures { result.0 ≡ word_status end }
 {
     match end {

@@ -7,6 +7,8 @@
 mod asking;
 pub mod laws;
 mod making;
+mod pair_words;
+mod pairing;
 mod running;
 mod serving;
 mod status;
@@ -14,5 +16,6 @@ mod texts;
 mod word;
 mod words;
 
+pub use pairing::run_pair;
 pub use running::run;
 pub use status::Status;

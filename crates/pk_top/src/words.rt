@@ -12,7 +12,7 @@ use pk_wordrun::{Series, Task};
 use pk_words::Question;
 use std::alloc::{AllocError, Global};
 
-fn is(word: &[u8], text: &[u8]) -> bool
+pub fn is(word: &[u8], text: &[u8]) -> bool
     ensures { result ≡ bytes_eq word.now text.now }
 {
     word == text

@@ -1,4 +1,4 @@
-use Rattle.std.proofs.Common.{List, ℕ, Some, None, Err, refl, ap, sym, ◌∙◌}
+use Rattle.std.proofs.Common.{List, ℕ, Some, Err, ap, ◌∙◌}
 use Rattle.pk_nvme.specs.Bytes.{RoomyList}
 use Rattle.pk_host.specs.Calls.{retrieved}
 use Rattle.pk_words.specs.Lines.{value_line}

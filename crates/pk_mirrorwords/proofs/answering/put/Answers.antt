@@ -1,4 +1,4 @@
-use Rattle.std.proofs.Common.{List, ℕ, refl, ap, ◌∙◌}
+use Rattle.std.proofs.Common.{refl, ap, ◌∙◌}
 use Rattle.pk_nvme.specs.Bytes.{RoomyList}
 use Rattle.pk_nvme.specs.declared.opcode.Opcode.TheVariants.{Store}
 use Rattle.pk_host.specs.Calls.{store_of, stored}

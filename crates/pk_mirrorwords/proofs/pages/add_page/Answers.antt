@@ -1,6 +1,5 @@
-use Rattle.std.proofs.Common.{◌≡◌, ◌≤◌, ◌<◌, List, ℕ, length, Option, Some, None, refl, sym, ap, subst}
+use Rattle.std.proofs.Common.{◌<◌, length, ap}
 use Rattle.std.specs.Option.{option_copied}
-use Rattle.pk_base.specs.Map.{Map, IsMap}
 use Rattle.pk_nvme.specs.Bytes.{RoomyList}
 use Rattle.pk_nvme.specs.Command.{key_or_none}
 use Rattle.pk_host.specs.Listing.{listed_by}

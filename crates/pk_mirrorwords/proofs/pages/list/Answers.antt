@@ -1,4 +1,4 @@
-use Rattle.std.proofs.Common.{Option, Some, None, refl, sym, ap, ◌∙◌, arith}
+use Rattle.std.proofs.Common.{Some, None, refl, sym, ap, ◌∙◌, arith}
 use Rattle.pk_nvme.specs.Bytes.{RoomyList}
 use Rattle.pk_mirror.proofs.VisitLemmas.{asking_more}
 use Rattle.pk_mirrorwords.proofs.Paging.{paging_begins, paging_goes, paging_ends, paging_fails, goes_as, listed_at}

@@ -1,0 +1,189 @@
+//! The worked rows, and the words of a pair.
+
+use crate::pairs::{
+    Half, MAKE_SMALL, MAKE_WORKED, alone, blank, empty, images_of, made, pair_status, run_failing,
+    run_over, said,
+};
+use pk_flash::Left;
+use std::alloc::Global;
+use std::process::Abort;
+use std::test::*;
+
+/// A store whose first program on the second drive fails is on the first drive, and the next run brings it to the second.
+#[test]
+fn a_store_that_the_second_drive_lost(rt: HostRuntime) {
+    let alloc = rt.alloc();
+    let images = said(
+        &rt,
+        alloc,
+        &empty(&rt, alloc, MAKE_WORKED),
+        "put 61 616263",
+        b"ok\n",
+    );
+    // Opening and the resync only read, so the second drive's first program or erase comes after the reads of a `resync`.
+    let quiet = run_over(&rt, alloc, &images, "resync");
+    assert!(rt; quiet.second.marks() == 0);
+    let mut call = quiet.second.read_count();
+    let mut ran = run_failing(
+        &rt,
+        alloc,
+        &images,
+        "put 62 -",
+        Half::Second,
+        call,
+        Left::Untouched,
+    );
+    // The erases of the blocks that the store takes come before its first program.
+    for _ in 0..16u32 {
+        if ran.second.program_count() > 0 {
+            break;
+        }
+        call = call.saturating_add(1);
+        ran = run_failing(
+            &rt,
+            alloc,
+            &images,
+            "put 62 -",
+            Half::Second,
+            call,
+            Left::Untouched,
+        );
+    }
+    assert!(rt; ran.second.program_count() == 1);
+    assert!(rt; ran.status == 6 && ran.first.posted().is_empty());
+    let images = images_of(&rt, alloc, &ran.first, &ran.second);
+    let before = alone(&rt, alloc, images.shape, &images.second, "list");
+    assert!(rt; before.posted() == b"61\n".as_slice());
+    let images = said(&rt, alloc, &images, "list", b"61\n62\n");
+    let after = alone(&rt, alloc, images.shape, &images.second, "list");
+    assert!(rt; after.posted() == b"61\n62\n".as_slice());
+}
+
+/// Drives of two shapes, and a drive beside no image, are no pair; nothing is done to them.
+#[test]
+fn no_pair(rt: HostRuntime) {
+    let alloc = rt.alloc();
+    let mut worked = made(&rt, alloc, MAKE_WORKED);
+    let mut small = made(&rt, alloc, MAKE_SMALL);
+    let mut none = blank(&rt, alloc);
+    let (worked_marks, small_marks) = (worked.marks(), small.marks());
+    let text = "put 61 616263";
+    assert!(rt; pair_status(&rt, alloc, &mut worked, &mut small, text) == 8);
+    assert!(rt; pair_status(&rt, alloc, &mut small, &mut worked, text) == 8);
+    assert!(rt; pair_status(&rt, alloc, &mut none, &mut worked, text) == 8);
+    assert!(rt; pair_status(&rt, alloc, &mut worked, &mut none, text) == 8);
+    assert!(rt; worked.marks() == worked_marks && small.marks() == small_marks);
+    assert!(rt; none.marks() == 0 && none.shape().is_none());
+}
+
+// A word of a pair, and the text that it is to post with status 0.
+#[derive(Clone, Copy)]
+struct Said {
+    words: &'static str,
+    text: &'static [u8],
+}
+
+const SAID: [Said; 12] = [
+    Said {
+        words: "resync",
+        text: b"ok\n",
+    },
+    Said {
+        words: "get 61",
+        text: b"refused 87\n",
+    },
+    Said {
+        words: "del 61",
+        text: b"refused 87\n",
+    },
+    Said {
+        words: "put 61 616263",
+        text: b"ok\n",
+    },
+    Said {
+        words: "put 62 -",
+        text: b"ok\n",
+    },
+    Said {
+        words: "get 61",
+        text: b"ok 616263\n",
+    },
+    Said {
+        words: "get 62",
+        text: b"ok -\n",
+    },
+    Said {
+        words: "list",
+        text: b"61\n62\n",
+    },
+    Said {
+        words: "put 61 00",
+        text: b"ok\n",
+    },
+    Said {
+        words: "get 61",
+        text: b"ok 00\n",
+    },
+    Said {
+        words: "del 61",
+        text: b"ok\n",
+    },
+    Said {
+        words: "list",
+        text: b"62\n",
+    },
+];
+
+// Words of one drive, and others, that are none of a pair.
+const OUTSIDE: [&str; 11] = [
+    "stat",
+    "has 61",
+    "list 61",
+    "gen 7 1",
+    "make 512 16 64",
+    "serve 36",
+    "resync 61",
+    "put 61",
+    "get 6",
+    "hello",
+    "",
+];
+
+/// Each word of a pair has its text, and words outside the table end with status 2 and do nothing.
+#[test]
+fn words_of_a_pair(rt: HostRuntime) {
+    let alloc = rt.alloc();
+    let mut images = empty(&rt, alloc, MAKE_WORKED);
+    for said_by in &SAID {
+        images = said(&rt, alloc, &images, said_by.words, said_by.text);
+    }
+    for text in OUTSIDE {
+        let ran = run_over(&rt, alloc, &images, text);
+        assert!(rt; ran.status == 2, "{text}");
+        assert!(rt; ran.first.marks() == 0 && ran.second.marks() == 0, "{text}");
+    }
+}
+
+// The first drive's last read of a word fails, which is that of its value or of its keys: the text is this.
+fn answered_by_the_second(rt: &impl Abort, alloc: Global, text: &str, wanted: &[u8]) {
+    let images = empty(rt, alloc, MAKE_WORKED);
+    let images = said(rt, alloc, &images, "put 61 616263", b"ok\n");
+    let quiet = run_over(rt, alloc, &images, text);
+    let last = quiet.first.read_count().saturating_sub(1);
+    let ran = run_failing(rt, alloc, &images, text, Half::First, last, Left::Untouched);
+    assert!(rt; ran.status == 0 && ran.first.posted() == wanted, "{text}");
+    assert!(rt;
+        ran.first.read_count() == quiet.first.read_count(),
+        "{text}"
+    );
+    assert!(rt;
+        ran.second.read_count() > quiet.second.read_count(),
+        "{text}"
+    );
+}
+
+/// A value that the first drive cannot read is that of the second.
+#[test]
+fn a_value_that_the_first_drive_cannot_read(rt: HostRuntime) {
+    answered_by_the_second(&rt, rt.alloc(), "get 61", b"ok 616263\n");
+}

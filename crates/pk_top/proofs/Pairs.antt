@@ -1,0 +1,592 @@
+-- A run of a word on a pair of images, from the loads on.
+use Rattle.std.proofs.Common.{◌≡◌, ◌⊎◌, inl, inr, ℕ, ◌+◌, ◌<◌, ◌≤◌, List, [], ◌∷◌, length, map, Bool, if◌then◌else◌, Option, Some, None, IsSome, option_and_then, Result, Ok, Err, refl, sym, ◌∙◌, ap, subst, arith, true, false, nat_le}
+use Rattle.std.proofs.lemmas.Bool.Decides.{nat_tests}
+use Rattle.std.specs.FinMap.{len, entries, len-entries}
+use Rattle.pk_base.specs.Entry.{Entry}
+use Rattle.pk_base.specs.Key.{Key}
+use Rattle.pk_base.specs.Map.{Map}
+use Rattle.pk_base.specs.Page.{Flash, IsFlash}
+use Rattle.pk_base.specs.Refusal.{Refusal, not_formatted, damaged}
+use Rattle.pk_base.specs.Shape.{Shape, IsShape, limit}
+use Rattle.pk_nand.specs.BoardState.{BoardState, shape_or_none}
+use Rattle.pk_nand.specs.Calls.{Rose, Loaded, IsReady, longer}
+use Rattle.pk_nand.specs.Effects.{OnlyReading}
+use Rattle.pk_nand.specs.declared.types.LoadFault.{LoadFault}
+use Rattle.pk_nand.specs.declared.types.LoadFault.TheVariants.{Fault, BadImage, Memory}
+use Rattle.pk_nand.proofs.Reaching.{Reached-start, Went-reached}
+use Rattle.pk_model.specs.Growth.{Goes}
+use Rattle.pk_model.specs.Laws.{MapHeld}
+use Rattle.pk_model.specs.Reading.{reading, Holds, Refuses}
+use Rattle.pk_model.specs.Sight.{Sight}
+use Rattle.pk_model.specs.Wear.{root_number, roots, is_worn}
+use Rattle.pk_serve.specs.Complete.{NoneRose}
+use Rattle.pk_call.specs.Drive.{HoldsMap}
+use Rattle.pk_scan.specs.Opening.{NotOpened}
+use Rattle.pk_scan.proofs.ValuesHeld.{limit_few}
+use Rattle.pk_mirrorwords.proofs.Paging.{keys_few}
+use Rattle.pk_scan.specs.declared.errors.OpenError.{OpenError}
+use Rattle.pk_scan.specs.declared.errors.OpenError.TheVariants.{NotFormatted, Damaged, Fault as ReadFault, Memory as NoMemory}
+use Rattle.pk_wordrun.specs.declared.end.WordEnd.{WordEnd}
+use Rattle.pk_wordrun.specs.declared.end.WordEnd.TheVariants.{Done, Output, Flash as FlashFailed, Worn}
+use Rattle.pk_words.specs.Question.{put as put_one, get as get_one, delete as delete_one, has as has_one, stat as stat_one}
+use Rattle.pk_wordrun.specs.Tasks.{answer, list as list_keys, generate}
+use Rattle.pk_mirrorwords.specs.PairTasks.{PairTask, put, get, delete, list as list_all, resync, IsShort}
+use Rattle.pk_top.specs.Words.{Word, make, serve, ask, assemble, show, word_of}
+use Rattle.pk_top.specs.PairWords.{for_pair, is_resync, pair_task_of}
+use Rattle.pk_top.proofs.Within.{short_within}
+use Rattle.pk_mirrorrun.specs.PairTold.{EitherUnread, left_by, text_by, KeptFirst, KeptSecond, PairFinished, PairEnds, most_roots, UsedRoots, PairTold}
+use Rattle.pk_top.specs.declared.asking.TheConstants.{WORD_FRAMES}
+use Rattle.pk_top.specs.Asks.{word_status}
+use Rattle.pk_top.specs.Ends.{open_status}
+use Rattle.pk_top.specs.Loads.{load_status, HasReason}
+use Rattle.pk_top.specs.Serves.{NotServed, behind_opening}
+use Rattle.pk_top.specs.Statuses.{GivesNothing, Untouched, Tells}
+use Rattle.pk_top.specs.PairRuns.{NotFound, KeepsPair, AskedPair, AsksPair, PairRun, PairTells, LacksPair, PairRefused, PairWhole}
+use Rattle.pk_top.proofs.Telling.{tells_refused, tells_not, tells_no_drive, wants_untouched, wants_sound, untouched_same, load_untouched, refused_untouched}
+
+names_len : (es : List (Key × List ℕ)) → length (map (λ e. e.0) es) ≡ length es
+names_len [] = refl
+names_len (e ∷ es) = let h = names_len es in omega (arith, h)
+
+-- a map that a flash holds has no more keys than the limit has pages
+few_keys : (shape : Shape) (b : BoardState) (m : Map) → IsShape shape → MapHeld → IsReady b shape → Holds shape b.pages m → len m ≤ 1048576
+few_keys shape b m is law ready held =
+    let good = law shape b.pages [] m is ready.flash tt held in
+    let most = limit_few shape is in
+    let pages = keys_few shape m is in
+    let few = good.1 in
+    let size = len-entries m in
+    let names = names_len (entries m) in
+    omega (arith, most, pages, few, size, names)
+
+-- a board that was only read is as ready as before
+pub ready_behind : (shape shape' : Shape) (a b : BoardState) → shape' ≡ shape → IsReady a shape → OnlyReading a b → IsReady b shape'
+ready_behind shape shape' a b same ready only =
+    let now : IsReady b shape = record { shape_is = ap (λ (s : BoardState). s.shape) only ∙ ready.shape_is; flash = subst (λ (f : Flash). IsFlash shape f) (sym (ap (λ (s : BoardState). s.pages) only)) ready.flash } in
+    subst (λ (s : Shape). IsReady b s) (sym same) now
+
+-- ---- what was done on two images
+
+module _ (task : PairTask) (shape : Shape) (loaded new loaded' new' : BoardState) where
+  abbrev FirstFrom : Flash → List ℕ → Type 0
+  FirstFrom flash posted = (m : Map) → Holds shape loaded.pages m → KeptFirst task (EitherUnread loaded new loaded' new') shape m flash posted
+
+  abbrev SecondFrom : Flash → List ℕ → Type 0
+  SecondFrom flash posted = (m : Map) → Holds shape loaded'.pages m → KeptSecond shape flash posted
+
+  first-still : OnlyReading loaded new → Goes shape loaded new FirstFrom
+  first-still only = (
+    [],
+    Went-reached [] loaded new FirstFrom (Reached-start loaded new FirstFrom (ap (λ (s : BoardState). s.shape) only) (ap (λ (s : BoardState). s.pages) only) (ap (λ (s : BoardState). s.trail) only) (ap (λ (s : BoardState). s.posted) only)
+        (λ m holds. record { held = inl holds; said = inl refl })),
+    tt,
+  )
+
+  second-still : OnlyReading loaded' new' → Goes shape loaded' new' SecondFrom
+  second-still only = (
+    [],
+    Went-reached [] loaded' new' SecondFrom (Reached-start loaded' new' SecondFrom (ap (λ (s : BoardState). s.shape) only) (ap (λ (s : BoardState). s.pages) only) (ap (λ (s : BoardState). s.trail) only) (ap (λ (s : BoardState). s.posted) only)
+        (λ m holds. record { map = m; held = holds; silent = refl })),
+    tt,
+  )
+
+  still : OnlyReading loaded new → OnlyReading loaded' new' → KeepsPair task shape loaded new loaded' new'
+  still only also = record { first = first-still only; second = second-still also }
+
+  -- memory for the words was missing
+  pub AsksPair-memory : (status : ℕ) → status ≡ 7 → new ≡ loaded → new' ≡ loaded' → OnlyReading loaded new → OnlyReading loaded' new' → AsksPair task shape loaded new loaded' new' status
+  AsksPair-memory status is same same' only also = record { kept = still only also; outcome = inl (is, same, same') }
+
+  -- the first drive was not opened
+  pub AsksPair-first : (status : ℕ) (error : OpenError) → status ≡ open_status error → NotOpened shape loaded new error → OnlyReading loaded new → new' ≡ loaded' → OnlyReading loaded' new' → AsksPair task shape loaded new loaded' new' status
+  AsksPair-first status error tells reason only same' also = record { kept = still only also; outcome = inr (inl (inl (record { error = error; tells = tells; reason = reason; only_reads = only }, same'))) }
+
+  -- or the second
+  pub AsksPair-second : (status : ℕ) (error : OpenError) → status ≡ open_status error → new ≡ behind_opening shape WORD_FRAMES loaded → OnlyReading loaded new → NotOpened shape loaded' new' error → OnlyReading loaded' new'
+      → AsksPair task shape loaded new loaded' new' status
+  AsksPair-second status error tells is only reason also = record { kept = still only also; outcome = inr (inl (inr (is, record { error = error; tells = tells; reason = reason; only_reads = also }))) }
+
+  -- both were opened
+  module _ (drive : Sight) (start : Map) (stands : HoldsMap shape WORD_FRAMES (behind_opening shape WORD_FRAMES loaded) drive start) (none : drive.pending ≡ [])
+      (drive' : Sight) (other : Map) (stands' : HoldsMap shape WORD_FRAMES (behind_opening shape WORD_FRAMES loaded') drive' other) (none' : drive'.pending ≡ []) where
+    start-held : Holds shape loaded.pages start
+    start-held = let T : List Entry → Type 0 = λ p. reading shape loaded.pages p ≡ Ok start in subst T none stands.map_is
+
+    other-held : Holds shape loaded'.pages other
+    other-held = let T : List Entry → Type 0 = λ p. reading shape loaded'.pages p ≡ Ok other in subst T none' stands'.map_is
+
+    first-from : (flash : Flash) (posted : List ℕ) → KeptFirst task (EitherUnread loaded new loaded' new') shape start flash posted → FirstFrom flash posted
+    first-from flash posted kept m holds =
+        let held : Holds shape loaded.pages start = start-held in
+        let same : start ≡ m = cc in
+        subst (λ (s : Map). KeptFirst task (EitherUnread loaded new loaded' new') shape s flash posted) same kept
+
+    pub AsksPair-told : (status : ℕ) (end : WordEnd) → status ≡ word_status end → PairTold task shape start other (behind_opening shape WORD_FRAMES loaded) new (behind_opening shape WORD_FRAMES loaded') new' end
+        → most_roots start other < 4611686018427387904 → AsksPair task shape loaded new loaded' new' status
+    AsksPair-told status end tells told few = record {
+      kept = record {
+        first = (
+          told.first_kept.0,
+          record {
+            trail = told.first_kept.1.trail;
+            posted = told.first_kept.1.posted;
+            same_shape = told.first_kept.1.same_shape;
+            cuts = λ flash posted cut. first-from flash posted (told.first_kept.1.cuts flash posted cut);
+            stands = told.first_kept.1.stands;
+          },
+          told.first_kept.2,
+        );
+        second = (
+          told.second_kept.0,
+          record {
+            trail = told.second_kept.1.trail;
+            posted = told.second_kept.1.posted;
+            same_shape = told.second_kept.1.same_shape;
+            cuts = λ flash posted cut m holds. told.second_kept.1.cuts flash posted cut;
+            stands = told.second_kept.1.stands;
+          },
+          told.second_kept.2,
+        );
+      };
+      outcome = inr (inr (
+        end,
+        tells,
+        record {
+          start = start;
+          holds = start-held;
+          other = other;
+          holds_other = other-held;
+          ends = told.ends;
+          first_used = told.first_used;
+          second_used = told.second_used;
+          few = few;
+        },
+      ));
+    }
+
+module _ (task : PairTask) (shape : Shape) (loaded new loaded' new' : BoardState) where
+  pub AsksPair-opened : (one two : BoardState) (d e : Sight) (status : ℕ) (end : WordEnd) → one ≡ behind_opening shape WORD_FRAMES loaded → two ≡ behind_opening shape WORD_FRAMES loaded'
+      → ((m : Map) × HoldsMap shape WORD_FRAMES one d m) → ((m : Map) × HoldsMap shape WORD_FRAMES two e m) → d.pending ≡ [] → e.pending ≡ [] → status ≡ word_status end
+      → ((m other : Map) → Holds shape one.pages m → Holds shape two.pages other → PairTold task shape m other one new two new' end) → IsShape shape → MapHeld → IsReady loaded shape → IsReady loaded' shape
+      → AsksPair task shape loaded new loaded' new' status
+  AsksPair-opened one two d e status end is is' stands stands' none none' tells told is_shape law ready ready' =
+      let T : BoardState → Type 0 = λ b. (m : Map) × HoldsMap shape WORD_FRAMES b d m in
+      let U : BoardState → Type 0 = λ b. (m : Map) × HoldsMap shape WORD_FRAMES b e m in
+      let at : T (behind_opening shape WORD_FRAMES loaded) = subst T is stands in
+      let also : U (behind_opening shape WORD_FRAMES loaded') = subst U is' stands' in
+      let S : BoardState → Type 0 = λ b. (m other : Map) → Holds shape b.pages m → Holds shape two.pages other → PairTold task shape m other b new two new' end in
+      let R : BoardState → Type 0 = λ b. (m other : Map) → Holds shape loaded.pages m → Holds shape b.pages other → PairTold task shape m other (behind_opening shape WORD_FRAMES loaded) new b new' end in
+      let said = subst R is' (subst S is told) in
+      AsksPair-told task shape loaded new loaded' new' d at.0 at.1 none e also.0 also.1 none' status end tells
+      (said at.0 also.0 (start-held task shape loaded new loaded' new' d at.0 at.1 none e also.0 also.1 none') (other-held task shape loaded new loaded' new' d at.0 at.1 none e also.0 also.1 none'))
+      (let one_few = few_keys shape loaded at.0 is_shape law ready (start-held task shape loaded new loaded' new' d at.0 at.1 none e also.0 also.1 none') in
+      let two_few = few_keys shape loaded' also.0 is_shape law ready' (other-held task shape loaded new loaded' new' d at.0 at.1 none e also.0 also.1 none') in
+      omega (arith, one_few, two_few))
+
+-- ---- what the status tells
+
+gives_of : (old new : BoardState) → Untouched old new → GivesNothing old new
+gives_of old new u = u.gives
+
+module _ (old new old' new' : BoardState) (status : ℕ) where
+  -- the statuses of what was not found or not opened
+  abbrev IsFault : Type 0
+  IsFault = (status ≡ 6) ⊎ ((status ≡ 7) ⊎ (status ≡ 8))
+
+  one_fault : IsFault → (status ≡ 0) ⊎ ((status ≡ 5) ⊎ ((status ≡ 6) ⊎ ((status ≡ 7) ⊎ ((status ≡ 8) ⊎ (status ≡ 10)))))
+  one_fault (inl e) = inr (inr (inl e))
+  one_fault (inr (inl e)) = inr (inr (inr (inl e)))
+  one_fault (inr (inr e)) = inr (inr (inr (inr (inl e))))
+
+  not_output : IsFault → status ≡ 5 → ⊥
+  not_output (inl f) e = omega (arith, e, f)
+  not_output (inr (inl f)) e = omega (arith, e, f)
+  not_output (inr (inr f)) e = omega (arith, e, f)
+
+  not_worn : IsFault → status ≡ 10 → ⊥
+  not_worn (inl f) e = omega (arith, e, f)
+  not_worn (inr (inl f)) e = omega (arith, e, f)
+  not_worn (inr (inr f)) e = omega (arith, e, f)
+
+  -- the first failed
+  by_first : IsFault → Tells old new status → (status ≡ 7 → Untouched old new) → Untouched old' new' → PairTells old new old' new' status
+  by_first one tells wants other = record {
+    is_one = one_fault one;
+    output = λ e. absurd (not_output one e);
+    flash = λ e. elim (tells.flash e) [
+      | inl stop ↦ inl (inl stop)
+      | inr (rose, gives) ↦ inr (inl rose, gives)
+    ];
+    memory = λ e. (wants e, other);
+    no_drive = λ e. (inl (tells.no_drive e).0, (tells.no_drive e).1, other);
+    worn = λ e. absurd (not_worn one e);
+  }
+
+  -- or the second
+  by_second : IsFault → Tells old' new' status → (status ≡ 7 → Untouched old' new') → Untouched old new → PairTells old new old' new' status
+  by_second one tells wants first = record {
+    is_one = one_fault one;
+    output = λ e. absurd (not_output one e);
+    flash = λ e. elim (tells.flash e) [
+      | inl stop ↦ inl (inr stop)
+      | inr (rose, gives) ↦ inr (inr rose, first.gives)
+    ];
+    memory = λ e. (first, wants e);
+    no_drive = λ e. (inr (inl (tells.no_drive e).0), first, (tells.no_drive e).1);
+    worn = λ e. absurd (not_worn one e);
+  }
+
+no_some : (x : Option Shape) → x ≡ None → IsSome x → ⊥
+no_some None e some = let clash : false ≡ true = some in cc
+no_some (Some s) e some = let clash : ◌≡◌ {A = Option Shape} (Some s) None = e in cc
+
+-- the statuses of a load and of an opening
+load_one : (status : ℕ) (fault : LoadFault) → status ≡ load_status fault → (status ≡ 6) ⊎ ((status ≡ 7) ⊎ (status ≡ 8))
+load_one status Fault e = inl e
+load_one status (BadImage at) e = inr (inr e)
+load_one status Memory e = inr (inl e)
+
+open_one : (status : ℕ) (error : OpenError) → status ≡ open_status error → (status ≡ 6) ⊎ ((status ≡ 7) ⊎ (status ≡ 8))
+open_one status NotFormatted e = inr (inr e)
+open_one status (Damaged page) e = inr (inr e)
+open_one status ReadFault e = inl e
+open_one status NoMemory e = inr (inl e)
+
+not_found_one : (old new : BoardState) (status : ℕ) → NotFound old new status → (status ≡ 6) ⊎ ((status ≡ 7) ⊎ (status ≡ 8))
+not_found_one old new status (inl r) = load_one status r.fault r.tells
+not_found_one old new status (inr (e, found)) = inr (inr e)
+
+not_found_tells : (old new : BoardState) (status : ℕ) → NotFound old new status → Tells old new status
+not_found_tells old new status (inl r) = tells_refused old new status r
+not_found_tells old new status (inr (e, found)) = tells_no_drive old new status e (inl found.shape_is) (load_untouched old new None found)
+
+not_found_wants : (old new : BoardState) (status : ℕ) → NotFound old new status → status ≡ 7 → Untouched old new
+not_found_wants old new status (inl r) e = refused_untouched old new (wants_sound old new r.fault (sym r.tells ∙ e) r.reason) r.failed
+not_found_wants old new status (inr (is, found)) e = load_untouched old new None found
+
+-- a drive that was opened is as it was found
+opened_untouched : (shape : Shape) (old loaded new : BoardState) → Loaded old loaded (Some shape) → new ≡ behind_opening shape WORD_FRAMES loaded → Untouched old new
+opened_untouched shape old loaded new found is = record {
+  gives = record { input = ap (λ (s : BoardState). s.input) is ∙ ap (λ (s : BoardState). s.input) found.rest; posted = ap (λ (s : BoardState). s.posted) is ∙ ap (λ (s : BoardState). s.posted) found.rest };
+  trail = ap (λ (s : BoardState). s.trail) is ∙ ap (λ (s : BoardState). s.trail) found.rest;
+  sound = ap (λ (s : BoardState). s.flash_faults) is ∙ ap (λ (s : BoardState). s.flash_faults) found.rest;
+  held = λ some. (ap (λ (s : BoardState). s.pages) is ∙ (found.held some).0, ap (λ (s : BoardState). s.shape) is ∙ (found.held some).1);
+}
+
+still_untouched : (shape : Shape) (old loaded new : BoardState) → Loaded old loaded (Some shape) → new ≡ loaded → Untouched old new
+still_untouched shape old loaded new found is = subst (λ (s : BoardState). Untouched old s) (sym is) (load_untouched old loaded (Some shape) found)
+
+module _ (task : PairTask) (shape : Shape) (old loaded new old' loaded' new' : BoardState) (found : Loaded old loaded (Some shape)) (found' : Loaded old' loaded' (Some shape)) where
+  end_tells : (start other : Map) (end : WordEnd) (status : ℕ) → status ≡ word_status end → PairEnds task shape start (behind_opening shape WORD_FRAMES loaded) new (behind_opening shape WORD_FRAMES loaded') new' end → PairTells old new old' new' status
+  end_tells start other Done status is ends = record {
+    is_one = inl is;
+    output = λ e. absurd (omega (arith, e, is));
+    flash = λ e. absurd (omega (arith, e, is));
+    memory = λ e. absurd (omega (arith, e, is));
+    no_drive = λ e. absurd (omega (arith, e, is));
+    worn = λ e. absurd (omega (arith, e, is));
+  }
+  end_tells start other Output status is ends = record {
+    is_one = inr (inl is);
+    output = λ e. subst (λ (n : ℕ). Rose n new.out_faults) (ap (λ (s : BoardState). s.out_faults) found.rest) ends;
+    flash = λ e. absurd (omega (arith, e, is));
+    memory = λ e. absurd (omega (arith, e, is));
+    no_drive = λ e. absurd (omega (arith, e, is));
+    worn = λ e. absurd (omega (arith, e, is));
+  }
+  end_tells start other FlashFailed status is ends = record {
+    is_one = inr (inr (inl is));
+    output = λ e. absurd (omega (arith, e, is));
+    flash = λ e. inl (elim ends [
+      | inl stop ↦ inl (subst (λ (n : ℕ). Rose n new.stop_faults) (ap (λ (s : BoardState). s.stop_faults) found.rest) stop)
+      | inr stop ↦ inr (subst (λ (n : ℕ). Rose n new'.stop_faults) (ap (λ (s : BoardState). s.stop_faults) found'.rest) stop)
+    ]);
+    memory = λ e. absurd (omega (arith, e, is));
+    no_drive = λ e. absurd (omega (arith, e, is));
+    worn = λ e. absurd (omega (arith, e, is));
+  }
+  end_tells start other Worn status is ends = record {
+    is_one = inr (inr (inr (inr (inr is))));
+    output = λ e. absurd (omega (arith, e, is));
+    flash = λ e. absurd (omega (arith, e, is));
+    memory = λ e. absurd (omega (arith, e, is));
+    no_drive = λ e. absurd (omega (arith, e, is));
+    worn = λ e. ends;
+  }
+
+  asks_tells : (status : ℕ) → AsksPair task shape loaded new loaded' new' status → PairTells old new old' new' status
+  asks_tells status asks = elim asks.outcome [
+    | inl (is, same, same') ↦ record {
+      is_one = inr (inr (inr (inl is)));
+      output = λ e. absurd (omega (arith, e, is));
+      flash = λ e. absurd (omega (arith, e, is));
+      memory = λ e. (still_untouched shape old loaded new found same, still_untouched shape old' loaded' new' found' same');
+      no_drive = λ e. absurd (omega (arith, e, is));
+      worn = λ e. absurd (omega (arith, e, is));
+    }
+    | inr (inl (inl (n, same'))) ↦
+        by_first old new old' new' status (open_one status n.error n.tells) (tells_not shape old loaded new found status n.error n.tells n.reason n.only_reads)
+        (λ e. wants_untouched shape old loaded new found n.error (sym n.tells ∙ e) n.reason) (still_untouched shape old' loaded' new' found' same')
+    | inr (inl (inr (is, n))) ↦
+        by_second old new old' new' status (open_one status n.error n.tells) (tells_not shape old' loaded' new' found' status n.error n.tells n.reason n.only_reads)
+        (λ e. wants_untouched shape old' loaded' new' found' n.error (sym n.tells ∙ e) n.reason) (opened_untouched shape old loaded new found is)
+    | inr (inr (end, is, asked)) ↦ end_tells asked.start asked.other end status is asked.ends
+  ]
+
+pub pair_tells : (task : PairTask) (old new old' new' : BoardState) (status : ℕ) → PairRun task old new old' new' status → PairTells old new old' new' status
+pair_tells task old new old' new' status (inl (is, same, same')) = record {
+  is_one = inr (inr (inr (inl is)));
+  output = λ e. absurd (omega (arith, e, is));
+  flash = λ e. absurd (omega (arith, e, is));
+  memory = λ e. (untouched_same old new same, untouched_same old' new' same');
+  no_drive = λ e. absurd (omega (arith, e, is));
+  worn = λ e. absurd (omega (arith, e, is));
+}
+pair_tells task old new old' new' status (inr (inl (missing, same'))) =
+    by_first old new old' new' status (not_found_one old new status missing) (not_found_tells old new status missing) (not_found_wants old new status missing) (untouched_same old' new' same')
+pair_tells task old new old' new' status (inr (inr (inl (shape, found, missing)))) =
+    by_second old new old' new' status (not_found_one old' new' status missing) (not_found_tells old' new' status missing) (not_found_wants old' new' status missing) (load_untouched old new (Some shape) found)
+pair_tells task old new old' new' status (inr (inr (inr (inl o)))) = record {
+  is_one = inr (inr (inr (inr (inl o.tells))));
+  output = λ e. absurd (let is = o.tells in omega (arith, e, is));
+  flash = λ e. absurd (let is = o.tells in omega (arith, e, is));
+  memory = λ e. absurd (let is = o.tells in omega (arith, e, is));
+  no_drive = λ e. (inr (inr (o.shape, o.other, o.found.shape_is, o.found'.shape_is, o.differ)), load_untouched old new (Some o.shape) o.found, load_untouched old' new' (Some o.other) o.found');
+  worn = λ e. absurd (let is = o.tells in omega (arith, e, is));
+}
+pair_tells task old new old' new' status (inr (inr (inr (inr f)))) = asks_tells task f.shape old f.loaded new old' f.loaded' new' f.found f.found' status f.asks
+
+-- ---- boards that hold no pair
+
+no_map : (shape : Shape) (pages : Flash) (m : Map) (refusal : Refusal) → Holds shape pages m → reading shape pages [] ≡ Err refusal → ⊥
+no_map shape pages m refusal held refuses = let clash : ◌≡◌ {A = Result Map Refusal} (Ok m) (Err refusal) = sym held ∙ refuses in cc
+
+found_shape : (o l : BoardState) (s shape : Shape) → o.shape ≡ Some shape → Loaded o l (Some s) → s ≡ shape
+found_shape o l s shape is found = let told : ◌≡◌ {A = Option Shape} (Some s) (Some shape) = sym found.shape_is ∙ (found.held (subst IsSome (sym is) refl)).1 ∙ is in cc
+
+found_pages : (o l : BoardState) (s shape : Shape) → o.shape ≡ Some shape → Loaded o l (Some s) → l.pages ≡ o.pages
+found_pages o l s shape is found = (found.held (subst IsSome (sym is) refl)).0
+
+refused_one : (status : ℕ) → (status ≡ 6) ⊎ ((status ≡ 7) ⊎ (status ≡ 8)) → (status ≡ 8) ⊎ ((status ≡ 7) ⊎ (status ≡ 6))
+refused_one status (inl e) = inr (inr e)
+refused_one status (inr (inl e)) = inr (inl e)
+refused_one status (inr (inr e)) = inl e
+
+-- a flash that holds a map is not refused
+not_refused : (s shape : Shape) (now then : Flash) (m : Map) (refusal : Refusal) → s ≡ shape → now ≡ then → Holds s now m → Refuses shape then refusal → ⊥
+not_refused s shape now then m refusal same pages held refuses =
+    no_map shape then m refusal (subst (λ (f : Flash). Holds shape f m) pages (subst (λ (x : Shape). Holds x now m) same held)) refuses
+
+-- two drives that were opened are a pair
+no_lack : (s shape other : Shape) (old old' loaded loaded' : BoardState) (m k : Map) → s ≡ shape → s ≡ other → loaded.pages ≡ old.pages → loaded'.pages ≡ old'.pages
+    → Holds s loaded.pages m → Holds s loaded'.pages k → LacksPair shape other old old' → ⊥
+no_lack s shape other old old' loaded loaded' m k one two pages pages' held held' (inl differ) = differ (sym one ∙ two)
+no_lack s shape other old old' loaded loaded' m k one two pages pages' held held' (inr (inl (refusal, refuses))) = not_refused s shape loaded.pages old.pages m refusal one pages held refuses
+no_lack s shape other old old' loaded loaded' m k one two pages pages' held held' (inr (inr (refusal, refuses))) = not_refused s other loaded'.pages old'.pages k refusal two pages' held' refuses
+
+pub pair_refused : (task : PairTask) (old new old' new' : BoardState) (status : ℕ) → PairRun task old new old' new' status → PairRefused old old' status
+pair_refused task old new old' new' status (inl (is, same, same')) shape other has has' lacks = inr (inl is)
+pair_refused task old new old' new' status (inr (inl (missing, same'))) shape other has has' lacks = refused_one status (not_found_one old new status missing)
+pair_refused task old new old' new' status (inr (inr (inl (s, found, missing)))) shape other has has' lacks = refused_one status (not_found_one old' new' status missing)
+pair_refused task old new old' new' status (inr (inr (inr (inl o)))) shape other has has' lacks = inl o.tells
+pair_refused task old new old' new' status (inr (inr (inr (inr f)))) shape other has has' lacks = elim f.asks.outcome [
+  | inl (is, same, same') ↦ inr (inl is)
+  | inr (inl (inl (n, same'))) ↦ refused_one status (open_one status n.error n.tells)
+  | inr (inl (inr (is, n))) ↦ refused_one status (open_one status n.error n.tells)
+  | inr (inr (end, is, asked)) ↦ absurd (no_lack f.shape shape other old old' f.loaded f.loaded' asked.start asked.other
+      (found_shape old f.loaded f.shape shape has f.found) (found_shape old' f.loaded' f.shape other has' f.found')
+      (found_pages old f.loaded f.shape shape has f.found) (found_pages old' f.loaded' f.shape other has' f.found')
+      asked.holds asked.holds_other lacks)
+]
+
+-- ---- where no call fails
+
+worn_never : (before behind more : ℕ) → nat_le 9223372036854775808 behind ≡ true → behind ≤ before + more → before < 4611686018427387904 → more < 4611686018427387904 → ⊥
+worn_never before behind more worn used far few = grind (arith, nat_tests, worn, used, far, few)
+
+module _ (task : PairTask) (old new old' new' : BoardState) (status : ℕ) (shape : Shape) (m other : Map) (has : old.shape ≡ Some shape) (has' : old'.shape ≡ Some shape) (held : Holds shape old.pages m) (held' : Holds shape old'.pages other)
+    (far : roots old < 4611686018427387904) (far' : roots old' < 4611686018427387904) (none : NoneRose old new) (none' : NoneRose old' new')
+    (sound : Rose old.flash_faults new.flash_faults → ⊥) (sound' : Rose old'.flash_faults new'.flash_faults → ⊥) where
+  abbrev IsDone : Type 0
+  IsDone = (status ≡ 0) × (new.posted ≡ longer old.posted (text_by shape task m)) × Holds shape new.pages (left_by shape task m) × Holds shape new'.pages (left_by shape task m)
+
+  there : IsSome old.shape
+  there = subst IsSome (sym has) refl
+
+  there' : IsSome old'.shape
+  there' = subst IsSome (sym has') refl
+
+  -- the images are there, with these shapes and pages
+  none_missing : (o o' : BoardState) (s : ℕ) → IsSome o.shape → NotFound o o' s → s ≡ 8 → ⊥
+  none_missing o o' s some (inl r) e = by r.fault r.tells r.reason
+    where
+      by : (fault : LoadFault) → s ≡ load_status fault → HasReason o o' fault → ⊥
+      by Fault is reason = omega (arith, e, is)
+      by (BadImage at) is reason = reason.2 some
+      by Memory is reason = omega (arith, e, is)
+  none_missing o o' s some (inr (is, found)) e = no_some o.shape (sym (found.held some).1 ∙ found.shape_is) some
+
+  shape_of_found : (o l : BoardState) (s : Shape) → IsSome o.shape → o.shape ≡ Some shape → Loaded o l (Some s) → s ≡ shape
+  shape_of_found o l s some is found = let told : ◌≡◌ {A = Option Shape} (Some s) (Some shape) = sym found.shape_is ∙ (found.held some).1 ∙ is in cc
+
+  module _ (loaded loaded' : BoardState) (found : Loaded old loaded (Some shape)) (found' : Loaded old' loaded' (Some shape)) where
+    pages_same : loaded.pages ≡ old.pages
+    pages_same = (found.held there).0
+
+    pages_same' : loaded'.pages ≡ old'.pages
+    pages_same' = (found'.held there').0
+
+    holds_loaded : Holds shape loaded.pages m
+    holds_loaded = subst (λ (f : Flash). Holds shape f m) (sym pages_same) held
+
+    holds_loaded' : Holds shape loaded'.pages other
+    holds_loaded' = subst (λ (f : Flash). Holds shape f other) (sym pages_same') held'
+
+    not_no_drive : (o n : BoardState) (k : Map) → Holds shape o.pages k → NotServed shape o n status → status ≡ 8 → ⊥
+    not_no_drive o n k holds s e = by s.error s.tells s.reason
+      where
+        by : (error : OpenError) → status ≡ open_status error → NotOpened shape o n error → ⊥
+        by NotFormatted is reason = no_map shape o.pages k not_formatted holds reason.0
+        by (Damaged page) is reason = no_map shape o.pages k (damaged page) holds reason.0
+        by ReadFault is reason = omega (arith, e, is)
+        by NoMemory is reason = omega (arith, e, is)
+
+    roots_loaded : roots old ≡ roots loaded
+    roots_loaded = λ k. root_number (shape_or_none (sym (found.held there).1 k)) (sym pages_same k)
+
+    roots_loaded' : roots old' ≡ roots loaded'
+    roots_loaded' = λ k. root_number (shape_or_none (sym (found'.held there').1 k)) (sym pages_same' k)
+
+    same_start : (asked : Map) → Holds shape loaded.pages asked → asked ≡ m
+    same_start asked holds = let h : ◌≡◌ {A = Result Map Refusal} (Ok asked) (Ok m) = sym holds ∙ holds_loaded in cc
+
+    not_worn_now : (asked_m asked_other : Map) → most_roots asked_m asked_other < 4611686018427387904 → UsedRoots asked_m asked_other loaded new → is_worn new ≡ true → ⊥
+    not_worn_now asked_m asked_other few (inl stop) worn = none.stops (subst (λ (n : ℕ). Rose n new.stop_faults) (ap (λ (s : BoardState). s.stop_faults) found.rest) stop)
+    not_worn_now asked_m asked_other few (inr used) worn =
+        worn_never (roots loaded) (roots new) (most_roots asked_m asked_other) worn used (subst (λ (n : ℕ). n < 4611686018427387904) roots_loaded far) few
+
+    not_worn_now' : (asked_m asked_other : Map) → most_roots asked_m asked_other < 4611686018427387904 → UsedRoots asked_m asked_other loaded' new' → is_worn new' ≡ true → ⊥
+    not_worn_now' asked_m asked_other few (inl stop) worn = none'.stops (subst (λ (n : ℕ). Rose n new'.stop_faults) (ap (λ (s : BoardState). s.stop_faults) found'.rest) stop)
+    not_worn_now' asked_m asked_other few (inr used) worn =
+        worn_never (roots loaded') (roots new') (most_roots asked_m asked_other) worn used (subst (λ (n : ℕ). n < 4611686018427387904) roots_loaded' far') few
+
+    done_by : (start : Map) → start ≡ m → status ≡ 0 → PairFinished task shape start (behind_opening shape WORD_FRAMES loaded) new (behind_opening shape WORD_FRAMES loaded') new' → IsDone
+    done_by start same is f = elim f.says [
+      | inl (spelled, one, two) ↦ (
+        is,
+        f.posted ∙ ap (λ (o : Option (List ℕ)). longer o f.text) (ap (λ (s : BoardState). s.posted) found.rest) ∙ ap (longer old.posted) (spelled ∙ ap (text_by shape task) same),
+        subst (λ (x : Map). Holds shape new.pages (left_by shape task x)) same one,
+        subst (λ (x : Map). Holds shape new'.pages (left_by shape task x)) same two,
+      )
+      | inr (unread, line) ↦ absurd (elim unread [
+        | inl rose ↦ none.reads (subst (λ (n : ℕ). Rose n new.read_faults) (ap (λ (s : BoardState). s.read_faults) found.rest) rose)
+        | inr rose ↦ none'.reads (subst (λ (n : ℕ). Rose n new'.read_faults) (ap (λ (s : BoardState). s.read_faults) found'.rest) rose)
+      ])
+    ]
+
+    -- the word is done, where its status is none of a fault
+    asked_done : AsksPair task shape loaded new loaded' new' status → (status ≡ 0) ⊎ ((status ≡ 8) ⊎ (status ≡ 10)) → IsDone
+    asked_done asks one = elim asks.outcome [
+      | inl (is, same, same') ↦ absurd (elim one [ inl e ↦ omega (arith, e, is) | inr rest ↦ elim rest [ inl e ↦ omega (arith, e, is) | inr e ↦ omega (arith, e, is) ] ])
+      | inr (inl (inl (n, same'))) ↦ absurd (elim one [
+        | inl e ↦ not_zero n.error n.tells e
+        | inr rest ↦ elim rest [ inl e ↦ not_no_drive loaded new m holds_loaded n e | inr e ↦ not_ten n.error n.tells e ]
+      ])
+      | inr (inl (inr (is, n))) ↦ absurd (elim one [
+        | inl e ↦ not_zero n.error n.tells e
+        | inr rest ↦ elim rest [ inl e ↦ not_no_drive loaded' new' other holds_loaded' n e | inr e ↦ not_ten n.error n.tells e ]
+      ])
+      | inr (inr (end, is, asked)) ↦ by end is asked one
+    ]
+      where
+        not_zero : (error : OpenError) → status ≡ open_status error → status ≡ 0 → ⊥
+        not_zero NotFormatted is e = omega (arith, e, is)
+        not_zero (Damaged page) is e = omega (arith, e, is)
+        not_zero ReadFault is e = omega (arith, e, is)
+        not_zero NoMemory is e = omega (arith, e, is)
+
+        not_ten : (error : OpenError) → status ≡ open_status error → status ≡ 10 → ⊥
+        not_ten NotFormatted is e = omega (arith, e, is)
+        not_ten (Damaged page) is e = omega (arith, e, is)
+        not_ten ReadFault is e = omega (arith, e, is)
+        not_ten NoMemory is e = omega (arith, e, is)
+
+        by : (end : WordEnd) → status ≡ word_status end → AskedPair task shape loaded new loaded' new' end → (status ≡ 0) ⊎ ((status ≡ 8) ⊎ (status ≡ 10)) → IsDone
+        by Done is asked one = done_by asked.start (same_start asked.start asked.holds) is asked.ends
+        by Output is asked one = absurd (elim one [ inl e ↦ omega (arith, e, is) | inr rest ↦ elim rest [ inl e ↦ omega (arith, e, is) | inr e ↦ omega (arith, e, is) ] ])
+        by FlashFailed is asked one = absurd (elim one [ inl e ↦ omega (arith, e, is) | inr rest ↦ elim rest [ inl e ↦ omega (arith, e, is) | inr e ↦ omega (arith, e, is) ] ])
+        by Worn is asked one = absurd (elim asked.ends [
+          | inl worn ↦ not_worn_now asked.start asked.other asked.few asked.first_used worn
+          | inr worn ↦ not_worn_now' asked.start asked.other asked.few asked.second_used worn
+        ])
+
+  run_done : PairRun task old new old' new' status → (status ≡ 0) ⊎ ((status ≡ 8) ⊎ (status ≡ 10)) → IsDone
+  run_done (inl (is, same, same')) one = absurd (elim one [ inl e ↦ omega (arith, e, is) | inr rest ↦ elim rest [ inl e ↦ omega (arith, e, is) | inr e ↦ omega (arith, e, is) ] ])
+  run_done (inr (inl (missing, same'))) one = absurd (elim one [
+    | inl e ↦ elim (not_found_one old new status missing) [ inl f ↦ omega (arith, e, f) | inr rest ↦ elim rest [ inl f ↦ omega (arith, e, f) | inr f ↦ omega (arith, e, f) ] ]
+    | inr rest ↦ elim rest [
+      | inl e ↦ none_missing old new status there missing e
+      | inr e ↦ elim (not_found_one old new status missing) [ inl f ↦ omega (arith, e, f) | inr rest ↦ elim rest [ inl f ↦ omega (arith, e, f) | inr f ↦ omega (arith, e, f) ] ]
+    ]
+  ])
+  run_done (inr (inr (inl (s, found, missing)))) one = absurd (elim one [
+    | inl e ↦ elim (not_found_one old' new' status missing) [ inl f ↦ omega (arith, e, f) | inr rest ↦ elim rest [ inl f ↦ omega (arith, e, f) | inr f ↦ omega (arith, e, f) ] ]
+    | inr rest ↦ elim rest [
+      | inl e ↦ none_missing old' new' status there' missing e
+      | inr e ↦ elim (not_found_one old' new' status missing) [ inl f ↦ omega (arith, e, f) | inr rest ↦ elim rest [ inl f ↦ omega (arith, e, f) | inr f ↦ omega (arith, e, f) ] ]
+    ]
+  ])
+  run_done (inr (inr (inr (inl o)))) one = absurd (o.differ (shape_of_found old new o.shape there has o.found ∙ sym (shape_of_found old' new' o.other there' has' o.found')))
+  run_done (inr (inr (inr (inr f)))) one =
+      let same = shape_of_found old f.loaded f.shape there has f.found in
+      let A : Shape → Type 0 = λ s. AsksPair task s f.loaded new f.loaded' new' status in
+      asked_done f.loaded f.loaded' (subst (λ (s : Shape). Loaded old f.loaded (Some s)) same f.found) (subst (λ (s : Shape). Loaded old' f.loaded' (Some s)) same f.found') (subst A same f.asks) one
+
+  whole_by : PairRun task old new old' new' status → PairTells old new old' new' status → IsDone ⊎ ((status ≡ 7) × Untouched old new × Untouched old' new')
+  whole_by run tells = elim tells.is_one [
+    | inl e ↦ inl (run_done run (inl e))
+    | inr (inl e) ↦ absurd (none.output (tells.output e))
+    | inr (inr (inl e)) ↦ absurd (elim (tells.flash e) [
+      | inl stops ↦ elim stops [ inl stop ↦ none.stops stop | inr stop ↦ none'.stops stop ]
+      | inr (roses, gives) ↦ elim roses [ inl rose ↦ sound rose | inr rose ↦ sound' rose ]
+    ])
+    | inr (inr (inr (inl e))) ↦ inr (e, (tells.memory e).0, (tells.memory e).1)
+    | inr (inr (inr (inr (inl e)))) ↦ inl (run_done run (inr (inl e)))
+    | inr (inr (inr (inr (inr e)))) ↦ inl (run_done run (inr (inr e)))
+  ]
+
+pub pair_whole : (task : PairTask) (old new old' new' : BoardState) (status : ℕ) → PairRun task old new old' new' status → PairWhole task old new old' new' status
+pair_whole task old new old' new' status run shape m other has has' held held' far far' none none' sound sound' =
+    whole_by task old new old' new' status shape m other has has' held held' far far' none none' sound sound' run (pair_tells task old new old' new' status run)
+
+-- ---- the words
+
+-- a value that the words name is short
+short_by : (words : List (List ℕ)) (key value : List ℕ) (w : Word) → Some w ≡ word_of words → for_pair w ≡ Some (put key value) → length value < 4294967296
+short_by words key value (ask (answer (put_one k v))) is e =
+    let short = short_within words (ask (answer (put_one k v))) is (answer (put_one k v)) refl in
+    let same : v ≡ value = cc in
+    subst (λ (x : List ℕ). length x < 4294967296) same short
+short_by words key value (ask (answer (get_one k))) is e = absurd (cc)
+short_by words key value (ask (answer (delete_one k))) is e = absurd (cc)
+short_by words key value (ask (answer (has_one k))) is e = absurd (cc)
+short_by words key value (ask (answer stat_one)) is e = absurd (cc)
+short_by words key value (ask (list_keys None)) is e = absurd (cc)
+short_by words key value (ask (list_keys (Some k))) is e = absurd (cc)
+short_by words key value (ask (generate begin count)) is e = absurd (cc)
+short_by words key value (make shape) is e = absurd (cc)
+short_by words key value (serve frames) is e = absurd (cc)
+short_by words key value assemble is e = absurd (cc)
+short_by words key value show is e = absurd (cc)
+
+short_of : (words : List (List ℕ)) (key value : List ℕ) (o : Option Word) (b : Bool) → o ≡ word_of words → (if b then Some resync else option_and_then for_pair o) ≡ Some (put key value) → length value < 4294967296
+short_of words key value o true is e = absurd (cc)
+short_of words key value None false is e = absurd (cc)
+short_of words key value (Some w) false is e = short_by words key value w is e
+
+pub short_pair : (words : List (List ℕ)) (task : PairTask) → Some task ≡ pair_task_of words → IsShort task
+short_pair words (put key value) e = short_of words key value (word_of words) (is_resync words) refl (sym e)
+short_pair words (get key) e = tt
+short_pair words (delete key) e = tt
+short_pair words list_all e = tt
+short_pair words resync e = tt

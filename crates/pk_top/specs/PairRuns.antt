@@ -1,0 +1,127 @@
+-- A run of a word on a pair of images: the first board from old to new, the second from old' to new'.
+use Rattle.std.specs.Prelude.{◌≡◌, ◌≢◌, ◌⊎◌, ℕ, ◌<◌, Some, None, true}
+use Rattle.pk_base.specs.Shape.{Shape}
+use Rattle.pk_base.specs.Map.{Map}
+use Rattle.pk_base.specs.Refusal.{Refusal}
+use Rattle.pk_nand.specs.BoardState.{BoardState}
+use Rattle.pk_nand.specs.Calls.{Rose, Loaded, longer}
+use Rattle.pk_model.specs.Growth.{Goes}
+use Rattle.pk_model.specs.Reading.{Holds, Refuses}
+use Rattle.pk_model.specs.Wear.{is_worn, roots}
+use Rattle.pk_serve.specs.Complete.{NoneRose, far_below}
+use Rattle.pk_wordrun.specs.declared.end.WordEnd.{WordEnd}
+use Rattle.pk_mirrorwords.specs.PairTasks.{PairTask}
+use Rattle.pk_mirrorrun.specs.PairTold.{EitherUnread, left_by, text_by, KeptFirst, KeptSecond, PairEnds, UsedRoots, most_roots}
+use Rattle.pk_top.specs.declared.status.TheConstants.Status.{DONE, OUTPUT, FLASH, MEMORY, NO_DRIVE, WORN}
+use Rattle.pk_top.specs.declared.asking.TheConstants.{WORD_FRAMES}
+use Rattle.pk_top.specs.Asks.{word_status}
+use Rattle.pk_top.specs.Loads.{LoadRefused}
+use Rattle.pk_top.specs.Serves.{NotServed, behind_opening}
+use Rattle.pk_top.specs.Statuses.{GivesNothing, Untouched, HasNoDrive}
+
+-- ---- what was done
+
+-- an image that was not found: the load was refused, or it found none
+abbrev pub NotFound : BoardState → BoardState → ℕ → Type 0
+NotFound old new status = LoadRefused old new status ⊎ ((status ≡ NO_DRIVE.0) × Loaded old new None)
+
+-- Whatever map the first held: every cut of it holds that map or the one after the word, and what was posted is the word's. Every cut of the second
+-- holds a map.
+pub record KeepsPair (task : PairTask) (shape : Shape) (loaded new loaded' new' : BoardState) : Type 0 where
+  pub first : Goes shape loaded new (λ flash posted. (m : Map) → Holds shape loaded.pages m → KeptFirst task (EitherUnread loaded new loaded' new') shape m flash posted)
+  pub second : Goes shape loaded' new' (λ flash posted. (m : Map) → Holds shape loaded'.pages m → KeptSecond shape flash posted)
+
+-- Both drives were opened, and the word came to this end.
+pub record AskedPair (task : PairTask) (shape : Shape) (loaded new loaded' new' : BoardState) (end : WordEnd) : Type 0 where
+  pub start : Map
+  pub holds : Holds shape loaded.pages start
+  pub other : Map
+  pub holds_other : Holds shape loaded'.pages other
+  pub ends : PairEnds task shape start (behind_opening shape WORD_FRAMES loaded) new (behind_opening shape WORD_FRAMES loaded') new' end
+  pub first_used : UsedRoots start other loaded new
+  pub second_used : UsedRoots start other loaded' new'
+  pub few : most_roots start other < far_below
+
+-- The first drive was not opened, and the second not tried; or the second was not.
+abbrev pub NotOpenedPair : Shape → BoardState → BoardState → BoardState → BoardState → ℕ → Type 0
+NotOpenedPair shape loaded new loaded' new' status =
+    (NotServed shape loaded new status × (new' ≡ loaded')) ⊎ ((new ≡ behind_opening shape WORD_FRAMES loaded) × NotServed shape loaded' new' status)
+
+-- What was done on two images of one shape, from their loads on: memory was missing, or a drive was not opened, or the word came to an end.
+pub record AsksPair (task : PairTask) (shape : Shape) (loaded new loaded' new' : BoardState) (status : ℕ) : Type 0 where
+  pub kept : KeepsPair task shape loaded new loaded' new'
+  pub outcome :
+      ((status ≡ MEMORY.0) × (new ≡ loaded) × (new' ≡ loaded'))
+      ⊎ (NotOpenedPair shape loaded new loaded' new' status ⊎ ((end : WordEnd) × (status ≡ word_status end) × AskedPair task shape loaded new loaded' new' end))
+
+-- two images of one shape were found
+pub record FoundPair (task : PairTask) (old new old' new' : BoardState) (status : ℕ) : Type 0 where
+  pub shape : Shape
+  pub loaded : BoardState
+  pub loaded' : BoardState
+  pub found : Loaded old loaded (Some shape)
+  pub found' : Loaded old' loaded' (Some shape)
+  pub asks : AsksPair task shape loaded new loaded' new' status
+
+-- two images of different shapes were found
+pub record OtherShapes (old new old' new' : BoardState) (status : ℕ) : Type 0 where
+  pub tells : status ≡ NO_DRIVE.0
+  pub shape : Shape
+  pub other : Shape
+  pub found : Loaded old new (Some shape)
+  pub found' : Loaded old' new' (Some other)
+  pub differ : shape ≢ other
+
+-- Memory for the words was missing and nothing was done; or an image was not found, the first or else the second; or the shapes differ; or two images of
+-- one shape were found.
+abbrev pub PairRun : PairTask → BoardState → BoardState → BoardState → BoardState → ℕ → Type 0
+PairRun task old new old' new' status =
+    ((status ≡ MEMORY.0) × (new ≡ old) × (new' ≡ old'))
+    ⊎ ((NotFound old new status × (new' ≡ old'))
+    ⊎ (((shape : Shape) × Loaded old new (Some shape) × NotFound old' new' status)
+    ⊎ (OtherShapes old new old' new' status ⊎ FoundPair task old new old' new' status)))
+
+-- ---- statuses and their causes
+
+-- the images have no pair of drives: one has no drive, or their shapes differ
+abbrev pub HasNoPair : BoardState → BoardState → Type 0
+HasNoPair new new' = HasNoDrive new ⊎ (HasNoDrive new' ⊎ ((shape other : Shape) × (new.shape ≡ Some shape) × (new'.shape ≡ Some other) × (shape ≢ other)))
+
+-- a program or an erase of either failed; or a call of the flash of either, before anything was posted
+abbrev pub PairFlashFailed : BoardState → BoardState → BoardState → BoardState → Type 0
+PairFlashFailed old new old' new' =
+    (Rose old.stop_faults new.stop_faults ⊎ Rose old'.stop_faults new'.stop_faults)
+    ⊎ ((Rose old.flash_faults new.flash_faults ⊎ Rose old'.flash_faults new'.flash_faults) × GivesNothing old new)
+
+-- What each status tells, and that there is no other.
+pub record PairTells (old new old' new' : BoardState) (status : ℕ) : Type 0 where
+  pub is_one : (status ≡ DONE.0) ⊎ ((status ≡ OUTPUT.0) ⊎ ((status ≡ FLASH.0) ⊎ ((status ≡ MEMORY.0) ⊎ ((status ≡ NO_DRIVE.0) ⊎ (status ≡ WORN.0)))))
+  pub output : status ≡ OUTPUT.0 → Rose old.out_faults new.out_faults
+  pub flash : status ≡ FLASH.0 → PairFlashFailed old new old' new'
+  pub memory : status ≡ MEMORY.0 → Untouched old new × Untouched old' new'
+  pub no_drive : status ≡ NO_DRIVE.0 → HasNoPair new new' × Untouched old new × Untouched old' new'
+  pub worn : status ≡ WORN.0 → (is_worn new ≡ true) ⊎ (is_worn new' ≡ true)
+
+-- the boards hold no pair: their shapes differ, or the flash of one holds no map
+abbrev pub LacksPair : Shape → Shape → BoardState → BoardState → Type 0
+LacksPair shape other old old' =
+    (shape ≢ other) ⊎ (((refusal : Refusal) × Refuses shape old.pages refusal) ⊎ ((refusal : Refusal) × Refuses other old'.pages refusal))
+
+-- Two boards that hold their pages from the start, and no pair: the status is that of a missing drive, unless memory was missing or a call of the flash
+-- failed before that was known.
+abbrev pub PairRefused : BoardState → BoardState → ℕ → Type 0
+PairRefused old old' status =
+    (shape other : Shape) → old.shape ≡ Some shape → old'.shape ≡ Some other → LacksPair shape other old old'
+    → (status ≡ NO_DRIVE.0) ⊎ ((status ≡ MEMORY.0) ⊎ (status ≡ FLASH.0))
+
+-- ---- completeness
+
+-- On two boards that hold their pages from the start, each a map of one shape, far from worn, where no call fails: the word is done, both drives hold the
+-- map after it, and its text is the definition's; or memory was missing, and nothing was done.
+abbrev pub PairWhole : PairTask → BoardState → BoardState → BoardState → BoardState → ℕ → Type 0
+PairWhole task old new old' new' status =
+    (shape : Shape) (m other : Map) → old.shape ≡ Some shape → old'.shape ≡ Some shape → Holds shape old.pages m → Holds shape old'.pages other
+    → roots old < far_below → roots old' < far_below → NoneRose old new → NoneRose old' new'
+    → (Rose old.flash_faults new.flash_faults → ⊥) → (Rose old'.flash_faults new'.flash_faults → ⊥)
+    → ((status ≡ DONE.0) × (new.posted ≡ longer old.posted (text_by shape task m)) × Holds shape new.pages (left_by shape task m) × Holds shape new'.pages (left_by shape task m))
+    ⊎ ((status ≡ MEMORY.0) × Untouched old new × Untouched old' new')
