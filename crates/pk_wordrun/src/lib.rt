@@ -6,6 +6,7 @@
 
 mod ask;
 mod end;
+mod group;
 mod keys;
 mod list;
 pub mod say;
