@@ -2,7 +2,7 @@
 //!
 //! No record goes to the host. That of a Store or a Delete waits while its entry is pending with few others; before every other
 //! command, and after one whose record does not wait, what is pending is committed.
-ghost use Rattle.std.specs.Prelude.{◌≡◌, ◌≢◌, ◌<◌, [], ◌∷◌, length, Some, OnOk, OnErr, IfOk};
+ghost use Rattle.std.specs.Prelude.{◌≡◌, ◌≢◌, ◌≤◌, ◌<◌, [], ◌∷◌, length, OnOk, OnErr, IfOk};
 ghost use Rattle.pk_base.specs.Shape.{greatest};
 ghost use Rattle.pk_nvme.specs.Command.{IsWhole};
 ghost use Rattle.pk_nvme.specs.Seen.{command_of};
