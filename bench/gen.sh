@@ -1,7 +1,8 @@
 #!/bin/sh
 # Runs the generated workload on fresh images of shape (4096, 64, 512), twice, with the built program: both runs have to end with 0 and to
-# print the same summary, and the keys and live pages that `stat` prints have to be those of the summary. If strace is installed, it
-# prints the programs and erases of the second run. It is not part of the gate.
+# print the same summary, and the keys and live pages that `stat` prints have to be those of the summary. The program serves the same
+# commands as a script, too (bench/reads.py writes them): `gen` commits in groups as `serve` does, so both images have to be the same, byte
+# for byte. If strace is installed, the script prints the programs and erases of the second run. It is not part of the gate.
 #
 #   bench/gen.sh [SEED [COUNT]]     gen 7 100000 by default
 set -eu
@@ -26,8 +27,9 @@ run() { # the name of the run, and what is put before the program
 run first
 if command -v strace >/dev/null; then
     run second strace -f -o "$folder/trace" -e trace=pwrite64
-    programs=$(grep -c ', 4096, [0-9]*) = 4096' "$folder/trace" || true)
-    erases=$(grep -c ', 64, [0-9]*) = 64' "$folder/trace" || true)
+    # the last write of a program sets the page's state byte to 1, that of an erase sets those of the block to 0
+    programs=$(grep -c '"\\1", 1, [0-9]*) *= 1$' "$folder/trace" || true)
+    erases=$(grep -c ', 64, [0-9]*) *= 64$' "$folder/trace" || true)
     echo "programs $programs, erases $erases"
 else
     run second
@@ -35,6 +37,16 @@ fi
 cat "$folder/first.txt"
 cmp "$folder/first.txt" "$folder/second.txt"
 cmp "$folder/first.stat" "$folder/second.stat"
+python3 -c '
+import sys
+sys.path.insert(0, sys.argv[1])
+import reads
+for _, entry in reads.commands(int(sys.argv[2]), int(sys.argv[3])):
+    sys.stdout.buffer.write(entry)
+' "$top/bench" "$seed" "$count" >"$folder/script"
+cp "$folder/made.img" "$folder/served.img"
+"$program" "$folder/served.img" serve 36 <"$folder/script" >/dev/null
+cmp "$folder/first.img" "$folder/served.img"
 for name in keys live; do
     told=$(sed -n "s/^$name //p" "$folder/first.txt")
     there=$(sed -n "s/^$name //p" "$folder/first.stat")

@@ -1,9 +1,14 @@
 //! The words of the program: those that need no image, and those that ask the drive, each a session of its own.
 
 use crate::sessions::large_board;
-use crate::steps::{MAKE_WORKED, Pink, blank, ended, made, pages_left, posted, same, worked_board};
+use crate::steps::{
+    MAKE_WORKED, Pink, add, blank, ended, holds, made, made_board, pages_left, posted, same, serve,
+    worked_board, wrote,
+};
 use pk_flash::{Flash, Left};
+use pk_gen::{MOST_VALUE_BYTES, Workload};
 use pk_nand::PageState;
+use pk_nvme::Bytes;
 use pk_sessions::boards::Session;
 use pk_sessions::exits::{BAD_LINE, DONE, FLASH, NO_DRIVE, OUTPUT, WORDS};
 use pk_sessions::program::{RECORDS, SCRIPT};
@@ -297,4 +302,46 @@ fn workload(rt: HostRuntime) {
     let flash = large_board(&rt, rt.alloc(), Vec::new(rt.alloc()));
     let session = run_words(&rt, rt.alloc(), "gen 1 3", flash);
     posted(&rt, &session, DONE, SUMMARY, Place::Named("gen 1 3"));
+}
+
+// The first commands of the workload with this start, as a script.
+fn generated(rt: &impl Abort, alloc: Global, start: u32, count: u32) -> Vec<u8> {
+    let mut workload = Workload::new(start);
+    let mut value = Bytes::with_room(alloc, MOST_VALUE_BYTES as usize).expect(rt, "memory");
+    let mut script = Vec::new(alloc);
+    for _ in 0..count {
+        add(rt, &mut script, &workload.next(&mut value));
+        add(rt, &mut script, value.bytes());
+    }
+    script
+}
+
+// Whether a page is in the same state as another.
+fn is_same(page: &PageState, other: &PageState) -> bool {
+    match (page, other) {
+        (PageState::Erased, PageState::Erased) | (PageState::Torn, PageState::Torn) => true,
+        (PageState::Whole(bytes), PageState::Whole(other)) => bytes.bytes() == other.bytes(),
+        _ => false,
+    }
+}
+
+/// A workload is committed in groups: it leaves the pages that `serve` leaves of the same commands, by as many programs and erases.
+#[test]
+fn grouped_workload(rt: HostRuntime) {
+    let alloc = rt.alloc();
+    let place = Place::Named("gen 2 60");
+    let script = generated(&rt, alloc, 2, 60);
+    let served = serve(alloc, made_board(&rt, alloc, script));
+    ended(&rt, &served, DONE, place);
+    let flash = made_board(&rt, alloc, Vec::new(alloc));
+    let session = run_words(&rt, alloc, "gen 2 60", flash);
+    ended(&rt, &session, DONE, place);
+    let programs = served.flash.program_count();
+    wrote(&rt, &session, programs, served.flash.erase_count());
+    let wanted = pages_left(&rt, alloc, &served.flash);
+    let left = pages_left(&rt, alloc, &session.flash);
+    same(&rt, left.len() as u64, wanted.len() as u64, "pages");
+    for (page, other) in left.iter().zip(wanted.iter()) {
+        holds(&rt, is_same(page, other), "a page", place);
+    }
 }

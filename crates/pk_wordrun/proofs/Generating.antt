@@ -1,12 +1,11 @@
 -- A workload, one command after another, and its summary.
-use Rattle.std.proofs.Common.{◌≡◌, inl, inr, ℕ, zero, suc, ◌+◌, ◌*◌, ◌%◌, ◌<◌, ◌≤◌, ◌==◌, nat_le, nat_lt, if◌then◌else◌, List, [], ◌∷◌, ◌++◌, length, Option, Some, Result, Ok, Bool, true, false, refl, sym, ◌∙◌, ap, subst, arith, append-nil, append_assoc, length-append}
+use Rattle.std.proofs.Common.{◌≡◌, ℕ, zero, suc, ◌+◌, ◌*◌, ◌%◌, ◌<◌, ◌≤◌, ◌==◌, nat_le, nat_lt, if◌then◌else◌, List, [], ◌∷◌, ◌++◌, length, Option, Some, Ok, Bool, true, false, refl, sym, ◌∙◌, ap, subst, arith, append-nil, append_assoc, length-append}
 use Rattle.std.specs.FinMap.{len}
 use Rattle.std.proofs.lemmas.List.{length-map}
 use Rattle.std.proofs.lemmas.Bool.Decides.{nat_tests}
 use Rattle.pk_base.specs.Shape.{Shape}
 use Rattle.pk_base.specs.Page.{Flash as Pages}
 use Rattle.pk_base.specs.Entry.{Entry}
-use Rattle.pk_base.specs.Refusal.{Refusal}
 use Rattle.pk_base.specs.Map.{Map, live}
 use Rattle.pk_nvme.specs.Command.{Command}
 use Rattle.pk_nvme.specs.Seen.{command_of}
@@ -17,33 +16,34 @@ use Rattle.pk_nand.specs.Calls.{Rose, longer, after_post, PostFailed}
 use Rattle.pk_gen.specs.Workload.{Generator, workload, generator, request_of, value_of, a_of, b_of, c_of, is_store, value_len, request, tick}
 use Rattle.pk_call.specs.Drive.{CountsMap}
 use Rattle.pk_call.specs.Exec.{most_installs}
-use Rattle.pk_call.specs.Meter.{meter}
+use Rattle.pk_call.specs.Meter.{meter, MeteredAll}
 use Rattle.pk_call.specs.Seen.{counts_of}
 use Rattle.pk_call.specs.declared.types.Counts.{Counts}
 use Rattle.pk_model.specs.Sight as model
 use Rattle.pk_model.specs.Sight.{Sight, map_of}
 use Rattle.pk_model.specs.Growth.{Goes}
 use Rattle.pk_model.specs.Kept.{rise}
-use Rattle.pk_model.specs.Wear.{roots}
+use Rattle.pk_model.specs.Wear.{is_worn, roots}
 use Rattle.pk_model.specs.Reading.{reading, Holds}
 use Rattle.pk_model.specs.Run.{Exchange, commands}
 use Rattle.pk_model.proofs.Growing.{Goes-reaches, weaken_went}
+use Rattle.pk_serve.specs.Part.{IsRunning}
 use Rattle.pk_serve.specs.Serving.{installs}
-use Rattle.pk_serve.proofs.Counting.{metered-roots}
+use Rattle.pk_serve.proofs.Counting.{metered-roots, commands-push}
 use Rattle.pk_port.specs.Asking.{KeptSilently}
-use Rattle.pk_port.specs.Ready.{Fits}
-use Rattle.pk_port.specs.Steps.{Mounted, Serves, Stops, Fails, HasCause}
 use Rattle.pk_port.specs.declared.halt.Halt.{Halt}
 use Rattle.pk_port.specs.declared.halt.Halt.TheVariants.{Stopped, Worn as UsedUp}
-use Rattle.pk_port.proofs.Growing.{asked-none, asked-none-all, asked-next, asked-next-all, asked-stops, asked-posts, asked-post_failed, went-silent}
+use Rattle.pk_port.proofs.Growing.{asked-posts, asked-post_failed, went-silent}
 use Rattle.pk_wordrun.specs.Ends.{end_of}
-use Rattle.pk_wordrun.specs.Generated.{Generated, Unfinished}
+use Rattle.pk_wordrun.specs.Generated.{Generating, Generated, Unfinished}
+use Rattle.pk_wordrun.specs.Grouped.{StoppedIn, KeepsGroup, AddsToGroup, StopsGroup}
 use Rattle.pk_wordrun.specs.Summary.{summary_lines}
 use Rattle.pk_wordrun.specs.Sums.{Sums}
 use Rattle.pk_wordrun.specs.Tasks.{generate, SaysTask, KeptTask}
 use Rattle.pk_wordrun.specs.Told.{Told, turn_roots}
 use Rattle.pk_wordrun.specs.declared.end.WordEnd.TheVariants.{Done, Output}
 use Rattle.pk_wordrun.specs.declared.summary.Summary.{Summary}
+use Rattle.pk_wordrun.proofs.Grouping.{grouped_none, grouped_asked}
 use Rattle.pk_wordrun.proofs.Resting.{never_both}
 use Rattle.pk_wordrun.proofs.Telling.{keeps-flash, done_unworn, output_unworn, flash_unworn}
 
@@ -132,102 +132,104 @@ module _ (shape : Shape) (frames : ℕ) (start : Map) (cs more all : List Comman
 -- ---- turns
 
 -- before the first
-pub generated_none : (begin : ℕ) (shape : Shape) (frames : ℕ) (start : Map) (a : BoardState) (s : Summary) → a.shape ≡ Some shape → Holds shape a.pages start → Sums s [] → Generated begin 0 shape frames start a a s
-generated_none begin shape frames start a s has holds sums = record {
-  asked = asked-none shape frames start a has holds;
-  sums = subst (Sums s) (sym (asked-none-all shape frames start a has holds)) sums;
-}
+pub generating_none : (begin : ℕ) (shape : Shape) (start : Map) (a : BoardState) (d : Sight) (s : Summary) → a.shape ≡ Some shape → d.pending ≡ [] → Holds shape a.pages start → Sums s []
+    → Generating begin 0 shape d.counts.frames start a a d s
+generating_none begin shape start a d s has none holds sums =
+    let M : List Entry → Type 0 = λ p. reading shape a.pages p ≡ Ok start in
+    record {
+      all = [];
+      are = refl;
+      grouped = grouped_none shape d.counts.frames start a d (record { shape_is = has; frames_is = refl; map_is = subst M (sym none) holds }) holds;
+      sums = sums;
+    }
 
-module _ (begin turn : ℕ) (shape : Shape) (start : Map) (a : BoardState) (old new : Mounted) (before : Summary) (w : Generated begin turn shape old.frames start a old.board before) where
+module _ (begin turn : ℕ) (shape : Shape) (frames : ℕ) (start : Map) (a b : BoardState) (d : Sight) (counts : Summary) (w : Generating begin turn shape frames start a b d counts) where
   -- as many were answered
-  turns_are : length w.asked.answered.all ≡ turn
-  turns_are = sym (length-map w.asked.answered.all (λ (x : Exchange). x.command)) ∙ (ap (λ (l : List Command). length l) w.asked.answered.are ∙ workload-length begin turn)
+  turns_are : length w.all ≡ turn
+  turns_are = sym (length-map w.all (λ (x : Exchange). x.command)) ∙ (ap (λ (l : List Command). length l) w.are ∙ workload-length begin turn)
 
-  -- they installed few roots
-  roots_few : (count : ℕ) → turn < count → roots old.board ≤ roots a + turn_roots * count
-  roots_few count small =
-      let up = metered-roots w.asked.answered.all (meter a) (meter old.board) w.asked.metered in
-      let T : List Command → Type 0 = λ l. roots old.board ≤ roots a + installs l in
-      let all = subst T w.asked.answered.are up in
+  -- one more
+  pub generating_next : (c : BoardState) (e : Sight) (count : ℕ) → turn < count → count < 4294967296 → (g : Generator) → g ≡ generator begin turn → (counted : Summary)
+      → (x : Exchange) × (x.command ≡ command_of (request_of g) (value_of g)) × AddsToGroup b c d e x × ((all : List Exchange) → length all < 4294967295 → Sums counts all → Sums counted (all ++ x ∷ []))
+      → Generating begin (turn + 1) shape frames start a c e counted
+  generating_next c e count small few g at counted (x, is, adds, sums) =
+      let is_at : x.command ≡ command_at begin turn = is ∙ ap (λ (v : Generator). command_of (request_of v) (value_of v)) at in
+      let next : suc turn ≡ turn + 1 = omega arith in
+      let T : ℕ → Type 0 = λ n. Generating begin n shape frames start a c e counted in
+      let size = turns_are in
+      subst T next (record {
+        all = w.all ++ x ∷ [];
+        are = commands-push w.all x ∙ (ap (λ (l : List Command). l ++ x.command ∷ []) w.are ∙ ap (λ (k : Command). workload begin turn ++ k ∷ []) is_at);
+        grouped = adds shape frames start a w.all w.grouped;
+        sums = sums w.all (omega (arith, size, small, few)) w.sums;
+      })
+
+  -- the drive was stopped in or before these commands
+  unfinished_in : (count : ℕ) (cs more : List Command) (c : BoardState) → workload begin count ≡ cs ++ more → StoppedIn shape frames start a c cs → Unfinished begin count shape frames start a c Stopped
+  unfinished_in count cs more c is s = record {
+    kept = goes_all shape frames start cs more (workload begin count) is (rise a.read_faults c.read_faults) a c s.kept;
+    ends = s.stop;
+    used = λ e. absurd (flash_unworn e);
+    input = keeps-flash a c s.rest;
+  }
+
+  -- in the command of this turn or before it
+  pub unfinished_turn : (count : ℕ) (c : BoardState) → turn < count → (g : Generator) → g ≡ generator begin turn → StopsGroup b c d (command_of (request_of g) (value_of g) ∷ [])
+      → Unfinished begin count shape frames start a c Stopped
+  unfinished_turn count c small g at h =
+      let G : Generator → Type 0 = λ v. StopsGroup b c d (command_of (request_of v) (value_of v) ∷ []) in
+      let stopped = subst G at h in
+      let more = front begin (suc turn) count (omega (arith, small)) in
+      let S : List Command → Type 0 = λ l. StoppedIn shape frames start a c (l ++ command_at begin turn ∷ []) in
+      unfinished_in count (workload begin turn ++ command_at begin turn ∷ []) more.0 c more.1 (subst S w.are (stopped shape frames start a w.all w.grouped))
+
+  -- in a commit
+  pub unfinished_commit : (count : ℕ) (c : BoardState) → turn ≤ count → StopsGroup b c d [] → Unfinished begin count shape frames start a c Stopped
+  unfinished_commit count c small h =
+      let more = front begin turn count small in
+      let S : List Command → Type 0 = λ l. StoppedIn shape frames start a c l in
+      unfinished_in count (workload begin turn) more.0 c more.1 (subst S (append-nil (commands w.all) ∙ w.are) (h shape frames start a w.all w.grouped))
+
+  -- the roots that were installed are few
+  roots_few : (c : BoardState) (count : ℕ) → MeteredAll (meter a) w.all (meter c) → turn ≤ count → roots c ≤ roots a + turn_roots * count
+  roots_few c count metered small =
+      let up = metered-roots w.all (meter a) (meter c) metered in
+      let T : List Command → Type 0 = λ l. roots c ≤ roots a + installs l in
+      let all = subst T w.are up in
       let few = installs_few begin turn in
       omega (arith, all, few, small)
 
-  -- one more
-  pub generated_next : turn < 4294967295 → (after : Summary)
-      → (x : Exchange) × Serves shape old new (command_at begin turn) x × ((all : List Exchange) → length all < 4294967295 → Sums before all → Sums after (all ++ x ∷ []))
-      → Generated begin (turn + 1) shape old.frames start a new.board after
-  generated_next few after (x, s, counts) =
-      let next : suc turn ≡ turn + 1 = omega arith in
-      let T : ℕ → Type 0 = λ n. Generated begin n shape old.frames start a new.board after in
-      let size = turns_are in
-      let sums = counts w.asked.answered.all (omega (arith, size, few)) w.sums in
-      subst T next (record {
-        asked = asked-next shape start a (workload begin turn) old new (command_at begin turn) w.asked x s;
-        sums = subst (Sums after) (sym (asked-next-all shape start a (workload begin turn) old new (command_at begin turn) w.asked x s)) sums;
-      })
+  -- no more roots are installed
+  pub unfinished_worn : (count : ℕ) (c : BoardState) (e : Sight) → turn ≤ count → KeepsGroup b c d e → roots c ≡ roots b → is_worn b ≡ true → Unfinished begin count shape frames start a c UsedUp
+  unfinished_worn count c e small keeps same worn =
+      let g = keeps shape frames start a w.all w.grouped in
+      let more = front begin turn count small in
+      let R : List Command → Type 0 = λ l. Goes shape a c (KeptSilently shape frames start l (rise a.read_faults c.read_faults)) in
+      record {
+        kept = goes_all shape frames start (workload begin turn) more.0 (workload begin count) more.1 (rise a.read_faults c.read_faults) a c
+            (subst R w.are (Goes-reaches shape a c (KeptSilently shape frames start (commands w.all) (rise a.read_faults c.read_faults)) g.reached));
+        ends = (ap (λ n. nat_le 9223372036854775808 n) same ∙ worn, record { output = ap (λ (x : BoardState). x.out_faults) g.rest; stop = g.no_stop });
+        used = λ _. roots_few c count g.metered small;
+        input = keeps-flash a c g.rest;
+      }
 
-  module _ (count : ℕ) (small : turn < count) where
-    -- it stopped the drive
-    unfinished_stopped : Stops shape old new (command_at begin turn) → Unfinished begin count shape old.frames start a new.board Stopped
-    unfinished_stopped s =
-        let more = front begin (suc turn) count (omega (arith, small)) in
-        let R : ℕ → Type 0 = λ n. Rose n new.board.stop_faults in
-        let first = keeps-flash a old.board w.asked.rest in
-        let behind = keeps-flash old.board new.board s.rest in
-        record {
-          kept = goes_all shape old.frames start (workload begin turn ++ command_at begin turn ∷ []) more.0 (workload begin count) more.1 (rise a.read_faults new.board.read_faults) a new.board
-              (asked-stops shape start a (workload begin turn) old new (command_at begin turn) w.asked s);
-          ends = subst R w.asked.no_stop s.stop;
-          used = λ e. absurd (flash_unworn e);
-          input = record { input = behind.input ∙ first.input; in_faults = behind.in_faults ∙ first.in_faults };
-        }
-
-    -- nothing was done
-    unfinished_nothing : (halt : Halt) → old.stopped ≡ false → HasCause old halt → Unfinished begin count shape old.frames start a old.board halt
-    unfinished_nothing Stopped going cause = absurd (let e : true ≡ false = sym cause ∙ going in cc)
-    unfinished_nothing UsedUp going cause =
-        let more = front begin turn count (omega (arith, small)) in
-        record {
-          kept = goes_all shape old.frames start (workload begin turn) more.0 (workload begin count) more.1 (rise a.read_faults old.board.read_faults) a old.board
-              (Goes-reaches shape a old.board (KeptSilently shape old.frames start (workload begin turn) (rise a.read_faults old.board.read_faults)) w.asked.reached);
-          ends = (cause, record { output = ap (λ (b : BoardState). b.out_faults) w.asked.rest; stop = w.asked.no_stop });
-          used = λ _. roots_few count small;
-          input = keeps-flash a old.board w.asked.rest;
-        }
-
-    pub unfinished : (halt : Halt) → old.stopped ≡ false → Fails shape old new (command_at begin turn) halt → Unfinished begin count shape old.frames start a new.board halt
-    unfinished halt going (inl s) = let T : Halt → Type 0 = λ h. Unfinished begin count shape old.frames start a new.board h in subst T (sym s.0) (unfinished_stopped s.1)
-    unfinished halt going (inr cause) = let T : Mounted → Type 0 = λ m. Unfinished begin count shape old.frames start a m.board halt in subst T (sym cause.1) (unfinished_nothing halt going cause.0)
-
--- the command of a turn is that of the generator there
-pub counted_turn : (shape : Shape) (old new : Mounted) (begin turn : ℕ) (w : Generator) → w ≡ generator begin turn → (before after : Summary)
-    → (x : Exchange) × Serves shape old new (command_of (request_of w) (value_of w)) x × ((all : List Exchange) → length all < 4294967295 → Sums before all → Sums after (all ++ x ∷ []))
-    → (x : Exchange) × Serves shape old new (command_at begin turn) x × ((all : List Exchange) → length all < 4294967295 → Sums before all → Sums after (all ++ x ∷ []))
-counted_turn shape old new begin turn w is before after t =
-    let T : Generator → Type 0 = λ v. Serves shape old new (command_of (request_of v) (value_of v)) t.0 in
-    (t.0, subst T is t.1, t.2)
-
-pub failed_turn : (shape : Shape) (old new : Mounted) (begin turn : ℕ) (w : Generator) → w ≡ generator begin turn → (halt : Halt) → Fails shape old new (command_of (request_of w) (value_of w)) halt → Fails shape old new (command_at begin turn) halt
-failed_turn shape old new begin turn w is halt t = let T : Generator → Type 0 = λ v. Fails shape old new (command_of (request_of v) (value_of v)) halt in subst T is t
+  -- all was committed
+  pub generated_all : (c : BoardState) (e : Sight) → KeepsGroup b c d e → e.pending ≡ [] → Generated begin turn shape frames start a c counts
+  generated_all c e keeps none =
+      let w' = grouped_asked shape frames start a c e w.all (keeps shape frames start a w.all w.grouped) none (workload begin turn) w.are in
+      record { asked = w'.0; sums = subst (Sums counts) (sym w'.1) w.sums }
 
 -- ---- the summary
 
-ok_same : (x y : Map) → ◌≡◌ {A = Result Map Refusal} (Ok x) (Ok y) → x ≡ y
-ok_same x y e = cc
-
 -- the numbers that a drive counts are those of the map that the flash holds
-pub counted : (agrees : Option Shape → Pages → Type 0) (shape : Shape) (b : BoardState) (d : Sight) (counts : Counts) → Fits agrees shape b d → d.stopped ≡ false → counts_of counts ≡ d.counts
+pub counted : (agrees : Option Shape → Pages → Type 0) (shape : Shape) (b : BoardState) (d : Sight) (counts : Counts) → b.shape ≡ Some shape → IsRunning agrees d b → d.pending ≡ [] → counts_of counts ≡ d.counts
     → ((s : Shape) (f : Pages) (m : Map) → agrees (Some s) f → d.stopped ≡ false → map_of s f d ≡ Ok m → CountsMap s d.counts.frames m d.counts)
     → (m : Map) → Holds shape b.pages m → (counts.keys ≡ len m) × (counts.live ≡ live shape m)
-counted agrees shape b d counts fits going numbers told m held =
-    let r = fits.ready going in
+counted agrees shape b d counts has running none numbers told m held =
     let A : Option Shape → Type 0 = λ o. agrees o b.pages in
-    let R : List Entry → Type 0 = λ p. reading shape b.pages p ≡ Ok r.map in
-    let same : r.map ≡ m = ok_same r.map m (sym (subst R r.none r.stands.map_is) ∙ held) in
-    let is = told shape b.pages r.map (subst A fits.shape_is r.agreed) going r.stands.map_is in (
-      ap (λ (c : model.Counts). c.keys) numbers ∙ (is.keys_is ∙ ap len same),
-      ap (λ (c : model.Counts). c.live) numbers ∙ (is.live_is ∙ ap (live shape) same),
-    )
+    let R : List Entry → Type 0 = λ p. reading shape b.pages p ≡ Ok m in
+    let is = told shape b.pages m (subst A has running.agrees) running.runs (subst R (sym none) held) in
+    (ap (λ (c : model.Counts). c.keys) numbers ∙ is.keys_is, ap (λ (c : model.Counts). c.live) numbers ∙ is.live_is)
 
 module _ (begin count : ℕ) (shape : Shape) (frames : ℕ) (start : Map) (a b : BoardState) (s : Summary) (w : Generated begin count shape frames start a b s) (keys pages : ℕ)
     (are : (keys ≡ len w.asked.left) × (pages ≡ live shape w.asked.left)) where

@@ -4,4 +4,5 @@ mod Posting
 mod Lists
 mod Counting
 pub mod Opening
+mod Grouping
 mod Generating

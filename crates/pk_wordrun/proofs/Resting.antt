@@ -1,5 +1,5 @@
 -- A flash rests while commands only read, and a text goes out behind them.
-use Rattle.std.proofs.Common.{◌≡◌, List, ℕ, refl, ap, Bool, true, false}
+use Rattle.std.proofs.Common.{◌≡◌, List, ℕ, refl, ap, true, false}
 use Rattle.pk_base.specs.Shape.{Shape}
 use Rattle.pk_nand.specs.BoardState.{BoardState}
 use Rattle.pk_nand.specs.Calls.{after_post, PostFailed}

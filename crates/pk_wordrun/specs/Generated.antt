@@ -1,20 +1,30 @@
 -- A workload on a drive, from a first state of a board to a later one.
-use Rattle.std.specs.Prelude.{◌≡◌, ℕ, ◌+◌, ◌*◌, ◌≤◌}
+use Rattle.std.specs.Prelude.{◌≡◌, ℕ, ◌+◌, ◌*◌, ◌≤◌, List}
 use Rattle.pk_base.specs.Shape.{Shape}
 use Rattle.pk_base.specs.Map.{Map}
 use Rattle.pk_nand.specs.BoardState.{BoardState}
 use Rattle.pk_model.specs.Growth.{Goes}
 use Rattle.pk_model.specs.Kept.{rise}
+use Rattle.pk_model.specs.Run.{Exchange, commands}
+use Rattle.pk_model.specs.Sight.{Sight}
 use Rattle.pk_model.specs.Wear.{roots}
 use Rattle.pk_gen.specs.Workload.{workload}
 use Rattle.pk_port.specs.Asking.{Asked, KeptSilently}
 use Rattle.pk_port.specs.declared.halt.Halt.{Halt}
 use Rattle.pk_wordrun.specs.Ends.{end_of}
+use Rattle.pk_wordrun.specs.Grouped.{Grouped}
 use Rattle.pk_wordrun.specs.Sums.{Sums}
 use Rattle.pk_wordrun.specs.Tasks.{generate}
 use Rattle.pk_wordrun.specs.Told.{EndsBy, KeepsInput, turn_roots}
 use Rattle.pk_wordrun.specs.declared.end.WordEnd.TheVariants.{Worn}
 use Rattle.pk_wordrun.specs.declared.summary.Summary.{Summary}
+
+-- So many commands of the workload were answered, and are counted; entries of the last ones may be pending.
+pub record Generating (begin count : ℕ) (shape : Shape) (frames : ℕ) (start : Map) (a b : BoardState) (drive : Sight) (s : Summary) : Type 0 where
+  pub all : List Exchange
+  pub are : commands all ≡ workload begin count
+  pub grouped : Grouped shape frames start a b drive all
+  pub sums : Sums s all
 
 -- So many commands of the workload were answered, and are counted.
 pub record Generated (begin count : ℕ) (shape : Shape) (frames : ℕ) (start : Map) (a b : BoardState) (s : Summary) : Type 0 where

@@ -1,4 +1,5 @@
 pub mod Ends
+pub mod Grouped
 pub mod Turns
 pub mod Summary
 pub mod Sums

@@ -1,11 +1,13 @@
 //! The words that ask a drive, from their commands to their text.
 //!
-//! Each command is committed before the next, and the text goes out behind it. Wherever a word is cut off, the flash holds the
-//! map after commands of the word from the front on, and where a byte went out, after all of them.
+//! The commands of a workload are committed in groups, each other command before the next one, and the text goes out after the last
+//! commit. Wherever a word is cut off, the flash holds the map after a prefix of its commands, and if a byte went out, after all of
+//! them.
 #![tactic(auto)]
 
 mod ask;
 mod end;
+mod group;
 mod keys;
 mod list;
 pub mod say;

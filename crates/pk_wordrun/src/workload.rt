@@ -1,60 +1,34 @@
 //! A generated workload on a drive, and its summary to the host.
-ghost use Rattle.std.specs.Prelude.{◌≡◌, ◌≤◌, length, false, OnOk, IfOk, IfErr};
+ghost use Rattle.std.specs.Prelude.{◌≡◌, ◌≤◌, [], length, false, OnOk, IfOk, IfErr};
 ghost use Rattle.pk_base.specs.Map.{Map};
 ghost use Rattle.pk_nvme.specs.Bytes.{RoomyList};
 ghost use Rattle.pk_nvme.specs.Seen.{command_of};
 ghost use Rattle.pk_gen.specs.Workload.{Generator, request_of, value_of, after};
 ghost use Rattle.pk_gen.specs.declared.numbers.TheConstants.{MOST_VALUE_BYTES};
 ghost use Rattle.pk_model.specs.Reading.{Holds};
-ghost use Rattle.pk_port.specs.Ready.{Fits, HasRoom};
+ghost use Rattle.pk_serve.specs.Part.{IsRunning, CanServe, HasRoom};
+ghost use Rattle.pk_port.specs.Ready.{Fits, HasRoom as RoomFor};
 ghost use Rattle.pk_nvme.specs.Command.{IsWhole};
-ghost use Rattle.pk_port.specs.Steps.{mount, Makes};
-ghost use Rattle.pk_wordrun.specs.Generated.{Generated, Unfinished};
+ghost use Rattle.pk_wordrun.specs.Generated.{Generating, Generated, Unfinished};
 ghost use Rattle.pk_wordrun.specs.Tasks.{generate};
 ghost use Rattle.pk_wordrun.specs.Told.{Told};
 ghost use Rattle.pk_wordrun.specs.Turns.{Turn};
 ghost use Rattle.pk_wordrun.specs.declared.sizes.TheConstants.{SUMMARY_BYTES};
 
 use crate::end::{WordEnd, end_of};
+use crate::group::{commit_group, serve_grouped};
 use crate::say::say;
 use crate::summary::Summary;
 use crate::task::Series;
 use pk_base::Shape;
-use pk_call::Outcome;
 use pk_drive::Engine;
 use pk_gen::Workload;
 use pk_gen::laws::whole;
-use pk_host::is_handed;
-use pk_nand::{Board, Nand};
-use pk_nvme::{Bytes, Request};
-use pk_port::{Halt, serve_lent};
+use pk_nand::{Board, Nand, NandFault};
+use pk_nvme::Bytes;
+use pk_port::Halt;
 
-/// Serves one request with a whole value.
-fn serve_request<D: Engine, B: Nand>(
-    drive: &mut D,
-    board: &mut B,
-    shape: &Shape,
-    request: &Request,
-    value: &[u8],
-    buffer: &mut [u8],
-) -> Result<Outcome, Halt>
-    // The drive on its board, a whole value, and the buffer.
-    requires fits { Fits (D.agrees drive.old) shape.now (B.state board.old) (D.sight drive.old) }
-    requires whole { IsWhole (command_of request.now value.now) }
-    requires room { HasRoom shape.now buffer.old }
-
-    // The drive's answer, and the drive on its board behind it.
-    ensures fits { Fits (D.agrees drive.new) shape.now (B.state board.new) (D.sight drive.new) }
-    ensures makes { Makes shape.now (mount (B.state board.old) (D.sight drive.old))
-        (mount (B.state board.new) (D.sight drive.new)) (command_of request.now value.now) result
-        buffer.new }
-    ensures room { length buffer.new ≡ length buffer.old }
-{
-    is_handed(&request.entry(), value);
-    serve_lent(drive, board, shape, request, value, buffer)
-}
-
-/// Serves the next command of a workload.
+/// Serves the next command of a workload while `held` records wait.
 fn serve_turn<D: Engine, B: Nand>(
     drive: &mut D,
     board: &mut B,
@@ -63,34 +37,89 @@ fn serve_turn<D: Engine, B: Nand>(
     value: &mut Bytes,
     buffer: &mut [u8],
     summary: &mut Summary,
-) -> Result<(), Halt>
+    held: &mut u32,
+) -> Result<(), NandFault>
     // The drive on its board, and the buffers.
-    requires fits { Fits (D.agrees drive.old) shape.now (B.state board.old) (D.sight drive.old) }
+    requires can_serve { CanServe (D.agrees drive.old) (D.sight drive.old) (B.state board.old) }
     requires value { MOST_VALUE_BYTES ≤ value.old.room }
-    requires room { HasRoom shape.now buffer.old }
-    ensures fits { Fits (D.agrees drive.new) shape.now (B.state board.new) (D.sight drive.new) }
+    requires room { HasRoom (B.state board.old) shape.now buffer.old }
+    ensures running { OnOk result
+        (IsRunning (D.agrees drive.new) (D.sight drive.new) (B.state board.new)) }
+    ensures shape { (B.state board.new).shape ≡ (B.state board.old).shape }
     ensures value { value.new.room ≡ value.old.room }
     ensures room { length buffer.new ≡ length buffer.old }
 
     // The command, and the counters.
     ensures after { workload.new ≡ after workload.old }
-    ensures turn { Turn shape.now (mount (B.state board.old) (D.sight drive.old))
-        (mount (B.state board.new) (D.sight drive.new))
-        (command_of (request_of workload.old) (value_of workload.old)) summary.old summary.new
-        result }
+    ensures turn { Turn (B.state board.old) (B.state board.new) (D.sight drive.old)
+        (D.sight drive.new) (command_of (request_of workload.old) (value_of workload.old))
+        summary.old summary.new result }
 {
     whole();
     let request = workload.next_request(value);
-    match serve_request(drive, board, shape, &request, value.bytes(), buffer) {
+    match serve_grouped(drive, board, shape, &request, value.bytes(), buffer, held) {
         Ok(outcome) => {
             summary.add(&request, &outcome);
             Ok(())
         }
-        Err(halt) => Err(halt),
+        Err(fault) => Err(fault),
     }
 }
 
-/// Serves so many commands of a workload, and counts how they were answered.
+/// Serves `count` commands of a workload, and counts how they were answered. Entries of the last ones may be pending.
+fn serve_turns<D: Engine, B: Nand>(
+    drive: &mut D,
+    board: &mut B,
+    shape: &Shape,
+    value: &mut Bytes,
+    buffer: &mut [u8],
+    start: u32,
+    count: u32,
+) -> Result<Summary, Halt>
+    // The drive on its board with nothing pending, and the buffers.
+    requires running { IsRunning (D.agrees drive.old) (D.sight drive.old) (B.state board.old) }
+    requires none { (D.sight drive.old).pending ≡ [] }
+    requires value { MOST_VALUE_BYTES ≤ value.old.room }
+    requires room { HasRoom (B.state board.old) shape.now buffer.old }
+
+    // All commands were served, or one was not.
+    ensures running { OnOk result
+        (IsRunning (D.agrees drive.new) (D.sight drive.new) (B.state board.new)) }
+    ensures served { IfOk result (λ s. (m : Map) → Holds shape.now (B.state board.old).pages m
+        → Generating start count shape.now (D.sight drive.old).counts.frames m (B.state board.old)
+        (B.state board.new) (D.sight drive.new) s) }
+    ensures fails { IfErr result (λ h. (m : Map) → Holds shape.now (B.state board.old).pages m
+        → Unfinished start count shape.now (D.sight drive.old).counts.frames m (B.state board.old)
+        (B.state board.new) h) }
+{
+    let mut workload = Workload::new(start);
+    let mut summary = Summary::new();
+    let mut held = 0u32;
+    for turn in 0..count {
+        if drive.is_worn() {
+            return match commit_group(drive, board) {
+                Ok(()) => Err(Halt::Worn),
+                Err(_) => Err(Halt::Stopped),
+            };
+        }
+        match serve_turn(
+            drive,
+            board,
+            shape,
+            &mut workload,
+            value,
+            buffer,
+            &mut summary,
+            &mut held,
+        ) {
+            Ok(()) => {}
+            Err(_) => return Err(Halt::Stopped),
+        }
+    }
+    Ok(summary)
+}
+
+/// Serves `count` commands of a workload, commits the last group, and counts how they were answered.
 fn serve_workload<D: Engine, B: Nand>(
     drive: &mut D,
     board: &mut B,
@@ -104,12 +133,12 @@ fn serve_workload<D: Engine, B: Nand>(
     requires fits { Fits (D.agrees drive.old) shape.now (B.state board.old) (D.sight drive.old) }
     requires runs { (D.sight drive.old).stopped ≡ false }
     requires value { MOST_VALUE_BYTES ≤ value.old.room }
-    requires room { HasRoom shape.now buffer.old }
+    requires room { RoomFor shape.now buffer.old }
 
     // All commands were answered, or one was not.
-    ensures fits { OnOk result
-        (Fits (D.agrees drive.new) shape.now (B.state board.new) (D.sight drive.new)) }
-    ensures runs { OnOk result ((D.sight drive.new).stopped ≡ false) }
+    ensures running { OnOk result
+        (IsRunning (D.agrees drive.new) (D.sight drive.new) (B.state board.new)) }
+    ensures none { OnOk result ((D.sight drive.new).pending ≡ []) }
     ensures served { IfOk result (λ s. (m : Map) → Holds shape.now (B.state board.old).pages m
         → Generated start count shape.now (D.sight drive.old).counts.frames m (B.state board.old)
         (B.state board.new) s) }
@@ -117,23 +146,13 @@ fn serve_workload<D: Engine, B: Nand>(
         → Unfinished start count shape.now (D.sight drive.old).counts.frames m (B.state board.old)
         (B.state board.new) h) }
 {
-    let mut workload = Workload::new(start);
-    let mut summary = Summary::new();
-    for turn in 0..count {
-        match serve_turn(
-            drive,
-            board,
-            shape,
-            &mut workload,
-            value,
-            buffer,
-            &mut summary,
-        ) {
-            Ok(()) => {}
-            Err(halt) => return Err(halt),
-        }
+    match serve_turns(drive, board, shape, value, buffer, start, count) {
+        Ok(summary) => match commit_group(drive, board) {
+            Ok(()) => Ok(summary),
+            Err(_) => Err(Halt::Stopped),
+        },
+        Err(halt) => Err(halt),
     }
-    Ok(summary)
 }
 
 /// Serves a workload on a drive on its board, and gives its summary to the host.
@@ -151,7 +170,7 @@ pub fn tell_workload<D: Engine, B: Board>(
     requires runs { (D.sight drive.old).stopped ≡ false }
     requires value { MOST_VALUE_BYTES ≤ value.old.room }
     requires text { SUMMARY_BYTES ≤ text.old.room }
-    requires room { HasRoom shape buffer.old }
+    requires room { RoomFor shape buffer.old }
 
     ensures { (m : Map) → Holds shape (B.state board.old).pages m
         → Told (generate series.start series.count) shape (D.sight drive.old).counts.frames m
