@@ -1,5 +1,5 @@
 -- One visit after another.
-use Rattle.std.proofs.Common.{◌≡◌, ℕ, List, [], ◌∷◌, ◌++◌, Some, Result, Err, refl, sym, subst, ◌∙◌}
+use Rattle.std.proofs.Common.{◌≡◌, ◌≢◌, ℕ, List, [], ◌∷◌, ◌++◌, Some, Result, Err, refl, sym, subst, ◌∙◌}
 use Rattle.std.specs.List.{AllByRecursion}
 use Rattle.pk_base.specs.Key.{Key}
 use Rattle.pk_base.specs.Map.{Map}
@@ -10,7 +10,7 @@ use Rattle.pk_host.specs.Calls.{TookSome}
 use Rattle.pk_mirror.specs.declared.error.Side.TheVariants.{First, Second}
 use Rattle.pk_mirror.specs.declared.error.MirrorError.{MirrorError}
 use Rattle.pk_mirror.specs.declared.error.MirrorError.TheVariants.{Refused, Port, Split}
-use Rattle.pk_mirror.specs.Causes.{RefusedBy, IsCause, OnlyAsks, AreAsking}
+use Rattle.pk_mirror.specs.Causes.{RefusedBy, IsCause, OnlyAsks, AreAsking, NotEmpty}
 use Rattle.pk_mirror.specs.Visits.{Visits, OnlyReadsFail}
 use Rattle.pk_mirror.specs.Spending.{Spent}
 use Rattle.pk_mirror.proofs.PairLemmas.{rose_later}
@@ -96,6 +96,31 @@ module _ {P : Type 0} (took : P → List Command → P → Type 0) where
 
   pub asking_one : (p q : P) (c : Command) → OnlyAsks c → took p (c ∷ []) q → TookSome took AreAsking p q
   asking_one p q c asks h = (c ∷ [], (asks, tt), h)
+
+-- ---- at least one command
+
+one_some : (c : Command) (cs : List Command) → (c ∷ cs) ≢ []
+one_some c cs e = cc
+
+some_then : (cs ds : List Command) → cs ≢ [] → (cs ++ ds) ≢ []
+some_then [] ds some = absurd (some refl)
+some_then (c ∷ cs) ds some = one_some c (cs ++ ds)
+
+then_some : (cs ds : List Command) → ds ≢ [] → (cs ++ ds) ≢ []
+then_some [] ds some = some
+then_some (c ∷ cs) ds some = one_some c (cs ++ ds)
+
+pub asked_one : {P : Type 0} (took : P → List Command → P → Type 0) (p q : P) (c : Command) → took p (c ∷ []) q → TookSome took NotEmpty p q
+asked_one took p q c h = (c ∷ [], one_some c [], h)
+
+module _ {P : Type 0} (took : P → List Command → P → Type 0) (both : (p : P) (cs : List Command) (q : P) (ds : List Command) (r : P) → took p cs q → took q ds r → took p (cs ++ ds) r) where
+  -- at least one, and then any
+  pub asked_before : (p q r : P) (ds : List Command) → TookSome took NotEmpty p q → took q ds r → TookSome took NotEmpty p r
+  asked_before p q r ds h g = (h.0 ++ ds, some_then h.0 ds h.1, both p h.0 q ds r h.2 g)
+
+  -- any, and then at least one
+  pub asked_later : (p q r : P) (cs : List Command) → took p cs q → TookSome took NotEmpty q r → TookSome took NotEmpty p r
+  asked_later p q r cs h g = (cs ++ g.0, then_some cs g.0 g.1, both p cs q g.0 r h g.2)
 
 -- ---- a page of visits
 

@@ -1,5 +1,5 @@
 -- Why a call of a pair has no answer, and which drive decided it.
-use Rattle.std.specs.Prelude.{◌≡◌, ◌⊎◌, ℕ, List, Bool, true, false, ◌==◌, Result, Ok, Err}
+use Rattle.std.specs.Prelude.{◌≡◌, ◌≢◌, ◌⊎◌, ℕ, List, [], Bool, true, false, ◌==◌, Result, Ok, Err}
 use Rattle.std.specs.List.{AllByRecursion}
 use Rattle.pk_base.specs.Key.{Key}
 use Rattle.pk_nvme.specs.Command.{Command}
@@ -7,7 +7,7 @@ use Rattle.pk_nvme.specs.Reply.{Reply}
 use Rattle.pk_nvme.specs.declared.status.TheConstants.{SUCCESSFUL_COMPLETION, UNRECOVERED_ERROR}
 use Rattle.pk_nand.specs.Calls.{Rose}
 use Rattle.pk_host.specs.Port.{PortState, Replies, Took}
-use Rattle.pk_host.specs.Calls.{list_of, retrieve_of}
+use Rattle.pk_host.specs.Calls.{list_of, retrieve_of, TookSome}
 use Rattle.pk_host.specs.declared.types.HostError.{HostError}
 use Rattle.pk_host.specs.declared.types.HostError.TheVariants.{Refused as HostRefused, Port as HostPort, Memory}
 use Rattle.pk_mirror.specs.declared.error.Side.{Side}
@@ -95,3 +95,11 @@ OnlyAsks c = ((from : Key) × (c ≡ list_of from)) ⊎ ((key : Key) × (size : 
 
 abbrev pub AreAsking : List Command → Type 0
 AreAsking cs = AllByRecursion OnlyAsks cs
+
+-- at least one command
+abbrev pub NotEmpty : List Command → Type 0
+NotEmpty cs = cs ≢ []
+
+-- each port took at least one command
+abbrev pub BothAsked : {P Q : Type 0} → (P → List Command → P → Type 0) → (Q → List Command → Q → Type 0) → P → P → Q → Q → Type 0
+BothAsked tookP tookQ first first' second second' = TookSome tookP NotEmpty first first' × TookSome tookQ NotEmpty second second'

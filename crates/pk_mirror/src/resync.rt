@@ -6,7 +6,7 @@ ghost use Rattle.pk_base.specs.Shape.{greatest};
 ghost use Rattle.pk_host.specs.Calls.{TookSome};
 ghost use Rattle.pk_host.specs.Port.{PortState};
 ghost use Rattle.pk_mirror.specs.Pair.{Mirrored, IsPair, Alike};
-ghost use Rattle.pk_mirror.specs.Causes.{IsCause, IsReadError, AreAsking};
+ghost use Rattle.pk_mirror.specs.Causes.{IsCause, IsReadError, AreAsking, NotEmpty, BothAsked};
 ghost use Rattle.pk_mirror.specs.Agreement.{NoOther, HaveSame, AreAny, IsPart};
 ghost use Rattle.pk_mirror.specs.Ranks.{IsText, keys_left};
 ghost use Rattle.pk_mirror.specs.Visits.{Turns, VisitsAll, OnlyReadsFail};
@@ -49,6 +49,8 @@ impl Mirror {
         ensures took_first { TookSome P.took AreAsking first.old first.new }
         ensures took_second { TookSome Q.took (AreOfResync (P.state first.old)
             (Q.state second.old)) second.old second.new }
+        ensures asked { OnOk result (BothAsked P.took Q.took first.old first.new second.old
+            second.new) }
     {
         self.set_split(true);
         match self.copy_first(first, second) {
@@ -79,6 +81,8 @@ impl Mirror {
         ensures took_first { TookSome P.took AreAsking first.old first.new }
         ensures took_second { TookSome Q.took (AreOfResync (P.state first.old)
             (Q.state second.old)) second.old second.new }
+        ensures asked { OnOk result (BothAsked P.took Q.took first.old first.new second.old
+            second.new) }
     {
         let one = self.first_value.as_mut_slice();
         let two = self.second_value.as_mut_slice();
@@ -119,6 +123,8 @@ fn copy_map<P: Port, Q: Port>(
     ensures took_first { TookSome P.took AreAsking first.old first.new }
     ensures took_second { TookSome Q.took (AreOfResync (P.state first.old)
         (Q.state second.old)) second.old second.new }
+    ensures asked { OnOk result (BothAsked P.took Q.took first.old first.new second.old
+        second.new) }
 {
     match drop_all(host, first, second, second_keys, one, two) {
         Ok(()) => copy_all(host, first, second, first_keys, one),
@@ -157,6 +163,7 @@ fn drop_page<P: Port, Q: Port>(
         second.old second.new }
     ensures deleted { OnOk result (TookSome Q.took (Deleted (P.state first.old)
         (Q.state second.old) (Q.state second.new)) second.old second.new) }
+    ensures asked_second { OnOk result (TookSome Q.took NotEmpty second.old second.new) }
 {
     match host.list_page(second, last, page) {
         Ok(true) => match drop_others(host, first, second, page, one, two) {
@@ -194,6 +201,7 @@ fn drop_all<P: Port, Q: Port>(
         second.old second.new }
     ensures deleted { OnOk result (TookSome Q.took (Deleted (P.state first.old)
         (Q.state second.old) (Q.state second.new)) second.old second.new) }
+    ensures asked_second { OnOk result (TookSome Q.took NotEmpty second.old second.new) }
 {
     let mut last = None;
     loop {
@@ -233,6 +241,7 @@ fn copy_page<P: Port, Q: Port>(
         second.old second.new }
     ensures stored { OnOk result (TookSome Q.took (Stored (P.state first.old)
         (Q.state second.old) (Q.state second.new)) second.old second.new) }
+    ensures asked_first { OnOk result (TookSome P.took NotEmpty first.old first.new) }
 {
     match host.list_page(first, last, page) {
         Ok(true) => match copy_all_missing(host, first, second, page, one) {
@@ -267,6 +276,7 @@ fn copy_all<P: Port, Q: Port>(
         second.old second.new }
     ensures stored { OnOk result (TookSome Q.took (Stored (P.state first.old)
         (Q.state second.old) (Q.state second.new)) second.old second.new) }
+    ensures asked_first { OnOk result (TookSome P.took NotEmpty first.old first.new) }
 {
     let mut last = None;
     loop {

@@ -4,7 +4,7 @@ use Rattle.pk_mirror.specs.Agreement.{IsPart, HaveSame}
 use Rattle.pk_mirror.specs.Spending.{to_store}
 use Rattle.pk_nvme.specs.declared.opcode.TheConstants.{STORE}
 use Rattle.pk_mirror.proofs.PairLemmas.{still_alike}
-use Rattle.pk_mirror.proofs.VisitLemmas.{asking_more, cause_later}
+use Rattle.pk_mirror.proofs.VisitLemmas.{asking_more, cause_later, asked_later}
 use Rattle.pk_mirror.proofs.SpendLemmas.{took_spent, took_spending, took_settled}
 use Rattle.pk_mirror.proofs.PageLemmas.{turning_begins, turning_goes, turning_keeps, turning_fails, turned_all, turns_as, smaller_as}
 use Rattle.pk_mirror.proofs.resync.copy_all.Goals as goal
@@ -56,3 +56,6 @@ returns-in-Err-clause-took_second g c = took_spending IsPart to_store STORE g.Q.
 
 pub copy_page-requires-clause-room_one : goal.copy_page-requires-clause-room_one
 copy_page-requires-clause-room_one g c = subst (λ (s : Shape). greatest s ≤ length c.loop-next.one) (sym (g.met.P.Port.took_state _ _ _ c.loop-next.invariant.took_first.2).shape) (omega (arith, c.requires.room_one, c.loop-next.auto.one))
+
+pub returns-in-Ok-None-clause-asked_first : goal.returns-in-Ok-None-clause-asked_first
+returns-in-Ok-None-clause-asked_first g c = asked_later g.P.Port.took g.met.P.Port.took_both _ _ _ _ c.loop-next.invariant.took_first.2 c.in-Ok-None.ensures.asked_first

@@ -4,7 +4,7 @@ use Rattle.pk_nvme.specs.declared.opcode.TheConstants.{DELETE}
 use Rattle.pk_mirror.specs.Agreement.{AreAny}
 use Rattle.pk_mirror.specs.Spending.{to_delete}
 use Rattle.pk_mirror.proofs.PairLemmas.{still_alike, on_ok_map, if_err_map}
-use Rattle.pk_mirror.proofs.VisitLemmas.{asking_more, cause_later}
+use Rattle.pk_mirror.proofs.VisitLemmas.{asking_more, cause_later, asked_before, asked_later}
 use Rattle.pk_mirror.proofs.SpendLemmas.{resync_both, resync_first, goes_all, between, spending_spent}
 use Rattle.pk_mirror.proofs.PageLemmas.{both_phases, second_phase_fails}
 use Rattle.pk_mirror.proofs.resync.copy_map.Goals as goal
@@ -35,3 +35,6 @@ returns-in-Ok-clause-took_second g c = (c.in-Ok.ensures.deleted.0 ++ c.copy_all.
 
 pub returns-in-Err-clause-took_second : goal.returns-in-Err-clause-took_second
 returns-in-Err-clause-took_second g c = (c.drop_all.ensures.took_second.0, resync_first (g.P.Port.state c.args.first.now) (g.Q.Port.state c.args.second.now) _ c.drop_all.ensures.took_second.1, c.drop_all.ensures.took_second.2)
+
+pub returns-in-Ok-clause-asked : goal.returns-in-Ok-clause-asked
+returns-in-Ok-clause-asked g c = on_ok_map c.copy_all.result _ _ (λ h. (asked_later g.P.Port.took g.met.P.Port.took_both _ _ _ _ c.drop_all.ensures.took_first.2 h, asked_before g.Q.Port.took g.met.Q.Port.took_both _ _ _ _ c.in-Ok.ensures.asked_second c.copy_all.ensures.took_second.2)) c.copy_all.ensures.asked_first

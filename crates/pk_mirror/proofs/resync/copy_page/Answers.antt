@@ -12,7 +12,7 @@ use Rattle.pk_mirror.proofs.ReplyLemmas.{listed_tells}
 use Rattle.pk_mirror.proofs.PairLemmas.{still_alike}
 use Rattle.pk_mirror.proofs.AskLemmas.{list_unread}
 use Rattle.pk_mirror.proofs.KeyLemmas.{first_cause, side_unread, list_keeps, lacks_both}
-use Rattle.pk_mirror.proofs.VisitLemmas.{asking_one, asking_more, cause_later, fails_kept}
+use Rattle.pk_mirror.proofs.VisitLemmas.{asking_one, asking_more, cause_later, fails_kept, asked_one, asked_before}
 use Rattle.pk_mirror.proofs.SpendLemmas.{spent_none, spending_looks, looks_no_store, moved_first, moved_first_spent}
 use Rattle.pk_mirror.proofs.PageLemmas.{page_some, page_falls, falls_next, short_from, turns_some, turns_none}
 use Rattle.pk_mirror.proofs.resync.copy_page.Goals as goal
@@ -91,3 +91,9 @@ returns-in-Ok-clause-stored g c = moved_first_spent IsPart to_store STORE g.Q.Po
 
 pub returns-in-Ok-false-clause-stored : goal.returns-in-Ok-false-clause-stored
 returns-in-Ok-false-clause-stored g c = ([], spent_none IsPart to_store STORE (g.P.Port.state c.args.first.now) (g.Q.Port.state c.args.second.now), g.met.Q.Port.took_none c.args.second.now)
+
+pub returns-in-Ok-clause-asked_first : goal.returns-in-Ok-clause-asked_first
+returns-in-Ok-clause-asked_first g c = asked_before g.P.Port.took g.met.P.Port.took_both _ _ _ _ (asked_one g.P.Port.took _ _ _ c.list_page.ensures.took) c.copy_all_missing.ensures.took_first.2
+
+pub returns-in-Ok-false-clause-asked_first : goal.returns-in-Ok-false-clause-asked_first
+returns-in-Ok-false-clause-asked_first g c = asked_one g.P.Port.took _ _ _ c.list_page.ensures.took

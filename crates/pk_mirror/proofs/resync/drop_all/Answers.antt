@@ -4,7 +4,7 @@ use Rattle.pk_mirror.specs.Agreement.{AreAny, NoOther}
 use Rattle.pk_mirror.specs.Spending.{to_delete}
 use Rattle.pk_nvme.specs.declared.opcode.TheConstants.{DELETE}
 use Rattle.pk_mirror.proofs.PairLemmas.{still_alike}
-use Rattle.pk_mirror.proofs.VisitLemmas.{asking_more, cause_later}
+use Rattle.pk_mirror.proofs.VisitLemmas.{asking_more, cause_later, asked_later}
 use Rattle.pk_mirror.proofs.SpendLemmas.{took_spent, took_spending, took_settled}
 use Rattle.pk_mirror.proofs.PageLemmas.{turning_begins, turning_goes, turning_keeps, turning_fails, turned_all, turns_as, smaller_as}
 use Rattle.pk_mirror.proofs.resync.drop_all.Goals as goal
@@ -59,3 +59,6 @@ drop_page-requires-clause-room_one g c = subst (λ (s : Shape). greatest s ≤ l
 
 pub drop_page-requires-clause-room_two : goal.drop_page-requires-clause-room_two
 drop_page-requires-clause-room_two g c = subst (λ (s : Shape). greatest s ≤ length c.loop-next.two) (sym (g.met.P.Port.took_state _ _ _ c.loop-next.invariant.took_first.2).shape) (omega (arith, c.requires.room_two, c.loop-next.auto.two))
+
+pub returns-in-Ok-None-clause-asked_second : goal.returns-in-Ok-None-clause-asked_second
+returns-in-Ok-None-clause-asked_second g c = asked_later g.Q.Port.took g.met.Q.Port.took_both _ _ _ _ c.loop-next.invariant.took_second.2 c.in-Ok-None.ensures.asked_second

@@ -11,7 +11,7 @@ use Rattle.pk_mirror.proofs.ReplyLemmas.{listed_tells}
 use Rattle.pk_mirror.proofs.PairLemmas.{still_alike}
 use Rattle.pk_mirror.proofs.AskLemmas.{list_unread}
 use Rattle.pk_mirror.proofs.KeyLemmas.{second_cause, side_unread, list_keeps}
-use Rattle.pk_mirror.proofs.VisitLemmas.{asking_none, cause_later, fails_kept}
+use Rattle.pk_mirror.proofs.VisitLemmas.{asking_none, cause_later, fails_kept, asked_one, asked_before}
 use Rattle.pk_mirror.proofs.SpendLemmas.{took_spent, took_spending, goes_same, spent_looks, spending_looks, looks_no_delete}
 use Rattle.pk_mirror.proofs.PageLemmas.{page_some, page_falls, falls_next, short_from, turns_some, turns_none}
 use Rattle.pk_mirror.proofs.resync.drop_page.Goals as goal
@@ -69,3 +69,9 @@ returns-in-Err-clause-took_first g c = asking_none g.P.Port.took _ (g.met.P.Port
 
 pub returns-in-Err-clause-took_second : goal.returns-in-Err-clause-took_second
 returns-in-Err-clause-took_second g c = (_, spending_looks AreAny to_delete DELETE looks_no_delete (g.P.Port.state c.args.first.now) (g.Q.Port.state c.args.second.now) _ (inl (inl ((key_or_none (option_copied c.args.last)), refl)), tt), c.list_page.ensures.took)
+
+pub returns-in-Ok-clause-asked_second : goal.returns-in-Ok-clause-asked_second
+returns-in-Ok-clause-asked_second g c = asked_before g.Q.Port.took g.met.Q.Port.took_both _ _ _ _ (asked_one g.Q.Port.took _ _ _ c.list_page.ensures.took) c.drop_others.ensures.took_second.2
+
+pub returns-in-Ok-false-clause-asked_second : goal.returns-in-Ok-false-clause-asked_second
+returns-in-Ok-false-clause-asked_second g c = asked_one g.Q.Port.took _ _ _ c.list_page.ensures.took
