@@ -156,7 +156,7 @@ pub fn empty(rt: &impl Abort, alloc: Global, text: &str) -> Images {
 }
 
 /// The run of a word over two boards.
-fn ran(rt: &impl Abort, alloc: Global, mut first: Flash, mut second: Flash, text: &str) -> Ran {
+fn run_on(rt: &impl Abort, alloc: Global, mut first: Flash, mut second: Flash, text: &str) -> Ran {
     let status = pair_status(rt, alloc, &mut first, &mut second, text);
     Ran {
         status,
@@ -169,7 +169,7 @@ fn ran(rt: &impl Abort, alloc: Global, mut first: Flash, mut second: Flash, text
 pub fn run_over(rt: &impl Abort, alloc: Global, images: &Images, text: &str) -> Ran {
     let first = board_of(rt, alloc, images.shape, &images.first);
     let second = board_of(rt, alloc, images.shape, &images.second);
-    ran(rt, alloc, first, second, text)
+    run_on(rt, alloc, first, second, text)
 }
 
 /// The same, when one call of one board fails and leaves this.
@@ -189,7 +189,7 @@ pub fn run_failing(
         Half::Second => &mut second,
     };
     failing.fail(alloc, call, left).expect(rt, "memory");
-    ran(rt, alloc, first, second, text)
+    run_on(rt, alloc, first, second, text)
 }
 
 /// The images after a word over both, which has to end with status 0 and to post this on the first board alone.

@@ -373,9 +373,9 @@ refused_one status (inr (inl e)) = inr (inl e)
 refused_one status (inr (inr e)) = inl e
 
 -- a flash that holds a map is not refused
-not_refused : (s shape : Shape) (now then : Flash) (m : Map) (refusal : Refusal) → s ≡ shape → now ≡ then → Holds s now m → Refuses shape then refusal → ⊥
-not_refused s shape now then m refusal same pages held refuses =
-    no_map shape then m refusal (subst (λ (f : Flash). Holds shape f m) pages (subst (λ (x : Shape). Holds x now m) same held)) refuses
+not_refused : (s shape : Shape) (one two : Flash) (m : Map) (refusal : Refusal) → s ≡ shape → one ≡ two → Holds s one m → Refuses shape two refusal → ⊥
+not_refused s shape one two m refusal same pages held refuses =
+    no_map shape two m refusal (subst (λ (f : Flash). Holds shape f m) pages (subst (λ (x : Shape). Holds x one m) same held)) refuses
 
 -- two drives that were opened are a pair
 no_lack : (s shape other : Shape) (old old' loaded loaded' : BoardState) (m k : Map) → s ≡ shape → s ≡ other → loaded.pages ≡ old.pages → loaded'.pages ≡ old'.pages
