@@ -1,5 +1,5 @@
 -- A word of a pair: the resync before it, and what it asks then.
-use Rattle.std.proofs.Common.{◌≡◌, inl, inr, ℕ, ◌+◌, ◌⊎◌, ◌==◌, if◌then◌else◌, List, [], ◌∷◌, ◌++◌, Option, Some, false, refl, sym, ap, subst, ◌∙◌, arith}
+use Rattle.std.proofs.Common.{◌≡◌, inl, inr, ℕ, ◌+◌, ◌⊎◌, ◌==◌, if◌then◌else◌, List, [], ◌∷◌, ◌++◌, Option, Some, Err, false, refl, sym, ap, subst, ◌∙◌, arith}
 use Rattle.std.proofs.lemmas.List.{append_assoc}
 use Rattle.pk_base.specs.Shape.{Shape, limit}
 use Rattle.pk_base.specs.Map.{Map}
@@ -17,7 +17,7 @@ use Rattle.pk_mirror.specs.Pair.{Mirrored, IsPair}
 use Rattle.pk_mirror.specs.Causes.{OnlyAsks, AreAsking, IsCause, IsReadError}
 use Rattle.pk_mirror.specs.Spending.{LooksOr, count_of, AreOfResync}
 use Rattle.pk_mirrorwords.specs.PairTasks.{PairTask, put, get, delete, list, resync, change_of, text_of, map_left}
-use Rattle.pk_mirrorwords.specs.PairAnswers.{IsToldPair, IsInStep, PairDone, PairSaid, PairFails, AreChange, AreOfFirst, AreOfPair, HaveOneChange, AreOfSecond}
+use Rattle.pk_mirrorwords.specs.PairAnswers.{IsToldPair, IsInStep, PairDone, PairSaid, PairFails, ResyncFails, AreChange, AreOfFirst, AreOfPair, HaveOneChange, AreOfSecond}
 use Rattle.pk_mirrorwords.proofs.Paging.{unread_later, fault_later}
 
 -- ---- commands
@@ -149,10 +149,24 @@ resync_fails task p p' q q' m (Port First) cause unread = inl cause
 resync_fails task p p' q q' m (Port Second) cause unread = inr cause
 resync_fails task p p' q q' m Split cause unread = absurd cause
 
+pub resync_failed : (p p' q q' : PortState) (e : MirrorError) → IsCause p p' q q' e → IsReadError e → ResyncFails p p' q q' (Err e)
+resync_failed p p' q q' (Refused First status) cause unread = (inl (cause.unread unread), unread)
+resync_failed p p' q q' (Refused Second status) cause unread = (inr (cause.unread unread), unread)
+resync_failed p p' q q' (Port First) cause unread = inl cause
+resync_failed p p' q q' (Port Second) cause unread = inr cause
+resync_failed p p' q q' Split cause unread = absurd cause
+
 -- a refusal is said as it is
-pub said_refused : (task : PairTask) (p p' q q' : PortState) (m : Map) (side : Side) (status : ℕ) (text : List ℕ) → text ≡ status_line status → PairFails task p p' q q' m (Refused side status) → PairSaid task p p' q q' m text
-said_refused task p p' q q' m side status text is (inl done) = inl (record { spelled = is ∙ done.spelled; first_left = done.first_left; second_left = done.second_left })
-said_refused task p p' q q' m side status text is (inr (unread, read)) = inr (unread, is ∙ ap status_line read)
+pub said_refused : (asked : Type 0) (task : PairTask) (p p' q q' : PortState) (m : Map) (side : Side) (status : ℕ) (text : List ℕ) → text ≡ status_line status → asked ⊎ ResyncFails p p' q q' (Err (Refused side status))
+    → PairFails task p p' q q' m (Refused side status) → PairSaid asked task p p' q q' m text
+said_refused asked task p p' q q' m side status text is (inr (unread, read)) fails = inr (unread, is ∙ ap status_line read)
+said_refused asked task p p' q q' m side status text is (inl some) (inl done) = inl (some, record { spelled = is ∙ done.spelled; first_left = done.first_left; second_left = done.second_left })
+said_refused asked task p p' q q' m side status text is (inl some) (inr (unread, read)) = inr (unread, is ∙ ap status_line read)
+
+-- a word that was done began after a resync
+pub asked_done : (asked : Type 0) → asked ⊎ ⊥ → asked
+asked_done asked (inl some) = some
+asked_done asked (inr never) = absurd never
 
 -- a resync leaves the pair in step
 pub in_step_after : (old new : Mirrored) (p p' q q' : PortState) (cs : List Command) → IsToldPair old p q → Took p p' cs → IsPair new p' q' → p'.map ≡ p.map → new.split ≡ false → IsInStep new p' q'

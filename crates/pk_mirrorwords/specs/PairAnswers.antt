@@ -1,5 +1,5 @@
 -- What a word asks of two ports, and what it says of their maps.
-use Rattle.std.specs.Prelude.{◌≡◌, ◌⊎◌, ℕ, ◌+◌, ◌≤◌, List, [], ◌++◌, Option, Some, None, false}
+use Rattle.std.specs.Prelude.{◌≡◌, ◌⊎◌, ℕ, ◌+◌, ◌≤◌, List, [], ◌++◌, Option, Some, None, Result, Ok, Err, false}
 use Rattle.std.specs.List.{AllByRecursion}
 use Rattle.std.specs.FinMap.{len}
 use Rattle.pk_base.specs.Shape.{limit}
@@ -44,9 +44,10 @@ pub record PairDone (task : PairTask) (first first' second' : PortState) (m : Ma
   pub first_left : first'.map ≡ Some (map_left first.shape first.limit task m)
   pub second_left : second'.map ≡ Some (map_left first.shape first.limit task m)
 
--- that, or a read failed and the text says so
-abbrev pub PairSaid : PairTask → PortState → PortState → PortState → PortState → Map → List ℕ → Type 0
-PairSaid task first first' second second' m text = PairDone task first first' second' m text ⊎ (PairUnread first first' second second' × (text ≡ failed_line))
+-- that, after commands of which this is said; or a read failed and the text says so
+abbrev pub PairSaid : Type 0 → PairTask → PortState → PortState → PortState → PortState → Map → List ℕ → Type 0
+PairSaid asked task first first' second second' m text =
+    (asked × PairDone task first first' second' m text) ⊎ (PairUnread first first' second second' × (text ≡ failed_line))
 
 -- Why a word has no answer: a drive refused its command by the definition, or for a read that failed; or a port failed.
 abbrev pub PairFails : PairTask → PortState → PortState → PortState → PortState → Map → MirrorError → Type 0
@@ -54,6 +55,13 @@ PairFails task first first' second second' m (Refused side status) =
     PairDone task first first' second' m (status_line status) ⊎ (PairUnread first first' second second' × (status ≡ UNRECOVERED_ERROR))
 PairFails task first first' second second' m (Port side) = PairFault first first' second second'
 PairFails task first first' second second' m Split = PairFault first first' second second'
+
+-- The word was not begun, as the resync before it failed: a read of either drive failed, or a port did.
+abbrev pub ResyncFails : PortState → PortState → PortState → PortState → Result (Unit {0}) MirrorError → Type 0
+ResyncFails first first' second second' (Ok done) = ⊥
+ResyncFails first first' second second' (Err (Refused side status)) = PairUnread first first' second second' × (status ≡ UNRECOVERED_ERROR)
+ResyncFails first first' second second' (Err (Port side)) = PairFault first first' second second'
+ResyncFails first first' second second' (Err Split) = PairFault first first' second second'
 
 -- ---- the commands
 

@@ -1,5 +1,5 @@
 //! A word of a pair over two ports: what it asks, and what it says.
-ghost use Rattle.std.specs.Prelude.{◌≡◌, ◌+◌, ◌*◌, ◌<◌, ◌≤◌, ◌^◌, ◌++◌, length, false, OnOk, OnErr, IfOk, IfErr};
+ghost use Rattle.std.specs.Prelude.{◌≡◌, ◌⊎◌, ◌+◌, ◌*◌, ◌<◌, ◌≤◌, ◌^◌, ◌++◌, length, false, OnOk, OnErr, IfOk, IfErr};
 ghost use Rattle.pk_base.specs.Map.{Map};
 ghost use Rattle.pk_base.specs.Shape.{greatest};
 ghost use Rattle.pk_nvme.specs.Bytes.{RoomyList};
@@ -7,10 +7,10 @@ ghost use Rattle.pk_host.specs.Calls.{AtMostOne, TookSome, store_of, delete_of, 
 ghost use Rattle.pk_host.specs.declared.types.StoreRule.TheVariants.{Any};
 ghost use Rattle.pk_words.specs.Lines.{key_lines};
 ghost use Rattle.pk_words.specs.declared.sizes.TheConstants.{LINE_BYTES};
-ghost use Rattle.pk_mirror.specs.Causes.{AreAsking};
+ghost use Rattle.pk_mirror.specs.Causes.{AreAsking, BothAsked};
 ghost use Rattle.pk_mirror.specs.Pair.{Mirrored};
 ghost use Rattle.pk_mirrorwords.specs.PairTasks.{seen, IsShort, put, get, delete, list};
-ghost use Rattle.pk_mirrorwords.specs.PairAnswers.{IsToldPair, IsInStep, PairDone, PairSaid, PairFails, PairFault, AreOfFirst, AreOfSecond, HaveOneChange};
+ghost use Rattle.pk_mirrorwords.specs.PairAnswers.{IsToldPair, IsInStep, PairDone, PairSaid, PairFails, PairFault, ResyncFails, AreOfFirst, AreOfSecond, HaveOneChange};
 
 use crate::pages::list;
 use crate::pair_room::PairRoom;
@@ -196,6 +196,9 @@ fn ask_pair<P: Port, Q: Port>(
     ensures took_first { TookSome P.took (AreOfFirst (seen task.now)) first.old first.new }
     ensures took_second { TookSome Q.took (AreOfSecond (P.state first.old) (Q.state second.old))
         second.old second.new }
+    ensures asked { BothAsked P.took Q.took first.old first.new second.old second.new
+        ⊎ ResyncFails (P.state first.old) (P.state first.new) (Q.state second.old)
+        (Q.state second.new) result }
     ensures shape { room.new.shape ≡ room.old.shape }
 {
     match mirror.resync(first, second) {
@@ -204,7 +207,8 @@ fn ask_pair<P: Port, Q: Port>(
     }
 }
 
-/// Makes the second drive equal to the first, does what a word asks, and says the answer. An error when a port failed.
+/// Makes the second drive equal to the first, does what a word asks, and says the answer. An error when a port failed. Each port took
+/// at least one command when the text is the definition's.
 pub fn answer_pair<P: Port, Q: Port>(
     mirror: &mut Mirror,
     first: &mut P,
@@ -216,7 +220,8 @@ pub fn answer_pair<P: Port, Q: Port>(
     requires short { IsShort (seen task.now) }
     requires shape { (P.state first.old).shape ≡ room.old.shape }
     ensures said { OnOk result ((m : Map) → (P.state first.old).map ≡ Some m
-        → PairSaid (seen task.now) (P.state first.old) (P.state first.new) (Q.state second.old)
+        → PairSaid (BothAsked P.took Q.took first.old first.new second.old second.new)
+        (seen task.now) (P.state first.old) (P.state first.new) (Q.state second.old)
         (Q.state second.new) m room.new.text) }
     ensures fault { OnErr result (PairFault (P.state first.old) (P.state first.new)
         (Q.state second.old) (Q.state second.new)) }

@@ -1,7 +1,8 @@
-use Rattle.std.proofs.Common.{◌∙◌}
+use Rattle.std.proofs.Common.{inl, inr, ◌∙◌}
 use Rattle.pk_mirrorwords.specs.PairTasks.{seen}
-use Rattle.pk_mirrorwords.proofs.Composing.{first_both, first_asks, second_both, second_alone, done_later, fails_later, resync_fails, in_step_after}
+use Rattle.pk_mirrorwords.proofs.Composing.{first_both, first_asks, second_both, second_alone, done_later, fails_later, resync_fails, resync_failed, in_step_after}
 use Rattle.pk_mirror.proofs.PairLemmas.{on_ok_map, if_err_map}
+use Rattle.pk_mirror.proofs.VisitLemmas.{asked_before}
 use Rattle.pk_mirrorwords.proofs.answering.ask_pair.Goals as goal
 
 pub resync-requires : goal.resync-requires
@@ -33,3 +34,12 @@ returns-in-Err-clause-took_first g c = (c.resync.ensures.took_first.0, first_ask
 
 pub returns-in-Err-clause-took_second : goal.returns-in-Err-clause-took_second
 returns-in-Err-clause-took_second g c = second_alone g.Q.Port.took (g.P.Port.state c.args.first.now) (g.Q.Port.state c.args.second.now) _ _ c.resync.ensures.took_second
+
+pub returns-in-Ok-clause-asked : goal.returns-in-Ok-clause-asked
+returns-in-Ok-clause-asked g c = inl (
+  asked_before g.P.Port.took g.met.P.Port.took_both _ _ _ _ c.in-Ok.ensures.asked.0 c.ask_in_step.ensures.took_first.2,
+  asked_before g.Q.Port.took g.met.Q.Port.took_both _ _ _ _ c.in-Ok.ensures.asked.1 c.ask_in_step.ensures.took_second.2,
+)
+
+pub returns-in-Err-clause-asked : goal.returns-in-Err-clause-asked
+returns-in-Err-clause-asked g c = inr (resync_failed _ _ _ _ c.in-Err.error c.in-Err.ensures.causes (c.in-Err.ensures.unread c.requires.pair.map c.requires.pair.told))
