@@ -472,11 +472,11 @@ module _ (task : PairTask) (old new old' new' : BoardState) (status : ℕ) (shap
 
     done_by : (start : Map) → start ≡ m → status ≡ 0 → PairFinished task shape start (behind_opening shape WORD_FRAMES loaded) new (behind_opening shape WORD_FRAMES loaded') new' → IsDone
     done_by start same is f = elim f.says [
-      | inl (spelled, one, two) ↦ (
+      | inl said ↦ (
         is,
-        f.posted ∙ ap (λ (o : Option (List ℕ)). longer o f.text) (ap (λ (s : BoardState). s.posted) found.rest) ∙ ap (longer old.posted) (spelled ∙ ap (text_by shape task) same),
-        subst (λ (x : Map). Holds shape new.pages (left_by shape task x)) same one,
-        subst (λ (x : Map). Holds shape new'.pages (left_by shape task x)) same two,
+        f.posted ∙ ap (λ (o : Option (List ℕ)). longer o f.text) (ap (λ (s : BoardState). s.posted) found.rest) ∙ ap (longer old.posted) (said.text_is ∙ ap (text_by shape task) same),
+        subst (λ (x : Map). Holds shape new.pages (left_by shape task x)) same said.first_holds,
+        subst (λ (x : Map). Holds shape new'.pages (left_by shape task x)) same said.second_holds,
       )
       | inr (unread, line) ↦ absurd (elim unread [
         | inl rose ↦ none.reads (subst (λ (n : ℕ). Rose n new.read_faults) (ap (λ (s : BoardState). s.read_faults) found.rest) rose)
