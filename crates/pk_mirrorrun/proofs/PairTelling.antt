@@ -1,16 +1,16 @@
 -- What a word of a pair makes of both boards.
-use Rattle.std.proofs.Common.{◌≡◌, ◌⊎◌, inl, inr, ℕ, ◌+◌, ◌≤◌, List, [], ◌∷◌, ◌++◌, Option, Some, None, refl, sym, ap, subst, ◌∙◌, true, false, arith}
+use Rattle.std.proofs.Common.{◌≡◌, ◌⊎◌, inl, inr, ℕ, ◌+◌, ◌≤◌, List, [], Option, Some, None, refl, sym, ap, subst, ◌∙◌, true, false, arith}
 use Rattle.std.specs.Result.{result_ok}
-use Rattle.pk_base.specs.Shape.{Shape, limit}
+use Rattle.pk_base.specs.Shape.{Shape}
 use Rattle.pk_base.specs.Page.{Flash}
 use Rattle.pk_base.specs.Map.{Map}
 use Rattle.pk_nvme.specs.Command.{Command}
 use Rattle.pk_nand.specs.BoardState.{BoardState}
 use Rattle.pk_nand.specs.Calls.{Rose, longer, after_post, PostFailed}
 use Rattle.pk_nand.specs.Effects.{OnlyFlash}
-use Rattle.pk_model.specs.Growth.{Reaches, Goes}
+use Rattle.pk_model.specs.Growth.{Goes}
 use Rattle.pk_model.specs.Kept.{rise}
-use Rattle.pk_model.specs.Reading.{reading, Holds}
+use Rattle.pk_model.specs.Reading.{Holds}
 use Rattle.pk_model.specs.Wear.{roots, is_worn}
 use Rattle.pk_model.proofs.Growing.{weaken_went, Goes-reaches}
 use Rattle.pk_words.specs.Lines.{failed_line}
@@ -18,21 +18,20 @@ use Rattle.pk_call.specs.Meter.{meter}
 use Rattle.pk_model.specs.Run.{commands}
 use Rattle.pk_serve.proofs.Counting.{metered-unworn, few_unworn}
 use Rattle.pk_mirror.specs.Causes.{NotEmpty}
-use Rattle.pk_port.specs.Asking.{KeptSilently, KeptWord, Asked}
-use Rattle.pk_port.specs.Steps.{Standing, HasCause, Chain, seen}
-use Rattle.pk_port.specs.Chained.{installs, AllServed, WhyHalted, HaltedAt, Chained}
+use Rattle.pk_port.specs.Asking.{KeptSilently, KeptWord}
+use Rattle.pk_port.specs.Steps.{Standing, HasCause, seen}
+use Rattle.pk_port.specs.Chained.{installs, AllServed, HaltedAt, Chained}
 use Rattle.pk_port.specs.declared.halt.Halt.{Halt}
 use Rattle.pk_port.specs.declared.halt.Halt.TheVariants.{Stopped, Worn as UsedUp}
 use Rattle.pk_port.proofs.Growing.{asked-posts, asked-post_failed}
 use Rattle.pk_port.proofs.Chaining.{chained}
 use Rattle.pk_wordrun.specs.Ends.{end_of}
-use Rattle.pk_wordrun.specs.Told.{KeepsInput}
 use Rattle.pk_wordrun.specs.declared.end.WordEnd.{WordEnd}
-use Rattle.pk_wordrun.specs.declared.end.WordEnd.TheVariants.{Done, Output, Flash as FlashFailed, Worn}
+use Rattle.pk_wordrun.specs.declared.end.WordEnd.TheVariants.{Done, Output}
 use Rattle.pk_wordrun.proofs.Telling.{keeps-flash}
 use Rattle.pk_mirrorwords.specs.PairTasks.{PairTask}
-use Rattle.pk_mirrorwords.specs.PairAnswers.{PairDone, PairSaid, PairFault, AreOfFirst, AreOfSecond}
-use Rattle.pk_mirrorrun.specs.PairTold.{EitherUnread, left_by, text_by, Walk, BothWalked, end_by, KeptFirst, KeptSecond, PairAnswered, PairFinished, PairEnds, most_roots, UsedRoots, PairTold}
+use Rattle.pk_mirrorwords.specs.PairAnswers.{PairSaid, PairFault, AreOfFirst, AreOfSecond}
+use Rattle.pk_mirrorrun.specs.PairTold.{EitherUnread, left_by, text_by, Walk, BothWalked, end_by, KeptFirst, KeptSecond, PairAnswered, PairEnds, most_roots, UsedRoots, PairTold}
 use Rattle.pk_mirrorrun.proofs.Commands.{kept_first, first_installs, second_installs}
 
 some_same : {X : Type 0} (x y : X) → ◌≡◌ {A = Option X} (Some x) (Some y) → x ≡ y
