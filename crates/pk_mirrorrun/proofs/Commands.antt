@@ -1,7 +1,5 @@
 -- The commands of a word on each drive: which maps they leave, and how many roots they install.
-use Rattle.std.proofs.Common.{◌≡◌, inl, inr, ℕ, ◌+◌, ◌*◌, ◌≤◌, ◌⊎◌, ◌==◌, if◌then◌else◌, List, [], ◌∷◌, ◌++◌, Option, Some, None, refl, sym, ap, subst, ◌∙◌, arith, length}
-use Rattle.std.specs.List.{AllByRecursion}
-use Rattle.std.specs.FinMap.{len}
+use Rattle.std.proofs.Common.{◌≡◌, inl, inr, ℕ, ◌+◌, ◌*◌, ◌≤◌, ◌⊎◌, ◌==◌, if◌then◌else◌, List, [], ◌∷◌, ◌++◌, Option, Some, None, refl, sym, ap, subst, ◌∙◌, arith}
 use Rattle.pk_base.specs.Shape.{Shape, limit}
 use Rattle.pk_base.specs.Page.{Flash}
 use Rattle.pk_base.specs.Map.{Map}
@@ -17,7 +15,6 @@ use Rattle.pk_call.specs.Calling.{only_looks}
 use Rattle.pk_call.specs.Exec.{most_installs}
 use Rattle.pk_host.specs.Port.{PortState, LeftBySome}
 use Rattle.pk_host.specs.TookLaws.{left_both}
-use Rattle.pk_host.specs.Calls.{AtMostOne}
 use Rattle.pk_port.specs.Chained.{installs_of, installs}
 use Rattle.pk_mirror.specs.Causes.{OnlyAsks, AreAsking}
 use Rattle.pk_mirror.specs.Spending.{OnlyLooks, LooksOr, count_of}

@@ -1,5 +1,5 @@
 -- Two drives that are lent as ports to a pair.
-use Rattle.std.proofs.Common.{◌≡◌, ℕ, List, true, false, is_some, [], Ok, refl, sym, ap, subst, ◌∙◌}
+use Rattle.std.proofs.Common.{◌≡◌, inl, inr, ℕ, List, true, false, is_some, [], Ok, refl, sym, ap, subst, ◌∙◌}
 use Rattle.std.specs.Result.{result_ok}
 use Rattle.pk_base.specs.Entry.{Entry}
 use Rattle.pk_base.specs.Shape.{Shape}
@@ -9,10 +9,11 @@ use Rattle.pk_nand.specs.Calls.{IsReady}
 use Rattle.pk_model.specs.Reading.{reading, Holds}
 use Rattle.pk_model.specs.Sight.{Sight}
 use Rattle.pk_call.specs.Drive.{HoldsMap}
-use Rattle.pk_port.specs.Steps.{seen}
+use Rattle.pk_port.specs.Steps.{Standing, seen}
 use Rattle.pk_mirror.specs.Pair.{Mirrored}
-use Rattle.pk_mirrorwords.specs.PairAnswers.{IsToldPair}
-use Rattle.pk_mirrorrun.specs.PairTold.{IsServing}
+use Rattle.pk_mirrorwords.specs.PairTasks.{PairTask}
+use Rattle.pk_mirrorwords.specs.PairAnswers.{IsToldPair, PairSaid}
+use Rattle.pk_mirrorrun.specs.PairTold.{IsServing, BothWalked}
 
 told_both : (shape : Shape) (a c : BoardState) (m n : Map) → Holds shape a.pages m → Holds shape c.pages n → is_some (result_ok (reading shape c.pages [])) ≡ is_some (result_ok (reading shape a.pages []))
 told_both shape a c m n h g = ap is_some (ap result_ok g) ∙ sym (ap is_some (ap result_ok h))
@@ -41,3 +42,19 @@ serving shape b d ready runs none stands = record {
   map = stands.0;
   holds = subst (λ (p : List Entry). reading shape b.pages p ≡ Ok stands.0) none stands.1.map_is;
 }
+
+-- what was said of two ports that keep their shape, of the drives and boards when they are given back
+pub said_lent : (asked : Type 0) (task : PairTask) (shape one two : Shape) (p p' last q q' last' : Standing) (m : Map) (text : List ℕ) → (asked → BothWalked shape p p' q q') → one ≡ shape → two ≡ shape → last ≡ p' → last' ≡ q'
+    → PairSaid asked task (seen shape p.on.board p.faults) (seen one p'.on.board p'.faults) (seen shape q.on.board q.faults) (seen two q'.on.board q'.faults) m text
+    → PairSaid (BothWalked shape p last q last') task (seen shape p.on.board p.faults) (seen shape last.on.board last.faults) (seen shape q.on.board q.faults) (seen shape last'.on.board last'.faults) m text
+said_lent asked task shape one two p p' last q q' last' m text walked same same' back back' said =
+    let First : Shape → Type 0 = λ s. PairSaid asked task (seen shape p.on.board p.faults) (seen s p'.on.board p'.faults) (seen shape q.on.board q.faults) (seen two q'.on.board q'.faults) m text in
+    let Second : Shape → Type 0 = λ s. PairSaid asked task (seen shape p.on.board p.faults) (seen shape p'.on.board p'.faults) (seen shape q.on.board q.faults) (seen s q'.on.board q'.faults) m text in
+    let Last : Standing → Type 0 = λ x. PairSaid (BothWalked shape p x q q') task (seen shape p.on.board p.faults) (seen shape x.on.board x.faults) (seen shape q.on.board q.faults) (seen shape q'.on.board q'.faults) m text in
+    let Last' : Standing → Type 0 = λ x. PairSaid (BothWalked shape p last q x) task (seen shape p.on.board p.faults) (seen shape last.on.board last.faults) (seen shape q.on.board q.faults) (seen shape x.on.board x.faults) m text in
+    let walk : PairSaid (BothWalked shape p p' q q') task (seen shape p.on.board p.faults) (seen shape p'.on.board p'.faults) (seen shape q.on.board q.faults) (seen shape q'.on.board q'.faults) m text =
+    elim (subst Second same' (subst First same said)) [
+      | inl (some, done) ↦ inl (walked some, done)
+      | inr unread ↦ inr unread
+    ] in
+    subst Last' (sym back') (subst Last (sym back) walk)

@@ -1,34 +1,37 @@
 -- What a word of a pair makes of both boards.
-use Rattle.std.proofs.Common.{◌≡◌, ◌⊎◌, inl, inr, ℕ, ◌+◌, ◌≤◌, List, [], ◌∷◌, ◌++◌, Option, Some, None, refl, sym, ap, subst, ◌∙◌, true, false, arith}
+use Rattle.std.proofs.Common.{◌≡◌, ◌⊎◌, inl, inr, ℕ, ◌+◌, ◌≤◌, List, [], Option, Some, None, refl, sym, ap, subst, ◌∙◌, true, false, arith}
 use Rattle.std.specs.Result.{result_ok}
-use Rattle.pk_base.specs.Shape.{Shape, limit}
+use Rattle.pk_base.specs.Shape.{Shape}
 use Rattle.pk_base.specs.Page.{Flash}
 use Rattle.pk_base.specs.Map.{Map}
 use Rattle.pk_nvme.specs.Command.{Command}
 use Rattle.pk_nand.specs.BoardState.{BoardState}
 use Rattle.pk_nand.specs.Calls.{Rose, longer, after_post, PostFailed}
 use Rattle.pk_nand.specs.Effects.{OnlyFlash}
-use Rattle.pk_model.specs.Growth.{Reaches, Goes}
+use Rattle.pk_model.specs.Growth.{Goes}
 use Rattle.pk_model.specs.Kept.{rise}
-use Rattle.pk_model.specs.Reading.{reading, Holds}
+use Rattle.pk_model.specs.Reading.{Holds}
 use Rattle.pk_model.specs.Wear.{roots, is_worn}
 use Rattle.pk_model.proofs.Growing.{weaken_went, Goes-reaches}
 use Rattle.pk_words.specs.Lines.{failed_line}
-use Rattle.pk_port.specs.Asking.{KeptSilently, KeptWord, Asked}
-use Rattle.pk_port.specs.Steps.{Standing, HasCause, Chain, seen}
-use Rattle.pk_port.specs.Chained.{installs, AllServed, WhyHalted, HaltedAt, Chained}
+use Rattle.pk_call.specs.Meter.{meter}
+use Rattle.pk_model.specs.Run.{commands}
+use Rattle.pk_serve.proofs.Counting.{metered-unworn, few_unworn}
+use Rattle.pk_mirror.specs.Causes.{NotEmpty}
+use Rattle.pk_port.specs.Asking.{KeptSilently, KeptWord}
+use Rattle.pk_port.specs.Steps.{Standing, HasCause, seen}
+use Rattle.pk_port.specs.Chained.{installs, AllServed, HaltedAt, Chained}
 use Rattle.pk_port.specs.declared.halt.Halt.{Halt}
 use Rattle.pk_port.specs.declared.halt.Halt.TheVariants.{Stopped, Worn as UsedUp}
 use Rattle.pk_port.proofs.Growing.{asked-posts, asked-post_failed}
 use Rattle.pk_port.proofs.Chaining.{chained}
 use Rattle.pk_wordrun.specs.Ends.{end_of}
-use Rattle.pk_wordrun.specs.Told.{KeepsInput}
 use Rattle.pk_wordrun.specs.declared.end.WordEnd.{WordEnd}
-use Rattle.pk_wordrun.specs.declared.end.WordEnd.TheVariants.{Done, Output, Flash as FlashFailed, Worn}
+use Rattle.pk_wordrun.specs.declared.end.WordEnd.TheVariants.{Done, Output}
 use Rattle.pk_wordrun.proofs.Telling.{keeps-flash}
 use Rattle.pk_mirrorwords.specs.PairTasks.{PairTask}
-use Rattle.pk_mirrorwords.specs.PairAnswers.{PairDone, PairSaid, PairFault, AreOfFirst, AreOfSecond}
-use Rattle.pk_mirrorrun.specs.PairTold.{EitherUnread, left_by, text_by, Walk, end_by, KeptFirst, KeptSecond, PairFinished, PairEnds, most_roots, UsedRoots, PairTold}
+use Rattle.pk_mirrorwords.specs.PairAnswers.{PairSaid, PairFault, AreOfFirst, AreOfSecond}
+use Rattle.pk_mirrorrun.specs.PairTold.{EitherUnread, left_by, text_by, Walk, BothWalked, end_by, KeptFirst, KeptSecond, PairAnswered, PairEnds, most_roots, UsedRoots, PairTold}
 use Rattle.pk_mirrorrun.proofs.Commands.{kept_first, first_installs, second_installs}
 
 some_same : {X : Type 0} (x y : X) → ◌≡◌ {A = Option X} (Some x) (Some y) → x ≡ y
@@ -77,6 +80,18 @@ module _ (shape : Shape) (start : Map) (cs : List Command) (p q : Standing) wher
         weaken_went run.0 p.on.board q.on.board (KeptSilently shape p.on.frames start cs (rise p.on.board.read_faults q.on.board.read_faults)) (KeptSecond shape) (λ f posted k. record { map = k.1.map_left; held = k.1.held; silent = k.0 }) run.1,
         run.2,
       )
+
+-- a drive that served a command was not worn before it
+unworn_by : (shape : Shape) (start : Map) (p q : Standing) → p.on.board.shape ≡ Some shape → Holds shape p.on.board.pages start → p.on.stopped ≡ false → p.halt ≡ None → q.halt ≡ None → Walk shape NotEmpty p q
+    → is_worn p.on.board ≡ false
+unworn_by shape start p q has holds going before none walk =
+    let w = all_served shape start walk.0 p q before none (chained shape start p walk.0 q has holds going walk.2) in
+    let run = w.asked.answered in
+    few_unworn p.on.board (metered-unworn run.all (meter p.on.board) (meter q.on.board) (λ nothing. walk.1 (sym run.are ∙ ap commands nothing)) w.asked.metered)
+
+-- neither drive was worn
+abbrev BothUnworn : BoardState → BoardState → Type 0
+BothUnworn a c = (is_worn a ≡ false) × (is_worn c ≡ false)
 
 -- ---- both
 
@@ -145,14 +160,14 @@ module _ (task : PairTask) (shape : Shape) (m other : Map) (cs ds : List Command
   -- ---- the text
 
   module _ (w : AllServed shape m cs p p') (v : AllServed shape other ds q q') (text : List ℕ)
-      (said : PairSaid task (seen shape a p.faults) (seen shape b p'.faults) (seen shape c q.faults) (seen shape d q'.faults) m text) where
+      (said : PairSaid (BothUnworn a c) task (seen shape a p.faults) (seen shape b p'.faults) (seen shape c q.faults) (seen shape d q'.faults) m text) where
     -- what the text says of the map that the first drive holds
     abbrev Says : List ℕ → Map → Type 0
     Says t left = ((left ≡ left_by shape task m) × (t ≡ text_by shape task m)) ⊎ (EitherUnread a b c d × (t ≡ failed_line))
 
     says : Says text w.asked.left
     says = elim said [
-      | inl done ↦ inl (some_same w.asked.left (left_by shape task m) (sym (ap result_ok w.asked.held) ∙ done.first_left), done.spelled)
+      | inl (unworn, done) ↦ inl (some_same w.asked.left (left_by shape task m) (sym (ap result_ok w.asked.held) ∙ done.first_left), done.spelled)
       | inr unread ↦ inr unread
     ]
 
@@ -167,13 +182,15 @@ module _ (task : PairTask) (shape : Shape) (m other : Map) (cs ds : List Command
     }
 
     -- what holds at the end
-    finished_says : ((text ≡ text_by shape task m) × Holds shape b.pages (left_by shape task m) × Holds shape d.pages (left_by shape task m)) ⊎ (EitherUnread a b c d × (text ≡ failed_line))
+    finished_says : PairAnswered task shape m a (after_post b text) c d text ⊎ (EitherUnread a b c d × (text ≡ failed_line))
     finished_says = elim said [
-      | inl done ↦ inl (
-        done.spelled,
-        subst (λ (x : Map). Holds shape b.pages x) (some_same w.asked.left (left_by shape task m) (sym (ap result_ok w.asked.held) ∙ done.first_left)) w.asked.held,
-        subst (λ (x : Map). Holds shape d.pages x) (some_same v.asked.left (left_by shape task m) (sym (ap result_ok v.asked.held) ∙ done.second_left)) v.asked.held,
-      )
+      | inl (unworn, done) ↦ inl (record {
+        text_is = done.spelled;
+        first_holds = subst (λ (x : Map). Holds shape b.pages x) (some_same w.asked.left (left_by shape task m) (sym (ap result_ok w.asked.held) ∙ done.first_left)) w.asked.held;
+        second_holds = subst (λ (x : Map). Holds shape d.pages x) (some_same v.asked.left (left_by shape task m) (sym (ap result_ok v.asked.held) ∙ done.second_left)) v.asked.held;
+        first_unworn = unworn.0;
+        second_unworn = unworn.1;
+      })
       | inr unread ↦ inr unread
     ]
 
@@ -254,17 +271,23 @@ module _ (task : PairTask) (shape : Shape) (m other : Map) (p p' q q' : Standing
   pub tells-halted : (end : WordEnd) → Some end ≡ end_by p'.halt q'.halt → PairTold task shape m other p.on.board p'.on.board q.on.board q'.on.board end
   tells-halted end by = told-halted task shape m other walk.0 too.0 p p' q q' walk.1 few_roots one two p'.halt q'.halt end first second refl refl (sym by)
 
-  pub tells-posted : end_by p'.halt q'.halt ≡ None → (text : List ℕ) → PairSaid task (seen shape p.on.board p.faults) (seen shape p'.on.board p'.faults) (seen shape q.on.board q.faults) (seen shape q'.on.board q'.faults) m text
+  -- what was said after commands was said of drives that were not worn
+  unworn : p'.halt ≡ None → q'.halt ≡ None → (text : List ℕ) → PairSaid (BothWalked shape p p' q q') task (seen shape p.on.board p.faults) (seen shape p'.on.board p'.faults) (seen shape q.on.board q.faults) (seen shape q'.on.board q'.faults) m text
+      → PairSaid (BothUnworn p.on.board q.on.board) task (seen shape p.on.board p.faults) (seen shape p'.on.board p'.faults) (seen shape q.on.board q.faults) (seen shape q'.on.board q'.faults) m text
+  unworn none nor text (inl (asked, done)) = inl ((unworn_by shape m p p' has holds going first none asked.0, unworn_by shape other q q' has' holds' going' second nor asked.1), done)
+  unworn none nor text (inr unread) = inr unread
+
+  pub tells-posted : end_by p'.halt q'.halt ≡ None → (text : List ℕ) → PairSaid (BothWalked shape p p' q q') task (seen shape p.on.board p.faults) (seen shape p'.on.board p'.faults) (seen shape q.on.board q.faults) (seen shape q'.on.board q'.faults) m text
       → (last : BoardState) → last ≡ after_post p'.on.board text → PairTold task shape m other p.on.board last q.on.board q'.on.board Done
   tells-posted by text said last is =
       let (none, nor) = both_none p'.halt q'.halt by in
-      told-posted task shape m other walk.0 too.0 p p' q q' walk.1 few_roots one two (all_served shape m walk.0 p p' first none one) (all_served shape other too.0 q q' second nor two) text said last is
+      told-posted task shape m other walk.0 too.0 p p' q q' walk.1 few_roots one two (all_served shape m walk.0 p p' first none one) (all_served shape other too.0 q q' second nor two) text (unworn none nor text said) last is
 
-  pub tells-unposted : end_by p'.halt q'.halt ≡ None → (text : List ℕ) → PairSaid task (seen shape p.on.board p.faults) (seen shape p'.on.board p'.faults) (seen shape q.on.board q.faults) (seen shape q'.on.board q'.faults) m text
+  pub tells-unposted : end_by p'.halt q'.halt ≡ None → (text : List ℕ) → PairSaid (BothWalked shape p p' q q') task (seen shape p.on.board p.faults) (seen shape p'.on.board p'.faults) (seen shape q.on.board q.faults) (seen shape q'.on.board q'.faults) m text
       → (last : BoardState) → PostFailed p'.on.board last text → PairTold task shape m other p.on.board last q.on.board q'.on.board Output
   tells-unposted by text said last failed =
       let (none, nor) = both_none p'.halt q'.halt by in
-      told-unposted task shape m other walk.0 too.0 p p' q q' walk.1 few_roots one two (all_served shape m walk.0 p p' first none one) (all_served shape other too.0 q q' second nor two) text said last failed
+      told-unposted task shape m other walk.0 too.0 p p' q q' walk.1 few_roots one two (all_served shape m walk.0 p p' first none one) (all_served shape other too.0 q q' second nor two) text (unworn none nor text said) last failed
 
   pub faults-never : end_by p'.halt q'.halt ≡ None → p.faults ≡ 0 → q.faults ≡ 0
       → PairFault (seen shape p.on.board p.faults) (seen shape p'.on.board p'.faults) (seen shape q.on.board q.faults) (seen shape q'.on.board q'.faults) → ⊥

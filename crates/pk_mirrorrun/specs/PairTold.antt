@@ -18,6 +18,7 @@ use Rattle.pk_wordrun.specs.Ends.{end_of}
 use Rattle.pk_wordrun.specs.Told.{KeepsInput}
 use Rattle.pk_wordrun.specs.declared.end.WordEnd.{WordEnd}
 use Rattle.pk_wordrun.specs.declared.end.WordEnd.TheVariants.{Done, Output, Flash as FlashFailed, Worn}
+use Rattle.pk_mirror.specs.Causes.{NotEmpty}
 use Rattle.pk_mirrorwords.specs.PairTasks.{PairTask, map_left, text_of}
 
 -- a read of either drive failed
@@ -34,6 +35,10 @@ text_by shape task m = text_of shape (limit shape) task m
 -- commands of this kind, one after another, took a port to another
 abbrev pub Walk : Shape → (List Command → Type 0) → Standing → Standing → Type 0
 Walk shape Are p q = (cs : List Command) × Are cs × Chain shape p cs q
+
+-- at least one command took each of two ports to another
+abbrev pub BothWalked : Shape → Standing → Standing → Standing → Standing → Type 0
+BothWalked shape p p' q q' = Walk shape NotEmpty p p' × Walk shape NotEmpty q q'
 
 -- how a word ends when a drive halted, the first or else the second
 abbrev pub end_by : Option Halt → Option Halt → Option WordEnd
@@ -67,13 +72,19 @@ pub record KeptSecond (shape : Shape) (flash : Flash) (posted : List ℕ) : Type
 
 -- ---- ends
 
+-- The text is the definition's, and both drives hold the map after the word. Neither drive was worn when the word began.
+pub record PairAnswered (task : PairTask) (shape : Shape) (m : Map) (a b c d : BoardState) (text : List ℕ) : Type 0 where
+  pub text_is : text ≡ text_by shape task m
+  pub first_holds : Holds shape b.pages (left_by shape task m)
+  pub second_holds : Holds shape d.pages (left_by shape task m)
+  pub first_unworn : is_worn a ≡ false
+  pub second_unworn : is_worn c ≡ false
+
 -- The word is done: its text was posted on the first board, and both drives hold the map after it; or a read failed, and the text says that.
 pub record PairFinished (task : PairTask) (shape : Shape) (m : Map) (a b c d : BoardState) : Type 0 where
   pub text : List ℕ
   pub posted : b.posted ≡ longer a.posted text
-  pub says :
-      ((text ≡ text_by shape task m) × Holds shape b.pages (left_by shape task m) × Holds shape d.pages (left_by shape task m))
-      ⊎ (EitherUnread a b c d × (text ≡ failed_line))
+  pub says : PairAnswered task shape m a b c d text ⊎ (EitherUnread a b c d × (text ≡ failed_line))
   pub no_output : b.out_faults ≡ a.out_faults
   pub first_sound : b.stop_faults ≡ a.stop_faults
   pub second_sound : d.stop_faults ≡ c.stop_faults

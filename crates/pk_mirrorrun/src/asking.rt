@@ -8,7 +8,7 @@ ghost use Rattle.pk_port.specs.Steps.{standing, seen as seen_on};
 ghost use Rattle.pk_words.specs.Said.{Spoken};
 ghost use Rattle.pk_mirrorwords.specs.PairTasks.{seen, IsShort};
 ghost use Rattle.pk_mirrorwords.specs.PairAnswers.{PairSaid, PairFault, AreOfFirst, AreOfSecond};
-ghost use Rattle.pk_mirrorrun.specs.PairTold.{Walk};
+ghost use Rattle.pk_mirrorrun.specs.PairTold.{Walk, BothWalked};
 
 use pk_base::Shape;
 use pk_drive::Engine;
@@ -64,7 +64,16 @@ pub fn ask<D: Engine, B: Nand, E: Engine, C: Nand>(
 
     // The text, or that a port failed.
     ensures said { OnOk result ((m : Map) → Holds shape (B.state first.old).pages m
-        → PairSaid (seen task.now) (seen_on shape (B.state first.old) first_tally.old.faults)
+        → PairSaid (BothWalked shape
+        (standing (B.state first.old) (D.sight first_drive.old) first_tally.old.faults
+        first_tally.old.halt)
+        (standing (B.state first.new) (D.sight first_drive.new) first_tally.new.faults
+        first_tally.new.halt)
+        (standing (C.state second.old) (E.sight second_drive.old) second_tally.old.faults
+        second_tally.old.halt)
+        (standing (C.state second.new) (E.sight second_drive.new) second_tally.new.faults
+        second_tally.new.halt))
+        (seen task.now) (seen_on shape (B.state first.old) first_tally.old.faults)
         (seen_on shape (B.state first.new) first_tally.new.faults)
         (seen_on shape (C.state second.old) second_tally.old.faults)
         (seen_on shape (C.state second.new) second_tally.new.faults) m room.new.text) }
