@@ -151,23 +151,35 @@ const LENGTHS: [u32; 20] = [
     480, 3, 200, 900, 31, 479, 100, 1, 700, 64, 480, 2, 150, 950, 33, 8, 478, 250, 5, 60,
 ];
 
-// The digits of a value that is this byte, `length` times.
-fn digits(alloc: Global, byte: &str, length: u32) -> Result<String, AllocError> {
+// The words that store under a key a value that is the key's byte, `length` times.
+fn put_text(alloc: Global, key: &str, length: u32) -> Result<String, AllocError> {
     let mut text = String::new(alloc);
+    text.push_str("put ")?;
+    text.push_str(key)?;
+    text.push_str(" ")?;
     for _ in 0..length {
-        text.push_str(byte)?;
+        text.push_str(key)?;
     }
     Ok(text)
+}
+
+// Whether these words, with a space between each two, end with 0 on both.
+fn run_text(rt: &HostRuntime, path: &str, flash: &mut Flash, text: &str) -> bool {
+    let mut words = Vec::new(rt.alloc());
+    for word in text.split(' ') {
+        words.push(word).expect(rt, "memory");
+    }
+    run_both(rt, path, flash, &words)
 }
 
 // Stores a value of this length under each of the keys, each in a session. Whether all end with 0.
 fn put_length(rt: &HostRuntime, path: &str, flash: &mut Flash, length: u32) -> bool {
     for key in &KEYS {
-        let value = match digits(rt.alloc(), key, length) {
-            Ok(value) => value,
+        let text = match put_text(rt.alloc(), key, length) {
+            Ok(text) => text,
             Err(_) => return false,
         };
-        if !run_both(rt, path, flash, &["put", key, value.as_str()]) {
+        if !run_text(rt, path, flash, text.as_str()) {
             return false;
         }
     }

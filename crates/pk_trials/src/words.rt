@@ -307,9 +307,9 @@ fn workload(rt: HostRuntime) {
 // The first commands of the workload with this start, as a script.
 fn generated(rt: &impl Abort, alloc: Global, start: u32, count: u32) -> Vec<u8> {
     let mut workload = Workload::new(start);
-    let mut value = Bytes::with_room(alloc, MOST_VALUE_BYTES as usize).expect(rt, "memory");
     let mut script = Vec::new(alloc);
     for _ in 0..count {
+        let mut value = Bytes::with_room(alloc, MOST_VALUE_BYTES as usize).expect(rt, "memory");
         add(rt, &mut script, &workload.next(&mut value));
         add(rt, &mut script, value.bytes());
     }
