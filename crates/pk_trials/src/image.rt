@@ -167,7 +167,9 @@ fn put_text(alloc: Global, key: &str, length: u32) -> Result<String, AllocError>
 fn run_text(rt: &HostRuntime, path: &str, flash: &mut Flash, text: &str) -> bool {
     let mut words = Vec::new(rt.alloc());
     for word in text.split(' ') {
-        words.push(word).expect(rt, "memory");
+        if words.push(word).is_err() {
+            return false;
+        }
     }
     run_both(rt, path, flash, &words)
 }
