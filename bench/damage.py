@@ -25,7 +25,7 @@ from pinkctl import check, image, layout, program, rescue
 from pinkctl.__main__ import main as pinkctl
 
 SHAPES = [(512, 16, 64), (512, 8, 33), (1024, 16, 40), (512, 16, 22), (4096, 8, 40)]
-KEYS = [150, 10, 300, 12, 40]
+KEYS = [150, 5, 100, 10, 24]
 SESSIONS = [1, 3, 12, 3, 6]
 
 

@@ -69,14 +69,15 @@ class Dump(unittest.TestCase):
     def test_a_made_drive(self):
         shape = {"page_bytes": "512", "block_pages": "16", "blocks": "64"}
         self.assertEqual(self.of("image"), [shape])
-        (root,) = self.of("root")
+        root, again = self.of("root")
+        self.assertEqual(again, {**root, "page": "1", "newest": "0"})
         numbers = root["page"], root["number"], root["epoch"], root["blocks"]
         self.assertEqual(numbers, ("0", "1", "1", "2,3"))
         self.assertEqual((root["newest"], root["older"], root["run1"]), ("1", "-", "0"))
         self.assertEqual((self.of("entry"), self.of("page"), self.of("map")), ([], [], [{"keys": "0"}]))
         blocks = self.of("block")
         self.assertEqual(len(blocks), 64)
-        self.assertEqual(blocks[0]["pages"], "R" + "." * 15)
+        self.assertEqual(blocks[0]["pages"], "RR" + "." * 14)
         uses = ["roots", "roots", "newest-epoch", "newest-epoch", "free"]
         self.assertEqual([it["use"] for it in blocks[:5]], uses)
 
@@ -90,9 +91,9 @@ class Dump(unittest.TestCase):
         (_, _, newer), (_, _, older), (_, _, long), (_, _, empty) = entries
         row = "".join(it["pages"] for it in self.of("block"))
         live = {i for i, letter in enumerate(row) if letter == "V"}
-        self.assertEqual(live, {newer, long, long + 1, empty})
-        self.assertEqual(row[older], "v")
-        self.assertEqual(sum(int(it["live"]) for it in self.of("block")), 4)
+        self.assertEqual(live, {page + i for page in (newer, long, empty) for i in range(2)})
+        self.assertEqual(row[older : older + 2], "vv")
+        self.assertEqual(sum(int(it["live"]) for it in self.of("block")), 6)
         self.assertEqual(self.of("map"), [{"keys": "3"}])
 
     def test_a_deleted_key(self):
@@ -108,6 +109,9 @@ class Dump(unittest.TestCase):
         number = int(page["number"])
         self.assertEqual(page, {"of": "epoch", "number": str(number), "entries": "1"})
         self.change(STATES + number, b"\2")
+        self.assertEqual(self.of("page"), [{"of": "epoch", "number": str(number + 1), "entries": "1"}])
+        self.assertEqual(self.of("map"), [{"keys": "1"}])
+        self.change(STATES + number + 1, b"\2")
         self.assertEqual(self.of("page"), [{"of": "epoch", "number": str(number), "is": "torn"}])
         self.assertEqual((self.of("entry"), self.of("map")), ([], [{"keys": "0"}]))
         self.assertEqual(self.of("block")[number // 16]["pages"][number % 16], "x")

@@ -296,7 +296,7 @@ def session(drive, start, sync):                        # commands that were ans
     return answered, status == -9, found if found in maps_of(start, made)[answered:] else None
 
 random.seed(times)
-small, worked = Drive(['make', '512', '8', '33'], 10, 480), None
+small, worked = Drive(['make', '512', '8', '33'], 5, 992), None
 cut, told = 0, 0
 for drive in [small, worked]:
     if drive is None:

@@ -42,7 +42,7 @@ class Drive:
         key = random.choice(self.keys)
         if draw < 0.7:
             value = random.randbytes(random.randrange(self.longest + 1))
-            return entry(STORE, key, len(value)) + value, lambda held: {**held, key: value}, (32 + len(value) + 511) // 512
+            return entry(STORE, key, len(value)) + value, lambda held: {**held, key: value}, 2 * ((32 + len(value) + 1023) // 1024)
         if draw < 0.8:
             return entry(DELETE, key), lambda held: {k: v for k, v in held.items() if k != key}, 0
         if draw < 0.9:
@@ -97,7 +97,7 @@ class Drive:
         self.inside += was_killed and 0 < kept < len(made)
 
 random.seed(times)
-drives = [Drive('small', 10, 480, 2 * 8), Drive('worked', 60, 2016, 42 * 16)]
+drives = [Drive('small', 5, 992, 2 * 8), Drive('worked', 60, 2016, 42 * 16)]
 for number in range(times):
     drives[number % 2].trial(number)
 for drive in drives:

@@ -1,9 +1,9 @@
 #!/bin/sh
-# Measures freezes and merges: Stores of distinct keys, of one page each, on an image of shape (4096, 64, 512), until all four levels
+# Measures freezes and merges: Stores of distinct keys, of two pages each, on an image of shape (4096, 64, 512), until all four levels
 # have merged; then a Retrieve of each key with 36 frames and with none. It prints Stores per second, flash operations per Store, and
 # the mean and the greatest number of pages that a Retrieve read. It is not part of the gate.
 #
-#   bench/merges.sh [KEYS]        20,000 keys by default; operations are counted by strace, if that is installed
+#   bench/merges.sh [KEYS]        11,500 keys by default; operations are counted by strace, if that is installed
 set -eu
 
 top=$(CDPATH='' cd -- "$(dirname -- "$0")/.." && pwd)
@@ -11,7 +11,7 @@ folder=$(mktemp -d)
 trap 'rm -rf "$folder"' EXIT
 
 "$top/pink" "$folder/drive.img" make 4096 64 512
-python3 - "$top/crates/pink/out/pink" "$folder" "${1:-20000}" <<'PY'
+python3 - "$top/crates/pink/out/pink" "$folder" "${1:-11500}" <<'PY'
 import os, re, shutil, struct, subprocess, sys, time
 
 program, folder, keys = sys.argv[1], sys.argv[2], int(sys.argv[3])
@@ -62,8 +62,10 @@ if shutil.which('strace'):
     shutil.move(image, done)
     shutil.copy(image + '.made', image)
     serve(stores, 36, ['strace', '-f', '-o', trace, '-e', 'trace=pwrite64'])
-    lengths = [int(m.group(1)) for m in re.finditer(r'pwrite64\(\d+, .*?, (\d+), \d+\)', open(trace).read())]
-    programs, erases = lengths.count(4096), lengths.count(64)
+    calls = open(trace).read()
+    # the last write of a program sets the page's state byte to 1, that of an erase sets those of the block to 0
+    programs = len(re.findall(r'"\\1", 1, \d+\)', calls))
+    erases = len(re.findall(r'pwrite64\(\d+, .*?, 64, \d+\)', calls))
     print('  programs of a Store: %.3f; erases: %.3f; calls of the flash: %.2f' % (programs / keys, erases / keys, (programs + erases + sum(reads)) / keys))
     shutil.move(done, image)
 for frames in (36, 0):

@@ -3,7 +3,7 @@
 # check failed.
 #
 #   bench/mirror.sh [TIMES]        kills so many sessions, 300 if no number is named; then images that are lost
-#   bench/mirror.sh speed          the processor time of words over a pair and over one drive, and of resyncs of 20,000 keys
+#   bench/mirror.sh speed          the processor time of words over a pair and over one drive, and of resyncs of 10,000 keys
 #
 # Kills: words of a pair, each killed at a random moment. After each the next run has to answer, with every word that was completed
 # and with all or nothing of the one that was killed, and both drives hold the same. Now and then the second drive is a new one.
@@ -202,13 +202,13 @@ def speed():
     timed('put, an empty pair', 'mirror', first, second, 'put', '61', '616263')
     timed('get, one drive of a key', first, 'get', '61')
     timed('get, a pair of a key', 'mirror', first, second, 'get', '61')
-    expect('fill', run(first, 'serve', '36', data=script(20000, 100))[0], 0)
-    timed('resync of 20,000 keys to an empty second', 'mirror', first, second, 'resync', turns=1, text='ok\n')
-    timed('resync of 20,000 equal keys', 'mirror', first, second, 'resync')
-    timed('put, one drive of 20,000 keys', first, 'put', '61', '616263')
-    timed('put, a pair of 20,000 keys', 'mirror', first, second, 'put', '61', '616263')
-    timed('get, one drive of 20,000 keys', first, 'get', '61')
-    timed('get, a pair of 20,000 keys', 'mirror', first, second, 'get', '61')
+    expect('fill', run(first, 'serve', '36', data=script(10000, 100))[0], 0)
+    timed('resync of 10,000 keys to an empty second', 'mirror', first, second, 'resync', turns=1, text='ok\n')
+    timed('resync of 10,000 equal keys', 'mirror', first, second, 'resync')
+    timed('put, one drive of 10,000 keys', first, 'put', '61', '616263')
+    timed('put, a pair of 10,000 keys', 'mirror', first, second, 'put', '61', '616263')
+    timed('get, one drive of 10,000 keys', first, 'get', '61')
+    timed('get, a pair of 10,000 keys', 'mirror', first, second, 'get', '61')
 
 if task == 'speed':
     speed()

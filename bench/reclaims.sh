@@ -54,10 +54,10 @@ def calls_between_posts():
     for line in open(trace, errors='replace'):
         if re.search(r'\bwrite\(1,', line):
             longest, now = max(longest, now), 0
-        length = re.search(r'pwrite64\(\d+, .*, (\d+), \d+\) = ', line)
-        if length and length.group(1) == str(PAGE):
+        # the last write of a program sets the page's state byte to 1, that of an erase sets those of the block to 0
+        if re.search(r'"\\1", 1, \d+\)', line):
             programs, now = programs + 1, now + 1
-        elif length and length.group(1) == '64':
+        elif re.search(r'pwrite64\(\d+, .*, 64, \d+\)', line):
             erases, now = erases + 1, now + 1
     return programs, erases, longest
 
@@ -65,7 +65,7 @@ shutil.copy(os.path.join(folder, 'made.img'), image)
 posted, _ = serve(entry(REPORT, b'', 0))
 limit = struct.unpack('<16I', list(records(posted))[-1][2])[1]
 for share in (80, 100):
-    keys = limit * share // 100
+    keys = limit * share // 200                     # a value takes two pages
     shutil.copy(os.path.join(folder, 'made.img'), image)
     posted, _ = serve(b''.join(store(key, 0) for key in range(keys)))
     if any(status for status, _, _ in records(posted)):

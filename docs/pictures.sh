@@ -28,7 +28,7 @@ for session in range(2):
 PY
 picture used
 
-# Power is lost while the last commit is programmed: its page is torn, and what it held is not there.
+# Power is lost within the second program of the last commit: both pages are torn, and what it held is not there.
 python3 - "$image" "$top/pinkdump" <<'PY'
 import subprocess, sys
 
@@ -36,7 +36,7 @@ image, dump = sys.argv[1:]
 told = subprocess.run([dump, image, "lines"], stdout=subprocess.PIPE, text=True, check=True).stdout
 pages = "".join(line.split("pages=")[1] for line in told.splitlines() if line.startswith("block "))
 with open(image, "r+b") as it:
-    it.seek(32 + pages.rindex("J"))
-    it.write(b"\2")
+    it.seek(32 + pages.rindex("JJ"))
+    it.write(b"\2\2")
 PY
 picture cut

@@ -4,7 +4,7 @@ from __future__ import annotations
 from dataclasses import dataclass
 
 # Pages of 4,096 bytes, 64 in a block, 512 blocks; the most pages of values that such a drive
-# keeps (`stat` tells it as `limit`); the bytes of a value's page that are not of the value.
+# keeps (`stat` prints it as `limit`); the bytes of a value's pages that are not of the value.
 SHAPE = (4096, 64, 512)
 LIMIT = 23712
 HEADER_BYTES = 32
@@ -45,6 +45,6 @@ ENGINES = {
 
 
 def keys_for(live_percent: int, value_bytes: int) -> int:
-    """The count of keys whose values take this share of the space."""
-    pages = -(-(HEADER_BYTES + value_bytes) // SHAPE[0])
+    """The count of keys whose values, each in whole pairs of pages, take this share of the space."""
+    pages = 2 * -(-(HEADER_BYTES + value_bytes) // (2 * SHAPE[0]))
     return LIMIT * live_percent // 100 // pages

@@ -149,8 +149,8 @@ class Shape(NamedTuple):
         return 32 + self.block_pages * self.blocks * (self.page_bytes + 1)
 
     def pages_of(self, length: int) -> int:
-        """The pages that a value of this length takes."""
-        return -(-(32 + length) // self.page_bytes)
+        """The pages that a value of this length takes: pairs of pages, as many as hold the value with its head."""
+        return 2 * -(-(32 + length) // (2 * self.page_bytes))
 
     def fault(self) -> Optional[str]:
         """The first rule that the shape breaks, in words; None if it is allowed."""

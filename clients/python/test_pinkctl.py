@@ -98,8 +98,8 @@ class OnImage(unittest.TestCase):
     def place(self, page, within=0):
         return DATA + page * PAGE + within
 
-    def fill(self, count=492):
-        """A drive with this many keys, each with a value of one page."""
+    def fill(self, count=246):
+        """A drive with this many keys, each with a value of two pages."""
         with Drive(self.image, program=PROGRAM) as d:
             for i in range(count):
                 d[b"key%03d" % i] = b"value %d" % i
@@ -112,11 +112,11 @@ class Check(OnImage):
         self.store({b"a": b"1", b"b": bytes(600)})
         found = self.check()
         self.assertEqual((found["verdict"], found["compared"], found["doubts"]), ("whole", "yes", []))
-        self.assertEqual((found["use"]["keys"], found["use"]["value_pages"], found["use"]["value_bytes"]), (2, 3, 601))
+        self.assertEqual((found["use"]["keys"], found["use"]["value_pages"], found["use"]["value_bytes"]), (2, 4, 601))
         self.assertEqual((found["limits"]["value_bytes"], found["limits"]["value_pages"]), (GREATEST, 492))
         self.assertEqual(found["sizes"]["file_bytes"], 525344)
         self.assertLess(found["sizes"]["disk_bytes"], 200000)
-        self.assertTrue(self.ctl("check", self.image).startswith(b"whole: 2 keys, 3 of 492 pages"))
+        self.assertTrue(self.ctl("check", self.image).startswith(b"whole: 2 keys, 4 of 492 pages"))
 
     def test_it_changes_nothing_and_needs_no_program(self):
         self.store({b"a": b"1"})
@@ -164,6 +164,11 @@ class Check(OnImage):
         it, flash = self.flash()
         self.change(self.place(flash.root.page, 500), b"\1")
         found = self.check(status=10)
+        self.assertEqual([doubt["code"] for doubt in found["doubts"]], ["former-root-wrong"])
+        self.assertEqual(found["use"]["keys"], 3)
+        self.assertIn("so the map is the same", found["text"])
+        self.change(self.place(flash.root.page + 1, 500), b"\1")
+        found = self.check(status=10)
         self.assertEqual((found["verdict"], found["compared"]), ("doubtful", "yes"))
         self.assertEqual(found["doubts"][0]["code"], "root-wrong")
         self.assertEqual(found["use"]["keys"], 2)
@@ -174,16 +179,39 @@ class Check(OnImage):
         self.store({b"b": b"2"})
         whole = self.bytes()
         it, flash = self.flash()
-        commit = max(flash.newest.pages)
-        for state, code in ((b"\2", "commit-unfinished"), (b"\0", "commit-erased")):
+        commit = max(flash.newest.pages) - 1
+        for state in (b"\2", b"\0"):
             self.change(STATES + commit, state)
+            self.assertEqual(self.check()["use"]["keys"], 2)
+        for state, code in ((b"\2", "commit-unfinished"), (b"\0", "commit-erased")):
+            self.change(STATES + commit, state * 2)
             found = self.check(status=10)
             self.assertIn(code, [doubt["code"] for doubt in found["doubts"]])
         self.change(0, whole)
         self.change(STATES + flash.root.page, b"\0")
+        self.assertEqual(self.check()["use"]["keys"], 2)
+        self.change(STATES + flash.root.page, b"\0\0")
         codes = [doubt["code"] for doubt in self.check(status=10)["doubts"]]
         self.assertIn("root-erased", codes)
         self.assertIn("commit-elsewhere", codes)
+
+    def test_pages_of_a_pair_that_differ(self):
+        self.store({b"a": b"1", b"b": b"2"})
+        it, flash = self.flash()
+        page = min(flash.newest.pages)
+        self.change(self.place(page + 1, 8), b"\7")
+        self.assertEqual([doubt["code"] for doubt in self.check(status=10)["doubts"]], ["pair-differs"])
+        self.assertEqual(self.held(), {b"a": b"1", b"b": b"2"})
+
+    def test_a_former_version(self):
+        self.store({b"a": b"1"})
+        it, flash = self.flash()
+        for root in flash.roots:
+            self.change(self.place(root.page, 8), b"\1")
+        before = self.bytes()
+        self.assertIn("version 1", self.check(status=13)["text"])
+        self.ctl("shell", self.image, "-e", "list", status=8)
+        self.assertEqual(self.bytes(), before)
 
     def test_a_run_that_lost_its_end(self):
         self.fill(60)
@@ -216,7 +244,7 @@ class Check(OnImage):
         self.assertIn("it is a folder", self.said)
 
     def test_a_half_made_image(self):
-        self.change(STATES, b"\0")
+        self.change(STATES, b"\0\0")
         self.assertIn("make did not end", self.check(status=8)["text"])
 
     def test_a_version_that_is_not_known(self):
@@ -250,7 +278,7 @@ class Check(OnImage):
         with Drive(self.image, program=PROGRAM) as d:
             del d[b"a"]
         it, flash = self.flash()
-        page = max(flash.newest.pages)
+        page = max(flash.newest.pages) - 1
         self.assertIsNone(flash.newest.commits[-1].entries[-1].place)
         self.change(self.place(page, 32 + 4), b"c")
         self.assertIn("deletion-of-nothing", [doubt["code"] for doubt in self.check(status=10)["doubts"]])
@@ -433,7 +461,7 @@ class Backup(OnImage):
         if subprocess.run(["mount", "-t", "tmpfs", "-o", "size=64k", "none", small], capture_output=True).returncode:
             self.skipTest("no file system can be mounted here")
         self.addCleanup(subprocess.run, ["umount", small])
-        self.fill(300)
+        self.fill(240)
         self.ctl("backup", self.image, os.path.join(small, "copy"), status=11)
         self.assertIn(os.strerror(errno.ENOSPC), self.said)
         self.assertEqual(os.listdir(small), [])
@@ -461,11 +489,19 @@ class Salvage(OnImage):
         page = flash.map[b"key100"].page
         journal = min(flash.newest.pages)
         meta = next(run[0] * 16 for run in flash.root.runs if run)
-        for at, least in ((self.place(page, 500), 492), (self.place(page, 5), 491), (self.place(journal, 8), 478), (self.place(meta, 40), 490)):
+        for at, least in ((self.place(page, 500), 246), (self.place(page, 5), 245), (self.place(meta, 40), 244)):
             self.change(0, whole)
             self.change(at, bytes([whole[at] ^ 1]))
             self.check(status=8)
             found = self.salvage()
+            self.assertGreaterEqual(len(found), least)
+            self.assertEqual({key: held.get(key) for key in found}, found)
+        self.change(0, whole)
+        for page, status, least in ((journal, 0, 246), (journal + 1, 10, 232)):
+            at = self.place(page, 8)
+            self.change(at, bytes([whole[at] ^ 1]))
+            self.check(status=8)
+            found = self.salvage(status=status)
             self.assertGreaterEqual(len(found), least)
             self.assertEqual({key: held.get(key) for key in found}, found)
 
@@ -476,7 +512,7 @@ class Salvage(OnImage):
             del d[b"b"]
             d[b"c"] = b"3"
         it, flash = self.flash()
-        self.change(self.place(min(flash.newest.pages), 0), b"X" * 512)
+        self.change(self.place(min(flash.newest.pages), 0), b"X" * 1024)
         found = self.salvage("--list", self.path("list"))
         listed = [json.loads(line) for line in self.bytes(self.path("list")).splitlines()]
         self.assertEqual(found, {b"a": b"old", b"b": b"gone", b"c": b"3"})
@@ -490,10 +526,11 @@ class Salvage(OnImage):
         self.store({b"b": b"2"})
         self.store({b"c": b"3"})
         it, flash = self.flash()
-        self.change(self.place(flash.root.page, 500), b"\1")
-        self.assertEqual(self.salvage(status=0), {b"a": b"1", b"b": b"2", b"c": b"3"})
-        self.change(self.place(flash.root.page, 24), b"\xff")
-        self.assertEqual(self.salvage(), {b"a": b"1", b"b": b"2", b"c": b"3"})
+        pages = flash.root.page, flash.root.page + 1
+        for within, byte, statuses in ((500, b"\1", (0, 0)), (24, b"\xff", (0, 10))):
+            for page, status in zip(pages, statuses):
+                self.change(self.place(page, within), byte)
+                self.assertEqual(self.salvage(status=status), {b"a": b"1", b"b": b"2", b"c": b"3"})
 
     def test_without_any_root(self):
         self.fill(60)
@@ -532,7 +569,7 @@ class Salvage(OnImage):
     def test_another_shape(self):
         self.fill(60)
         held = self.held()
-        self.assertEqual(self.salvage("--shape", "512", "16", "26", status=0), held)
+        self.assertEqual(self.salvage("--shape", "512", "16", "30", status=0), held)
         self.assertIsNotNone(self.salvage("--shape", "512", "16", "22"))
         self.assertIn("refused by the new drive", self.out)
 
@@ -680,7 +717,7 @@ class TheWhole(OnImage):
         self.assertEqual((done.returncode, done.stdout[:6]), (0, b"whole:"))
 
     def test_an_end_by_a_signal_leaves_no_file(self):
-        self.fill(300)
+        self.fill(240)
         with open(self.image, "rb") as held:
             fcntl.flock(held, fcntl.LOCK_EX)
             running = subprocess.Popen([PINKCTL, "backup", self.image, self.path("copy"), "--wait", "300"], stderr=subprocess.PIPE)

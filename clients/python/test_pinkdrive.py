@@ -604,14 +604,15 @@ class Full(OnImage):
         with self.open() as d:
             limit = d.report().limit
             self.assertEqual(limit, 24)
-            for i in range(limit):
+            keys = limit // 2  # a value takes two pages
+            for i in range(keys):
                 d.store(b"%02d" % i, b"x")
             with self.assertRaises(pinkdrive.CapacityExceeded):
                 d.store(b"more", b"x")
             d[b"more"] = b"x"
             with self.assertRaises(pinkdrive.CapacityExceeded):
                 d.flush()
-            self.assertEqual(len(d), limit)
+            self.assertEqual(len(d), keys)
 
 
 if __name__ == "__main__":

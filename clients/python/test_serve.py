@@ -23,6 +23,7 @@ from pinkctl import resp
 SHAPE = (512, 16, 64)
 GREATEST = 2016
 LIMIT = 492
+KEYS = LIMIT // 2  # a value takes two pages
 
 
 class Error(Exception):
@@ -192,9 +193,9 @@ class Commands(OnServer):
 
     def test_a_full_drive(self):
         c = self.connect()
-        for i in range(LIMIT):
+        for i in range(KEYS):
             c.send("SET", "%04d" % i, "x")
-        self.assertEqual({c.reply() for _ in range(LIMIT)}, {"OK"})
+        self.assertEqual({c.reply() for _ in range(KEYS)}, {"OK"})
         reply = c.do("SET", "more", "x")
         self.assertTrue(str(reply).startswith("OOM "), reply)
         self.assertIn(f"the values of all keys at most {LIMIT}", str(reply))

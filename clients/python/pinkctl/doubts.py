@@ -40,7 +40,7 @@ def doubts_of(image: Image, flash: Flash) -> list[Doubt]:
         return []
     found = root_doubts(image, flash)
     if flash.opens:
-        found += [*epoch_ends(image, flash), *other_commits(image, flash, flash.root)]
+        found += [*commits_that_differ(image, flash), *epoch_ends(image, flash), *other_commits(image, flash, flash.root)]
         found += [*run_ends(image, flash, flash.root), *baseless_deletions(flash)]
     return found
 
@@ -50,7 +50,7 @@ def root_doubts(image: Image, flash: Flash) -> list[Doubt]:
     if flash.root is None:
         return []
     found = [*wrong_roots(image, flash, flash.root), *broken_numbers(image, flash), *hidden_roots(image, flash)]
-    return [*found, *broken_change(image, flash, flash.root)]
+    return [*found, *root_that_differs(image, flash, flash.root), *broken_change(image, flash, flash.root)]
 
 
 def wrong_roots(image: Image, flash: Flash, root: Root) -> Iterator[Doubt]:
@@ -60,11 +60,41 @@ def wrong_roots(image: Image, flash: Flash, root: Root) -> Iterator[Doubt]:
         if image.states[page] == WHOLE and page not in known:
             version = root_version(image.page(page))
             named = f"names version {version}" if version not in (None, *it.RULES) else "is damaged"
-            if is_older(flash, root, page):
+            if page in unit_of(flash, root.page):
+                words = f"root page {page} {named}; page {root.page} has the same root, so the map is the same"
+                yield Doubt("former-root-wrong", page, words)
+            elif is_older(flash, root, page):
                 words = f"root page {page} {named}; it is older than the newest root, so the map is the same"
                 yield Doubt("former-root-wrong", page, words)
             else:
                 yield Doubt("root-wrong", page, f"root page {page} {named}: an older map may have opened")
+
+
+def unit_of(flash: Flash, page: int) -> range:
+    """The pages that were programmed with the same bytes as this page of a root."""
+    first = page - page % flash.layout.step
+    return range(first, first + flash.layout.step)
+
+
+def that_differ(image: Image, pages: Sequence[int], what: str) -> Iterator[Doubt]:
+    """Whole pages that were programmed with the same bytes and have others."""
+    whole = [page for page in pages if image.states[page] == WHOLE]
+    for page in whole[1:]:
+        if image.page(page) != image.page(whole[0]):
+            yield Doubt("pair-differs", page, f"pages {whole[0]} and {page} were programmed with the same {what} and differ")
+
+
+def root_that_differs(image: Image, flash: Flash, root: Root) -> Iterator[Doubt]:
+    """Both pages of the newest root are roots with other bytes."""
+    known = {other.page for other in flash.roots}
+    yield from that_differ(image, [page for page in unit_of(flash, root.page) if page in known], "root")
+
+
+def commits_that_differ(image: Image, flash: Flash) -> Iterator[Doubt]:
+    """Both pages of a commit are Whole with other bytes: the one that was read may be the changed one."""
+    for epoch in (flash.older, flash.newest):
+        for commit in epoch.commits if epoch else ():
+            yield from that_differ(image, flash.layout.commit_pages(epoch.blocks, commit.place), "commit")
 
 
 def is_older(flash: Flash, root: Root, page: int) -> bool:

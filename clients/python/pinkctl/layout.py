@@ -53,14 +53,15 @@ ROOT_HEAD = struct.Struct("<8sHHIHHIQQ4I8s")
 class Rules:
     """What a version of the layout says.
 
-    `step` pages form a unit: a commit, a place of a root, and the pages of a value are whole units.
+    `step` pages form a unit: a commit, a place of a root, and the pages of a value are whole units. A commit and a root have the
+    same bytes in each page of theirs, and the first one that is Whole counts.
     """
 
     step: int
 
 
-RULES: dict[int, Rules] = {1: Rules(step=1)}
-"""The versions that are known."""
+RULES: dict[int, Rules] = {2: Rules(step=2)}
+"""The versions that are known: those that the program opens."""
 
 
 def units(count: int, size: int) -> int:

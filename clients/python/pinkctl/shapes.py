@@ -9,7 +9,7 @@ from .status import Exit, ToolError
 
 DESCRIPTION = """\
 Prints the smallest images that hold COUNT values of BYTES bytes, smallest first, for `pink IMAGE
-make P N M`. A value takes whole pages with a head of 32 bytes. With --shape it prints what a shape holds."""
+make P N M`. A value takes whole pairs of pages with a head of 32 bytes. With --shape it prints what a shape holds."""
 
 
 def add_parser(subparsers: Any) -> None:

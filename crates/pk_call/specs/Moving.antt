@@ -1,9 +1,9 @@
 -- How what is seen of a drive changes in a call.
-use Rattle.std.specs.Prelude.{◌≡◌, ◌≢◌, ◌⊎◌, ℕ, ◌+◌, ◌-◌, ◌/◌, ◌<◌, ◌≤◌, ◌==◌, if◌then◌else◌, [], ◌++◌, length, true, Some, IsSome}
+use Rattle.std.specs.Prelude.{◌≡◌, ◌≢◌, ◌⊎◌, ℕ, ◌+◌, ◌-◌, ◌/◌, ◌<◌, ◌≤◌, ◌==◌, if◌then◌else◌, [], ◌++◌, length, true, false, Some, IsSome}
 use Rattle.std.specs.FinMap.Entries.{find}
 use Rattle.pk_base.specs.Key.{Key, key_cmp}
-use Rattle.pk_base.specs.Shape.{Shape, charge, buffer, page_entries, epoch_pages, pinned, commit_programs}
-use Rattle.pk_base.specs.Page.{Flash, page_at, page_in, erased}
+use Rattle.pk_base.specs.Shape.{Shape, charge, buffer, page_entries, epoch_commits, pinned, commit_programs}
+use Rattle.pk_base.specs.Page.{Flash, page_at, commit_page, erased}
 use Rattle.pk_base.specs.Entry.{Place}
 use Rattle.pk_base.specs.Firsts.{firsts}
 use Rattle.pk_base.specs.Map.{Map}
@@ -20,7 +20,7 @@ use Rattle.pk_call.specs.Drive.{HoldsMap}
 
 -- ---- a commit
 
--- Of what is seen only the pending entries, the pages of the epoch and the work that is left may differ.
+-- Of what is seen only the pending entries, the commits of the epoch and the work that is left may differ.
 abbrev pub Commits : Sight → Sight → Type 0
 Commits before after = after ≡ record before { pending = []; counts = record before.counts { epoch = after.counts.epoch }; work = after.work }
 
@@ -59,15 +59,16 @@ Stores old new before after c = (shape : Shape) (frames : ℕ) (m : Map) → Hol
 
 -- ---- a Store or a Delete that waits for nothing
 
--- An entry of this key has room in memory, and a page of the journal to go to.
+-- An entry of this key has room in memory, and a commit of the journal to go to, and no pair is half made.
 pub record IsQuiet (shape : Shape) (flash : Flash) (drive : Sight) (key : Key) : Type 0 where
   pub tree : Tree
   pub is_tree : IsTree shape flash tree
   pub room : IsSome (find key_cmp key (firsts (tree.found.newest ++ drive.pending))) ⊎ (length (firsts (tree.found.newest ++ drive.pending)) < buffer shape)
   pub fresh : drive.fresh ≡ true
-  pub page : (page_at flash (page_in shape tree.root.newest (epoch_pages shape - 1)) ≡ erased) ⊎ (drive.pending ≢ [])
+  pub whole : drive.half ≡ false
+  pub commit : (page_at flash (commit_page shape tree.root.newest (epoch_commits shape - 1)) ≡ erased) ⊎ (drive.pending ≢ [])
 
--- the programs of a commit, where the entry is the last one that a page of the journal takes
+-- the programs of a commit, if the entry is the last one that a commit takes
 abbrev pub commits_for : Shape → Sight → ℕ
 commits_for shape drive = if length drive.pending + 1 == page_entries shape then commit_programs else 0
 

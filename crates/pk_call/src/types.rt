@@ -53,7 +53,7 @@ pub struct Counts {
     pub run3: u32,
     /// Entries of run 4.
     pub run4: u32,
-    /// Pages used of the newest epoch.
+    /// Commits of the newest epoch.
     pub epoch: u32,
     /// Data blocks in use.
     pub blocks: u32,

@@ -17,7 +17,7 @@ use Rattle.pk_model.specs.Reading.{map_under}
 use Rattle.pk_pool.specs.declared.state.BlockState.TheVariants.{Free, Ready, Owned}
 use Rattle.pk_pool.specs.Blocks.{Blocks, unused, with_state, IsSpare, PoolOnFlash}
 use Rattle.pk_root.specs.declared.next.Next.{Next}
-use Rattle.pk_root.specs.Installing.{InstallerOnFlash}
+use Rattle.pk_root.specs.Installing.{InstallerOnFlash, repeats_next}
 use Rattle.pk_steps.proofs.Places.{In}
 use Rattle.pk_compact.specs.declared.freezing.FreezeJob.TheVariants.{Idle}
 use Rattle.pk_compact.specs.FreezeSteps.{IsFreezing}
@@ -80,11 +80,12 @@ is_owned b (inr (inr none)) = absurd none
 abbrev top : ℕ × Root
 top = (0, first)
 
-made_may : (next : Next) → PoolOnFlash adopted made → InstallerOnFlash small next top made → IsFreezing adopted (record { shape = small; root = first }) next Idle made false top nothing empty
-made_may next pool_fits installs = record {
+made_may : (next : Next) → repeats_next next ≡ false → PoolOnFlash adopted made → InstallerOnFlash small next top made → IsFreezing adopted (record { shape = small; root = first }) next Idle made false top nothing empty
+made_may next is_whole pool_fits installs = record {
   pool_shape = refl;
   pool_fits = pool_fits;
   installs = installs;
+  whole = is_whole;
   top_is = refl;
   under = record { is_top = made_newest; is_found = made_found; is_map = made_map };
   none_older = refl;
@@ -98,14 +99,14 @@ made_may next pool_fits installs = record {
   different = refl;
 }
 
-pub first_may : (pool : Blocks) (root : Held) (next : Next) (flash : Flash) → root ≡ record { shape = small; root = first } → flash ≡ made → pool ≡ adopted → PoolOnFlash pool flash → InstallerOnFlash root.shape next (0, first) flash
+pub first_may : (pool : Blocks) (root : Held) (next : Next) (flash : Flash) → root ≡ record { shape = small; root = first } → flash ≡ made → pool ≡ adopted → repeats_next next ≡ false → PoolOnFlash pool flash → InstallerOnFlash root.shape next (0, first) flash
     → (x : ℕ × Root) × (f : Found) × (m : Map) × IsFreezing pool root next Idle flash false x f m
-first_may pool root next flash root_is flash_is pool_is pool_fits installs =
+first_may pool root next flash root_is flash_is pool_is is_whole pool_fits installs =
     let P : Blocks → Type 0 = λ p. PoolOnFlash p flash in
     let Q : Flash → Type 0 = λ f. PoolOnFlash adopted f in
     let R : Held → Type 0 = λ h. InstallerOnFlash h.shape next (0, first) flash in
     let S : Flash → Type 0 = λ f. InstallerOnFlash small next (0, first) f in
-    let may = made_may next (subst Q flash_is (subst P pool_is pool_fits)) (subst S flash_is (subst R root_is installs)) in
+    let may = made_may next is_whole (subst Q flash_is (subst P pool_is pool_fits)) (subst S flash_is (subst R root_is installs)) in
     let A : Blocks → Type 0 = λ p. IsFreezing p (record { shape = small; root = first }) next Idle made false top nothing empty in
     let B : Held → Type 0 = λ h. IsFreezing pool h next Idle made false top nothing empty in
     let C : Flash → Type 0 = λ f. IsFreezing pool root next Idle f false top nothing empty in

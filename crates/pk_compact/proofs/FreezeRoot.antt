@@ -21,7 +21,8 @@ use Rattle.pk_pool.specs.Blocks.{given_back, Blocks, IsShared, IsSpare, PoolOnFl
 use Rattle.pk_pool.specs.Unready.{unready}
 use Rattle.pk_pool.proofs.Fitting.{PoolOnFlash-same}
 use Rattle.pk_root.specs.declared.next.Next.{Next}
-use Rattle.pk_root.specs.Installing.{erases_next}
+use Rattle.pk_root.specs.declared.next.Next.TheVariants.{Erase, Program, Again}
+use Rattle.pk_root.specs.Installing.{erases_next, programs_next, repeats_next}
 use Rattle.pk_steps.specs.Under.{IsValuePage, places}
 use Rattle.pk_steps.specs.Roots.{frozen_root, frozen}
 use Rattle.pk_steps.specs.Next.{IsNext}
@@ -33,23 +34,27 @@ use Rattle.pk_compact.specs.Freezing.{IsApart, AreTwo}
 use Rattle.pk_compact.specs.Steps.{next_root}
 use Rattle.pk_compact.specs.declared.freezing.FreezeJob.TheVariants.{Idle, HasTwo}
 use Rattle.pk_compact.specs.Installing.{IsPrepared, CanPrepare, CanInstall, IsInstalled}
-use Rattle.pk_compact.specs.FreezeSteps.{IsFreezing, IsTaken, AreOwned, FreezeGoesOn, FreezeInstalled}
+use Rattle.pk_compact.specs.FreezeSteps.{IsFreezing, IsTaken, AreOwned, FreezeGoesOn, FreezeInstalled, install_steps}
 use Rattle.pk_compact.proofs.Apart.{owned_not_spare, spare_back}
 use Rattle.pk_compact.proofs.Pairs.{two_are, two_same, turned}
 use Rattle.pk_compact.proofs.Grammar.{next_is_root}
 use Rattle.pk_compact.proofs.Installing.{epoch_erased, erased_behind}
+use Rattle.pk_compact.proofs.NextRoot.{programs_whole}
 use Rattle.pk_compact.proofs.TakingOne.{all_more, is_shape, valid, grammar, spare_behind}
 
 -- an erase leaves one step less, and no block differs
-one_fewer : (a b : Bool) (u : ℕ) → a ≡ false → b ≡ true → Lowers (steps_of (freeze_rest 2 (if b then 2 else 1))) u (steps_of (freeze_rest 2 (if a then 2 else 1))) u
-one_fewer false true u e f = record { none_ready = omega arith; less = omega arith }
-one_fewer true b u e f = absurd (let x : ⊥ = cc in x)
-one_fewer false false u e f = absurd (let x : ⊥ = cc in x)
+one_fewer : (next next' : Next) (u : ℕ) → programs_next next' ≡ true → erases_next next ≡ true → Lowers (steps_of (freeze_rest 2 (install_steps next))) u (steps_of (freeze_rest 2 (install_steps next'))) u
+one_fewer (Erase beside) (Program page) u e f = record { none_ready = omega arith; less = omega arith }
+one_fewer (Erase beside) (Erase other) u e f = absurd (let x : ⊥ = cc in x)
+one_fewer (Erase beside) (Again page) u e f = absurd (let x : ⊥ = cc in x)
+one_fewer (Program page) next' u e f = absurd (let x : ⊥ = cc in x)
+one_fewer (Again page) next' u e f = absurd (let x : ⊥ = cc in x)
 
--- a program leaves none
-last_lowers : (b : Bool) (u : ℕ) → Lowers (steps_of (freeze_rest 2 (if b then 2 else 1))) u 0 u
-last_lowers true u = record { none_ready = omega arith; less = omega arith }
-last_lowers false u = record { none_ready = omega arith; less = omega arith }
+-- the first program leaves the second one
+last_lowers : (next : Next) (u : ℕ) → repeats_next next ≡ false → Lowers (steps_of (freeze_rest 2 (install_steps next))) u 1 u
+last_lowers (Erase beside) u whole = record { none_ready = omega arith; less = omega arith }
+last_lowers (Program page) u whole = record { none_ready = omega arith; less = omega arith }
+last_lowers (Again page) u whole = absurd (let x : ⊥ = cc in x)
 
 module _ (pool : Blocks) (root : Held) (next : Next) (first second : ℕ) (has_entries : Bool) (old : BoardState) (shared : IsShared pool.shape pool.states) (ready : IsReady old root.shape)
     (top : ℕ × Root) (found : Found) (m : Map) (is : IsFreezing pool root next (HasTwo first second) old.pages has_entries top found m) where
@@ -241,6 +246,7 @@ module _ (pool : Blocks) (root : Held) (next : Next) (first second : ℕ) (has_e
       pool_shape = is.pool_shape;
       pool_fits = pool_behind new.pages p.behind;
       installs = p.installs;
+      whole = programs_whole next' p.programs;
       top_is = is.top_is;
       under = p.under;
       none_older = is.none_older;
@@ -254,7 +260,7 @@ module _ (pool : Blocks) (root : Held) (next : Next) (first second : ℕ) (has_e
       different = is.different;
     };
     same_root = refl;
-    lowers = one_fewer (erases_next next') (erases_next next) (unready pool.states) p.programs_next erases;
+    lowers = one_fewer next next' (unready pool.states) p.programs erases;
     takes = inl (refl, refl);
     some = omega arith;
     elsewhere = λ k high other_block. p.behind k high;
@@ -281,12 +287,13 @@ module _ (pool : Blocks) (root : Held) (next : Next) (first second : ℕ) (has_e
           done = refl;
           same_pool = refl;
           pool_fits = pool_behind new.pages known.behind;
-          lowers = last_lowers (erases_next next) (unready pool.states);
+          lowers = last_lowers next (unready pool.states) is.whole;
           first_erased = erased_behind shape first old.pages new.pages one.least known.behind one.is_erased;
           second_erased = erased_behind shape second old.pages new.pages other.least known.behind other.is_erased;
           root_is = frozen_is;
           under = known.under;
           installs = known.installs;
+          half = known.half;
           former = former;
           apart = apart_told;
           number = known.number;

@@ -1,32 +1,30 @@
--- The call of a step, whether it was made or failed, and the tree of lists behind it: the newest root is the former, or the one that follows.
-use Rattle.std.proofs.Common.{◌≡◌, inl, inr, ℕ, ◌≤◌, List, [], Some, ap, Result, Ok, Err}
+-- The call of a step, whether it was made or failed, and the tree of lists after it: the newest root is the former, or the one that follows.
+use Rattle.std.proofs.Common.{◌≡◌, inl, inr, ℕ, ◌≤◌, List, [], Some, ap, Result, Ok, Err, arith, ◌+◌}
 use Rattle.std.specs.Prelude.{OnOk, OnErr, IfErr}
 use Rattle.pk_base.specs.Shape.{Shape, IsShape}
 use Rattle.pk_base.specs.Page.{Flash, page_at, SameBehind}
 use Rattle.pk_base.specs.Map.{Map}
-use Rattle.pk_base.specs.Mark.{all_posted}
 use Rattle.pk_nand.specs.BoardState.{BoardState}
 use Rattle.pk_nand.specs.Calls.{IsReady, after_program, after_erase, ProgramFailed, EraseFailed}
 use Rattle.pk_nand.specs.Effects.{AtMostOneCall}
 use Rattle.pk_nand.specs.declared.types.Fault.{Fault}
 use Rattle.pk_nand.specs.declared.types.Fault.TheVariants.{Stopped}
-use Rattle.pk_rootfmt.specs.Root.{Root}
+use Rattle.pk_rootfmt.specs.Root.{Root, root_bytes}
 use Rattle.pk_rootfmt.specs.Newest.{newest_root}
 use Rattle.pk_model.specs.Found.{Found}
 use Rattle.pk_model.specs.Growth.{Grows}
 use Rattle.pk_model.proofs.Growing.{at_end}
 use Rattle.pk_model.proofs.SamePages.{newest_root_same}
+use Rattle.pk_model.proofs.Steps.{roots_few}
 use Rattle.pk_root.specs.declared.next.Next.{Next}
-use Rattle.pk_pool.specs.Blocks.{Blocks, IsSpare}
-use Rattle.pk_pool.specs.Taking.{FailsToErase as FailsToTake}
 use Rattle.pk_root.specs.Installing.{other_block, KeepsRoot, Installs, ErasesOther, FailsToInstall, FailsToErase}
 use Rattle.pk_root.specs.Laws.{SameFront}
 use Rattle.pk_steps.proofs.Standing.{installed}
-use Rattle.pk_compact.specs.Installing.{Prepares, PrepareBreaks, CanInstall}
+use Rattle.pk_compact.specs.Installing.{Prepares, PrepareBreaks, CanInstall, InstallsRoot, InstallBreaks}
 use Rattle.pk_compact.specs.Steps.{StepByCall, AtMostErases}
 use Rattle.pk_compact.proofs.Taking.{leaves_others, not_behind}
-use Rattle.pk_compact.proofs.Numbering.{failed_front}
-use Rattle.pk_compact.proofs.NextRoot.{prepares, prepare_breaks, prepare_works, prepare_stops, prepare_number, prepare_failed_number, roots_same}
+use Rattle.pk_compact.proofs.NextRoot.{prepares, prepare_breaks, prepare_works, prepare_stops, prepare_number, prepare_failed_number, roots_same, few, is_installed, install_breaks, install_works, install_stops}
+use Rattle.pk_compact.proofs.Numbering.{install_number}
 
 -- no page of the root blocks differs
 front_grows : (shape : Shape) (old new : Flash) → SameFront shape old new → Grows shape old new
@@ -36,10 +34,6 @@ front_grows shape old new same = inl (newest_root_same shape (page_at old) (page
 pub took_grows : (shape : Shape) → IsShape shape → (b : ℕ) (old new : BoardState) → AtMostErases b old new → IsReady old shape → 2 ≤ b → Grows shape old.pages new.pages
 took_grows shape is_shape b old new taken ready behind = front_grows shape old.pages new.pages (λ k low. leaves_others shape b old new taken ready k (not_behind shape b k is_shape behind low))
 
--- its erase failed
-pub take_failed_grows : (shape : Shape) → IsShape shape → (pool : Blocks) (old new : BoardState) → IsReady old shape → ((b : ℕ) → IsSpare pool b → 2 ≤ b) → FailsToTake pool old new → Grows shape old.pages new.pages
-take_failed_grows shape is_shape pool old new ready behind f = front_grows shape old.pages new.pages (failed_front shape is_shape f.block (behind f.block (inl f.lowest.here)) old new ready f.failed)
-
 -- the program of a root that may follow
 module _ (shape : Shape) (is_shape : IsShape shape) (root : Root) (next : Next) (old new : BoardState) (top : ℕ × Root) (found then_found : Found) (m : Map) (can : CanInstall shape root next old.pages top found then_found m) (behind : SameBehind shape old.pages new.pages) where
   follows : (page : ℕ) → newest_root shape (page_at new.pages) ≡ Some (page, root) → Grows shape old.pages new.pages
@@ -47,9 +41,6 @@ module _ (shape : Shape) (is_shape : IsShape shape) (root : Root) (next : Next) 
 
   pub install_grows : (next' : Next) → Installs shape root next old next' new → Grows shape old.pages new.pages
   install_grows next' i = follows i.page i.fits.newest
-
-  pub install_failed_grows : FailsToInstall shape root next old new → Grows shape old.pages new.pages
-  install_failed_grows f = elim (f.cuts.1.cuts new.pages (all_posted f.cuts.0) f.cuts.1.stands).newest [ inl same ↦ inl same | inr is ↦ follows f.page is ]
 
 -- ---- the one call
 
@@ -98,5 +89,42 @@ module _ (shape : Shape) (is_shape : IsShape shape) (next next' : Next) (old new
       ready = then_ready;
     };
     calls = erase_failed_calls old new (other_block shape f.beside) f.failed;
-    grows = inl (f.cuts.1.cuts new.pages (all_posted f.cuts.0) f.cuts.1.stands).newest;
+    grows = tt;
   }
+
+-- ---- the first program of a root
+
+module _ (shape : Shape) (is_shape : IsShape shape) (root : Root) (next next' : Next) (old new : BoardState) (ready : IsReady old shape) (then_ready : IsReady new shape)
+    (can : (top : ℕ × Root) × (found : Found) × (then_found : Found) × (m : Map) × CanInstall shape root next old.pages top found then_found m) (behind : SameBehind shape old.pages new.pages) where
+  pub install_step : (r : Result Unit Fault) → OnOk r (Installs shape root next old next' new) → IfErr r (λ e. e ≡ Stopped) → OnErr r (FailsToInstall shape root next old new)
+      → StepByCall (λ u. InstallsRoot shape root next old next' new) (InstallBreaks shape root next old new) shape 1 old new r
+  install_step (Ok u) made stopped failed =
+      let one = (is_installed shape is_shape root next old ready can.0 can.1 can.2 can.3 can.4 next' new behind made).number in
+      record {
+        step = record {
+          ended = λ top found then_found m may. is_installed shape is_shape root next old ready top found then_found m may next' new behind made;
+          broken = tt;
+          works = install_works shape root next next' old new made;
+          stops = tt;
+          stopped = tt;
+          roots_few = roots_few shape 1 old new ready then_ready (omega (arith, one));
+          ready = then_ready;
+        };
+        calls = program_calls old new made.page (root_bytes shape root) made.program;
+        grows = install_grows shape is_shape root next old new can.0 can.1 can.2 can.3 can.4 behind next' made;
+      }
+  install_step (Err fault) made stopped f =
+      let most = few shape is_shape root next old ready can.0 can.1 can.2 can.3 can.4 in
+      record {
+        step = record {
+          ended = tt;
+          broken = λ top found then_found m may. install_breaks shape is_shape root next old ready top found then_found m may new f;
+          works = tt;
+          stops = install_stops shape root next old new f;
+          stopped = stopped;
+          roots_few = roots_few shape 1 old new ready then_ready (install_number shape root next old new most f);
+          ready = then_ready;
+        };
+        calls = program_failed_calls old new f.page (root_bytes shape root) f.failed;
+        grows = tt;
+      }

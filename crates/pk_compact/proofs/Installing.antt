@@ -29,17 +29,21 @@ use Rattle.pk_model.specs.Growth.{Grows, Reaches, Goes}
 use Rattle.pk_model.specs.Crashes.{CrashFinds, background}
 use Rattle.pk_model.proofs.Running.{Reaches-erase, Goes-erase}
 
--- where the newest root is the same, and nothing behind the root blocks differs
-pub under_behind : (shape : Shape) (flash cut : Flash) (top : ℕ × Root) (found : Found) (m : Map) → IsShape shape → IsUnder shape flash [] top found m
-    → newest_root shape (page_at cut) ≡ Some top → SameBehind shape flash cut → IsUnder shape cut [] top found m
-under_behind shape flash cut top found m is_shape under newest same =
+-- where the newest root is the same, in whatever page, and nothing behind the root blocks differs
+pub under_at : (shape : Shape) (flash cut : Flash) (top : ℕ × Root) (page : ℕ) (found : Found) (m : Map) → IsShape shape → IsUnder shape flash [] top found m
+    → newest_root shape (page_at cut) ≡ Some (page, top.1) → SameBehind shape flash cut → IsUnder shape cut [] (page, top.1) found m
+under_at shape flash cut top page found m is_shape under newest same =
     let was_valid = root_valid shape (page_at flash top.0) top.1 (newest_sound shape (page_at flash) top under.is_top).there in
     record {
       is_top = newest;
-      is_found = found_alone shape (block_pages_positive shape is_shape) (page_at flash) (page_at cut) same top.1 was_valid ∙ under.is_found;
+      is_found = found_alone shape is_shape (page_at flash) (page_at cut) same top.1 was_valid ∙ under.is_found;
       is_map = map_under_same shape (page_at flash) (page_at cut) top.1 found [] (λ k is. same k (values_behind shape (firsts (entries_in_order found []))
           (counting_all (IsEntry shape) shape (page_at flash) (λ k number index bytes es stands read. journal_are shape number index bytes es read) (λ k level index count bytes es stands read. meta_are shape level index count bytes es read) top.1 found [] under.is_found tt) k is)) ∙ under.is_map;
     }
+
+pub under_behind : (shape : Shape) (flash cut : Flash) (top : ℕ × Root) (found : Found) (m : Map) → IsShape shape → IsUnder shape flash [] top found m
+    → newest_root shape (page_at cut) ≡ Some top → SameBehind shape flash cut → IsUnder shape cut [] top found m
+under_behind shape flash cut top = under_at shape flash cut top top.0
 
 -- ---- an erase of the other root block
 

@@ -7,6 +7,7 @@ pub mod Pairs
 pub mod Examples
 pub mod NextRoot
 pub mod Growing
+pub mod AgainRoot
 pub mod TakingOne
 pub mod FreezeRoot
 pub mod FreezeStepping

@@ -80,6 +80,7 @@ module _ (root : Held) (next : Next) (level count : ℕ) (taken : List ℕ) (old
           root_is = ap (λ r. merged_root r level count taken) (sym may.top_is);
           under = i.under;
           installs = i.installs;
+          half = i.half;
           number = i.number;
           behind = i.behind;
           cuts = i.cuts;
@@ -123,7 +124,7 @@ module _ (root : Held) (next : Next) (level count : ℕ) (taken : List ℕ) (old
           ready = ready_by_root is.step.ready;
         };
         calls = is.calls;
-        grows = grows_by_root is.grows;
+        grows = tt;
       }
 
 -- ---- the root that follows has room

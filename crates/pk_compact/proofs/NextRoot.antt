@@ -1,7 +1,7 @@
--- The install of a root that may follow: its program, and the erase before it.
-use Rattle.std.proofs.Common.{◌≡◌, ◌⊎◌, inl, inr, ℕ, ◌+◌, ◌*◌, ◌<◌, ◌≤◌, List, [], Some, false, refl, sym, ap, subst, ◌∙◌, arith, le_refl}
+-- The install of a root that may follow: the erase before it, and its first program.
+use Rattle.std.proofs.Common.{◌≡◌, ◌⊎◌, inl, inr, ℕ, ◌+◌, ◌*◌, ◌<◌, ◌≤◌, List, [], Some, false, refl, sym, ap, subst, ◌∙◌, arith, le_refl, true}
 use Rattle.pk_base.specs.Shape.{Shape, IsShape}
-use Rattle.pk_base.specs.Page.{Flash, page_at, SameBehind}
+use Rattle.pk_base.specs.Page.{Flash, page_at, whole, SameBehind}
 use Rattle.pk_base.specs.Map.{Map}
 use Rattle.pk_base.specs.Mark.{program, after, all_posted}
 use Rattle.pk_nand.specs.BoardState.{BoardState}
@@ -9,7 +9,8 @@ use Rattle.pk_nand.specs.Cut.{Interrupted}
 use Rattle.pk_nand.specs.Calls.{IsReady, after_program, ProgramFailed}
 use Rattle.pk_nand.specs.Effects.{Works, Stops}
 use Rattle.pk_nand.proofs.Effects.{works_erase, works_program, stops_erase, stops_program}
-use Rattle.pk_nand.proofs.Leaving.{interrupted_done}
+use Rattle.pk_nand.specs.Pairs.{IsPairCut}
+use Rattle.pk_nand.proofs.Pairing.{IsPairCut-start, IsPairCut-cut, IsPairCut-done}
 use Rattle.pk_nand.proofs.Writing.{shape_is}
 use Rattle.pk_rootfmt.specs.Root.{Root, root_bytes}
 use Rattle.pk_rootfmt.specs.Newest.{newest_root}
@@ -21,20 +22,20 @@ use Rattle.pk_model.specs.Growth.{Reaches, Goes}
 use Rattle.pk_model.specs.Crashes.{CrashFinds, background}
 use Rattle.pk_model.specs.Wear.{root_number, roots}
 use Rattle.pk_model.proofs.Growing.{at_end}
-use Rattle.pk_model.proofs.Roots.{root_program, root_installed}
+use Rattle.pk_model.proofs.Roots.{root_pair, root_installed}
 use Rattle.pk_model.proofs.Running.{Reaches-program, Goes-program}
 use Rattle.pk_root.specs.declared.next.Next.{Next}
-use Rattle.pk_root.specs.declared.next.Next.TheVariants.{Erase, Program}
-use Rattle.pk_root.specs.Installing.{other_block, erases_next, InstallerOnFlash, KeepsRoot, Installs, ErasesOther, FailsToInstall, FailsToErase}
-use Rattle.pk_root.proofs.Places.{in_block}
-use Rattle.pk_root.proofs.Scanning.{root_page_exists}
+use Rattle.pk_root.specs.declared.next.Next.TheVariants.{Erase, Program, Again}
+use Rattle.pk_root.specs.Installing.{other_block, erases_next, programs_next, repeats_next, before_pair, InstallerOnFlash, KeepsRoot, Installs, ErasesOther, FailsToInstall, FailsToErase}
+use Rattle.pk_root.proofs.Installs.{install}
+use Rattle.pk_root.proofs.Places.{set_back}
 use Rattle.pk_steps.specs.Under.{IsUnder}
 use Rattle.pk_steps.specs.Next.{IsNext}
 use Rattle.pk_steps.proofs.Untouched.{under_reads}
-use Rattle.pk_steps.proofs.Standing.{installed, installs}
+use Rattle.pk_steps.proofs.Standing.{installed}
 use Rattle.pk_compact.specs.Installing.{CanPrepare, Prepares, PrepareBreaks, CanInstall, IsInstalled}
-use Rattle.pk_compact.proofs.Installing.{other_reaches, other_goes, other_under, other_behind}
-use Rattle.pk_compact.proofs.Numbering.{same_newest, last_number}
+use Rattle.pk_compact.proofs.Installing.{under_behind, other_reaches, other_goes, other_under, other_behind}
+use Rattle.pk_compact.proofs.Numbering.{same_newest}
 
 -- ---- numbers
 
@@ -57,7 +58,7 @@ module _ (shape : Shape) (is_shape : IsShape shape) (next : Next) (old : BoardSt
       let there = known top found m can e.beside e.was in
       record {
         installs = e.fits top can.installs;
-        programs_next = ap erases_next e.then_next;
+        programs = ap programs_next e.then_next;
         under = other_under shape is_shape top found m e.beside old ready there can.under new e.erase;
         behind = other_behind shape is_shape top found m e.beside old ready there can.under new e.erase;
         cuts = other_reaches shape is_shape top found m e.beside old ready there can.under new e.erase;
@@ -85,7 +86,7 @@ prepare_number shape next next' old new e = same_newest shape old.pages new.page
 pub prepare_failed_number : (shape : Shape) (next : Next) (old new : BoardState) → FailsToErase shape next old new → root_number shape new.pages ≡ root_number shape old.pages
 prepare_failed_number shape next old new f = same_newest shape old.pages new.pages (f.cuts.1.cuts new.pages (all_posted f.cuts.0) f.cuts.1.stands).newest
 
--- ---- the program
+-- ---- the first program
 
 module _ (shape : Shape) (is_shape : IsShape shape) (root : Root) (next : Next) (old : BoardState) (ready : IsReady old shape) (top : ℕ × Root) (found then_found : Found) (m : Map) (can : CanInstall shape root next old.pages top found then_found m) where
   pub greater : top.1.number < root.number
@@ -102,39 +103,33 @@ module _ (shape : Shape) (is_shape : IsShape shape) (root : Root) (next : Next) 
     bytes = root_bytes shape root
 
     is_install : IsInstall shape old.pages top page bytes root
-    is_install =
-        let below : page < 2 * shape.block_pages = fits.possible.in_root_blocks in
-        record {
-          was = fits.newest;
-          in_root_blocks = below;
-          exists = root_page_exists shape old page is_shape ready below;
-          was_erased = fits.possible.order.behind page (le_refl page) (in_block shape.block_pages page below);
-          spells = reads_back shape root is_shape can.follows.grammar;
-          greater_number = greater;
-        }
+    is_install = install shape old page top bytes root is_shape ready fits (reads_back shape root is_shape can.follows.grammar) greater
 
-    nothing_behind : (f : Flash) → Interrupted shape (program page bytes) old.pages f [] → SameBehind shape old.pages f
-    nothing_behind f cut k high = elim (cut.pages k) [
-      | inl same ↦ same
-      | inr is ↦ (let here : k ≡ page = is.0 in let below = is_install.in_root_blocks in absurd (omega (arith, here, below, high)))
+    behind_cut : (f : Flash) → IsPairCut page bytes old.pages f → SameBehind shape old.pages f
+    behind_cut f cut k high = cut.outside.above k (let below = is_install.in_root_blocks in omega (arith, below, high))
+
+    under_new : (at : ℕ) (f : Flash) → IsPairCut page bytes old.pages f → newest_root shape (page_at f) ≡ Some (at, root) → IsUnder shape f [] (at, root) then_found m
+    under_new at f cut newest = (installed shape old.pages f [] top at found root then_found m is_shape tt can.under can.follows newest (behind_cut f cut)).0
+
+    cut_reads : (f : Flash) → IsPairCut page bytes old.pages f → CrashFinds shape background old.pages m f []
+    cut_reads f cut = elim (root_pair shape old.pages top page bytes root f is_install cut) [
+      | inl former ↦ (refl, under_reads shape f [] top found m (under_behind shape old.pages f top found m is_shape can.under former (behind_cut f cut)))
+      | inr (inl first) ↦ (refl, under_reads shape f [] (page, root) then_found m (under_new page f cut first))
+      | inr (inr second) ↦ (refl, under_reads shape f [] (page + 1, root) then_found m (under_new (page + 1) f cut second))
     ]
 
-    reads_either : (f : Flash) → IsUnder shape f [] top found m ⊎ IsUnder shape f [] (page, root) then_found m → CrashFinds shape background old.pages m f []
-    reads_either f (inl former) = (refl, under_reads shape f [] top found m former)
-    reads_either f (inr new) = (refl, under_reads shape f [] (page, root) then_found m new)
-
-    either : (f : Flash) → (newest_root shape (page_at f) ≡ Some top) ⊎ (newest_root shape (page_at f) ≡ Some (page, root)) → (newest_root shape (page_at f) ≡ newest_root shape (page_at old.pages)) ⊎ (newest_root shape (page_at f) ≡ Some (page, root))
-    either f (inl former) = inl (former ∙ sym fits.newest)
-    either f (inr new) = inr new
+    start : IsPairCut page bytes old.pages old.pages
+    start = IsPairCut-start page bytes old.pages (inr (inl is_install.first_erased)) (inr (inl is_install.second_erased))
 
     holds : (f : Flash) → Interrupted shape (program page bytes) old.pages f [] → CrashFinds shape background old.pages m f []
-    holds f cut = reads_either f (installs shape old.pages f [] top page found root then_found m is_shape tt can.under can.follows (either f (root_program shape old.pages top page bytes root f [] is_install (inl cut))) (nothing_behind f cut))
+    holds f cut = cut_reads f (IsPairCut-cut shape page bytes is_install.even page old.pages old.pages f [] (omega arith) (omega arith) start cut)
 
     abbrev then_pages : Flash
     then_pages = after shape (program page bytes) old.pages
 
     there : IsUnder shape then_pages [] (page, root) then_found m × Follows shape old.pages then_pages
-    there = installed shape old.pages then_pages [] top page found root then_found m is_shape tt can.under can.follows (root_installed shape old.pages top page bytes root is_install) (nothing_behind then_pages (interrupted_done shape (program page bytes) old.pages))
+    there = installed shape old.pages then_pages [] top page found root then_found m is_shape tt can.under can.follows (root_installed shape old.pages top page bytes root is_install).0
+        (behind_cut then_pages (IsPairCut-done shape page bytes is_install.even page old.pages old.pages (omega arith) (omega arith) start))
 
     root_reaches : (new : BoardState) → new ≡ after_program old page bytes → Reaches shape old new (CrashFinds shape background old.pages m)
     root_reaches new made = Reaches-program shape old (CrashFinds shape background old.pages m) ready.shape_is page bytes holds (inr there.1) new made
@@ -144,6 +139,12 @@ module _ (shape : Shape) (is_shape : IsShape shape) (root : Root) (next : Next) 
 
     root_under : (new : BoardState) → newest_root shape (page_at new.pages) ≡ Some (page, root) → SameBehind shape old.pages new.pages → IsUnder shape new.pages [] (page, root) then_found m
     root_under new newest behind = (installed shape old.pages new.pages [] top page found root then_found m is_shape tt can.under can.follows newest behind).0
+
+    -- the flash before it
+    before_it : (new : BoardState) → new ≡ after_program old page bytes → IsUnder shape (before_pair new.pages page) [] top found m
+    before_it new made =
+        let same : before_pair new.pages page ≡ old.pages = ap (λ (b : BoardState). before_pair b.pages page) made ∙ set_back old.pages page (whole bytes) is_install.first_erased in
+        subst (λ (f : Flash). IsUnder shape f [] top found m) (sym same) can.under
 
   pub is_installed : (next' : Next) (new : BoardState) → SameBehind shape old.pages new.pages → Installs shape root next old next' new → IsInstalled shape root then_found m old next' new
   is_installed next' new behind i =
@@ -155,6 +156,7 @@ module _ (shape : Shape) (is_shape : IsShape shape) (root : Root) (next : Next) 
         page = i.page;
         under = under;
         installs = i.fits;
+        half = record { page = i.page; again = i.then_next; former = top; former_found = found; was = before_it i.page i.was new i.program };
         number = omega (arith, former, now, step);
         behind = behind;
         cuts = root_reaches i.page i.was new i.program;
@@ -163,22 +165,21 @@ module _ (shape : Shape) (is_shape : IsShape shape) (root : Root) (next : Next) 
   pub install_breaks : (new : BoardState) → FailsToInstall shape root next old new → Goes shape old new (CrashFinds shape background old.pages m)
   install_breaks new f = root_goes f.page f.was new f.failed
 
--- ---- what is next is the program
-
-erases_no_program : (next : Next) (beside : ℕ) → erases_next next ≡ false → next ≡ Erase beside → ⊥
-erases_no_program (Erase beside') beside e was = cc
-erases_no_program (Program page) beside e was = cc
-
--- so a step that failed is the program
-pub fails_to_install : (shape : Shape) (root : Root) (next : Next) (old new : BoardState) → erases_next next ≡ false → FailsToInstall shape root next old new ⊎ FailsToErase shape next old new → FailsToInstall shape root next old new
-fails_to_install shape root next old new programs (inl f) = f
-fails_to_install shape root next old new programs (inr f) = absurd (erases_no_program next f.beside programs f.was)
-
 pub install_works : (shape : Shape) (root : Root) (next next' : Next) (old new : BoardState) → Installs shape root next old next' new → Works old new
 install_works shape root next next' old new i = works_program old new i.page (root_bytes shape root) i.program
 
 pub install_stops : (shape : Shape) (root : Root) (next : Next) (old new : BoardState) → FailsToInstall shape root next old new → Stops old new
 install_stops shape root next old new f = stops_program old new f.page (root_bytes shape root) f.failed
 
-pub install_number : (shape : Shape) (root : Root) (next : Next) (old new : BoardState) → root.number ≤ root_number shape old.pages + 1 → FailsToInstall shape root next old new → root_number shape new.pages ≤ root_number shape old.pages + 1
-install_number shape root next old new few f = last_number shape root next old new few (inl f)
+-- ---- what is next
+
+-- an erase, or the first program of a root, where no pair is half made
+pub programs_then : (next : Next) → repeats_next next ≡ false → erases_next next ≡ false → programs_next next ≡ true
+programs_then (Erase beside) is_whole no_erase = cc
+programs_then (Program page) is_whole no_erase = refl
+programs_then (Again page) is_whole no_erase = cc
+
+pub programs_whole : (next : Next) → programs_next next ≡ true → repeats_next next ≡ false
+programs_whole (Erase beside) programs = cc
+programs_whole (Program page) programs = refl
+programs_whole (Again page) programs = cc

@@ -11,7 +11,8 @@ use Rattle.pk_rootfmt.specs.Root.{Root}
 use Rattle.pk_rootfmt.specs.Newest.{newest_root}
 use Rattle.pk_model.proofs.SamePages.{newest_root_same}
 use Rattle.pk_root.specs.declared.next.Next.{Next}
-use Rattle.pk_root.specs.Installing.{FailsToInstall, FailsToErase}
+use Rattle.pk_root.specs.declared.next.Next.TheVariants.{Again}
+use Rattle.pk_root.specs.Installing.{before_pair, FailsToInstall, FailsToRepeat}
 use Rattle.pk_root.specs.Laws.{SameFront}
 use Rattle.pk_model.specs.Wear.{root_number}
 use Rattle.pk_compact.proofs.Taking.{not_behind}
@@ -20,7 +21,7 @@ pub same_newest : (shape : Shape) (old new : Flash) → newest_root shape (page_
 unfolding root_number
 same_newest shape old new same = rw same refl
 
-is_newest : (shape : Shape) (new : Flash) (page : ℕ) (root : Root) → newest_root shape (page_at new) ≡ Some (page, root) → root_number shape new ≡ root.number
+pub is_newest : (shape : Shape) (new : Flash) (page : ℕ) (root : Root) → newest_root shape (page_at new) ≡ Some (page, root) → root_number shape new ≡ root.number
 unfolding root_number
 is_newest shape new page root is = rw is refl
 
@@ -39,10 +40,19 @@ module _ (shape : Shape) (is_shape : IsShape shape) (block : ℕ) (behind : 2 �
 
 -- ---- an install
 
-pub last_number : (shape : Shape) (root : Root) (next : Next) (old new : BoardState) → root.number ≤ root_number shape old.pages + 1 → FailsToInstall shape root next old new ⊎ FailsToErase shape next old new
+pub install_number : (shape : Shape) (root : Root) (next : Next) (old new : BoardState) → root.number ≤ root_number shape old.pages + 1 → FailsToInstall shape root next old new
     → root_number shape new.pages ≤ root_number shape old.pages + 1
-last_number shape root next old new few (inl f) = elim (f.cuts.1.cuts new.pages (all_posted f.cuts.0) f.cuts.1.stands).newest [
+install_number shape root next old new few f = elim (f.cuts.1.cuts new.pages (all_posted f.cuts.0) f.cuts.1.stands).newest [
   | inl same ↦ (let e = same_newest shape old.pages new.pages same in omega (arith, e))
-  | inr is ↦ (let e = is_newest shape new.pages f.page root is in omega (arith, e, few))
+  | inr (inl is) ↦ (let e = is_newest shape new.pages f.page root is in omega (arith, e, few))
+  | inr (inr is) ↦ (let e = is_newest shape new.pages (f.page + 1) root is in omega (arith, e, few))
 ]
-last_number shape root next old new few (inr f) = let e = same_newest shape old.pages new.pages (f.cuts.1.cuts new.pages (all_posted f.cuts.0) f.cuts.1.stands).newest in omega (arith, e)
+
+pub repeat_number : (shape : Shape) (root : Root) (next : Next) (old new : BoardState) → root.number ≤ root_number shape old.pages
+    → ((page : ℕ) → next ≡ Again page → root_number shape (before_pair old.pages page) ≤ root.number) → FailsToRepeat shape root next old new
+    → root_number shape new.pages ≤ root_number shape old.pages
+repeat_number shape root next old new most before f = elim (f.cuts.1.cuts new.pages (all_posted f.cuts.0) f.cuts.1.stands).newest [
+  | inl same ↦ (let e = same_newest shape (before_pair old.pages f.page) new.pages same in let less = before f.page f.was in omega (arith, e, less, most))
+  | inr (inl is) ↦ (let e = is_newest shape new.pages f.page root is in omega (arith, e, most))
+  | inr (inr is) ↦ (let e = is_newest shape new.pages (f.page + 1) root is in omega (arith, e, most))
+]

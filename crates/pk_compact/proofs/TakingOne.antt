@@ -144,6 +144,7 @@ module _ (pool : Blocks) (root : Held) (next : Next) (job : FreezeJob) (has_entr
         pool_shape = is.pool_shape;
         pool_fits = fits;
         installs = InstallerOnFlash-by_same root.shape next top old.pages new.pages front is.installs;
+        whole = is.whole;
         top_is = is.top_is;
         under = take_under root.shape is_shape top found m b place.0 unnamed_top (λ k. is.apart.no_value b k spare) old ready is.under new taken;
         none_older = is.none_older;

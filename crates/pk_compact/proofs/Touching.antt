@@ -1,5 +1,5 @@
 -- Calls that touch no page that is read.
-use Rattle.std.proofs.Common.{◌≡◌, ◌≢◌, inl, inr, ℕ, ◌/◌, List, [], refl, sym, ap, subst, ◌∙◌}
+use Rattle.std.proofs.Common.{◌≡◌, ◌≢◌, inl, inr, ℕ, ◌/◌, List, [], Some, refl, sym, ap, subst, ◌∙◌}
 use Rattle.pk_base.specs.Shape.{Shape, IsShape}
 use Rattle.pk_base.specs.Page.{Flash}
 use Rattle.pk_base.specs.Map.{Map}
@@ -8,7 +8,7 @@ use Rattle.pk_nand.specs.BoardState.{BoardState}
 use Rattle.pk_nand.specs.Cut.{Interrupted}
 use Rattle.pk_nand.specs.Calls.{IsReady, after_program, ProgramFailed}
 use Rattle.pk_nand.proofs.Leaving.{interrupted_done}
-use Rattle.pk_nand.proofs.Touching.{untouched}
+use Rattle.pk_nand.proofs.Touching.{elsewhere}
 use Rattle.pk_nand.proofs.Writing.{shape_is}
 use Rattle.pk_rootfmt.specs.Root.{Root}
 use Rattle.pk_model.specs.Found.{Found}
@@ -22,12 +22,8 @@ use Rattle.pk_compact.proofs.Taking.{take_reaches, take_under, take_goes}
 
 module _ (shape : Shape) (old : BoardState) (top : ℕ × Root) (found : Found) (m : Map) (block page : ℕ) (bytes : List ℕ) (is_shape : IsShape shape) (ready : IsReady old shape) (under : IsUnder shape old.pages [] top found m)
     (is : IsUnread shape top.1 found block) (within : page / shape.block_pages ≡ block) where
-  -- a page of another block is another page
-  elsewhere : (k : ℕ) → k / shape.block_pages ≢ block → k ≢ page
-  elsewhere k other same = other (ap (λ n. n / shape.block_pages) same ∙ within)
-
   still_under : (f : Flash) → Interrupted shape (program page bytes) old.pages f [] → IsUnder shape f [] top found m
-  still_under f cut = erases shape old.pages f [] top found m block is_shape under is.least is.unnamed is.no_value (λ k other. untouched shape (program page bytes) k _ _ (elsewhere k other) (cut.pages k))
+  still_under f cut = erases shape old.pages f [] top found m block is_shape under is.least is.unnamed is.no_value (λ k other. elsewhere shape (program page bytes) k block _ _ (ap (λ (b : ℕ). Some b) within) other (cut.pages k))
 
   holds : (f : Flash) → Interrupted shape (program page bytes) old.pages f [] → CrashFinds shape background old.pages m f []
   holds f cut = (refl, under_reads shape f [] top found m (still_under f cut))

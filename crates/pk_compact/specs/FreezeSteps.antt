@@ -1,5 +1,5 @@
 -- A freeze in steps: what stands between them, and what each leaves.
-use Rattle.std.specs.Prelude.{◌≡◌, ◌≢◌, ◌⊎◌, ℕ, ◌+◌, ◌/◌, ◌<◌, ◌≤◌, List, [], ◌∷◌, ◌++◌, length, Bool, true, not, ◌==◌, if◌then◌else◌, slice_get, slice_index, Some, MatchBool}
+use Rattle.std.specs.Prelude.{◌≡◌, ◌≢◌, ◌⊎◌, ℕ, ◌+◌, ◌/◌, ◌<◌, ◌≤◌, List, [], ◌∷◌, ◌++◌, length, Bool, true, false, not, ◌==◌, if◌then◌else◌, slice_get, slice_index, Some, MatchBool}
 use Rattle.std.specs.List.{AllByRecursion}
 use Rattle.pk_base.specs.Shape.{Shape, root_pages}
 use Rattle.pk_base.specs.Page.{Flash, page_at, SameBehind}
@@ -21,10 +21,12 @@ use Rattle.pk_pool.specs.declared.state.BlockState.TheVariants.{Owned}
 use Rattle.pk_pool.specs.Blocks.{Blocks, used_by, with_state, given_back, IsSpare, PoolOnFlash}
 use Rattle.pk_pool.specs.Unready.{unready}
 use Rattle.pk_root.specs.declared.next.Next.{Next}
-use Rattle.pk_root.specs.Installing.{InstallerOnFlash, erases_next}
+use Rattle.pk_root.specs.declared.next.Next.TheVariants.{Erase, Program, Again}
+use Rattle.pk_root.specs.Installing.{InstallerOnFlash, repeats_next}
 use Rattle.pk_steps.specs.Under.{IsUnder}
 use Rattle.pk_steps.specs.Roots.{frozen_root, frozen}
 use Rattle.pk_compact.specs.Freezing.{IsApart}
+use Rattle.pk_compact.specs.Installing.{IsHalf}
 use Rattle.pk_compact.specs.declared.freezing.FreezeJob.{FreezeJob}
 use Rattle.pk_compact.specs.declared.freezing.FreezeJob.TheVariants.{Idle, HasOne, HasTwo}
 
@@ -34,9 +36,11 @@ taken_by Idle = []
 taken_by (HasOne first) = first ∷ []
 taken_by (HasTwo first second) = first ∷ second ∷ []
 
--- the steps of an install: its program, behind an erase where one is next
+-- the steps of an install that are left: an erase of a root block, where one is next, and the two programs
 abbrev pub install_steps : Next → ℕ
-install_steps next = if erases_next next then 2 else 1
+install_steps (Erase beside) = 3
+install_steps (Program page) = 2
+install_steps (Again page) = 1
 
 -- how many steps of a freeze are left, where a block that it takes counts twice
 abbrev pub freeze_left : FreezeJob → Next → ℕ
@@ -56,6 +60,7 @@ pub record IsFreezing (pool : Blocks) (root : Held) (next : Next) (job : FreezeJ
   pub pool_shape : pool.shape ≡ root.shape
   pub pool_fits : PoolOnFlash pool flash
   pub installs : InstallerOnFlash root.shape next top flash
+  pub whole : repeats_next next ≡ false
   pub top_is : top.1 ≡ root.root
   pub under : IsUnder root.shape flash [] top found m
   pub none_older : found.older ≡ []
@@ -94,8 +99,8 @@ pub record AreOwned (pool : Blocks) (blocks : List ℕ) : Type 0 where
   pub second : slice_get pool.states (slice_index blocks 1) ≡ Some (Owned Journal)
   pub different : slice_index blocks 1 ≢ slice_index blocks 0
 
--- The next root is the newest one: it names an empty epoch in the two blocks, and the former epoch as the older one where that has entries. Else that
--- one's blocks may be given back: no spare block is read then. The map is the same, wherever the step is cut.
+-- The next root is the newest one, with its pair half made: it names an empty epoch in the two blocks, and the former epoch as the older one where that has entries. Else that
+-- one's blocks may be given back behind the second program: no spare block is read then. The map is the same, wherever the step is cut.
 pub record FreezeInstalled (pool : Blocks) (root : Held) (next : Next) (job : FreezeJob) (old : BoardState) (has_entries : Bool) (top : ℕ × Root) (found : Found) (m : Map) (pool' : Blocks) (root' : Root) (next' : Next) (job' : FreezeJob) (new : BoardState) : Type 0 where
   pub page : ℕ
   pub first : ℕ
@@ -104,12 +109,13 @@ pub record FreezeInstalled (pool : Blocks) (root : Held) (next : Next) (job : Fr
   pub done : job' ≡ Idle
   pub same_pool : pool' ≡ pool
   pub pool_fits : PoolOnFlash pool' new.pages
-  pub lowers : Lowers (freeze_left job next) (unready pool.states) 0 (unready pool'.states)
+  pub lowers : Lowers (freeze_left job next) (unready pool.states) 1 (unready pool'.states)
   pub first_erased : IsErasedBlock root.shape new.pages first
   pub second_erased : IsErasedBlock root.shape new.pages second
   pub root_is : root' ≡ frozen_root top.1 found first second
   pub under : IsUnder root.shape new.pages [] (page, root') (frozen found) m
   pub installs : InstallerOnFlash root.shape next' (page, root') new.pages
+  pub half : IsHalf root.shape next' new.pages m
   pub former : AreOwned pool (two_of root.root.newest)
   pub apart : IsApart root.shape (given_back pool (if has_entries then [] else slice_index (two_of root.root.newest) 0 ∷ slice_index (two_of root.root.newest) 1 ∷ [])) root' (frozen found)
   pub number : root_number root.shape new.pages ≡ root_number root.shape old.pages + 1

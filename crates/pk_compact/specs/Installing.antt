@@ -1,5 +1,5 @@
--- The install of a root that may follow the newest one, in two steps: the erase before it, where one is next, and its program.
-use Rattle.std.specs.Prelude.{◌≡◌, ℕ, ◌+◌, [], false}
+-- The install of a root that may follow the newest one, in three steps: the erase before it, where one is next, and its two programs.
+use Rattle.std.specs.Prelude.{◌≡◌, ℕ, ◌+◌, [], true, false}
 use Rattle.pk_base.specs.Shape.{Shape}
 use Rattle.pk_base.specs.Page.{Flash, SameBehind}
 use Rattle.pk_base.specs.Map.{Map}
@@ -10,7 +10,8 @@ use Rattle.pk_model.specs.Growth.{Reaches, Goes}
 use Rattle.pk_model.specs.Crashes.{CrashFinds, background}
 use Rattle.pk_model.specs.Wear.{root_number}
 use Rattle.pk_root.specs.declared.next.Next.{Next}
-use Rattle.pk_root.specs.Installing.{InstallerOnFlash, erases_next}
+use Rattle.pk_root.specs.declared.next.Next.TheVariants.{Again}
+use Rattle.pk_root.specs.Installing.{InstallerOnFlash, programs_next, repeats_next, before_pair}
 use Rattle.pk_steps.specs.Under.{IsUnder}
 use Rattle.pk_steps.specs.Next.{IsNext}
 
@@ -21,10 +22,10 @@ pub record CanPrepare (shape : Shape) (next : Next) (flash : Flash) (top : ℕ �
   pub installs : InstallerOnFlash shape next top flash
   pub under : IsUnder shape flash [] top found m
 
--- The newest root is the former, and the program of the next one is next; the map is the same, wherever the erase is cut.
+-- The newest root is the former, and the first program of the next one is next; the map is the same, wherever the erase is cut.
 pub record IsPrepared (shape : Shape) (old : BoardState) (top : ℕ × Root) (found : Found) (m : Map) (next' : Next) (new : BoardState) : Type 0 where
   pub installs : InstallerOnFlash shape next' top new.pages
-  pub programs_next : erases_next next' ≡ false
+  pub programs : programs_next next' ≡ true
   pub under : IsUnder shape new.pages [] top found m
   pub behind : SameBehind shape old.pages new.pages
   pub cuts : Reaches shape old new (CrashFinds shape background old.pages m)
@@ -40,7 +41,15 @@ PrepareBreaks shape next old new =
     (top : ℕ × Root) (found : Found) (m : Map) → CanPrepare shape next old.pages top found m
     → Goes shape old new (CrashFinds shape background old.pages m)
 
--- ---- the program
+-- ---- the first program
+
+-- The pair of the newest root is half made: its second program is next. Before its first program the map stood under a former root.
+pub record IsHalf (shape : Shape) (next : Next) (flash : Flash) (m : Map) : Type 0 where
+  pub page : ℕ
+  pub again : next ≡ Again page
+  pub former : ℕ × Root
+  pub former_found : Found
+  pub was : IsUnder shape (before_pair flash page) [] former former_found m
 
 -- the root may follow the newest one of the flash, and what the installer does next can be done
 pub record CanInstall (shape : Shape) (root : Root) (next : Next) (flash : Flash) (top : ℕ × Root) (found then_found : Found) (m : Map) : Type 0 where
@@ -48,11 +57,12 @@ pub record CanInstall (shape : Shape) (root : Root) (next : Next) (flash : Flash
   pub under : IsUnder shape flash [] top found m
   pub follows : IsNext shape flash [] top found root then_found
 
--- The root is the newest one, and the same map stands under it, wherever the program is cut.
+-- The root is the newest one, and the same map stands under it, wherever the program is cut. Its second program is next.
 pub record IsInstalled (shape : Shape) (root : Root) (then_found : Found) (m : Map) (old : BoardState) (next' : Next) (new : BoardState) : Type 0 where
   pub page : ℕ
   pub under : IsUnder shape new.pages [] (page, root) then_found m
   pub installs : InstallerOnFlash shape next' (page, root) new.pages
+  pub half : IsHalf shape next' new.pages m
   pub number : root_number shape new.pages ≡ root_number shape old.pages + 1
   pub behind : SameBehind shape old.pages new.pages
   pub cuts : Reaches shape old new (CrashFinds shape background old.pages m)
@@ -66,4 +76,32 @@ InstallsRoot shape root next old next' new =
 abbrev pub InstallBreaks : Shape → Root → Next → BoardState → BoardState → Type 0
 InstallBreaks shape root next old new =
     (top : ℕ × Root) (found then_found : Found) (m : Map) → CanInstall shape root next old.pages top found then_found m
+    → Goes shape old new (CrashFinds shape background old.pages m)
+
+-- ---- the second program
+
+-- The root is the newest one of the flash, with its pair half made, and the map stands under it, as it stood before its first program.
+pub record CanRepeat (shape : Shape) (root : Root) (next : Next) (flash : Flash) (top : ℕ × Root) (found : Found) (m : Map) : Type 0 where
+  pub installs : InstallerOnFlash shape next top flash
+  pub top_is : top.1 ≡ root
+  pub under : IsUnder shape flash [] top found m
+  pub half : IsHalf shape next flash m
+
+-- The root is the newest one still, with the same map, and its pair is whole. The map is the same, wherever the program is cut.
+pub record IsRepeated (shape : Shape) (old : BoardState) (top : ℕ × Root) (found : Found) (m : Map) (next' : Next) (new : BoardState) : Type 0 where
+  pub under : IsUnder shape new.pages [] top found m
+  pub installs : InstallerOnFlash shape next' top new.pages
+  pub whole : repeats_next next' ≡ false
+  pub number : root_number shape new.pages ≡ root_number shape old.pages
+  pub behind : SameBehind shape old.pages new.pages
+  pub cuts : Reaches shape old new (CrashFinds shape background old.pages m)
+
+abbrev pub RepeatsRoot : Shape → Root → Next → BoardState → Next → BoardState → Type 0
+RepeatsRoot shape root next old next' new =
+    (top : ℕ × Root) (found : Found) (m : Map) → CanRepeat shape root next old.pages top found m → IsRepeated shape old top found m next' new
+
+-- the same of a program that failed
+abbrev pub RepeatBreaks : Shape → Root → Next → BoardState → BoardState → Type 0
+RepeatBreaks shape root next old new =
+    (top : ℕ × Root) (found : Found) (m : Map) → CanRepeat shape root next old.pages top found m
     → Goes shape old new (CrashFinds shape background old.pages m)

@@ -15,6 +15,7 @@ use Rattle.pk_root.specs.declared.next.Next.{Next}
 use Rattle.pk_root.specs.Installing.{InstallerOnFlash}
 use Rattle.pk_steps.specs.Under.{IsUnder}
 use Rattle.pk_steps.specs.Merging.{IsMerged, merged_root, merged_found}
+use Rattle.pk_compact.specs.Installing.{IsHalf}
 
 -- the root without the source of a merge into this level: the older epoch, or the run above
 abbrev pub without_source : Root → ℕ → Root
@@ -30,12 +31,14 @@ pub record CanMerge (root : Held) (next : Next) (flash : Flash) (top : ℕ × Ro
   pub few : count ≤ room root.shape level
   pub number : root.root.number < last_number
 
--- The root of the merge is the newest one: its run has the output, and the source is empty. The map is the same, wherever the program is cut.
+-- The root of the merge is the newest one, with its pair half made: its run has the output, and the source is empty. The map is the same, wherever
+-- the program is cut.
 pub record HasMerged (shape : Shape) (old : BoardState) (top : ℕ × Root) (found : Found) (m : Map) (level count : ℕ) (taken : List ℕ) (root' : Root) (next' : Next) (new : BoardState) : Type 0 where
   pub page : ℕ
   pub root_is : root' ≡ merged_root top.1 level count taken
   pub under : IsUnder shape new.pages [] (page, root') (merged_found level found) m
   pub installs : InstallerOnFlash shape next' (page, root') new.pages
+  pub half : IsHalf shape next' new.pages m
   pub number : root_number shape new.pages ≡ root_number shape old.pages + 1
   pub behind : SameBehind shape old.pages new.pages
   pub cuts : Reaches shape old new (CrashFinds shape background old.pages m)

@@ -1,5 +1,5 @@
 -- The steps of a freeze, and of an install.
-use Rattle.std.specs.Prelude.{◌≡◌, ◌⊎◌, ℕ, ◌+◌, List, [], Bool, if◌then◌else◌, Result}
+use Rattle.std.specs.Prelude.{◌≡◌, ◌⊎◌, ℕ, ◌+◌, List, [], Bool, if◌then◌else◌, Result, OnOk}
 use Rattle.pk_base.specs.Shape.{Shape}
 use Rattle.pk_nand.specs.declared.types.Fault.{Fault}
 use Rattle.pk_nand.specs.BoardState.{BoardState}
@@ -9,11 +9,11 @@ use Rattle.pk_rootfmt.specs.Root.{Root}
 use Rattle.pk_model.specs.Growth.{Grows}
 use Rattle.pk_model.specs.Steps.{Step}
 
--- A step by at most one call of the board, whether it ended or the call failed: the tree of lists has grown.
+-- A step by at most one call of the board, whether it ended or the call failed. Where it ended, the tree of lists has grown.
 pub record StepByCall {T : Type 0} (Ended : T → Type 0) (Broken : Type 0) (shape : Shape) (most : ℕ) (old new : BoardState) (result : Result T Fault) : Type 0 where
   pub step : Step Ended Broken shape most old new result
   pub calls : AtMostOneCall old new
-  pub grows : Grows shape old.pages new.pages
+  pub grows : OnOk result (Grows shape old.pages new.pages)
 
 -- ---- roots
 

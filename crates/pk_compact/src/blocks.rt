@@ -1,11 +1,12 @@
-//! The two blocks of an epoch, taken from the pool and given back.
+//! The two blocks of an epoch, taken from the pool, and leaving it.
 ghost use Rattle.std.specs.Prelude.{◌≡◌, ◌≤◌, ◌<◌, ◌≢◌, ◌+◌, ◌*◌, ℕ, ◌∷◌, [], List, length, slice_get, slice_index, Some, if◌then◌else◌, IfOk, IfErr, OnOk, OnErr};
 ghost use Rattle.pk_base.specs.Page.{Flash};
+ghost use Rattle.pk_plan.specs.declared.owner.Owner.{Owner as OwnerSpec};
 ghost use Rattle.pk_plan.specs.declared.owner.Owner.TheVariants.{Journal};
 ghost use Rattle.pk_nand.specs.Calls.{IsReady, IsErasedBlock};
 ghost use Rattle.pk_nand.specs.declared.types.Fault.TheVariants.{Stopped};
 ghost use Rattle.pk_pool.specs.declared.state.BlockState.TheVariants.{Owned};
-ghost use Rattle.pk_pool.specs.Blocks.{used_by, with_state, given_back, IsSpare, PoolOnFlash};
+ghost use Rattle.pk_pool.specs.Blocks.{used_by, with_state, left_by, IsSpare, PoolOnFlash};
 ghost use Rattle.pk_pool.specs.Taking.{FailsToErase};
 ghost use Rattle.pk_compact.specs.Steps.{AtMostErases};
 
@@ -45,18 +46,19 @@ pub(crate) fn take_block<B: Nand, A: Allocator>(
     }
 }
 
-/// Gives the blocks of an epoch without entries back, which is named no more; another one stays.
-pub fn give_back<A: Allocator>(pool: &mut Pool<A>, blocks: [u16; 2], has_entries: bool)
+/// Retires an epoch, which is named no more: where it has no entries, its blocks leave the journal.
+pub fn retire_epoch<A: Allocator>(pool: &mut Pool<A>, blocks: [u16; 2], has_entries: bool)
     requires first { slice_get pool.old.states (slice_index blocks 0) ≡ Some (Owned Journal) }
     requires second { slice_get pool.old.states (slice_index blocks 1) ≡ Some (Owned Journal) }
     requires different { slice_index blocks 1 ≢ slice_index blocks 0 }
-    ensures given { pool.new ≡ given_back pool.old
+    ensures left { pool.new ≡ left_by Journal pool.old
         (if has_entries then [] else slice_index blocks 0 ∷ slice_index blocks 1 ∷ []) }
+    ensures counted { (o : OwnerSpec) → used_by o pool.new.states ≡ used_by o pool.old.states }
     ensures fits { (flash : Flash) → PoolOnFlash pool.old flash → PoolOnFlash pool.new flash }
 {
     if has_entries {
         return;
     }
-    pool.give(blocks[0] as u32);
-    pool.give(blocks[1] as u32);
+    pool.leave(blocks[0] as u32);
+    pool.leave(blocks[1] as u32);
 }

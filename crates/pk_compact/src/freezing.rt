@@ -28,10 +28,10 @@ pub enum FreezeJob {
 }
 
 /// One step of a freeze, by at most one call of the board: it takes the first block of an empty epoch, then the second one, and
-/// then installs the root that names them, behind an erase where one is next. True exactly where this call programmed that
-/// root; the freeze is over then, and the blocks of a former epoch without entries are to be given back. Until then root and
-/// lists are as they were, and commands may be served between the steps. `Stopped` where the call fails; pool, root, installer
-/// and freeze are not to be used any more then. `buf` has the bytes of a page, which are lost.
+/// then installs the root that names them, after an erase if one is next. True exactly if this call made the root's first program:
+/// the root is the newest one then, its second program is next, and the blocks of a former epoch without entries are to be given
+/// back after that one. Until then root and lists are as they were, and commands may be served between the steps. `Stopped` if the
+/// call fails; pool, root, installer and freeze are not to be used any more then. `buf` has the bytes of a page, which are lost.
 pub fn freeze_step<B: Nand, A: Allocator>(
     board: &mut B,
     pool: &mut Pool<A>,

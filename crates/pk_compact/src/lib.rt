@@ -10,8 +10,8 @@ mod merge;
 mod next;
 mod roots;
 
-pub use blocks::give_back;
+pub use blocks::retire_epoch;
 pub use freezing::{FreezeJob, freeze_step};
 pub use laws::{merged, unread};
 pub use merge::install_merge;
-pub use roots::{install_root, prepare_root};
+pub use roots::{install_root, prepare_root, repeat_root};

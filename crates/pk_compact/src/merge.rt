@@ -1,12 +1,12 @@
 //! The install of a merge.
-ghost use Rattle.std.specs.Prelude.{◌≡◌, ◌≤◌, ◌<◌, ◌+◌, ℕ, length, false};
+ghost use Rattle.std.specs.Prelude.{◌≡◌, ◌≤◌, ◌<◌, ◌+◌, ℕ, length, true};
 ghost use Rattle.std.specs.List.{concat};
 ghost use Rattle.pk_base.specs.Map.{Map};
 ghost use Rattle.pk_base.specs.Shape.{meta_blocks};
 ghost use Rattle.pk_nand.specs.Calls.{IsReady};
 ghost use Rattle.pk_rootfmt.specs.Root.{Root as RootValue, last_number};
 ghost use Rattle.pk_model.specs.Found.{Found};
-ghost use Rattle.pk_root.specs.Installing.{erases_next};
+ghost use Rattle.pk_root.specs.Installing.{programs_next};
 ghost use Rattle.pk_steps.specs.Merging.{merged_root};
 ghost use Rattle.pk_compact.specs.Merging.{CanMerge, MergesRoot, MergeBreaks, without_source};
 ghost use Rattle.pk_compact.specs.Steps.{StepByCall};
@@ -50,9 +50,9 @@ fn follow<A: Allocator>(root: &mut Root<A>, level: u8, count: u32, taken: &[u16]
     empty_source(root, level);
 }
 
-/// Installs the root behind a merge into this level, whose output, of so many entries, stands in these blocks: its program is
-/// the one call of the board, and no erase comes before it. Wherever it is cut, the map is the same. `Stopped` where it fails;
-/// root and installer are not to be used any more then. `buf` has the bytes of a page, which are lost.
+/// Installs the root after a merge into this level, whose output, of `count` entries, stands in these blocks: its first program is
+/// the one call of the board, and its second one is next. Wherever it is cut, the map is the same. `Stopped` where it fails; root
+/// and installer are not to be used any more then. `buf` has the bytes of a page, which are lost.
 pub fn install_merge<B: Nand, A: Allocator>(
     board: &mut B,
     root: &mut Root<A>,
@@ -62,9 +62,9 @@ pub fn install_merge<B: Nand, A: Allocator>(
     taken: &[u16],
     buf: &mut [u8],
 ) -> Result<(), Fault>
-    // The board, a root that may follow, whose program is next, and a page's bytes.
+    // The board, a root that may follow, whose first program is next, and a page's bytes.
     requires ready { IsReady (B.state board.old) root.old.shape }
-    requires programs { erases_next installer.old ≡ false }
+    requires programs { programs_next installer.old ≡ true }
     requires can { (top : ℕ × RootValue) × (found : Found) × (m : Map)
         × CanMerge root.old installer.old (B.state board.old).pages top found m
         level count taken.now }

@@ -1,12 +1,15 @@
-//! The install of the next root in two steps, by one call of the board each: the erase before it, and its program.
-ghost use Rattle.std.specs.Prelude.{◌≡◌, ℕ, length, true, false};
+//! The install of the next root in three steps, by one call of the board each: the erase before it, where one is next, and its two
+//! programs.
+ghost use Rattle.std.specs.Prelude.{◌≡◌, ◌≤◌, ℕ, length, true, false};
 ghost use Rattle.pk_base.specs.Map.{Map};
 ghost use Rattle.pk_base.specs.Page.{SameBehind};
 ghost use Rattle.pk_nand.specs.Calls.{IsReady};
+ghost use Rattle.pk_nand.specs.Effects.{OneProgram};
 ghost use Rattle.pk_rootfmt.specs.Root.{Root as RootValue};
 ghost use Rattle.pk_model.specs.Found.{Found};
-ghost use Rattle.pk_root.specs.Installing.{erases_next};
-ghost use Rattle.pk_compact.specs.Installing.{CanPrepare, Prepares, PrepareBreaks, CanInstall, InstallsRoot, InstallBreaks};
+ghost use Rattle.pk_model.specs.Wear.{roots};
+ghost use Rattle.pk_root.specs.Installing.{erases_next, programs_next, repeats_next};
+ghost use Rattle.pk_compact.specs.Installing.{CanPrepare, Prepares, PrepareBreaks, CanInstall, InstallsRoot, InstallBreaks, CanRepeat, RepeatsRoot, RepeatBreaks};
 ghost use Rattle.pk_compact.specs.Steps.{StepByCall};
 
 use pk_base::Shape;
@@ -36,17 +39,18 @@ pub fn prepare_root<B: Nand>(
     installer.erase(board, shape)
 }
 
-/// Programs a root that may follow the newest one, where no erase is next: the one call of the board. Wherever it is cut, the
-/// map is the same. `Stopped` where it fails; the installer is as before then. `buf` has the bytes of a page, which are lost.
+/// Programs a root that may follow the newest one in the first page of the pair that is next: the one call of the board. The root is
+/// the newest one then, and its second program is next. Wherever it is cut, the map is the same. `Stopped` where it fails; the
+/// installer is as before then. `buf` has the bytes of a page, which are lost.
 pub fn install_root<B: Nand, A: Allocator>(
     board: &mut B,
     root: &Root<A>,
     installer: &mut Installer,
     buf: &mut [u8],
 ) -> Result<(), Fault>
-    // The board, a root that may follow, whose program is next, and a page's bytes.
+    // The board, a root that may follow, whose first program is next, and a page's bytes.
     requires ready { IsReady (B.state board.old) root.now.shape }
-    requires programs { erases_next installer.old ≡ false }
+    requires programs { programs_next installer.old ≡ true }
     requires can { (top : ℕ × RootValue) × (found : Found) × (then_found : Found) × (m : Map)
         × CanInstall root.now.shape root.now.root installer.old (B.state board.old).pages
         top found then_found m }
@@ -64,8 +68,38 @@ pub fn install_root<B: Nand, A: Allocator>(
     ensures buffer { length buf.new ≡ length buf.old }
 {
     root.shape().known();
-    match installer.step(board, root, buf) {
-        Ok(_) => Ok(()),
-        Err(fault) => Err(fault),
-    }
+    installer.program(board, root, buf)
+}
+
+/// Programs the newest root once more, in the second page of its pair: the one call of the board. Wherever it is cut, the map is the
+/// same. `Stopped` where it fails; the installer is as before then. `buf` has the bytes of a page, which are lost.
+pub fn repeat_root<B: Nand, A: Allocator>(
+    board: &mut B,
+    root: &Root<A>,
+    installer: &mut Installer,
+    buf: &mut [u8],
+) -> Result<(), Fault>
+    // The board, the newest root, whose second program is next, and a page's bytes.
+    requires ready { IsReady (B.state board.old) root.now.shape }
+    requires repeats { repeats_next installer.old ≡ true }
+    requires can { (top : ℕ × RootValue) × (found : Found) × (m : Map)
+        × CanRepeat root.now.shape root.now.root installer.old (B.state board.old).pages
+        top found m }
+    requires room { length buf.old ≡ root.now.shape.page_bytes }
+
+    // Its pair is whole, or the call failed.
+    ensures step { StepByCall
+        (λ u. RepeatsRoot root.now.shape root.now.root installer.old (B.state board.old)
+        installer.new (B.state board.new))
+        (RepeatBreaks root.now.shape root.now.root installer.old (B.state board.old)
+        (B.state board.new))
+        root.now.shape 1 (B.state board.old) (B.state board.new) result }
+    ensures program { OneProgram (B.state board.old) (B.state board.new) }
+    ensures number { roots (B.state board.new) ≤ roots (B.state board.old) }
+
+    // What stays in any case.
+    ensures buffer { length buf.new ≡ length buf.old }
+{
+    root.shape().known();
+    installer.repeat(board, root, buf)
 }

@@ -6,6 +6,7 @@ use Rattle.pk_base.specs.Fields.{u32}
 use Rattle.pk_base.specs.Shape.{Shape, limit, pinned}
 use Rattle.pk_base.specs.Page.{Flash, page_at}
 use Rattle.pk_base.specs.Map.{Map}
+use Rattle.pk_nand.specs.BoardState.{BoardState}
 use Rattle.pk_nvme.specs.Seen.{command_of}
 use Rattle.pk_rootfmt.specs.Root.{Root}
 use Rattle.pk_rootfmt.specs.Newest.{newest_root}
@@ -26,7 +27,7 @@ use Rattle.pk_call.specs.Drive.{CountsMap}
 use Rattle.pk_call.specs.Exec.{report_of}
 use Rattle.pk_call.specs.Seen.{reply_of}
 use Rattle.pk_call.specs.declared.types.Outcome.{Outcome}
-use Rattle.pk_parts.specs.Parts.{Parts, sight_of, counts_of, outputs_of, frames_of}
+use Rattle.pk_parts.specs.Parts.{Parts, sight_of, counts_of, outputs_of, frames_of, settled_parts}
 use Rattle.pk_parts.specs.Agreeing.{DriveOnFlashWith, DriveOnFlash}
 use Rattle.pk_core.specs.Done.{Does}
 use Rattle.pk_core.specs.Quiet.{DoneWithout}
@@ -42,7 +43,7 @@ numbers_more xs into new i d less front before =
 
 -- ---- the map
 
-pub counts_map : (d : Parts) (shape : Shape) (flash : Flash) (top : ℕ × Root) (found : Found) (without all : Map) → DriveOnFlashWith d shape flash top found without all → CountsMap shape (frames_of d) all (counts_of d)
+counts_map : (d : Parts) (shape : Shape) (flash : Flash) (top : ℕ × Root) (found : Found) (without all : Map) → DriveOnFlashWith d shape flash top found without all → CountsMap shape (frames_of d) all (counts_of d)
 counts_map d shape flash top found without all a =
     let c = counts shape flash d.log.pending top found all a.placed.is_shape a.is_flash a.pending in
     record {
@@ -53,12 +54,20 @@ counts_map d shape flash top found without all a =
       frames_is = refl;
     }
 
+-- they are the same as if the blocks that leave were free
+counts_settled : (d : Parts) (shape : Shape) (frames : ℕ) (m : Map) → CountsMap shape frames m (counts_of (settled_parts d)) → CountsMap shape frames m (counts_of d)
+counts_settled d shape frames m c = record { live_is = c.live_is; limit_is = c.limit_is; keys_is = c.keys_is; pinned_is = c.pinned_is; frames_is = c.frames_is }
+
+-- on the drive's own shape
+pub counts_own : (d : Parts) (board : BoardState) (a : DriveOnFlash d board.shape board.pages) → CountsMap d.log.shape (frames_of d) a.all (counts_of d)
+counts_own d board a = counts_settled d d.log.shape (frames_of d) a.all (counts_map (settled_parts d) d.log.shape board.pages a.top a.found a.without a.all (own d board a))
+
 told_same : (a b : Shape) → ◌≡◌ {A = Option Shape} (Some a) (Some b) → a ≡ b
 told_same a b e = cc
 
 pub agrees_counts : (d : Parts) (shape : Shape) (flash : Flash) (m : Map) → DriveOnFlash d (Some shape) flash → reading shape flash d.log.pending ≡ Ok m → CountsMap shape (frames_of d) m (counts_of d)
 agrees_counts d shape flash m a read =
-    let here = counts_map d a.shape flash a.top a.found a.without a.all a.with in
+    let here = counts_settled d a.shape (frames_of d) a.all (counts_map (settled_parts d) a.shape flash a.top a.found a.without a.all a.with) in
     let same : a.shape ≡ shape = sym (told_same shape a.shape a.told_is) in
     let held = under_reads a.shape flash d.log.pending a.top a.found a.all a.with.pending in
     let T : Shape → Type 0 = λ s. reading s flash d.log.pending ≡ Ok a.all in
@@ -98,7 +107,7 @@ pub report_done : (d : Parts) (o : Outcome) (into : List ℕ) → o ≡ record {
 report_done d o into told bytes board r v a few op passed =
     let c = command_of r v in
     let passes : early d.log.shape c ≡ None = same_early d.log.shape r v ∙ passed in
-    let counted = counts_map d d.log.shape board.pages a.top a.found a.without a.all (own d board a) in
+    let counted = counts_own d board a in
     let all : AnswersAll board (sight_of d) c (success 0 (take 64 into)) 0 =
     for_its_map d board a (λ s f m. Step s f m c (success 0 (take 64 into)) m × (op_of r.opcode ≡ Some Retrieve → 0 ≤ most_reads s f m c))
     (report_step d.log.shape (frames_of d) a.all c passes (counts_of d) (take 64 into) op counted bytes, λ e. absurd (other_than Report r.opcode (ap op_of op) report_other e)) in

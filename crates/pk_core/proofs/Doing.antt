@@ -26,7 +26,7 @@ use Rattle.pk_model.specs.Growth.{Reaches}
 use Rattle.pk_call.specs.Seen.{reply_of}
 use Rattle.pk_model.specs.Wear.{roots}
 use Rattle.pk_call.specs.declared.types.Outcome.{Outcome}
-use Rattle.pk_parts.specs.Parts.{Parts, sight_of}
+use Rattle.pk_parts.specs.Parts.{Parts, sight_of, settled_parts}
 use Rattle.pk_parts.specs.Agreeing.{DriveOnFlash}
 use Rattle.pk_core.specs.Done.{Does}
 use Rattle.pk_index.specs.Listed.{keys_there, ListsInto}
@@ -64,7 +64,7 @@ module _ (d : Parts) (old new : BoardState) (r : Request) (o : Outcome) (into : 
   is_early = subst (λ (s : Shape). early s c ≡ None) a.with.shape_is passed
 
   bytes_are : list_bytes (fitting (min r.size 65536 - 4) (keys_there (key c) (d.log.active.entries ∷ d.log.frozen.entries ∷ a.found.runs))) ≡ list_bytes (fitting (min c.size 65536 - 4) (keys_from (key c) a.all))
-  bytes_are = ap (λ ks. list_bytes (fitting (min r.size 65536 - 4) ks)) (keys_listed d a.shape old.pages a.top a.found a.without a.all (key c) a.with)
+  bytes_are = ap (λ ks. list_bytes (fitting (min r.size 65536 - 4) ks)) (keys_listed (settled_parts d) a.shape old.pages a.top a.found a.without a.all (key c) a.with)
 
   stepped : (frames : ℕ) → Step a.shape frames a.all c (reply_of o into) a.all
   stepped frames =

@@ -1,14 +1,14 @@
--- A flash with the first root in page 0 and all other pages Erased holds the empty map.
-use Rattle.std.proofs.Common.{◌≡◌, ◌⊎◌, inr, ℕ, zero, suc, ◌+◌, ◌*◌, ◌/◌, ◌%◌, ◌<◌, ◌≤◌, refl, sym, ap, subst, ◌∙◌, arith, true, List, [], ◌∷◌, length, nat_le, min, slice_index, slice_set, Some, None, Ok, le→leb, zero-mul, mul-le-mul_right}
+-- A flash with the first root in pages 0 and 1 and all other pages Erased holds the empty map.
+use Rattle.std.proofs.Common.{◌≡◌, ◌⊎◌, inr, ℕ, zero, suc, ◌+◌, ◌*◌, ◌/◌, ◌%◌, ◌<◌, ◌≤◌, refl, sym, ap, subst, ◌∙◌, arith, true, List, [], ◌∷◌, length, length-set, nat_le, min, slice_index, slice_set, Some, None, Ok, le→leb, zero-mul, mul-le-mul_right}
 use Rattle.std.proofs.Math.Nat.{zero-div, zero-mod}
 use Rattle.std.specs.FinMap.{empty}
 use Rattle.pk_base.specs.Shape.{Shape, IsShape, page_count, page_entries, run_pages, buffer}
-use Rattle.pk_base.specs.Page.{Page, Flash, page_at, erased, whole, page_in}
-use Rattle.pk_base.proofs.ShapeLemmas.{block_pages_positive}
+use Rattle.pk_base.specs.Page.{Page, Flash, page_at, erased, whole, page_in, page_of_pair, commit_at}
 use Rattle.pk_jrnfmt.specs.Epoch.{epoch}
 use Rattle.pk_meta.specs.Run.{run}
 use Rattle.pk_nand.specs.BoardState.{BoardState}
-use Rattle.pk_nand.specs.Calls.{IsReady, after_program}
+use Rattle.pk_nand.specs.Calls.{IsReady, ProgramsFailed, after_programs}
+use Rattle.pk_nand.specs.Pairs.{programs_of_pair}
 use Rattle.pk_nand.proofs.Leaving.{page_at-slice_set, page_at-slice_set_same}
 use Rattle.pk_rootfmt.specs.Root.{Root, root_bytes, is_root}
 use Rattle.pk_rootfmt.specs.Held.{first}
@@ -33,46 +33,60 @@ no_entries shape at level =
     let none : run_pages shape 0 ≡ 0 = (λ i. zero-div (page_entries shape) i + min 1 (zero-mod (page_entries shape) i)) in
     rw none refl
 
--- a page that is not the first is numbered from 1 on
-not_first : (q : ℕ) → 0 < q → q ≡ 0 → ⊥
-not_first q some e = omega (arith, some, e)
+-- a pair of Erased pages has no page that is Whole
+none_whole : (first : ℕ) (x y : Page) → x ≡ erased → y ≡ erased → IsWholePage (page_of_pair first x y).1 → ⊥
+none_whole first x y is_x is_y there = subst IsWholePage (ap (λ (p : Page). (page_of_pair first p y).1) is_x ∙ is_y) there
 
 module _ (shape : Shape) (flash : Flash) (is_shape : IsShape shape) (size : length flash ≡ page_count shape)
     (are_erased : (q : ℕ) → q < page_count shape → page_at flash q ≡ erased) (grammar : is_root shape first ≡ true) where
+  abbrev half_made : Flash
+  half_made = slice_set flash 0 (whole (root_bytes shape first))
+
   abbrev made : Flash
-  made = slice_set flash 0 (whole (root_bytes shape first))
+  made = slice_set half_made 1 (whole (root_bytes shape first))
 
-  positive : 0 < shape.block_pages
-  positive = block_pages_positive shape is_shape
+  some_pages : 8 ≤ shape.block_pages
+  some_pages = is_shape.block_least
 
-  -- the blocks of roots are in the flash, and a page more
-  roots_exist : 2 * shape.block_pages < page_count shape
+  -- the blocks of roots are in the flash, and a block more
+  roots_exist : 3 * shape.block_pages ≤ page_count shape
   roots_exist =
       let blocks : 3 ≤ shape.blocks = let fit = is_shape.data_fits in omega (arith, fit) in
       let thrice = mul-le-mul_right shape.block_pages blocks in
-      let some = positive in
-      omega (arith, thrice, some)
+      omega (arith, thrice)
 
-  root_there : root_of shape (page_at made 0) ≡ Some first
-  root_there =
-      let inside : 0 < length flash = let some = roots_exist in omega (arith, size, some) in
-      ap (root_of shape) (page_at-slice_set_same flash 0 (whole (root_bytes shape first)) inside) ∙ reads_back shape first is_shape grammar
+  spelled_back : root_of shape (whole (root_bytes shape first)) ≡ Some first
+  spelled_back = reads_back shape first is_shape grammar
 
-  others_erased : (q : ℕ) → (q ≡ 0 → ⊥) → q < page_count shape → page_at made q ≡ erased
-  others_erased q other inside = page_at-slice_set flash 0 q (whole (root_bytes shape first)) other ∙ are_erased q inside
+  first_there : root_of shape (page_at made 0) ≡ Some first
+  first_there =
+      let inside : 0 < length flash = let some = some_pages in let exists = roots_exist in omega (arith, size, some, exists) in
+      ap (root_of shape) (page_at-slice_set half_made 1 0 (whole (root_bytes shape first)) (λ e. cc) ∙ page_at-slice_set_same flash 0 (whole (root_bytes shape first)) inside) ∙ spelled_back
+
+  second_there : root_of shape (page_at made 1) ≡ Some first
+  second_there =
+      let same = length-set flash 0 (whole (root_bytes shape first)) in
+      let inside : 1 < length half_made = let some = some_pages in let exists = roots_exist in omega (arith, size, some, exists, same) in
+      ap (root_of shape) (page_at-slice_set_same half_made 1 (whole (root_bytes shape first)) inside) ∙ spelled_back
+
+  others_erased : (q : ℕ) → 2 ≤ q → q < page_count shape → page_at made q ≡ erased
+  others_erased q other inside =
+      page_at-slice_set half_made 1 q (whole (root_bytes shape first)) (λ e. omega (arith, other, e))
+      ∙ (page_at-slice_set flash 0 q (whole (root_bytes shape first)) (λ e. omega (arith, other, e)) ∙ are_erased q inside)
 
   only_first : (q : ℕ) (s : Root) → 0 ≤ q → q < 0 + 2 * shape.block_pages → root_of shape (page_at made q) ≡ Some s → (s.number < first.number) ⊎ ((s.number ≡ first.number) × (0 ≤ q))
-  only_first zero s low high is = inr (ap (λ (r : Root). r.number) (inside s first (sym is ∙ root_there)), omega arith)
-  only_first (suc q) s low high is =
+  only_first zero s low high is = inr (ap (λ (r : Root). r.number) (inside s first (sym is ∙ first_there)), omega arith)
+  only_first (suc zero) s low high is = inr (ap (λ (r : Root). r.number) (inside s first (sym is ∙ second_there)), omega arith)
+  only_first (suc (suc q)) s low high is =
       let exists = roots_exist in
-      let clash : None ≡ Some s = ap (root_of shape) (sym (others_erased (suc q) (not_first (suc q) (omega arith)) (omega (arith, high, exists)))) ∙ is in
+      let clash : None ≡ Some s = ap (root_of shape) (sym (others_erased (suc (suc q)) (omega arith) (omega (arith, high, exists)))) ∙ is in
       cc
 
   is_top : newest_root shape (page_at made) ≡ Some (0, first)
   is_top = newest_complete shape (page_at made) (0, first) (record {
     low = omega arith;
-    high = let some = positive in omega (arith, some);
-    there = root_there;
+    high = let some = some_pages in omega (arith, some);
+    there = first_there;
     others = only_first;
   })
 
@@ -84,20 +98,23 @@ module _ (shape : Shape) (flash : Flash) (is_shape : IsShape shape) (size : leng
       let rest : 0 % shape.block_pages ≡ 0 = zero-mod shape.block_pages in
       omega (arith, product, rest)
 
-  not_written : IsWholePage (page_at made (page_in shape (2 ∷ 3 ∷ []) 0)) → ⊥
-  not_written whole_there =
-      let some = positive in
+  -- both pages of the first commit are Erased
+  not_written : IsWholePage (commit_at shape (page_at made) (2 ∷ 3 ∷ []) 0).1 → ⊥
+  not_written =
+      let some = some_pages in
       let exists = roots_exist in
-      let is : page_at made (page_in shape (2 ∷ 3 ∷ []) 0) ≡ erased = ap (page_at made) first_page ∙ others_erased (2 * shape.block_pages) (not_first (2 * shape.block_pages) (omega (arith, some))) exists in
-      subst IsWholePage is whole_there
+      let one : page_at made (page_in shape (2 ∷ 3 ∷ []) 0) ≡ erased = ap (page_at made) first_page ∙ others_erased (2 * shape.block_pages) (omega (arith, some)) (omega (arith, some, exists)) in
+      let next : page_in shape (2 ∷ 3 ∷ []) 0 + 1 ≡ 2 * shape.block_pages + 1 = let at = first_page in omega (arith, at) in
+      let other : page_at made (page_in shape (2 ∷ 3 ∷ []) 0 + 1) ≡ erased = ap (page_at made) next ∙ others_erased (2 * shape.block_pages + 1) (omega (arith, some)) (omega (arith, some, exists)) in
+      none_whole (page_in shape (2 ∷ 3 ∷ []) 0) (page_at made (page_in shape (2 ∷ 3 ∷ []) 0)) (page_at made (page_in shape (2 ∷ 3 ∷ []) 0 + 1)) one other
 
   newest_empty : newest_epoch shape (page_at made) first ≡ Ok []
   unfolding epoch
-  newest_empty = ends shape (page_at made) (2 ∷ 3 ∷ []) 1 0 [] (2 * shape.block_pages) not_written
+  newest_empty = ends shape (page_at made) (2 ∷ 3 ∷ []) 1 0 [] (2 * (shape.block_pages / 2)) not_written
 
   older_empty : older_epoch shape (page_at made) first ≡ Ok []
   unfolding epoch
-  older_empty = rw (zero-mul shape.block_pages) refl
+  older_empty = rw (zero-mul (shape.block_pages / 2)) refl
 
   runs_empty : runs_from shape (page_at made) 1 first.counts first.runs ≡ Ok nothing.runs
   unfolding runs_from
@@ -120,12 +137,16 @@ module _ (shape : Shape) (flash : Flash) (is_shape : IsShape shape) (size : leng
   unfolding reading_of
   holds_nothing = let top = is_top in let found = is_found in let map = is_map in rw (top, found, map) refl
 
--- so does the board behind the program of these bytes
-pub program_holds : (board new : BoardState) (shape : Shape) (bytes : List ℕ) → IsShape shape → IsReady board shape → ((q : ℕ) → q < page_count shape → page_at board.pages q ≡ erased)
-    → bytes ≡ root_bytes shape first → is_root shape first ≡ true → new ≡ after_program board 0 bytes → Holds shape new.pages empty
-program_holds board new shape bytes is_shape ready are_erased spelled grammar is =
-    let P : List ℕ → Type 0 = λ x. Holds shape (slice_set board.pages 0 (whole x)) empty in
+-- so does the board after the programs of these bytes
+pub programs_hold : (board new : BoardState) (shape : Shape) (bytes : List ℕ) → IsShape shape → IsReady board shape → ((q : ℕ) → q < page_count shape → page_at board.pages q ≡ erased)
+    → bytes ≡ root_bytes shape first → is_root shape first ≡ true → new ≡ after_programs board (programs_of_pair 0 bytes) → Holds shape new.pages empty
+programs_hold board new shape bytes is_shape ready are_erased spelled grammar is =
+    let P : List ℕ → Type 0 = λ x. Holds shape (slice_set (slice_set board.pages 0 (whole x)) 1 (whole x)) empty in
     subst (λ (s : BoardState). Holds shape s.pages empty) (sym is) (subst P (sym spelled) (holds_nothing shape board.pages is_shape ready.flash.size are_erased grammar))
 
-pub program_of : (board new : BoardState) (bytes written : List ℕ) → bytes ≡ written → new ≡ after_program board 0 bytes → new ≡ after_program board 0 written
-program_of board new bytes written same is = is ∙ ap (after_program board 0) same
+pub programs_of : (board new : BoardState) (bytes written : List ℕ) → bytes ≡ written → new ≡ after_programs board (programs_of_pair 0 bytes) → new ≡ after_programs board (programs_of_pair 0 written)
+programs_of board new bytes written same is = is ∙ ap (λ (x : List ℕ). after_programs board (programs_of_pair 0 x)) same
+
+-- one of the programs failed
+pub programs_failed : (board new : BoardState) (bytes written : List ℕ) → bytes ≡ written → ProgramsFailed board new (programs_of_pair 0 bytes) → ProgramsFailed board new (programs_of_pair 0 written)
+programs_failed board new bytes written same failed = subst (λ (x : List ℕ). ProgramsFailed board new (programs_of_pair 0 x)) same failed

@@ -1,4 +1,6 @@
 pub mod Standing
+pub mod Seen
+pub mod Committing
 pub mod Leased
 pub mod Amounts
 pub mod Quieted
@@ -29,3 +31,4 @@ pub mod Advancing
 pub mod Stored
 pub mod StoreCalls
 pub mod LookedUp
+pub mod Whole

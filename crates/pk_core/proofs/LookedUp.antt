@@ -1,5 +1,5 @@
 -- A command behind the look-up of its key.
-use Rattle.std.proofs.Common.{◌≡◌, ◌≢◌, ℕ, ◌-◌, ◌≤◌, refl, sym, ap, subst, arith, false, List, [], Option, Some, Result}
+use Rattle.std.proofs.Common.{◌≡◌, ◌≢◌, ℕ, ◌-◌, ◌≤◌, refl, sym, ap, subst, arith, false, List, [], Option, Some, Result, Ok, Err}
 use Rattle.std.specs.Prelude.{OnOk}
 use Rattle.pk_base.specs.Entry.{Place}
 use Rattle.pk_base.specs.Key.{Key}
@@ -13,7 +13,7 @@ use Rattle.pk_nand.specs.declared.types.Fault.{Fault}
 use Rattle.pk_nand.specs.BoardState.{BoardState}
 use Rattle.pk_nand.specs.Calls.{last_count}
 use Rattle.pk_call.specs.declared.types.Outcome.{Outcome}
-use Rattle.pk_parts.specs.Parts.{Parts}
+use Rattle.pk_parts.specs.Parts.{Parts, is_half}
 use Rattle.pk_parts.specs.Emptying.{OnRunning}
 use Rattle.pk_core.specs.Done.{Executes}
 use Rattle.pk_parts.specs.Quiet.{ReadsOnly, ReadsFailing, Looks}
@@ -46,6 +46,8 @@ looked_up d e old mid r k p before s named is same looks made =
 module _ (d : Parts) (board : BoardState) (k : Key) (o : Outcome) (refused : o.status ≢ 0) where
   pub stores_none : (count : ℕ) → StoresOver d d board board k count o
   stores_none count = record {
+    half = λ _ none. none;
+    finishes = λ zero. absurd (refused zero);
     opens = λ _. stays_opens d d count (stays_same d d refl);
     noted = λ zero. absurd (refused zero);
     programs = λ zero. absurd (refused zero);
@@ -54,29 +56,47 @@ module _ (d : Parts) (board : BoardState) (k : Key) (o : Outcome) (refused : o.s
 
   pub deletes_none : DeletesAt d d board board k o
   deletes_none = record {
+    half = λ _ none. none;
+    finishes = λ zero. absurd (refused zero);
     moves = λ _. stays_same d d refl;
     programs = λ zero. absurd (refused zero);
     quiet = λ zero. absurd (refused zero);
   }
 
+-- what holds of a drive that was not stopped holds of one that was served
+ok_of : (P : Type 0) (r : Result Unit Fault) → OnRunning P r → OnOk r P
+ok_of P (Ok u) is = is
+ok_of P (Err e) is = tt
+
 -- one that came to this
 module _ (d e f : Parts) (old new : BoardState) (k : Key) (r : Result Unit Fault) (o : Outcome) (reads : ℕ) (told : o ≡ outcome_for r reads) (rest : f ≡ stopped_by e r) where
-  pub stores_came : (len size : ℕ) → len ≡ size → OnRunning (StaysOrOpens d e (charge d.log.shape len)) r → OnOk r (IsNoted e k) → OnOk r (PutsQuietly d k (charge d.log.shape len) old new)
-      → OnOk r (ReadsNone d k (charge d.log.shape len) old new) → StoresOver d f old new k (charge d.log.shape size) o
-  stores_came len size whole opens noted programs quiet =
+  -- no pair is half made
+  half_none : OnRunning (is_half e ≡ false) r → o.stopped ≡ false → is_half f ≡ false
+  half_none none runs = subst (λ (x : Parts). is_half x ≡ false) (sym rest) (came_running (λ x. is_half x ≡ false) r e o reads told none runs)
+
+  made_whole : OnRunning (is_half e ≡ false) r → o.status ≡ 0 → is_half f ≡ false
+  made_whole none zero = subst (λ (x : Parts). is_half x ≡ false) (sym rest) (came_served (λ x. is_half x ≡ false) r e o reads told (ok_of (is_half e ≡ false) r none) zero)
+
+  pub stores_came : (len size : ℕ) → len ≡ size → OnRunning (is_half e ≡ false) r → OnRunning (StaysOrOpens d e (charge d.log.shape len)) r → OnOk r (IsNoted e k)
+      → (is_half d ≡ false → OnOk r (PutsQuietly d k (charge d.log.shape len) old new)) → (is_half d ≡ false → OnOk r (ReadsNone d k (charge d.log.shape len) old new)) → StoresOver d f old new k (charge d.log.shape size) o
+  stores_came len size sized none opens noted programs quiet =
       let count = charge d.log.shape len in
-      subst (λ (n : ℕ). StoresOver d f old new k (charge d.log.shape n) o) whole (record {
+      subst (λ (n : ℕ). StoresOver d f old new k (charge d.log.shape n) o) sized (record {
+        half = λ runs _. half_none none runs;
+        finishes = made_whole none;
         opens = λ runs. subst (λ (x : Parts). StaysOrOpens d x count) (sym rest) (came_running (λ x. StaysOrOpens d x count) r e o reads told opens runs);
         noted = λ zero. subst (λ (x : Parts). IsNoted x k) (sym rest) (came_served (λ x. IsNoted x k) r e o reads told noted zero);
-        programs = λ zero. came_served (λ x. PutsQuietly d k count old new) r e o reads told programs zero;
-        quiet = λ zero. came_served (λ x. ReadsNone d k count old new) r e o reads told quiet zero;
+        programs = λ zero whole. came_served (λ x. PutsQuietly d k count old new) r e o reads told (programs whole) zero;
+        quiet = λ zero whole. came_served (λ x. ReadsNone d k count old new) r e o reads told (quiet whole) zero;
       })
 
-  pub deletes_came : OnRunning (Stays d e) r → OnOk r (TakesQuietly d k old new) → OnOk r (ReadsQuietly d k old new) → DeletesAt d f old new k o
-  deletes_came moves programs quiet = record {
+  pub deletes_came : OnRunning (is_half e ≡ false) r → OnRunning (Stays d e) r → (is_half d ≡ false → OnOk r (TakesQuietly d k old new)) → (is_half d ≡ false → OnOk r (ReadsQuietly d k old new)) → DeletesAt d f old new k o
+  deletes_came none moves programs quiet = record {
+    half = λ runs _. half_none none runs;
+    finishes = made_whole none;
     moves = λ runs. subst (λ (x : Parts). Stays d x) (sym rest) (came_running (λ x. Stays d x) r e o reads told moves runs);
-    programs = λ zero. came_served (λ x. TakesQuietly d k old new) r e o reads told programs zero;
-    quiet = λ zero. came_served (λ x. ReadsQuietly d k old new) r e o reads told quiet zero;
+    programs = λ zero whole. came_served (λ x. TakesQuietly d k old new) r e o reads told (programs whole) zero;
+    quiet = λ zero whole. came_served (λ x. ReadsQuietly d k old new) r e o reads told (quiet whole) zero;
   }
 
 -- ---- the whole command

@@ -14,7 +14,7 @@ use Rattle.pk_buf.specs.Table.{Table}
 use Rattle.pk_nvme.specs.Command.{Command, key}
 use Rattle.pk_nand.specs.BoardState.{BoardState}
 use Rattle.pk_nand.specs.Effects.{OnlyFlash}
-use Rattle.pk_pool.specs.Blocks.{Blocks}
+use Rattle.pk_pool.specs.Blocks.{Blocks, freed}
 use Rattle.pk_model.specs.Found.{Found, entries_in_order}
 use Rattle.pk_model.specs.Sight.{free_pages}
 use Rattle.pk_model.proofs.Lookups.{find-firsts}
@@ -67,7 +67,7 @@ told_same a b e = cc
 module _ (d e : Parts) (old new : BoardState) (c : Command) (a : DriveOnFlash d old.shape old.pages) (b : DriveOnFlash e new.shape new.pages) (n : IsNoted e (key c)) (blocks : SameBlocks d e ⊎ (OpensOne d e (charge d.log.shape c.size) ⊎ MakesRoom d e (charge d.log.shape c.size))) where
   has_room : HasOpenRoom a.shape old.pages (sight_of d) (charge a.shape c.size) → fits_open d.log.shape d.space (charge d.log.shape c.size) ≡ false → ⊥
   has_room room none =
-      let left : fits_open a.shape d.space (charge a.shape c.size) ≡ true = left_is a.shape d.pool old.pages d.space.open_block room.0 (charge a.shape c.size) a.with.placed.open_is room.1 room.2 in
+      let left : fits_open a.shape d.space (charge a.shape c.size) ≡ true = left_is a.shape (freed d.pool) old.pages d.space.open_block room.0 (charge a.shape c.size) a.with.placed.open_is room.1 room.2 in
       no_yes (fits_open a.shape d.space (charge a.shape c.size)) left (subst (λ s. fits_open s d.space (charge s c.size) ≡ false) a.with.shape_is none)
 
   -- where its value has room, the open block stays

@@ -1,5 +1,5 @@
 -- What a command leaves of epochs and blocks, by its opcode.
-use Rattle.std.proofs.Common.{◌≡◌, ℕ, ◌≤◌, ap, arith, List, true, false}
+use Rattle.std.proofs.Common.{◌≡◌, ℕ, ◌≤◌, ap, sym, subst, arith, List, true, false}
 use Rattle.pk_base.specs.Shape.{charge}
 use Rattle.pk_nvme.specs.Command.{key}
 use Rattle.pk_nvme.specs.Seen.{command_of}
@@ -8,18 +8,20 @@ use Rattle.pk_nand.specs.BoardState.{BoardState}
 use Rattle.pk_nand.specs.Effects.{OnlyReading}
 use Rattle.pk_call.specs.Calling.{FewCalls, most_calls_of, only_looks}
 use Rattle.pk_call.specs.declared.types.Outcome.{Outcome}
-use Rattle.pk_parts.specs.Parts.{Parts, sight_of}
+use Rattle.pk_parts.specs.Parts.{Parts, sight_of, is_half}
 use Rattle.pk_parts.specs.Staying.{Stays, StaysOrOpens, StaysOrFrees, IsNoted}
 use Rattle.pk_core.specs.Programming.{QuietStore, QuietDelete}
 use Rattle.pk_core.specs.Performing.{Performs}
 use Rattle.pk_core.specs.Stepping.{Lessens}
 use Rattle.pk_parts.proofs.Staying.{stays_same, stays_frees}
-use Rattle.pk_core.proofs.Sights.{store_changes, delete_changes, tick_changes, delete_no_store, store_raises, delete_raises}
+use Rattle.pk_core.proofs.Sights.{store_changes, delete_changes, tick_changes, delete_no_store, store_raises, delete_raises, looks_raises, tick_raises}
 use Rattle.pk_core.proofs.Callings.{few_for_tick}
 
 module _ (d e : Parts) (old new : BoardState) (r : Request) (v : List ℕ) (o : Outcome) where
   pub performs_looking : only_looks r.opcode ≡ true → e ≡ d → OnlyReading old new → FewCalls (most_calls_of d.log.shape r.opcode r.size) old new → Performs d e old new r v o
   performs_looking only same reading calls = record {
+    half = λ _ _ none. subst (λ (x : Parts). is_half x ≡ false) (sym same) none;
+    finishes = λ raises. absurd (looks_raises r only raises);
     fresh = λ _. (stays_same d e same).fresh;
     opens = λ is. absurd (store_changes r is only);
     no_more = λ _ _. (stays_frees d e (stays_same d e same)).no_more;
@@ -33,8 +35,10 @@ module _ (d e : Parts) (old new : BoardState) (r : Request) (v : List ℕ) (o : 
     lessens = λ tick. absurd (tick_changes r tick only);
   }
 
-  pub performs_store : r.opcode ≡ 0x01 → (o.stopped ≡ false → StaysOrOpens d e (charge d.log.shape r.size)) → (o.status ≡ 0 → IsNoted e (key (command_of r v))) → QuietStore d old new r v o → FewCalls (most_calls_of d.log.shape r.opcode r.size) old new → Performs d e old new r v o
-  performs_store is opens noted quiet calls = record {
+  pub performs_store : r.opcode ≡ 0x01 → (o.stopped ≡ false → is_half d ≡ false → is_half e ≡ false) → (o.status ≡ 0 → is_half e ≡ false) → (o.stopped ≡ false → StaysOrOpens d e (charge d.log.shape r.size)) → (o.status ≡ 0 → IsNoted e (key (command_of r v))) → QuietStore d old new r v o → FewCalls (most_calls_of d.log.shape r.opcode r.size) old new → Performs d e old new r v o
+  performs_store is half finishes opens noted quiet calls = record {
+    half = λ runs _ none. half runs none;
+    finishes = λ _. finishes;
     fresh = λ runs. (opens runs).fresh;
     opens = λ _. opens;
     no_more = λ other. absurd (other is);
@@ -48,8 +52,10 @@ module _ (d e : Parts) (old new : BoardState) (r : Request) (v : List ℕ) (o : 
     lessens = λ tick. absurd (omega (arith, is, tick));
   }
 
-  pub performs_delete : r.opcode ≡ 0x10 → (o.stopped ≡ false → Stays d e) → QuietDelete d old new r o → FewCalls (most_calls_of d.log.shape r.opcode r.size) old new → Performs d e old new r v o
-  performs_delete is moves quiet calls = record {
+  pub performs_delete : r.opcode ≡ 0x10 → (o.stopped ≡ false → is_half d ≡ false → is_half e ≡ false) → (o.status ≡ 0 → is_half e ≡ false) → (o.stopped ≡ false → Stays d e) → QuietDelete d old new r o → FewCalls (most_calls_of d.log.shape r.opcode r.size) old new → Performs d e old new r v o
+  performs_delete is half finishes moves quiet calls = record {
+    half = λ runs _ none. half runs none;
+    finishes = λ _. finishes;
     fresh = λ runs. (moves runs).fresh;
     opens = λ store. absurd (delete_no_store r is store);
     no_more = λ _ runs. (stays_frees d e (moves runs)).no_more;
@@ -66,6 +72,8 @@ module _ (d e : Parts) (old new : BoardState) (r : Request) (v : List ℕ) (o : 
   pub performs_tick : r.opcode ≡ 0xC0 → (o.stopped ≡ false → StaysOrFrees d e) → FewCalls r.size old new → (o.stopped ≡ false → (sight_of e).work ≤ (sight_of d).work) → (o.status ≡ 0 → Lessens d e r.size)
       → Performs d e old new r v o
   performs_tick is moves calls no_more lessens = record {
+    half = λ _ no_tick. absurd (no_tick is);
+    finishes = λ raises. absurd (tick_raises r is raises);
     fresh = λ runs. (moves runs).fresh;
     opens = λ store. absurd (omega (arith, is, store));
     no_more = λ _ runs. (moves runs).no_more;

@@ -1,12 +1,12 @@
 -- When a Store and a Delete wait for nothing, and what they program behind their look-up.
-use Rattle.std.proofs.Common.{◌≡◌, ◌≢◌, inl, inr, ℕ, ◌+◌, ◌-◌, ◌<◌, ◌≤◌, refl, sym, ap, subst, ◌∙◌, arith, Bool, true, false, not, ◌&&◌, ◌||◌, ◌==◌, List, [], ◌∷◌, ◌++◌, ◌⊎◌, length, reverse, Option, Some, None, Result, Ok, is_some, cond}
+use Rattle.std.proofs.Common.{◌≡◌, ◌≢◌, inl, inr, ℕ, ◌+◌, ◌-◌, ◌*◌, ◌<◌, ◌≤◌, refl, sym, ap, subst, ◌∙◌, arith, Bool, true, false, not, ◌&&◌, ◌||◌, ◌==◌, List, [], ◌∷◌, ◌++◌, ◌⊎◌, length, reverse, Option, Some, None, Result, Ok, is_some, cond}
 use Rattle.std.specs.Prelude.{IsSome, if◌then◌else◌}
 use Rattle.std.specs.FinMap.Entries.{find}
 use Rattle.std.specs.Ordering.{eq_by_cmp}
 use Rattle.std.proofs.lemmas.List.{reverse-append}
 use Rattle.std.proofs.lemmas.Bool.{ne_eqb, cases_lt}
-use Rattle.pk_base.specs.Shape.{Shape, IsShape, charge, buffer, epoch_pages}
-use Rattle.pk_base.specs.Page.{Flash, page_at, page_in, erased, whole}
+use Rattle.pk_base.specs.Shape.{Shape, IsShape, charge, buffer, epoch_commits}
+use Rattle.pk_base.specs.Page.{Flash, page_at, commit_page, erased}
 use Rattle.pk_base.specs.Entry.{Entry}
 use Rattle.pk_base.specs.Key.{Key, key_cmp}
 use Rattle.pk_base.specs.Firsts.{firsts}
@@ -15,7 +15,7 @@ use Rattle.pk_buf.specs.Table.{Table}
 use Rattle.pk_rootfmt.specs.Root.{Root}
 use Rattle.pk_nand.specs.BoardState.{BoardState}
 use Rattle.pk_nand.specs.Counts.{counted_by}
-use Rattle.pk_jrn.specs.Epochs.{JournalEpoch, left_of}
+use Rattle.pk_jrn.specs.Epochs.{JournalEpoch, left_of, pages_of}
 use Rattle.pk_jrn.proofs.Puts.{firsts-reverse, find-firsts}
 use Rattle.pk_base.proofs.ShapeLemmas.{block_pages_positive}
 use Rattle.pk_base.specs.Refusal.{Refusal}
@@ -23,7 +23,7 @@ use Rattle.pk_log.specs.State.{needs_freeze}
 use Rattle.pk_model.specs.Found.{Found, found_under}
 use Rattle.pk_data.specs.State.{fits_open}
 use Rattle.pk_call.specs.Moving.{IsQuiet, commits_for}
-use Rattle.pk_parts.specs.Parts.{Parts, sight_of}
+use Rattle.pk_parts.specs.Parts.{Parts, sight_of, is_half, settled_parts}
 use Rattle.pk_parts.specs.Agreeing.{DriveOnFlashWith}
 use Rattle.pk_parts.specs.Programming.{Programs}
 use Rattle.pk_parts.specs.Quiet.{ReadsOnly}
@@ -63,11 +63,11 @@ room_false full false (inl e) = cc
 room_false true has (inr e) = cc
 room_false false has (inr e) = refl
 
-page_false : (none no_page : Bool) → (no_page ≡ false) ⊎ (none ≡ false) → (none && no_page) ≡ false
-page_false none true (inl e) = cc
-page_false none false (inl e) = and_no none
-page_false true no_page (inr e) = cc
-page_false false no_page (inr e) = refl
+commit_false : (none no_commit : Bool) → (no_commit ≡ false) ⊎ (none ≡ false) → (none && no_commit) ≡ false
+commit_false none true (inl e) = cc
+commit_false none false (inl e) = and_no none
+commit_false true no_commit (inr e) = cc
+commit_false false no_commit (inr e) = refl
 
 both_false : (a b : Bool) → a ≡ false → b ≡ false → (a || b) ≡ false
 both_false true b e f = cc
@@ -77,9 +77,6 @@ both_false false false e f = refl
 some_true : {X : Type 0} (o : Option X) → IsSome o → is_some o ≡ true
 some_true (Some x) is = refl
 some_true None is = cc
-
-not_whole : (bytes : List ℕ) → whole bytes ≡ erased → ⊥
-not_whole bytes e = cc
 
 none_length : (es : List Entry) → es ≢ [] → (length es == 0) ≡ false
 none_length [] some = absurd (some refl)
@@ -91,7 +88,15 @@ same_tree x y e = cc
 same_lists : (x y : Found) → ◌≡◌ {A = Result Found Refusal} (Ok x) (Ok y) → x ≡ y
 same_lists x y e = cc
 
-module _ (d : Parts) (shape : Shape) (flash : Flash) (top : ℕ × Root) (found : Found) (without all : Map) (a : DriveOnFlashWith d shape flash top found without all) (k : Key) (q : IsQuiet shape flash (sight_of d) k) where
+-- of an epoch whose commits are all used the last one is not Erased
+commits_left : (e : JournalEpoch) → 0 < epoch_commits e.shape → (pages_of e ≤ 2 * (epoch_commits e.shape - 1)) → e.used < epoch_commits e.shape
+commits_left e positive few = by e.half few
+  where
+    by : (half : Bool) → (if half then 2 * e.used - 1 else 2 * e.used) ≤ 2 * (epoch_commits e.shape - 1) → e.used < epoch_commits e.shape
+    by true n = omega (arith, positive, n)
+    by false n = omega (arith, positive, n)
+
+module _ (d : Parts) (shape : Shape) (flash : Flash) (top : ℕ × Root) (found : Found) (without all : Map) (a : DriveOnFlashWith (settled_parts d) shape flash top found without all) (k : Key) (q : IsQuiet shape flash (sight_of d) k) where
   its_top : (q.is_tree.page_of_root, q.tree.root) ≡ top
   its_top = same_tree _ top (sym q.is_tree.is_newest ∙ a.committed.is_top)
 
@@ -113,27 +118,28 @@ module _ (d : Parts) (shape : Shape) (flash : Flash) (top : ℕ × Root) (found 
             ne_eqb (length d.log.active.entries) d.log.active.capacity (λ e. omega (arith, size, capacity, less, e)))
       ]
 
-  page_is : ((left_of d.log.epoch == 0) ≡ false) ⊎ ((length d.log.pending == 0) ≡ false)
-  page_is = elim q.page [
+  commit_is : ((left_of d.log.epoch == 0) ≡ false) ⊎ ((length d.log.pending == 0) ≡ false)
+  commit_is = elim q.commit [
     | inr some ↦ inr (none_length d.log.pending some)
     | inl clear ↦ inl (
         let e : JournalEpoch = d.log.epoch in
         let its_shape : e.shape ≡ shape = a.index.logs.epoch_shape ∙ a.shape_is in
         let its_blocks : e.blocks ≡ q.tree.root.newest = a.index.logs.epoch_blocks ∙ ap (λ (t : ℕ × Root). t.1.newest) (sym its_top) in
-        let last : page_at flash (page_in e.shape e.blocks (epoch_pages e.shape - 1)) ≡ erased = subst (λ s. page_at flash (page_in s e.blocks (epoch_pages s - 1)) ≡ erased) (sym its_shape) (subst (λ bs. page_at flash (page_in shape bs (epoch_pages shape - 1)) ≡ erased) (sym its_blocks) clear) in
+        let last : page_at flash (commit_page e.shape e.blocks (epoch_commits e.shape - 1)) ≡ erased =
+        subst (λ s. page_at flash (commit_page s e.blocks (epoch_commits s - 1)) ≡ erased) (sym its_shape) (subst (λ bs. page_at flash (commit_page shape bs (epoch_commits shape - 1)) ≡ erased) (sym its_blocks) clear) in
         let positive = block_pages_positive e.shape (subst IsShape (sym its_shape) a.placed.is_shape) in
-        let within = a.index.logs.epoch_fits.within in
-        let less : e.used < epoch_pages e.shape = elim (cases_lt e.used (epoch_pages e.shape)) [
-          | inl lt ↦ lt
-          | inr ge ↦ (let page = a.index.logs.epoch_fits.before (epoch_pages e.shape - 1) (omega (arith, ge, positive)) in absurd (not_whole page.0 (sym page.1 ∙ last)))
+        let few : pages_of e ≤ 2 * (epoch_commits e.shape - 1) = elim (cases_lt (2 * (epoch_commits e.shape - 1)) (pages_of e)) [
+          | inl lt ↦ absurd (a.index.logs.epoch_fits.filled q.fresh (2 * (epoch_commits e.shape - 1)) lt last)
+          | inr ge ↦ ge
         ] in
-        ap (λ b. (if b then epoch_pages e.shape - e.used else 0) == 0) q.fresh ∙ ne_eqb (epoch_pages e.shape - e.used) 0 (λ f. omega (arith, f, less)))
+        let less = commits_left e positive few in
+        ap (λ b. (if b then epoch_commits e.shape - e.used else 0) == 0) q.fresh ∙ ne_eqb (epoch_commits e.shape - e.used) 0 (λ f. omega (arith, f, less)))
   ]
 
   pub quiet_needs_none : needs_freeze d.log k ≡ false
   quiet_needs_none =
       both_false ((length d.log.active.entries == d.log.active.capacity) && not (is_some (find key_cmp k d.log.active.entries))) ((length d.log.pending == 0) && (left_of d.log.epoch == 0))
-      (room_false (length d.log.active.entries == d.log.active.capacity) (is_some (find key_cmp k d.log.active.entries)) room_is) (page_false (length d.log.pending == 0) (left_of d.log.epoch == 0) page_is)
+      (room_false (length d.log.active.entries == d.log.active.capacity) (is_some (find key_cmp k d.log.active.entries)) room_is) (commit_false (length d.log.pending == 0) (left_of d.log.epoch == 0) commit_is)
 
 -- ---- behind the reads of a look-up
 
@@ -141,15 +147,15 @@ behind_reads : (old mid new : BoardState) (most n : ℕ) → ReadsOnly old mid m
 behind_reads old mid new most n made p = record { programs = p.programs ∙ ap (λ (b : BoardState). counted_by n b.programs) made.board; erases = p.erases ∙ ap (λ (b : BoardState). b.erases) made.board }
 
 pub quiet_store_behind : (d e : Parts) (old mid new : BoardState) (size : ℕ) (k k' : Key) (reads : ℕ) → e ≡ d → ReadsOnly old mid (4 - d.levels.pinned) → k ≡ k'
-    → (needs_freeze e.log k ≡ false → fits_open e.log.shape e.space (charge e.log.shape size) ≡ true → Programs (charge e.log.shape size + commits_for e.log.shape (sight_of e)) mid new) → reads ≤ 4 - d.levels.pinned
-    → needs_freeze d.log k' ≡ false → fits_open d.log.shape d.space (charge d.log.shape size) ≡ true → Programs (charge d.log.shape size + commits_for d.log.shape (sight_of d)) old new × (reads ≤ 4 - d.levels.pinned)
-quiet_store_behind d e old mid new size k k' reads same made named programs few none room =
-    let T : Parts → Type 0 = λ x. needs_freeze x.log k ≡ false → fits_open x.log.shape x.space (charge x.log.shape size) ≡ true → Programs (charge x.log.shape size + commits_for x.log.shape (sight_of x)) mid new in
-    (behind_reads old mid new (4 - d.levels.pinned) (charge d.log.shape size + commits_for d.log.shape (sight_of d)) made (subst T same programs (ap (needs_freeze d.log) named ∙ none) room), few)
+    → (is_half e ≡ false → needs_freeze e.log k ≡ false → fits_open e.log.shape e.space (charge e.log.shape size) ≡ true → Programs (charge e.log.shape size + commits_for e.log.shape (sight_of e)) mid new) → reads ≤ 4 - d.levels.pinned
+    → is_half d ≡ false → needs_freeze d.log k' ≡ false → fits_open d.log.shape d.space (charge d.log.shape size) ≡ true → Programs (charge d.log.shape size + commits_for d.log.shape (sight_of d)) old new × (reads ≤ 4 - d.levels.pinned)
+quiet_store_behind d e old mid new size k k' reads same made named programs few whole none room =
+    let T : Parts → Type 0 = λ x. is_half x ≡ false → needs_freeze x.log k ≡ false → fits_open x.log.shape x.space (charge x.log.shape size) ≡ true → Programs (charge x.log.shape size + commits_for x.log.shape (sight_of x)) mid new in
+    (behind_reads old mid new (4 - d.levels.pinned) (charge d.log.shape size + commits_for d.log.shape (sight_of d)) made (subst T same programs whole (ap (needs_freeze d.log) named ∙ none) room), few)
 
 pub quiet_delete_behind : (d e : Parts) (old mid new : BoardState) (k k' : Key) (reads : ℕ) → e ≡ d → ReadsOnly old mid (4 - d.levels.pinned) → k ≡ k'
-    → (needs_freeze e.log k ≡ false → Programs (commits_for e.log.shape (sight_of e)) mid new) → reads ≤ 4 - d.levels.pinned
-    → needs_freeze d.log k' ≡ false → Programs (commits_for d.log.shape (sight_of d)) old new × (reads ≤ 4 - d.levels.pinned)
-quiet_delete_behind d e old mid new k k' reads same made named programs few none =
-    let T : Parts → Type 0 = λ x. needs_freeze x.log k ≡ false → Programs (commits_for x.log.shape (sight_of x)) mid new in
-    (behind_reads old mid new (4 - d.levels.pinned) (commits_for d.log.shape (sight_of d)) made (subst T same programs (ap (needs_freeze d.log) named ∙ none)), few)
+    → (is_half e ≡ false → needs_freeze e.log k ≡ false → Programs (commits_for e.log.shape (sight_of e)) mid new) → reads ≤ 4 - d.levels.pinned
+    → is_half d ≡ false → needs_freeze d.log k' ≡ false → Programs (commits_for d.log.shape (sight_of d)) old new × (reads ≤ 4 - d.levels.pinned)
+quiet_delete_behind d e old mid new k k' reads same made named programs few whole none =
+    let T : Parts → Type 0 = λ x. is_half x ≡ false → needs_freeze x.log k ≡ false → Programs (commits_for x.log.shape (sight_of x)) mid new in
+    (behind_reads old mid new (4 - d.levels.pinned) (commits_for d.log.shape (sight_of d)) made (subst T same programs whole (ap (needs_freeze d.log) named ∙ none)), few)

@@ -1,9 +1,9 @@
 -- Behind its look-up a change of the map that waits for nothing reads nothing.
-use Rattle.std.proofs.Common.{◌≡◌, ap, subst, ◌∙◌, false}
+use Rattle.std.proofs.Common.{◌≡◌, ap, sym, subst, ◌∙◌, false}
 use Rattle.pk_base.specs.Key.{Key}
 use Rattle.pk_nand.specs.BoardState.{BoardState}
 use Rattle.pk_log.specs.State.{needs_freeze}
-use Rattle.pk_parts.specs.Parts.{Parts}
+use Rattle.pk_parts.specs.Parts.{Parts, is_half}
 use Rattle.pk_parts.specs.Programming.{ReadsQuietly}
 
 -- behind the reads of a look-up
@@ -11,3 +11,7 @@ pub reads_behind : (d e : Parts) (mid new : BoardState) (k k' : Key) → e ≡ d
 reads_behind d e mid new k k' same named quiet none =
     let T : Parts → Type 0 = λ x. ReadsQuietly x k mid new in
     subst T same quiet (ap (needs_freeze d.log) named ∙ none)
+
+-- a look-up makes no pair half made
+pub whole_looked : (d e : Parts) → e ≡ d → is_half d ≡ false → is_half e ≡ false
+whole_looked d e same whole = subst (λ (x : Parts). is_half x ≡ false) (sym same) whole

@@ -39,18 +39,18 @@ use Rattle.pk_parts.specs.Parts.{Parts, sight_of, frames_of}
 use Rattle.pk_parts.specs.Agreeing.{DriveOnFlash}
 use Rattle.pk_core.specs.Done.{Does, Executes}
 use Rattle.pk_parts.specs.Finding.{IsPlaceIn}
-use Rattle.pk_parts.specs.Moves.{StandsFor}
+use Rattle.pk_parts.specs.Moves.{StandsFor, StandsBetween}
 use Rattle.pk_parts.specs.Emptying.{Unread, Halts, OnRunning}
 use Rattle.pk_core.specs.Quiet.{eleven}
 use Rattle.pk_parts.specs.Quiet.{ReadsOnly, Looks}
-use Rattle.pk_parts.specs.Changes.{MayPut, MayTake, CanPut, CanTake, Changes, TakesOrReads, StaysBetween}
-use Rattle.pk_core.specs.Spacing.{MayStore, StoresOrReads}
+use Rattle.pk_parts.specs.Changes.{Changes, StaysBetween}
+use Rattle.pk_core.specs.Whole.{MayPutBetween, MayStoreBetween, MayTakeBetween, CanPutBetween, CanTakeBetween, StoresWhole, TakesWhole}
 use Rattle.pk_parts.specs.Spacing.{SameMap}
-use Rattle.pk_parts.proofs.SameMaps.{same_kept}
+use Rattle.pk_parts.proofs.Halves.{between}
 use Rattle.pk_core.specs.Serving.{IsServable, IsCounted, outcome_for, stopped_by, pages_at}
 use Rattle.pk_core.proofs.Standing.{stands_so}
 use Rattle.pk_parts.proofs.Standing.{agrees_so}
-use Rattle.pk_core.proofs.Counting.{counts_map}
+use Rattle.pk_core.proofs.Counting.{counts_own}
 use Rattle.pk_core.proofs.Unchanging.{unread_step, value_of, same_early, does_reads, AnswersAll}
 use Rattle.pk_parts.proofs.Unchanging.{own, looked, for_its_map, reads_none, agrees_ready}
 
@@ -110,7 +110,7 @@ module _ (d : Parts) (old new : BoardState) (a : DriveOnFlash d old.shape old.pa
     stands = λ _. for_its_map d old a (λ s f m. Executed s f new (sight_of e) m c reply made) (record {
       left = after;
       stepped = step;
-      stands = subst (λ (f : ℕ). HoldsMap d.log.shape f new (sight_of e) after) same_frames (stands_so e new d.log.shape after (same_shape ∙ told) changed.stands);
+      stands = subst (λ (f : ℕ). HoldsMap d.log.shape f new (sight_of e) after) same_frames (stands_so e new d.log.shape after (same_shape ∙ told) (between e d.log.shape new.pages after changed.stands));
       bounded = λ is. absurd (other is);
     });
     cuts = λ _. for_its_map d old a (λ s f m. Reaches s old new (CrashFinds s (command c) old.pages m))
@@ -134,7 +134,7 @@ module _ (d : Parts) (old new : BoardState) (a : DriveOnFlash d old.shape old.pa
     stands = λ _. for_its_map d old a (λ s f m. Executed s f new (sight_of e) m c (refusal 0x88) made) (record {
       left = a.all;
       stepped = unread_step d.log.shape (frames_of d) a.all c passes;
-      stands = subst (λ (f : ℕ). HoldsMap d.log.shape f new (sight_of e) a.all) same_frames (stands_so e new d.log.shape a.all (same_shape ∙ told) kept.stands);
+      stands = subst (λ (f : ℕ). HoldsMap d.log.shape f new (sight_of e) a.all) same_frames (stands_so e new d.log.shape a.all (same_shape ∙ told) (between e d.log.shape new.pages a.all kept.stands));
       bounded = λ is. absurd (other is);
     });
     cuts = λ _. for_its_map d old a (λ s f m. Reaches s old new (CrashFinds s (command c) old.pages m))
@@ -241,8 +241,8 @@ module _ (d : Parts) (old : BoardState) (a : DriveOnFlash d old.shape old.pages)
   placed_there : IsPlaceIn d.log.shape old.pages a.found d.log.pending a.all k o
   placed_there = looked d old a k o looks
 
-  its_drive : StandsFor d d.log.shape old.pages a.all
-  its_drive = record { top = a.top; found = a.found; without = a.without; with = own d old a }
+  its_drive : StandsBetween d d.log.shape old.pages a.all
+  its_drive = record { top = a.top; found = a.found; without = a.without; with = own d old a; course = a.course }
 
 is_there_same : (d : Parts) (old : BoardState) (a : DriveOnFlash d old.shape old.pages) (k : Key) (o : Option Place) → IsKey k → Looks d old.pages k o → is_some o ≡ contains_key a.all k
 is_there_same d old a k None is_key looks = ap is_some (sym (looked d old a k None looks).there)
@@ -278,7 +278,7 @@ module _ (d : Parts) (old : BoardState) (r : Request) (value : List ℕ) (k : Ke
   passes = same_early d.log.shape r value ∙ s.passed
 
   live_is : sum d.space.live.heads ≡ live d.log.shape all
-  live_is = (counts_map d d.log.shape old.pages s.agrees.top s.agrees.found s.agrees.without all (own d old s.agrees)).live_is
+  live_is = (counts_own d old s.agrees).live_is
 
   late_is : store_check r.options (is_some o) after_pages (limit d.log.shape) ≡ late_of d.log.shape (limit d.log.shape) all c (Some Store)
   late_is = store_late d.log.shape all r value (is_some o) (sum d.space.live.heads) (pages_at d.log.shape o) (charge d.log.shape r.size) (limit d.log.shape)
@@ -296,7 +296,7 @@ module _ (d : Parts) (old : BoardState) (r : Request) (value : List ℕ) (k : Ke
       subst (λ (x : Outcome). Does old old (sight_of d) (sight_of e) c (shown x into) 0 x.stopped) (sym told_is) (subst (λ (x : Parts). Does old old (sight_of d) (sight_of x) c (refusal status) 0 false) (sym same) done)
 
   module _ (passed : store_check r.options (is_some o) after_pages (limit d.log.shape) ≡ None) where
-    pub may_put : MayPut d d.log.shape old.pages all k value o
+    pub may_put : MayPutBetween d d.log.shape old.pages all k value o
     unfolding its_drive
     may_put =
         let few = within r.options after_pages (limit d.log.shape) (is_some o) passed in
@@ -308,10 +308,10 @@ module _ (d : Parts) (old : BoardState) (r : Request) (value : List ℕ) (k : Ke
           room = omega (arith, few, same);
         }
 
-    may_store : MayStore d d.log.shape old.pages all k value
+    may_store : MayStoreBetween d d.log.shape old.pages all k value
     may_store = record { stands = may_put.stands; bytes = may_put.bytes; room = may_put.room }
 
-    pub can_put : CanPut d old k value o
+    pub can_put : CanPutBetween d old k value o
     can_put = record {
       ready = agrees_ready d old s.agrees;
       may = (all, may_put);
@@ -329,7 +329,7 @@ module _ (d : Parts) (old : BoardState) (r : Request) (value : List ℕ) (k : Ke
     one_root = ap (λ x. most_installs x r.size) op
 
     -- what putting it came to
-    pub store_came : (answer : Result Unit Fault) (e : Parts) (new : BoardState) (most : ℕ) (into : List ℕ) (outcome : Outcome) (reads : ℕ) → StoresOrReads d e most old new k value answer → roots new ≤ roots old + most_roots → IsCounted old new → OnRunning (StaysBetween d e) answer
+    pub store_came : (answer : Result Unit Fault) (e : Parts) (new : BoardState) (most : ℕ) (into : List ℕ) (outcome : Outcome) (reads : ℕ) → StoresWhole d e most old new k value answer → roots new ≤ roots old + most_roots → IsCounted old new → OnRunning (StaysBetween d e) answer
         → outcome ≡ outcome_for answer reads → Executes d (stopped_by e answer) old new c outcome into (new.reads - old.reads)
     unfolding its_drive
     store_came (Ok u) e new most into outcome reads step few count stays told_is =
@@ -387,11 +387,11 @@ module _ (d : Parts) (old : BoardState) (r : Request) (v : List ℕ) (k : Key) (
       subst (λ (x : Outcome). Does old old (sight_of d) (sight_of e) dc (shown x into) 0 x.stopped) (sym told_is) (subst (λ (x : Parts). Does old old (sight_of d) (sight_of x) dc (refusal 0x87) 0 false) (sym same) done)
 
   module _ (p : Place) (looks : Looks d old.pages k (Some p)) where
-    pub may_take : MayTake d d.log.shape old.pages its_map k p
+    pub may_take : MayTakeBetween d d.log.shape old.pages its_map k p
     unfolding its_drive
     may_take = record { stands = its_drive d old s.agrees k (Some p) is_key looks; old_is = (placed_there d old s.agrees k (Some p) is_key looks).placed; bytes = bytes }
 
-    pub can_take : CanTake d old k p
+    pub can_take : CanTakeBetween d old k p
     can_take = record { ready = agrees_ready d old s.agrees; may = (its_map, may_take); few = s.few }
 
     gone_late : late_of d.log.shape (limit d.log.shape) its_map dc (Some Delete) ≡ None
@@ -406,7 +406,7 @@ module _ (d : Parts) (old : BoardState) (r : Request) (v : List ℕ) (k : Key) (
     gone_root = ap (λ x. most_installs x r.size) op
 
     -- what taking it out came to
-    pub delete_came : (answer : Result Unit Fault) (e : Parts) (new : BoardState) (most : ℕ) (into : List ℕ) (outcome : Outcome) (reads : ℕ) → TakesOrReads d e most old new k p answer → roots new ≤ roots old + most_roots → IsCounted old new → OnRunning (StaysBetween d e) answer
+    pub delete_came : (answer : Result Unit Fault) (e : Parts) (new : BoardState) (most : ℕ) (into : List ℕ) (outcome : Outcome) (reads : ℕ) → TakesWhole d e most old new k p answer → roots new ≤ roots old + most_roots → IsCounted old new → OnRunning (StaysBetween d e) answer
         → outcome ≡ outcome_for answer reads → Executes d (stopped_by e answer) old new dc outcome into (new.reads - old.reads)
     unfolding its_drive
     delete_came (Ok u) e new most into outcome reads step few count stays told_is =
@@ -420,7 +420,7 @@ module _ (d : Parts) (old : BoardState) (r : Request) (v : List ℕ) (k : Key) (
           does = done;
         })
     delete_came (Err Reading) e new most into outcome reads step few count stays told_is =
-        let kept : SameMap e d.log.shape its_map old new = same_kept d e d.log.shape its_map old new (step.came.0 d.log.shape its_map (its_drive d old s.agrees k (Some p) is_key looks)) in
+        let kept : SameMap e d.log.shape its_map old new = step.came.0 d.log.shape its_map (its_drive d old s.agrees k (Some p) is_key looks) in
         let done = does_keep d old new s.agrees dc (remove its_map k) count few gone_root step.rest (delete_other r.opcode op) leaves_gone e kept stays.frames step.came.1 delete_passed in
         subst (λ (x : Outcome). Executes d e old new dc x into (new.reads - old.reads)) (sym told_is) (record {
           stops = stays.stopped ∙ s.runs;

@@ -1,5 +1,5 @@
 -- How what is seen of a drive changes in a call.
-use Rattle.std.proofs.Common.{◌≡◌, ℕ, ◌≤◌, refl, sym, ap, subst, ◌∙◌, arith, true, false}
+use Rattle.std.proofs.Common.{◌≡◌, ℕ, ◌≤◌, refl, sym, ap, subst, ◌∙◌, arith, Bool, true, false, not, ◌||◌, ◌==◌}
 use Rattle.pk_nand.specs.BoardState.{BoardState}
 use Rattle.pk_nand.specs.Calls.{last_count}
 use Rattle.pk_nand.specs.Effects.{OnlyReading, Works, Stops}
@@ -46,6 +46,18 @@ store_raises r is none = let clash : true ≡ false = sym (ap may_raise is) ∙ 
 
 pub delete_raises : (r : Request) → r.opcode ≡ 0x10 → may_raise r.opcode ≡ false → ⊥
 delete_raises r is none = let clash : true ≡ false = sym (ap may_raise is) ∙ none in cc
+
+-- what only looks does not, nor does a Tick
+pub looks_raises : (r : Request) → only_looks r.opcode ≡ true → may_raise r.opcode ≡ true → ⊥
+looks_raises r only raises = by (r.opcode == 0x01) (r.opcode == 0x10) (r.opcode == 0xC0) only raises
+  where
+    by : (store delete tick : Bool) → not (store || delete || tick) ≡ true → (store || delete) ≡ true → ⊥
+    by true delete tick none some = cc
+    by false true tick none some = cc
+    by false false tick none some = cc
+
+pub tick_raises : (r : Request) → r.opcode ≡ 0xC0 → may_raise r.opcode ≡ true → ⊥
+tick_raises r is raises = let clash : false ≡ true = sym (ap may_raise is) ∙ raises in cc
 
 pub delete_no_store : (r : Request) → r.opcode ≡ 0x10 → r.opcode ≡ 0x01 → ⊥
 delete_no_store r is e = omega (arith, is, e)

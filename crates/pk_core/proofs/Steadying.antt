@@ -17,10 +17,11 @@ use Rattle.pk_plan.specs.declared.owner.Owner.{Owner}
 use Rattle.pk_plan.specs.declared.owner.Owner.TheVariants.{Journal, Meta, Values}
 use Rattle.pk_pin.specs.Frames.{leased_frames}
 use Rattle.pk_pool.specs.declared.state.BlockState.{BlockState}
-use Rattle.pk_pool.specs.declared.state.BlockState.TheVariants.{Root as RootBlock, Free, Ready, Owned}
+use Rattle.pk_pool.specs.declared.state.BlockState.TheVariants.{Root as RootBlock, Free, Ready, Owned, Leaving}
 use Rattle.pk_nand.specs.Calls.{IsErasedBlock}
 use Rattle.pk_pool.specs.Blocks.{Blocks, IsShared, is_ready, is_owned_by}
 use Rattle.pk_pool.proofs.States.{ready_is_not_root}
+use Rattle.pk_pool.proofs.Leaving.{shared_freed}
 use Rattle.pk_pool.proofs.Sharing.{behind_roots}
 use Rattle.pk_run.specs.Kept.{Kept, empty}
 use Rattle.pk_jrn.proofs.Puts.{firsts-reverse}
@@ -48,10 +49,11 @@ use Rattle.pk_schedule.specs.declared.phase.Phase.TheVariants.{Idle, Running, Re
 use Rattle.pk_schedule.specs.Index.{Index, MergeStands, merging}
 use Rattle.pk_schedule.proofs.Backlogs.{index_backlog, four, entries_are}
 use Rattle.pk_call.specs.Exec.{IsNextMerge}
-use Rattle.pk_parts.specs.Parts.{Parts, sight_of, counts_of, block_if_open, frames_of, index_of, outputs_of, backlog_of, is_reclaim_due, reclaim_left}
+use Rattle.pk_parts.specs.Parts.{Parts, sight_of, counts_of, block_if_open, frames_of, index_of, outputs_of, backlog_of, is_reclaim_due, reclaim_left, settled_parts}
 use Rattle.pk_core.specs.Agreeing.{DriveOnFlashBetween}
 use Rattle.pk_parts.specs.Agreeing.{DriveOnFlashWith, DriveOnFlash}
 use Rattle.pk_core.proofs.Leased.{leased_are}
+use Rattle.pk_core.proofs.Seen.{seen_same}
 use Rattle.pk_parts.proofs.Rooming.{entries_some}
 use Rattle.pk_core.proofs.Places.{blocks_from, many_blocks, has_state, blocks_differ, block_in, all_in}
 
@@ -62,6 +64,7 @@ ready_only RootBlock e = cc
 ready_only Free e = cc
 ready_only Ready e = refl
 ready_only (Owned o) e = cc
+ready_only (Leaving o) e = cc
 
 ready_or_owned : (p : Blocks) (b : ℕ) (o : Owner) → slice_get p.states b ≡ Some Ready → slice_get p.states b ≡ Some (Owned o) → ⊥
 ready_or_owned p b o ready owned = cc
@@ -240,14 +243,18 @@ told_same a b e = cc
 -- a bounded work is left, whatever is pending
 pub few_left : (d : Parts) (told : Option Shape) (shape : Shape) (flash : Flash) → DriveOnFlash d told flash → told ≡ Some shape → (sight_of d).work < most_work shape
 few_left d told shape flash a told_is =
-    subst (λ s. (sight_of d).work < most_work s) (told_same a.shape shape (sym a.told_is ∙ told_is)) (work_is d a.shape flash a.top a.found a.without a.all a.with)
+    let there : (sight_of (settled_parts d)).work < most_work a.shape = work_is (settled_parts d) a.shape flash a.top a.found a.without a.all a.with in
+    let here : (sight_of d).work < most_work a.shape = subst (λ (x : Sight). x.work < most_work a.shape) (seen_same d told flash a) there in
+    subst (λ s. (sight_of d).work < most_work s) (told_same a.shape shape (sym a.told_is ∙ told_is)) here
 
 pub between_steady : (d : Parts) (told : Option Shape) (shape : Shape) (flash : Flash) → DriveOnFlashBetween d told flash → told ≡ Some shape → IsShared d.pool.shape d.pool.states → IsSteady shape flash (sight_of d)
 between_steady d told shape flash is told_is shared =
     let a = is.0 in
     let same : a.shape ≡ shape = told_same a.shape shape (sym a.told_is ∙ told_is) in
     let few : length d.log.pending < page_entries a.shape = subst (λ s. length d.log.pending < page_entries s) a.with.shape_is is.1 in
-    subst (λ s. IsSteady s flash (sight_of d)) same (agrees_steady d a.shape flash a.top a.found a.without a.all a.with shared few)
+    let there : IsSteady a.shape flash (sight_of (settled_parts d)) = agrees_steady (settled_parts d) a.shape flash a.top a.found a.without a.all a.with (shared_freed d.pool.shape d.pool.states shared) few in
+    let here : IsSteady a.shape flash (sight_of d) = subst (IsSteady a.shape flash) (seen_same d told flash a) there in
+    subst (λ s. IsSteady s flash (sight_of d)) same here
 
 -- it is so behind a call that left no more than its flash
 pub steadies : (e : Parts) (old new : BoardState) (before : Sight) → DriveOnFlashBetween e new.shape new.pages → OnlyFlash old new → IsShared e.pool.shape e.pool.states → Steadies old new before (sight_of e)

@@ -42,7 +42,7 @@ use Rattle.pk_call.specs.Seen.{reply_of as shown}
 use Rattle.pk_call.specs.declared.types.Outcome.{Outcome}
 use Rattle.pk_call.specs.Exec.{report_of}
 use Rattle.pk_model.specs.Crashes.{CrashFinds, command}
-use Rattle.pk_parts.specs.Parts.{Parts, sight_of, frames_of}
+use Rattle.pk_parts.specs.Parts.{Parts, sight_of, frames_of, settled_parts}
 use Rattle.pk_parts.specs.Agreeing.{DriveOnFlashWith, DriveOnFlash}
 use Rattle.pk_parts.specs.Finding.{IsPlaceIn}
 use Rattle.pk_core.specs.Done.{Does}
@@ -218,7 +218,7 @@ other_kind x is e = let f : ◌≡◌ {A = Option Opcode} (Some Exist) (Some Ret
 
 -- the value that a look-up found
 pub value_of : (d : Parts) (old : BoardState) (a : DriveOnFlash d old.shape old.pages) (k : Key) (p : Place) → IsKey k → Looks d old.pages k (Some p) → ValueThere d.log.shape old.pages a.all k p
-value_of d old a k p is_key looks = value_there d old.pages a.top a.found a.without a.all k p is_key (own d old a) (looked d old a k (Some p) looks)
+value_of d old a k p is_key looks = value_there (settled_parts d) old.pages a.top a.found a.without a.all k p is_key (own d old a) (looked d old a k (Some p) looks)
 
 -- its pages, on an equal flash
 pub front_moved : (d d' : Parts) (flash flash' : Flash) (page n : ℕ) (q : Key) (w : List ℕ) → d' ≡ d → flash' ≡ flash → IsFront d.log.shape flash page n q w → IsFront d'.log.shape flash' page n q w

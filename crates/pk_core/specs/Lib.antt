@@ -7,3 +7,4 @@ pub mod Stepping
 pub mod Serving
 pub mod Spacing
 pub mod LookedUp
+pub mod Whole

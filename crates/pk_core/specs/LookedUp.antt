@@ -8,7 +8,7 @@ use Rattle.pk_nvme.specs.declared.status.TheConstants.{SUCCESSFUL_COMPLETION}
 use Rattle.pk_nvme.specs.declared.request.Request.{Request}
 use Rattle.pk_nand.specs.BoardState.{BoardState}
 use Rattle.pk_call.specs.declared.types.Outcome.{Outcome}
-use Rattle.pk_parts.specs.Parts.{Parts}
+use Rattle.pk_parts.specs.Parts.{Parts, is_half}
 use Rattle.pk_parts.specs.Quiet.{Looks}
 use Rattle.pk_core.specs.Serving.{IsServable, IsReadSince}
 use Rattle.pk_parts.specs.Staying.{Stays, StaysOrOpens, IsNoted}
@@ -24,13 +24,17 @@ pub record IsLookedUp (d : Parts) (board : BoardState) (r : Request) (k : Key) (
 
 -- What a Store of so many pages leaves of the blocks for values, and its calls where it waits for nothing.
 pub record StoresOver (before after : Parts) (old new : BoardState) (k : Key) (count : ℕ) (o : Outcome) : Type 0 where
+  pub half : o.stopped ≡ false → is_half before ≡ false → is_half after ≡ false
+  pub finishes : o.status ≡ SUCCESSFUL_COMPLETION → is_half after ≡ false
   pub opens : o.stopped ≡ false → StaysOrOpens before after count
   pub noted : o.status ≡ SUCCESSFUL_COMPLETION → IsNoted after k
-  pub programs : o.status ≡ SUCCESSFUL_COMPLETION → PutsQuietly before k count old new
-  pub quiet : o.status ≡ SUCCESSFUL_COMPLETION → ReadsNone before k count old new
+  pub programs : o.status ≡ SUCCESSFUL_COMPLETION → is_half before ≡ false → PutsQuietly before k count old new
+  pub quiet : o.status ≡ SUCCESSFUL_COMPLETION → is_half before ≡ false → ReadsNone before k count old new
 
 -- the same of a Delete
 pub record DeletesAt (before after : Parts) (old new : BoardState) (k : Key) (o : Outcome) : Type 0 where
+  pub half : o.stopped ≡ false → is_half before ≡ false → is_half after ≡ false
+  pub finishes : o.status ≡ SUCCESSFUL_COMPLETION → is_half after ≡ false
   pub moves : o.stopped ≡ false → Stays before after
-  pub programs : o.status ≡ SUCCESSFUL_COMPLETION → TakesQuietly before k old new
-  pub quiet : o.status ≡ SUCCESSFUL_COMPLETION → ReadsQuietly before k old new
+  pub programs : o.status ≡ SUCCESSFUL_COMPLETION → is_half before ≡ false → TakesQuietly before k old new
+  pub quiet : o.status ≡ SUCCESSFUL_COMPLETION → is_half before ≡ false → ReadsQuietly before k old new

@@ -12,14 +12,16 @@ use Rattle.pk_call.specs.Exec.{report_of}
 use Rattle.pk_call.specs.Calling.{FewCalls, most_calls_of, only_looks}
 use Rattle.pk_call.specs.Settling.{may_raise}
 use Rattle.pk_call.specs.declared.types.Outcome.{Outcome}
-use Rattle.pk_parts.specs.Parts.{Parts, counts_of, sight_of}
+use Rattle.pk_parts.specs.Parts.{Parts, counts_of, sight_of, is_half}
 use Rattle.pk_parts.specs.Staying.{StaysFresh, Stays, StaysOrOpens, IsNoted}
 use Rattle.pk_core.specs.Programming.{QuietStore, QuietDelete}
 use Rattle.pk_core.specs.Stepping.{Lessens}
 
 -- A command came to this outcome. A Store alone may take a block more, beside it a Tick another open block; what only looks changes nothing.
--- A Store or a Delete alone may raise the background work, and a Tick lowers it.
+-- A Store or a Delete alone may raise the background work, and makes a pair whole that was half made; a Tick lowers the work.
 pub record Performs (before after : Parts) (old new : BoardState) (r : Request) (value : List ℕ) (o : Outcome) : Type 0 where
+  pub half : o.stopped ≡ false → r.opcode ≢ TICK → is_half before ≡ false → is_half after ≡ false
+  pub finishes : may_raise r.opcode ≡ true → o.status ≡ SUCCESSFUL_COMPLETION → is_half after ≡ false
   pub fresh : o.stopped ≡ false → StaysFresh before after
   pub opens : r.opcode ≡ STORE → o.stopped ≡ false → StaysOrOpens before after (charge before.log.shape r.size)
   pub no_more : r.opcode ≢ STORE → o.stopped ≡ false → (counts_of after).blocks ≤ (counts_of before).blocks

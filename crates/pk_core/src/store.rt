@@ -9,15 +9,16 @@ ghost use Rattle.pk_model.specs.Answer.{store_fault as store_fault_of};
 ghost use Rattle.pk_core.specs.Done.{Executes};
 ghost use Rattle.pk_core.specs.Serving.{IsServable, IsCounted, outcome_for, stopped_by, pages_at as pages_at_by};
 ghost use Rattle.pk_nvme.specs.declared.opcode.TheConstants.{STORE, DELETE};
-ghost use Rattle.pk_work.specs.Calls.{commit_calls, room_calls, room_roots, store_roots};
+ghost use Rattle.pk_work.specs.Calls.{commit_calls, pair_calls, room_calls, room_roots, store_roots};
 ghost use Rattle.pk_parts.specs.Costs.{Spends, space_and_put_calls};
+ghost use Rattle.pk_parts.specs.Parts.{is_half};
 ghost use Rattle.pk_parts.specs.Staying.{Stays, StaysOrOpens, IsNoted};
 ghost use Rattle.pk_core.specs.Programming.{QuietStore, QuietDelete};
 ghost use Rattle.pk_core.specs.LookedUp.{IsLookedUp, StoresOver, DeletesAt};
 ghost use Rattle.pk_nvme.specs.declared.status.TheConstants.{SUCCESSFUL_COMPLETION};
 
 use crate::quiet::{refusal, served};
-use crate::storing::put_with_space;
+use crate::storing::{put_whole, take_whole};
 use pk_base::{Key, Place, Shape};
 use pk_call::Outcome;
 use pk_index::reads_since;
@@ -131,7 +132,7 @@ fn store_over<B: Nand, A: Region>(
     // The blocks for values, and the calls.
     ensures stores { StoresOver parts.old parts.new (B.state board.old) (B.state board.new) key
         (spec.charge parts.old.log.shape request.now.size) result }
-    ensures spends { Spends (space_and_put_calls parts.old.log.shape
+    ensures spends { Spends (pair_calls + space_and_put_calls parts.old.log.shape
         (spec.most_pages parts.old.log.shape)) store_roots (B.state board.old)
         (B.state board.new) }
 {
@@ -139,7 +140,7 @@ fn store_over<B: Nand, A: Region>(
     match fault_of_store(parts, request, &old) {
         Some(status) => refusal(status, reads_since(board, before)),
         None => {
-            let answer = put_with_space(parts, board, key, value, old);
+            let answer = put_whole(parts, board, key, value, old);
             changed(parts, answer, reads_since(board, before))
         }
     }
@@ -163,7 +164,9 @@ pub(crate) fn store<B: Nand, A: Region>(
         (command_of request.now value.now) result into result.reads }
     ensures no_data { result.data_len ≡ 0 }
 
-    // The blocks for values, and the calls of a Store that waits for nothing.
+    // The blocks for values, the pair that was half made, and the calls of a Store that waits for nothing.
+    ensures half { result.stopped ≡ false → is_half parts.old ≡ false → is_half parts.new ≡ false }
+    ensures finishes { result.status ≡ SUCCESSFUL_COMPLETION → is_half parts.new ≡ false }
     ensures opens { result.stopped ≡ false → StaysOrOpens parts.old parts.new
         (spec.charge parts.old.log.shape request.now.size) }
     ensures noted { result.status ≡ SUCCESSFUL_COMPLETION
@@ -206,14 +209,14 @@ fn delete_at<B: Nand, A: Region>(
     // The blocks for values, and the calls.
     ensures deletes { DeletesAt parts.old parts.new (B.state board.old) (B.state board.new) key
         result }
-    ensures spends { Spends (room_calls parts.old.log.shape + commit_calls) room_roots
-        (B.state board.old) (B.state board.new) }
+    ensures spends { Spends (pair_calls + (room_calls parts.old.log.shape + commit_calls))
+        room_roots (B.state board.old) (B.state board.new) }
 {
     known(&key);
     match old {
         None => refusal(KEY_DOES_NOT_EXIST, reads_since(board, before)),
         Some(place) => {
-            let answer = parts.take_out(board, key, place);
+            let answer = take_whole(parts, board, key, place);
             changed(parts, answer, reads_since(board, before))
         }
     }
@@ -234,7 +237,9 @@ pub(crate) fn delete<B: Nand, A: Region>(
         (command_of request.now v) result into result.reads }
     ensures no_data { result.data_len ≡ 0 }
 
-    // The blocks for values, and the calls of a Delete that waits for nothing.
+    // The blocks for values, the pair that was half made, and the calls of a Delete that waits for nothing.
+    ensures half { result.stopped ≡ false → is_half parts.old ≡ false → is_half parts.new ≡ false }
+    ensures finishes { result.status ≡ SUCCESSFUL_COMPLETION → is_half parts.new ≡ false }
     ensures moves { result.stopped ≡ false → Stays parts.old parts.new }
     ensures quiet { QuietDelete parts.old (B.state board.old) (B.state board.new) request.now
         result }

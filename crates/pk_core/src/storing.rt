@@ -1,17 +1,18 @@
 //! A key gets a value, wherever that has room: behind reclaims where it has none.
 ghost use Rattle.std.specs.Prelude.{◌≡◌, ◌≤◌, ◌+◌, true, false, OnOk};
-ghost use Rattle.pk_parts.specs.Parts.{pages_for};
+ghost use Rattle.pk_parts.specs.Parts.{pages_for, is_half};
 ghost use Rattle.pk_parts.specs.Costs.{NumbersLast, Spends, put_calls, space_and_put_calls};
 ghost use Rattle.pk_nand.specs.Calls.{last_count};
 ghost use Rattle.pk_model.specs.Wear.{is_worn};
-ghost use Rattle.pk_work.specs.Calls.{lookup_calls, room_calls, room_roots, store_roots};
+ghost use Rattle.pk_work.specs.Calls.{commit_calls, lookup_calls, pair_calls, room_calls, room_roots, store_roots};
 ghost use Rattle.pk_parts.specs.Changes.{CanPut, StaysBetween};
 ghost use Rattle.pk_parts.specs.Emptying.{OnRunning};
-ghost use Rattle.pk_parts.specs.Staying.{StaysOrOpens, IsNoted};
+ghost use Rattle.pk_parts.specs.Staying.{Stays, StaysOrOpens, IsNoted};
 ghost use Rattle.pk_core.specs.Spacing.{CanStore, StoresOrReads, store_most};
 ghost use Rattle.pk_parts.specs.Spacing.{needs};
 ghost use Rattle.pk_core.specs.Programming.{ReadsNone};
-ghost use Rattle.pk_parts.specs.Programming.{PutsQuietly};
+ghost use Rattle.pk_parts.specs.Programming.{PutsQuietly, TakesQuietly, ReadsQuietly};
+ghost use Rattle.pk_core.specs.Whole.{CanPutBetween, CanTakeBetween, StoresWhole, TakesWhole};
 
 use pk_base::{Key, Place};
 use pk_nand::{Fault, Nand};
@@ -122,5 +123,76 @@ pub(crate) fn put_with_space<B: Nand, A: Region>(
         put_behind_reclaims(parts, board, key, value)
     } else {
         parts.put(board, key, value, old)
+    }
+}
+
+/// A key gets a value, in place of the one at `old`, after the second program of a pair that is half made. Where the value has no room,
+/// reclaims make it. `Reading` where a read of a reclaim, of a merge or of a look-up fails: the map is as it was. `Stopped` where a
+/// program or an erase fails.
+pub(crate) fn put_whole<B: Nand, A: Region>(
+    parts: &mut Parts<A>,
+    board: &mut B,
+    key: Key,
+    value: &[u8],
+    old: Option<Place>,
+) -> Result<(), Fault>
+    requires can { CanPutBetween parts.old (B.state board.old) key value.now old }
+    requires unworn { is_worn (B.state board.old) ≡ false }
+
+    // The map, and then the drive beside it: no pair is half made.
+    ensures step { StoresWhole parts.old parts.new (store_most parts.old.log.shape)
+        (B.state board.old) (B.state board.new) key value.now result }
+    ensures whole { OnRunning (is_half parts.new ≡ false) result }
+    ensures stays { OnRunning (StaysBetween parts.old parts.new) result }
+    ensures opens { OnRunning (StaysOrOpens parts.old parts.new
+        (pages_for parts.old value.now)) result }
+    ensures noted { OnOk result (IsNoted parts.new key) }
+    ensures spends { Spends (pair_calls + space_and_put_calls parts.old.log.shape
+        (pages_for parts.old value.now)) store_roots (B.state board.old)
+        (B.state board.new) }
+
+    // A Store that waits for nothing.
+    ensures programs { is_half parts.old ≡ false → OnOk result (PutsQuietly parts.old key
+        (pages_for parts.old value.now) (B.state board.old)
+        (B.state board.new)) }
+    ensures quiet { is_half parts.old ≡ false → OnOk result (ReadsNone parts.old key
+        (pages_for parts.old value.now) (B.state board.old)
+        (B.state board.new)) }
+{
+    match parts.make_whole(board) {
+        Ok(()) => put_with_space(parts, board, key, value, old),
+        Err(fault) => Err(fault),
+    }
+}
+
+/// A key loses its value, the one at `old`, after the second program of a pair that is half made. `Reading` where a read of a merge
+/// fails, which had to make room: the map is as it was. `Stopped` where a program or an erase fails.
+pub(crate) fn take_whole<B: Nand, A: Region>(
+    parts: &mut Parts<A>,
+    board: &mut B,
+    key: Key,
+    old: Place,
+) -> Result<(), Fault>
+    requires can { CanTakeBetween parts.old (B.state board.old) key old }
+    requires number { NumbersLast (room_calls parts.old.log.shape) (B.state board.old) }
+
+    // The map, and then the drive beside it: no pair is half made.
+    ensures step { TakesWhole parts.old parts.new (room_calls parts.old.log.shape)
+        (B.state board.old) (B.state board.new) key old result }
+    ensures whole { OnRunning (is_half parts.new ≡ false) result }
+    ensures stays { OnRunning (StaysBetween parts.old parts.new) result }
+    ensures moves { OnRunning (Stays parts.old parts.new) result }
+    ensures spends { Spends (pair_calls + (room_calls parts.old.log.shape + commit_calls))
+        room_roots (B.state board.old) (B.state board.new) }
+
+    // A Delete that waits for nothing.
+    ensures programs { is_half parts.old ≡ false → OnOk result
+        (TakesQuietly parts.old key (B.state board.old) (B.state board.new)) }
+    ensures quiet { is_half parts.old ≡ false → OnOk result
+        (ReadsQuietly parts.old key (B.state board.old) (B.state board.new)) }
+{
+    match parts.make_whole(board) {
+        Ok(()) => parts.take_out(board, key, old),
+        Err(fault) => Err(fault),
     }
 }

@@ -19,7 +19,7 @@ use Rattle.pk_pool.specs.Blocks.{Blocks, PoolOnFlash, IsSpare, used_by, with_sta
 use Rattle.pk_nand.specs.Calls.{IsErasedBlock}
 use Rattle.pk_pool.specs.Taking.{SameButBlock, ReachesIn, WentIn, FailsToErase}
 use Rattle.pk_pool.proofs.States.{get-set_other, set_is}
-use Rattle.pk_pool.proofs.Fitting.{block_of, apart, PoolOnFlash-outside, owned_not_ready}
+use Rattle.pk_pool.proofs.Fitting.{block_of, apart, even_start, PoolOnFlash-outside, owned_not_ready}
 use Rattle.pk_live.specs.Values.{Values}
 use Rattle.pk_model.proofs.ValueSets.{is_true}
 use Rattle.pk_steps.specs.Under.{IsValuePage}
@@ -51,6 +51,7 @@ reserved shape live (Some o) pool outputs flash es page count p some room is =
     record {
       next = is;
       room = room;
+      even = omega (arith, is, even_start o.block n p.is_shape.eights, open_is.even);
       exists = omega (arith, is, end, left, mul_comm n shape.blocks);
       inside = omega (arith, is, whole, left);
       behind_roots = omega (arith, block, open_is.behind_roots);
@@ -161,6 +162,7 @@ module _ (shape : Shape) (pool : Blocks) (outputs : List ℕ) (flash flash' : Fl
           behind_roots = low;
           exists = exists;
           within = omega arith;
+          even = refl;
           written = λ k low' high. absurd (omega (arith, low', high));
           unwritten = λ k low' high. is_erased k (omega (arith, low')) high;
         };
@@ -194,6 +196,7 @@ wrote shape live (Some o) pool outputs old new es count p room w = record {
     behind_roots = open_is.behind_roots;
     exists = open_is.exists;
     within = omega (arith, left);
+    even = omega (arith, open_is.even, w.pairs);
     written = λ k low high. elim (cases_lt k (o.block * shape.block_pages + o.used)) [
       | inl below ↦ (λ e. open_is.written k low below (sym (w.outside.below k below) ∙ e))
       | inr above ↦ w.written k (omega (arith, above)) (omega (arith, high))

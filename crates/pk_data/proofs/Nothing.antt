@@ -9,7 +9,7 @@ use Rattle.pk_base.specs.Shape.{Shape}
 use Rattle.pk_plan.specs.declared.owner.Owner.TheVariants.{Values as for_values}
 use Rattle.pk_pool.specs.declared.state.BlockState.TheVariants.{Root, Free, Owned}
 use Rattle.pk_pool.specs.Blocks.{unused}
-use Rattle.pk_pool.proofs.States.{get-set_other, get-set_same, none_ready_unused}
+use Rattle.pk_pool.proofs.States.{get-set_other, get-set_same, none_ready_unused, none_leaves_unused}
 use Rattle.pk_live.proofs.Nothing.{Lives-none}
 use Rattle.pk_data.specs.Placed.{HoldsValues}
 use Rattle.pk_data.specs.Laws.{StartsWithNone}
@@ -46,4 +46,5 @@ starts_with_none shape flash is_shape = record {
   written = λ k is. absurd is;
   closed_owned = λ b is. let clash : false ≡ true = only shape.blocks b false true is in cc;
   owned_closed = λ b held. absurd (none_owned shape b held);
+  none_leaves = none_leaves_unused shape;
 }

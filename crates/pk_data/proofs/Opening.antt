@@ -10,9 +10,10 @@ use Rattle.pk_base.specs.Shape.{Shape, IsShape, page_count, data_blocks}
 use Rattle.pk_base.specs.Page.{Flash}
 use Rattle.pk_base.specs.Entry.{Place}
 use Rattle.pk_base.specs.EntryBytes.{IsPlace}
+use Rattle.pk_plan.specs.declared.owner.Owner.{Owner}
 use Rattle.pk_plan.specs.declared.owner.Owner.TheVariants.{Journal, Meta, Values as for_values}
 use Rattle.pk_pool.specs.declared.state.BlockState.{BlockState}
-use Rattle.pk_pool.specs.declared.state.BlockState.TheVariants.{Root, Free, Ready, Owned}
+use Rattle.pk_pool.specs.declared.state.BlockState.TheVariants.{Root, Free, Ready, Owned, Leaving}
 use Rattle.pk_pool.specs.Blocks.{Blocks, is_owned_by, used_by}
 use Rattle.pk_live.specs.Values.{Values}
 use Rattle.pk_model.specs.Values.{all_pages, fits}
@@ -71,13 +72,14 @@ page_in n b (p ∷ pages) is = elim (or_cases (p / n == b) (list_any (λ q. q / 
 ]
 
 -- the state of a block for values
-owned_is : (s : BlockState) → is_owned_by for_values s ≡ true → s ≡ Owned for_values
-owned_is Root e = cc
-owned_is Free e = cc
-owned_is Ready e = cc
-owned_is (Owned Journal) e = cc
-owned_is (Owned Meta) e = cc
-owned_is (Owned for_values) e = refl
+owned_is : (s : BlockState) → ((o : Owner) → s ≡ Leaving o → ⊥) → is_owned_by for_values s ≡ true → s ≡ Owned for_values
+owned_is Root stays e = cc
+owned_is Free stays e = cc
+owned_is Ready stays e = cc
+owned_is (Owned Journal) stays e = cc
+owned_is (Owned Meta) stays e = cc
+owned_is (Owned for_values) stays e = refl
+owned_is (Leaving o) stays e = absurd (stays o refl)
 
 module _ (shape : Shape) (named : List ℕ) (live : Values) (pool : Blocks) (flash : Flash) (es : List (Key × Place)) (f : FoundAtOpening shape named live pool flash es) where
   closed_is : live.closed ≡ map (is_used shape es) (range_with_len 0 shape.blocks)
@@ -106,7 +108,7 @@ module _ (shape : Shape) (named : List ℕ) (live : Values) (pool : Blocks) (fla
       let exists : i < shape.blocks = omega (arith, slice_get_within pool.states i x is, f.size) in
       let same : 0 + i ≡ i = omega arith in
       ap (is_used shape es) same ∙ elim (cases_Bool (is_owned_by for_values x)) [
-        | inl yes' ↦ owned_used i exists (is ∙ ap Some (owned_is x yes')) ∙ sym yes'
+        | inl yes' ↦ owned_used i exists (is ∙ ap Some (owned_is x (λ o left. f.none_leaves i o (is ∙ ap Some left)) yes')) ∙ sym yes'
         | inr not_owned ↦ false_from_ne_true (is_used shape es i) (λ used.
             let one : is_owned_by for_values x ≡ true = ap (is_owned_by for_values) (same_Some x (Owned for_values) (sym is ∙ used_owned i exists used)) in
             let clash : true ≡ false = sym one ∙ not_owned in cc) ∙ sym not_owned

@@ -35,11 +35,11 @@ pub record InBlock (shape : Shape) (pool : Blocks) (outputs : List ℕ) (flash :
   pub no_output : (k : ℕ) → IsPageOf shape k place → IsOutput outputs (k / shape.block_pages) → ⊥
   pub written : (k : ℕ) → IsPageOf shape k place → page_at flash k ≢ erased
 
-in_block : (shape : Shape) (pool : Blocks) (outputs : List ℕ) (flash : Flash) (place : Place) (open_block : Option OpenBlock) → IsShape shape → place.len ≤ greatest shape
+in_block : (shape : Shape) (pool : Blocks) (outputs : List ℕ) (flash : Flash) (place : Place) (open_block : Option OpenBlock) → IsShape shape → place.page % 2 ≡ 0 → place.len ≤ greatest shape
     → MatchOption open_block (Unit {0}) (λ o. IsOpenIn shape pool flash o) → ((b : ℕ) → IsOutput outputs b → IsNotOpen open_block b)
     → MatchOption open_block ⊥ (λ o. (o.block * shape.block_pages ≤ place.page) × (place.page + charge shape place.len ≤ o.block * shape.block_pages + o.used)) → InBlock shape pool outputs flash place
-in_block shape pool outputs flash place None is_shape short open_is not_open inside = absurd inside
-in_block shape pool outputs flash place (Some o) is_shape short open_is not_open inside =
+in_block shape pool outputs flash place None is_shape even short open_is not_open inside = absurd inside
+in_block shape pool outputs flash place (Some o) is_shape even short open_is not_open inside =
     let n : ℕ = shape.block_pages in
     let some = charge_some shape is_shape place.len in
     let low = inside.0 in
@@ -52,6 +52,7 @@ in_block shape pool outputs flash place (Some o) is_shape short open_is not_open
       is_place = record {
         exists = omega (arith, end, high, some, open_is.within, mul_comm n shape.blocks);
         past_roots = omega (arith, first, open_is.behind_roots);
+        even = even;
         short = short;
         inside = omega (arith, whole, high, open_is.within);
       };
@@ -158,7 +159,7 @@ before d old = with_heads d (heads_without old d.live.heads)
 
 module _ (d : DataState) (old : Option Span) (new : Span) (m : Moves d old new) where
   within : InBlock m.shape m.pool m.outputs m.flash m.place
-  within = in_block m.shape m.pool m.outputs m.flash m.place d.open_block m.placed.is_shape m.short m.placed.open_is m.placed.outputs_are.not_open m.in_open
+  within = in_block m.shape m.pool m.outputs m.flash m.place d.open_block m.placed.is_shape m.even m.short m.placed.open_is m.placed.outputs_are.not_open m.in_open
 
   pub old_head : MatchOption old (Unit {0}) (λ s. slice_get d.live.heads s.page ≡ Some s.count)
   old_head =

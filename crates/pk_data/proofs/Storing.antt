@@ -6,6 +6,7 @@ use Rattle.std.specs.FinMap.Entries.{put, find, is_sorted, is_sorted-put, find-p
 use Rattle.pk_base.specs.Key.{Key, key_cmp}
 use Rattle.pk_base.specs.Shape.{Shape, charge, greatest}
 use Rattle.pk_base.specs.Entry.{Place}
+use Rattle.pk_base.proofs.ShapeLemmas.{charge_even}
 use Rattle.pk_base.specs.Page.{Flash, page_at, whole}
 use Rattle.pk_base.specs.Mark.{all_posted}
 use Rattle.pk_nand.specs.BoardState.{BoardState}
@@ -29,6 +30,7 @@ same_at_end page count old new reached =
 pub writes_value : (shape : Shape) (d : DataState) (pool : Blocks) (old new : Flash) (key : Key) (value : List ℕ) (page count : ℕ) → IsReserved shape d pool old page count → count ≡ charge shape (length value)
     → SameOutside page (charge shape (length value)) old new → IsStored shape (page_at new) key page value → WritesNext shape d count old new
 writes_value shape d pool old new key value page count reserved count_is outside stored = record {
+  pairs = omega (arith, count_is, charge_even shape (length value));
   outside = subst (λ (p : ℕ). SameOutside p count old new) reserved.next (subst (λ (n : ℕ). SameOutside page n old new) (sym count_is) outside);
   written = λ k low high e.
       let next = reserved.next in
@@ -61,6 +63,7 @@ module _ (shape : Shape) (before d : DataState) (pool : Blocks) (outputs : List 
     rising = rising;
     old_is = old_is;
     new_is = ap (λ (n : ℕ). record { page = page; count = n }) (sym count_is);
+    even = reserved.even;
     short = short;
     in_open = here;
     free = λ k is there. free k is.0 (omega (arith, is.1, count_is)) there;

@@ -43,6 +43,7 @@ open_same shape p q outputs old new (Some o) kept same not_open open_is =
       behind_roots = open_is.behind_roots;
       exists = open_is.exists;
       within = open_is.within;
+      even = open_is.even;
       written = λ k low high e. open_is.written k low high (sym (page k low (omega (arith, high, open_is.within))) ∙ e);
       unwritten = λ k low high. page k (omega (arith, low)) high ∙ open_is.unwritten k low high;
     }

@@ -1,5 +1,5 @@
 -- A key gets a value at another place, or has one no more.
-use Rattle.std.specs.Prelude.{◌≡◌, ℕ, ◌+◌, ◌*◌, ◌≤◌, List, Option, Some, None, MatchOption, T, slice_set}
+use Rattle.std.specs.Prelude.{◌≡◌, ℕ, ◌+◌, ◌*◌, ◌%◌, ◌≤◌, List, Option, Some, None, MatchOption, T, slice_set}
 use Rattle.std.specs.FinMap.Entries.{find, is_sorted}
 use Rattle.pk_base.specs.Key.{Key, key_cmp}
 use Rattle.pk_base.specs.Shape.{Shape, charge, greatest}
@@ -43,7 +43,7 @@ pub record Held (d : DataState) (span : Span) : Type 0 where
   pub found : find key_cmp key es ≡ Some place
   pub span_is : span_of shape place ≡ span
 
--- A key is to have its value at the pages of new, which were written into the open block and belong to no value. Until now it had
+-- A key is to have its value at the pages of new, from an even one on, which were written into the open block and belong to no value. Until now it had
 -- those of old, or none.
 pub record Moves (d : DataState) (old : Option Span) (new : Span) : Type 0 where
   pub shape : Shape
@@ -57,6 +57,7 @@ pub record Moves (d : DataState) (old : Option Span) (new : Span) : Type 0 where
   pub rising : T (is_sorted key_cmp es)
   pub old_is : span_if_some shape (find key_cmp key es) ≡ old
   pub new_is : span_of shape place ≡ new
+  pub even : place.page % 2 ≡ 0
   pub short : place.len ≤ greatest shape
   pub in_open : IsInOpen shape d place.page (charge shape place.len)
   pub free : (k : ℕ) → IsPageOf shape k place → IsValuePage shape es k → ⊥

@@ -1,5 +1,5 @@
 -- The values of a flash, as the live map, the pool and the open block tell them.
-use Rattle.std.specs.Prelude.{◌≡◌, ◌≢◌, ℕ, ◌+◌, ◌-◌, ◌*◌, ◌/◌, ◌<◌, ◌≤◌, List, [], ◌∷◌, length, map, filter, not, slice_get, true, Option, Some, MatchOption}
+use Rattle.std.specs.Prelude.{◌≡◌, ◌≢◌, ℕ, ◌+◌, ◌-◌, ◌*◌, ◌/◌, ◌%◌, ◌<◌, ◌≤◌, List, [], ◌∷◌, length, map, filter, not, slice_get, true, Option, Some, MatchOption}
 use Rattle.std.specs.List.{range_with_len, AllByRecursion}
 use Rattle.std.specs.Ordering.{eq_by_cmp}
 use Rattle.pk_base.specs.declared.sizes.TheConstants.{ROOT_BLOCKS}
@@ -9,7 +9,7 @@ use Rattle.pk_base.specs.Page.{Flash, page_at, erased}
 use Rattle.pk_base.specs.Entry.{Place}
 use Rattle.pk_base.specs.EntryBytes.{IsPlace}
 use Rattle.pk_plan.specs.declared.owner.Owner.TheVariants.{Values as for_values}
-use Rattle.pk_pool.specs.Blocks.{Blocks, PoolOnFlash, used_by}
+use Rattle.pk_pool.specs.Blocks.{Blocks, PoolOnFlash, NoneLeaves, used_by}
 use Rattle.pk_live.specs.Values.{Values, IsClosed}
 use Rattle.pk_rootfmt.specs.Root.{differ}
 use Rattle.pk_model.specs.Laws.{AnyByRecursion, IsPageOf}
@@ -27,12 +27,13 @@ HoldsValues pool b = slice_get pool.states b ≡ Some (Owned for_values)
 abbrev pub IsOutput : List ℕ → ℕ → Type 0
 IsOutput outputs b = AnyByRecursion (λ c. b ≡ c) outputs
 
--- The open block is one for values. Its first pages are written, and those behind them are Erased.
+-- The open block is one for values. Its first pages are written, whole pairs of them, and those behind them are Erased.
 pub record IsOpenIn (shape : Shape) (pool : Blocks) (flash : Flash) (o : OpenBlock) : Type 0 where
   pub owned : HoldsValues pool o.block
   pub behind_roots : ROOT_BLOCKS ≤ o.block
   pub exists : o.block < shape.blocks
   pub within : o.used ≤ shape.block_pages
+  pub even : o.used % 2 ≡ 0
   pub written : (k : ℕ) → o.block * shape.block_pages ≤ k → k < o.block * shape.block_pages + o.used → page_at flash k ≢ erased
   pub unwritten : (k : ℕ) → o.block * shape.block_pages + o.used ≤ k → k < o.block * shape.block_pages + shape.block_pages → page_at flash k ≡ erased
 
@@ -85,7 +86,7 @@ abbrev pub StayPlaced : Shape → DataState → Blocks → Flash → DataState �
 StayPlaced shape d p old d' q new = (outputs : List ℕ) (es : List (Key × Place)) → ValuesOnFlash shape d p outputs old es → ValuesOnFlash shape d' q outputs new es
 
 -- As it is at opening: these values were taken one after another, their pages are written, and the pool has the blocks for
--- values that are closed.
+-- values that are closed, of which none leaves.
 pub record FoundAtOpening (shape : Shape) (named : List ℕ) (live : Values) (pool : Blocks) (flash : Flash) (es : List (Key × Place)) : Type 0 where
   pub is_shape : IsShape shape
   pub shape_is : pool.shape ≡ shape
@@ -95,6 +96,7 @@ pub record FoundAtOpening (shape : Shape) (named : List ℕ) (live : Values) (po
   pub written : (k : ℕ) → IsValuePage shape es k → page_at flash k ≢ erased
   pub closed_owned : (b : ℕ) → IsClosed live b → HoldsValues pool b
   pub owned_closed : (b : ℕ) → HoldsValues pool b → IsClosed live b
+  pub none_leaves : NoneLeaves pool
 
 -- these values without that of a key
 abbrev pub without : Key → List (Key × Place) → List (Key × Place)

@@ -1,6 +1,6 @@
 //! The trait of a drive over the board that it is handed.
 ghost use Rattle.std.specs.Prelude.{◌≡◌, ◌≢◌, ◌≤◌, ◌<◌, ◌+◌, ℕ, List, [], length, take, true, false, nat_le, OnOk, OnErr, IsOk, IsSome, Some, Option, Ok};
-ghost use Rattle.pk_base.specs.Shape.{Shape, greatest, charge};
+ghost use Rattle.pk_base.specs.Shape.{Shape, greatest, charge, commit_programs};
 ghost use Rattle.pk_base.specs.Page.{Flash};
 ghost use Rattle.pk_base.specs.Map.{Map, live};
 ghost use Rattle.pk_nvme.specs.Command.{key};
@@ -12,7 +12,7 @@ ghost use Rattle.pk_model.specs.Sight.{Sight, map_of};
 ghost use Rattle.pk_model.specs.Wear.{root_number, roots, is_worn};
 ghost use Rattle.pk_model.specs.declared.wear.TheConstants.{WORN_FROM};
 ghost use Rattle.pk_call.specs.Drive.{CountsMap};
-ghost use Rattle.pk_nand.specs.Effects.{OnlyFlash, OnlyReading, NoFault, AtMostOneCall};
+ghost use Rattle.pk_nand.specs.Effects.{OnlyFlash, OnlyReading, NoFault, AtMostOneCall, OneProgram};
 ghost use Rattle.pk_call.specs.Meter.{reads_after};
 ghost use Rattle.pk_model.specs.Crashes.{background, commit, command};
 ghost use Rattle.pk_call.specs.Call.{KeepsMap, CallReaches, CallGoes};
@@ -140,6 +140,12 @@ pub trait Engine {
             → result.stopped ≡ false
             → (sight self.new).open_block ≡ (sight self.old).open_block }
 
+        // A pair becomes half made in a Tick alone, and a Store or a Delete that ended has made it whole.
+        ensures half { result.stopped ≡ false → request.now.opcode ≢ TICK
+            → (sight self.old).half ≡ false → (sight self.new).half ≡ false }
+        ensures finishes { may_raise request.now.opcode ≡ true
+            → result.status ≡ SUCCESSFUL_COMPLETION → (sight self.new).half ≡ false }
+
         // A Store or a Delete that waits for nothing.
         ensures quiet_store { request.now.opcode ≡ STORE → result.status ≡ SUCCESSFUL_COMPLETION
             → IsQuiet (shape_of (B.state board.old)) (B.state board.old).pages (sight self.old) (key
@@ -157,7 +163,7 @@ pub trait Engine {
             (sight self.old).counts.frames result.reads (commits_for (shape_of (B.state board.old))
             (sight self.old)) };
 
-    /// Commits the pending entries by one program; where there are none it does nothing. A failure stops the drive.
+    /// Commits the pending entries by the two programs of a commit; where there are none it does nothing. A failure stops the drive.
     fn commit<B: Nand>(&mut self, board: &mut B) -> Result<(), NandFault>
         // The drive and the board.
         requires agrees { agrees self.old (B.state board.old).shape (B.state board.old).pages }
@@ -191,7 +197,10 @@ pub trait Engine {
         ensures sound { OnOk result
             ((B.state board.new).flash_faults ≡ (B.state board.old).flash_faults) }
         ensures flash_up { (B.state board.old).flash_faults ≤ (B.state board.new).flash_faults }
-        ensures program { CommitPrograms (B.state board.old) (B.state board.new) (sight self.old) }
+        ensures program { CommitPrograms 1 (B.state board.old) (B.state board.new)
+            (sight self.old) }
+        ensures programs { OnOk result (CommitPrograms commit_programs (B.state board.old)
+            (B.state board.new) (sight self.old)) }
         ensures installs { roots (B.state board.new) ≡ roots (B.state board.old) }
 
         // What is seen of the drive.
@@ -221,8 +230,8 @@ pub trait Engine {
             → CallReaches (B.state board.old) (B.state board.new) (sight self.old) background }
         ensures cuts_stopped { stopped_by result ≡ true
             → CallGoes (B.state board.old) (B.state board.new) (sight self.old) background }
-        ensures grows { Grows (shape_of (B.state board.old)) (B.state board.old).pages
-            (B.state board.new).pages }
+        ensures grows { stopped_by result ≡ false → Grows (shape_of (B.state board.old))
+            (B.state board.old).pages (B.state board.new).pages }
 
         // What it answers, and a step that does nothing.
         ensures idle { TellsIdle (B.state board.old) (sight self.old) result }
@@ -231,6 +240,12 @@ pub trait Engine {
         ensures unmade { result ≡ Ticked.Fault false → (sight self.new ≡ sight self.old)
             × OnlyReading (B.state board.old) (B.state board.new) }
         ensures lowers { LowersWork (B.state board.old) (sight self.old) (sight self.new) result }
+
+        // The second program of a pair that is half made comes before all other steps.
+        ensures repeats { (sight self.old).half ≡ true
+            → OneProgram (B.state board.old) (B.state board.new) }
+        ensures finishes { (sight self.old).half ≡ true → stopped_by result ≡ false
+            → (sight self.new).half ≡ false }
 
         // Counts of calls, of faults and of roots.
         ensures calls { AtMostOneCall (B.state board.old) (B.state board.new) }

@@ -1,5 +1,5 @@
-//! Epochs: the commits of each, up to the first page that is not Whole, with their entries.
-ghost use Rattle.std.specs.Prelude.{◌≡◌, ◌<◌, length, MatchBool};
+//! Epochs: the commits of each, up to the first that has no page that is Whole, with their entries.
+ghost use Rattle.std.specs.Prelude.{◌≡◌, ◌⊎◌, ◌<◌, length, MatchBool};
 ghost use Rattle.pk_base.specs.Page.{whole};
 ghost use Rattle.pk_base.specs.Shape.{epoch_commits};
 ghost use Rattle.pk_nand.specs.Seen.{state};
@@ -147,6 +147,25 @@ fn tell_number(out: &mut String, form: Form, number: u64) -> Result<(), AllocErr
     }
 }
 
+/// Whether the page of this number is Whole.
+fn is_whole_at(pages: &[PageState], page: u32) -> bool {
+    match pages.get(page as usize) {
+        Some(PageState::Whole(_)) => true,
+        _ => false,
+    }
+}
+
+/// The page by which a pair is read: its first page, or its second one if that alone is Whole.
+fn page_of_pair(pages: &[PageState], first: u32, second: u32) -> u32
+    ensures { (result ≡ first) ⊎ (result ≡ second) }
+{
+    if !is_whole_at(pages, first) && is_whole_at(pages, second) {
+        second
+    } else {
+        first
+    }
+}
+
 /// Tells of the commits of an epoch.
 fn tell_epoch(
     out: &mut String,
@@ -160,9 +179,13 @@ fn tell_epoch(
     let number = epoch.number;
     tell_number(out, form, number)?;
     for index in 0..shape.epoch_commits() {
-        let Some(at) = page_in(shape, &epoch.blocks, index) else {
+        let Some(first) = page_in(shape, &epoch.blocks, 2 * index) else {
             return Ok(());
         };
+        let Some(second) = page_in(shape, &epoch.blocks, 2 * index + 1) else {
+            return Ok(());
+        };
+        let at = page_of_pair(pages, first, second);
         let Some(page) = pages.get(at as usize) else {
             return Ok(());
         };

@@ -1,7 +1,7 @@
 //! Failing calls, cuts and rooms of the board in memory.
 
 use pk_base::Shape;
-use pk_flash::{Flash, Left, PageLeft, Room};
+use pk_flash::{EraseLeft, Flash, Left, PageLeft, Room};
 use pk_nand::{Board, HostFault, Nand, NandFault, PageState};
 use std::alloc::{AllocError, Global};
 use std::test::*;
@@ -15,12 +15,15 @@ fn left(alloc: Global, way: u8) -> Result<Left, AllocError> {
         3 => Ok(Left::Each(Vec::from_slice(
             alloc,
             &[
-                PageLeft::Kept,
-                PageLeft::Erased,
-                PageLeft::Torn,
-                PageLeft::Torn,
+                EraseLeft::Kept,
+                EraseLeft::Erased,
+                EraseLeft::Torn,
+                EraseLeft::Torn,
             ],
         )?)),
+        4 => Ok(Left::WithEven(PageLeft::Untouched)),
+        5 => Ok(Left::WithEven(PageLeft::Torn)),
+        6 => Ok(Left::WithEven(PageLeft::Done)),
         _ => Ok(Left::Part(2)),
     }
 }
@@ -130,6 +133,15 @@ fn failed_program(alloc: Global, way: u8) -> Result<[u8; 8], Fail> {
     }
 }
 
+// The first pages behind programs of pages 0 and 1, of which the second fails.
+fn failed_second(alloc: Global, way: u8) -> Result<[u8; 8], Fail> {
+    let mut flash = planned(alloc, 1, left(alloc, way)?)?;
+    match (program(&mut flash, 0), program(&mut flash, 1)) {
+        (Ok(()), Err(NandFault)) => Ok(block(&flash)),
+        _ => Err("a call that fails")?,
+    }
+}
+
 // The first pages behind five calls of which the erase fails.
 fn failed_erase(alloc: Global, way: u8) -> Result<[u8; 8], Fail> {
     let flash = failed(alloc, 2, way)?;
@@ -146,14 +158,24 @@ fn failed_post(alloc: Global, way: u8, wanted: &[u8]) -> Result<bool, Fail> {
 #[test]
 fn failures(rt: HostRuntime) -> Result<(), Fail> {
     let alloc = rt.alloc();
-    for (way, programmed, erased, posted) in [
-        (0, *b"eeeeeeee", *b"wweeeeee", b"ok".as_slice()),
-        (1, *b"teeeeeee", *b"tttttttt", b"ok"),
-        (2, *b"weeeeeee", *b"eeeeeeee", b"ok"),
-        (3, *b"eeeeeeee", *b"wetteeee", b"ok"),
-        (4, *b"eeeeeeee", *b"wweeeeee", b"fook"),
+    for (way, programmed, second, erased, posted) in [
+        (
+            0,
+            *b"eeeeeeee",
+            *b"weeeeeee",
+            *b"wweeeeee",
+            b"ok".as_slice(),
+        ),
+        (1, *b"teeeeeee", *b"wteeeeee", *b"tttttttt", b"ok"),
+        (2, *b"weeeeeee", *b"wweeeeee", *b"eeeeeeee", b"ok"),
+        (3, *b"eeeeeeee", *b"weeeeeee", *b"wetteeee", b"ok"),
+        (4, *b"eeeeeeee", *b"teeeeeee", *b"wweeeeee", b"ok"),
+        (5, *b"eeeeeeee", *b"tteeeeee", *b"wweeeeee", b"ok"),
+        (6, *b"eeeeeeee", *b"tweeeeee", *b"wweeeeee", b"ok"),
+        (7, *b"eeeeeeee", *b"weeeeeee", *b"wweeeeee", b"fook"),
     ] {
         assert_eq!(rt; failed_program(alloc, way)?, programmed, "way {way}");
+        assert_eq!(rt; failed_second(alloc, way)?, second, "way {way}");
         assert_eq!(rt; failed_erase(alloc, way)?, erased, "way {way}");
         assert!(rt; failed_post(alloc, way, posted)?, "way {way}");
     }
@@ -181,12 +203,18 @@ fn cuts(rt: HostRuntime) -> Result<(), Fail> {
         (1, 0, *b"weeeeeee"),
         (1, 1, *b"wteeeeee"),
         (1, 2, *b"wweeeeee"),
-        (1, 4, *b"weeeeeee"),
+        (0, 4, *b"eeeeeeee"),
+        (0, 6, *b"eeeeeeee"),
+        (1, 4, *b"teeeeeee"),
+        (1, 5, *b"tteeeeee"),
+        (1, 6, *b"tweeeeee"),
+        (1, 7, *b"weeeeeee"),
         (2, 0, *b"wweeeeee"),
         (2, 1, *b"tttttttt"),
         (2, 2, *b"eeeeeeee"),
         (2, 3, *b"wetteeee"),
-        (2, 4, *b"wweeeeee"),
+        (2, 5, *b"wweeeeee"),
+        (2, 7, *b"wweeeeee"),
         (3, 1, *b"eeeeeeee"),
         (5, 1, *b"eeeeeeee"),
     ] {

@@ -78,7 +78,7 @@ row_left shape block done old new few row = record { same_size = row.same_size; 
 pub torn_left : (shape : Shape) (at : ℕ) (bytes : List ℕ) (old : Flash) → Interrupted shape (program at bytes) old (slice_set old at torn) []
 torn_left shape at bytes old = record {
   same_size = length-set old at torn;
-  pages = λ k. elim (set_leaves old at k torn) [ inl same ↦ inl same | inr is ↦ inr (is.0, inr is.1) ];
+  pages = λ k. elim (set_leaves old at k torn) [ inl same ↦ inl same | inr is ↦ inr (inl (is.0, inr is.1)) ];
   posted = ([], refl);
 }
 

@@ -4,7 +4,7 @@ use Rattle.pk_base.specs.Shape.{Shape}
 use Rattle.pk_base.specs.Page.{Flash}
 use Rattle.pk_base.specs.Mark.{Mark, post}
 use Rattle.pk_flash.specs.declared.types.Left.{Left}
-use Rattle.pk_flash.specs.declared.types.Left.TheVariants.{Untouched, Torn, Done, Each, Part}
+use Rattle.pk_flash.specs.declared.types.Left.TheVariants.{Untouched, Torn, Done, Each, WithEven, Part}
 use Rattle.pk_flash.specs.Plan.{left_of, AnswersBy}
 use Rattle.pk_flash.specs.Outcomes.{outcome}
 
@@ -22,6 +22,7 @@ part all (Some Untouched) = 0
 part all (Some Torn) = 0
 part all (Some Done) = 0
 part all (Some (Each pages)) = 0
+part all (Some (WithEven left)) = 0
 part all (Some (Part count)) = min all count
 
 -- it gives these bytes out, and notes them

@@ -7,11 +7,11 @@ ghost use Rattle.pk_nand.specs.BoardState.{shape_or_none};
 ghost use Rattle.pk_nand.specs.Calls.{counted, LeftBehind, PostLeft};
 ghost use Rattle.pk_nand.specs.Seen.{state as seen, states, marks as seen_marks};
 ghost use Rattle.pk_flash.specs.Plan.{left_of};
-ghost use Rattle.pk_flash.specs.Outcomes.{choice as choice_of, program_choice as program_choice_of};
+ghost use Rattle.pk_flash.specs.Outcomes.{choice as choice_of, program_left};
 ghost use Rattle.pk_flash.specs.Rows.{RowChosen};
 ghost use Rattle.pk_flash.specs.Exact.{ActsBy, PostsBy, part as part_of};
 
-use crate::pages::{block_pages_of, choose, choose_row, program_choice};
+use crate::pages::{block_pages_of, choose_row, is_second, leave_program};
 use crate::trail::Trail;
 use crate::types::Left;
 use pk_base::Shape;
@@ -36,6 +36,7 @@ pub fn count_stop(flash_faults: &mut u64, stop_faults: &mut u64)
 
 /// Programs a page, or fails and leaves what `left` says.
 pub fn program_page(
+    shape: &Option<Shape>,
     pages: &mut Vec<PageState>,
     trail: &mut Trail,
     at: u32,
@@ -45,7 +46,7 @@ pub fn program_page(
     requires { length bytes.now ≡ trail.old.page_bytes }
 
     // Exactly what is done, or left by a call that fails.
-    ensures exact { (shape : spec.Shape) → ActsBy shape (program at bytes.now) trail.old.room
+    ensures exact { ActsBy (shape_or_none shape.now) (program at bytes.now) trail.old.room
         (option_copied left.entry) (states pages.old.items) (states pages.new.items)
         (seen_marks trail.old.marks.items) (seen_marks trail.new.marks.items) result }
 
@@ -54,9 +55,10 @@ pub fn program_page(
         (states pages.new.items ≡ slice_set (states pages.old.items) at (whole bytes.now)) }
     ensures marks { OnOk result (seen_marks trail.new.marks.items
         ≡ seen_marks trail.old.marks.items ++ program at bytes.now ∷ []) }
-    ensures flash { (shape : spec.Shape) → IsPage shape bytes.now
-        → IsFlash shape (states pages.old.items) → IsFlash shape (states pages.new.items) }
-    ensures left { OnErr result ((shape : spec.Shape) → LeftBehind shape (program at bytes.now)
+    ensures flash { IsPage (shape_or_none shape.now) bytes.now
+        → IsFlash (shape_or_none shape.now) (states pages.old.items)
+        → IsFlash (shape_or_none shape.now) (states pages.new.items) }
+    ensures left { OnErr result (LeftBehind (shape_or_none shape.now) (program at bytes.now)
         (states pages.old.items) (states pages.new.items) (Some (seen_marks trail.old.marks.items))
         (Some (seen_marks trail.new.marks.items))) }
 
@@ -68,7 +70,8 @@ pub fn program_page(
         return Err(NandFault);
     }
     let own = trail.note_program(at, bytes);
-    choose(pages, at as usize, program_choice(own, left));
+    let second = is_second(block_pages_of(shape), at);
+    leave_program(pages, at, own, left, second);
     match left {
         None => Ok(()),
         Some(_) => Err(NandFault),

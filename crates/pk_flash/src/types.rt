@@ -7,9 +7,20 @@ pub struct Room {
     pub marks: usize,
 }
 
-/// What a failing erase leaves of one page.
+/// What a failing program leaves of its page.
 #[derive(Clone, Copy, Debug, PartialEq, Eq)]
 pub enum PageLeft {
+    /// The page is as it was.
+    Untouched,
+    /// The page is Torn.
+    Torn,
+    /// The page has the bytes.
+    Done,
+}
+
+/// What a failing erase leaves of one page.
+#[derive(Clone, Copy, Debug, PartialEq, Eq)]
+pub enum EraseLeft {
     /// The page is as it was.
     Kept,
     /// The page is Erased.
@@ -29,7 +40,9 @@ pub enum Left {
     Done,
     /// Of an erased block each page by itself: the first of these is what becomes of its first page, and the pages behind
     /// the last of these are as they were.
-    Each(Vec<PageLeft>),
+    Each(Vec<EraseLeft>),
+    /// The second page of a pair is left so, and the first one is Torn.
+    WithEven(PageLeft),
     /// So many bytes of a post were given out, or all where it has fewer.
     Part(u32),
 }

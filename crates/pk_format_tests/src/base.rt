@@ -1,4 +1,4 @@
-//! Shapes, and the bytes of entries.
+//! Shapes, the pages of values, and the bytes of entries.
 
 use pk_base::{BadEntry, Entry, Shape, ShapeError};
 use std::test::*;
@@ -28,6 +28,44 @@ fn has_large_numbers() -> bool {
     match Shape::new(4096, 64, 512) {
         Ok(shape) => is_large(&shape),
         Err(_) => false,
+    }
+}
+
+// Lengths of values, and the pages that each takes: whole pairs that hold it behind its head.
+const SMALL_CHARGES: &[(u32, u32)] = &[
+    (0, 2),
+    (100, 2),
+    (480, 2),
+    (481, 2),
+    (992, 2),
+    (993, 4),
+    (2016, 4),
+];
+
+const LARGE_CHARGES: &[(u32, u32)] = &[
+    (0, 2),
+    (8160, 2),
+    (8161, 4),
+    (57312, 14),
+    (57313, 16),
+    (65504, 16),
+];
+
+fn are_charged(shape: &Shape, charges: &[(u32, u32)]) -> bool {
+    for (len, pages) in charges {
+        if *len > shape.greatest() || shape.charge(*len) != *pages {
+            return false;
+        }
+    }
+    true
+}
+
+fn has_charges() -> bool {
+    match (Shape::new(512, 16, 64), Shape::new(4096, 64, 512)) {
+        (Ok(small), Ok(large)) => {
+            are_charged(&small, SMALL_CHARGES) && are_charged(&large, LARGE_CHARGES)
+        }
+        _ => false,
     }
 }
 
@@ -74,6 +112,9 @@ const FIELDS: &[(usize, u8, Option<u32>)] = &[
     (19, 1, Some(4)),
     (22, 1, Some(20)),
     (20, 31, Some(20)),
+    (20, 65, Some(20)),
+    (20, 78, None),
+    (20, 79, Some(20)),
     (26, 1, Some(24)),
     (31, 1, Some(28)),
 ];
@@ -94,9 +135,10 @@ fn finds_fields() -> bool {
     }
 }
 
-// The numbers of two shapes, shapes that are refused, and wrong fields of entries.
+// The numbers of two shapes, shapes that are refused, the pages of values, and wrong fields of entries.
 #[test]
 fn shapes_and_entries(rt: HostRuntime) {
     assert!(rt; has_small_numbers() && has_large_numbers() && refuses_shapes());
+    assert!(rt; has_charges());
     assert!(rt; finds_fields());
 }

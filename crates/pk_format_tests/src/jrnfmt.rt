@@ -4,10 +4,10 @@ use pk_base::Shape;
 use pk_jrnfmt::{JrnHead, decode};
 use std::test::*;
 
-// A page of epoch 258 and index 17 with two entries, the later of which deletes the key of the first, byte by byte.
+// A page of epoch 258 and of the commit with index 9, with two entries, the later of which deletes the key of the first, byte by byte.
 fn written_out() -> [u8; 512] {
     let mut page = [0u8; 512];
-    page[..32].copy_from_slice(b"PINKJRNL\x02\x01\0\0\0\0\0\0\x11\0\0\0\x02\0\0\0\0\0\0\0\0\0\0\0");
+    page[..32].copy_from_slice(b"PINKJRNL\x02\x01\0\0\0\0\0\0\x09\0\0\0\x02\0\0\0\0\0\0\0\0\0\0\0");
     page[32..64].copy_from_slice(
         b"\x01\x01\0\0a\0\0\0\0\0\0\0\0\0\0\0\0\0\0\0\x20\0\0\0\x03\0\0\0\0\0\0\0",
     );
@@ -39,7 +39,7 @@ fn is_read(shape: &Shape) -> bool {
     }
     let wanted = JrnHead {
         epoch: 258,
-        index: 17,
+        index: 9,
         count: 2,
     };
     match decode(shape, &written_out()) {
@@ -53,8 +53,8 @@ const WRONG: &[(usize, u8, Option<u32>)] = &[
     (0, b'p', Some(0)),
     (7, b'l', Some(0)),
     (15, 255, None),
-    (16, 31, None),
-    (16, 32, Some(16)),
+    (16, 15, None),
+    (16, 16, Some(16)),
     (19, 1, Some(16)),
     (20, 0, Some(20)),
     (20, 16, Some(20)),
@@ -69,6 +69,9 @@ const WRONG: &[(usize, u8, Option<u32>)] = &[
     (35, 1, Some(32)),
     (37, 1, Some(32)),
     (52, 31, Some(32)),
+    (52, 33, Some(32)),
+    (52, 46, None),
+    (52, 47, Some(32)),
     (53, 4, Some(32)),
     (57, 8, Some(32)),
     (60, 1, Some(32)),

@@ -70,6 +70,7 @@ const WRONG: &[(usize, u8, Option<u32>)] = &[
     (36, b'b', Some(64)),
     (37, 1, Some(32)),
     (52, 31, Some(32)),
+    (52, 33, Some(32)),
     (56, 8, None),
     (57, 8, Some(32)),
     (60, 1, Some(32)),

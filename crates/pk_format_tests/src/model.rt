@@ -102,9 +102,9 @@ fn answers_all(alloc: Global, rows: &[Row]) -> bool {
     }
 }
 
-/// A Report with one live page and one key.
-const ONE_PAGE: &[u8; 64] = b"\
-    \x01\0\0\0\xec\x01\0\0\x01\0\0\0\0\0\0\0\
+/// A Report with two live pages and one key.
+const TWO_PAGES: &[u8; 64] = b"\
+    \x02\0\0\0\xec\x01\0\0\x01\0\0\0\0\0\0\0\
     \0\0\0\0\0\0\0\0\0\0\0\0\0\0\0\0\
     \0\0\0\0\0\0\0\0\0\0\0\0\0\0\0\0\
     \0\0\0\0\0\0\0\0\0\0\0\0\0\0\0\0";
@@ -130,7 +130,7 @@ const EMPTY_VALUE: &[Row] = &[
         Ask::Other(REPORT, b"", 0),
         SUCCESSFUL_COMPLETION,
         0,
-        ONE_PAGE,
+        TWO_PAGES,
     ),
 ];
 
@@ -300,14 +300,14 @@ fn early_checks(rt: HostRuntime) {
 
 /// Whether a Store of so many bytes under a number has this status.
 fn stores(alloc: Global, machine: &mut MapMachine, number: u16, len: u16, status: u8) -> bool {
-    let value = [7; 512];
-    let len = len.min(512);
+    let value = [7; 1024];
+    let len = len.min(1024);
     let request = request(STORE, &number.to_be_bytes(), u32::from(len), 0);
     let value = &value[..usize::from(len)];
     answers(alloc, machine, &request, value, (status, 0, &[]))
 }
 
-/// Whether so many Stores of one page each are done.
+/// Whether so many Stores of two pages each are done.
 fn fills(alloc: Global, machine: &mut MapMachine, count: u16) -> bool {
     for number in 0..count {
         if !stores(alloc, machine, number, 100, SUCCESSFUL_COMPLETION) {
@@ -329,14 +329,14 @@ fn is_done(alloc: Global, machine: &mut MapMachine, opcode: u8, result_field: u3
     )
 }
 
-/// Whether a machine with the keys 0 to 491 is full, up to the byte, until one is deleted.
+/// Whether a machine with the keys 0 to 245 is full, up to the byte, until one is deleted.
 fn is_full(alloc: Global, machine: &mut MapMachine) -> bool {
-    stores(alloc, machine, 492, 100, CAPACITY_EXCEEDED)
-        && stores(alloc, machine, 0, 480, SUCCESSFUL_COMPLETION)
-        && stores(alloc, machine, 0, 481, CAPACITY_EXCEEDED)
-        && is_done(alloc, machine, RETRIEVE, 480)
+    stores(alloc, machine, 246, 100, CAPACITY_EXCEEDED)
+        && stores(alloc, machine, 0, 992, SUCCESSFUL_COMPLETION)
+        && stores(alloc, machine, 0, 993, CAPACITY_EXCEEDED)
+        && is_done(alloc, machine, RETRIEVE, 992)
         && is_done(alloc, machine, DELETE, 0)
-        && stores(alloc, machine, 492, 100, SUCCESSFUL_COMPLETION)
+        && stores(alloc, machine, 246, 100, SUCCESSFUL_COMPLETION)
 }
 
 // A machine that is filled up to its limit of 492 pages.
@@ -344,7 +344,7 @@ fn is_full(alloc: Global, machine: &mut MapMachine) -> bool {
 fn capacity(rt: HostRuntime) {
     let alloc = rt.alloc();
     let all = match machine(alloc) {
-        Some(mut machine) => fills(alloc, &mut machine, 492) && is_full(alloc, &mut machine),
+        Some(mut machine) => fills(alloc, &mut machine, 246) && is_full(alloc, &mut machine),
         None => false,
     };
     assert!(rt; all);

@@ -60,6 +60,15 @@ const SECOND: &[&[u8]] = &[b"0123456789"];
 
 const KEY: &[u8] = b"abcdefghijklmnop";
 
+// The value that fills two pages with its head, and one that is longer by a byte: its third page has that byte, and its fourth none.
+fn fills_pairs(shape: &Shape) -> bool {
+    let value = [0x2eu8; 993];
+    has_parts(shape, KEY, &value[..992], 1, &[&[0x2e; 512]])
+        && written(shape, KEY, &value[..992], 2).is_none()
+        && has_parts(shape, KEY, &value, 2, &[b"."])
+        && has_parts(shape, KEY, &value, 3, &[])
+}
+
 fn has_both(shape: &Shape) -> bool {
     let mut value = [0x2eu8; 490];
     value[480..].copy_from_slice(b"0123456789");
@@ -130,10 +139,13 @@ fn are_refused(shape: &Shape) -> bool {
     true
 }
 
-// Values of one page and of two are written; a head is read, and heads that differ from it in one byte are refused.
+// Values are written that leave the second page of their pair empty, use it and fill it, and one that needs a second pair; a head is
+// read, and heads that differ from it in one byte are refused.
 fn are_values(shape: &Shape) -> bool {
     has_parts(shape, b"ab", b"hi", 0, SMALL)
+        && has_parts(shape, b"ab", b"hi", 1, &[])
         && has_both(shape)
+        && fills_pairs(shape)
         && is_head(shape)
         && are_refused(shape)
 }

@@ -12,8 +12,8 @@ use Rattle.pk_nand.proofs.Leaving.{page_at-slice_set, page_at-slice_set_same}
 use Rattle.pk_nand.specs.Calls.{InOrder}
 use Rattle.std.proofs.Math.Nat.{mul_comm}
 use Rattle.std.proofs.lemmas.Nat.{div-add-mod', div-mul-add}
-use Rattle.pk_pool.proofs.Fitting.{apart, in_block}
-use Rattle.pk_base.proofs.ShapeLemmas.{block_pages_positive}
+use Rattle.pk_pool.proofs.Fitting.{apart, in_block, even_start}
+use Rattle.pk_base.proofs.ShapeLemmas.{block_pages_positive, charge_even}
 use Rattle.pk_gc.specs.declared.course.Course.{Course}
 use Rattle.pk_gc.specs.declared.moves.Move.{Move}
 use Rattle.pk_gc.specs.State.{placed_at, new_place, source, target, read_next, programmed, begun_at, started}
@@ -47,6 +47,7 @@ module _ (shape : Shape) (c : Course) (moves : List Move) (page : List ℕ) (fla
     output_exists = runs.output_exists;
     within = runs.within;
     room = runs.room;
+    even = runs.even;
     free = runs.free;
     written = runs.written;
     unwritten = runs.unwritten;
@@ -129,6 +130,7 @@ module _ (shape : Shape) (c : Course) (moves : List Move) (page : List ℕ) (fla
       output_exists = runs.output_exists;
       within = omega (arith, runs.within, some);
       room = omega (arith, runs.room, some);
+      even = omega (arith, runs.even, some);
       free = runs.free;
       written = λ k low high. elim (cases_eq k p) [
         | inl is ↦ erased_whole (page_at new k) page (ap (λ x. page_at new x) is ∙ here)
@@ -231,6 +233,7 @@ module _ (shape : Shape) (c : Course) (flash : Flash) (es : List (Key × Place))
       record {
         exists = omega (arith, end, room, some, mul_comm n shape.blocks);
         past_roots = omega (arith, block, low);
+        even = let start = even_start c.output n runs.is_shape.eights in let written = runs.even in omega (arith, start, written, done);
         short = next.head.is_head.short;
         inside = omega (arith, rest, room);
       }
@@ -248,6 +251,7 @@ module _ (shape : Shape) (c : Course) (flash : Flash) (es : List (Key × Place))
         output_exists = runs.output_exists;
         within = omega (arith, behind, inside);
         room = next.room;
+        even = omega (arith, runs.even, done, charge_even shape place.len);
         free = runs.free;
         written = runs.written;
         unwritten = runs.unwritten;
@@ -304,6 +308,7 @@ start_runs shape victim output page flash es is_shape other behind victim_exists
   output_exists = output_exists;
   within = omega arith;
   room = omega arith;
+  even = refl;
   free = free;
   written = λ k low high e. omega (arith, low, high);
   unwritten = λ k low high. are_erased k (omega (arith, low)) high;

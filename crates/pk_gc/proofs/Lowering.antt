@@ -17,7 +17,7 @@ use Rattle.pk_pool.proofs.Counting.{given_back, take_pays}
 use Rattle.pk_live.specs.Values.{Values, IsClosed, block_sum}
 use Rattle.pk_gc.specs.declared.course.Course.{Course}
 use Rattle.pk_gc.specs.declared.course.Phase.{Phase}
-use Rattle.pk_gc.specs.declared.course.Phase.TheVariants.{Idle, Copies, GivesBack}
+use Rattle.pk_gc.specs.declared.course.Phase.TheVariants.{Idle, Copies, Commits, GivesBack}
 use Rattle.pk_live.specs.declared.open_block.OpenBlock.{OpenBlock}
 use Rattle.pk_gc.specs.declared.reclaimed.Reclaimed.{Reclaimed}
 use Rattle.pk_gc.specs.declared.reclaimed.Reclaimed.TheVariants.{Worked, NeedsFreeze, Ended}
@@ -26,6 +26,7 @@ use Rattle.pk_live.specs.OpenBlocks.{closed_with}
 use Rattle.pk_gc.specs.Victims.{HoldsValues, IsFull, Chooses}
 use Rattle.pk_gc.specs.Beginning.{Begins}
 use Rattle.pk_gc.specs.Stepping.{Hands, CanGoOn, CanStepIn, StepsIn, GoesOn, Tries}
+use Rattle.pk_gc.specs.Committing.{entries_left}
 use Rattle.pk_gc.specs.Lowering.{left_behind, StepLowers, LiveOfBlock}
 use Rattle.pk_gc.proofs.Counting.{read_falls, program_falls, begin_falls}
 
@@ -121,23 +122,23 @@ module _ (job : JobState) (h : Hands) (old : BoardState) (job' : JobState) (h' :
     tries : (r : Reclaimed) → Tries c job h old job' h' new r → r ≢ NeedsFreeze → LowersFrom left
     tries Worked is free =
         let made = is.finishes in
-        become left (record job { phase = GivesBack c.victim; page = job'.page }) _ made.job_is made.hands (omega arith) (more (c.left + live_unseen job.shape heads c) _ (unready h.pool.states))
+        become left (record job { phase = Commits c.victim; entries = entries_left heads job.moves; page = job'.page }) _ made.job_is made.hands (omega arith) (more (c.left + live_unseen job.shape heads c) _ (unready h.pool.states))
       where
-        more : (pages less u : ℕ) → 1 + u < (pages - less) + pages + 2 * 0 + 2 + u
+        more : (pages less u : ℕ) → 2 + u < (pages - less) + pages + 2 * 0 + 3 + u
         more pages less u = omega arith
     tries NeedsFreeze is free = absurd (free refl)
     tries Ended is free =
         let made = is.finishes in
         let end = on.end is.whole is.dead in
-        given left c.victim (record job { phase = Idle }) _ refl refl made.job_is made.hands end.owned (omega arith)
+        given left c.victim (record job { phase = Idle; entries = [] }) _ refl refl made.job_is made.hands end.owned (omega arith)
 
     goes_on : (r : Reclaimed) → GoesOn c job h old job' h' new r → r ≢ NeedsFreeze → LowersFrom left
     goes_on r (inl copy) free = elim copy.2 [
       | inl programs ↦
-          become left (record job { phase = Copies (programmed c) }) h programs.job_is copy.1 (omega arith) (let falls = program_falls job.shape heads c programs.held (on.runs.held_is programs.held).0 in omega (arith, falls))
+          become left (record job { phase = Copies (programmed c); entries = [] }) h programs.job_is copy.1 (omega arith) (let falls = program_falls job.shape heads c programs.held (on.runs.held_is programs.held).0 in omega (arith, falls))
       | inr others ↦ elim others [
         | inl reads ↦
-            become left (record job { phase = Copies (read_next c); page = job'.page }) h reads.job_is copy.1 (omega arith) (let falls = read_falls job.shape heads c reads.free reads.some in omega (arith, falls))
+            become left (record job { phase = Copies (read_next c); entries = []; page = job'.page }) h reads.job_is copy.1 (omega arith) (let falls = read_falls job.shape heads c reads.free reads.some in omega (arith, falls))
         | inr begins ↦
             let next = on.next begins.whole begins.page begins.inside.0 begins.inside.1 begins.head begins.first in
             let key = next.1.0 in
@@ -161,7 +162,7 @@ module _ (job : JobState) (h : Hands) (old : BoardState) (job' : JobState) (h' :
       lowers_by (whole_reclaim job.shape - 2) (unready h.pool.states) (left_behind job' h') (unready h'.pool.states) left' (unready (with_state h.pool is.output (Owned for_values)).states)
       (ap (λ (j : JobState). left_behind j h') is.job_is) (ap (λ (p : Blocks). unready p.states) is.taken) pays.none_ready pays.less
     where
-      pages_within : (pages most : ℕ) → pages ≤ most → (0 + pages - 0) + (0 + pages) + 2 * 0 + 2 + 2 ≤ most + most + 2 * 1 + 8 - 2
+      pages_within : (pages most : ℕ) → pages ≤ most → (0 + pages - 0) + (0 + pages) + 2 * 0 + 3 + 2 ≤ most + most + 2 * 1 + 8 - 2
       pages_within pages most few = omega (arith, few)
   begins_by idle NeedsFreeze full is free = absurd is
   begins_by idle Ended full is free =
@@ -175,4 +176,6 @@ step_lowers job h old job' h' new r can steps free = by_phase job.phase refl can
         → Lowers (left_of (whole_reclaim job.shape - 2) (left_in job.shape h.live.heads p)) (unready h.pool.states) (left_behind job' h') (unready h'.pool.states)
     by_phase Idle idle full begun = begins_by job h old job' h' new idle r full begun.0 free
     by_phase (Copies c) is on gone = goes_on job h old job' h' new c on r gone free
-    by_phase (GivesBack victim) is owned gives = given job h old job' h' new (steps_of (reclaim_rest 0 false 1)) victim (record job { phase = Idle }) _ refl refl gives.job_is gives.hands owned (omega arith)
+    by_phase (Commits victim) is half ends =
+        become job h old job' h' new (steps_of (reclaim_rest 0 false 2)) (record job { phase = GivesBack victim; entries = []; page = job'.page }) (record h { epoch = h'.epoch }) ends.job_is ends.hands (omega arith) (omega arith)
+    by_phase (GivesBack victim) is owned gives = given job h old job' h' new (steps_of (reclaim_rest 0 false 1)) victim (record job { phase = Idle; entries = [] }) _ refl refl gives.job_is gives.hands owned (omega arith)

@@ -1,5 +1,5 @@
 -- A step of a reclaim, put together from its parts.
-use Rattle.std.proofs.Common.{◌≡◌, ℕ, ◌+◌, ◌*◌, ◌<◌, ◌≤◌, List, sym, ap, subst, ◌∙◌}
+use Rattle.std.proofs.Common.{◌≡◌, ℕ, ◌+◌, ◌*◌, ◌<◌, ◌≤◌, List, [], sym, ap, subst, ◌∙◌}
 use Rattle.std.specs.Prelude.{slice_index}
 use Rattle.pk_base.specs.Shape.{Shape}
 use Rattle.pk_nand.specs.BoardState.{BoardState}
@@ -8,12 +8,12 @@ use Rattle.pk_gc.specs.declared.course.Course.{Course}
 use Rattle.pk_gc.specs.declared.reclaimed.Reclaimed.{Reclaimed}
 use Rattle.pk_gc.specs.declared.reclaimed.Committed.{Committed}
 use Rattle.pk_gc.specs.declared.reclaimed.Committed.TheVariants.{None, NeedsFreeze, All}
-use Rattle.pk_gc.specs.declared.course.Phase.TheVariants.{Idle, GivesBack}
+use Rattle.pk_gc.specs.declared.course.Phase.TheVariants.{Idle, Commits}
 use Rattle.pk_live.specs.Values.{block_sum}
 use Rattle.pk_gc.specs.declared.moves.Move.{Move}
 use Rattle.pk_gc.specs.State.{JobState, CanGoAll, heads_all, source}
 use Rattle.pk_gc.specs.Victims.{AreDead}
-use Rattle.pk_gc.specs.Committing.{Commits, Adds, Refuses, entries_left}
+use Rattle.pk_gc.specs.Committing.{BecameOf, Adds, Refuses, entries_left}
 use Rattle.pk_gc.specs.Stepping.{Hands, CanEnd, Finishes, moved_in, handed_over, victim_given}
 use Rattle.pk_gc.specs.Asking.{CanFinish, Finished, IsBehindCommit}
 
@@ -60,7 +60,7 @@ module _ (c : Course) (job : JobState) (h : Hands) (old : BoardState) (epoch : J
   -- what became of the moves that are left
   abbrev CommitsIn : Committed → Type 0
   CommitsIn committed =
-      Commits (entries_left h.live.heads job.moves) h.active h.epoch old epoch new committed
+      BecameOf (entries_left h.live.heads job.moves) h.active h.epoch old epoch new committed
 
   -- Where the output may take the victim's place, the end can be tried.
   pub can_finish : (committed : Committed) (kept : JobState) → CommitsIn committed
@@ -96,12 +96,12 @@ module _ (c : Course) (job : JobState) (h : Hands) (old : BoardState) (epoch : J
 
     -- commit and end together finish the reclaim, where the commit left this job
     pub finishes : (committed : Committed) (kept : JobState) → CommitsIn committed
-        → IsBehindCommit committed job kept
+        → IsBehindCommit committed c.victim (entries_left h.live.heads job.moves) job kept
         → Finished committed c kept (record h { epoch = epoch }) job' h' r → FinishesIn r
     finishes None kept commits same done =
         let rests : record h { epoch = epoch } ≡ h = λ i. record h { epoch = commits.1.kept i } in
         subst FinishesIn (sym done.0) (record {
-          job_is = done.1 ∙ (λ i. record (same i) { phase = Idle });
+          job_is = done.1 ∙ (λ i. record (same i) { phase = Idle; entries = [] });
           none = commits.0;
           hands = done.2 ∙ ap (λ (x : Hands). victim_given c.victim (handed_over c x)) rests;
           board = commits.1.same;
@@ -120,7 +120,7 @@ module _ (c : Course) (job : JobState) (h : Hands) (old : BoardState) (epoch : J
         subst (λ (e : JournalEpoch). Adds es h.active h.epoch old e new) (sym epoch_is) commits in
         let page_is : job'.page ≡ kept.page = ap (λ (j : JobState). j.page) done.1 in
         subst FinishesIn (sym done.0) (record {
-          job_is = done.1 ∙ (λ i. record (same i) { phase = GivesBack c.victim; page = sym page_is i });
+          job_is = done.1 ∙ same ∙ (λ i. record job { phase = Commits c.victim; entries = es; page = sym page_is i });
           adds = adds;
           hands = done.2
               ∙ (λ i. record (handed_over c (moved_in (same i) h)) { epoch = sym epoch_is i });

@@ -14,7 +14,7 @@ use Rattle.pk_buf.specs.Table.{Table}
 use Rattle.pk_jrn.specs.Epochs.{JournalEpoch, AreBlocks, EpochOnFlash}
 use Rattle.pk_pool.specs.Blocks.{Blocks, IsOwned, PoolOnFlash}
 use Rattle.pk_gc.specs.declared.course.Course.{Course}
-use Rattle.pk_gc.specs.declared.course.Phase.TheVariants.{Idle, Copies, GivesBack}
+use Rattle.pk_gc.specs.declared.course.Phase.TheVariants.{Idle, Copies, Commits}
 use Rattle.pk_gc.specs.declared.moves.Move.{Move}
 use Rattle.pk_live.specs.declared.open_block.OpenBlock.{OpenBlock}
 use Rattle.pk_gc.specs.declared.reclaimed.Reclaimed.{Reclaimed}
@@ -80,6 +80,7 @@ pub record ReadsFirst (c : Course) (job : JobState) (page : ℕ) (old : BoardSta
       → job' ≡ record job {
         phase = Copies (begun_course c job.shape page place.len);
         moves = begun_moves c job page key place.len;
+        entries = [];
         page = job'.page;
       }
   pub board : new ≡ after_read old
@@ -100,17 +101,17 @@ pub record IsEpoch (shape : Shape) (e : JournalEpoch) (flash : Flash) : Type 0 w
   pub fits : EpochOnFlash e flash
   pub blocks : AreBlocks e.shape e.blocks
 
--- The program of the page of these entries failed, and the epoch stays.
+-- The first program of a commit of these entries failed, and the epoch stays.
 pub record CannotAdd (es : List Entry) (active : Table) (epoch : JournalEpoch) (old : BoardState)
     (epoch' : JournalEpoch) (new : BoardState) (e : Fault) : Type 0 where
   pub fault : e ≡ Stopped
   pub kept : epoch' ≡ epoch
   pub adds : FailsToAdd es active epoch old new
 
--- the job as before; where its moves were added, in its page
-abbrev pub IsBehindCommit : Committed → JobState → JobState → Type 0
-IsBehindCommit All job job' = job' ≡ record job { page = job'.page }
-IsBehindCommit _ job job' = job' ≡ job
+-- the job as before; where the commit of its moves is half made, with these entries and in its page
+abbrev pub IsBehindCommit : Committed → ℕ → List Entry → JobState → JobState → Type 0
+IsBehindCommit All victim es job job' = job' ≡ record job { phase = Commits victim; entries = es; page = job'.page }
+IsBehindCommit _ victim es job job' = job' ≡ job
 
 -- The output may take the victim's place, by what became of the moves.
 pub record CanFinish (committed : Committed) (c : Course) (job : JobState) (live : Values)
@@ -126,9 +127,8 @@ pub record CanFinish (committed : Committed) (c : Course) (job : JobState) (live
 -- what the end made of job and parts, by what became of the moves
 abbrev pub Finished : Committed → Course → JobState → Hands → JobState → Hands → Reclaimed → Type 0
 Finished NoneLeft c job h job' h' r =
-    (r ≡ Ended) × (job' ≡ record job { phase = Idle })
+    (r ≡ Ended) × (job' ≡ record job { phase = Idle; entries = [] })
     × (h' ≡ victim_given c.victim (handed_over c h))
 Finished NoRoom c job h job' h' r = (r ≡ NeedsFreeze) × (job' ≡ job) × (h' ≡ h)
 Finished All c job h job' h' r =
-    (r ≡ Worked) × (job' ≡ record job { phase = GivesBack c.victim })
-    × (h' ≡ handed_over c (moved_in job h))
+    (r ≡ Worked) × (job' ≡ job) × (h' ≡ handed_over c (moved_in job h))

@@ -26,7 +26,7 @@ pub record Starts (job : JobState) (live : Values) (front : Option OpenBlock) (p
   pub choice : TakesReady p old output new ⊎ ErasesFree p old output new
   pub are_erased : IsErasedBlock p.shape new.pages output
   pub cuts : ReachesIn p.shape output old new
-  pub job_is : job' ≡ record job { phase = Copies (started victim output); moves = [] }
+  pub job_is : job' ≡ record job { phase = Copies (started victim output); moves = []; entries = [] }
 
 -- The victim has no live page, and was given back.
 pub record GivesBack (job : JobState) (live : Values) (front : Option OpenBlock) (p : Blocks) (old : BoardState) (job' : JobState) (live' : Values) (front' : Option OpenBlock) (q : Blocks) (new : BoardState) : Type 0 where

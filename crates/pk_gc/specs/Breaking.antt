@@ -7,7 +7,8 @@ use Rattle.pk_nand.specs.declared.types.Fault.TheVariants.{Reading, Stopped}
 use Rattle.pk_pool.specs.Taking.{FailsToErase}
 use Rattle.pk_gc.specs.declared.course.Course.{Course}
 use Rattle.pk_gc.specs.declared.course.Phase.{Phase}
-use Rattle.pk_gc.specs.declared.course.Phase.TheVariants.{Idle, Copies, GivesBack}
+use Rattle.pk_gc.specs.declared.course.Phase.TheVariants.{Idle, Copies, Commits, GivesBack}
+use Rattle.pk_jrn.specs.Appends.{FailsToEnd}
 use Rattle.pk_gc.specs.State.{JobState, source, target}
 use Rattle.pk_gc.specs.Committing.{FailsToAdd, entries_left}
 use Rattle.pk_gc.specs.Victims.{AreDead}
@@ -26,17 +27,19 @@ pub record FailsToCopy (c : Course) (job : JobState) (old new : BoardState) (e :
   pub held : c.held ≡ true
   pub failed : ProgramFailed old new (target job.shape c) job.page
 
--- no value was left to be copied, the moves had room, and the program of their page failed
+-- no value was left to be copied, the moves had room, and the first program of their commit failed
 pub record FailsToCommit (c : Course) (job : JobState) (h : Hands) (old new : BoardState) (e : Fault) : Type 0 where
   pub fault : e ≡ Stopped
   pub whole : c.left ≡ 0
   pub dead : AreDead h.live.heads (source job.shape c) (c.victim * job.shape.block_pages + job.shape.block_pages)
   pub adds : FailsToAdd (entries_left h.live.heads job.moves) h.active h.epoch old new
 
--- the erase of the output failed; or a read, or the program of a copied page or of the moves; a block is given back without a call
+-- the erase of the output failed; or a read, or the program of a copied page or of the moves; or their second program; a block is given back
+-- without a call
 abbrev pub BreaksIn : Phase → JobState → Hands → BoardState → BoardState → Fault → Type 0
 BreaksIn Idle job h old new e = (e ≡ Stopped) × FailsToErase h.pool old new
 BreaksIn (Copies c) job h old new e = FailsToRead c old new e ⊎ (FailsToCopy c job old new e ⊎ FailsToCommit c job h old new e)
+BreaksIn (Commits victim) job h old new e = (e ≡ Stopped) × FailsToEnd h.epoch job.entries old new
 BreaksIn (GivesBack victim) job h old new e = ⊥
 
 abbrev pub Breaks : JobState → Hands → BoardState → BoardState → Fault → Type 0

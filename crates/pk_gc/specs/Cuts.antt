@@ -1,17 +1,18 @@
--- What every cut of the commit of the moves holds: the statement.
-use Rattle.std.specs.Prelude.{◌≡◌, ℕ, ◌<◌, List, [], Some}
+-- What every cut of the commit of the moves holds, by either of its two programs: the statements.
+use Rattle.std.specs.Prelude.{◌≡◌, ℕ, ◌-◌, ◌<◌, List, [], Some, false}
 use Rattle.pk_base.specs.Key.{Key}
 use Rattle.pk_base.specs.Shape.{Shape, IsShape}
 use Rattle.pk_base.specs.Page.{Flash, page_at}
 use Rattle.pk_base.specs.Entry.{Place}
 use Rattle.pk_base.specs.Map.{Map}
 use Rattle.pk_nand.specs.BoardState.{BoardState}
-use Rattle.pk_nand.specs.Calls.{IsReady, after_program, ProgramFailed}
-use Rattle.pk_jrnfmt.specs.Page.{journal_entries}
+use Rattle.pk_nand.specs.Calls.{IsReady}
 use Rattle.pk_rootfmt.specs.Root.{Root}
 use Rattle.pk_rootfmt.specs.Newest.{newest_root}
-use Rattle.pk_jrn.specs.Epochs.{JournalEpoch, left_of, next_page, EpochOnFlash}
+use Rattle.pk_jrn.specs.Epochs.{JournalEpoch, left_of, EpochOnFlash}
+use Rattle.pk_jrn.specs.Appends.{last_bytes, IsHalfMade, BeginsCommit, EndsCommit, FailsToBegin, FailsToEnd}
 use Rattle.pk_model.specs.Found.{Found}
+use Rattle.pk_model.specs.Laws.{IsCommit}
 use Rattle.pk_model.specs.Growth.{Reaches, Goes}
 use Rattle.pk_model.specs.Crashes.{CrashFinds, background}
 use Rattle.pk_steps.specs.Under.{IsUnder}
@@ -27,12 +28,43 @@ pub record Journals (shape : Shape) (e : JournalEpoch) (flash : Flash) (top : �
   pub epoch_blocks : e.blocks ≡ top.1.newest
   pub epoch_fits : EpochOnFlash e flash
 
--- Wherever the commit of the moves is cut, the map is the same, and behind it the values are found at their new places.
-abbrev pub CommitReaches : Type 0
-CommitReaches =
-    (shape : Shape) (board : BoardState) (top : ℕ × Root) (found : Found) (m : Map) (moves : List (Key × Place)) (blocks : List ℕ) (e : JournalEpoch) (bytes : List ℕ) → IsReady board shape
-    → Journals shape e board.pages top → 0 < left_of e → IsUnder shape board.pages [] top found m → CanMove shape board.pages [] top.1 found moves blocks
-    → journal_entries e.shape e.number e.used bytes ≡ Some (entries_of moves)
-    → IsUnder shape (after_program board (next_page e) bytes).pages [] top (committed found (entries_of moves)) m
-    × Reaches shape board (after_program board (next_page e) bytes) (CrashFinds shape background board.pages m)
-    × ((new : BoardState) → ProgramFailed board new (next_page e) bytes → Goes shape board new (CrashFinds shape background board.pages m))
+-- The commit of these moves is half made: the map stood on a former flash, on which the values could be moved, and of the commit's two programs
+-- the first was made since.
+pub record IsHalfMoved (shape : Shape) (e : JournalEpoch) (former flash : Flash) (top : ℕ × Root) (was : Found) (m : Map) (moves : List (Key × Place)) (blocks : List ℕ) : Type 0 where
+  pub is_shape : IsShape shape
+  pub epoch_shape : e.shape ≡ shape
+  pub epoch_blocks : e.blocks ≡ top.1.newest
+  pub stood : IsUnder shape former [] top was m
+  pub can : CanMove shape former [] top.1 was moves blocks
+  pub commit : IsCommit shape former top.1 (entries_of moves) (e.used - 1) (last_bytes e (entries_of moves))
+  pub half : IsHalfMade e (entries_of moves) former flash
+
+-- The values are found at their new places, and wherever the step is cut, the map is the same.
+pub record MovesStand (shape : Shape) (old : BoardState) (top : ℕ × Root) (was : Found) (m : Map) (moves : List (Key × Place)) (new : BoardState) : Type 0 where
+  pub under : IsUnder shape new.pages [] top (committed was (entries_of moves)) m
+  pub cuts : Reaches shape old new (CrashFinds shape background old.pages m)
+
+-- the first program of the commit
+abbrev pub CommitBegins : Type 0
+CommitBegins =
+    (shape : Shape) (old new : BoardState) (top : ℕ × Root) (found : Found) (m : Map) (moves : List (Key × Place)) (blocks : List ℕ) (e e' : JournalEpoch) → IsReady old shape
+    → Journals shape e old.pages top → 0 < left_of e → e.half ≡ false → IsUnder shape old.pages [] top found m → CanMove shape old.pages [] top.1 found moves blocks
+    → BeginsCommit e (entries_of moves) old e' new
+    → IsHalfMoved shape e' old.pages new.pages top found m moves blocks × MovesStand shape old top found m moves new
+
+abbrev pub CommitBeginFails : Type 0
+CommitBeginFails =
+    (shape : Shape) (old new : BoardState) (top : ℕ × Root) (found : Found) (m : Map) (moves : List (Key × Place)) (blocks : List ℕ) (e : JournalEpoch) → IsReady old shape
+    → Journals shape e old.pages top → 0 < left_of e → e.half ≡ false → IsUnder shape old.pages [] top found m → CanMove shape old.pages [] top.1 found moves blocks
+    → FailsToBegin e (entries_of moves) old new → Goes shape old new (CrashFinds shape background old.pages m)
+
+-- the second one
+abbrev pub CommitEnds : Type 0
+CommitEnds =
+    (shape : Shape) (old new : BoardState) (former : Flash) (top : ℕ × Root) (was : Found) (m : Map) (moves : List (Key × Place)) (blocks : List ℕ) (e e' : JournalEpoch) → IsReady old shape
+    → IsHalfMoved shape e former old.pages top was m moves blocks → EndsCommit e (entries_of moves) old e' new → MovesStand shape old top was m moves new
+
+abbrev pub CommitEndFails : Type 0
+CommitEndFails =
+    (shape : Shape) (old new : BoardState) (former : Flash) (top : ℕ × Root) (was : Found) (m : Map) (moves : List (Key × Place)) (blocks : List ℕ) (e : JournalEpoch) → IsReady old shape
+    → IsHalfMoved shape e former old.pages top was m moves blocks → FailsToEnd e (entries_of moves) old new → Goes shape old new (CrashFinds shape background old.pages m)

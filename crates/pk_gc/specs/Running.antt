@@ -1,5 +1,5 @@
 -- A reclaim that runs: how it stands to the flash and to the values.
-use Rattle.std.specs.Prelude.{◌≡◌, ◌≢◌, ℕ, ◌+◌, ◌*◌, ◌/◌, ◌<◌, ◌≤◌, List, [], ◌∷◌, length, true, Some}
+use Rattle.std.specs.Prelude.{◌≡◌, ◌≢◌, ℕ, ◌+◌, ◌*◌, ◌/◌, ◌%◌, ◌<◌, ◌≤◌, List, [], ◌∷◌, length, true, Some}
 use Rattle.std.specs.List.{AllByRecursion}
 use Rattle.std.specs.FinMap.Entries.{find}
 use Rattle.pk_base.specs.declared.sizes.TheConstants.{ROOT_BLOCKS}
@@ -49,6 +49,7 @@ pub record IsRunning (shape : Shape) (c : Course) (moves : List Move) (page : Li
   pub output_exists : c.output < shape.blocks
   pub within : c.seen + c.left ≤ shape.block_pages
   pub room : c.used + c.left ≤ shape.block_pages
+  pub even : (c.used + c.left) % 2 ≡ 0
   pub free : (k : ℕ) → k / shape.block_pages ≡ c.output → IsValuePage shape es k → ⊥
   pub written : (k : ℕ) → c.output * shape.block_pages ≤ k → k < target shape c → page_at flash k ≢ erased
   pub unwritten : (k : ℕ) → target shape c ≤ k → k < c.output * shape.block_pages + shape.block_pages → page_at flash k ≡ erased

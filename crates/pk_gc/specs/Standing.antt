@@ -9,15 +9,16 @@ use Rattle.pk_pool.specs.Blocks.{Blocks, used_by}
 use Rattle.pk_live.specs.Values.{Values, IsClosed}
 use Rattle.pk_gc.specs.declared.course.Course.{Course}
 use Rattle.pk_gc.specs.declared.course.Phase.{Phase}
-use Rattle.pk_gc.specs.declared.course.Phase.TheVariants.{Idle, Copies, GivesBack}
+use Rattle.pk_gc.specs.declared.course.Phase.TheVariants.{Idle, Copies, Commits, GivesBack}
 use Rattle.pk_gc.specs.State.{JobState}
 use Rattle.pk_gc.specs.Running.{IsRunning, IsSparse}
 use Rattle.pk_gc.specs.Stepping.{runs_in}
 
--- the blocks for values that are neither open nor closed: the output of a copy, and behind the commit the victim until it is given back
+-- the blocks for values that are neither open nor closed: the output of a copy, and from the commit on the victim until it is given back
 abbrev pub held_blocks : Phase → List ℕ
 held_blocks Idle = []
 held_blocks (Copies c) = c.output ∷ []
+held_blocks (Commits victim) = victim ∷ []
 held_blocks (GivesBack victim) = victim ∷ []
 
 -- The live values of a closed block are being copied: at most three quarters of a block.
@@ -29,6 +30,7 @@ pub record IsCopying (shape : Shape) (c : Course) (job : JobState) (live : Value
 abbrev pub ReclaimStands : Phase → Shape → JobState → Values → Flash → List (Key × Place) → Type 0
 ReclaimStands Idle shape job live flash es = Unit {0}
 ReclaimStands (Copies c) shape job live flash es = IsCopying shape c job live flash es
+ReclaimStands (Commits victim) shape job live flash es = Unit {0}
 ReclaimStands (GivesBack victim) shape job live flash es = Unit {0}
 
 -- A reclaim stands to a flash on which keys have these places. While it runs, all data blocks are in use.

@@ -8,15 +8,24 @@ use Rattle.pk_work.specs.Rest.{steps_of}
 use Rattle.pk_work.specs.Jobs.{reclaim_rest}
 use Rattle.pk_gc.specs.declared.course.Course.{Course}
 use Rattle.pk_gc.specs.declared.course.Phase.{Phase}
-use Rattle.pk_gc.specs.declared.course.Phase.TheVariants.{Idle, Copies, GivesBack}
+use Rattle.pk_gc.specs.declared.course.Phase.TheVariants.{Idle, Copies, Commits, GivesBack}
 use Rattle.pk_gc.specs.declared.moves.Move.{Move}
 
--- The shape, how far a reclaim has come, the values that were copied in it, and the page between a read and a program.
+-- The shape, how far a reclaim has come, the values that were copied in it, the entries of the commit that is half made, and the page between a
+-- read and a program.
 pub record JobState : Type 0 where
   pub shape : Shape
   pub phase : Phase
   pub moves : List Move
+  pub entries : List Entry
   pub page : List ℕ
+
+-- these entries while a commit is half made, and otherwise none
+abbrev pub entries_in : Phase → List Entry → List Entry
+entries_in Idle es = []
+entries_in (Copies c) es = []
+entries_in (Commits victim) es = es
+entries_in (GivesBack victim) es = []
 
 -- the place to which a value was copied
 abbrev pub new_place : Move → Place
@@ -108,12 +117,14 @@ begun_at c seen count = record c { seen = seen; left = count; held = true }
 abbrev pub started : ℕ → ℕ → Course
 started victim output = record { victim = victim; output = output; seen = 0; used = 0; left = 0; held = false }
 
--- what is left of the copy: a read and a program for each page that is still to be copied, the commit of the moves, and the giving back
+-- what is left of the copy: a read and a program for each page that is still to be copied, the two programs of the moves' commit, and the giving
+-- back
 abbrev pub steps_left : Shape → List ℕ → Course → ℕ
-steps_left shape heads c = steps_of (reclaim_rest (c.left + live_unseen shape heads c) c.held 2)
+steps_left shape heads c = steps_of (reclaim_rest (c.left + live_unseen shape heads c) c.held 3)
 
 -- and of a reclaim, where one runs
 abbrev pub left_in : Shape → List ℕ → Phase → Option ℕ
 left_in shape heads Idle = None
 left_in shape heads (Copies c) = Some (steps_left shape heads c)
+left_in shape heads (Commits victim) = Some (steps_of (reclaim_rest 0 false 2))
 left_in shape heads (GivesBack victim) = Some (steps_of (reclaim_rest 0 false 1))

@@ -1,19 +1,22 @@
 -- A step of a reclaim: when it may be made, and what it does.
 use Rattle.std.specs.Prelude.{◌≡◌, ◌⊎◌, ℕ, ◌+◌, ◌-◌, ◌*◌, ◌<◌, ◌≤◌, List, [], ◌∷◌, ◌++◌, length, slice_index, slice_set, Bool, true, false, Option, Some, MatchOption}
 use Rattle.pk_base.specs.Key.{Key}
-use Rattle.pk_base.specs.Shape.{charge, dense}
+use Rattle.pk_base.specs.Shape.{charge, dense, page_entries}
 use Rattle.pk_base.specs.Page.{Flash}
 use Rattle.pk_base.specs.Entry.{Place}
+use Rattle.pk_base.specs.EntryBytes.{IsEntry}
+use Rattle.std.specs.List.{AllByRecursion}
 use Rattle.pk_nand.specs.BoardState.{BoardState}
 use Rattle.pk_nand.specs.Calls.{after_read, after_program}
 use Rattle.pk_live.specs.Values.{Values, IsClosed, block_sum}
 use Rattle.pk_buf.specs.Table.{Table}
 use Rattle.pk_jrn.specs.Epochs.{JournalEpoch}
+use Rattle.pk_jrn.specs.Appends.{IsHalfMade, EndsCommit}
 use Rattle.pk_pool.specs.declared.state.BlockState.TheVariants.{Free}
 use Rattle.pk_pool.specs.Blocks.{Blocks, IsOwned, with_state}
 use Rattle.pk_gc.specs.declared.course.Course.{Course}
 use Rattle.pk_gc.specs.declared.course.Phase.{Phase}
-use Rattle.pk_gc.specs.declared.course.Phase.TheVariants.{Idle, Copies, GivesBack}
+use Rattle.pk_gc.specs.declared.course.Phase.TheVariants.{Idle, Copies, Commits, GivesBack}
 use Rattle.pk_live.specs.declared.open_block.OpenBlock.{OpenBlock}
 use Rattle.pk_gc.specs.declared.reclaimed.Reclaimed.{Reclaimed}
 use Rattle.pk_gc.specs.declared.reclaimed.Reclaimed.TheVariants.{Worked, NeedsFreeze, Ended}
@@ -59,15 +62,15 @@ handed_over c h = record h {
 abbrev pub victim_given : ℕ → Hands → Hands
 victim_given victim h = record h { pool = with_state h.pool victim Free }
 
--- The moves that were left are in the next page of the epoch, by one program, and the output is the open block.
+-- The moves that were left are in the epoch from the first program of its next commit on, and the output is the open block.
 pub record CommitsMoves (c : Course) (job : JobState) (h : Hands) (old : BoardState) (job' : JobState) (h' : Hands) (new : BoardState) : Type 0 where
-  pub job_is : job' ≡ record job { phase = GivesBack c.victim; page = job'.page }
+  pub job_is : job' ≡ record job { phase = Commits c.victim; entries = entries_left h.live.heads job.moves; page = job'.page }
   pub adds : Adds (entries_left h.live.heads job.moves) h.active h.epoch old h'.epoch new
   pub hands : h' ≡ record (handed_over c (moved_in job h)) { epoch = h'.epoch }
 
 -- No move was left, and the victim was given back without a call of the board.
 pub record EndsWithout (c : Course) (job : JobState) (h : Hands) (old : BoardState) (job' : JobState) (h' : Hands) (new : BoardState) : Type 0 where
-  pub job_is : job' ≡ record job { phase = Idle }
+  pub job_is : job' ≡ record job { phase = Idle; entries = [] }
   pub none : entries_left h.live.heads job.moves ≡ []
   pub hands : h' ≡ victim_given c.victim (handed_over c h)
   pub board : new ≡ old
@@ -84,14 +87,23 @@ Finishes c job h old job' h' new Ended = EndsWithout c job h old job' h' new
 pub record CanGoOn (c : Course) (job : JobState) (h : Hands) (flash : Flash) : Type 0 where
   pub es : List (Key × Place)
   pub runs : IsRunning job.shape c job.moves job.page flash es
+  pub no_half : h.epoch.half ≡ false
   pub next : c.left ≡ 0 → (page : ℕ) → source job.shape c ≤ page → page < c.victim * job.shape.block_pages + job.shape.block_pages → 0 < slice_index h.live.heads page → AreDead h.live.heads (source job.shape c) page
       → (length job.moves < dense job.shape) × ((key : Key) × (place : Place) × IsNextValue job.shape c flash es page key place × (slice_index h.live.heads page ≡ charge job.shape place.len))
   pub end : c.left ≡ 0 → AreDead h.live.heads (source job.shape c) (c.victim * job.shape.block_pages + job.shape.block_pages) → CanEnd c job h
 
--- a reclaim may start, its copy can go on, or its victim can be given back
+-- The first page of the epoch's last commit is programmed with the job's entries, and its second page can be.
+pub record IsHalfCommitted (job : JobState) (e : JournalEpoch) (former flash : Flash) : Type 0 where
+  pub some : 1 ≤ length job.entries
+  pub most : length job.entries ≤ page_entries job.shape
+  pub each : AllByRecursion (IsEntry job.shape) job.entries
+  pub half : IsHalfMade e job.entries former flash
+
+-- a reclaim may start, its copy can go on, the commit of its moves can be made whole, or its victim can be given back
 abbrev pub CanStepIn : Phase → JobState → Hands → Flash → Type 0
 CanStepIn Idle job h flash = IsFull job.shape h.live h.front h.pool
 CanStepIn (Copies c) job h flash = CanGoOn c job h flash
+CanStepIn (Commits victim) job h flash = (former : Flash) × IsHalfCommitted job h.epoch former flash
 CanStepIn (GivesBack victim) job h flash = IsOwned h.pool victim
 
 abbrev pub CanStep : JobState → Hands → Flash → Type 0
@@ -100,14 +112,14 @@ CanStep job h flash = CanStepIn job.phase job h flash
 -- the page that was read is programmed
 pub record ProgramsHeld (c : Course) (job : JobState) (old : BoardState) (job' : JobState) (new : BoardState) : Type 0 where
   pub held : c.held ≡ true
-  pub job_is : job' ≡ record job { phase = Copies (programmed c) }
+  pub job_is : job' ≡ record job { phase = Copies (programmed c); entries = [] }
   pub board : new ≡ after_program old (target job.shape c) job.page
 
 -- the next page of the value is read
 pub record ReadsNext (c : Course) (job : JobState) (old : BoardState) (job' : JobState) (new : BoardState) : Type 0 where
   pub free : c.held ≡ false
   pub some : 0 < c.left
-  pub job_is : job' ≡ record job { phase = Copies (read_next c); page = job'.page }
+  pub job_is : job' ≡ record job { phase = Copies (read_next c); entries = []; page = job'.page }
   pub board : new ≡ after_read old
   pub runs : (es : List (Key × Place)) → IsRunning job.shape c job.moves job.page old.pages es → IsRunning job.shape (read_next c) job.moves job'.page new.pages es
 
@@ -120,7 +132,7 @@ pub record BeginsValue (c : Course) (job : JobState) (h : Hands) (old : BoardSta
   pub inside : (source job.shape c ≤ page) × (page < c.victim * job.shape.block_pages + job.shape.block_pages)
   pub first : AreDead h.live.heads (source job.shape c) page
   pub job_is : (es : List (Key × Place)) (key : Key) (place : Place) → IsNextValue job.shape c old.pages es page key place
-      → job' ≡ record job { phase = Copies (begun_at c (page - c.victim * job.shape.block_pages) (charge job.shape place.len)); moves = job.moves ++ begun_move job.shape c page key place.len ∷ []; page = job'.page }
+      → job' ≡ record job { phase = Copies (begun_at c (page - c.victim * job.shape.block_pages) (charge job.shape place.len)); moves = job.moves ++ begun_move job.shape c page key place.len ∷ []; entries = []; page = job'.page }
   pub board : new ≡ after_read old
   pub runs : (es : List (Key × Place)) (key : Key) (place : Place) → IsRunning job.shape c job.moves job.page old.pages es → IsNextValue job.shape c old.pages es page key place
       → IsRunning job.shape (begun_at c (page - c.victim * job.shape.block_pages) (charge job.shape place.len)) (job.moves ++ begun_move job.shape c page key place.len ∷ []) job'.page new.pages es
@@ -138,16 +150,24 @@ GoesOn c job h old job' h' new r =
     ((r ≡ Worked) × (h' ≡ h) × (ProgramsHeld c job old job' new ⊎ (ReadsNext c job old job' new ⊎ BeginsValue c job h old job' new)))
     ⊎ Tries c job h old job' h' new r
 
+-- the second page of the moves' commit is programmed
+pub record EndsMoves (victim : ℕ) (job : JobState) (h : Hands) (old : BoardState) (job' : JobState) (h' : Hands) (new : BoardState) (r : Reclaimed) : Type 0 where
+  pub answer : r ≡ Worked
+  pub job_is : job' ≡ record job { phase = GivesBack victim; entries = []; page = job'.page }
+  pub ends : EndsCommit h.epoch job.entries old h'.epoch new
+  pub hands : h' ≡ record h { epoch = h'.epoch }
+
 -- the victim is given back
 pub record GivesVictim (victim : ℕ) (job : JobState) (h : Hands) (old : BoardState) (job' : JobState) (h' : Hands) (new : BoardState) (r : Reclaimed) : Type 0 where
   pub answer : r ≡ Ended
-  pub job_is : job' ≡ record job { phase = Idle }
+  pub job_is : job' ≡ record job { phase = Idle; entries = [] }
   pub hands : h' ≡ victim_given victim h
   pub board : new ≡ old
 
 abbrev pub StepsIn : Phase → JobState → Hands → BoardState → JobState → Hands → BoardState → Reclaimed → Type 0
 StepsIn Idle job h old job' h' new r = Begins job h.live h.front h.pool old job' h'.live h'.front h'.pool new r × (h'.active ≡ h.active) × (h'.epoch ≡ h.epoch)
 StepsIn (Copies c) job h old job' h' new r = GoesOn c job h old job' h' new r
+StepsIn (Commits victim) job h old job' h' new r = EndsMoves victim job h old job' h' new r
 StepsIn (GivesBack victim) job h old job' h' new r = GivesVictim victim job h old job' h' new r
 
 -- what a step did, by what the reclaim was to do
@@ -158,4 +178,5 @@ Steps job h old job' h' new r = StepsIn job.phase job h old job' h' new r
 abbrev pub runs_in : Phase → Bool
 runs_in Idle = false
 runs_in (Copies c) = true
+runs_in (Commits victim) = true
 runs_in (GivesBack victim) = true

@@ -7,7 +7,10 @@ pub enum Phase {
     Idle,
     /// The live values of a block are copied, and then their moves are committed.
     Copies(Course),
-    /// The moves are in the journal. This block, in which no value is live any more, is to be given back.
+    /// The first page of the moves' commit is programmed, and its second page is next. This block, in which no value is live any
+    /// more, is to be given back after it.
+    Commits(u32),
+    /// The commit of the moves is made. This block, in which no value is live any more, is to be given back.
     GivesBack(u32),
 }
 

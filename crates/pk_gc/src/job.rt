@@ -12,15 +12,16 @@ ghost use Rattle.pk_pool.specs.declared.state.BlockState.TheVariants.{Free};
 ghost use Rattle.pk_pool.specs.Blocks.{PoolOnFlash, IsOwned, with_state};
 ghost use Rattle.pk_pool.specs.Taking.{FailsToErase};
 ghost use Rattle.pk_jrn.specs.Epochs.{AreBlocks, EpochOnFlash, JournalEpoch};
+ghost use Rattle.pk_jrn.specs.Appends.{EndsCommit, FailsToEnd};
 ghost use Rattle.pk_gc.specs.declared.course.Course.{Course as CourseSpec};
-ghost use Rattle.pk_gc.specs.declared.course.Phase.TheVariants.{Idle, Copies, GivesBack};
+ghost use Rattle.pk_gc.specs.declared.course.Phase.TheVariants.{Idle, Copies, Commits, GivesBack};
 ghost use Rattle.pk_gc.specs.declared.reclaimed.Reclaimed.TheVariants.{Worked};
 ghost use Rattle.pk_gc.specs.State.{source, read_next, programmed, begun_at, started};
 ghost use Rattle.pk_gc.specs.Running.{begun_move};
 ghost use Rattle.pk_gc.specs.Victims.{Chooses};
 ghost use Rattle.pk_gc.specs.Beginning.{Begins};
-ghost use Rattle.pk_gc.specs.Committing.{Commits, entries_left};
-ghost use Rattle.pk_gc.specs.Stepping.{CanStep, Steps, ProgramsHeld, runs_in};
+ghost use Rattle.pk_gc.specs.Committing.{BecameOf, entries_left};
+ghost use Rattle.pk_gc.specs.Stepping.{CanStep, Steps, ProgramsHeld, IsHalfCommitted, runs_in};
 ghost use Rattle.pk_gc.specs.Breaking.{Breaks, FailsToCopy};
 ghost use Rattle.pk_gc.specs.Asking.{MayStart, MayCopy, MayBegin, ReadsFirst, CannotRead};
 ghost use Rattle.pk_gc.specs.Asking.{IsEpoch, CannotAdd, IsBehindCommit, CanFinish, Finished, RunsOn, hands_of};
@@ -39,7 +40,7 @@ use pk_pool::Pool;
 use pk_region::Region;
 use pk_seg::{read_page, write_page};
 use pk_segfmt::{Head, head};
-use std::alloc::AllocError;
+use std::alloc::{AllocError, Allocator};
 use std::marker::Model;
 
 /// A reclaim: how far it has come, the values that it copied, and the page between a read and a
@@ -68,7 +69,8 @@ impl<A: Region> Drop for ReclaimJob<A> {
 impl<A: Region> Model for ReclaimJob<A> {
     ghost use Rattle.std.specs.Prelude.{◌≡◌, ◌≤◌, length, vec_capacity};
     ghost use Rattle.pk_base.specs.Shape.{dense};
-    ghost use Rattle.pk_gc.specs.State.{JobState};
+    ghost use Rattle.pk_base.specs.Seen.{entries as seen_all};
+    ghost use Rattle.pk_gc.specs.State.{JobState, entries_in};
 
     ghost Value = { JobState };
 
@@ -76,12 +78,31 @@ impl<A: Region> Model for ReclaimJob<A> {
       shape = j.shape;
       phase = j.phase;
       moves = j.moves.items;
+      entries = entries_in j.phase (seen_all j.entries.items);
       page = j.page.items;
     } };
 
     ghost invariant = { λ j. (length j.moves.items ≤ dense j.shape)
         × (dense j.shape ≤ vec_capacity j.moves) × (dense j.shape ≤ vec_capacity j.entries)
         × (length j.page.items ≡ j.shape.page_bytes) };
+}
+
+// The victim is closed no more, and the output takes the next values.
+fn hand_over<A: Allocator>(live: &mut Live<A>, front: &mut Option<OpenBlock>, course: Course)
+    requires closed { IsClosed live.old course.victim }
+    requires empty { count_of live.old course.victim ≡ 0 }
+    requires front { MatchOption front.old (Unit {0}) (λ o. o.block < length live.old.closed) }
+    ensures live { live.new ≡ record live.old {
+      closed = closed_with front.old (slice_set live.old.closed course.victim false);
+    } }
+    ensures front { front.new ≡ Some (record { block = course.output; used = course.used }) }
+{
+    live.forget(course.victim);
+    close(live, *front);
+    *front = Some(OpenBlock {
+        block: course.output,
+        used: course.used,
+    });
 }
 
 impl<A: Region> ReclaimJob<A> {
@@ -110,6 +131,7 @@ impl<A: Region> ReclaimJob<A> {
         match self.phase {
             Phase::Idle => false,
             Phase::Copies(_) => true,
+            Phase::Commits(_) => true,
             Phase::GivesBack(_) => true,
         }
     }
@@ -163,6 +185,7 @@ impl<A: Region> ReclaimJob<A> {
     {
         match self.phase {
             Phase::Idle => return self.begin(board, pool, live, front),
+            Phase::Commits(victim) => return self.end_commit(board, epoch, victim),
             Phase::GivesBack(victim) => {
                 self.give_back(pool, victim);
                 return Ok(Reclaimed::Ended);
@@ -177,7 +200,7 @@ impl<A: Region> ReclaimJob<A> {
                 let first = course.victim * self.shape.block_pages();
                 match next_head(live, first + course.seen, first + self.shape.block_pages()) {
                     Some(page) => return self.begin_value(board, course, page),
-                    None => match self.commit(board, live, active, epoch) {
+                    None => match self.commit(board, live, active, epoch, course.victim) {
                         Ok(committed) => {
                             return Ok(self.finish(committed, course, pool, live, active, front));
                         }
@@ -234,7 +257,7 @@ impl<A: Region> ReclaimJob<A> {
     // A reclaim runs from now on.
     fn start(&mut self, victim: u32, output: u32)
         ensures { self.new
-            ≡ record self.old { phase = Copies (started victim output); moves = [] } }
+            ≡ record self.old { phase = Copies (started victim output); moves = []; entries = [] } }
     {
         self.moves.clear();
         self.phase = Phase::Copies(Course {
@@ -259,6 +282,7 @@ impl<A: Region> ReclaimJob<A> {
               (spec.charge self.old.shape found.len));
           moves = self.old.moves
               ++ begun_move self.old.shape course page found.key found.len ∷ [];
+          entries = [];
         } }
     {
         self.shape.known();
@@ -322,7 +346,11 @@ impl<A: Region> ReclaimJob<A> {
         // It was read.
         ensures worked { IfOk result (λ r. r ≡ Worked) }
         ensures job { OnOk result (self.new
-            ≡ record self.old { phase = Copies (read_next course); page = self.new.page }) }
+            ≡ record self.old {
+              phase = Copies (read_next course);
+              entries = [];
+              page = self.new.page;
+            }) }
         ensures board { OnOk result (B.state board.new ≡ after_read (B.state board.old)) }
         ensures runs { OnOk result (RunsOn course self.old (B.state board.old).pages
             (read_next course) self.new.page (B.state board.new).pages) }
@@ -382,28 +410,33 @@ impl<A: Region> ReclaimJob<A> {
         }
     }
 
-    // Adds the moves that are left to the newest epoch, in one page of the journal. It is made in the
-    // job's own page, since all that was read is programmed.
+    // Adds the moves that are left to the newest epoch, by the first program of a commit. Its page is
+    // made in the job's own, since all that was read is programmed.
     fn commit<B: Nand>(
         &mut self,
         board: &mut B,
         live: &Live<A>,
         active: &Buffer<A>,
         epoch: &mut Epoch,
+        victim: u32,
     ) -> Result<Committed, Fault>
         requires copies { (c : CourseSpec) × MayCopy c self.old (B.state board.old).pages }
         requires epoch { IsEpoch self.old.shape epoch.old (B.state board.old).pages }
+        requires whole { epoch.old.half ≡ false }
         requires ready { IsReady (B.state board.old) self.old.shape }
 
         // What became of them.
-        ensures commits { IfOk result (λ r. Commits (entries_left live.now.heads self.old.moves)
+        ensures commits { IfOk result (λ r. BecameOf (entries_left live.now.heads self.old.moves)
             active.now epoch.old (B.state board.old) epoch.new (B.state board.new) r) }
         ensures failed { IfErr result (λ e. CannotAdd (entries_left live.now.heads self.old.moves)
             active.now epoch.old (B.state board.old) epoch.new (B.state board.new) e) }
 
-        // Of the job only the page may differ, and this where it was programmed.
-        ensures job { IfOk result (λ r. IsBehindCommit r self.old self.new) }
-        ensures kept { self.new ≡ record self.old { page = self.new.page } }
+        // Of the job phase, entries and page may differ, and these where the program was made.
+        ensures job { IfOk result (λ r. IsBehindCommit r victim
+            (entries_left live.now.heads self.old.moves) self.old self.new) }
+        ensures kept { OnErr result (self.new ≡ record self.old { page = self.new.page }) }
+        ensures moves { self.new.moves ≡ self.old.moves }
+        ensures shape { self.new.shape ≡ self.old.shape }
         ensures ready { IsReady (B.state board.new) self.old.shape }
     {
         self.shape.known();
@@ -414,36 +447,62 @@ impl<A: Region> ReclaimJob<A> {
         if active.room() < new_keys(&self.entries, active) || epoch.left() == 0 {
             return Ok(Committed::NeedsFreeze);
         }
-        match epoch.append(board, &self.entries, &mut self.page) {
-            Ok(()) => return Ok(Committed::All),
-            Err(fault) => return Err(fault),
+        match epoch.append_step(board, &self.entries, &mut self.page) {
+            Ok(_) => {
+                self.phase = Phase::Commits(victim);
+                Ok(Committed::All)
+            }
+            Err(fault) => Err(fault),
         }
     }
 
-    // The victim is closed no more, and the output takes the next values.
-    fn hand_over(&mut self, live: &mut Live<A>, front: &mut Option<OpenBlock>, course: Course)
-        requires closed { IsClosed live.old course.victim }
-        requires empty { count_of live.old course.victim ≡ 0 }
-        requires front { MatchOption front.old (Unit {0}) (λ o. o.block < length live.old.closed) }
-        ensures job { self.new ≡ record self.old { phase = GivesBack course.victim } }
-        ensures live { live.new ≡ record live.old {
-          closed = closed_with front.old (slice_set live.old.closed course.victim false);
-        } }
-        ensures front { front.new ≡ Some (record { block = course.output; used = course.used }) }
+    // The second program of the commit of the moves.
+    fn end_commit<B: Nand>(
+        &mut self,
+        board: &mut B,
+        epoch: &mut Epoch,
+        victim: u32,
+    ) -> Result<Reclaimed, Fault>
+        requires phase { self.old.phase ≡ Commits victim }
+        requires half { (former : Flash)
+            × IsHalfCommitted self.old epoch.old former (B.state board.old).pages }
+        requires epoch { IsEpoch self.old.shape epoch.old (B.state board.old).pages }
+        requires ready { IsReady (B.state board.old) self.old.shape }
+
+        // It was made.
+        ensures worked { IfOk result (λ r. r ≡ Worked) }
+        ensures job { OnOk result (self.new ≡ record self.old {
+          phase = GivesBack victim;
+          entries = [];
+          page = self.new.page;
+        }) }
+        ensures ends { OnOk result (EndsCommit epoch.old self.old.entries (B.state board.old)
+            epoch.new (B.state board.new)) }
+
+        // Or it failed.
+        ensures stopped { IfErr result (λ e. e ≡ Stopped) }
+        ensures failed { OnErr result (FailsToEnd epoch.old self.old.entries (B.state board.old)
+            (B.state board.new)) }
+        ensures kept { OnErr result (self.new ≡ record self.old { page = self.new.page }) }
+        ensures kept_epoch { OnErr result (epoch.new ≡ epoch.old) }
+
+        // Either way the board may be used again.
+        ensures shape { self.new.shape ≡ self.old.shape }
+        ensures ready { IsReady (B.state board.new) self.old.shape }
     {
-        live.forget(course.victim);
-        close(live, *front);
-        *front = Some(OpenBlock {
-            block: course.output,
-            used: course.used,
-        });
-        self.phase = Phase::GivesBack(course.victim);
+        match epoch.append_step(board, &self.entries, &mut self.page) {
+            Ok(_) => {
+                self.phase = Phase::GivesBack(victim);
+                Ok(Reclaimed::Worked)
+            }
+            Err(fault) => Err(fault),
+        }
     }
 
     // Gives the victim back, and ends the reclaim.
     fn give_back(&mut self, pool: &mut Pool<A>, victim: u32)
         requires owned { IsOwned pool.old victim }
-        ensures job { self.new ≡ record self.old { phase = Idle } }
+        ensures job { self.new ≡ record self.old { phase = Idle; entries = [] } }
         ensures given { pool.new ≡ with_state pool.old victim Free }
         ensures fits { (flash : Flash) → PoolOnFlash pool.old flash → PoolOnFlash pool.new flash }
     {
@@ -471,13 +530,13 @@ impl<A: Region> ReclaimJob<A> {
         match committed {
             Committed::NeedsFreeze => Reclaimed::NeedsFreeze,
             Committed::None => {
-                self.hand_over(live, front, course);
+                hand_over(live, front, course);
                 self.give_back(pool, course.victim);
                 Reclaimed::Ended
             }
             Committed::All => {
                 apply(&self.moves, live, active);
-                self.hand_over(live, front, course);
+                hand_over(live, front, course);
                 Reclaimed::Worked
             }
         }

@@ -1,6 +1,6 @@
 //! What the moves of a reclaim make of the values, each the contract of a function that does nothing.
 ghost use Rattle.pk_gc.specs.Copied.{Empties, MayMove};
-ghost use Rattle.pk_gc.specs.Cuts.{CommitReaches};
+ghost use Rattle.pk_gc.specs.Cuts.{CommitBegins, CommitBeginFails, CommitEnds, CommitEndFails};
 ghost use Rattle.pk_gc.specs.Ending.{GivesUp};
 ghost use Rattle.pk_gc.specs.Falling.{StartRuns, ReadRuns, ProgramRuns, BeginRuns, ReadFalls, ProgramFalls, BeginFalls, ProgramSparse, BeginSparse, FewerSparse};
 ghost use Rattle.pk_gc.specs.Going.{NextIsValue};
@@ -21,9 +21,12 @@ pub fn in_mid_copy()
     ensures deleted { RunsDeleted }
 {}
 
-/// Every cut of the commit of the moves holds the same map.
+/// Every cut of the commit of the moves holds the same map, by either of its two programs.
 pub fn cuts()
-    ensures { CommitReaches }
+    ensures begins { CommitBegins }
+    ensures begin_fails { CommitBeginFails }
+    ensures ends { CommitEnds }
+    ensures end_fails { CommitEndFails }
 {}
 
 /// A reclaim runs on behind each step of its copy, with fewer steps left and at most three quarters of a block to copy.

@@ -1,4 +1,4 @@
-//! Reclaims: the live values of a block are copied to another one, one page of the journal commits their moves, and the block
+//! Reclaims: the live values of a block are copied to another one, one commit of the journal takes their moves, and the block
 //! is given back, by steps of at most one call of the board. The map of the flash is the same at every cut of each step.
 #![tactic(auto)]
 

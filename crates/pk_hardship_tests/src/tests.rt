@@ -65,6 +65,11 @@ fn every_page(rt: HostRuntime) -> Result<(), Fail> {
 }
 
 #[test]
+fn every_pair(rt: HostRuntime) -> Result<(), Fail> {
+    pk_hardships::spoiled::every_pair::<Pink>(rt.alloc())
+}
+
+#[test]
 fn exchanged(rt: HostRuntime) -> Result<(), Fail> {
     pk_hardships::spoiled::exchanged::<Pink>(rt.alloc())
 }

@@ -1,7 +1,7 @@
 //! How many calls of the flash a command makes at most, and how many background steps bring a drive to rest, on the smallest drives.
 //!
-//! A command's record tells its reads, and the board's trail has its programs and erases before the post of that record. With the one
-//! program of its commit they are counted together: a Flush follows each command, so that its record is not held.
+//! A command's record tells its reads, and the board's trail has its programs and erases before the post of that record. With the two
+//! programs of its commit they are counted together: a Flush follows each command, so that its record is not held.
 
 use pk_base::Shape;
 use pk_flash::{Flash, Room};
@@ -29,12 +29,12 @@ const STEPS: u32 = 600;
 
 const LONG: Room = Room {
     posted: 262_144,
-    marks: 30_000,
+    marks: 45_000,
 };
 
 const SHORT: Room = Room {
     posted: 32_768,
-    marks: 4_000,
+    marks: 6_000,
 };
 
 /// What is seen of a drive: the most calls of the flash that a command made, the most background steps to rest, how many Stores found no

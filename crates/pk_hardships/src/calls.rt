@@ -1,6 +1,6 @@
 //! Calls of the board that fail in the worked session, a Store and a Retrieve on a made drive, one by one.
 
-use pk_flash::{Flash, Left};
+use pk_flash::{Flash, Left, PageLeft};
 use pk_sessions::boards::{Session, made_board, pages_left, serve_board, served, worked};
 use pk_sessions::exits::{DONE, FLASH, INPUT, OUTPUT};
 use pk_sessions::program::{RECORDS, SCRIPT};
@@ -11,13 +11,27 @@ use std::alloc::{AllocError, Global};
 use std::test::*;
 
 // What a call that fails leaves.
-fn left(alloc: Global, way: u8) -> Result<Left, AllocError> {
+#[derive(Clone, Copy)]
+enum Way {
+    Untouched,
+    Torn,
+    Done,
+    // The second page of a pair is left so, and the first one is Torn.
+    WithEven(PageLeft),
+    // The pages of a block as they were, Erased or Torn by turns.
+    ByTurns,
+    // So many bytes of a post.
+    Part(u32),
+}
+
+fn left(alloc: Global, way: Way) -> Result<Left, AllocError> {
     match way {
-        0 => Ok(Left::Untouched),
-        1 => Ok(Left::Torn),
-        2 => Ok(Left::Done),
-        3 => by_turns(alloc),
-        _ => Ok(Left::Part(10)),
+        Way::Untouched => Ok(Left::Untouched),
+        Way::Torn => Ok(Left::Torn),
+        Way::Done => Ok(Left::Done),
+        Way::WithEven(page) => Ok(Left::WithEven(page)),
+        Way::ByTurns => by_turns(alloc),
+        Way::Part(count) => Ok(Left::Part(count)),
     }
 }
 
@@ -26,7 +40,7 @@ fn left(alloc: Global, way: u8) -> Result<Left, AllocError> {
 enum Posted {
     /// So many bytes of the records of the whole session.
     Front(usize),
-    /// The record of the Store, and that of the Retrieve with 88h behind one read.
+    /// The record of the Store, and that of the Retrieve with 88h after one read.
     Unread,
 }
 
@@ -41,202 +55,328 @@ fn bytes_posted(alloc: Global, what: Posted) -> Result<Vec<u8>, AllocError> {
 #[derive(Clone, Copy)]
 struct Failure {
     call: u64,
-    way: u8,
+    way: Way,
     status: u8,
     what: Posted,
     keys: &'static [u8],
 }
 
-// Each call of the worked session behind the reads that open the drive, in their order: the fetches of the entry and of the value, the
-// erases of two blocks for the epoch and of the other root block, the root, the erase of a block for values, the value, the fetch of
-// the next entry, the journal page, the post of the Store's record, the read of the value, the posts of the head and of the data of the
-// Retrieve's record, and the fetch at the input's end. The last row has a number behind the last call.
-const FAILURES: [Failure; 27] = [
-    Failure {
-        call: 33,
-        way: 0,
-        status: INPUT,
-        what: Posted::Front(0),
-        keys: b"",
-    },
+// Each call of the worked session after the reads that open the drive, in their order: the fetches of the entry and of the value, the
+// erases of two blocks for the epoch and of the other root block, both pages of the root, the erase of a block for values, both pages of
+// the value, the fetch of the next entry, both pages of the commit, the post of the Store's record, the read of the value, the posts of
+// the head and of the data of the Retrieve's record, and the fetch at the input's end. The last row has a number after the last call.
+const FAILURES: [Failure; 45] = [
     Failure {
         call: 34,
-        way: 0,
+        way: Way::Untouched,
         status: INPUT,
         what: Posted::Front(0),
         keys: b"",
     },
     Failure {
         call: 35,
-        way: 0,
-        status: FLASH,
+        way: Way::Untouched,
+        status: INPUT,
         what: Posted::Front(0),
         keys: b"",
     },
     Failure {
-        call: 35,
-        way: 1,
+        call: 36,
+        way: Way::Untouched,
         status: FLASH,
         what: Posted::Front(0),
         keys: b"",
     },
     Failure {
         call: 36,
-        way: 3,
+        way: Way::Torn,
         status: FLASH,
         what: Posted::Front(0),
         keys: b"",
     },
     Failure {
         call: 37,
-        way: 0,
-        status: FLASH,
-        what: Posted::Front(0),
-        keys: b"",
-    },
-    Failure {
-        call: 37,
-        way: 2,
+        way: Way::ByTurns,
         status: FLASH,
         what: Posted::Front(0),
         keys: b"",
     },
     Failure {
         call: 38,
-        way: 0,
+        way: Way::Untouched,
         status: FLASH,
         what: Posted::Front(0),
         keys: b"",
     },
     Failure {
         call: 38,
-        way: 1,
-        status: FLASH,
-        what: Posted::Front(0),
-        keys: b"",
-    },
-    Failure {
-        call: 38,
-        way: 2,
+        way: Way::Done,
         status: FLASH,
         what: Posted::Front(0),
         keys: b"",
     },
     Failure {
         call: 39,
-        way: 1,
+        way: Way::Untouched,
+        status: FLASH,
+        what: Posted::Front(0),
+        keys: b"",
+    },
+    Failure {
+        call: 39,
+        way: Way::Torn,
+        status: FLASH,
+        what: Posted::Front(0),
+        keys: b"",
+    },
+    Failure {
+        call: 39,
+        way: Way::Done,
         status: FLASH,
         what: Posted::Front(0),
         keys: b"",
     },
     Failure {
         call: 40,
-        way: 0,
+        way: Way::Untouched,
         status: FLASH,
         what: Posted::Front(0),
         keys: b"",
     },
     Failure {
         call: 40,
-        way: 1,
+        way: Way::Torn,
         status: FLASH,
         what: Posted::Front(0),
         keys: b"",
     },
     Failure {
         call: 40,
-        way: 2,
+        way: Way::Done,
+        status: FLASH,
+        what: Posted::Front(0),
+        keys: b"",
+    },
+    Failure {
+        call: 40,
+        way: Way::WithEven(PageLeft::Untouched),
+        status: FLASH,
+        what: Posted::Front(0),
+        keys: b"",
+    },
+    Failure {
+        call: 40,
+        way: Way::WithEven(PageLeft::Torn),
+        status: FLASH,
+        what: Posted::Front(0),
+        keys: b"",
+    },
+    Failure {
+        call: 40,
+        way: Way::WithEven(PageLeft::Done),
         status: FLASH,
         what: Posted::Front(0),
         keys: b"",
     },
     Failure {
         call: 41,
-        way: 0,
+        way: Way::Torn,
+        status: FLASH,
+        what: Posted::Front(0),
+        keys: b"",
+    },
+    Failure {
+        call: 42,
+        way: Way::Untouched,
+        status: FLASH,
+        what: Posted::Front(0),
+        keys: b"",
+    },
+    Failure {
+        call: 42,
+        way: Way::Torn,
+        status: FLASH,
+        what: Posted::Front(0),
+        keys: b"",
+    },
+    Failure {
+        call: 42,
+        way: Way::Done,
+        status: FLASH,
+        what: Posted::Front(0),
+        keys: b"",
+    },
+    Failure {
+        call: 43,
+        way: Way::Untouched,
+        status: FLASH,
+        what: Posted::Front(0),
+        keys: b"",
+    },
+    Failure {
+        call: 43,
+        way: Way::Torn,
+        status: FLASH,
+        what: Posted::Front(0),
+        keys: b"",
+    },
+    Failure {
+        call: 43,
+        way: Way::Done,
+        status: FLASH,
+        what: Posted::Front(0),
+        keys: b"",
+    },
+    Failure {
+        call: 43,
+        way: Way::WithEven(PageLeft::Untouched),
+        status: FLASH,
+        what: Posted::Front(0),
+        keys: b"",
+    },
+    Failure {
+        call: 43,
+        way: Way::WithEven(PageLeft::Torn),
+        status: FLASH,
+        what: Posted::Front(0),
+        keys: b"",
+    },
+    Failure {
+        call: 43,
+        way: Way::WithEven(PageLeft::Done),
+        status: FLASH,
+        what: Posted::Front(0),
+        keys: b"",
+    },
+    Failure {
+        call: 44,
+        way: Way::Untouched,
         status: INPUT,
         what: Posted::Front(24),
         keys: b"a",
     },
     Failure {
-        call: 42,
-        way: 0,
+        call: 45,
+        way: Way::Untouched,
         status: FLASH,
         what: Posted::Front(0),
         keys: b"",
     },
     Failure {
-        call: 42,
-        way: 1,
+        call: 45,
+        way: Way::Torn,
         status: FLASH,
         what: Posted::Front(0),
         keys: b"",
     },
     Failure {
-        call: 42,
-        way: 2,
+        call: 45,
+        way: Way::Done,
         status: FLASH,
         what: Posted::Front(0),
         keys: b"a",
     },
     Failure {
-        call: 43,
-        way: 0,
+        call: 46,
+        way: Way::Untouched,
+        status: FLASH,
+        what: Posted::Front(0),
+        keys: b"a",
+    },
+    Failure {
+        call: 46,
+        way: Way::Torn,
+        status: FLASH,
+        what: Posted::Front(0),
+        keys: b"a",
+    },
+    Failure {
+        call: 46,
+        way: Way::Done,
+        status: FLASH,
+        what: Posted::Front(0),
+        keys: b"a",
+    },
+    Failure {
+        call: 46,
+        way: Way::WithEven(PageLeft::Untouched),
+        status: FLASH,
+        what: Posted::Front(0),
+        keys: b"",
+    },
+    Failure {
+        call: 46,
+        way: Way::WithEven(PageLeft::Torn),
+        status: FLASH,
+        what: Posted::Front(0),
+        keys: b"",
+    },
+    Failure {
+        call: 46,
+        way: Way::WithEven(PageLeft::Done),
+        status: FLASH,
+        what: Posted::Front(0),
+        keys: b"a",
+    },
+    Failure {
+        call: 47,
+        way: Way::Untouched,
         status: OUTPUT,
         what: Posted::Front(0),
         keys: b"a",
     },
     Failure {
-        call: 43,
-        way: 4,
+        call: 47,
+        way: Way::Part(10),
         status: OUTPUT,
         what: Posted::Front(10),
         keys: b"a",
     },
     Failure {
-        call: 44,
-        way: 0,
+        call: 48,
+        way: Way::Untouched,
         status: DONE,
         what: Posted::Unread,
         keys: b"a",
     },
     Failure {
-        call: 45,
-        way: 0,
+        call: 49,
+        way: Way::Untouched,
         status: OUTPUT,
         what: Posted::Front(24),
         keys: b"a",
     },
     Failure {
-        call: 45,
-        way: 4,
+        call: 49,
+        way: Way::Part(10),
         status: OUTPUT,
         what: Posted::Front(34),
         keys: b"a",
     },
     Failure {
-        call: 46,
-        way: 0,
+        call: 50,
+        way: Way::Untouched,
         status: OUTPUT,
         what: Posted::Front(48),
         keys: b"a",
     },
     Failure {
-        call: 46,
-        way: 4,
+        call: 50,
+        way: Way::Part(10),
         status: OUTPUT,
         what: Posted::Front(51),
         keys: b"a",
     },
     Failure {
-        call: 47,
-        way: 0,
+        call: 51,
+        way: Way::Untouched,
         status: INPUT,
         what: Posted::Front(51),
         keys: b"a",
     },
     Failure {
-        call: 48,
-        way: 0,
+        call: 52,
+        way: Way::Untouched,
         status: DONE,
         what: Posted::Front(51),
         keys: b"a",
@@ -263,14 +403,15 @@ fn check_keys<P: Program>(
 
 fn check_worked<P: Program>(alloc: Global, failure: &Failure) -> Result<Flash, Fail> {
     let left = left(alloc, failure.way)?;
-    let place = Place::CallWay(failure.call, failure.way);
+    let place = Place::Call(failure.call);
     let done = served_with_fault::<P>(alloc, failure.call, left)?;
     done.posted(failure.status, &bytes_posted(alloc, failure.what)?, place)?;
     check_keys::<P>(alloc, &done.flash, failure.keys, place)?;
     Ok(done.flash)
 }
 
-/// Each call of the worked session behind the reads that open the drive fails, in some ways.
+/// Each call of the worked session after the reads that open the drive fails, in some ways, and the program of the second page of a
+/// pair in all.
 pub fn calls_of_the_worked_session<P: Program>(alloc: Global) -> Result<(), Fail> {
     for failure in &FAILURES {
         let _ = check_worked::<P>(alloc, failure)?;
@@ -280,10 +421,10 @@ pub fn calls_of_the_worked_session<P: Program>(alloc: Global) -> Result<(), Fail
 
 /// Each read that opens the made drive fails: nothing of the input is taken, and nothing is posted or written.
 pub fn reads_of_the_worked_opening<P: Program>(alloc: Global) -> Result<(), Fail> {
-    for call in 0..33u64 {
+    for call in 0..34u64 {
         let failure = Failure {
             call,
-            way: 0,
+            way: Way::Untouched,
             status: FLASH,
             what: Posted::Front(0),
             keys: b"",

@@ -49,8 +49,8 @@ pub const LONG: Smallest = Smallest {
     numbers: [512, 16, 22],
 };
 
-/// A drive of one of these shapes: how many keys of one page each it has, with how many Stores of them it begins, and how many other
-/// keys are stored and deleted behind these.
+/// A drive of one of these shapes: how many keys of two pages each it has, with how many Stores of them it begins, and how many other
+/// keys are stored and deleted after these.
 #[derive(Clone, Copy)]
 pub struct Few {
     pub smallest: Smallest,
@@ -63,20 +63,20 @@ pub struct Few {
 pub const SHAPES: [Few; 3] = [
     Few {
         smallest: SMALL,
-        keys: 12,
-        stores: 16,
+        keys: 6,
+        stores: 8,
         gone: 0,
     },
     Few {
         smallest: WIDE,
-        keys: 12,
-        stores: 16,
+        keys: 6,
+        stores: 8,
         gone: 0,
     },
     Few {
         smallest: LONG,
-        keys: 24,
-        stores: 32,
+        keys: 12,
+        stores: 16,
         gone: 0,
     },
 ];
@@ -101,9 +101,9 @@ pub fn in_all_ways(every: usize) -> Part {
     }
 }
 
-// All marks, and of the third session all ways.
+// Of the marks of the later sessions one of every two, and of the third session all ways.
 const LAST: Part = Part {
-    every: 1,
+    every: 2,
     all_of_first: false,
     all_of_second: false,
     all_of_third: true,
@@ -401,7 +401,7 @@ fn making(few: &Few) -> Room {
     let gone = few.gone as usize;
     Room {
         posted: ROOM.posted.saturating_add(gone.saturating_mul(48)),
-        marks: ROOM.marks.saturating_add(gone.saturating_mul(6)),
+        marks: ROOM.marks.saturating_add(gone.saturating_mul(10)),
     }
 }
 
@@ -452,10 +452,11 @@ pub fn first<P: Program>(trial: &Trial) -> Result<Behind, Fail> {
     session::<P>(trial, pages, &held, 1)
 }
 
-// From a full drive on, whose first session programs a root, the copies, the page of their moves, the value and the page of its entry.
+// From a full drive on, whose first session programs a root, the copies, the commit of their moves, the value and the commit of its entry,
+// of two pages each.
 fn check_full<P: Program>(trial: &Trial) -> Result<usize, Fail> {
     let first = first::<P>(trial)?;
-    if first.flash.program_count() < 6 {
+    if first.flash.program_count() < 10 {
         return Err(Fail::from("the programs of a first session"));
     }
     check::<P>(trial, &first)
@@ -470,7 +471,7 @@ pub fn three_deep<P: Program>(alloc: Global, few: &Few) -> Result<(), Fail> {
         part: &LAST,
     };
     let cuts = check_full::<P>(&trial)?;
-    holds(cuts >= 5_000, "5,000 cuts")
+    holds(cuts >= 3_000, "3,000 cuts")
 }
 
 /// All sessions are cut off in all ways, the later two at one of every so many marks. This takes long.

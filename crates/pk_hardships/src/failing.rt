@@ -1,7 +1,7 @@
 //! A session that begins with a reclaim and a freeze inside it, with each of its calls failing in turn.
 
 use crate::deep::{Before, Few, Trial, drive, few_board, held, in_all_ways, session, stored};
-use pk_flash::{Flash, Left, PageLeft};
+use pk_flash::{EraseLeft, Flash, Left, PageLeft};
 use pk_nand::Mark;
 use pk_nvme::status::{SUCCESSFUL_COMPLETION, UNRECOVERED_ERROR};
 use pk_sessions::boards::{Session, pages_left, serve_board};
@@ -177,14 +177,14 @@ fn served_with_fault<P: Program>(
     Ok(serve_board::<P>(trial.alloc, flash))
 }
 
-const KEPT: PageLeft = PageLeft::Kept;
+const KEPT: EraseLeft = EraseLeft::Kept;
 
-const ERASED: PageLeft = PageLeft::Erased;
+const ERASED: EraseLeft = EraseLeft::Erased;
 
-const TORN: PageLeft = PageLeft::Torn;
+const TORN: EraseLeft = EraseLeft::Torn;
 
 // Each of 16 pages Torn, as it was or Erased by turns.
-const FROM_TORN: [PageLeft; 16] = [
+const FROM_TORN: [EraseLeft; 16] = [
     TORN, KEPT, ERASED, TORN, KEPT, ERASED, TORN, KEPT, ERASED, TORN, KEPT, ERASED, TORN, KEPT,
     ERASED, TORN,
 ];
@@ -195,6 +195,9 @@ fn left(alloc: Global, way: u8) -> Result<Left, AllocError> {
         1 => Ok(Left::Torn),
         2 => Ok(Left::Done),
         3 => Ok(Left::Each(FROM_TORN.to_vec(alloc)?)),
+        4 => Ok(Left::WithEven(PageLeft::Untouched)),
+        5 => Ok(Left::WithEven(PageLeft::Torn)),
+        6 => Ok(Left::WithEven(PageLeft::Done)),
         _ => Ok(Left::Part(9)),
     }
 }
@@ -243,7 +246,7 @@ fn check_ways<P: Program>(
     held: &[u8],
     whole: &Flash,
 ) -> Result<(), Fail> {
-    for way in 0..5u8 {
+    for way in 0..8u8 {
         let kinds = kinds_of::<P>(trial, drive, held, way)?;
         let wanted = wanted_kinds(whole, kinds.fetches);
         holds(
@@ -261,7 +264,8 @@ fn check_drive<P: Program>(trial: &Trial, drive: &Flash) -> Result<(), Fail> {
     check_ways::<P>(trial, drive, &before.held, &whole.flash)
 }
 
-/// Each call fails and leaves all as it was, a page or a block Torn, its work done, a block page by page, or a part of a post. A read
+/// Each call fails and leaves all as it was, a page or a block Torn, its work done, a block page by page, the first page of a pair Torn with
+/// the second one as it was, Torn or done, or a part of a post. A read
 /// fails its command, or the opening; a fetch, a post, a program and an erase end the run; and the next session finds what was told.
 pub fn each_call<P: Program>(alloc: Global, few: &Few) -> Result<(), Fail> {
     let part = in_all_ways(1);

@@ -21,7 +21,7 @@ const IN_RUNS: u32 = 23_400;
 
 const ROOM: Room = Room {
     posted: 4_000_000,
-    marks: 104_000,
+    marks: 130_000,
 };
 
 // The text `key:`, and the number in twelve decimal digits.
@@ -73,7 +73,7 @@ fn is_value(alloc: Global, data: Option<&[u8]>, key: u32) -> bool {
     }
 }
 
-// The record has the value of this key, and tells the pages of its look-up and the one of the value.
+// The record has the value of this key, and tells the pages of its look-up and the first one of the value.
 fn is_record(alloc: Global, posted: &[u8], record: &Record, key: u32) -> bool {
     let least = if key < IN_RUNS { 2 } else { 1 };
     let is_read = least <= record.reads && record.reads <= 5;

@@ -12,7 +12,7 @@ use std::alloc::{AllocError, Global};
 use std::test::*;
 
 // The words that make a drive with room for so many keys.
-const MAKE: [&str; 4] = ["make", "512", "16", "400"];
+const MAKE: [&str; 4] = ["make", "512", "16", "650"];
 
 const KEYS: u32 = 3_300;
 
@@ -21,11 +21,11 @@ const TOLD: u32 = 3_276;
 
 const ROOM: Room = Room {
     posted: 131_072,
-    marks: 20_000,
+    marks: 27_000,
 };
 
 fn shape() -> Result<Shape, Fail> {
-    Ok(Shape::new(512, 16, 400).ok().ok_or("a shape")?)
+    Ok(Shape::new(512, 16, 650).ok().ok_or("a shape")?)
 }
 
 // Sixteen bytes that rise with the number.

@@ -77,13 +77,15 @@ fn may_be(shape: &Shape, first: u32, len: u32) -> bool {
     count > 0
         && len <= shape.greatest()
         && first < shape.page_count()
+        && first % 2 == 0
         && first / count >= 2
         && pages_of(shape, len).saturating_add(u64::from(first % count)) <= u64::from(count)
 }
 
-/// How many pages a value of so many bytes has.
+/// How many pages a value of so many bytes has: those of as many pairs as take it with its head.
 pub fn pages_of(shape: &Shape, len: u32) -> u64 {
-    (u64::from(len) + 32).div_ceil(u64::from(shape.page_bytes().max(1)))
+    let pair = u64::from(shape.page_bytes().max(1)) * 2;
+    (u64::from(len) + 32).div_ceil(pair) * 2
 }
 
 // The entry that begins here, if there is one.
@@ -134,7 +136,7 @@ fn push_items(
     Ok(zeros(page, end, shape.page_bytes() as usize))
 }
 
-/// Adds the entries of a page of an epoch, if it is the one with this index.
+/// Adds the entries of a page of an epoch, if it is one of the commit with this index.
 pub fn push_commit(
     shape: &Shape,
     page: &[u8],
@@ -247,7 +249,7 @@ fn is_top(shape: &Shape, page: &[u8]) -> bool {
     let root = number(page, 24, 8);
     let epoch = number(page, 32, 8);
     is_text(page, 0, b"PINKROOT")
-        && small(page, 8, 2) == 1
+        && small(page, 8, 2) == 2
         && small(page, 10, 2) == shape.block_pages()
         && small(page, 12, 4) == shape.page_bytes()
         && small(page, 16, 2) == shape.blocks()

@@ -107,6 +107,22 @@ fn rising(alloc: Global, items: &[Item]) -> Result<Vec<Item>, AllocError> {
     Ok(sorted)
 }
 
+// The page of the commit with this index: its first one, where that is Whole, else its second one.
+fn page_of_commit<'a>(
+    shape: &Shape,
+    pages: &'a [PageState],
+    blocks: &[u32],
+    index: u32,
+) -> Option<(u32, &'a [u8])> {
+    let first = page_in(shape, blocks, index.saturating_mul(2));
+    for page in first..first.saturating_add(2) {
+        if let Some(bytes) = whole(pages, page) {
+            return Some((page, bytes));
+        }
+    }
+    None
+}
+
 // The entries that count of an epoch in these blocks.
 fn epoch(
     alloc: Global,
@@ -116,11 +132,10 @@ fn epoch(
     blocks: &[u32],
 ) -> Result<List, AllocError> {
     let mut items = Vec::new(alloc);
-    for index in 0..shape.block_pages().saturating_mul(2) {
-        let page = page_in(shape, blocks, index);
-        match whole(pages, page) {
+    for index in 0..shape.block_pages() {
+        match page_of_commit(shape, pages, blocks, index) {
             None => return Ok(List::Entries(rising(alloc, &items)?)),
-            Some(bytes) => {
+            Some((page, bytes)) => {
                 let is_one = push_commit(shape, bytes, number, index, &mut items)?;
                 let keys = rising(alloc, &items)?.len();
                 if !is_one || keys > shape.buffer() as usize {

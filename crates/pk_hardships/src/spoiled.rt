@@ -299,17 +299,17 @@ fn check_byte<O: Opens>(
 }
 
 // Where opening a drive with one key refuses it behind a change of this byte of its journal page: at the journal page, or, where that is
-// one of the grammar still, at the page at which no value of the entry stands.
+// one of the grammar still, at the page at which no value of the entry stands. No value begins at an odd page.
 fn refused_at(byte: usize) -> u32 {
     match byte {
         32 | 36 | 56 | 57 => 32,
-        52 => 33,
         53 => 288,
         _ => 64,
     }
 }
 
-/// Each of the first 64 bytes of the one journal page is changed, greater by one. It has one entry, and the value begins at page 32.
+/// Each of the first 64 bytes of the first page of the one commit is changed, greater by one. It has one entry, and the value begins at
+/// page 32.
 pub fn journal_bytes<O: Opens>(alloc: Global) -> Result<(), Fail> {
     let pages = with_one_key::<O>(alloc)?;
     for at in 0..64usize {
@@ -347,10 +347,11 @@ fn check_bytes<O: Opens>(alloc: Global, pages: &[PageState], page: u32) -> Resul
     Ok(())
 }
 
-// The root, the pages of the epochs, the first pages of the runs, and those of the values of the keys 33 and 80.
-const PAGES: [u32; 11] = [0, 32, 33, 64, 96, 112, 128, 144, 145, 386, 480];
+// The root, the first pages of the commits, the first pages of the runs, those of the values of the keys 33 and 80, and the second one of
+// the latter, which has zeros.
+const PAGES: [u32; 11] = [0, 32, 34, 64, 96, 112, 128, 144, 386, 480, 481];
 
-/// Each byte of the root, of each page of the epochs, and of the first pages of the runs of all levels, and the first pages of two values.
+/// Each byte of the root, of each commit of the epochs, of the first pages of the runs of all levels, and of pages of two values.
 pub fn every_byte<O: Opens>(alloc: Global) -> Result<(), Fail> {
     let pages = with_two_epochs(alloc)?;
     for page in &PAGES {
@@ -422,6 +423,41 @@ pub fn exchanged<O: Opens>(alloc: Global) -> Result<(), Fail> {
     Ok(())
 }
 
+// ---- the pages of pairs
+
+// The first pages of the pairs of the root and of the three commits, and of the first pair after the newest epoch.
+const PAIRS: [u32; 5] = [0, 32, 34, 36, 64];
+
+// Opening answers as the reading does where both pages of this pair are as they were or others.
+fn check_pair<O: Opens>(
+    alloc: Global,
+    pages: &[PageState],
+    first: u32,
+    ways: u32,
+) -> Result<(), Fail> {
+    let mut spoiled = copies(alloc, pages)?;
+    if ways % 5 < 4 {
+        set(&mut spoiled, first, other(alloc, ways % 5)?)?;
+    }
+    if ways / 5 < 4 {
+        let second = first.saturating_add(1);
+        set(&mut spoiled, second, other(alloc, ways / 5)?)?;
+    }
+    let _ = check::<O>(alloc, &spoiled, "pair", first as usize)?;
+    Ok(())
+}
+
+/// Each page of the pairs of the root and of the commits is as it was, Erased, Torn, or has bytes that no page has, and so is the other one.
+pub fn every_pair<O: Opens>(alloc: Global) -> Result<(), Fail> {
+    let pages = with_two_epochs(alloc)?;
+    for first in &PAIRS {
+        for ways in 0..25u32 {
+            check_pair::<O>(alloc, &pages, *first, ways)?;
+        }
+    }
+    Ok(())
+}
+
 // ---- pages that are others
 
 // A page of the grammar.
@@ -429,7 +465,7 @@ pub fn exchanged<O: Opens>(alloc: Global) -> Result<(), Fail> {
 enum Kind {
     // A root with this number, of epoch 9 and no entry, which names these two blocks.
     Root(u64, [u16; 2]),
-    // The page of an epoch with this index.
+    // A page of the commit of an epoch with this index.
     Journal(u64, u32, &'static [Note]),
     // The page of a run with this index.
     Meta(u8, &'static [Note]),
@@ -459,7 +495,7 @@ const GONE: [Note; 2] = [Note::Gone(10), Note::Gone(20)];
 // Roots beside the newest one, which has the number 7 and stands in page 0. An empty drive has no key.
 const ROOTS: [Over; 6] = [
     Over {
-        name: "another root of the same number behind it",
+        name: "another root of the same number in the other page of its pair",
         page: 1,
         kind: Kind::Root(7, [40, 41]),
         opened: Opened::Keys(43),
@@ -497,7 +533,31 @@ const ROOTS: [Over; 6] = [
 ];
 
 // Pages of epochs and runs that are not those that the root names. The value of the key 20 begins at page 360.
-const LISTS: [Over; 9] = [
+const LISTS: [Over; 13] = [
+    Over {
+        name: "the epoch of another drive in the page of a commit that is not read",
+        page: 33,
+        kind: Kind::Journal(9, 0, &FRONT),
+        opened: Opened::Keys(43),
+    },
+    Over {
+        name: "the next commit of another drive, by its second page alone",
+        page: 37,
+        kind: Kind::Journal(9, 2, &FRONT),
+        opened: Opened::Damaged(37),
+    },
+    Over {
+        name: "the next commit by its second page alone, whose keys are deleted",
+        page: 37,
+        kind: Kind::Journal(3, 2, &[Note::Gone(20), Note::Gone(18)]),
+        opened: Opened::Keys(42),
+    },
+    Over {
+        name: "a page that says that a value begins at an odd page",
+        page: 96,
+        kind: Kind::Meta(1, &[Note::Gone(10), Note::Put(20, 361, 100)]),
+        opened: Opened::Damaged(96),
+    },
     Over {
         name: "the epoch of another drive",
         page: 32,

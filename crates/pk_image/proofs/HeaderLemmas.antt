@@ -1,5 +1,5 @@
 -- The check of a header passes exactly the headers of shapes.
-use Rattle.std.proofs.Common.{◌≡◌, ℕ, ◌+◌, ◌*◌, ◌^◌, ◌<◌, ◌≤◌, Bool, true, false, List, [], ◌∷◌, length, drop, get_or, refl, sym, ap, subst, ◌∙◌, arith, Some, None}
+use Rattle.std.proofs.Common.{◌≡◌, ℕ, ◌+◌, ◌*◌, ◌^◌, ◌<◌, ◌%◌, ◌≤◌, Bool, true, false, List, [], ◌∷◌, length, drop, get_or, refl, sym, ap, subst, ◌∙◌, arith, Some, None}
 use Rattle.std.specs.Prelude.{nat_le, nat_lt, not, ◌&&◌, ◌||◌, ◌==◌, if◌then◌else◌, Result, Ok, Err, is_ok, IfOk, MatchResult}
 use Rattle.std.specs.List.{list_any}
 use Rattle.std.proofs.lemmas.Bool.Decides.{nat_tests}
@@ -44,8 +44,8 @@ neither false b e = (refl, e)
 of_pages : (p : ℕ) → list_any (λ n. p == n) (512 ∷ 1024 ∷ 2048 ∷ 4096 ∷ 8192 ∷ 16384 ∷ []) ≡ true → (512 ≤ p) × (p ≤ 16384)
 of_pages p e = (grind (arith, nat_tests), grind (arith, nat_tests))
 
-of_blocks : (n : ℕ) → list_any (λ k. n == k) (8 ∷ 16 ∷ 32 ∷ 64 ∷ 128 ∷ 256 ∷ []) ≡ true → (8 ≤ n) × (n ≤ 256)
-of_blocks n e = (grind (arith, nat_tests), grind (arith, nat_tests))
+of_blocks : (n : ℕ) → list_any (λ k. n == k) (8 ∷ 16 ∷ 32 ∷ 64 ∷ 128 ∷ 256 ∷ []) ≡ true → (8 ≤ n) × (n ≤ 256) × (n % 8 ≡ 0)
+of_blocks n e = (grind (arith, nat_tests), grind (arith, nat_tests), grind (arith, nat_tests))
 
 not_below : (a b : ℕ) → nat_lt a b ≡ false → b ≤ a
 not_below a b e = grind (arith, nat_tests)
@@ -68,6 +68,7 @@ accepted_shape s e = by_cases (checked s) refl e
           page_most = page.1;
           block_least = block.0;
           block_most = block.1;
+          eights = block.2;
           blocks_most = not_below 4096 s.blocks few.0;
           moves_fit = not_below (page_entries s) (dense s) blocks.1;
           bytes_most = not_below 268435456 (s.page_bytes * s.block_pages * s.blocks) few.1;

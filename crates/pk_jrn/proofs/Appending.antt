@@ -1,174 +1,269 @@
--- What the program of an epoch's next page leaves of the epoch, cut or not.
-use Rattle.std.proofs.Common.{◌≡◌, ◌≢◌, inl, inr, ℕ, zero, suc, ◌+◌, ◌-◌, ◌^◌, ◌<◌, ◌≤◌, refl, sym, ap, ◌∙◌, arith, true, false, if◌then◌else◌, List, [], ◌∷◌, ◌++◌, length, Some, Ok, zero-add, below_more}
+-- What the programs of an epoch's next commit leave of the epoch, cut or not.
+use Rattle.std.proofs.Common.{◌≡◌, ◌≢◌, ◌⊎◌, inl, inr, ℕ, zero, suc, ◌+◌, ◌-◌, ◌*◌, ◌^◌, ◌<◌, ◌≤◌, refl, sym, ap, subst, ◌∙◌, arith, Bool, true, false, if◌then◌else◌, List, [], ◌∷◌, ◌++◌, length, Some, Ok, zero-add, below_more, le_refl}
 use Rattle.std.specs.Prelude.{slice_index}
 use Rattle.std.specs.List.{AllByRecursion}
+use Rattle.std.proofs.lemmas.Bool.{cases_lt}
 use Rattle.pk_base.specs.declared.entry.Entry.{Entry as RustEntry}
 use Rattle.pk_base.specs.Seen.{entries as seen_all}
 use Rattle.pk_base.specs.EntryBytes.{IsEntry}
-use Rattle.pk_base.specs.Shape.{Shape, IsShape, epoch_pages, page_entries}
-use Rattle.pk_base.specs.Page.{Flash, page_at, erased, whole, page_in, commits_of}
+use Rattle.pk_base.specs.Shape.{Shape, IsShape, epoch_pages, epoch_commits, page_entries, page_count}
+use Rattle.pk_base.specs.Page.{Page, Flash, page_at, erased, whole, torn, page_in, page_of_pair, commit_page, commit_at, commits_of}
 use Rattle.pk_base.specs.Entry.{Entry}
-use Rattle.pk_base.specs.Mark.{program, after}
-use Rattle.pk_nand.specs.BoardState.{BoardState, shape_of}
-use Rattle.pk_nand.specs.Cut.{MayLeave, Interrupted}
-use Rattle.pk_nand.specs.Calls.{IsReady, ProgramFailed, after_program}
-use Rattle.pk_nand.proofs.Leaving.{page_at-slice_set, page_at-slice_set_same}
-use Rattle.pk_nand.proofs.Reaching.{Reached-program, Went-program_failed}
-use Rattle.pk_nand.proofs.Touching.{untouched}
-use Rattle.pk_nand.proofs.Writing.{SameOutside-set, SameOutside-cut}
+use Rattle.pk_base.proofs.CommitPages.{second, only_commit}
+use Rattle.pk_nand.specs.BoardState.{BoardState}
+use Rattle.pk_nand.specs.Calls.{IsReady}
+use Rattle.pk_nand.specs.Crash.{Reached, Went}
+use Rattle.pk_nand.specs.Pairs.{HoldsAtMost, IsPairCut}
+use Rattle.pk_nand.proofs.Pairing.{outside_pair, pair_read, read_first}
 use Rattle.pk_jrnfmt.specs.Page.{journal_entries}
 use Rattle.pk_jrnfmt.specs.Epoch.{journal, epoch}
 use Rattle.pk_jrnfmt.proofs.PageLemmas.{journal_entries_again, length-seen}
-use Rattle.pk_jrn.specs.Epochs.{JournalEpoch, EpochOnFlash, Reads, HasCommit, AreBlocks, left_of, next_page}
+use Rattle.pk_jrn.specs.Epochs.{JournalEpoch, EpochOnFlash, Reads, HasCommit, left_of, next_page, pages_of}
 use Rattle.pk_jrn.specs.Appends.{next_bytes, AddsAll, AddsAllOrNone, IsCommitCut, CommitReached, CommitWent}
-use Rattle.pk_base.proofs.EpochPages.{only_index}
-use Rattle.pk_jrn.proofs.Places.{page_exists}
-use Rattle.pk_jrn.proofs.Journals.{IsNotWhole, erased_not_whole, torn_not_whole, epoch_is, reads_on, goes_on, ends}
+use Rattle.pk_jrn.proofs.Journals.{IsNotWhole, erased_not_whole, torn_not_whole, pair_not_whole, epoch_is, reads_on, goes_on, ends}
 
--- an epoch with a page left takes more
+-- an epoch with a commit left takes more
 pub takes_more : (e : JournalEpoch) → 0 < left_of e → e.takes_more ≡ true
-takes_more e some = elim e.takes_more as (λ b. e.takes_more ≡ b → 0 < (if b then epoch_pages e.shape - e.used else 0) → e.takes_more ≡ true) [
+takes_more e some = elim e.takes_more as (λ b. e.takes_more ≡ b → 0 < (if b then epoch_commits e.shape - e.used else 0) → e.takes_more ≡ true) [
   | true ↦ λ is _. is
   | false ↦ λ is none. absurd (omega (arith, none))
 ] refl some
 
-pub page_left : (e : JournalEpoch) → 0 < left_of e → e.used < epoch_pages e.shape
-page_left e some = elim e.takes_more as (λ b. 0 < (if b then epoch_pages e.shape - e.used else 0) → e.used < epoch_pages e.shape) [
+pub commit_left : (e : JournalEpoch) → 0 < left_of e → e.used < epoch_commits e.shape
+commit_left e some = elim e.takes_more as (λ b. 0 < (if b then epoch_commits e.shape - e.used else 0) → e.used < epoch_commits e.shape) [
   | true ↦ λ more. omega (arith, more)
   | false ↦ λ none. absurd (omega (arith, none))
 ] some
 
--- the epoch's next page with these entries is read as them
+-- the epoch's next pages with these entries are read as them
 pub next_spells : (e : JournalEpoch) (entries : List RustEntry) → IsShape e.shape → e.number < 2 ^ 64 → 0 < left_of e → 1 ≤ length entries → length entries ≤ page_entries e.shape
     → AllByRecursion (IsEntry e.shape) (seen_all entries) → journal_entries e.shape e.number e.used (next_bytes e (seen_all entries)) ≡ Some (seen_all entries)
 next_spells e entries shape fits left some most each =
     let size = length-seen entries in
     journal_entries_again e.shape e.number e.used (seen_all entries) shape (record {
       epoch_fits = fits;
-      index_fits = page_left e left;
+      index_fits = commit_left e left;
       some = omega (arith, size, some);
       most = omega (arith, size, most);
       each = each;
     })
 
-module _ (e : JournalEpoch) (flash : Flash) (es : List Entry) (bytes : List ℕ) (more : e.takes_more ≡ true) (inside : e.used < epoch_pages e.shape) (fits : EpochOnFlash e flash)
-    (different : slice_index e.blocks 0 ≢ slice_index e.blocks 1) (spells : journal_entries e.shape e.number e.used bytes ≡ Some es) where
-  was_erased : page_at flash (next_page e) ≡ erased
-  was_erased = fits.behind more e.used (omega arith) inside
+whole_erased : (bytes : List ℕ) (page : Page) → page ≡ whole bytes → page ≡ erased → ⊥
+whole_erased bytes page is other = cc
+
+-- of two neighbouring numbers from a place on, one of them, or another number
+pair_or_not : (u j : ℕ) → ((j < u) ⊎ (u + 2 ≤ j)) ⊎ ((j ≡ u) ⊎ (j ≡ u + 1))
+pair_or_not u j = elim (cases_lt j u) [
+  | inl low ↦ inl (inl low)
+  | inr high ↦ elim (cases_lt (u + 1) j) [
+    | inl past ↦ inl (inr (omega (arith, past)))
+    | inr le ↦ elim (cases_lt u j) [ inl more ↦ inr (inr (omega (arith, le, more))) | inr same ↦ inr (inl (omega (arith, high, same))) ]
+  ]
+]
+
+module _ (e : JournalEpoch) (flash : Flash) (es : List Entry) (bytes : List ℕ) (is : IsShape e.shape) (more : e.takes_more ≡ true) (whole_made : e.half ≡ false) (inside : e.used < epoch_commits e.shape)
+    (fits : EpochOnFlash e flash) (different : slice_index e.blocks 0 ≢ slice_index e.blocks 1) (spells : journal_entries e.shape e.number e.used bytes ≡ Some es) where
+  pages : pages_of e ≡ 2 * e.used
+  pages = rw whole_made refl
+
+  free : (j : ℕ) → 2 * e.used ≤ j → j < epoch_pages e.shape → page_at flash (page_in e.shape e.blocks j) ≡ erased
+  free j low high = fits.behind more j (omega (arith, pages, low)) high
+
+  next_is : page_in e.shape e.blocks (2 * e.used + 1) ≡ next_page e + 1
+  next_is = second e.shape e.blocks is e.used
+
+  pub first_erased : page_at flash (next_page e) ≡ erased
+  first_erased = free (2 * e.used) (le_refl (2 * e.used)) (omega (arith, inside))
+
+  pub second_erased : page_at flash (next_page e + 1) ≡ erased
+  second_erased = ap (page_at flash) (sym next_is) ∙ free (2 * e.used + 1) (omega arith) (omega (arith, inside))
 
   rest : ℕ
-  rest = epoch_pages e.shape - e.used - 1
+  rest = epoch_commits e.shape - e.used - 1
 
-  size : epoch_pages e.shape ≡ e.used + suc rest
+  size : epoch_commits e.shape ≡ e.used + suc rest
   unfolding rest
   size = omega (arith, inside)
 
+  -- no commit from the next one on has a page
+  no_page : (j : ℕ) → e.used ≤ j → j < epoch_commits e.shape → IsNotWhole (commit_at e.shape (page_at flash) e.blocks j).1
+  no_page j low high = pair_not_whole _ _ _
+      (erased_not_whole _ (free (2 * j) (omega (arith, low)) (omega (arith, high))))
+      (erased_not_whole _ (ap (page_at flash) (sym (second e.shape e.blocks is j)) ∙ free (2 * j + 1) (omega (arith, low)) (omega (arith, high))))
+
   -- a flash that differs in no other page
-  module _ (cut : Flash) (others : (k : ℕ) → (k ≡ next_page e → ⊥) → page_at cut k ≡ page_at flash k) where
-    same : (j : ℕ) → j < epoch_pages e.shape → (j ≡ e.used → ⊥) → page_at cut (page_in e.shape e.blocks j) ≡ page_at flash (page_in e.shape e.blocks j)
-    same j small other = others (page_in e.shape e.blocks j) (λ is. other (only_index e.shape e.blocks e.used j different inside small is))
+  module _ (cut : Flash) (others : (k : ℕ) → (next_page e ≤ k → k < next_page e + 2 → ⊥) → page_at cut k ≡ page_at flash k) where
+    same : (j : ℕ) → j < epoch_pages e.shape → (j < 2 * e.used) ⊎ (2 * e.used + 2 ≤ j) → page_at cut (page_in e.shape e.blocks j) ≡ page_at flash (page_in e.shape e.blocks j)
+    same j small other = others (page_in e.shape e.blocks j) (λ low high. apart other (only_commit e.shape e.blocks is e.used j different inside small low high))
+      where
+        apart : (j < 2 * e.used) ⊎ (2 * e.used + 2 ≤ j) → (2 * e.used ≤ j) × (j < 2 * e.used + 2) → ⊥
+        apart (inl less) there = omega (arith, less, there.0)
+        apart (inr past) there = omega (arith, past, there.1)
+
+    same_commit : (j : ℕ) → j < epoch_commits e.shape → (j < e.used) ⊎ (e.used < j) → commit_at e.shape (page_at cut) e.blocks j ≡ commit_at e.shape (page_at flash) e.blocks j
+    same_commit j small other =
+        let next : page_in e.shape e.blocks (2 * j + 1) ≡ commit_page e.shape e.blocks j + 1 = second e.shape e.blocks is j in
+        let one = same (2 * j) (omega (arith, small)) (twice other) in
+        let two : page_at cut (commit_page e.shape e.blocks j + 1) ≡ page_at flash (commit_page e.shape e.blocks j + 1) =
+        ap (page_at cut) (sym next) ∙ same (2 * j + 1) (omega (arith, small)) (twice_more other) ∙ ap (page_at flash) next in
+        λ i. page_of_pair (commit_page e.shape e.blocks j) (one i) (two i)
+      where
+        twice : (j < e.used) ⊎ (e.used < j) → (2 * j < 2 * e.used) ⊎ (2 * e.used + 2 ≤ 2 * j)
+        twice (inl less) = inl (omega (arith, less))
+        twice (inr past) = inr (omega (arith, past))
+
+        twice_more : (j < e.used) ⊎ (e.used < j) → (2 * j + 1 < 2 * e.used) ⊎ (2 * e.used + 2 ≤ 2 * j + 1)
+        twice_more (inl less) = inl (omega (arith, less))
+        twice_more (inr past) = inr (omega (arith, past))
 
     read_up : (before : List Entry) → Reads e flash before
         → epoch e.shape (page_at cut) e.number e.blocks ≡ journal e.shape e.number e.used before (commits_of e.shape (page_at cut) e.blocks e.used (suc rest))
-    read_up before is =
+    read_up before reads =
         let first : 0 + e.used ≡ e.used = zero-add e.used in
-        epoch_is e.shape (page_at cut) e.number e.blocks (e.used + suc rest) fits.two size
+        epoch_is e.shape (page_at cut) e.number e.blocks (e.used + suc rest) is fits.two size
         ∙ reads_on e.shape e.number e.blocks (page_at flash) (page_at cut) e.used (suc rest) 0 [] before (λ j low high. fits.before j (omega (arith, high)))
-        (λ j low high. same j (omega (arith, high, inside)) (λ is. omega (arith, high, is)))
-        (erased_not_whole (page_at flash (page_in e.shape e.blocks (0 + e.used))) (ap (λ k. page_at flash (page_in e.shape e.blocks k)) first ∙ was_erased))
-        (sym (epoch_is e.shape (page_at flash) e.number e.blocks (e.used + suc rest) fits.two size) ∙ is)
+        (λ j low high. same_commit j (omega (arith, high, inside)) (inl (omega (arith, high))))
+        (no_page (0 + e.used) (omega arith) (omega (arith, inside)))
+        (sym (epoch_is e.shape (page_at flash) e.number e.blocks (e.used + suc rest) is fits.two size) ∙ reads)
         ∙ (λ i. journal e.shape e.number (first i) before (commits_of e.shape (page_at cut) e.blocks (first i) (suc rest)))
 
-    -- a page that is not whole adds nothing
-    without : IsNotWhole (page_at cut (next_page e)) → (before : List Entry) → Reads e flash before → Reads e cut before
-    without not_whole before is = read_up before is ∙ ends e.shape e.number e.blocks (page_at cut) e.used before (suc rest) not_whole
+    -- a commit without a page that is whole adds nothing
+    without : IsNotWhole (commit_at e.shape (page_at cut) e.blocks e.used).1 → (before : List Entry) → Reads e flash before → Reads e cut before
+    without not_whole before reads = read_up before reads ∙ ends e.shape e.number e.blocks (page_at cut) e.used before (suc rest) not_whole
 
     ends_behind : (so_far : List Entry) (n : ℕ) → n ≡ rest → journal e.shape e.number (e.used + 1) so_far (commits_of e.shape (page_at cut) e.blocks (e.used + 1) n) ≡ Ok so_far
     unfolding rest
-    ends_behind so_far zero is = refl
-    ends_behind so_far (suc n) is =
-        let small : e.used + 1 < epoch_pages e.shape = omega (arith, is) in
-        let unchanged = same (e.used + 1) small (λ one. omega (arith, one)) in
-        ends e.shape e.number e.blocks (page_at cut) (e.used + 1) so_far (suc n) (erased_not_whole _ (unchanged ∙ fits.behind more (e.used + 1) (omega arith) small))
+    ends_behind so_far zero is_rest = refl
+    ends_behind so_far (suc n) is_rest =
+        let small : e.used + 1 < epoch_commits e.shape = omega (arith, is_rest) in
+        let unchanged = same_commit (e.used + 1) small (inr (omega arith)) in
+        ends e.shape e.number e.blocks (page_at cut) (e.used + 1) so_far (suc n)
+        (subst (λ (p : ℕ × Page). IsNotWhole p.1) (sym unchanged) (no_page (e.used + 1) (omega arith) small))
 
-    -- the whole page adds its entries
-    with_page : page_at cut (next_page e) ≡ whole bytes → AddsAll e es flash cut
-    with_page here before is room =
-        read_up before is ∙ goes_on e.shape e.number e.blocks (page_at cut) e.used before rest bytes here es spells room ∙ ends_behind (before ++ es) rest refl
+    -- a page that is whole adds its entries
+    with_page : (commit_at e.shape (page_at cut) e.blocks e.used).1 ≡ whole bytes → AddsAll e es flash cut
+    with_page here before reads room =
+        read_up before reads ∙ goes_on e.shape e.number e.blocks (page_at cut) e.used before rest bytes here es spells room ∙ ends_behind (before ++ es) rest refl
 
-    EpochOnFlash-next : page_at cut (next_page e) ≡ whole bytes → EpochOnFlash (record e { used = e.used + 1 }) cut
-    EpochOnFlash-next here = record {
+    -- by the first page
+    read_here : page_at cut (next_page e) ≡ whole bytes → (commit_at e.shape (page_at cut) e.blocks e.used).1 ≡ whole bytes
+    read_here here = ap (λ (p : ℕ × Page). p.1) (read_first (next_page e) bytes (page_at cut (next_page e)) (page_at cut (next_page e + 1)) here)
+
+    commits_before : page_at cut (next_page e) ≡ whole bytes → (j : ℕ) → j < e.used + 1 → HasCommit e.shape cut e.blocks j
+    commits_before here j small =
+        let below : (j : ℕ) → j < e.used → HasCommit e.shape cut e.blocks j = λ j less. let w = fits.before j less in (w.0, ap (λ (p : ℕ × Page). p.1) (same_commit j (omega (arith, less, inside)) (inl less)) ∙ w.1) in
+        below_more (λ (j : ℕ). HasCommit e.shape cut e.blocks j) e.used below (bytes, read_here here) j (omega (arith, small))
+
+    -- behind the first program
+    EpochOnFlash-half : page_at cut (next_page e) ≡ whole bytes → page_at cut (next_page e + 1) ≡ erased → EpochOnFlash (record e { used = e.used + 1; half = true }) cut
+    EpochOnFlash-half here there = record {
       two = fits.two;
       within = omega (arith, inside);
-      before =
-          let below : (j : ℕ) → j < e.used → HasCommit e.shape cut e.blocks j = λ j small. let w = fits.before j small in (w.0, same j (omega (arith, small, inside)) (λ is. omega (arith, small, is)) ∙ w.1) in
-          λ j small. below_more (λ (j : ℕ). HasCommit e.shape cut e.blocks j) e.used below (bytes, here) j (omega (arith, small));
-      behind = λ _ j low high. same j high (λ is. omega (arith, low, is)) ∙ fits.behind more j (omega (arith, low)) high;
-    }
+      before = commits_before here;
+      filled = λ _ j low. elim (pair_or_not (2 * e.used) j) [
+        | inl other ↦ λ now. fits.filled more j (omega (arith, pages, low, elim_low other low)) (sym (same j (omega (arith, low, inside)) other) ∙ now)
+        | inr one ↦ elim one [
+          | inl first ↦ λ now. whole_erased bytes _ (ap (λ k. page_at cut (page_in e.shape e.blocks k)) first ∙ here) now
+          | inr next ↦ λ now. omega (arith, low, next)
+        ]
+      ];
+      behind = λ _ j low high. elim (pair_or_not (2 * e.used) j) [
+        | inl other ↦ same j high other ∙ free j (omega (arith, low)) high
+        | inr one ↦ elim one [
+          | inl first ↦ absurd (omega (arith, low, first))
+          | inr next ↦ ap (λ k. page_at cut (page_in e.shape e.blocks k)) next ∙ ap (page_at cut) next_is ∙ there
+        ]
+      ];
+    } where
+      elim_low : {j : ℕ} → (j < 2 * e.used) ⊎ (2 * e.used + 2 ≤ j) → j < 2 * (e.used + 1) - 1 → j < 2 * e.used
+      elim_low (inl less) low = less
+      elim_low (inr past) low = absurd (omega (arith, past, low))
 
-  -- what an interrupted program of the page may leave
-  all_or_none : (cut : Flash) → ((k : ℕ) → MayLeave e.shape (program (next_page e) bytes) k (page_at flash k) (page_at cut k)) → AddsAllOrNone e es flash cut
-  all_or_none cut leaves before is room =
-      let others : (k : ℕ) → (k ≡ next_page e → ⊥) → page_at cut k ≡ page_at flash k = λ k other. untouched e.shape (program (next_page e) bytes) k _ _ other (leaves k) in
-      elim (leaves (next_page e)) [
-        | inl stays ↦ inl (without cut others (erased_not_whole _ (stays ∙ was_erased)) before is)
-        | inr changed ↦ elim changed.1 [
-          | inl done ↦ inr (with_page cut others done before is room)
-          | inr is_torn ↦ inl (without cut others (torn_not_whole _ is_torn) before is)
+    -- behind both
+    EpochOnFlash-both : page_at cut (next_page e) ≡ whole bytes → page_at cut (next_page e + 1) ≡ whole bytes → EpochOnFlash (record e { used = e.used + 1; half = false }) cut
+    EpochOnFlash-both here there = record {
+      two = fits.two;
+      within = omega (arith, inside);
+      before = commits_before here;
+      filled = λ _ j low. elim (pair_or_not (2 * e.used) j) [
+        | inl other ↦ λ now. fits.filled more j (omega (arith, pages, low, elim_low other low)) (sym (same j (omega (arith, low, inside)) other) ∙ now)
+        | inr one ↦ elim one [
+          | inl first ↦ λ now. whole_erased bytes _ (ap (λ k. page_at cut (page_in e.shape e.blocks k)) first ∙ here) now
+          | inr next ↦ λ now. whole_erased bytes _ (ap (λ k. page_at cut (page_in e.shape e.blocks k)) next ∙ ap (page_at cut) next_is ∙ there) now
+        ]
+      ];
+      behind = λ _ j low high. same j high (inr (omega (arith, low))) ∙ free j (omega (arith, low)) high;
+    } where
+      elim_low : {j : ℕ} → (j < 2 * e.used) ⊎ (2 * e.used + 2 ≤ j) → j < 2 * (e.used + 1) → j < 2 * e.used
+      elim_low (inl less) low = less
+      elim_low (inr past) low = absurd (omega (arith, past, low))
+
+  -- what the programs may leave wherever they are cut
+  all_or_none : (cut : Flash) → IsPairCut (next_page e) bytes flash cut → AddsAllOrNone e es flash cut
+  all_or_none cut is_cut before reads room =
+      let others = outside_pair (next_page e) flash cut is_cut.outside in
+      elim (pair_read (next_page e) bytes (page_at cut (next_page e)) (page_at cut (next_page e + 1)) is_cut.first is_cut.second) [
+        | inl done ↦ inr (with_page cut others done before reads room)
+        | inr none ↦ elim none [
+          | inl is_erased ↦ inl (without cut others (erased_not_whole _ is_erased) before reads)
+          | inr is_torn ↦ inl (without cut others (torn_not_whole _ is_torn) before reads)
         ]
       ]
 
-  others_set : (k : ℕ) → (k ≡ next_page e → ⊥) → page_at (after e.shape (program (next_page e) bytes) flash) k ≡ page_at flash k
-  others_set k other = page_at-slice_set flash (next_page e) k (whole bytes) other
+  pub commit_cut : (cut : Flash) → IsPairCut (next_page e) bytes flash cut → IsCommitCut e es flash cut
+  commit_cut cut is_cut = record { outside = is_cut.outside; entries = all_or_none cut is_cut }
 
-  module _ (exists : next_page e < length flash) where
-    here_set : page_at (after e.shape (program (next_page e) bytes) flash) (next_page e) ≡ whole bytes
-    here_set = page_at-slice_set_same flash (next_page e) (whole bytes) exists
+  module _ (new : Flash) (is_cut : IsPairCut (next_page e) bytes flash new) (here : page_at new (next_page e) ≡ whole bytes) where
+    pub adds_all : AddsAll e es flash new
+    adds_all = with_page new (outside_pair (next_page e) flash new is_cut.outside) (read_here new (outside_pair (next_page e) flash new is_cut.outside) here)
 
-    pub adds_all : AddsAll e es flash (after e.shape (program (next_page e) bytes) flash)
-    adds_all = with_page (after e.shape (program (next_page e) bytes) flash) others_set here_set
+    pub half_fits : page_at new (next_page e + 1) ≡ erased → EpochOnFlash (record e { used = e.used + 1; half = true }) new
+    half_fits there = EpochOnFlash-half new (outside_pair (next_page e) flash new is_cut.outside) here there
 
-    pub EpochOnFlash-programmed : EpochOnFlash (record e { used = e.used + 1 }) (after e.shape (program (next_page e) bytes) flash)
-    EpochOnFlash-programmed = EpochOnFlash-next (after e.shape (program (next_page e) bytes) flash) others_set here_set
-
-    done_cut : IsCommitCut e es flash (after e.shape (program (next_page e) bytes) flash)
-    done_cut = record {
-      outside = SameOutside-set (next_page e) 1 (next_page e) flash flash (whole bytes) (record { size = refl; below = λ k _. refl; above = λ k _. refl }) (omega arith) (omega arith);
-      entries = λ before is room. inr (adds_all before is room);
-    }
-
-  cut_of : (shape : Shape) (cut : Flash) → Interrupted shape (program (next_page e) bytes) flash cut [] → IsCommitCut e es flash cut
-  cut_of shape cut interrupted = record {
-    outside = SameOutside-cut shape (next_page e) 1 (next_page e) flash flash cut bytes [] (record { size = refl; below = λ k _. refl; above = λ k _. refl }) (omega arith) (omega arith) interrupted;
-    entries = all_or_none cut (λ k. interrupted.pages k);
-  }
+    pub both_fit : page_at new (next_page e + 1) ≡ whole bytes → EpochOnFlash (record e { used = e.used + 1; half = false }) new
+    both_fit there = EpochOnFlash-both new (outside_pair (next_page e) flash new is_cut.outside) here there
 
 -- ---- the board
 
-module _ (e : JournalEpoch) (board : BoardState) (es : List Entry) (bytes : List ℕ) (ready : IsReady board e.shape) (left : 0 < left_of e) (fits : EpochOnFlash e board.pages) (blocks : AreBlocks e.shape e.blocks)
-    (spells : journal_entries e.shape e.number e.used bytes ≡ Some es) where
-  abbrev inside : e.used < epoch_pages e.shape
-  inside = page_left e left
+module _ (e : JournalEpoch) (board new : BoardState) (es : List Entry) (bytes : List ℕ) (is : IsShape e.shape) (left : 0 < left_of e) (whole_made : e.half ≡ false) (fits : EpochOnFlash e board.pages)
+    (different : slice_index e.blocks 0 ≢ slice_index e.blocks 1) (spells : journal_entries e.shape e.number e.used bytes ≡ Some es) where
+  cut_is : (cut : Flash) → IsPairCut (next_page e) bytes board.pages cut → IsCommitCut e es board.pages cut
+  cut_is = commit_cut e board.pages es bytes is (takes_more e left) whole_made (commit_left e left) fits different spells
 
-  next_exists : next_page e < length board.pages
-  next_exists = let size = ready.flash.size in let low = page_exists e.shape e.blocks e.used (page_left e left) blocks.exist in omega (arith, size, low)
-
-  pub Commit-fits : EpochOnFlash (record e { used = e.used + 1 }) (after_program board (next_page e) bytes).pages
-  Commit-fits = EpochOnFlash-programmed e board.pages es bytes (takes_more e left) (page_left e left) fits blocks.different spells next_exists
-
-  pub Commit-adds : AddsAll e es board.pages (after_program board (next_page e) bytes).pages
-  Commit-adds = adds_all e board.pages es bytes (takes_more e left) (page_left e left) fits blocks.different spells next_exists
-
-  pub Commit-reached : CommitReached e es board (after_program board (next_page e) bytes)
-  Commit-reached = (
-    program (next_page e) bytes ∷ [],
-    Reached-program board (λ flash _. IsCommitCut e es board.pages flash) (next_page e) bytes
-        (cut_of e board.pages es bytes (takes_more e left) (page_left e left) fits blocks.different spells (shape_of board))
-        (done_cut e board.pages es bytes (takes_more e left) (page_left e left) fits blocks.different spells next_exists),
+  pub Commit-reached : Reached board new (λ flash _. IsPairCut (next_page e) bytes board.pages flash) → CommitReached e es board new
+  Commit-reached run = (
+    run.0,
+    record {
+      trail = run.1.trail;
+      posted = run.1.posted;
+      same_shape = run.1.same_shape;
+      cuts = λ f q c. cut_is f (run.1.cuts f q c);
+      stands = run.1.stands;
+    },
   )
 
-  pub Commit-went : (new : BoardState) → ProgramFailed board new (next_page e) bytes → CommitWent e es board new
-  Commit-went new failed =
-      Went-program_failed board (λ flash _. IsCommitCut e es board.pages flash) new (next_page e) bytes failed
-      (cut_of e board.pages es bytes (takes_more e left) (page_left e left) fits blocks.different spells (shape_of board))
-      (done_cut e board.pages es bytes (takes_more e left) (page_left e left) fits blocks.different spells next_exists)
+  pub Commit-went : Went board new (λ flash _. IsPairCut (next_page e) bytes board.pages flash) → CommitWent e es board new
+  Commit-went run = (
+    run.0,
+    record {
+      trail = run.1.trail;
+      posted = run.1.posted;
+      same_shape = run.1.same_shape;
+      cuts = λ f q c. cut_is f (run.1.cuts f q c);
+      stands = run.1.stands;
+    },
+  )
+
+  module _ (is_cut : IsPairCut (next_page e) bytes board.pages new.pages) (here : page_at new.pages (next_page e) ≡ whole bytes) where
+    pub Commit-adds : AddsAll e es board.pages new.pages
+    Commit-adds = adds_all e board.pages es bytes is (takes_more e left) whole_made (commit_left e left) fits different spells new.pages is_cut here
+
+    pub Commit-half : page_at new.pages (next_page e + 1) ≡ erased → EpochOnFlash (record e { used = e.used + 1; half = true }) new.pages
+    Commit-half = half_fits e board.pages es bytes is (takes_more e left) whole_made (commit_left e left) fits different spells new.pages is_cut here
+
+    pub Commit-both : page_at new.pages (next_page e + 1) ≡ whole bytes → EpochOnFlash (record e { used = e.used + 1; half = false }) new.pages
+    Commit-both = both_fit e board.pages es bytes is (takes_more e left) whole_made (commit_left e left) fits different spells new.pages is_cut here
+
+    -- the epoch has one commit more, with both its pages
+    pub Commit-fits : page_at new.pages (next_page e + 1) ≡ whole bytes → EpochOnFlash (record e { used = e.used + 1 }) new.pages
+    Commit-fits there = subst (λ (h : Bool). EpochOnFlash (record e { used = e.used + 1; half = h }) new.pages) (sym whole_made) (Commit-both there)

@@ -1,16 +1,16 @@
--- The reading of an epoch, page by page.
-use Rattle.std.proofs.Common.{◌≡◌, ℕ, zero, suc, ◌+◌, ◌*◌, ◌<◌, ◌≤◌, refl, sym, ap, subst, ◌∙◌, arith, Bool, true, false, List, [], ◌∷◌, ◌++◌, length, nat_le, Option, Some, None, Result, Ok, Err, add-zero, le_refl}
+-- The reading of an epoch, commit by commit.
+use Rattle.std.proofs.Common.{◌≡◌, ℕ, zero, suc, ◌+◌, ◌*◌, ◌/◌, ◌%◌, ◌<◌, ◌≤◌, refl, sym, ap, subst, ◌∙◌, arith, Bool, true, false, List, [], ◌∷◌, ◌++◌, length, nat_le, Option, Some, None, Result, Ok, Err, add-zero, le_refl}
 use Rattle.std.specs.Prelude.{⊤}
 use Rattle.std.proofs.lemmas.Bool.Decides.{nat_tests}
-use Rattle.pk_base.specs.Shape.{Shape, buffer, epoch_pages}
-use Rattle.pk_base.specs.Page.{Page, Flash, page_at, erased, whole, torn, page_in, commits_of}
+use Rattle.pk_base.specs.Shape.{Shape, IsShape, buffer, epoch_commits}
+use Rattle.pk_base.specs.Page.{Page, Flash, page_at, erased, whole, torn, page_of_pair, commit_at, commits_of}
 use Rattle.pk_base.specs.Entry.{Entry}
 use Rattle.pk_base.specs.Refusal.{Refusal, damaged, ◌>>=◌, ensure, some_or}
 use Rattle.pk_base.specs.Firsts.{firsts}
 use Rattle.pk_jrnfmt.specs.Page.{journal_entries}
 use Rattle.pk_jrnfmt.specs.Epoch.{journal, epoch}
 use Rattle.pk_jrn.specs.Laws.{SameBlocks}
-use Rattle.pk_jrn.proofs.Places.{pages_same}
+use Rattle.pk_jrn.proofs.Places.{commit_same}
 
 pub ok_same : {A : Type 0} (x y : A) → ◌≡◌ {A = Result A Refusal} (Ok x) (Ok y) → x ≡ y
 ok_same x y e = cc
@@ -30,6 +30,12 @@ erased_not_whole page is bytes e = cc
 pub torn_not_whole : (page : Page) → page ≡ torn → IsNotWhole page
 torn_not_whole page is bytes e = cc
 
+-- a pair of which no page is whole is read by none
+pub pair_not_whole : (p : ℕ) (first next : Page) → IsNotWhole first → IsNotWhole next → IsNotWhole (page_of_pair p first next).1
+pair_not_whole p (whole bytes) next none none_next = absurd (none bytes refl)
+pair_not_whole p erased next none none_next = none_next
+pair_not_whole p torn next none none_next = none_next
+
 module _ (shape : Shape) (number : ℕ) where
   -- an epoch ends at a page that is not whole
   ends_at : (index : ℕ) (before : List Entry) (p : ℕ) (page : Page) (pages : List (ℕ × Page)) → IsNotWhole page → journal shape number index before ((p, page) ∷ pages) ≡ Ok before
@@ -38,14 +44,14 @@ module _ (shape : Shape) (number : ℕ) where
   ends_at index before p (whole bytes) pages not_whole = absurd (not_whole bytes refl)
 
   module _ (blocks : List ℕ) where
-    pub ends : (at : ℕ → Page) (index : ℕ) (before : List Entry) (n : ℕ) → IsNotWhole (at (page_in shape blocks index)) → journal shape number index before (commits_of shape at blocks index n) ≡ Ok before
+    pub ends : (at : ℕ → Page) (index : ℕ) (before : List Entry) (n : ℕ) → IsNotWhole (commit_at shape at blocks index).1 → journal shape number index before (commits_of shape at blocks index n) ≡ Ok before
     ends at index before zero not_whole = refl
-    ends at index before (suc n) not_whole = ends_at index before (page_in shape blocks index) (at (page_in shape blocks index)) (commits_of shape at blocks (index + 1) n) not_whole
+    ends at index before (suc n) not_whole = ends_at index before (commit_at shape at blocks index).0 (commit_at shape at blocks index).1 (commits_of shape at blocks (index + 1) n) not_whole
 
-    -- the page of this index is whole
-    module _ (at : ℕ → Page) (index : ℕ) (before : List Entry) (n : ℕ) (bytes : List ℕ) (here : at (page_in shape blocks index) ≡ whole bytes) where
+    -- the commit of this index has a page that is whole
+    module _ (at : ℕ → Page) (index : ℕ) (before : List Entry) (n : ℕ) (bytes : List ℕ) (here : (commit_at shape at blocks index).1 ≡ whole bytes) where
       p : ℕ
-      p = page_in shape blocks index
+      p = (commit_at shape at blocks index).0
 
       step : journal shape number index before (commits_of shape at blocks index (suc n))
           ≡ (some_or (journal_entries shape number index bytes) (damaged p) >>= (λ es. ensure (nat_le (length (firsts (before ++ es))) (buffer shape)) p >>= (λ _. journal shape number (index + 1) (before ++ es) (commits_of shape at blocks (index + 1) n))))
@@ -61,7 +67,7 @@ module _ (shape : Shape) (number : ℕ) where
 
       -- or it refuses
       pub refuses : ((es : List Entry) → journal_entries shape number index bytes ≡ Some es → buffer shape < length (firsts (before ++ es)))
-          → journal shape number index before (commits_of shape at blocks index (suc n)) ≡ Err (damaged (page_in shape blocks index))
+          → journal shape number index before (commits_of shape at blocks index (suc n)) ≡ Err (damaged (commit_at shape at blocks index).0)
       unfolding p
       refuses many = step ∙ by_cases (journal_entries shape number index bytes) refl
         where
@@ -90,17 +96,17 @@ module _ (shape : Shape) (number : ℕ) where
           passed true u e = refl
           passed false u e = cc
 
-    -- Where so many pages are Whole and the next is not, another flash with the same pages is read on behind the same entries.
+    -- Where so many commits have a page that is Whole and the next has none, another flash with the same commits is read on behind the same entries.
     pub reads_on : (at at' : ℕ → Page) (n rest index : ℕ) (before all : List Entry)
-        → ((j : ℕ) → index ≤ j → j < index + n → (bytes : List ℕ) × (at (page_in shape blocks j) ≡ whole bytes))
-        → ((j : ℕ) → index ≤ j → j < index + n → at' (page_in shape blocks j) ≡ at (page_in shape blocks j))
-        → IsNotWhole (at (page_in shape blocks (index + n)))
+        → ((j : ℕ) → index ≤ j → j < index + n → (bytes : List ℕ) × ((commit_at shape at blocks j).1 ≡ whole bytes))
+        → ((j : ℕ) → index ≤ j → j < index + n → commit_at shape at' blocks j ≡ commit_at shape at blocks j)
+        → IsNotWhole (commit_at shape at blocks (index + n)).1
         → journal shape number index before (commits_of shape at blocks index (n + rest)) ≡ Ok all
         → journal shape number index before (commits_of shape at' blocks index (n + rest)) ≡ journal shape number (index + n) all (commits_of shape at' blocks (index + n) rest)
     reads_on at at' zero rest index before all are_whole same stop is =
         let e : rest ≡ zero + rest = omega arith in
         let z : index + zero ≡ index = add-zero index in
-        let not_whole : IsNotWhole (at (page_in shape blocks index)) = subst (λ (k : ℕ). IsNotWhole (at (page_in shape blocks k))) z stop in
+        let not_whole : IsNotWhole (commit_at shape at blocks index).1 = subst (λ (k : ℕ). IsNotWhole (commit_at shape at blocks k).1) z stop in
         let b : before ≡ all = ok_same before all (sym (ends at index before (zero + rest) not_whole) ∙ is) in
         λ i. journal shape number (sym z i) (b i) (commits_of shape at' blocks (sym z i) (sym e i))
     reads_on at at' (suc n) rest index before all are_whole same stop is =
@@ -111,30 +117,32 @@ module _ (shape : Shape) (number : ℕ) where
         let g = went_on at index before (n + rest) w.0 w.1 all is' in
         let within : length (firsts (before ++ g.0)) ≤ buffer shape = grind (arith, nat_tests, g.2) in
         ap (λ (k : ℕ). journal shape number index before (commits_of shape at' blocks index k)) e
-        ∙ goes_on at' index before (n + rest) w.0 (same index (le_refl index) (omega arith) ∙ w.1) g.0 g.1 within
+        ∙ goes_on at' index before (n + rest) w.0 (ap (λ (p : ℕ × Page). p.1) (same index (le_refl index) (omega arith)) ∙ w.1) g.0 g.1 within
         ∙ reads_on at at' n rest (index + 1) (before ++ g.0) all (λ j low high. are_whole j (omega (arith, low)) (omega (arith, high))) (λ j low high. same j (omega (arith, low)) (omega (arith, high)))
-        (subst (λ (k : ℕ). IsNotWhole (at (page_in shape blocks k))) (sym m) stop) g.3
+        (subst (λ (k : ℕ). IsNotWhole (commit_at shape at blocks k).1) (sym m) stop) g.3
         ∙ (λ i. journal shape number (m i) all (commits_of shape at' blocks (m i) rest))
 
 -- ---- whole epochs
 
-pub epoch_is : (shape : Shape) (at : ℕ → Page) (number : ℕ) (blocks : List ℕ) (n : ℕ) → length blocks ≡ 2 → epoch_pages shape ≡ n → epoch shape at number blocks ≡ journal shape number 0 [] (commits_of shape at blocks 0 n)
+pub epoch_is : (shape : Shape) (at : ℕ → Page) (number : ℕ) (blocks : List ℕ) (n : ℕ) → IsShape shape → length blocks ≡ 2 → epoch_commits shape ≡ n → epoch shape at number blocks ≡ journal shape number 0 [] (commits_of shape at blocks 0 n)
 unfolding epoch
-epoch_is shape at number blocks n two size =
-    let all : length blocks * shape.block_pages ≡ n = ap (λ k. k * shape.block_pages) two ∙ size in
+epoch_is shape at number blocks n is two size =
+    let eights : shape.block_pages % 8 ≡ 0 = is.eights in
+    let pairs : 2 * (shape.block_pages / 2) ≡ shape.block_pages = omega (arith, eights) in
+    let all : length blocks * (shape.block_pages / 2) ≡ n = ap (λ k. k * (shape.block_pages / 2)) two ∙ pairs ∙ size in
     ap (λ k. journal shape number 0 [] (commits_of shape at blocks 0 k)) all
 
-pages_from_same : (shape : Shape) (at at' : ℕ → Page) (blocks : List ℕ) (i n : ℕ) → ((j : ℕ) → i ≤ j → j < i + n → at' (page_in shape blocks j) ≡ at (page_in shape blocks j)) → commits_of shape at' blocks i n ≡ commits_of shape at blocks i n
-pages_from_same shape at at' blocks i zero same = refl
-pages_from_same shape at at' blocks i (suc n) same = λ k. (page_in shape blocks i, same i (le_refl i) (omega arith) k) ∷ pages_from_same shape at at' blocks (i + 1) n (λ j low high. same j (omega arith) (omega arith)) k
+commits_from_same : (shape : Shape) (at at' : ℕ → Page) (blocks : List ℕ) (i n : ℕ) → ((j : ℕ) → i ≤ j → j < i + n → commit_at shape at' blocks j ≡ commit_at shape at blocks j) → commits_of shape at' blocks i n ≡ commits_of shape at blocks i n
+commits_from_same shape at at' blocks i zero same = refl
+commits_from_same shape at at' blocks i (suc n) same = λ k. same i (le_refl i) (omega arith) k ∷ commits_from_same shape at at' blocks (i + 1) n (λ j low high. same j (omega arith) (omega arith)) k
 
 -- where the blocks are the same, what is read is the same
-pub reads_same : (shape : Shape) (number : ℕ) (blocks : List ℕ) (old new : Flash) → length blocks ≡ 2 → SameBlocks shape blocks old new → epoch shape (page_at new) number blocks ≡ epoch shape (page_at old) number blocks
-reads_same shape number blocks old new two same =
-    epoch_is shape (page_at new) number blocks (epoch_pages shape) two refl
-    ∙ ap (journal shape number 0 []) (pages_from_same shape (page_at old) (page_at new) blocks 0 (epoch_pages shape) (λ j low high. pages_same shape blocks old new j same (omega (arith, high))))
-    ∙ sym (epoch_is shape (page_at old) number blocks (epoch_pages shape) two refl)
+pub reads_same : (shape : Shape) (number : ℕ) (blocks : List ℕ) (old new : Flash) → IsShape shape → length blocks ≡ 2 → SameBlocks shape blocks old new → epoch shape (page_at new) number blocks ≡ epoch shape (page_at old) number blocks
+reads_same shape number blocks old new is two same =
+    epoch_is shape (page_at new) number blocks (epoch_commits shape) is two refl
+    ∙ ap (journal shape number 0 []) (commits_from_same shape (page_at old) (page_at new) blocks 0 (epoch_commits shape) (λ j low high. commit_same shape blocks old new is j same (omega (arith, high))))
+    ∙ sym (epoch_is shape (page_at old) number blocks (epoch_commits shape) is two refl)
 
--- an epoch whose first page is not whole has no entries
-pub reads_none : (shape : Shape) (at : ℕ → Page) (number : ℕ) (blocks : List ℕ) → length blocks ≡ 2 → IsNotWhole (at (page_in shape blocks 0)) → epoch shape at number blocks ≡ Ok []
-reads_none shape at number blocks two not_whole = epoch_is shape at number blocks (epoch_pages shape) two refl ∙ ends shape number blocks at 0 [] (epoch_pages shape) not_whole
+-- an epoch whose first commit has no page that is whole has no entries
+pub reads_none : (shape : Shape) (at : ℕ → Page) (number : ℕ) (blocks : List ℕ) → IsShape shape → length blocks ≡ 2 → IsNotWhole (commit_at shape at blocks 0).1 → epoch shape at number blocks ≡ Ok []
+reads_none shape at number blocks is two not_whole = epoch_is shape at number blocks (epoch_commits shape) is two refl ∙ ends shape number blocks at 0 [] (epoch_commits shape) not_whole

@@ -1,15 +1,16 @@
 -- The pages of an epoch's two blocks.
-use Rattle.std.proofs.Common.{◌≡◌, ◌≢◌, ℕ, suc, ◌+◌, ◌-◌, ◌*◌, ◌/◌, ◌%◌, ◌<◌, ◌≤◌, subst, ◌∙◌, arith, List, true, div-add-mod', mul-le-mul_right, inl, inr}
+use Rattle.std.proofs.Common.{◌≡◌, ◌≢◌, ℕ, suc, ◌+◌, ◌-◌, ◌*◌, ◌/◌, ◌%◌, ◌<◌, ◌≤◌, refl, sym, ap, subst, ◌∙◌, arith, List, Bool, true, false, if◌then◌else◌, div-add-mod', mul-le-mul_right, inl, inr}
 use Rattle.std.specs.Prelude.{slice_index}
 use Rattle.std.proofs.Math.Nat.{suc-mul}
 use Rattle.std.proofs.lemmas.Nat.{div-mul-add, mod-mul-add}
 use Rattle.std.proofs.lemmas.Bool.{cases_lt}
-use Rattle.pk_base.specs.Shape.{Shape, epoch_pages, page_count}
-use Rattle.pk_base.specs.Page.{Page, Flash, page_at, erased, whole, page_in}
+use Rattle.pk_base.specs.Shape.{Shape, IsShape, epoch_pages, epoch_commits, page_count}
+use Rattle.pk_base.specs.Page.{Page, Flash, page_at, erased, page_in, page_of_pair, commit_page, commit_at}
+use Rattle.pk_base.proofs.CommitPages.{second}
 use Rattle.pk_base.proofs.EpochPages.{half, rest, low, high}
 use Rattle.pk_nand.specs.Calls.{InOrder}
 use Rattle.pk_nand.specs.Crash.{SameOutside}
-use Rattle.pk_jrn.specs.Epochs.{JournalEpoch, EpochOnFlash, AllExist, AreErased, next_page}
+use Rattle.pk_jrn.specs.Epochs.{JournalEpoch, EpochOnFlash, AllExist, AreErased, next_page, pages_of}
 use Rattle.pk_jrn.specs.Laws.{SameBlocks}
 
 -- the rows of block a end where those of a later block begin, or before
@@ -28,31 +29,34 @@ module _ (shape : Shape) (blocks : List ℕ) where
         let r = rest shape blocks index inside in
         omega (arith, end, r)
 
-whole_erased : (p : Page) (bytes : List ℕ) → p ≡ whole bytes → p ≡ erased → ⊥
-whole_erased p bytes is other = cc
-
--- the next page of an epoch that takes more is the next of its block
-pub InOrder-next_page : (e : JournalEpoch) (flash : Flash) → e.takes_more ≡ true → e.used < epoch_pages e.shape → EpochOnFlash e flash → InOrder e.shape flash (next_page e)
-InOrder-next_page e flash more inside fits =
-    let n : ℕ = e.shape.block_pages in
-    let b : ℕ = slice_index e.blocks (e.used / n) in
-    let q : ℕ = e.used / n in
-    let r : ℕ = e.used % n in
-    let less : r < n = rest e.shape e.blocks e.used inside in
-    let place : next_page e % n ≡ r = mod-mul-add b n r less in
-    let split : q * n + r ≡ e.used = div-add-mod' e.used n in
-    let end : q * n + n ≤ 2 * n = apart q 2 n (half e.shape e.blocks e.used inside) in
+-- the page at a place of an epoch is the next of its block where those before it are programmed, and it and those behind it are Erased
+pub InOrder-place : (shape : Shape) (blocks : List ℕ) (flash : Flash) (u : ℕ) → u < epoch_pages shape → ((j : ℕ) → j < u → page_at flash (page_in shape blocks j) ≢ erased)
+    → ((j : ℕ) → u ≤ j → j < epoch_pages shape → page_at flash (page_in shape blocks j) ≡ erased) → InOrder shape flash (page_in shape blocks u)
+InOrder-place shape blocks flash u inside filled free =
+    let n : ℕ = shape.block_pages in
+    let b : ℕ = slice_index blocks (u / n) in
+    let q : ℕ = u / n in
+    let r : ℕ = u % n in
+    let less : r < n = rest shape blocks u inside in
+    let place : page_in shape blocks u % n ≡ r = mod-mul-add b n r less in
+    let split : q * n + r ≡ u = div-add-mod' u n in
+    let end : q * n + n ≤ 2 * n = apart q 2 n (half shape blocks u inside) in
     record {
       before = λ k low high is.
           let small : k - b * n < n = omega (arith, low, high, place, less) in
-          let here : page_in e.shape e.blocks (q * n + (k - b * n)) ≡ k = page_of_place e.shape e.blocks q (k - b * n) small ∙ omega (arith, low, place) in
-          let w = fits.before (q * n + (k - b * n)) (omega (arith, low, high, place, split)) in
-          whole_erased (page_at flash k) w.0 (subst (λ (p : ℕ). page_at flash p ≡ whole w.0) here w.1) is;
+          let here : page_in shape blocks (q * n + (k - b * n)) ≡ k = page_of_place shape blocks q (k - b * n) small ∙ omega (arith, low, place) in
+          filled (q * n + (k - b * n)) (omega (arith, low, high, place, split)) (ap (page_at flash) here ∙ is);
       behind = λ k low high.
           let small : k - b * n < n = omega (arith, low, high, place, less) in
-          let here : page_in e.shape e.blocks (q * n + (k - b * n)) ≡ k = page_of_place e.shape e.blocks q (k - b * n) small ∙ omega (arith, low, place) in
-          subst (λ (p : ℕ). page_at flash p ≡ erased) here (fits.behind more (q * n + (k - b * n)) (omega (arith, low, high, place, split)) (omega (arith, small, end)));
+          let here : page_in shape blocks (q * n + (k - b * n)) ≡ k = page_of_place shape blocks q (k - b * n) small ∙ omega (arith, low, place) in
+          subst (λ (p : ℕ). page_at flash p ≡ erased) here (free (q * n + (k - b * n)) (omega (arith, low, high, place, split)) (omega (arith, small, end)));
     }
+
+-- the first page of the next commit of an epoch that takes more, none half made
+pub InOrder-next_page : (e : JournalEpoch) (flash : Flash) → e.takes_more ≡ true → e.half ≡ false → e.used < epoch_commits e.shape → EpochOnFlash e flash → InOrder e.shape flash (next_page e)
+InOrder-next_page e flash more whole_made inside fits =
+    let pages : pages_of e ≡ 2 * e.used = rw whole_made refl in
+    InOrder-place e.shape e.blocks flash (2 * e.used) (omega (arith, inside)) (λ j low. fits.filled more j (omega (arith, pages, low))) (λ j low high. fits.behind more j (omega (arith, pages, low)) high)
 
 -- ---- pages of the two blocks
 
@@ -63,6 +67,15 @@ pages_erased shape flash blocks j all small = all (j / shape.block_pages) (half 
 -- where the blocks are the same, each page of the epoch is
 pub pages_same : (shape : Shape) (blocks : List ℕ) (old new : Flash) (j : ℕ) → SameBlocks shape blocks old new → j < epoch_pages shape → page_at new (page_in shape blocks j) ≡ page_at old (page_in shape blocks j)
 pages_same shape blocks old new j same small = same (j / shape.block_pages) (half shape blocks j small) (page_in shape blocks j) (low shape blocks j small) (high shape blocks j small)
+
+-- so is each commit
+pub commit_same : (shape : Shape) (blocks : List ℕ) (old new : Flash) → IsShape shape → (j : ℕ) → SameBlocks shape blocks old new → j < epoch_commits shape → commit_at shape (page_at new) blocks j ≡ commit_at shape (page_at old) blocks j
+commit_same shape blocks old new is j same small =
+    let next : page_in shape blocks (2 * j + 1) ≡ commit_page shape blocks j + 1 = second shape blocks is j in
+    let one : page_at new (commit_page shape blocks j) ≡ page_at old (commit_page shape blocks j) = pages_same shape blocks old new (2 * j) same (omega (arith, small)) in
+    let two : page_at new (commit_page shape blocks j + 1) ≡ page_at old (commit_page shape blocks j + 1) =
+    ap (page_at new) (sym next) ∙ pages_same shape blocks old new (2 * j + 1) same (omega (arith, small)) ∙ ap (page_at old) next in
+    λ i. page_of_pair (commit_page shape blocks j) (one i) (two i)
 
 -- changes within another block
 pub same_elsewhere : (shape : Shape) (blocks : List ℕ) (old new : Flash) (b first count : ℕ) → ((n : ℕ) → n < 2 → slice_index blocks n ≢ b)
@@ -75,12 +88,17 @@ same_elsewhere shape blocks old new b first count others from to same n small k 
       omega (arith, end, low, to))
 ]
 
-pub EpochOnFlash-same : (e : JournalEpoch) (old new : Flash) → SameBlocks e.shape e.blocks old new → EpochOnFlash e old → EpochOnFlash e new
-EpochOnFlash-same e old new same fits =
+pub EpochOnFlash-same : (e : JournalEpoch) (old new : Flash) → IsShape e.shape → SameBlocks e.shape e.blocks old new → EpochOnFlash e old → EpochOnFlash e new
+EpochOnFlash-same e old new is same fits =
     let within = fits.within in
     record {
       two = fits.two;
       within = within;
-      before = λ j small. let w = fits.before j small in (w.0, pages_same e.shape e.blocks old new j same (omega (arith, small, within)) ∙ w.1);
+      before = λ j small. let w = fits.before j small in (w.0, ap (λ (p : ℕ × Page). p.1) (commit_same e.shape e.blocks old new is j same (omega (arith, small, within))) ∙ w.1);
+      filled = λ more j low now. fits.filled more j low (sym (pages_same e.shape e.blocks old new j same (omega (arith, pages_within e.half e.used, within, low))) ∙ now);
       behind = λ more j low high. pages_same e.shape e.blocks old new j same high ∙ fits.behind more j low high;
     }
+  where
+    pages_within : (half : Bool) (used : ℕ) → (if half then 2 * used - 1 else 2 * used) ≤ 2 * used
+    pages_within true used = omega arith
+    pages_within false used = omega arith

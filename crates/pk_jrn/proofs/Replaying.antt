@@ -1,12 +1,12 @@
--- The pages of an epoch that are read one after another into a write buffer.
-use Rattle.std.proofs.Common.{◌≡◌, ℕ, zero, suc, ◌+◌, ◌-◌, ◌^◌, ◌<◌, ◌≤◌, refl, sym, ap, subst, ◌∙◌, arith, Bool, true, false, T, List, [], ◌∷◌, ◌++◌, length, take, Some, Result, Ok, Err, below_more, zero-add}
-use Rattle.std.specs.Prelude.{slice_get, ◌*◌}
+-- The commits of an epoch that are read one after another into a write buffer.
+use Rattle.std.proofs.Common.{◌≡◌, ℕ, zero, suc, ◌+◌, ◌-◌, ◌^◌, ◌<◌, ◌≤◌, refl, sym, ap, subst, ◌∙◌, arith, Bool, true, false, T, List, [], ◌∷◌, ◌++◌, length, take, Some, None, Result, Ok, Err, below_more, zero-add, add-zero}
+use Rattle.std.specs.Prelude.{slice_get, ◌*◌, ◌/◌, ◌%◌}
 use Rattle.std.specs.List.{AllByRecursion}
 use Rattle.std.specs.FinMap.Entries.{put, is_sorted}
 use Rattle.std.proofs.lemmas.List.{take_all, take-append-drop}
 use Rattle.pk_base.specs.Key.{key_cmp}
-use Rattle.pk_base.specs.Shape.{Shape, buffer, epoch_pages}
-use Rattle.pk_base.specs.Page.{Page, page_at, erased, whole, torn, page_in, NumberedPages, commits_of}
+use Rattle.pk_base.specs.Shape.{Shape, IsShape, buffer, epoch_commits}
+use Rattle.pk_base.specs.Page.{Page, page_at, erased, whole, torn, commit_page, commit_at, commits_of}
 use Rattle.pk_base.specs.Entry.{Entry, key_of}
 use Rattle.pk_base.specs.EntryBytes.{IsEntry}
 use Rattle.pk_base.specs.Firsts.{firsts}
@@ -18,13 +18,11 @@ use Rattle.pk_jrnfmt.specs.Page.{IsJournalPage, journal_entries}
 use Rattle.pk_jrnfmt.specs.Epoch.{journal, epoch}
 use Rattle.pk_jrnfmt.proofs.PageLemmas.{journal_held}
 use Rattle.pk_nand.specs.BoardState.{BoardState}
-use Rattle.pk_nand.specs.Calls.{after_read, filled}
+use Rattle.pk_nand.specs.Calls.{after_read}
 use Rattle.pk_nand.specs.Counts.{after_reads}
-use Rattle.pk_nand.specs.Seen.{answer}
-use Rattle.pk_nand.specs.declared.types.PageRead.{PageRead}
-use Rattle.pk_nand.specs.declared.types.PageRead.TheVariants.{Erased as ReadErased, Whole as ReadWhole, Torn as ReadTorn}
+use Rattle.pk_pair.specs.Pairs.{reads_of_pair, whole_number}
 use Rattle.pk_jrn.specs.Epochs.{HasCommit}
-use Rattle.pk_jrn.specs.Replays.{puts, PutOrFull, PutsOrFull, TakesPage, buffer_of, Replayed, pages_to_end, epoch_reads, ReplayRefused}
+use Rattle.pk_jrn.specs.Replays.{puts, PutOrFull, PutsOrFull, TakesPage, buffer_of, Replayed, if_whole, reads_to_end, epoch_reads, reads_before, ReplayRefused}
 use Rattle.pk_jrn.proofs.Puts.{puts-snoc, puts_are_firsts, puts_too_many, firsts-reverse}
 use Rattle.pk_jrn.proofs.Journals.{IsNotWhole, ends, goes_on, refuses, epoch_is}
 
@@ -79,7 +77,7 @@ Putting-end shape page count old now i all bound p epoch index es is many =
 -- ---- one page
 
 -- the page is the epoch's, and its entries were written, or there was no room
-pub page_taken : (shape : Shape) (number index count : ℕ) (page : List ℕ) (old : Table) (ok : Bool) (new : Table) → number < 2 ^ 64 → index < epoch_pages shape
+pub page_taken : (shape : Shape) (number index count : ℕ) (page : List ℕ) (old : Table) (ok : Bool) (new : Table) → number < 2 ^ 64 → index < epoch_commits shape
     → (es : List Entry) × (journal_entries shape number index page ≡ Some es) × (length es ≡ count)
     → ((epoch index : ℕ) (es : List Entry) → IsJournalPage shape page epoch index es → length es ≡ count → PutsOrFull old es ok new)
     → TakesPage shape number index page old ok new
@@ -94,10 +92,10 @@ page_taken shape number index count page old false new fits within reads all =
 
 -- what a page is read as, where it is that of an epoch and index
 abbrev pub Decoded : Shape → List ℕ → Result JrnHead BadJournal → Type 0
-Decoded shape page r = (epoch index : ℕ) (entries : List Entry) → epoch < 2 ^ 64 → index < epoch_pages shape → journal_entries shape epoch index page ≡ Some entries → r ≡ Ok (record { epoch = epoch; index = index; count = length entries })
+Decoded shape page r = (epoch index : ℕ) (entries : List Entry) → epoch < 2 ^ 64 → index < epoch_commits shape → journal_entries shape epoch index page ≡ Some entries → r ≡ Ok (record { epoch = epoch; index = index; count = length entries })
 
 -- it is that of another epoch or index
-pub page_of_another : (shape : Shape) (number index : ℕ) (page : List ℕ) (old : Table) (r : Result JrnHead BadJournal) (head : JrnHead) → number < 2 ^ 64 → index < epoch_pages shape
+pub page_of_another : (shape : Shape) (number index : ℕ) (page : List ℕ) (old : Table) (r : Result JrnHead BadJournal) (head : JrnHead) → number < 2 ^ 64 → index < epoch_commits shape
     → Decoded shape page r → r ≡ Ok head → ((head.epoch ≡ number) × (head.index ≡ index) → ⊥) → TakesPage shape number index page old false old
 page_of_another shape number index page old r head fits within read is other = (refl, λ es e. absurd (clash es (read number index es fits within e)))
   where
@@ -110,28 +108,29 @@ page_of_another shape number index page old r head fits within read is other = (
         other (ap (λ (h : JrnHead). h.epoch) same, ap (λ (h : JrnHead). h.index) same)
 
 -- it is none
-pub no_page : (shape : Shape) (number index : ℕ) (page : List ℕ) (old : Table) (r : Result JrnHead BadJournal) (bad : BadJournal) → number < 2 ^ 64 → index < epoch_pages shape
+pub no_page : (shape : Shape) (number index : ℕ) (page : List ℕ) (old : Table) (r : Result JrnHead BadJournal) (bad : BadJournal) → number < 2 ^ 64 → index < epoch_commits shape
     → Decoded shape page r → r ≡ Err bad → TakesPage shape number index page old false old
 no_page shape number index page old r bad fits within read is = (refl, λ es e. absurd (clash es (read number index es fits within e)))
   where
     clash : (es : List Entry) → r ≡ Ok (record { epoch = number; index = index; count = length es }) → ⊥
     clash es e = cc
 
--- ---- what a read answers
+-- ---- what the reads of a pair answer
 
-pub answered_whole : (p : Page) (r : PageRead) (old new : List ℕ) → r ≡ ReadWhole → r ≡ answer p → new ≡ filled p old → p ≡ whole new
-answered_whole erased r old new is a f = let no_answer : ReadWhole ≡ ReadErased = sym is ∙ a in absurd (clash no_answer)
+-- the page that was found is the one by which the pair is read
+pub found_page : (p : ℕ × Page) (page : ℕ) → Some page ≡ whole_number p → (bytes : List ℕ) × (p.1 ≡ whole bytes) × (page ≡ p.0)
+found_page (q, whole bytes) page is = let same : page ≡ q = some_same is in (bytes, refl, same)
   where
-    clash : ReadWhole ≡ ReadErased → ⊥
-    clash e = cc
-answered_whole (whole bytes) r old new is a f = ap (λ (b : List ℕ). whole b) (sym f)
-answered_whole torn r old new is a f = let no_answer : ReadWhole ≡ ReadTorn = sym is ∙ a in absurd (clash no_answer)
-  where
-    clash : ReadWhole ≡ ReadTorn → ⊥
-    clash e = cc
+    some_same : {x y : ℕ} → Some x ≡ Some y → x ≡ y
+    some_same e = cc
+found_page (q, erased) page is = cc
+found_page (q, torn) page is = cc
 
-pub answered_other : (p : Page) (r : PageRead) → (r ≡ ReadWhole → ⊥) → r ≡ answer p → IsNotWhole p
-answered_other p r other a bytes is = other (a ∙ ap answer is)
+-- none of its pages is whole
+pub found_none : (p : ℕ × Page) → None ≡ whole_number p → IsNotWhole p.1
+found_none (q, whole bytes) is = cc
+found_none (q, erased) is = λ bytes e. cc
+found_none (q, torn) is = λ bytes e. cc
 
 -- ---- pages in a row
 
@@ -139,44 +138,65 @@ all_append : (P : Entry → Type 0) (xs ys : List Entry) → AllByRecursion P xs
 all_append P [] ys front back = back
 all_append P (x ∷ xs) ys front back = (front.0, all_append P xs ys front.1 back)
 
--- a page that is not Whole is the last that is read
-ends_here : (p : ℕ) (page : Page) (later : NumberedPages) → IsNotWhole page → pages_to_end ((p, page) ∷ later) ≡ 1
-ends_here p erased later not_whole = refl
-ends_here p torn later not_whole = refl
-ends_here p (whole bytes) later not_whole = absurd (not_whole bytes refl)
+-- a commit without a page is the last that is read
+ends_here : (page : Page) (more : ℕ) → IsNotWhole page → if_whole page more ≡ 0
+ends_here erased more not_whole = refl
+ends_here torn more not_whole = refl
+ends_here (whole bytes) more not_whole = absurd (not_whole bytes refl)
 
--- behind a Whole page the reads go on
-whole_counts : (p i : ℕ) (page : Page) (bytes : List ℕ) (later : NumberedPages) → page ≡ whole bytes → i + pages_to_end ((p, page) ∷ later) ≡ i + 1 + pages_to_end later
-whole_counts p i page bytes later is = ap (λ (q : Page). i + pages_to_end ((p, q) ∷ later)) is ∙ omega arith
+-- behind a page that is Whole the reads go on
+goes_here : (page : Page) (bytes : List ℕ) (more : ℕ) → page ≡ whole bytes → if_whole page more ≡ more
+goes_here page bytes more is = ap (λ (q : Page). if_whole q more) is
 
-reads_are : (shape : Shape) (at : ℕ → Page) (blocks : List ℕ) (rest : ℕ) → length blocks ≡ 2 → epoch_pages shape ≡ rest → epoch_reads shape at blocks ≡ pages_to_end (commits_of shape at blocks 0 rest)
-reads_are shape at blocks rest two all = ap (λ (n : ℕ). pages_to_end (commits_of shape at blocks 0 (n * shape.block_pages))) two ∙ ap (λ (n : ℕ). pages_to_end (commits_of shape at blocks 0 n)) all
+reads_are : (shape : Shape) (at : ℕ → Page) (blocks : List ℕ) (rest : ℕ) → IsShape shape → length blocks ≡ 2 → epoch_commits shape ≡ rest → epoch_reads shape at blocks ≡ reads_to_end shape at blocks 0 rest
+reads_are shape at blocks rest is two all =
+    let eights : shape.block_pages % 8 ≡ 0 = is.eights in
+    let pairs : 2 * (shape.block_pages / 2) ≡ shape.block_pages = omega (arith, eights) in
+    ap (λ (n : ℕ). reads_to_end shape at blocks 0 (n * (shape.block_pages / 2))) two ∙ ap (λ (n : ℕ). reads_to_end shape at blocks 0 n) (pairs ∙ all)
+
+-- reads behind others
+more_reads : (k n : ℕ) (b : BoardState) → after_reads k (after_reads n b) ≡ after_reads (n + k) b
+more_reads zero n b = ap (λ (m : ℕ). after_reads m b) (sym (add-zero n))
+more_reads (suc k) n b =
+    let e : suc (n + k) ≡ n + suc k = omega arith in
+    ap after_read (more_reads k n b) ∙ ap (λ (m : ℕ). after_reads m b) e
 
 module _ (shape : Shape) (number : ℕ) (blocks : List ℕ) (old : BoardState) where
-  -- i pages were read and their entries written, and what is left to be read is the rest of the epoch
+  -- i commits were read and their entries written, and what is left to be read is the rest of the epoch
   pub record Replaying (now : BoardState) (i : ℕ) (into : Table) : Type 0 where
     pub entries : List Entry
-    pub board : now ≡ after_reads i old
+    pub board : now ≡ after_reads (reads_before shape (page_at old.pages) blocks i) old
     pub held : into ≡ buffer_of shape entries
-    pub left : epoch shape (page_at old.pages) number blocks ≡ journal shape number i entries (commits_of shape (page_at old.pages) blocks i (epoch_pages shape - i))
-    pub reads : epoch_reads shape (page_at old.pages) blocks ≡ i + pages_to_end (commits_of shape (page_at old.pages) blocks i (epoch_pages shape - i))
+    pub left : epoch shape (page_at old.pages) number blocks ≡ journal shape number i entries (commits_of shape (page_at old.pages) blocks i (epoch_commits shape - i))
+    pub reads : epoch_reads shape (page_at old.pages) blocks ≡ reads_before shape (page_at old.pages) blocks i + reads_to_end shape (page_at old.pages) blocks i (epoch_commits shape - i)
     pub before : (j : ℕ) → j < i → HasCommit shape old.pages blocks j
     pub each : AllByRecursion (IsEntry shape) entries
 
-  pub Replaying-start : (into : Table) → length blocks ≡ 2 → into ≡ no_entries shape → Replaying old 0 into
-  Replaying-start into two empty = record {
+  pub Replaying-start : (into : Table) → IsShape shape → length blocks ≡ 2 → into ≡ no_entries shape → Replaying old 0 into
+  Replaying-start into is two empty = record {
     entries = [];
     board = refl;
     held = empty;
-    left = epoch_is shape (page_at old.pages) number blocks (epoch_pages shape - 0) two (omega arith);
-    reads = reads_are shape (page_at old.pages) blocks (epoch_pages shape - 0) two (omega arith) ∙ sym (zero-add _);
+    left = epoch_is shape (page_at old.pages) number blocks (epoch_commits shape - 0) is two (omega arith);
+    reads = reads_are shape (page_at old.pages) blocks (epoch_commits shape - 0) is two (omega arith) ∙ sym (zero-add _);
     before = λ j small. absurd (omega (arith, small));
     each = tt;
   }
 
   module _ (now : BoardState) (i : ℕ) (into : Table) (r : Replaying now i into) where
+    abbrev at : ℕ → Page
+    at = page_at old.pages
+
+    -- the commit that is read next
+    abbrev next : ℕ × Page
+    next = commit_at shape at blocks i
+
     pub pages_stay : now.pages ≡ old.pages
     pages_stay = ap (λ b. b.pages) r.board
+
+    -- the reads of the next commit, counted by the board as it stands
+    pub reads_moved : (new : BoardState) (p : ℕ) → p ≡ commit_page shape blocks i → new ≡ after_reads (reads_of_pair (page_at now.pages p)) now → new ≡ after_reads (reads_of_pair (at (commit_page shape blocks i))) now
+    reads_moved new p is read = read ∙ (λ k. after_reads (reads_of_pair (page_at (pages_stay k) (is k))) now)
 
     room : into.capacity ≡ buffer shape
     room = ap (λ t. t.capacity) r.held
@@ -185,53 +205,64 @@ module _ (shape : Shape) (number : ℕ) (blocks : List ℕ) (old : BoardState) w
     keys : (es : List Entry) → length (puts es into.entries) ≡ length (firsts (r.entries ++ es))
     keys es = ap (λ (t : Table). length (puts es t.entries)) r.held ∙ ap length (puts_are_firsts r.entries es) ∙ firsts-reverse (r.entries ++ es)
 
-    reads_here : (rest : ℕ) → epoch_pages shape - i ≡ rest → epoch_reads shape (page_at old.pages) blocks ≡ i + pages_to_end (commits_of shape (page_at old.pages) blocks i rest)
-    reads_here rest e = r.reads ∙ ap (λ k. i + pages_to_end (commits_of shape (page_at old.pages) blocks i k)) e
+    reads_here : (rest : ℕ) → epoch_commits shape - i ≡ rest → epoch_reads shape at blocks ≡ reads_before shape at blocks i + reads_to_end shape at blocks i rest
+    reads_here rest e = r.reads ∙ ap (λ k. reads_before shape at blocks i + reads_to_end shape at blocks i k) e
 
-    left_here : (rest : ℕ) → epoch_pages shape - i ≡ rest → epoch shape (page_at old.pages) number blocks ≡ journal shape number i r.entries (commits_of shape (page_at old.pages) blocks i rest)
-    left_here rest e = r.left ∙ ap (λ k. journal shape number i r.entries (commits_of shape (page_at old.pages) blocks i k)) e
+    left_here : (rest : ℕ) → epoch_commits shape - i ≡ rest → epoch shape at number blocks ≡ journal shape number i r.entries (commits_of shape at blocks i rest)
+    left_here rest e = r.left ∙ ap (λ k. journal shape number i r.entries (commits_of shape at blocks i k)) e
 
-    pub Replaying-next : (bytes : List ℕ) (new : BoardState) (into' : Table) → number < 2 ^ 64 → i < epoch_pages shape → page_at old.pages (page_in shape blocks i) ≡ whole bytes
-        → new ≡ after_read now → TakesPage shape number i bytes into true into' → Replaying new (i + 1) into'
+    -- the board behind the reads of the next commit
+    read_more : (new : BoardState) → new ≡ after_reads (reads_of_pair (at (commit_page shape blocks i))) now → new ≡ after_reads (reads_before shape at blocks (i + 1)) old
+    read_more new read =
+        let one : suc i ≡ i + 1 = omega arith in
+        read ∙ ap (after_reads (reads_of_pair (at (commit_page shape blocks i)))) r.board
+        ∙ more_reads (reads_of_pair (at (commit_page shape blocks i))) (reads_before shape at blocks i) old
+        ∙ ap (λ k. after_reads (reads_before shape at blocks k) old) one
+
+    pub Replaying-next : (bytes : List ℕ) (new : BoardState) (into' : Table) → number < 2 ^ 64 → i < epoch_commits shape → next.1 ≡ whole bytes
+        → new ≡ after_reads (reads_of_pair (at (commit_page shape blocks i))) now → TakesPage shape number i bytes into true into' → Replaying new (i + 1) into'
     Replaying-next bytes new into' fits inside here read takes =
         let es = takes.0 in
         let size : length into'.entries ≡ length (firsts (r.entries ++ es)) = ap (λ (t : Table). length t.entries) takes.2.0 ∙ keys es in
         let c = room in
         let most = takes.2.1 in
         let within : length (firsts (r.entries ++ es)) ≤ buffer shape = omega (arith, size, most, c) in
-        let step : epoch_pages shape - i ≡ suc (epoch_pages shape - (i + 1)) = omega (arith, inside) in
+        let step : epoch_commits shape - i ≡ suc (epoch_commits shape - (i + 1)) = omega (arith, inside) in
         let one : suc i ≡ i + 1 = omega arith in
+        let more : ℕ = reads_to_end shape at blocks (i + 1) (epoch_commits shape - (i + 1)) in
+        let shifted : reads_before shape at blocks (suc i) ≡ reads_before shape at blocks (i + 1) = ap (λ k. reads_before shape at blocks k) one in
+        let all = reads_here (suc (epoch_commits shape - (i + 1))) step in
+        let gone = goes_here next.1 bytes more here in
         record {
           entries = r.entries ++ es;
-          board = read ∙ ap after_read r.board ∙ ap (λ k. after_reads k old) one;
+          board = read_more new read;
           held = takes.2.0 ∙ ap (λ (t : Table). record t { entries = puts es t.entries }) r.held ∙ ap (λ (xs : List Entry). record { capacity = buffer shape; entries = xs }) (puts_are_firsts r.entries es);
-          left = left_here (suc (epoch_pages shape - (i + 1))) step ∙ goes_on shape number blocks (page_at old.pages) i r.entries (epoch_pages shape - (i + 1)) bytes here es takes.1 within;
-          reads = reads_here (suc (epoch_pages shape - (i + 1))) step ∙ whole_counts (page_in shape blocks i) i _ bytes (commits_of shape (page_at old.pages) blocks (i + 1) (epoch_pages shape - (i + 1))) here;
+          left = left_here (suc (epoch_commits shape - (i + 1))) step ∙ goes_on shape number blocks at i r.entries (epoch_commits shape - (i + 1)) bytes here es takes.1 within;
+          reads = omega (arith, all, gone, shifted);
           before = λ j small. below_more (λ (j : ℕ). HasCommit shape old.pages blocks j) i r.before (bytes, here) j (omega (arith, small));
           each = all_append (IsEntry shape) r.entries es r.each (journal_held shape number i bytes es fits inside takes.1).content.each;
         }
 
-    pub Replaying-refused : (bytes : List ℕ) (new : BoardState) (into' : Table) (page : ℕ) → i < epoch_pages shape → page_at old.pages (page_in shape blocks i) ≡ whole bytes
-        → new ≡ after_read now → page ≡ page_in shape blocks i → TakesPage shape number i bytes into false into' → ReplayRefused shape number blocks old new page
+    pub Replaying-refused : (bytes : List ℕ) (new : BoardState) (into' : Table) (page : ℕ) → i < epoch_commits shape → next.1 ≡ whole bytes
+        → new ≡ after_reads (reads_of_pair (at (commit_page shape blocks i))) now → page ≡ next.0 → TakesPage shape number i bytes into false into' → ReplayRefused shape number blocks old new page
     Replaying-refused bytes new into' page inside here read page_is takes =
-        let step : epoch_pages shape - i ≡ suc (epoch_pages shape - (i + 1)) = omega (arith, inside) in
-        let one : suc i ≡ i + 1 = omega arith in
+        let step : epoch_commits shape - i ≡ suc (epoch_commits shape - (i + 1)) = omega (arith, inside) in
         let c = room in
         record {
           index = i;
           within = inside;
           page_is = page_is;
-          read = left_here (suc (epoch_pages shape - (i + 1))) step
-              ∙ refuses shape number blocks (page_at old.pages) i r.entries (epoch_pages shape - (i + 1)) bytes here (λ es is. let many = takes.1 es is in let k = keys es in omega (arith, c, many, k))
+          read = left_here (suc (epoch_commits shape - (i + 1))) step
+              ∙ refuses shape number blocks at i r.entries (epoch_commits shape - (i + 1)) bytes here (λ es is. let many = takes.1 es is in let k = keys es in omega (arith, c, many, k))
               ∙ ap (λ p. Err (damaged p)) (sym page_is);
-          board = read ∙ ap after_read r.board ∙ ap (λ k. after_reads k old) one;
+          board = read_more new read;
         }
 
-    -- the page is not whole
-    pub Replayed-ends : i < epoch_pages shape → IsNotWhole (page_at old.pages (page_in shape blocks i)) → Replayed shape number blocks old.pages i into
+    -- the commit has no page that is whole
+    pub Replayed-ends : i < epoch_commits shape → IsNotWhole next.1 → Replayed shape number blocks old.pages i into
     Replayed-ends inside not_whole = record {
       entries = r.entries;
-      read = r.left ∙ ends shape number blocks (page_at old.pages) i r.entries (epoch_pages shape - i) not_whole;
+      read = r.left ∙ ends shape number blocks at i r.entries (epoch_commits shape - i) not_whole;
       held = r.held;
       each = r.each;
       within = omega (arith, inside);
@@ -239,18 +270,22 @@ module _ (shape : Shape) (number : ℕ) (blocks : List ℕ) (old : BoardState) w
       ends = λ _ is. not_whole is.0 is.1;
     }
 
-    -- the page that is not Whole is read too
-    pub reads_to_end : (new : BoardState) → i < epoch_pages shape → IsNotWhole (page_at old.pages (page_in shape blocks i)) → new ≡ after_read now
-        → new ≡ after_reads (epoch_reads shape (page_at old.pages) blocks) old
-    reads_to_end new inside not_whole read =
-        let step : epoch_pages shape - i ≡ suc (epoch_pages shape - (i + 1)) = omega (arith, inside) in
-        let all = reads_here (suc (epoch_pages shape - (i + 1))) step ∙ ap (λ (n : ℕ). i + n) (ends_here (page_in shape blocks i) _ (commits_of shape (page_at old.pages) blocks (i + 1) (epoch_pages shape - (i + 1))) not_whole) in
-        let k : suc i ≡ epoch_reads shape (page_at old.pages) blocks = omega (arith, all) in
-        read ∙ ap after_read r.board ∙ ap (λ n. after_reads n old) k
+    -- it is read too
+    pub reads_to_last : (new : BoardState) → i < epoch_commits shape → IsNotWhole next.1 → new ≡ after_reads (reads_of_pair (at (commit_page shape blocks i))) now
+        → new ≡ after_reads (epoch_reads shape at blocks) old
+    reads_to_last new inside not_whole read =
+        let step : epoch_commits shape - i ≡ suc (epoch_commits shape - (i + 1)) = omega (arith, inside) in
+        let one : suc i ≡ i + 1 = omega arith in
+        let more : ℕ = reads_to_end shape at blocks (i + 1) (epoch_commits shape - (i + 1)) in
+        let all = reads_here (suc (epoch_commits shape - (i + 1))) step in
+        let none = ends_here next.1 more not_whole in
+        let shifted : reads_before shape at blocks (suc i) ≡ reads_before shape at blocks (i + 1) = ap (λ k. reads_before shape at blocks k) one in
+        let k : reads_before shape at blocks (i + 1) ≡ epoch_reads shape at blocks = omega (arith, all, none, shifted) in
+        read_more new read ∙ ap (λ n. after_reads n old) k
 
-    -- a full epoch has no such page
-    pub reads_all : epoch_pages shape ≤ i → now ≡ after_reads (epoch_reads shape (page_at old.pages) blocks) old
+    -- a full epoch has no such commit
+    pub reads_all : epoch_commits shape ≤ i → now ≡ after_reads (epoch_reads shape at blocks) old
     reads_all full =
         let all = reads_here 0 (omega (arith, full)) in
-        let k : i ≡ epoch_reads shape (page_at old.pages) blocks = omega (arith, all) in
+        let k : reads_before shape at blocks i ≡ epoch_reads shape at blocks = omega (arith, all) in
         r.board ∙ ap (λ n. after_reads n old) k

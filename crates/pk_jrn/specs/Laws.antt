@@ -1,6 +1,6 @@
 -- What calls of other crates leave of an epoch: the statements.
 use Rattle.std.specs.Prelude.{◌≡◌, ◌≢◌, ℕ, ◌+◌, ◌*◌, ◌<◌, ◌≤◌, List, length, slice_index}
-use Rattle.pk_base.specs.Shape.{Shape}
+use Rattle.pk_base.specs.Shape.{Shape, IsShape}
 use Rattle.pk_base.specs.Page.{Flash, page_at}
 use Rattle.pk_nand.specs.Crash.{SameOutside}
 use Rattle.pk_jrnfmt.specs.Epoch.{epoch}
@@ -16,12 +16,12 @@ SameBlocks shape blocks old new = (n : ℕ) → n < 2 → SameInBlock shape (sli
 
 -- where no page of its blocks differs, the epoch fits as before
 abbrev pub FitsElsewhere : Type 0
-FitsElsewhere = (e : JournalEpoch) (old new : Flash) → SameBlocks e.shape e.blocks old new → EpochOnFlash e old → EpochOnFlash e new
+FitsElsewhere = (e : JournalEpoch) (old new : Flash) → IsShape e.shape → SameBlocks e.shape e.blocks old new → EpochOnFlash e old → EpochOnFlash e new
 
 -- and its entries, or its refusal, are the same
 abbrev pub ReadsElsewhere : Type 0
 ReadsElsewhere =
-    (shape : Shape) (number : ℕ) (blocks : List ℕ) (old new : Flash) → length blocks ≡ 2 → SameBlocks shape blocks old new
+    (shape : Shape) (number : ℕ) (blocks : List ℕ) (old new : Flash) → IsShape shape → length blocks ≡ 2 → SameBlocks shape blocks old new
     → epoch shape (page_at new) number blocks ≡ epoch shape (page_at old) number blocks
 
 -- where nothing differs outside some pages of another block, no page of the two blocks differs

@@ -1,10 +1,10 @@
 -- An epoch that is read from a flash into a write buffer.
-use Rattle.std.specs.Prelude.{◌≡◌, ℕ, suc, ◌+◌, ◌*◌, ◌<◌, ◌≤◌, Bool, true, false, List, [], ◌∷◌, length, reverse, Some, Ok, Err}
+use Rattle.std.specs.Prelude.{◌≡◌, ℕ, zero, suc, ◌+◌, ◌*◌, ◌/◌, ◌<◌, ◌≤◌, Bool, true, false, List, [], ◌∷◌, length, reverse, Some, Ok, Err}
 use Rattle.std.specs.FinMap.Entries.{put}
 use Rattle.std.specs.List.{AllByRecursion}
 use Rattle.pk_base.specs.Key.{key_cmp}
 use Rattle.pk_base.specs.Shape.{Shape, buffer, epoch_commits}
-use Rattle.pk_base.specs.Page.{Page, erased, whole, torn, Flash, page_at, NumberedPages, commit_page, commit_at, commits_of}
+use Rattle.pk_base.specs.Page.{Page, erased, whole, torn, Flash, page_at, commit_page, commit_at}
 use Rattle.pk_base.specs.Entry.{Entry, key_of}
 use Rattle.pk_base.specs.EntryBytes.{IsEntry}
 use Rattle.pk_base.specs.Firsts.{firsts}
@@ -13,29 +13,40 @@ use Rattle.pk_jrnfmt.specs.Page.{journal_entries}
 use Rattle.pk_jrnfmt.specs.Epoch.{epoch}
 use Rattle.pk_buf.specs.Table.{Table}
 use Rattle.pk_nand.specs.BoardState.{BoardState}
-use Rattle.pk_nand.specs.Calls.{Rose, ReadFailed}
+use Rattle.pk_nand.specs.Calls.{Rose}
 use Rattle.pk_nand.specs.Counts.{after_reads}
 use Rattle.pk_jrn.specs.declared.error.ReplayError.{ReplayError}
 use Rattle.pk_jrn.specs.declared.error.ReplayError.TheVariants.{Damaged, Fault}
+use Rattle.pk_pair.specs.Pairs.{reads_of_pair, PairReadFailed}
 use Rattle.pk_jrn.specs.Epochs.{HasCommit}
 
 -- a write buffer that holds these entries, of which the later one of a key counts
 abbrev pub buffer_of : Shape → List Entry → Table
 buffer_of shape es = record { capacity = buffer shape; entries = firsts (reverse es) }
 
--- the pages up to the first that is not Whole, and that one
-abbrev pub pages_to_end : NumberedPages → ℕ
-pages_to_end [] = 0
-pages_to_end ((p, erased) ∷ pages) = 1
-pages_to_end ((p, torn) ∷ pages) = 1
-pages_to_end ((p, whole bytes) ∷ pages) = suc (pages_to_end pages)
+-- the reads go on behind a commit where it has a page that is Whole
+abbrev pub if_whole : Page → ℕ → ℕ
+if_whole erased more = 0
+if_whole (whole bytes) more = more
+if_whole torn more = 0
+
+-- the reads of so many commits from an index on, up to the first that has no page that is Whole, and that one
+abbrev pub reads_to_end : Shape → (ℕ → Page) → List ℕ → ℕ → ℕ → ℕ
+reads_to_end shape at blocks i zero = 0
+reads_to_end shape at blocks i (suc n) =
+    reads_of_pair (at (commit_page shape blocks i)) + if_whole (commit_at shape at blocks i).1 (reads_to_end shape at blocks (i + 1) n)
 
 -- an epoch is read up to its end; one without blocks is not read
 abbrev pub epoch_reads : Shape → (ℕ → Page) → List ℕ → ℕ
-epoch_reads shape at blocks = pages_to_end (commits_of shape at blocks 0 (length blocks * shape.block_pages))
+epoch_reads shape at blocks = reads_to_end shape at blocks 0 (length blocks * (shape.block_pages / 2))
+
+-- the reads of the commits before an index
+abbrev pub reads_before : Shape → (ℕ → Page) → List ℕ → ℕ → ℕ
+reads_before shape at blocks zero = 0
+reads_before shape at blocks (suc i) = reads_before shape at blocks i + reads_of_pair (at (commit_page shape blocks i))
 
 module _ (shape : Shape) (number : ℕ) (blocks : List ℕ) where
-  -- so many commits were replayed: they are those before the first whose page is not Whole, and the buffer holds the epoch's entries
+  -- so many commits were replayed: they are those before the first that has no page that is Whole, and the buffer holds the epoch's entries
   pub record Replayed (flash : Flash) (used : ℕ) (into : Table) : Type 0 where
     pub entries : List Entry
     pub read : epoch shape (page_at flash) number blocks ≡ Ok entries
@@ -51,14 +62,14 @@ module _ (shape : Shape) (number : ℕ) (blocks : List ℕ) where
     pub within : index < epoch_commits shape
     pub page_is : page ≡ (commit_at shape (page_at old.pages) blocks index).0
     pub read : epoch shape (page_at old.pages) number blocks ≡ Err (damaged page)
-    pub board : new ≡ after_reads (index + 1) old
+    pub board : new ≡ after_reads (reads_before shape (page_at old.pages) blocks (index + 1)) old
 
   -- a read failed, behind others that did not
   pub record ReplayFailed (old new : BoardState) : Type 0 where
     pub made : ℕ
     pub within : made < epoch_commits shape
     pub before : (j : ℕ) → j < made → HasCommit shape old.pages blocks j
-    pub failed : ReadFailed (after_reads made old) new (commit_page shape blocks made)
+    pub failed : PairReadFailed (after_reads (reads_before shape (page_at old.pages) blocks made) old) new (commit_page shape blocks made)
     pub flash : Rose old.flash_faults new.flash_faults
     pub read : Rose old.read_faults new.read_faults
 

@@ -1,4 +1,5 @@
-//! The epochs of the journal. `append` adds entries to an epoch by one program: wherever it is cut, all of them or none.
+//! The epochs of the journal. `append` adds entries to an epoch by the two programs of a pair: wherever they are cut, all of them
+//! or none.
 //! `replay` reads an epoch into a write buffer, where the later entry of a key counts, or names the page that refuses.
 //! Laws say what changes elsewhere on the flash leave of an epoch.
 #![tactic(auto)]
@@ -7,7 +8,6 @@ mod entries;
 mod epoch;
 mod error;
 mod laws;
-mod pages;
 mod reading;
 
 pub use epoch::Epoch;

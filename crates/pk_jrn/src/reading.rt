@@ -1,32 +1,24 @@
 //! An epoch that is read from a board.
-ghost use Rattle.std.specs.Prelude.{◌≡◌, length, IfOk, IfErr, OnOk, OnErr, MatchBool};
+ghost use Rattle.std.specs.Prelude.{◌≡◌, length, IfOk, IfErr, OnOk, OnErr};
 ghost use Rattle.pk_base.specs.Page.{page_at};
 ghost use Rattle.pk_nand.specs.Calls.{IsReady};
 ghost use Rattle.pk_nand.specs.Counts.{after_reads};
-ghost use Rattle.pk_nand.specs.declared.types.PageRead.TheVariants.{Whole};
 ghost use Rattle.pk_buf.specs.Table.{no_entries};
 ghost use Rattle.pk_jrn.specs.Epochs.{AllExist, EpochOnFlash, found_at_opening};
 ghost use Rattle.pk_jrn.specs.Replays.{Replayed, Refused, epoch_reads};
 
 use crate::entries::take_page;
 use crate::error::ReplayError;
-use crate::pages::page_of;
 use pk_base::Shape;
 use pk_buf::Buffer;
-use pk_nand::{Nand, PageRead};
+use pk_nand::Nand;
+use pk_pair::{commit_page, read_pair};
 use pk_region::Region;
 
-// Whether the page that was read is Whole.
-fn is_whole(found: PageRead) -> bool
-    ensures { MatchBool result (found ≡ Whole) (found ≡ Whole → ⊥) }
-{
-    found == PageRead::Whole
-}
-
-/// Reads the pages of an epoch up to the first that is not Whole, by one read each, and writes their entries into an empty write
-/// buffer, where the later entry of a key counts. Answers how many pages were Whole. `Damaged` with the first page that is Whole
-/// and not the epoch's page at its place, or whose entries bring the keys above those of a write buffer; `Fault` where a read
-/// failed. After a refusal the buffer is empty. `buf` has the bytes of a page, which are lost.
+/// Reads the commits of an epoch up to the first that has no page that is Whole, by one read each where the first page is Whole and
+/// else by two, and writes their entries into an empty write buffer, where the later entry of a key counts. Answers how many commits
+/// have a page. `Damaged` with the first such page that is not the epoch's at its place, or whose entries bring the keys above those
+/// of a write buffer; `Fault` where a read failed. After a refusal the buffer is empty. `buf` has the bytes of a page, which are lost.
 pub fn replay<B: Nand, A: Region>(
     board: &mut B,
     shape: &Shape,
@@ -60,18 +52,17 @@ pub fn replay<B: Nand, A: Region>(
     ensures buffer { length buf.new ≡ length buf.old }
 {
     shape.known();
+    // so that the numbers of pages are known to fit
+    let _ = shape.page_count();
     for index in 0..shape.epoch_commits() {
-        let page = page_of(shape, &blocks, index);
-        match board.read(page, buf) {
-            Ok(found) => {
-                if !is_whole(found) {
-                    return Ok(index);
-                }
+        match read_pair(board, commit_page(shape, blocks, index), buf) {
+            Ok(Some(page)) => {
                 if !take_page(shape, number, index, buf, into) {
                     into.clear();
                     return Err(ReplayError::Damaged { page });
                 }
             }
+            Ok(None) => return Ok(index),
             Err(_) => {
                 into.clear();
                 return Err(ReplayError::Fault);

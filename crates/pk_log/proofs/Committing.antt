@@ -1,15 +1,17 @@
 -- What a commit leaves of a log and of a flash, cut or not.
-use Rattle.std.proofs.Common.{◌≡◌, ◌≢◌, inl, ℕ, ◌+◌, ◌<◌, ◌≤◌, refl, sym, ap, subst, ◌∙◌, arith, List, [], ◌++◌, length, Some, Ok, append-nil}
-use Rattle.pk_base.specs.Shape.{Shape, buffer, epoch_pages}
-use Rattle.pk_base.specs.Page.{Page, Flash, page_at, erased, whole, page_in}
+use Rattle.std.proofs.Common.{◌≡◌, ◌≢◌, inl, inr, ℕ, ◌+◌, ◌-◌, ◌*◌, ◌%◌, ◌<◌, ◌≤◌, refl, sym, ap, subst, ◌∙◌, arith, Bool, if◌then◌else◌, List, [], ◌++◌, length, Some, Ok, append-nil}
+use Rattle.pk_base.specs.Shape.{Shape, buffer, epoch_pages, epoch_commits}
+use Rattle.pk_base.specs.Page.{Page, Flash, page_at, erased, whole, page_in, commit_page, commit_at}
 use Rattle.pk_base.specs.Firsts.{firsts}
 use Rattle.pk_base.specs.Map.{Map}
-use Rattle.pk_base.specs.Mark.{program, after}
-use Rattle.pk_base.proofs.ShapeLemmas.{block_pages_positive}
+use Rattle.pk_base.specs.Mark.{program, after, all_posted}
+use Rattle.pk_base.proofs.CommitPages.{within, second, even_page}
 use Rattle.pk_nand.specs.BoardState.{BoardState}
 use Rattle.pk_nand.specs.Cut.{Interrupted}
-use Rattle.pk_nand.specs.Calls.{IsReady, after_program, ProgramFailed}
-use Rattle.pk_nand.proofs.Leaving.{page_at-slice_set}
+use Rattle.pk_nand.specs.Calls.{IsReady, after_program, after_programs, ProgramFailed, ProgramsFailed}
+use Rattle.pk_nand.specs.Pairs.{programs_of_pair, IsPairCut}
+use Rattle.pk_nand.proofs.Leaving.{page_at-slice_set, page_at-slice_set_same}
+use Rattle.pk_nand.proofs.Pairing.{IsPairCut-cut, IsPairCut-done, outside_pair}
 use Rattle.pk_nand.proofs.Reaching.{Reached-start}
 use Rattle.pk_jrnfmt.specs.Page.{journal_entries}
 use Rattle.pk_jrnfmt.specs.Epoch.{epoch}
@@ -17,28 +19,29 @@ use Rattle.pk_rootfmt.specs.Root.{Root}
 use Rattle.pk_rootfmt.specs.Newest.{newest_root}
 use Rattle.pk_root.proofs.Places.{InstallerOnFlash-by_same}
 use Rattle.pk_buf.specs.Table.{Table}
-use Rattle.pk_jrn.specs.Epochs.{JournalEpoch, EpochOnFlash, Reads, left_of, next_page}
+use Rattle.pk_jrn.specs.Epochs.{JournalEpoch, EpochOnFlash, Reads, left_of, next_page, pages_of}
 use Rattle.pk_jrn.specs.Appends.{AddsAll}
 use Rattle.pk_jrn.specs.Replays.{buffer_of}
 use Rattle.pk_jrn.proofs.Places.{page_exists}
-use Rattle.pk_jrn.proofs.Appending.{takes_more, page_left}
+use Rattle.pk_jrn.proofs.Appending.{takes_more, commit_left}
 use Rattle.pk_jrn.proofs.Puts.{firsts-reverse}
 use Rattle.pk_model.specs.Found.{Found, newest_epoch}
 use Rattle.pk_model.specs.Laws.{IsWholePage, IsCommit}
-use Rattle.pk_model.proofs.Commits.{Blocks, valid_blocks, behind_roots, roots_stay, under}
+use Rattle.pk_model.proofs.Commits.{Blocks, valid_blocks, pair_behind_roots, roots_stay, under, commit_start}
 use Rattle.pk_steps.specs.Under.{IsUnder}
 use Rattle.pk_steps.specs.Roots.{committed}
-use Rattle.pk_steps.proofs.Committing.{commits, commit_done}
+use Rattle.pk_steps.proofs.Committing.{commits_pair, commit_done}
 use Rattle.pk_model.specs.Growth.{Grows, Reaches, Goes}
 use Rattle.pk_log.specs.State.{LogState, all_committed}
 use Rattle.pk_log.specs.Logs.{LogOnFlash}
 use Rattle.pk_log.specs.Commits.{CommitStands, CommitCut, CommitHolds, CommitReaches}
+use Rattle.pk_model.proofs.Growing.{at_end, Reaches-then, Goes-then}
 use Rattle.pk_model.proofs.Running.{Reaches-program, Goes-program}
 use Rattle.pk_steps.proofs.NewestBlocks.{valid_root}
 use Rattle.pk_log.proofs.Standing.{blocks_are}
 use Rattle.pk_steps.proofs.UnderRoot.{newest_found}
 
--- ---- the program
+-- ---- the programs
 
 module _ (log : LogState) (board : BoardState) (top : ℕ × Root) (found : Found) (logs : LogOnFlash log board.pages top found) (ready : IsReady board log.shape) (some : log.pending ≢ []) (bytes : List ℕ)
     (spells : journal_entries log.epoch.shape log.epoch.number log.epoch.used bytes ≡ Some log.pending) where
@@ -51,73 +54,133 @@ module _ (log : LogState) (board : BoardState) (top : ℕ × Root) (found : Foun
   abbrev old : ℕ → Page
   old = page_at board.pages
 
-  abbrev new : ℕ → Page
-  new = page_at (after_program board (next_page e) bytes).pages
+  -- the first page of the commit, as the root tells it
+  abbrev page : ℕ
+  page = commit_page shape top.1.newest e.used
 
   left : 0 < left_of e
   left = logs.pending_room some
 
-  positive : 0 < shape.block_pages
-  positive = block_pages_positive shape logs.is_shape
+  inside : e.used < epoch_commits shape
+  inside = subst (λ (s : Shape). e.used < epoch_commits s) logs.epoch_shape (commit_left e left)
 
-  inside : e.used < epoch_pages shape
-  inside = subst (λ (s : Shape). e.used < epoch_pages s) logs.epoch_shape (page_left e left)
+  page_is : page ≡ next_page e
+  page_is i = commit_page (sym logs.epoch_shape i) (sym logs.epoch_blocks i) e.used
 
-  -- a page of the root's newest epoch is the epoch's
-  page_is : (j : ℕ) → page_in shape top.1.newest j ≡ page_in e.shape e.blocks j
-  page_is j i = page_in (sym logs.epoch_shape i) (sym logs.epoch_blocks i) j
+  before : (j : ℕ) → j < e.used → IsWholePage (commit_at shape old top.1.newest j).1
+  before j small =
+      let w = logs.epoch_fits.before j small in
+      let same : commit_at shape old top.1.newest j ≡ commit_at e.shape old e.blocks j = λ i. commit_at (sym logs.epoch_shape i) old (sym logs.epoch_blocks i) j in
+      subst IsWholePage (sym (ap (λ (x : ℕ × Page). x.1) same ∙ w.1)) tt
 
-  before : (j : ℕ) → j < e.used → IsWholePage (old (page_in shape top.1.newest j))
-  before j small = let w = logs.epoch_fits.before j small in subst IsWholePage (sym (ap old (page_is j) ∙ w.1)) tt
+  -- no commit is half made
+  pages : pages_of e ≡ 2 * e.used
+  pages = ap (λ (h : Bool). if h then 2 * e.used - 1 else 2 * e.used) (logs.pending_whole some)
 
-  behind : (j : ℕ) → e.used ≤ j → j < epoch_pages shape → old (page_in shape top.1.newest j) ≡ erased
-  behind j low high = ap old (page_is j) ∙ logs.epoch_fits.behind (takes_more e left) j low (subst (λ (s : Shape). j < epoch_pages s) (sym logs.epoch_shape) high)
+  behind : (j : ℕ) → 2 * e.used ≤ j → j < epoch_pages shape → old (page_in shape top.1.newest j) ≡ erased
+  behind j low high =
+      ap old (λ i. page_in (sym logs.epoch_shape i) (sym logs.epoch_blocks i) j)
+      ∙ logs.epoch_fits.behind (takes_more e left) j (subst (λ (n : ℕ). n ≤ j) (sym pages) low) (subst (λ (s : Shape). j < epoch_pages s) (sym logs.epoch_shape) high)
 
   commit_is : IsCommit shape board.pages top.1 log.pending e.used bytes
   commit_is = record {
     in_epoch = inside;
     exists =
         let size = ready.flash.size in
-        let low = page_exists shape top.1.newest e.used inside (blocks_are shape top.1 (valid_root shape old top logs.is_top)).exist in
-        omega (arith, size, low);
+        let low = page_exists shape top.1.newest (2 * e.used + 1) (within shape e.used inside) (blocks_are shape top.1 (valid_root shape old top logs.is_top)).exist in
+        let next = second shape top.1.newest logs.is_shape e.used in
+        omega (arith, size, low, next);
     before = before;
     behind = behind;
     spells = (λ i. journal_entries (sym logs.epoch_shape i) (sym logs.epoch_number i) e.used bytes) ∙ spells;
   }
 
-  -- no other page differs
-  others : (k : ℕ) → (k ≡ page_in shape top.1.newest e.used → ⊥) → new k ≡ old k
-  others k other = page_at-slice_set board.pages (next_page e) k (whole bytes) (λ is. other (is ∙ sym (page_is e.used)))
-
   blocks : Blocks top.1
   blocks = valid_blocks shape old top logs.is_top
 
-  top_stays : newest_root shape new ≡ Some top
-  top_stays = roots_stay shape old new top found log.pending e.used bytes positive logs.is_top logs.is_found blocks inside before behind others
+  -- a cut of its pair has the same newest root
+  top_stays : (f : Flash) → IsPairCut page bytes board.pages f → newest_root shape (page_at f) ≡ Some top
+  top_stays f cut = roots_stay shape old (page_at f) top found log.pending e.used bytes logs.is_shape logs.is_top logs.is_found blocks inside before behind (outside_pair page board.pages f cut.outside)
 
-  grows : Grows shape board.pages (after shape (program (next_page e) bytes) board.pages)
-  grows = inl (top_stays ∙ sym logs.is_top)
+  even : page % shape.block_pages % 2 ≡ 0
+  even = even_page shape top.1.newest logs.is_shape e.used
+
+  start : IsPairCut page bytes board.pages board.pages
+  start = commit_start shape board.pages top.1 log.pending e.used bytes logs.is_shape commit_is
+
+  abbrev half : BoardState
+  half = after_program board page bytes
+
+  abbrev done : BoardState
+  done = after_program half (page + 1) bytes
+
+  half_cut : IsPairCut page bytes board.pages half.pages
+  half_cut = IsPairCut-done shape page bytes even page board.pages board.pages (omega arith) (omega arith) start
+
+  done_cut : IsPairCut page bytes board.pages done.pages
+  done_cut = IsPairCut-done shape page bytes even (page + 1) board.pages half.pages (omega arith) (omega arith) half_cut
+
+  done_is : done ≡ after_programs board (programs_of_pair (next_page e) bytes)
+  done_is i = after_programs board (programs_of_pair (page_is i) bytes)
+
+  -- the first page has the bytes
+  here : page_at done.pages page ≡ whole bytes
+  here =
+      let exists = commit_is.exists in
+      page_at-slice_set half.pages (page + 1) page (whole bytes) (λ same. omega (arith, same)) ∙ page_at-slice_set_same board.pages page (whole bytes) (omega (arith, exists))
 
   module _ (m0 m1 : Map) (first : IsUnder shape board.pages [] top found m0) (second : IsUnder shape board.pages log.pending top found m1) where
     abbrev Holds : Flash → List ℕ → Type 0
     Holds = CommitCut shape top found log.pending m0 m1
 
-    cut_holds : (cut : Flash) → Interrupted shape (program (next_page e) bytes) board.pages cut [] → Holds cut []
-    cut_holds cut i =
-        let there : Interrupted shape (program (page_in shape top.1.newest e.used) bytes) board.pages cut [] = subst (λ (k : ℕ). Interrupted shape (program k bytes) board.pages cut []) (sym (page_is e.used)) i in
-        (refl, commits shape board.pages cut top found log.pending m0 m1 e.used bytes [] logs.is_shape first second commit_is (inl there))
+    cut_holds : (f : Flash) → IsPairCut page bytes board.pages f → Holds f []
+    cut_holds f cut = (refl, commits_pair shape board.pages f top found log.pending m0 m1 e.used bytes logs.is_shape first second commit_is cut)
 
-    pub holds_done : IsUnder shape (after_program board (next_page e) bytes).pages [] top (committed found log.pending) m1
-    holds_done = subst (λ (k : ℕ). IsUnder shape (after shape (program k bytes) board.pages) [] top (committed found log.pending) m1) (page_is e.used)
-        (commit_done shape board.pages top found log.pending m0 m1 e.used bytes logs.is_shape first second commit_is)
+    first_holds : (f : Flash) → Interrupted shape (program page bytes) board.pages f [] → Holds f []
+    first_holds f cut = cut_holds f (IsPairCut-cut shape page bytes even page board.pages board.pages f [] (omega arith) (omega arith) start cut)
 
-    pub reaches : Reaches shape board (after_program board (next_page e) bytes) (CommitCut shape top found log.pending m0 m1)
-    reaches = Reaches-program shape board Holds ready.shape_is (next_page e) bytes cut_holds grows (after_program board (next_page e) bytes) refl
+    second_holds : (f : Flash) → Interrupted shape (program (page + 1) bytes) half.pages f [] → Holds f []
+    second_holds f cut = cut_holds f (IsPairCut-cut shape page bytes even (page + 1) board.pages half.pages f [] (omega arith) (omega arith) half_cut cut)
 
-    pub goes : (after' : BoardState) → ProgramFailed board after' (next_page e) bytes → Goes shape board after' (CommitCut shape top found log.pending m0 m1)
-    goes = Goes-program shape board Holds ready.shape_is (next_page e) bytes cut_holds grows
+    first_grows : Grows shape board.pages (after shape (program page bytes) board.pages)
+    first_grows = inl (top_stays half.pages half_cut ∙ sym logs.is_top)
+
+    second_grows : Grows shape half.pages (after shape (program (page + 1) bytes) half.pages)
+    second_grows = inl (top_stays done.pages done_cut ∙ sym (top_stays half.pages half_cut))
+
+    begun : Reaches shape board half Holds
+    begun = Reaches-program shape board Holds ready.shape_is page bytes first_holds first_grows half refl
+
+    -- nothing went out before the second program
+    later : (f : Flash) (q : List ℕ) → Holds f q → Holds f (all_posted begun.0 ++ q)
+    later f q holds = (ap (λ t. t ++ q) (at_end begun.0 board half Holds begun.1).0 ∙ holds.0, holds.1)
+
+    pub holds_done : IsUnder shape (after_programs board (programs_of_pair (next_page e) bytes)).pages [] top (committed found log.pending) m1
+    holds_done = subst (λ (b : BoardState). IsUnder shape b.pages [] top (committed found log.pending) m1) done_is
+        (commit_done shape board.pages done.pages top found log.pending m0 m1 e.used bytes logs.is_shape first second commit_is done_cut here)
+
+    pub reaches : Reaches shape board (after_programs board (programs_of_pair (next_page e) bytes)) (CommitCut shape top found log.pending m0 m1)
+    reaches = subst (λ (b : BoardState). Reaches shape board b Holds) done_is
+        (Reaches-then shape begun.0 board half Holds ready.shape_is begun.1 begun.2 done Holds later
+        (Reaches-program shape half Holds ready.shape_is (page + 1) bytes second_holds second_grows done refl))
+
+    pub goes : (after' : BoardState) → ProgramsFailed board after' (programs_of_pair (next_page e) bytes) → Goes shape board after' (CommitCut shape top found log.pending m0 m1)
+    goes after' failed = elim (subst (λ (p : ℕ). ProgramsFailed board after' (programs_of_pair p bytes)) (sym page_is) failed) [
+      | inl one ↦ Goes-program shape board Holds ready.shape_is page bytes first_holds first_grows after' one
+      | inr other ↦ Goes-then shape begun.0 board half Holds ready.shape_is begun.1 begun.2 after' Holds later
+          (Goes-program shape half Holds ready.shape_is (page + 1) bytes second_holds second_grows after' other)
+    ]
 
   -- ---- the log
+
+  abbrev then_pages : Flash
+  then_pages = (after_programs board (programs_of_pair (next_page e) bytes)).pages
+
+  then_cut : IsPairCut page bytes board.pages then_pages
+  then_cut = subst (λ (b : BoardState). IsPairCut page bytes board.pages b.pages) done_is done_cut
+
+  others : (k : ℕ) → (page ≤ k → k < page + 2 → ⊥) → page_at then_pages k ≡ old k
+  others = outside_pair page board.pages then_pages then_cut.outside
 
   -- the keys of the epoch with the pending entries
   have_room : length log.active.entries ≤ log.active.capacity → length (firsts (found.newest ++ log.pending)) ≤ buffer e.shape
@@ -127,21 +190,20 @@ module _ (log : LogState) (board : BoardState) (top : ℕ × Root) (found : Foun
       let fits : length (firsts (found.newest ++ log.pending)) ≤ buffer log.shape = omega (arith, bound, capacity, same) in
       subst (λ (s : Shape). length (firsts (found.newest ++ log.pending)) ≤ buffer s) (sym logs.epoch_shape) fits
 
-  reads_all : length log.active.entries ≤ log.active.capacity → AddsAll e log.pending board.pages (after_program board (next_page e) bytes).pages → newest_epoch shape new top.1 ≡ Ok (found.newest ++ log.pending)
+  reads_all : length log.active.entries ≤ log.active.capacity → AddsAll e log.pending board.pages then_pages → newest_epoch shape (page_at then_pages) top.1 ≡ Ok (found.newest ++ log.pending)
   reads_all bound adds =
       let was : Reads e board.pages found.newest = (λ i. epoch (logs.epoch_shape i) old (logs.epoch_number i) (logs.epoch_blocks i)) ∙ newest_found shape old top.1 found logs.is_found in
-      (λ i. epoch (sym logs.epoch_shape i) new (sym logs.epoch_number i) (sym logs.epoch_blocks i)) ∙ adds found.newest was (have_room bound)
+      (λ i. epoch (sym logs.epoch_shape i) (page_at then_pages) (sym logs.epoch_number i) (sym logs.epoch_blocks i)) ∙ adds found.newest was (have_room bound)
 
-  pub stands_done : length log.active.entries ≤ log.active.capacity → AddsAll e log.pending board.pages (after_program board (next_page e) bytes).pages
-      → EpochOnFlash (record e { used = e.used + 1 }) (after_program board (next_page e) bytes).pages
-      → LogOnFlash (all_committed log) (after_program board (next_page e) bytes).pages top (committed found log.pending)
+  pub stands_done : length log.active.entries ≤ log.active.capacity → AddsAll e log.pending board.pages then_pages → EpochOnFlash (record e { used = e.used + 1 }) then_pages
+      → LogOnFlash (all_committed log) then_pages top (committed found log.pending)
   stands_done bound adds fits = record {
     is_shape = logs.is_shape;
-    is_top = top_stays;
+    is_top = top_stays then_pages then_cut;
     root_is = logs.root_is;
-    is_found = under shape old new top found log.pending e.used bytes positive logs.is_top logs.is_found blocks inside before behind others (found.newest ++ log.pending) (reads_all bound adds);
-    installs = InstallerOnFlash-by_same shape log.next top board.pages (after_program board (next_page e) bytes).pages
-        (λ k low. others k (λ is. let high = behind_roots shape top.1 blocks positive e.used inside in omega (arith, low, high, is))) logs.installs;
+    is_found = under shape old (page_at then_pages) top found log.pending e.used bytes logs.is_shape logs.is_top logs.is_found blocks inside before behind others (found.newest ++ log.pending) (reads_all bound adds);
+    installs = InstallerOnFlash-by_same shape log.next top board.pages then_pages
+        (λ k low. others k (λ least less. let high = pair_behind_roots shape logs.is_shape top.1 blocks e.used inside in omega (arith, low, high, least))) logs.installs;
     epoch_shape = logs.epoch_shape;
     epoch_number = logs.epoch_number;
     epoch_blocks = logs.epoch_blocks;
@@ -151,6 +213,7 @@ module _ (log : LogState) (board : BoardState) (top : ℕ × Root) (found : Foun
     pending_are = tt;
     pending_few = omega arith;
     pending_room = λ other. absurd (other refl);
+    pending_whole = λ other. absurd (other refl);
   }
 
 -- ---- nothing is pending

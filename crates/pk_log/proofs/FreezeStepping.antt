@@ -2,7 +2,7 @@
 use Rattle.std.proofs.Common.{◌≡◌, ℕ, ◌-◌, ◌+◌, ◌*◌, ◌/◌, ◌<◌, ◌≤◌, refl, sym, ap, subst, ◌∙◌, arith, Bool, true, false, not, ◌==◌, List, [], ◌∷◌, ◌++◌, length, reverse, nat_lt, slice_index, if◌then◌else◌, append-nil, mul-le-mul_right}
 use Rattle.std.specs.List.{concat}
 use Rattle.std.proofs.lemmas.Nat.{div-mul-add}
-use Rattle.pk_base.specs.Shape.{Shape}
+use Rattle.pk_base.specs.Shape.{Shape, IsShape}
 use Rattle.pk_base.specs.Page.{Flash, page_at}
 use Rattle.pk_base.specs.Entry.{Entry}
 use Rattle.pk_base.specs.Firsts.{firsts}
@@ -22,10 +22,10 @@ use Rattle.pk_jrn.proofs.Puts.{firsts-reverse}
 use Rattle.pk_model.specs.Found.{Found}
 use Rattle.pk_model.proofs.Commits.{blocks_of_root, member}
 use Rattle.pk_model.proofs.SamePages.{any_front}
-use Rattle.pk_pool.specs.declared.state.BlockState.TheVariants.{Free}
-use Rattle.pk_pool.specs.Blocks.{Blocks, PoolOnFlash, with_state, given_back as back}
+use Rattle.pk_pool.specs.declared.state.BlockState.TheVariants.{Leaving}
+use Rattle.pk_pool.specs.Blocks.{Blocks, PoolOnFlash, with_state, given_back, left_by}
 use Rattle.pk_pool.specs.Unready.{unready}
-use Rattle.pk_pool.proofs.Counting.{given_back}
+use Rattle.pk_pool.proofs.Leaving.{left_unready}
 use Rattle.pk_pool.proofs.States.{get-set_other}
 use Rattle.pk_steps.specs.Roots.{frozen, frozen_root}
 use Rattle.pk_steps.proofs.NewestBlocks.{valid_root}
@@ -50,13 +50,13 @@ module _ (pool : Blocks) (held : Held) (next : Next) (job : FreezeJob) (old : Bo
   pub goes_on_by : answer ≡ false → FreezeGoesOn pool held next job old has_entries top found m pool' root' next' job' new
   goes_on_by e = let P : Bool → Type 0 = λ b. FreezeSteps pool held next job old has_entries b pool' root' next' job' new in subst P e steps top found m is
 
--- the blocks of an epoch are given back, or stay: as many blocks are not ready
-same_unready : (h : Bool) (pool : Blocks) (blocks : List ℕ) → AreOwned pool blocks → unready (back pool (if h then [] else slice_index blocks 0 ∷ slice_index blocks 1 ∷ [])).states ≡ unready pool.states
+-- the blocks of an epoch leave, or stay: as many blocks are not ready
+same_unready : (h : Bool) (pool : Blocks) (blocks : List ℕ) → AreOwned pool blocks → unready (left_by Journal pool (if h then [] else slice_index blocks 0 ∷ slice_index blocks 1 ∷ [])).states ≡ unready pool.states
 same_unready true pool blocks are = refl
 same_unready false pool blocks are =
-    let still = get-set_other pool.states (slice_index blocks 0) (slice_index blocks 1) Free are.different ∙ are.second in
-    let one = given_back pool.states (slice_index blocks 0) Journal are.first in
-    let other = given_back (with_state pool (slice_index blocks 0) Free).states (slice_index blocks 1) Journal still in
+    let still = get-set_other pool.states (slice_index blocks 0) (slice_index blocks 1) (Leaving Journal) are.different ∙ are.second in
+    let one = left_unready pool.states (slice_index blocks 0) Journal Journal are.first in
+    let other = left_unready (with_state pool (slice_index blocks 0) (Leaving Journal)).states (slice_index blocks 1) Journal Journal still in
     other ∙ one
 
 -- which blocks, by the entries of the epoch
@@ -98,6 +98,7 @@ module _ (log : LogState) (pool : Blocks) (job : FreezeJob) (old : BoardState) (
         pool_shape = can.pool_shape;
         pool_fits = can.pool_fits;
         installs = logs.installs;
+        whole = can.whole;
         top_is = sym logs.root_is;
         under = can.under;
         none_older = none_older;
@@ -147,18 +148,20 @@ module _ (log : LogState) (pool : Blocks) (job : FreezeJob) (old : BoardState) (
       epoch_shape = can.logs.epoch_shape;
       epoch_number = can.logs.epoch_number;
       epoch_blocks = can.logs.epoch_blocks;
-      epoch_fits = EpochOnFlash-same log.epoch old.pages new.pages blocks_same can.logs.epoch_fits;
+      epoch_fits = EpochOnFlash-same log.epoch old.pages new.pages (subst (λ (s : Shape). IsShape s) (sym can.logs.epoch_shape) can.logs.is_shape) blocks_same can.logs.epoch_fits;
       active_is = can.logs.active_is;
       frozen_is = can.logs.frozen_is;
       pending_are = can.logs.pending_are;
       pending_few = can.logs.pending_few;
       pending_room = can.logs.pending_room;
+      pending_whole = can.logs.pending_whole;
     }
 
     goes_on : LogGoesOn log pool job old top found m (record log { next = next' }) pool' job' new
     goes_on = record {
       still = record {
         logs = still_logs;
+        whole = by_held.whole;
         none_pending = can.none_pending;
         none_frozen = can.none_frozen;
         under = by_held.under;
@@ -193,28 +196,28 @@ module _ (log : LogState) (pool : Blocks) (job : FreezeJob) (old : BoardState) (
         let blocks = blocks_of_root log.shape top.1 (valid_root log.shape (page_at old.pages) top can.logs.is_top) in
         ap (λ (r : Root). length r.newest) can.logs.root_is ∙ blocks.two
 
-    -- what `give_back` asks for
+    -- what `retire_epoch` asks for
     pub former_owned : (former : List ℕ) → former ≡ two_of log.root.newest → AreOwned middle former
     former_owned former told_by =
         let P : List ℕ → Type 0 = λ xs. AreOwned middle xs in
         let Q : Blocks → Type 0 = λ p. AreOwned p (two_of log.root.newest) in
         subst P (sym told_by) (subst Q (sym done.same_pool) done.former)
 
-    module _ (former : List ℕ) (pool' : Blocks) (told_by : former ≡ two_of log.root.newest) (given : pool' ≡ back middle (if has_entries then [] else slice_index former 0 ∷ slice_index former 1 ∷ []))
+    module _ (former : List ℕ) (pool' : Blocks) (told_by : former ≡ two_of log.root.newest) (given : pool' ≡ left_by Journal middle (if has_entries then [] else slice_index former 0 ∷ slice_index former 1 ∷ []))
         (fits : PoolOnFlash middle new.pages → PoolOnFlash pool' new.pages) where
-      given_two : pool' ≡ back pool (if has_entries then [] else slice_index (two_of log.root.newest) 0 ∷ slice_index (two_of log.root.newest) 1 ∷ [])
+      given_two : pool' ≡ left_by Journal pool (if has_entries then [] else slice_index (two_of log.root.newest) 0 ∷ slice_index (two_of log.root.newest) 1 ∷ [])
       given_two =
-          let P : List ℕ → Type 0 = λ xs. pool' ≡ back middle (if has_entries then [] else slice_index xs 0 ∷ slice_index xs 1 ∷ []) in
-          let Q : Blocks → Type 0 = λ p. pool' ≡ back p (if has_entries then [] else slice_index (two_of log.root.newest) 0 ∷ slice_index (two_of log.root.newest) 1 ∷ []) in
+          let P : List ℕ → Type 0 = λ xs. pool' ≡ left_by Journal middle (if has_entries then [] else slice_index xs 0 ∷ slice_index xs 1 ∷ []) in
+          let Q : Blocks → Type 0 = λ p. pool' ≡ left_by Journal p (if has_entries then [] else slice_index (two_of log.root.newest) 0 ∷ slice_index (two_of log.root.newest) 1 ∷ []) in
           subst Q done.same_pool (subst P told_by given)
 
       two_newest : slice_index (two_of log.root.newest) 0 ∷ slice_index (two_of log.root.newest) 1 ∷ [] ≡ log.root.newest
       two_newest = ap (λ xs. slice_index xs 0 ∷ slice_index xs 1 ∷ []) (two_same log.root.newest newest_two) ∙ two_are log.root.newest newest_two
 
-      pool_is : pool' ≡ back pool (if length found.newest == 0 then top.1.newest else [])
+      pool_is : pool' ≡ left_by Journal pool (if length found.newest == 0 then top.1.newest else [])
       pool_is = given_two
-          ∙ ap (λ xs. back pool (if has_entries then [] else xs)) (two_newest ∙ ap (λ (r : Root). r.newest) can.logs.root_is)
-          ∙ ap (λ xs. back pool xs) (which has_entries (length found.newest == 0) top.1.newest told)
+          ∙ ap (λ xs. left_by Journal pool (if has_entries then [] else xs)) (two_newest ∙ ap (λ (r : Root). r.newest) can.logs.root_is)
+          ∙ ap (λ xs. left_by Journal pool xs) (which has_entries (length found.newest == 0) top.1.newest told)
 
       module _ (blocks : List ℕ) (blocks_are : blocks ≡ two_of root'.newest) (starts : (flash : Flash) → AreErased log.shape flash blocks → EpochOnFlash (started log.shape root'.epoch blocks) flash) where
         these : blocks ≡ done.first ∷ done.second ∷ []
@@ -238,14 +241,17 @@ module _ (log : LogState) (pool : Blocks) (job : FreezeJob) (old : BoardState) (
               pending_are = logs.pending_are;
               pending_few = logs.pending_few;
               pending_room = λ some. absurd (some can.none_pending);
+              pending_whole = λ some. absurd (some can.none_pending);
             }
 
         made : LogFrozen log pool job old top found m (begun log root' next' blocks) pool' job' new
         made =
-            let W : Blocks → Type 0 = λ p. IsApart log.shape p root' (frozen found) in
+            let W : List ℕ → Type 0 = λ bs. IsApart log.shape (given_back pool bs) root' (frozen found) in
+            let bs_are : (if has_entries then [] else slice_index (two_of log.root.newest) 0 ∷ slice_index (two_of log.root.newest) 1 ∷ []) ≡ (if length found.newest == 0 then top.1.newest else []) =
+            ap (λ xs. if has_entries then [] else xs) (two_newest ∙ ap (λ (r : Root). r.newest) can.logs.root_is) ∙ which has_entries (length found.newest == 0) top.1.newest told in
             let same : unready pool'.states ≡ unready pool.states = ap (λ (p : Blocks). unready p.states) given_two ∙ same_unready has_entries pool (two_of log.root.newest) done.former in
             let middle_same : unready middle.states ≡ unready pool.states = ap (λ (p : Blocks). unready p.states) done.same_pool in
-            let L : ℕ → Type 0 = λ u. Lowers (freeze_left job log.next) (unready pool.states) 0 u in
+            let L : ℕ → Type 0 = λ u. Lowers (freeze_left job log.next) (unready pool.states) 1 u in
             record {
               page = done.page;
               first = done.first;
@@ -253,11 +259,12 @@ module _ (log : LogState) (pool : Blocks) (job : FreezeJob) (old : BoardState) (
               begun_is = ap (λ (r : Root). begun log r next' blocks) done.root_is ∙ ap (λ bs. begun log (frozen_root top.1 found done.first done.second) next' bs) these;
               logs = stands_begun;
               under = done.under;
+              half = done.half;
               taken_are = ap taken_by done.was;
               idle = done.done;
               pool_fits = fits done.pool_fits;
               pool_is = pool_is;
-              apart = subst W (sym given_two) done.apart;
+              apart = subst W bs_are done.apart;
               lowers = subst L (middle_same ∙ sym same) done.lowers;
               number = done.number;
               behind = done.behind;

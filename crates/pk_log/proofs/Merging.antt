@@ -1,6 +1,6 @@
--- The install of a merge over a log.
+-- The install of a merge over a log, and the second program of a root.
 use Rattle.std.proofs.Common.{◌≡◌, ℕ, ◌*◌, ◌≤◌, refl, sym, ap, subst, ◌∙◌, arith, Bool, true, false, List, [], slice_index, ◌==◌, if◌then◌else◌, mul-le-mul_right}
-use Rattle.pk_base.specs.Shape.{Shape}
+use Rattle.pk_base.specs.Shape.{Shape, IsShape}
 use Rattle.pk_base.specs.Page.{Flash, page_at, SameBehind}
 use Rattle.pk_base.specs.Entry.{Entry}
 use Rattle.pk_base.specs.Map.{Map}
@@ -15,11 +15,12 @@ use Rattle.pk_jrn.proofs.Places.{EpochOnFlash-same}
 use Rattle.pk_model.specs.Found.{Found}
 use Rattle.pk_model.proofs.Commits.{blocks_of_root}
 use Rattle.pk_steps.proofs.NewestBlocks.{valid_root}
-use Rattle.pk_compact.specs.Installing.{CanPrepare, IsPrepared}
+use Rattle.pk_compact.specs.Installing.{CanPrepare, IsPrepared, CanRepeat, IsRepeated}
 use Rattle.pk_compact.specs.Merging.{CanMerge, HasMerged}
 use Rattle.pk_log.specs.State.{LogState}
 use Rattle.pk_log.specs.Logs.{LogOnFlash}
 use Rattle.pk_log.specs.MergeSteps.{MayPrepare, LogPrepared, MayMerge, LogMerged, frozen_after}
+use Rattle.pk_log.specs.Finishing.{MayFinish, LogFinished}
 
 -- the epoch that a log writes does not lie in the root blocks
 epoch_behind : (log : LogState) (old new : Flash) (top : ℕ × Root) (found : Found) → LogOnFlash log old top found → SameBehind log.shape old new → EpochOnFlash log.epoch new
@@ -27,7 +28,7 @@ epoch_behind log old new top found logs behind =
     let blocks = blocks_of_root log.shape top.1 (valid_root log.shape (page_at old) top logs.is_top) in
     let P : Shape → List ℕ → Type 0 = λ s bs. SameBlocks s bs old new in
     let there : P log.shape top.1.newest = λ n small k low high. behind k (let twice : 2 * log.shape.block_pages ≤ slice_index top.1.newest n * log.shape.block_pages = mul-le-mul_right log.shape.block_pages (blocks.beyond n small) in omega (arith, twice, low)) in
-    EpochOnFlash-same log.epoch old new (subst (λ s. P s log.epoch.blocks) (sym logs.epoch_shape) (subst (λ bs. P log.shape bs) (sym logs.epoch_blocks) there)) logs.epoch_fits
+    EpochOnFlash-same log.epoch old new (subst (λ (s : Shape). IsShape s) (sym logs.epoch_shape) logs.is_shape) (subst (λ s. P s log.epoch.blocks) (sym logs.epoch_shape) (subst (λ bs. P log.shape bs) (sym logs.epoch_blocks) there)) logs.epoch_fits
 
 -- ---- the erase
 
@@ -40,7 +41,7 @@ log_prepared log old new top found m next' may is =
     let logs = may.logs in
     record {
       same_log = refl;
-      programs_next = is.programs_next;
+      programs = is.programs;
       logs = record {
         is_shape = logs.is_shape;
         is_top = is.under.is_top;
@@ -56,13 +57,14 @@ log_prepared log old new top found m next' may is =
         pending_are = logs.pending_are;
         pending_few = logs.pending_few;
         pending_room = logs.pending_room;
+        pending_whole = logs.pending_whole;
       };
       under = is.under;
       behind = is.behind;
       cuts = is.cuts;
     }
 
--- ---- the program
+-- ---- the first program
 
 pub can_merge : (log : LogState) (flash : Flash) (top : ℕ × Root) (found : Found) (m : Map) (level count : ℕ) (taken : List ℕ) → MayMerge log flash top found m level count taken
     → CanMerge (record { shape = log.shape; root = log.root }) log.next flash top found m level count taken
@@ -104,11 +106,48 @@ log_merged log old new top found m level count taken root' next' frozen' log' ma
         pending_are = logs.pending_are;
         pending_few = logs.pending_few;
         pending_room = logs.pending_room;
+        pending_whole = logs.pending_whole;
       };
       under = is.under;
+      half = is.half;
       number = is.number;
       behind = is.behind;
       cuts = is.cuts;
     } in
     let P : LogState → Type 0 = λ l. LogMerged log old top found m level count taken l new in
     subst P (sym log_is) there
+
+-- ---- the second program
+
+pub can_repeat : (log : LogState) (flash : Flash) (top : ℕ × Root) (found : Found) (m : Map) → MayFinish log flash top found m → CanRepeat log.shape log.root log.next flash top found m
+can_repeat log flash top found m may = record { installs = may.logs.installs; top_is = sym may.logs.root_is; under = may.under; half = may.half }
+
+pub log_finished : (log : LogState) (old new : BoardState) (top : ℕ × Root) (found : Found) (m : Map) (next' : Next) → MayFinish log old.pages top found m → IsRepeated log.shape old top found m next' new
+    → LogFinished log old top found m (record log { next = next' }) new
+log_finished log old new top found m next' may is =
+    let logs = may.logs in
+    record {
+      same_log = refl;
+      whole = is.whole;
+      logs = record {
+        is_shape = logs.is_shape;
+        is_top = is.under.is_top;
+        root_is = logs.root_is;
+        is_found = is.under.is_found;
+        installs = is.installs;
+        epoch_shape = logs.epoch_shape;
+        epoch_number = logs.epoch_number;
+        epoch_blocks = logs.epoch_blocks;
+        epoch_fits = epoch_behind log old.pages new.pages top found logs is.behind;
+        active_is = logs.active_is;
+        frozen_is = logs.frozen_is;
+        pending_are = logs.pending_are;
+        pending_few = logs.pending_few;
+        pending_room = logs.pending_room;
+        pending_whole = logs.pending_whole;
+      };
+      under = is.under;
+      number = is.number;
+      behind = is.behind;
+      cuts = is.cuts;
+    }

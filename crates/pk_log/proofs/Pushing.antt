@@ -69,8 +69,8 @@ module _ (log : LogState) (e : Entry) (flash : Flash) (top : ℕ × Root) (found
       let same : length (put key_cmp (key_of e) e.1 log.active.entries) ≡ length (firsts (found.newest ++ (log.pending ++ e ∷ []))) = ap length entries_are ∙ firsts-reverse (found.newest ++ (log.pending ++ e ∷ [])) in
       omega (arith, bound, capacity, same)
 
-  pub stands_pushed : needs_freeze log (key_of e) ≡ false → length log.pending < page_entries log.shape → IsStorable log.shape e → LogOnFlash (pushed log e) flash top found
-  stands_pushed no_freeze few storable = record {
+  pub stands_pushed : needs_freeze log (key_of e) ≡ false → length log.pending < page_entries log.shape → log.epoch.half ≡ false → IsStorable log.shape e → LogOnFlash (pushed log e) flash top found
+  stands_pushed no_freeze few whole storable = record {
     is_shape = logs.is_shape;
     is_top = logs.is_top;
     root_is = logs.root_is;
@@ -85,4 +85,5 @@ module _ (log : LogState) (e : Entry) (flash : Flash) (top : ℕ × Root) (found
     pending_are = all_push (IsStorable log.shape) log.pending e logs.pending_are storable;
     pending_few = let more = length-push log.pending e in omega (arith, few, more);
     pending_room = λ some. left_for_first log.pending (left_of log.epoch) (is_full_for log.active (key_of e)) no_freeze logs.pending_room;
+    pending_whole = λ some. whole;
   }

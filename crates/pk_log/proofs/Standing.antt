@@ -53,6 +53,7 @@ opens held page epoch active frozen flash found is_shape is = record {
   pending_are = tt;
   pending_few = omega arith;
   pending_room = λ some. absurd (some refl);
+  pending_whole = λ some. absurd (some refl);
 }
 
 -- ---- changes elsewhere
@@ -75,7 +76,7 @@ module _ (log : LogState) (old new : Flash) (top : ℕ × Root) (found : Found) 
   newest_within P is = any_front P (root.newest ++ root.older) (concat root.runs) (any_front P root.newest root.older is)
 
   lists_same : found_under shape (page_at new) root ≡ found_under shape (page_at old) root
-  lists_same = found_same shape (page_at old) (page_at new) root
+  lists_same = found_same shape (page_at old) (page_at new) logs.is_shape root
       (λ j low. named_same root.newest newest_within j)
       (λ j low. named_same root.older (λ P is. any_front P (root.newest ++ root.older) (concat root.runs) (any_back P root.newest root.older is)) j)
       (agree_runs shape (page_at old) (page_at new) root.counts root.runs (λ blocks among. named_same blocks (λ P is. any_back P (root.newest ++ root.older) (concat root.runs) (any_in_concat P blocks root.runs among is))))
@@ -107,12 +108,13 @@ module _ (log : LogState) (old new : Flash) (top : ℕ × Root) (found : Found) 
     epoch_shape = logs.epoch_shape;
     epoch_number = logs.epoch_number;
     epoch_blocks = logs.epoch_blocks;
-    epoch_fits = EpochOnFlash-same log.epoch old new blocks_same logs.epoch_fits;
+    epoch_fits = EpochOnFlash-same log.epoch old new (subst (λ (s : Shape). IsShape s) (sym logs.epoch_shape) logs.is_shape) blocks_same logs.epoch_fits;
     active_is = logs.active_is;
     frozen_is = logs.frozen_is;
     pending_are = logs.pending_are;
     pending_few = logs.pending_few;
     pending_room = logs.pending_room;
+    pending_whole = logs.pending_whole;
   }
 
 pub logs_elsewhere : LogsElsewhere

@@ -1,5 +1,5 @@
 -- A freeze of a log in steps: when one may be made, and what it leaves.
-use Rattle.std.specs.Prelude.{◌≡◌, ℕ, ◌+◌, ◌<◌, ◌≤◌, List, [], ◌∷◌, length, Bool, true, ◌==◌, if◌then◌else◌, slice_get, Some, MatchBool}
+use Rattle.std.specs.Prelude.{◌≡◌, ℕ, ◌+◌, ◌<◌, ◌≤◌, List, [], ◌∷◌, length, Bool, true, false, ◌==◌, if◌then◌else◌, slice_get, Some, MatchBool}
 use Rattle.std.specs.List.{AllByRecursion}
 use Rattle.pk_base.specs.Page.{Flash, SameBehind}
 use Rattle.pk_base.specs.Map.{Map}
@@ -9,6 +9,7 @@ use Rattle.pk_plan.specs.declared.owner.Owner.TheVariants.{Journal}
 use Rattle.pk_nand.specs.BoardState.{BoardState}
 use Rattle.pk_rootfmt.specs.Root.{Root, differ, last_number}
 use Rattle.pk_root.specs.declared.next.Next.{Next}
+use Rattle.pk_root.specs.Installing.{repeats_next}
 use Rattle.pk_jrn.specs.Epochs.{started}
 use Rattle.pk_model.specs.Found.{Found}
 use Rattle.pk_model.specs.Growth.{Reaches, Goes}
@@ -16,21 +17,23 @@ use Rattle.pk_model.specs.Crashes.{CrashFinds, background}
 use Rattle.pk_model.specs.Laws.{AnyByRecursion}
 use Rattle.pk_model.specs.Wear.{root_number}
 use Rattle.pk_pool.specs.declared.state.BlockState.TheVariants.{Owned}
-use Rattle.pk_pool.specs.Blocks.{Blocks, used_by, given_back, PoolOnFlash}
+use Rattle.pk_pool.specs.Blocks.{Blocks, used_by, given_back, left_by, PoolOnFlash}
 use Rattle.pk_pool.specs.Unready.{unready}
 use Rattle.pk_steps.specs.Under.{IsUnder}
 use Rattle.pk_steps.specs.Roots.{frozen, frozen_root}
 use Rattle.pk_compact.specs.Freezing.{IsApart}
+use Rattle.pk_compact.specs.Installing.{IsHalf}
 use Rattle.pk_compact.specs.FreezeSteps.{IsTaken, SameBut, TakesOne, taken_by, freeze_left}
 use Rattle.pk_compact.specs.declared.freezing.FreezeJob.{FreezeJob}
 use Rattle.pk_compact.specs.declared.freezing.FreezeJob.TheVariants.{Idle}
 use Rattle.pk_log.specs.State.{LogState}
 use Rattle.pk_log.specs.Logs.{LogOnFlash}
 
--- Nothing is pending, and nothing frozen; the journal has no blocks but the root's two and those that the freeze has taken, and no spare block
+-- Nothing is pending, nothing frozen, and no pair of a root half made; the journal has no blocks but the root's two and those that the freeze has taken, and no spare block
 -- of the pool is read.
 pub record CanStep (log : LogState) (pool : Blocks) (job : FreezeJob) (flash : Flash) (top : ℕ × Root) (found : Found) (m : Map) : Type 0 where
   pub logs : LogOnFlash log flash top found
+  pub whole : repeats_next log.next ≡ false
   pub none_pending : log.pending ≡ []
   pub none_frozen : log.frozen.entries ≡ []
   pub under : IsUnder log.shape flash [] top found m
@@ -57,8 +60,9 @@ pub record LogGoesOn (log : LogState) (pool : Blocks) (job : FreezeJob) (old : B
 abbrev pub begun : LogState → Root → Next → List ℕ → LogState
 begun log root next blocks = record log { root = root; next = next; epoch = started log.shape root.epoch blocks; active = log.frozen; frozen = log.active }
 
--- The freeze was made on the flash, and the log stands on it: an empty epoch is the newest one, the buffers are exchanged, and the blocks of a
--- former epoch without entries are free.
+-- The freeze's root was programmed in the first page of its pair, and the log stands on the flash: an empty epoch is the newest one, the buffers
+-- are exchanged, and the blocks of a former epoch without entries leave. They may be given back after the second program: no spare block is read
+-- then.
 pub record LogFrozen (log : LogState) (pool : Blocks) (job : FreezeJob) (old : BoardState) (top : ℕ × Root) (found : Found) (m : Map) (log' : LogState) (pool' : Blocks) (job' : FreezeJob) (new : BoardState) : Type 0 where
   pub page : ℕ
   pub first : ℕ
@@ -66,12 +70,13 @@ pub record LogFrozen (log : LogState) (pool : Blocks) (job : FreezeJob) (old : B
   pub begun_is : log' ≡ begun log (frozen_root top.1 found first second) log'.next (first ∷ second ∷ [])
   pub logs : LogOnFlash log' new.pages (page, log'.root) (frozen found)
   pub under : IsUnder log.shape new.pages [] (page, log'.root) (frozen found) m
+  pub half : IsHalf log.shape log'.next new.pages m
   pub taken_are : taken_by job ≡ first ∷ second ∷ []
   pub idle : job' ≡ Idle
   pub pool_fits : PoolOnFlash pool' new.pages
-  pub pool_is : pool' ≡ given_back pool (if length found.newest == 0 then top.1.newest else [])
-  pub apart : IsApart log.shape pool' log'.root (frozen found)
-  pub lowers : Lowers (freeze_left job log.next) (unready pool.states) 0 (unready pool'.states)
+  pub pool_is : pool' ≡ left_by Journal pool (if length found.newest == 0 then top.1.newest else [])
+  pub apart : IsApart log.shape (given_back pool (if length found.newest == 0 then top.1.newest else [])) log'.root (frozen found)
+  pub lowers : Lowers (freeze_left job log.next) (unready pool.states) 1 (unready pool'.states)
   pub number : root_number log.shape new.pages ≡ root_number log.shape old.pages + 1
   pub behind : SameBehind log.shape old.pages new.pages
   pub cuts : Reaches log.shape old new (CrashFinds log.shape background old.pages m)

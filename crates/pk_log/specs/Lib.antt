@@ -3,4 +3,5 @@ pub mod Logs
 pub mod Commits
 pub mod FreezeSteps
 pub mod MergeSteps
+pub mod Finishing
 pub mod Laws

@@ -1,5 +1,5 @@
 -- How a log stands to a flash.
-use Rattle.std.specs.Prelude.{◌≡◌, ◌≢◌, ℕ, ◌<◌, ◌≤◌, [], ◌++◌, length, Some, Ok}
+use Rattle.std.specs.Prelude.{◌≡◌, ◌≢◌, ℕ, ◌<◌, ◌≤◌, [], ◌++◌, length, false, Some, Ok}
 use Rattle.std.specs.List.{AllByRecursion}
 use Rattle.pk_base.specs.Shape.{IsShape, page_entries}
 use Rattle.pk_base.specs.Page.{Flash, page_at}
@@ -30,8 +30,9 @@ pub record LogOnFlash (log : LogState) (flash : Flash) (top : ℕ × Root) (foun
   pub frozen_is : log.frozen ≡ buffer_of log.shape found.older
   pub pending_are : AllByRecursion (IsStorable log.shape) log.pending
   pub pending_few : length log.pending ≤ page_entries log.shape
-  -- the epoch has a page left for them
+  -- the epoch has a commit left for them, and none of its commits is half made
   pub pending_room : log.pending ≢ [] → 0 < left_of log.epoch
+  pub pending_whole : log.pending ≢ [] → log.epoch.half ≡ false
 
 -- the same of what was found at opening, where nothing is pending
 pub record Opens (held : Held) (page : ℕ) (epoch : JournalEpoch) (active frozen : Table) (flash : Flash) (found : Found) : Type 0 where

@@ -1,11 +1,11 @@
--- The install of a merge over a log, in two steps: the erase before its root, where one is next, and its program.
-use Rattle.std.specs.Prelude.{◌≡◌, ℕ, ◌+◌, ◌<◌, ◌≤◌, List, [], ◌==◌, if◌then◌else◌, false}
+-- The install of a merge over a log, in two steps: the erase before its root, where one is next, and its first program.
+use Rattle.std.specs.Prelude.{◌≡◌, ℕ, ◌+◌, ◌<◌, ◌≤◌, List, [], ◌==◌, if◌then◌else◌, true}
 use Rattle.pk_base.specs.Page.{Flash, SameBehind}
 use Rattle.pk_base.specs.Map.{Map}
 use Rattle.pk_base.specs.Merge.{room}
 use Rattle.pk_nand.specs.BoardState.{BoardState}
 use Rattle.pk_rootfmt.specs.Root.{Root, last_number}
-use Rattle.pk_root.specs.Installing.{erases_next}
+use Rattle.pk_root.specs.Installing.{programs_next}
 use Rattle.pk_buf.specs.Table.{Table}
 use Rattle.pk_model.specs.Found.{Found}
 use Rattle.pk_model.specs.Growth.{Reaches, Goes}
@@ -13,6 +13,7 @@ use Rattle.pk_model.specs.Crashes.{CrashFinds, background}
 use Rattle.pk_model.specs.Wear.{root_number}
 use Rattle.pk_steps.specs.Under.{IsUnder}
 use Rattle.pk_steps.specs.Merging.{IsMerged, merged_root, merged_found}
+use Rattle.pk_compact.specs.Installing.{IsHalf}
 use Rattle.pk_log.specs.State.{LogState}
 use Rattle.pk_log.specs.Logs.{LogOnFlash}
 
@@ -23,10 +24,10 @@ pub record MayPrepare (log : LogState) (flash : Flash) (top : ℕ × Root) (foun
   pub logs : LogOnFlash log flash top found
   pub under : IsUnder log.shape flash [] top found m
 
--- The log stands as before, but that the program of the next root is next; the map is the same, wherever the erase is cut.
+-- The log stands as before, but that the first program of the next root is next; the map is the same, wherever the erase is cut.
 pub record LogPrepared (log : LogState) (old : BoardState) (top : ℕ × Root) (found : Found) (m : Map) (log' : LogState) (new : BoardState) : Type 0 where
   pub same_log : log' ≡ record log { next = log'.next }
-  pub programs_next : erases_next log'.next ≡ false
+  pub programs : programs_next log'.next ≡ true
   pub logs : LogOnFlash log' new.pages top found
   pub under : IsUnder log.shape new.pages [] top found m
   pub behind : SameBehind log.shape old.pages new.pages
@@ -43,7 +44,7 @@ LogPrepareBreaks log old new =
     (top : ℕ × Root) (found : Found) (m : Map) → MayPrepare log old.pages top found m
     → Goes log.shape old new (CrashFinds log.shape background old.pages m)
 
--- ---- the program
+-- ---- the first program
 
 -- The log stands on the flash, and the output of the next merge, of so many entries, stands in these blocks.
 pub record MayMerge (log : LogState) (flash : Flash) (top : ℕ × Root) (found : Found) (m : Map) (level count : ℕ) (taken : List ℕ) : Type 0 where
@@ -61,13 +62,14 @@ KeepsActive log log' = log' ≡ record log { root = log'.root; next = log'.next;
 abbrev pub frozen_after : ℕ → Table → Table
 frozen_after level frozen = if level == 1 then record frozen { entries = [] } else frozen
 
--- The log stands under the root of the merge, which is the newest one; of the log only this, what its installer does next, and the frozen buffer differ.
+-- The log stands under the root of the merge, which is the newest one, with its pair half made; of the log only this, what its installer does next, and the frozen buffer differ.
 -- The map is the same, wherever the program is cut.
 pub record LogMerged (log : LogState) (old : BoardState) (top : ℕ × Root) (found : Found) (m : Map) (level count : ℕ) (taken : List ℕ) (log' : LogState) (new : BoardState) : Type 0 where
   pub page : ℕ
   pub merged_is : log' ≡ record log { root = merged_root top.1 level count taken; next = log'.next; frozen = frozen_after level log.frozen }
   pub logs : LogOnFlash log' new.pages (page, log'.root) (merged_found level found)
   pub under : IsUnder log.shape new.pages [] (page, log'.root) (merged_found level found) m
+  pub half : IsHalf log.shape log'.next new.pages m
   pub number : root_number log.shape new.pages ≡ root_number log.shape old.pages + 1
   pub behind : SameBehind log.shape old.pages new.pages
   pub cuts : Reaches log.shape old new (CrashFinds log.shape background old.pages m)

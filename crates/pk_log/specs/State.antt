@@ -23,7 +23,7 @@ pub record LogState : Type 0 where
   pub frozen : Table
   pub pending : List Entry
 
--- behind a root that was found in this page, nothing is pending
+-- after a root that was found in this page, nothing is pending
 abbrev pub opened : Held → ℕ → JournalEpoch → Table → Table → LogState
 opened held page epoch active frozen = record { shape = held.shape; root = held.root; next = Erase page; epoch = epoch; active = active; frozen = frozen; pending = [] }
 
@@ -36,7 +36,7 @@ abbrev pub is_full_for : Table → Key → Bool
 is_full_for table key = (length table.entries == table.capacity) && not (is_some (find key_cmp key table.entries))
 
 -- A further entry of this key wants a freeze before it: the active buffer is full for it, or the entry would be the first one
--- pending and the epoch takes no more pages.
+-- pending and the epoch takes no more commits.
 abbrev pub needs_freeze : LogState → Key → Bool
 needs_freeze log key = is_full_for log.active key || ((length log.pending == 0) && (left_of log.epoch == 0))
 
@@ -44,6 +44,6 @@ needs_freeze log key = is_full_for log.active key || ((length log.pending == 0) 
 abbrev pub pushed : LogState → Entry → LogState
 pushed log e = record log { active = record log.active { entries = put key_cmp (key_of e) e.1 log.active.entries }; pending = log.pending ++ e ∷ [] }
 
--- with all pending entries in the next page of the epoch
+-- with all pending entries in the next commit of the epoch
 abbrev pub all_committed : LogState → LogState
 all_committed log = record log { epoch = record log.epoch { used = log.epoch.used + 1 }; pending = [] }

@@ -8,18 +8,18 @@ ghost use Rattle.pk_compact.specs.Steps.{StepByCall};
 ghost use Rattle.pk_log.specs.FreezeSteps.{CanStep, LogSteps, LogStepBreaks};
 
 use crate::log::Log;
-use pk_compact::{FreezeJob, freeze_step, give_back};
+use pk_compact::{FreezeJob, freeze_step, retire_epoch};
 use pk_jrn::Epoch;
 use pk_nand::{Fault, Nand};
 use pk_pool::Pool;
 use pk_region::Region;
 
 impl<A: Region> Log<A> {
-    /// One step of a freeze, by at most one call of the board: a block of the empty epoch, the other one, the erase before the
-    /// root, its program. True exactly where this call programmed it: the empty epoch is the newest one then, the buffers are
-    /// exchanged, and the blocks of a former epoch without entries are given back. Until then log and lists are as they were.
-    /// Nothing may be pending, and nothing frozen. `Stopped` where the call fails; log, pool and freeze are not to be used any
-    /// more then. `buf` has the bytes of a page, which are lost.
+    /// One step of a freeze up to the first program of its root, by at most one call of the board: a block of the empty epoch, the
+    /// other one, the erase before the root, its first program. True exactly if this call made that program: the empty epoch is the
+    /// newest one then, the buffers are exchanged, the blocks of a former epoch without entries leave, and the second program is next.
+    /// Until then log and lists are as they were. Nothing may be pending, nothing frozen, and no pair half made. `Stopped` if the call
+    /// fails; log, pool and freeze are not to be used any more then. `buf` has the bytes of a page, which are lost.
     pub fn freeze_step<B: Nand>(
         &mut self,
         board: &mut B,
@@ -57,7 +57,7 @@ impl<A: Region> Log<A> {
             buf,
         ) {
             Ok(true) => {
-                give_back(pool, former, has_entries);
+                retire_epoch(pool, former, has_entries);
                 let shape = *self.root.shape();
                 let blocks = self.root.newest();
                 self.epoch = Epoch::start(shape, self.root.epoch(), blocks);

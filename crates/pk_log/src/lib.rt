@@ -3,6 +3,7 @@
 //! with them. A freeze makes the newest epoch the older one and leaves the map, wherever it is cut. Look-ups call no board.
 #![tactic(auto)]
 
+mod finish;
 mod freeze;
 mod laws;
 mod log;

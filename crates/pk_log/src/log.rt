@@ -122,14 +122,14 @@ impl<A: Region> Log<A> {
         &self.root
     }
 
-    /// How many pages of the newest epoch are written.
+    /// How many commits the newest epoch has.
     pub fn epoch_used(&self) -> u32
         ensures { result ≡ self.now.epoch.used }
     {
         self.epoch.used()
     }
 
-    /// How many more pages the newest epoch takes.
+    /// How many more commits the newest epoch takes.
     pub fn left(&self) -> u32
         ensures { result ≡ left_of self.now.epoch }
     {
@@ -172,17 +172,18 @@ impl<A: Region> Log<A> {
     }
 
     /// Whether a freeze must come before a further entry of the key: the active buffer is full for it, or nothing is pending
-    /// and the epoch takes no more pages.
+    /// and the epoch takes no more commits.
     pub fn needs_freeze(&self, key: &Key) -> bool
         ensures { result ≡ needs_freeze_for self.now key.now }
     {
         is_full_for(&self.active, key) || (self.pending.is_empty() && self.epoch.left() == 0)
     }
 
-    /// Adds an entry behind the pending ones, and puts it into the active buffer.
+    /// Adds an entry after the pending ones, and puts it into the active buffer. No commit of the epoch may be half made.
     pub fn push(&mut self, new: Entry)
         requires room { needs_freeze_for self.old (key_of (seen new)) ≡ false }
         requires few { length self.old.pending < page_entries self.old.shape }
+        requires whole { self.old.epoch.half ≡ false }
         requires storable { IsStorable self.old.shape (seen new) }
         ensures pushed { self.new ≡ pushed self.old (seen new) }
         ensures stands { (flash : Flash) (top : ℕ × RootValue) (found : Found)
@@ -198,16 +199,16 @@ impl<A: Region> Log<A> {
         let _ = self.active.len();
     }
 
-    /// Adds the pending entries to the newest epoch by the program of its next page; does nothing where none is pending.
-    /// Wherever it is cut, the flash holds the map without them or with them, and nothing went out. `Stopped` where the program
-    /// fails; the log is as before then. `buf` has the bytes of a page, which are lost.
+    /// Adds the pending entries to the newest epoch by the two programs of its next commit; does nothing if none is pending.
+    /// Wherever it is cut, the flash holds the map without them or with them, and nothing went out. `Stopped` if one of the
+    /// programs fails; the log is as before then. `buf` has the bytes of a page, which are lost.
     pub fn commit<B: Nand>(&mut self, board: &mut B, buf: &mut [u8]) -> Result<(), Fault>
         requires ready { IsReady (B.state board.old) self.old.shape }
         requires stands { (top : ℕ × RootValue) × (found : Found)
             × LogOnFlash self.old (B.state board.old).pages top found }
         requires room { length buf.old ≡ self.old.shape.page_bytes }
 
-        // One program where entries are pending, and none are behind it.
+        // Two programs if entries are pending, and none are pending after it.
         ensures ok { OnOk result
             (CommitsNone self.old (B.state board.old) self.new (B.state board.new)
             ⊎ CommitsAll self.old (B.state board.old) self.new (B.state board.new)) }
@@ -218,7 +219,7 @@ impl<A: Region> Log<A> {
         ensures cuts { OnOk result (CommitReaches self.old (B.state board.old)
             (B.state board.new)) }
 
-        // Or the program failed, and the log stays.
+        // Or one of them failed, and the log stays.
         ensures stopped { IfErr result (λ e. e ≡ Stopped) }
         ensures err { OnErr result (CommitFailed self.old (B.state board.old) (B.state board.new)) }
         ensures cuts_err { OnErr result (CommitGoes self.old (B.state board.old)

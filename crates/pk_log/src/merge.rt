@@ -3,7 +3,7 @@ ghost use Rattle.std.specs.Prelude.{◌≡◌, ℕ, length, true, false};
 ghost use Rattle.pk_base.specs.Map.{Map};
 ghost use Rattle.pk_nand.specs.Calls.{IsReady};
 ghost use Rattle.pk_rootfmt.specs.Root.{Root as RootValue};
-ghost use Rattle.pk_root.specs.Installing.{erases_next};
+ghost use Rattle.pk_root.specs.Installing.{erases_next, programs_next};
 ghost use Rattle.pk_model.specs.Found.{Found};
 ghost use Rattle.pk_compact.specs.Steps.{StepByCall};
 ghost use Rattle.pk_log.specs.MergeSteps.{MayPrepare, LogPrepares, LogPrepareBreaks, MayMerge, LogMerges, LogMergeBreaks, KeepsActive, frozen_after};
@@ -52,10 +52,10 @@ impl<A: Region> Log<A> {
         prepare_root(board, self.root.shape(), &mut self.installer)
     }
 
-    /// Installs the root behind a merge into this level, whose output, of so many entries, stands in these blocks: its program is
-    /// the one call of the board, and no erase comes before it. A merge into level 1 empties the frozen buffer. The map is the
-    /// same, wherever it is cut. `Stopped` where it fails; the log is not to be used any more then. `buf` has the bytes of a page,
-    /// which are lost.
+    /// Installs the root after a merge into this level, whose output, of `count` entries, stands in these blocks: its first program is
+    /// the one call of the board, and its second one is next. A merge into level 1 empties the frozen buffer. The map is the same,
+    /// wherever it is cut. `Stopped` if it fails; the log is not to be used any more then. `buf` has the bytes of a page, which are
+    /// lost.
     pub fn install_merge<B: Nand>(
         &mut self,
         board: &mut B,
@@ -64,9 +64,9 @@ impl<A: Region> Log<A> {
         taken: &[u16],
         buf: &mut [u8],
     ) -> Result<(), Fault>
-        // The board, an output that stands, a program that is next, and a page's bytes.
+        // The board, an output that stands, a first program that is next, and a page's bytes.
         requires ready { IsReady (B.state board.old) self.old.shape }
-        requires programs { erases_next self.old.next ≡ false }
+        requires programs { programs_next self.old.next ≡ true }
         requires may { (top : ℕ × RootValue) × (found : Found) × (m : Map)
             × MayMerge self.old (B.state board.old).pages top found m level count taken.now }
         requires room { length buf.old ≡ self.old.shape.page_bytes }

@@ -1,11 +1,13 @@
 -- Wherever a step is cut, no page differs that another may read; and after a read that failed the merge runs as before.
-use Rattle.std.proofs.Common.{◌≡◌, ◌≢◌, inl, inr, ◌+◌, ◌*◌, ◌/◌, ◌<◌, ◌≤◌, ℕ, refl, sym, ap, subst, arith, Bool, List, [], ◌∷◌, length}
+use Rattle.std.proofs.Common.{◌≡◌, ◌≢◌, inl, inr, ◌+◌, ◌-◌, ◌*◌, ◌/◌, ◌%◌, ◌<◌, ◌≤◌, ℕ, refl, sym, ap, subst, ◌∙◌, arith, Bool, List, [], ◌∷◌, length}
 use Rattle.std.specs.Prelude.{slice_index}
 use Rattle.pk_base.specs.Shape.{Shape, IsShape}
 use Rattle.pk_base.specs.Entry.{Entry}
 use Rattle.pk_base.specs.Page.{Flash}
 use Rattle.pk_nand.specs.BoardState.{BoardState}
-use Rattle.pk_nand.specs.Crash.{SameOutside, Reached, Went}
+use Rattle.std.proofs.lemmas.Nat.{mod-mul-add}
+use Rattle.pk_nand.specs.Crash.{Reached, Went}
+use Rattle.pk_nand.specs.Pairs.{first_of_pair, SameOutsidePair}
 use Rattle.pk_nand.specs.declared.types.Fault.TheVariants.{Stopped}
 use Rattle.pk_pin.specs.Frames.{Frames}
 use Rattle.pk_pool.specs.Blocks.{Blocks}
@@ -36,21 +38,34 @@ look_is_in (Run r) b = look_is r.now.leases b
 looked : (a b c : BoardState) → c ≡ b → IsLook a b → IsLook a c
 looked a b c e l = subst (IsLook a) (sym e) l
 
--- one page of a block is within it
-widened : (shape : Shape) (b p : ℕ) (old new : Flash) → b * shape.block_pages ≤ p → p < b * shape.block_pages + shape.block_pages → SameOutside p 1 old new → SameButBlock shape b old new
-widened shape b p old new low high s = record {
-  size = s.size;
-  below = λ k h. s.below k (omega (arith, h, low));
-  above = λ k h. s.above k (omega (arith, h, high));
-}
+-- the pair of a page of a block is within it
+pair_within : (shape : Shape) (b p : ℕ) → IsShape shape → b * shape.block_pages ≤ p → p < b * shape.block_pages + shape.block_pages
+    → (b * shape.block_pages ≤ first_of_pair shape p) × (first_of_pair shape p + 2 ≤ b * shape.block_pages + shape.block_pages)
+pair_within shape b p is low high =
+    let n : ℕ = shape.block_pages in
+    let eights : n % 8 ≡ 0 = is.eights in
+    let d : ℕ = p - b * n in
+    let e : b * n + d ≡ p = omega (arith, low) in
+    let less : d < n = omega (arith, low, high) in
+    let rest : p % n ≡ d = ap (λ (k : ℕ). k % n) (sym e) ∙ mod-mul-add b n d less in
+    (omega (arith, rest, low), omega (arith, rest, low, less, eights))
 
-reached_wider : (shape : Shape) (b p : ℕ) (old new : BoardState) → b * shape.block_pages ≤ p → p < b * shape.block_pages + shape.block_pages → Reached old new (λ flash _. SameOutside p 1 old.pages flash) → ReachesIn shape b old new
-reached_wider shape b p old new low high (marks, r) =
-    (marks, record { trail = r.trail; posted = r.posted; same_shape = r.same_shape; cuts = λ f q cut. widened shape b p old.pages f low high (r.cuts f q cut); stands = r.stands })
+widened : (shape : Shape) (b p : ℕ) (old new : Flash) → IsShape shape → b * shape.block_pages ≤ p → p < b * shape.block_pages + shape.block_pages → SameOutsidePair shape p old new → SameButBlock shape b old new
+widened shape b p old new is low high s =
+    let ends = pair_within shape b p is low high in
+    record {
+      size = s.size;
+      below = λ k h. s.below k (omega (arith, h, ends.0));
+      above = λ k h. s.above k (omega (arith, h, ends.1));
+    }
 
-went_wider : (shape : Shape) (b p : ℕ) (old new : BoardState) → b * shape.block_pages ≤ p → p < b * shape.block_pages + shape.block_pages → Went old new (λ flash _. SameOutside p 1 old.pages flash) → WentIn shape b old new
-went_wider shape b p old new low high (marks, r) =
-    (marks, record { trail = r.trail; posted = r.posted; same_shape = r.same_shape; cuts = λ f q cut. widened shape b p old.pages f low high (r.cuts f q cut); stands = r.stands })
+reached_wider : (shape : Shape) (b p : ℕ) (old new : BoardState) → IsShape shape → b * shape.block_pages ≤ p → p < b * shape.block_pages + shape.block_pages → Reached old new (λ flash _. SameOutsidePair shape p old.pages flash) → ReachesIn shape b old new
+reached_wider shape b p old new is low high (marks, r) =
+    (marks, record { trail = r.trail; posted = r.posted; same_shape = r.same_shape; cuts = λ f q cut. widened shape b p old.pages f is low high (r.cuts f q cut); stands = r.stands })
+
+went_wider : (shape : Shape) (b p : ℕ) (old new : BoardState) → IsShape shape → b * shape.block_pages ≤ p → p < b * shape.block_pages + shape.block_pages → Went old new (λ flash _. SameOutsidePair shape p old.pages flash) → WentIn shape b old new
+went_wider shape b p old new is low high (marks, r) =
+    (marks, record { trail = r.trail; posted = r.posted; same_shape = r.same_shape; cuts = λ f q cut. widened shape b p old.pages f is low high (r.cuts f q cut); stands = r.stands })
 
 module _ {X : Type 0} (source : Source X) (target : Kept) (pins : Bool) (out : Kept) (m : Merger) (pool : Blocks) (old : BoardState) (before : Frames) (es fs : List Entry) (is : IsShape out.shape)
     (r : Running source target pins out m pool old.pages before es fs) where
@@ -79,12 +94,12 @@ module _ {X : Type 0} (source : Source X) (target : Kept) (pins : Bool) (out : K
   acts_reach End out' m' pool' new after t (e, o, p, q, a) = inl (inl e)
   acts_reach TakeBlock out' m' pool' new after t (k, e, a, fits) = inr (k.block, inl k.spare, subst (λ (s : Shape). ReachesIn s k.block old new) r.shapes.of_pool k.cuts)
   acts_reach Program out' m' pool' new after t (k, e, p) =
-      inr (b, inr (length out.firsts / n, block_there out.shape some out.blocks (length out.firsts) (place t.1)), reached_wider out.shape b (page_of out (length out.firsts)) old new low high k.cuts)
+      inr (b, inr (length out.firsts / n, block_there out.shape some out.blocks (length out.firsts) (place t.1)), reached_wider out.shape b (page_of out (length out.firsts)) old new is low high k.cuts)
 
   pub stops_in : (m' : Merger) (new : BoardState) → Fails source target out m pool old Stopped m' new → StepWent pool out old new
   stops_in m' new (inl erase) = (erase.block, inl (inl erase.lowest.here), subst (λ (s : Shape). WentIn s erase.block old new) r.shapes.of_pool erase.cuts)
   stops_in m' new (inr program) =
-      (b, inr (length out.firsts / n, block_there out.shape some out.blocks (length out.firsts) program.place), went_wider out.shape b (page_of out (length out.firsts)) old new low high program.cuts)
+      (b, inr (length out.firsts / n, block_there out.shape some out.blocks (length out.firsts) program.place), went_wider out.shape b (page_of out (length out.firsts)) old new is low high program.cuts)
 
   -- after a read that failed the merge runs as before
   pub reads_again : (m' : Merger) (new : BoardState) → FailsToRead source target m old m' new → Running source target pins out m' pool new.pages before es fs

@@ -10,7 +10,8 @@ use Rattle.pk_base.specs.Page.{Flash, page_at, erased}
 use Rattle.pk_meta.specs.Page.{IsContent, meta_bytes}
 use Rattle.pk_nand.specs.BoardState.{BoardState}
 use Rattle.pk_nand.specs.Calls.{IsErasedBlock, ProgramFailed, after_program}
-use Rattle.pk_nand.specs.Crash.{Reached, Went, SameOutside}
+use Rattle.pk_nand.specs.Crash.{Reached, Went}
+use Rattle.pk_nand.specs.Pairs.{SameOutsidePair}
 use Rattle.pk_pin.specs.Frames.{Frames, free_frames, KeepsPage}
 use Rattle.pk_plan.specs.declared.owner.Owner.TheVariants.{Meta}
 use Rattle.pk_plan.specs.Quotas.{quota_of}
@@ -65,9 +66,9 @@ next_bytes r more = meta_bytes r.shape r.level (length r.firsts) more
 abbrev pub OthersStand : Kept → Flash → Frames → Flash → Frames → Type 0
 OthersStand r old before new after = (other : Kept) (es : List Entry) → AreApart other.blocks r.blocks → other.shape ≡ r.shape → RunOnFlash other old before es → RunOnFlash other new after es
 
--- wherever the program of its next page is cut, no other page differs
+-- wherever the program of its next page is cut, no page outside the pair of that page differs
 abbrev pub SameButNext : Kept → Flash → Flash → Type 0
-SameButNext r old new = SameOutside (page_of r (length r.firsts)) 1 old new
+SameButNext r old new = SameOutsidePair r.shape (page_of r (length r.firsts)) old new
 
 -- The next page may be programmed with these entries, and kept in a frame where one is wanted.
 pub record MayProgram (pins : Bool) (r : Kept) (more : List Entry) (flash : Flash)

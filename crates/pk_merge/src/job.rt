@@ -9,7 +9,8 @@ ghost use Rattle.pk_nand.specs.Calls.{IsReady, Rose};
 ghost use Rattle.pk_nand.specs.Effects.{AtMostOneCall, NoFault, OnlyFlash, OnlyReading, Stops};
 ghost use Rattle.pk_nand.specs.declared.types.Fault.TheVariants.{Reading, Stopped};
 ghost use Rattle.pk_pin.specs.Frames.{Frames, AreLeases};
-ghost use Rattle.pk_pool.specs.Blocks.{Blocks, given_back, PoolOnFlash};
+ghost use Rattle.pk_plan.specs.declared.owner.Owner.{Owner};
+ghost use Rattle.pk_pool.specs.Blocks.{Blocks, given_back, freed, used_by, PoolOnFlash};
 ghost use Rattle.pk_pool.specs.Unready.{unready};
 ghost use Rattle.pk_run.specs.Kept.{Kept, empty, most_pages, most_blocks};
 ghost use Rattle.pk_merge.specs.declared.source.Source.{Source as SourceSpec};
@@ -252,19 +253,21 @@ impl<A: Region> MergeJob<A> {
         }
     }
 
-    /// Gives blocks and frames of the former run of a level back, and keeps it for a later merge.
-    pub fn give_back(&mut self, pool: &mut Pool<A>, arena: &mut PinArena<A>, former: Run<A>)
-        requires blocks { AreOwned pool.old former.blocks }
+    /// Makes the blocks of the former run of a level leave, gives its frames back, and keeps it for a later merge.
+    pub fn leave(&mut self, pool: &mut Pool<A>, arena: &mut PinArena<A>, former: Run<A>)
+        requires blocks { AreOwned (freed pool.old) former.blocks }
         requires frames { AreLeased arena.old former.leases }
 
         // The run is a spare one.
         ensures kept { self.new ≡ given_to self.old former }
 
-        // Its blocks are free.
-        ensures pool { pool.new ≡ given_back pool.old former.blocks }
-        ensures blocks { LeavesBlocks former.blocks pool.old pool.new }
-        ensures unready { unready pool.new.states ≡ unready pool.old.states }
-        ensures fits { (flash : Flash) → PoolOnFlash pool.old flash → PoolOnFlash pool.new flash }
+        // Its blocks leave: once those are freed that do, they are free.
+        ensures pool { freed pool.new ≡ given_back (freed pool.old) former.blocks }
+        ensures blocks { LeavesBlocks former.blocks (freed pool.old) (freed pool.new) }
+        ensures counted { (o : Owner) → used_by o pool.new.states ≡ used_by o pool.old.states }
+        ensures unready { unready (freed pool.new).states ≡ unready (freed pool.old).states }
+        ensures fits { (flash : Flash) → PoolOnFlash (freed pool.old) flash
+            → PoolOnFlash (freed pool.new) flash }
 
         // Its frames are free.
         ensures arena { arena.new ≡ given_all arena.old former.leases }
@@ -274,7 +277,7 @@ impl<A: Region> MergeJob<A> {
             → AreLeases arena.new (before ++ behind) }
     {
         former.known();
-        free_blocks(pool, former.blocks());
+        leave_blocks(pool, former.blocks());
         let spare = without_frames(arena, former);
         self.spares.put(spare.level(), spare);
     }
@@ -287,15 +290,17 @@ impl<A: Region> MergeJob<A> {
     }
 }
 
-// Gives blocks back, which are owned.
-fn free_blocks<A: Allocator>(pool: &mut Pool<A>, blocks: &[u16])
-    requires { AreOwned pool.old blocks.now }
-    ensures freed { pool.new ≡ given_back pool.old blocks.now }
-    ensures unready { unready pool.new.states ≡ unready pool.old.states }
-    ensures fits { (flash : Flash) → PoolOnFlash pool.old flash → PoolOnFlash pool.new flash }
+// Makes blocks leave, which are owned.
+fn leave_blocks<A: Allocator>(pool: &mut Pool<A>, blocks: &[u16])
+    requires { AreOwned (freed pool.old) blocks.now }
+    ensures left { freed pool.new ≡ given_back (freed pool.old) blocks.now }
+    ensures counted { (o : Owner) → used_by o pool.new.states ≡ used_by o pool.old.states }
+    ensures unready { unready (freed pool.new).states ≡ unready (freed pool.old).states }
+    ensures fits { (flash : Flash) → PoolOnFlash (freed pool.old) flash
+        → PoolOnFlash (freed pool.new) flash }
 {
     for block in blocks {
-        pool.give(*block as u32);
+        pool.leave(*block as u32);
     }
 }
 

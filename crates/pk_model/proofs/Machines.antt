@@ -138,7 +138,7 @@ unfolding charge
 length-pages shape [] = omega arith
 length-pages shape (e ∷ es) =
     let rest = length-pages shape es in
-    let first = ceil_some (32 + length e.1) shape.page_bytes (omega arith) in
+    let first = ceil_some (32 + length e.1) (2 * shape.page_bytes) (omega arith) in
     omega (arith, rest, first)
 
 -- a value has a page

@@ -65,7 +65,7 @@ impl Model for MapMachine {
 fn pages(shape: &Shape, value: &[u8]) -> u64
     ensures { result ≡ pages_of shape.now value.now }
 {
-    (HEAD_BYTES as u64 + value.len() as u64).div_ceil(shape.page_bytes() as u64)
+    2 * (HEAD_BYTES as u64 + value.len() as u64).div_ceil(2 * shape.page_bytes() as u64)
 }
 
 /// The numbers of a Report that are not 0: the live pages, their limit and the keys.

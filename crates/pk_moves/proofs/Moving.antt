@@ -1,15 +1,16 @@
 -- The entries that name copies leave the map.
-use Rattle.std.proofs.Common.{◌≡◌, inl, inr, ℕ, zero, suc, ◌+◌, ◌-◌, ◌*◌, ◌/◌, ◌<◌, ◌≤◌, refl, sym, ap, subst, ◌∙◌, arith, Bool, true, not, T, List, [], ◌∷◌, ◌++◌, length, drop, nat_le, nat_eq, ◌==◌, Some, Ok, le→leb, le_trans, append_assoc, append-nil, add-zero}
+use Rattle.std.proofs.Common.{◌≡◌, inl, inr, ℕ, zero, suc, ◌+◌, ◌-◌, ◌*◌, ◌/◌, ◌%◌, ◌<◌, ◌≤◌, mod-lt, div-add-mod', refl, sym, ap, subst, ◌∙◌, arith, Bool, true, not, T, List, [], ◌∷◌, ◌++◌, length, drop, nat_le, nat_eq, ◌==◌, Some, Ok, le→leb, le_trans, append_assoc, append-nil, add-zero}
 use Rattle.std.specs.List.{list_any, list_all, starts_with, AllByRecursion}
 use Rattle.std.specs.FinMap.Entries.{put, find, is_sorted}
-use Rattle.std.proofs.Math.Nat.{le-div_iff_mul-le}
+use Rattle.std.proofs.lemmas.Nat.{div-mul-add}
 use Rattle.pk_base.specs.Key.{Key, key_cmp}
 use Rattle.pk_base.specs.Shape.{Shape, IsShape, charge, buffer}
 use Rattle.pk_base.specs.Page.{Page, Flash, page_at, erased, whole, torn}
 use Rattle.pk_base.specs.Entry.{Entry, Place}
 use Rattle.pk_base.specs.Refusal.{ensure}
 use Rattle.pk_base.specs.Firsts.{firsts}
-use Rattle.pk_base.proofs.ShapeLemmas.{block_pages_positive}
+use Rattle.pk_nand.specs.Pairs.{first_of_pair}
+use Rattle.pk_nand.proofs.Pairing.{outside_pair}
 use Rattle.pk_segfmt.specs.Value.{head_bytes, value_page, value_from, value_at}
 use Rattle.pk_rootfmt.specs.Root.{Root, named}
 use Rattle.pk_model.specs.Found.{Found, entries_in_order}
@@ -23,10 +24,10 @@ use Rattle.pk_model.proofs.Stores.{placed-put, reads-put, entries_in_order-push}
 use Rattle.pk_model.proofs.Merges.{placed_sorted}
 use Rattle.pk_model.proofs.HeldMap.{nothing_fits}
 use Rattle.pk_steps.specs.Under.{IsNamed, counting, places}
-use Rattle.pk_steps.proofs.Untouched.{values_under, programs}
+use Rattle.pk_steps.proofs.Untouched.{values_under, erases}
 use Rattle.pk_steps.proofs.Places.{In, in_value, value_in, not_of, any_in_back, all_of, few_blocks}
-use Rattle.pk_steps.proofs.Committing.{commits, commit_done}
-use Rattle.pk_moves.specs.Moves.{entries_of, moved, AreCopies, CanMove, Moves, PlacesMove, MovesCommit, MovesCommitted, Copies}
+use Rattle.pk_steps.proofs.Committing.{commits, commits_pair, commit_done}
+use Rattle.pk_moves.specs.Moves.{entries_of, moved, AreCopies, CanMove, Moves, PlacesMove, MovesCommit, MovesPair, MovesCommitted, Copies}
 use Rattle.pk_steps.proofs.Counting.{sorted_read}
 use Rattle.pk_moves.proofs.Moved.{put_same, page_moved, differ_moved, HaveLength, length_moved}
 
@@ -146,21 +147,30 @@ pub moves_commit : MovesCommit
 moves_commit shape flash cut top found m moves blocks index bytes posted is_shape under can commit cut_off =
     commits shape flash cut top found (entries_of moves) m m index bytes posted is_shape under (moves_stay shape flash [] top found m moves blocks under can) commit cut_off
 
+pub moves_pair : MovesPair
+moves_pair shape flash cut top found m moves blocks index bytes is_shape under can commit is_cut =
+    commits_pair shape flash cut top found (entries_of moves) m m index bytes is_shape under (moves_stay shape flash [] top found m moves blocks under can) commit is_cut
+
 pub moves_committed : MovesCommitted
-moves_committed shape flash top found m moves blocks index bytes is_shape under can commit =
-    commit_done shape flash top found (entries_of moves) m m index bytes is_shape under (moves_stay shape flash [] top found m moves blocks under can) commit
+moves_committed shape flash now top found m moves blocks index bytes is_shape under can commit is_cut here =
+    commit_done shape flash now top found (entries_of moves) m m index bytes is_shape under (moves_stay shape flash [] top found m moves blocks under can) commit is_cut here
 
 -- ---- a page that is copied
 
-pub copies : Copies
-copies shape flash cut extra top found m at is_shape under behind unnamed was_erased outside =
-    programs shape flash cut extra top found m at 1 is_shape under (behind_roots shape is_shape at behind)
-    (λ k low high. subst (λ x. page_at flash x ≡ erased) (one at k low high) was_erased)
-    (λ k low high is. unnamed (subst (λ x. IsNamed shape top.1 x) (sym (one at k low high)) is))
-    outside
-  where
-    one : (a k : ℕ) → a ≤ k → k < a + 1 → a ≡ k
-    one a k low high = omega (arith, low, high)
+-- the pair of a page lies in its block
+pair_in_block : (shape : Shape) (at k : ℕ) → IsShape shape → first_of_pair shape at ≤ k → k < first_of_pair shape at + 2 → k / shape.block_pages ≡ at / shape.block_pages
+pair_in_block shape at k is low high =
+    let n : ℕ = shape.block_pages in
+    let least : 8 ≤ n = is.block_least in
+    let eights : n % 8 ≡ 0 = is.eights in
+    let less : at % n < n = mod-lt at (omega (arith, least)) in
+    let whole : at / n * n + at % n ≡ at = div-add-mod' at n in
+    let d : ℕ = k - at / n * n in
+    let e : at / n * n + d ≡ k = omega (arith, low, whole) in
+    let small : d < n = omega (arith, low, high, whole, less, eights) in
+    ap (λ (q : ℕ). q / n) (sym e) ∙ div-mul-add (at / n) n d small
 
-    behind_roots : (shape : Shape) → IsShape shape → (k : ℕ) → 2 ≤ k / shape.block_pages → 2 * shape.block_pages ≤ k
-    behind_roots shape is_shape k low = (le-div_iff_mul-le (block_pages_positive shape is_shape)).0 low
+pub copies : Copies
+copies shape flash cut extra top found m at is_shape under behind unnamed no_value outside =
+    erases shape flash cut extra top found m (at / shape.block_pages) is_shape under behind unnamed no_value
+    (λ k other. outside_pair (first_of_pair shape at) flash cut outside k (λ low high. other (pair_in_block shape at k is_shape low high)))

@@ -4,13 +4,12 @@ use Rattle.std.specs.List.{AllByRecursion}
 use Rattle.std.specs.FinMap.Entries.{put, find}
 use Rattle.pk_base.specs.Key.{Key, key_cmp}
 use Rattle.pk_base.specs.Shape.{Shape, IsShape, charge, buffer, data_blocks}
-use Rattle.pk_base.specs.Page.{Flash, page_at, erased, commit_page}
+use Rattle.pk_base.specs.Page.{Flash, page_at, whole, commit_page}
 use Rattle.pk_base.specs.Entry.{Entry, Place, put_entry}
 use Rattle.pk_base.specs.Firsts.{firsts}
 use Rattle.pk_base.specs.Map.{Map}
-use Rattle.pk_base.specs.Mark.{program, after}
 use Rattle.pk_nand.specs.Cut.{Cut}
-use Rattle.pk_nand.specs.Crash.{SameOutside}
+use Rattle.pk_nand.specs.Pairs.{marks_of_pair, IsPairCut, SameOutsidePair}
 use Rattle.pk_rootfmt.specs.Root.{Root}
 use Rattle.pk_model.specs.Found.{Found}
 use Rattle.pk_model.specs.Laws.{AnyByRecursion, IsPageOf, IsCommit}
@@ -71,26 +70,36 @@ PlacesMove = (found : Found) (extra : List Entry) (moves : List (Key × Place)) 
 abbrev pub PlacesStay : Type 0
 PlacesStay = (found : Found) (es : List Entry) → places (committed found es) [] ≡ places found es
 
--- One journal page commits all of them: at every cut the flash holds the same map, with none of the entries or with all of them.
+-- One commit takes all of them: wherever its two programs are cut the flash holds the same map, with none of the entries or with all of them.
 abbrev pub MovesCommit : Type 0
 MovesCommit =
     (shape : Shape) (flash cut : Flash) (top : ℕ × Root) (found : Found) (m : Map) (moves : List (Key × Place)) (blocks : List ℕ) (index : ℕ) (bytes posted : List ℕ) → IsShape shape
     → IsUnder shape flash [] top found m → CanMove shape flash [] top.1 found moves blocks → IsCommit shape flash top.1 (entries_of moves) index bytes
-    → Cut shape flash (program (commit_page shape top.1.newest index) bytes ∷ []) cut posted
+    → Cut shape flash (marks_of_pair (commit_page shape top.1.newest index) bytes) cut posted
     → IsUnder shape cut [] top found m ⊎ IsUnder shape cut [] top (committed found (entries_of moves)) m
 
--- and behind it with all of them
+-- the same of each of the programs by itself: the flash before the first one counts
+abbrev pub MovesPair : Type 0
+MovesPair =
+    (shape : Shape) (flash cut : Flash) (top : ℕ × Root) (found : Found) (m : Map) (moves : List (Key × Place)) (blocks : List ℕ) (index : ℕ) (bytes : List ℕ) → IsShape shape
+    → IsUnder shape flash [] top found m → CanMove shape flash [] top.1 found moves blocks → IsCommit shape flash top.1 (entries_of moves) index bytes
+    → IsPairCut (commit_page shape top.1.newest index) bytes flash cut
+    → IsUnder shape cut [] top found m ⊎ IsUnder shape cut [] top (committed found (entries_of moves)) m
+
+-- with all of them once the first program was made, and behind both
 abbrev pub MovesCommitted : Type 0
 MovesCommitted =
-    (shape : Shape) (flash : Flash) (top : ℕ × Root) (found : Found) (m : Map) (moves : List (Key × Place)) (blocks : List ℕ) (index : ℕ) (bytes : List ℕ) → IsShape shape
+    (shape : Shape) (flash now : Flash) (top : ℕ × Root) (found : Found) (m : Map) (moves : List (Key × Place)) (blocks : List ℕ) (index : ℕ) (bytes : List ℕ) → IsShape shape
     → IsUnder shape flash [] top found m → CanMove shape flash [] top.1 found moves blocks → IsCommit shape flash top.1 (entries_of moves) index bytes
-    → IsUnder shape (after shape (program (commit_page shape top.1.newest index) bytes) flash) [] top (committed found (entries_of moves)) m
+    → IsPairCut (commit_page shape top.1.newest index) bytes flash now → page_at now (commit_page shape top.1.newest index) ≡ whole bytes
+    → IsUnder shape now [] top (committed found (entries_of moves)) m
 
 -- ---- the copy
 
--- an Erased page of a block behind the root blocks that the root does not name, whatever became of it
+-- a page of a block behind the root blocks that the root does not name and in which no value that counts has a page, whatever became of its pair
 abbrev pub Copies : Type 0
 Copies =
     (shape : Shape) (flash cut : Flash) (extra : List Entry) (top : ℕ × Root) (found : Found) (m : Map) (at : ℕ) → IsShape shape → IsUnder shape flash extra top found m
-    → 2 ≤ at / shape.block_pages → (IsNamed shape top.1 at → ⊥) → page_at flash at ≡ erased → SameOutside at 1 flash cut
-    → IsUnder shape cut extra top found m
+    → 2 ≤ at / shape.block_pages → (IsNamed shape top.1 at → ⊥)
+    → ((k : ℕ) → k / shape.block_pages ≡ at / shape.block_pages → IsValuePage shape (places found extra) k → ⊥)
+    → SameOutsidePair shape at flash cut → IsUnder shape cut extra top found m

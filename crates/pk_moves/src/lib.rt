@@ -1,8 +1,8 @@
-//! What reclaims make of the map that a flash holds, as laws over definitions alone: values are copied, and one page of the journal
-//! says so.
+//! What reclaims make of the map that a flash holds, as laws over definitions alone: values are copied, and one commit of the
+//! journal says so.
 #![tactic(auto)]
 
-ghost use Rattle.pk_moves.specs.Moves.{Copies, Moves, PlacesMove, PlacesStay, MovesCommit, MovesCommitted};
+ghost use Rattle.pk_moves.specs.Moves.{Copies, Moves, PlacesMove, PlacesStay, MovesCommit, MovesPair, MovesCommitted};
 ghost use Rattle.pk_moves.specs.Victims.{LieInOthers, NoneLeft, OneIsSparse, FitOnePage, LeavesRoom};
 
 /// A page that is copied to a block that nobody reads leaves the map.
@@ -10,12 +10,13 @@ pub fn copies()
     ensures { Copies }
 {}
 
-/// Entries that name copies of values leave the map, wherever the page that commits them is cut.
+/// Entries that name copies of values leave the map, wherever the programs that commit them are cut.
 pub fn moves()
     ensures moves { Moves }
     ensures places { PlacesMove }
     ensures stay { PlacesStay }
     ensures commit { MovesCommit }
+    ensures pair { MovesPair }
     ensures committed { MovesCommitted }
 {}
 

@@ -1,5 +1,5 @@
 -- A background step of the jobs, by the drive and its board.
-use Rattle.std.proofs.Common.{◌≡◌, ◌⊎◌, inl, inr, ℕ, ◌-◌, refl, sym, ap, subst, ◌∙◌, arith, Bool, true, false, List, [], ◌∷◌, length, Some}
+use Rattle.std.proofs.Common.{◌≡◌, ◌⊎◌, inl, inr, ℕ, refl, sym, ap, subst, ◌∙◌, arith, Bool, true, false, List, [], ◌∷◌, length, Some}
 use Rattle.std.specs.Prelude.{◌&&◌, ◌||◌, ◌==◌, not, map, slice_get}
 use Rattle.std.proofs.lemmas.Bool.{eq-eqb, eqb-true}
 use Rattle.pk_base.specs.Shape.{Shape}
@@ -21,12 +21,13 @@ use Rattle.pk_schedule.specs.declared.phase.Phase.TheVariants.{Idle as NoMerge, 
 use Rattle.pk_schedule.specs.Index.{Index, MergeStands, merging}
 use Rattle.pk_schedule.specs.Steps.{has_no_merge, is_between}
 use Rattle.pk_gc.specs.Stepping.{runs_in}
-use Rattle.pk_parts.specs.Parts.{Parts, index_of, sight_of, is_reclaim_due}
-use Rattle.pk_parts.specs.Agreeing.{DriveOnFlashWith, DriveOnFlash}
+use Rattle.pk_parts.specs.Parts.{Parts, index_of, sight_of, is_half, is_reclaim_due}
+use Rattle.pk_parts.specs.Agreeing.{DriveOnFlashWith, DriveOnFlash, IsWhole}
 use Rattle.pk_parts.specs.Ticking.{MayTick, Advances, WantsReclaim, wants_reclaim}
-use Rattle.pk_parts.proofs.Unchanging.{own}
+use Rattle.pk_parts.proofs.Halves.{whole_of, not_both}
+use Rattle.pk_parts.proofs.Unchanging.{own_whole}
 use Rattle.pk_parts.proofs.Staying.{stays_same, stays_frees, step_stays}
-use Rattle.pk_parts.proofs.Ticking.{ticks_nothing, ticks_failed, step_agrees, step_ticks, step_lowers, kept_drive, busy_free, idle_fine, stopped_idle, stopped_worked, worked_idle}
+use Rattle.pk_parts.proofs.Ticking.{ticks_nothing, ticks_failed, step_agrees, step_ticks, step_lowers, kept_drive, busy_spare, idle_fine, stopped_idle, stopped_worked, worked_idle}
 
 -- ---- answers
 
@@ -72,9 +73,15 @@ none_there (b ∷ bs) e = absurd (omega (arith, e))
 
 -- ---- a step
 
-module _ (d : Parts) (old new : BoardState) (m : MayTick d old) where
+module _ (d : Parts) (old new : BoardState) (m : MayTick d old) (none_half : is_half d ≡ false) where
+  whole : IsWhole d
+  whole = whole_of d old.pages m.agrees.top m.agrees.found m.agrees.without m.agrees.course none_half
+
   with : DriveOnFlashWith d d.log.shape old.pages m.agrees.top m.agrees.found m.agrees.without m.agrees.all
-  with = own d old m.agrees
+  with = own_whole d old m.agrees whole
+
+  no_pair : {X : Type 0} → is_half d ≡ true → X
+  no_pair half = absurd (not_both (is_half d) half none_half)
 
   -- it is not idle where a merge runs, or something is frozen
   pub busy_merge : has_no_merge (index_of d) ≡ false → IsIdle d.log.shape old.pages (sight_of d) → ⊥
@@ -85,15 +92,17 @@ module _ (d : Parts) (old new : BoardState) (m : MayTick d old) where
   pub erase_advances : (d' : Parts) → ErasesOne d.pool old d'.pool new → d' ≡ record d { pool = d'.pool } → IsShared d.pool.shape d.pool.states → IsReady new d.pool.shape
       → ((b : ℕ) → IsOwned d.pool b → slice_get d'.pool.states b ≡ slice_get d.pool.states b) → PoolOnFlash d'.pool new.pages → Advances d d' old new Worked
   erase_advances d' one rest shared ready owned fits = record {
-    ticks = step_ticks d d' old new m.agrees one rest shared ready owned fits m.none;
+    ticks = step_ticks d d' old new m.agrees whole one rest shared ready owned fits m.none;
     stops = ap (λ (e : Parts). e.stopped) rest ∙ m.unstopped;
     none = ap (λ (e : Parts). e.log.pending) rest ∙ m.none;
-    agrees = λ _. step_agrees d d' old new m.agrees one rest shared ready owned fits;
+    agrees = λ _. step_agrees d d' old new m.agrees whole one rest shared ready owned fits;
     moves = λ _. stays_frees d d' (step_stays d d' old new (inl one) rest);
+    repeats = no_pair;
+    finishes = no_pair;
     number = λ _. (let e = ap (λ (e : Parts). e.log.root.number) rest in omega (arith, e));
-    lowers = λ _. step_lowers d d' old new m.agrees one rest shared ready owned fits;
+    lowers = λ _. step_lowers d d' old new m.agrees whole one rest shared ready owned fits;
     idle = λ e. absurd (worked_idle e);
-    busy = λ idle. absurd (busy_free d old m.agrees shared one.block one.lowest.here idle);
+    busy = λ idle. absurd (busy_spare d old m.agrees shared one.block one.lowest.here idle);
   }
 
   pub idle_advances : (d' : Parts) → ErasesNone d.pool old d'.pool new → d' ≡ record d { pool = d'.pool } → has_no_merge (index_of d) ≡ true → (length (taken_by d.schedule.freeze) == 0) ≡ true → wants_reclaim d ≡ false → Advances d d' old new Idle
@@ -105,21 +114,25 @@ module _ (d : Parts) (old new : BoardState) (m : MayTick d old) where
         none = ap (λ (e : Parts). e.log.pending) same ∙ m.none;
         agrees = λ _. subst (λ (b : BoardState). DriveOnFlash d' b.shape b.pages) (sym none.same) (subst (λ e. DriveOnFlash e old.shape old.pages) (sym same) m.agrees);
         moves = λ _. stays_frees d d' (stays_same d d' same);
+        repeats = no_pair;
+        finishes = no_pair;
         number = λ _. (let e = ap (λ (e : Parts). e.log.root.number) same in omega (arith, e));
         lowers = λ e. absurd (worked_idle (sym e));
-        idle = λ _. (record { no_merge = merged; no_freeze = none_there (taken_by d.schedule.freeze) (eqb-true (length (taken_by d.schedule.freeze)) 0 frozen); no_reclaim = (neither (runs_in d.reclaim.phase) (is_reclaim_due d) reclaimed).0; none_due = (neither (runs_in d.reclaim.phase) (is_reclaim_due d) reclaimed).1; none_free = none.none_free }, same);
+        idle = λ _. (record { whole = none_half; no_merge = merged; no_freeze = none_there (taken_by d.schedule.freeze) (eqb-true (length (taken_by d.schedule.freeze)) 0 frozen); no_reclaim = (neither (runs_in d.reclaim.phase) (is_reclaim_due d) reclaimed).0; none_due = (neither (runs_in d.reclaim.phase) (is_reclaim_due d) reclaimed).1; none_free = none.none_free }, same);
         busy = λ _. refl;
       }
 
   pub erase_failed : (d' : Parts) → FailsToErase d.pool old new → d' ≡ record d { stopped = true } → IsShared d.pool.shape d.pool.states → Advances d d' old new (Fault true)
   erase_failed d' failed rest shared = record {
-    ticks = ticks_failed d old new m.agrees failed.block failed.lowest.here shared d' failed.failed m.none;
+    ticks = ticks_failed d old new m.agrees whole failed.block failed.lowest.here shared d' failed.failed m.none;
     stops = ap (λ (e : Parts). e.stopped) rest;
     none = ap (λ (e : Parts). e.log.pending) rest ∙ m.none;
     agrees = λ e. absurd (true_false e);
     moves = λ e. absurd (true_false e);
+    repeats = no_pair;
+    finishes = no_pair;
     number = λ e. absurd (true_false e);
     lowers = λ e. absurd (stopped_worked true e);
     idle = λ e. absurd (stopped_idle true e);
-    busy = λ idle. absurd (busy_free d old m.agrees shared failed.block failed.lowest.here idle);
+    busy = λ idle. absurd (busy_spare d old m.agrees shared failed.block failed.lowest.here idle);
   }

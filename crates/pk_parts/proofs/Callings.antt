@@ -5,7 +5,9 @@ use Rattle.pk_nand.specs.Calls.{counted}
 use Rattle.pk_nand.specs.Counts.{counted_by}
 use Rattle.pk_nand.specs.Effects.{AtMostOneCall, OneProgram}
 use Rattle.pk_model.specs.Wear.{roots}
+use Rattle.pk_work.specs.Calls.{commit_calls}
 use Rattle.pk_call.specs.Calling.{FewCalls}
+use Rattle.pk_call.specs.Commit.{ProgramsOfCommit}
 use Rattle.pk_parts.specs.Costs.{Spends}
 use Rattle.pk_parts.proofs.Programming.{counted_more}
 
@@ -77,13 +79,16 @@ few_one a b one = few_more 0 a a b (few_none a) one
 pub few_same : (n : ℕ) (a b : BoardState) → b ≡ a → FewCalls n a b
 few_same n a b same = subst (λ (s : BoardState). FewCalls n a s) (sym same) (few_within 0 n a a (omega arith) (few_none a))
 
-few_program : (a b : BoardState) → OneProgram a b → FewCalls 1 a b
+pub few_program : (a b : BoardState) → OneProgram a b → FewCalls 1 a b
 few_program a b one = record { reads_made = 0; programs_made = 1; erases_made = 0; few = omega arith; reads = one.reads; programs = one.programs; erases = one.erases }
 
--- a commit programs a page where entries are pending, and nothing is done where none is
-pub few_commit : {X P Q : Type 0} (es : List X) (a b : BoardState) → (es ≢ [] → OneProgram a b) → (es ≡ [] → P × Q × (b ≡ a)) → FewCalls 1 a b
-few_commit [] a b program idle = few_same 1 a b (idle refl).2
-few_commit (e ∷ es) a b program idle = few_program a b (program (λ none. cc))
+few_programs : (n : ℕ) (a b : BoardState) → ProgramsOfCommit n a b → FewCalls commit_calls a b
+few_programs n a b p = record { reads_made = 0; programs_made = p.made; erases_made = 0; few = (let most = p.most in omega (arith, most)); reads = p.reads; programs = p.programs; erases = p.erases }
+
+-- a commit makes its programs where entries are pending, and nothing is done where none is
+pub few_commit : {X P Q : Type 0} (es : List X) (a b : BoardState) → (es ≢ [] → ProgramsOfCommit 1 a b) → (es ≡ [] → P × Q × (b ≡ a)) → FewCalls commit_calls a b
+few_commit [] a b programs idle = few_same commit_calls a b (idle refl).2
+few_commit (e ∷ es) a b programs idle = few_programs 1 a b (programs (λ none. cc))
 
 -- ---- calls and roots
 

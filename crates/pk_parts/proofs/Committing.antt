@@ -2,19 +2,18 @@
 use Rattle.std.proofs.Common.{◌≡◌, ◌≢◌, ◌⊎◌, inl, inr, ℕ, ◌+◌, ◌-◌, ◌/◌, ◌<◌, ◌≤◌, if◌then◌else◌, arith, Bool, true, false, List, [], ◌++◌, length, reverse, Some, Result, Ok, Err, refl, sym, ap, subst, ◌∙◌, append-nil}
 use Rattle.std.specs.Prelude.{slice_get, IsOk, IfErr, OnOk, OnErr}
 use Rattle.std.specs.List.{flat_map}
-use Rattle.pk_base.specs.Shape.{Shape, epoch_pages}
-use Rattle.pk_base.specs.Page.{Flash, page_at, page_in, whole}
+use Rattle.pk_base.specs.Shape.{Shape, epoch_commits, commit_programs}
+use Rattle.pk_base.specs.Page.{Flash, page_at, whole, commit_page}
 use Rattle.pk_base.specs.Entry.{Entry, Place}
 use Rattle.pk_base.specs.Key.{Key}
 use Rattle.pk_base.specs.Firsts.{firsts}
 use Rattle.pk_base.specs.Map.{Map}
 use Rattle.pk_base.specs.Mark.{all_posted}
-use Rattle.pk_base.proofs.ShapeLemmas.{block_pages_positive}
 use Rattle.pk_plan.specs.declared.owner.Owner.TheVariants.{Journal}
 use Rattle.pk_nand.specs.declared.types.Fault.{Fault}
 use Rattle.pk_nand.specs.declared.types.Fault.TheVariants.{Stopped}
 use Rattle.pk_nand.specs.BoardState.{BoardState}
-use Rattle.pk_nand.specs.Calls.{IsReady, after_program}
+use Rattle.pk_nand.specs.Calls.{IsReady, after_program, after_programs}
 use Rattle.pk_nand.proofs.Leaving.{page_at-slice_set}
 use Rattle.pk_nand.proofs.Writing.{shape_is}
 use Rattle.pk_rootfmt.specs.Root.{Root}
@@ -23,11 +22,11 @@ use Rattle.pk_pool.specs.declared.state.BlockState.TheVariants.{Owned}
 use Rattle.pk_pool.specs.Blocks.{PoolOnFlash}
 use Rattle.pk_jrn.specs.Epochs.{left_of, next_page}
 use Rattle.pk_jrn.specs.Appends.{next_bytes}
-use Rattle.pk_jrn.proofs.Appending.{page_left}
+use Rattle.pk_jrn.proofs.Appending.{commit_left}
 use Rattle.pk_model.specs.Found.{Found}
 use Rattle.pk_model.specs.Values.{placed}
 use Rattle.pk_model.specs.Laws.{AnyByRecursion}
-use Rattle.pk_model.proofs.Commits.{valid_blocks, among_newest}
+use Rattle.pk_model.proofs.Commits.{valid_blocks, pair_among}
 use Rattle.pk_model.proofs.SamePages.{any_front}
 use Rattle.pk_steps.specs.Under.{IsUnder, IsValuePage, places}
 use Rattle.pk_steps.specs.Roots.{committed}
@@ -36,21 +35,25 @@ use Rattle.pk_data.specs.Placed.{ValuesOnFlash}
 use Rattle.pk_data.proofs.Unchanged.{flash_elsewhere}
 use Rattle.pk_model.specs.Growth.{Goes}
 use Rattle.pk_model.specs.Crashes.{CrashFinds, commit}
-use Rattle.pk_nand.specs.Effects.{OneProgram, Works, Stops}
+use Rattle.pk_nand.specs.Effects.{Works, Stops}
+use Rattle.pk_call.specs.Commit.{ProgramsOfCommit}
 use Rattle.pk_model.specs.Wear.{root_number, roots}
 use Rattle.pk_model.proofs.Growing.{weaken, weaken_went, at_end}
-use Rattle.pk_nand.proofs.Effects.{works_none, works_program, stops_program}
+use Rattle.pk_nand.proofs.Effects.{works_none, works_program, works_then, stops_program, stops_then}
 use Rattle.pk_log.specs.State.{LogState, all_committed}
 use Rattle.pk_log.specs.Commits.{CommitsNone, CommitsAll, CommitFailed, CommitStands, CommitHolds, CommitReaches, CommitGoes, CommitCut as LogCut, Maps}
 use Rattle.pk_gc.specs.Standing.{ReclaimOnFlash}
 use Rattle.pk_parts.specs.Parts.{Parts, frames_of, index_of, outputs_of}
 use Rattle.pk_parts.specs.Agreeing.{DriveOnFlashWith}
-use Rattle.pk_parts.specs.Moves.{MayStep, StepKeeps, OnlyCommits, StandsFor, Keeps, KeepsAll, BreaksAll}
+use Rattle.pk_parts.specs.Moves.{MayCommit, StepKeeps, OnlyCommits, StandsFor, StandsBetween, Keeps, KeepsAll, BreaksAll}
+use Rattle.pk_parts.proofs.Halves.{whole_like}
 use Rattle.pk_parts.proofs.Keeping.{KeepsAll-none}
 use Rattle.pk_parts.proofs.Standing.{same_found}
 use Rattle.pk_schedule.proofs.Keeping.{index_committed}
 use Rattle.pk_parts.proofs.Elsewhere.{values_same, still_fits}
 use Rattle.pk_parts.proofs.Reclaiming.{reclaim_elsewhere}
+use Rattle.pk_nand.specs.Pairs.{programs_of_pair}
+use Rattle.pk_base.proofs.CommitPages.{block_of_pair}
 
 -- the drive with another log
 abbrev pub with_log : Parts → LogState → Parts
@@ -60,34 +63,44 @@ with_log d log = record d { log = log }
 pub places_committed : (found : Found) (es : List Entry) → places (committed found es) [] ≡ places found es
 places_committed found es = ap (λ (xs : List Entry). placed (firsts (reverse xs ++ reverse found.older ++ flat_map (λ ys. ys) found.runs))) (append-nil (found.newest ++ es))
 
--- ---- the next page of the epoch was programmed
+-- ---- the two pages of the epoch's next commit were programmed
 
 module _ (d : Parts) (old new : BoardState) (top : ℕ × Root) (found : Found) (without m : Map) (agrees : DriveOnFlashWith d d.log.shape old.pages top found without m)
-    (some : d.log.pending ≢ []) (bytes : List ℕ) (made : new ≡ after_program old (next_page d.log.epoch) bytes) (ready : IsReady new d.log.shape)
+    (some : d.log.pending ≢ []) (bytes : List ℕ) (made : new ≡ after_programs old (programs_of_pair (next_page d.log.epoch) bytes)) (ready : IsReady new d.log.shape)
     (logs_after : CommitStands d.log old (all_committed d.log) new) (holds : CommitHolds d.log old new) where
   abbrev its : Shape
   its = d.log.shape
 
+  -- the first of them, as the root tells it, and its block
   abbrev at : ℕ
-  at = next_page d.log.epoch
+  at = commit_page its top.1.newest d.log.epoch.used
 
-  others : (k : ℕ) → (k ≡ at → ⊥) → page_at new.pages k ≡ page_at old.pages k
-  others k other = ap (λ (s : BoardState). page_at s.pages k) made ∙ page_at-slice_set old.pages at k (whole bytes) other
+  abbrev block : ℕ
+  block = at / its.block_pages
 
-  positive : 0 < its.block_pages
-  positive = block_pages_positive its agrees.index.logs.is_shape
+  inside : d.log.epoch.used < epoch_commits its
+  inside = let logs = agrees.index.logs in subst (λ (s : Shape). d.log.epoch.used < epoch_commits s) logs.epoch_shape (commit_left d.log.epoch (logs.pending_room some))
 
-  -- it lies in a block of the newest epoch
-  among : AnyByRecursion (λ b. at / its.block_pages ≡ b) top.1.newest
-  among =
-      let logs = agrees.index.logs in
-      let inside : d.log.epoch.used < epoch_pages its = subst (λ (s : Shape). d.log.epoch.used < epoch_pages s) logs.epoch_shape (page_left d.log.epoch (logs.pending_room some)) in
-      let same : page_in its top.1.newest d.log.epoch.used ≡ at = λ i. page_in (sym logs.epoch_shape i) (sym logs.epoch_blocks i) d.log.epoch.used in
-      subst (λ (k : ℕ). AnyByRecursion (λ b. k / its.block_pages ≡ b) top.1.newest) same
-      (among_newest its top.1 (valid_blocks its (page_at old.pages) top logs.is_top) positive d.log.epoch.used inside)
+  at_is : at ≡ next_page d.log.epoch
+  at_is i = commit_page (sym agrees.index.logs.epoch_shape i) (sym agrees.index.logs.epoch_blocks i) d.log.epoch.used
 
-  owned : slice_get d.pool.states (at / its.block_pages) ≡ Some (Owned Journal)
-  owned = agrees.index.journal (at / its.block_pages) (any_front (λ c. at / its.block_pages ≡ c) top.1.newest top.1.older among)
+  -- both lie in that block
+  in_block : (k : ℕ) → at ≤ k → k < at + 2 → k / its.block_pages ≡ block
+  in_block k least less =
+      let is = agrees.index.logs.is_shape in
+      block_of_pair its top.1.newest is d.log.epoch.used k least less ∙ sym (block_of_pair its top.1.newest is d.log.epoch.used at (omega arith) (omega arith))
+
+  others : (k : ℕ) → (k / its.block_pages ≡ block → ⊥) → page_at new.pages k ≡ page_at old.pages k
+  others k away =
+      ap (λ (s : BoardState). page_at s.pages k) (made ∙ sym (ap (λ (p : ℕ). after_programs old (programs_of_pair p bytes)) at_is))
+      ∙ page_at-slice_set (after_program old at bytes).pages (at + 1) k (whole bytes) (λ e. away (in_block k (omega (arith, e)) (omega (arith, e))))
+      ∙ page_at-slice_set old.pages at k (whole bytes) (λ e. away (in_block k (omega (arith, e)) (omega (arith, e))))
+
+  among : AnyByRecursion (λ b. block ≡ b) top.1.newest
+  among = pair_among its agrees.index.logs.is_shape top.1 (valid_blocks its (page_at old.pages) top agrees.index.logs.is_top) d.log.epoch.used inside at (omega arith) (omega arith)
+
+  owned : slice_get d.pool.states block ≡ Some (Owned Journal)
+  owned = agrees.index.journal block (any_front (λ c. block ≡ c) top.1.newest top.1.older among)
 
   maps : Maps d.log old top found without m
   maps = record { logs = agrees.index.logs; without = agrees.committed; all = agrees.pending }
@@ -96,13 +109,13 @@ module _ (d : Parts) (old new : BoardState) (top : ℕ × Root) (found : Found) 
   after_is =
       let under = holds top found without m maps in
       let same = sym (places_committed found d.log.pending) in
-      let fits : PoolOnFlash d.pool new.pages = still_fits its d.pool old.pages new.pages at owned others agrees.placed.shape_is agrees.placed.fits in
+      let fits : PoolOnFlash d.pool new.pages = still_fits its d.pool old.pages new.pages block owned others agrees.placed.shape_is agrees.placed.fits in
       let values : ValuesOnFlash its d.space d.pool (outputs_of d) new.pages (places found d.log.pending) =
-      flash_elsewhere its d.space d.pool (outputs_of d) old.pages new.pages (places found d.log.pending) agrees.placed (values_same its d.pool old.pages new.pages at owned others (outputs_of d)) fits in
+      flash_elsewhere its d.space d.pool (outputs_of d) old.pages new.pages (places found d.log.pending) agrees.placed (values_same its d.pool old.pages new.pages block owned others (outputs_of d)) fits in
       record {
         shape_is = refl;
         is_flash = ready.flash;
-        index = index_committed (index_of d) (frames_of d) old.pages new.pages top found agrees.index at among others fits (logs_after top found agrees.index.logs);
+        index = index_committed (index_of d) (frames_of d) old.pages new.pages top found agrees.index block among others fits (logs_after top found agrees.index.logs);
         committed = under;
         pending = under;
         placed = subst (λ (es : List (Key × Place)). ValuesOnFlash its d.space d.pool (outputs_of d) new.pages es) same values;
@@ -110,7 +123,7 @@ module _ (d : Parts) (old new : BoardState) (top : ℕ × Root) (found : Found) 
         former_read = λ k is. agrees.placed.outputs_are.unread k (subst (λ (es : List (Key × Place)). IsValuePage its es k) (sym same) is);
         reclaim =
             subst (λ (es : List (Key × Place)). ReclaimOnFlash its d.reclaim d.space.live d.pool new.pages es) same
-            (reclaim_elsewhere its d.reclaim d.space d.pool d.pool old.pages new.pages (places found d.log.pending) agrees.reclaim agrees.placed refl (λ k held not_open. values_same its d.pool old.pages new.pages at owned others [] k held (λ none. none)));
+            (reclaim_elsewhere its d.reclaim d.space d.pool d.pool old.pages new.pages (places found d.log.pending) agrees.reclaim agrees.placed refl (λ k held not_open. values_same its d.pool old.pages new.pages block owned others [] k held (λ none. none)));
         keys_are = agrees.keys_are ∙ ap length same;
       }
 
@@ -147,6 +160,7 @@ module _ (d : Parts) (log' : LogState) (old new : BoardState) (ready : IsReady n
           found = committed stands.found d.log.pending;
           without = m;
           with = after_is d old new stands.top stands.found stands.without m agrees all.some (next_bytes d.log.epoch d.log.pending) all.board ready (subst L all.taken logs_after) holds;
+          whole = whole_like d (with_log d (all_committed d.log)) refl (λ none. none) refl refl stands.whole;
         };
         same_places = λ was. places_committed stands.found d.log.pending ∙ ap (λ (f : Found). places f d.log.pending) (same_found d d.log.shape old.pages m was stands);
         still = inr (under_reads d.log.shape new.pages [] stands.top (committed stands.found d.log.pending) m under);
@@ -180,10 +194,21 @@ commit_breaks d old new goes shape m stands =
 
 pub commit_works : (log log' : LogState) (old new : BoardState) → CommitsNone log old log' new ⊎ CommitsAll log old log' new → Works old new
 commit_works log log' old new (inl none) = works_none old new none.board
-commit_works log log' old new (inr all) = works_program old new (next_page log.epoch) (next_bytes log.epoch log.pending) all.board
+commit_works log log' old new (inr all) =
+    let at = next_page log.epoch in
+    let bytes = next_bytes log.epoch log.pending in
+    let mid : BoardState = after_program old at bytes in
+    works_then old mid new (works_program old mid at bytes refl) (works_program mid new (at + 1) bytes all.board)
 
 pub commit_stops : (log : LogState) (old new : BoardState) → CommitFailed log old new → Stops old new
-commit_stops log old new failed = stops_program old new (next_page log.epoch) (next_bytes log.epoch log.pending) failed.failed
+commit_stops log old new failed =
+    let at = next_page log.epoch in
+    let bytes = next_bytes log.epoch log.pending in
+    let mid : BoardState = after_program old at bytes in
+    elim failed.failed [
+      | inl first ↦ stops_program old new at bytes first
+      | inr second ↦ stops_then old mid new (works_program old mid at bytes refl) (stops_program mid new (at + 1) bytes second)
+    ]
 
 -- ---- the newest root
 
@@ -199,23 +224,25 @@ roots_of old new shape top before after was is =
 top_in_cut : (shape : Shape) (top : ℕ × Root) (found : Found) (es : List Entry) (m0 m1 : Map) (flash : Flash) (posted : List ℕ) → LogCut shape top found es m0 m1 flash posted → newest_root shape (page_at flash) ≡ Some top
 top_in_cut shape top found es m0 m1 flash posted cut = elim cut.1 [ inl without ↦ without.is_top | inr all ↦ all.is_top ]
 
-pub commit_roots : (d : Parts) (shape : Shape) (m : Map) (old new : BoardState) → IsReady old d.log.shape → IsReady new d.log.shape → StandsFor d shape old.pages m → CommitReaches d.log old new → roots new ≡ roots old
-commit_roots d shape m old new before after stands reaches =
-    let there = subst (λ (s : Shape). StandsFor d s old.pages m) (sym stands.with.shape_is) stands in
-    let run = reaches there.top there.found there.without m (maps_of d old there.top there.found there.without m there.with) in
+-- the maps of a drive of which a pair may be half made
+maps_between : (d : Parts) (board : BoardState) (m : Map) (s : StandsBetween d d.log.shape board.pages m) → Maps d.log board s.top s.found s.without m
+maps_between d board m s = record { logs = s.with.index.logs; without = s.with.committed; all = s.with.pending }
+
+pub commit_roots : (d : Parts) (m : Map) (old new : BoardState) → IsReady old d.log.shape → IsReady new d.log.shape → StandsBetween d d.log.shape old.pages m → CommitReaches d.log old new → roots new ≡ roots old
+commit_roots d m old new before after there reaches =
+    let run = reaches there.top there.found there.without m (maps_between d old m there) in
     roots_of old new d.log.shape there.top before after there.with.index.logs.is_top
     (top_in_cut d.log.shape there.top there.found d.log.pending there.without m new.pages (all_posted run.0)
     (at_end run.0 old new (LogCut d.log.shape there.top there.found d.log.pending there.without m) run.1))
 
-pub commit_roots_err : (d : Parts) (shape : Shape) (m : Map) (old new : BoardState) → IsReady old d.log.shape → IsReady new d.log.shape → StandsFor d shape old.pages m → CommitGoes d.log old new → roots new ≡ roots old
-commit_roots_err d shape m old new before after stands goes =
-    let there = subst (λ (s : Shape). StandsFor d s old.pages m) (sym stands.with.shape_is) stands in
-    let run = goes there.top there.found there.without m (maps_of d old there.top there.found there.without m there.with) in
+pub commit_roots_err : (d : Parts) (m : Map) (old new : BoardState) → IsReady old d.log.shape → IsReady new d.log.shape → StandsBetween d d.log.shape old.pages m → CommitGoes d.log old new → roots new ≡ roots old
+commit_roots_err d m old new before after there goes =
+    let run = goes there.top there.found there.without m (maps_between d old m there) in
     roots_of old new d.log.shape there.top before after there.with.index.logs.is_top
     (top_in_cut d.log.shape there.top there.found d.log.pending there.without m new.pages (all_posted run.0)
     (run.1.cuts new.pages (all_posted run.0) run.1.stands))
 
--- ---- the pages left of the epoch
+-- ---- the commits left of the epoch
 
 one_less : (more : Bool) (pages used : ℕ) → (if more then pages - (used + 1) else 0) ≤ (if more then pages - used else 0)
 one_less true pages used = omega arith
@@ -227,7 +254,7 @@ no_more_left log log' old new (inl none) = subst (λ (l : LogState). left_of l.e
     le_itself : (n : ℕ) → n ≤ n
     le_itself n = omega arith
 no_more_left log log' old new (inr all) =
-    subst (λ (l : LogState). left_of l.epoch ≤ left_of log.epoch) (sym all.taken) (one_less log.epoch.takes_more (epoch_pages log.epoch.shape) log.epoch.used)
+    subst (λ (l : LogState). left_of l.epoch ≤ left_of log.epoch) (sym all.taken) (one_less log.epoch.takes_more (epoch_commits log.epoch.shape) log.epoch.used)
 
 -- ---- by what the call answered
 
@@ -235,12 +262,50 @@ pub left_ok : (r : Result Unit Fault) (log log' : LogState) (old new : BoardStat
 left_ok (Ok x) log log' old new made = no_more_left log log' old new made
 left_ok (Err e) log log' old new made = tt
 
--- where entries were pending, one program was made, whether or not it failed
-pub one_program : (r : Result Unit Fault) (log log' : LogState) (old new : BoardState) → OnOk r (CommitsNone log old log' new ⊎ CommitsAll log old log' new) → OnErr r (CommitFailed log old new)
-    → log.pending ≢ [] → OneProgram old new
-one_program (Ok x) log log' old new (inl none) failed some = absurd (some none.none)
-one_program (Ok x) log log' old new (inr all) failed some = record { programs = ap (λ s. s.programs) all.board; erases = ap (λ s. s.erases) all.board; reads = ap (λ s. s.reads) all.board }
-one_program (Err e) log log' old new made failed some = record { programs = ap (λ s. s.programs) failed.failed.rest; erases = ap (λ s. s.erases) failed.failed.rest; reads = ap (λ s. s.reads) failed.failed.rest }
+-- both programs of a commit
+both_programs : (least : ℕ) (log log' : LogState) (old new : BoardState) → least ≤ 2 → CommitsAll log old log' new → ProgramsOfCommit least old new
+both_programs least log log' old new few all = record {
+  made = 2;
+  some = few;
+  most = omega arith;
+  programs = ap (λ (s : BoardState). s.programs) all.board;
+  erases = ap (λ (s : BoardState). s.erases) all.board;
+  reads = ap (λ (s : BoardState). s.reads) all.board;
+}
+
+-- one of them failed
+failed_programs : (log : LogState) (old new : BoardState) → CommitFailed log old new → ProgramsOfCommit 1 old new
+failed_programs log old new f = elim f.failed [
+  | inl first ↦ record {
+    made = 1;
+    some = omega arith;
+    most = omega arith;
+    programs = ap (λ (s : BoardState). s.programs) first.rest;
+    erases = ap (λ (s : BoardState). s.erases) first.rest;
+    reads = ap (λ (s : BoardState). s.reads) first.rest;
+  }
+  | inr second ↦ record {
+    made = 2;
+    some = omega arith;
+    most = omega arith;
+    programs = ap (λ (s : BoardState). s.programs) second.rest;
+    erases = ap (λ (s : BoardState). s.erases) second.rest;
+    reads = ap (λ (s : BoardState). s.reads) second.rest;
+  }
+]
+
+-- where entries were pending, one program was made at least, whether or not it failed
+pub some_programs : (r : Result Unit Fault) (log log' : LogState) (old new : BoardState) → OnOk r (CommitsNone log old log' new ⊎ CommitsAll log old log' new) → OnErr r (CommitFailed log old new)
+    → log.pending ≢ [] → ProgramsOfCommit 1 old new
+some_programs (Ok x) log log' old new (inl none) failed some = absurd (some none.none)
+some_programs (Ok x) log log' old new (inr all) failed some = both_programs 1 log log' old new (omega arith) all
+some_programs (Err e) log log' old new made failed some = failed_programs log old new failed
+
+-- and both of them where none failed
+pub all_programs : (r : Result Unit Fault) (log log' : LogState) (old new : BoardState) → OnOk r (CommitsNone log old log' new ⊎ CommitsAll log old log' new) → OnOk r (log.pending ≢ [] → ProgramsOfCommit commit_programs old new)
+all_programs (Ok x) log log' old new (inl none) = λ some. absurd (some none.none)
+all_programs (Ok x) log log' old new (inr all) = λ some. both_programs commit_programs log log' old new (omega arith) all
+all_programs (Err e) log log' old new made = tt
 
 -- where none were, nothing was done
 pub nothing_done : (r : Result Unit Fault) (d : Parts) (log' : LogState) (old new : BoardState) → OnOk r (CommitsNone d.log old log' new ⊎ CommitsAll d.log old log' new) → OnErr r (CommitFailed d.log old new)
@@ -256,7 +321,7 @@ rest_ok (Ok x) d log' old new (inl none) = let P : LogState → Type 0 = λ l. O
 rest_ok (Ok x) d log' old new (inr all) = let P : LogState → Type 0 = λ l. OnlyCommits d (with_log d l) in subst P (sym all.taken) refl
 rest_ok (Err e) d log' old new made = tt
 
-pub commit_step : (r : Result Unit Fault) (d : Parts) (log' : LogState) (old new : BoardState) → MayStep d old → IsReady new d.log.shape
+pub commit_step : (r : Result Unit Fault) (d : Parts) (log' : LogState) (old new : BoardState) → MayCommit d old → IsReady new d.log.shape
     → OnOk r (CommitsNone d.log old log' new ⊎ CommitsAll d.log old log' new) → OnOk r (CommitStands d.log old log' new) → OnOk r (CommitHolds d.log old new) → OnOk r (CommitReaches d.log old new)
     → IfErr r (λ e. e ≡ Stopped) → OnErr r (CommitFailed d.log old new) → OnErr r (CommitGoes d.log old new) → StepKeeps d (with_log d log') 0 old new r
 commit_step (Ok x) d log' old new may after made stands holds reaches stopped failed goes = record {
@@ -265,7 +330,7 @@ commit_step (Ok x) d log' old new may after made stands holds reaches stopped fa
   works = commit_works d.log log' old new made;
   stops = tt;
   stopped = tt;
-  roots_few = commit_roots d d.log.shape may.stands.0 old new may.ready after may.stands.1 reaches;
+  roots_few = commit_roots d may.stands.0 old new may.ready after may.stands.1 reaches;
   ready = after;
 }
 commit_step (Err e) d log' old new may after made stands holds reaches stopped failed goes = record {
@@ -274,6 +339,6 @@ commit_step (Err e) d log' old new may after made stands holds reaches stopped f
   works = tt;
   stops = commit_stops d.log old new failed;
   stopped = stopped;
-  roots_few = commit_roots_err d d.log.shape may.stands.0 old new may.ready after may.stands.1 goes;
+  roots_few = commit_roots_err d may.stands.0 old new may.ready after may.stands.1 goes;
   ready = after;
 }

@@ -18,13 +18,13 @@ values_not_journal states b one other = cc
 pub journal_not_ready : (states : List BlockState) (b : ℕ) → slice_get states b ≡ Some (Owned Journal) → slice_get states b ≡ Some Ready → ⊥
 journal_not_ready states b one other = cc
 
--- ---- one page of the journal
+-- ---- a block of the journal, in which pages differ
 
-module _ (shape : Shape) (pool : Blocks) (old new : Flash) (at : ℕ) (owned : slice_get pool.states (at / shape.block_pages) ≡ Some (Owned Journal))
-    (others : (k : ℕ) → (k ≡ at → ⊥) → page_at new k ≡ page_at old k) where
+module _ (shape : Shape) (pool : Blocks) (old new : Flash) (block : ℕ) (owned : slice_get pool.states block ≡ Some (Owned Journal))
+    (others : (k : ℕ) → (k / shape.block_pages ≡ block → ⊥) → page_at new k ≡ page_at old k) where
   -- a page of a block that is none of the journal's
   in_another : (k : ℕ) → (slice_get pool.states (k / shape.block_pages) ≡ Some (Owned Journal) → ⊥) → page_at new k ≡ page_at old k
-  in_another k not = others k (λ e. not (subst (λ (x : ℕ). slice_get pool.states (x / shape.block_pages) ≡ Some (Owned Journal)) (sym e) owned))
+  in_another k not = others k (λ e. not (subst (λ (x : ℕ). slice_get pool.states x ≡ Some (Owned Journal)) (sym e) owned))
 
   pub values_same : (outputs : List ℕ) → SameValues shape pool outputs old new
   values_same outputs k held no_output = in_another k (λ other. values_not_journal pool.states (k / shape.block_pages) held other)

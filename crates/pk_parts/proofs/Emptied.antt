@@ -1,13 +1,13 @@
 -- Merges in a row, and the steps of a freeze, inside a command.
 use Rattle.std.proofs.Common.{◌≡◌, ℕ, ◌+◌, ◌-◌, ◌<◌, ◌≤◌, refl, sym, ap, subst, ◌∙◌, arith, Bool, true, false, ◌&&◌, ◌==◌, if◌then◌else◌, T, List, [], ◌∷◌, length, eqb→eq, Result, Ok, Err}
-use Rattle.std.specs.Prelude.{MatchBool}
 use Rattle.pk_base.specs.Entry.{Entry}
 use Rattle.pk_base.specs.Key.{Key}
-use Rattle.pk_base.specs.Shape.{Shape, buffer, epoch_pages}
+use Rattle.pk_base.specs.Shape.{Shape, buffer, epoch_commits}
 use Rattle.pk_base.proofs.ShapeLemmas.{block_pages_positive}
 use Rattle.pk_buf.specs.Table.{Table}
 use Rattle.pk_jrn.specs.Epochs.{left_of}
-use Rattle.pk_root.specs.Installing.{erases_next}
+use Rattle.pk_root.specs.declared.next.Next.{Next}
+use Rattle.pk_root.specs.declared.next.Next.TheVariants.{Erase, Program, Again}
 use Rattle.pk_log.specs.State.{LogState, needs_freeze}
 use Rattle.pk_log.specs.Logs.{LogOnFlash}
 use Rattle.pk_work.specs.Backlog.{is_tight}
@@ -17,20 +17,20 @@ use Rattle.pk_nand.specs.BoardState.{BoardState}
 use Rattle.pk_nand.specs.Calls.{IsReady}
 use Rattle.pk_model.specs.Wear.{roots}
 use Rattle.pk_model.proofs.Steps.{RootsUpTo-le, Step-broken}
-use Rattle.pk_compact.specs.FreezeSteps.{freeze_left}
+use Rattle.pk_compact.specs.FreezeSteps.{install_steps}
 use Rattle.pk_work.specs.Rest.{whole_freeze}
-use Rattle.pk_work.specs.Work.{emptying}
+use Rattle.pk_work.specs.Work.{emptying, repeating}
 use Rattle.pk_work.specs.Calls.{room_calls, room_roots, commit_calls}
 use Rattle.pk_work.proofs.Within.{due_most, merging_most}
 use Rattle.pk_schedule.specs.declared.phase.Stepped.{Stepped}
 use Rattle.pk_schedule.specs.declared.phase.Stepped.TheVariants.{Worked, Idle}
-use Rattle.pk_schedule.specs.Steps.{FreezeMoves, Freezes, backlog_of, has_no_merge, is_between}
+use Rattle.pk_schedule.specs.Steps.{FreezeMoves, backlog_of, has_no_merge, is_between}
 use Rattle.pk_call.specs.Calling.{FewCalls}
 use Rattle.pk_parts.specs.Costs.{Spends}
 use Rattle.pk_parts.specs.Parts.{Parts, frames_of, index_of}
 use Rattle.pk_base.specs.Map.{Map}
 use Rattle.pk_parts.specs.Moves.{StandsFor, KeepsAll, BreaksAll, MayStep, StepKeeps, LeavesValues}
-use Rattle.pk_parts.specs.Emptying.{StepOrRead, KeepsOrReads, MergesOnce, FreezesOnce, HasRoom, merges_left, merges_due, MayEmpty}
+use Rattle.pk_parts.specs.Emptying.{StepOrRead, KeepsOrReads, MergesWhole, FreezesWhole, BeginsEpoch, HasRoom, merges_left, merges_due, freeze_left_of, MayEmpty}
 use Rattle.pk_parts.specs.Staying.{Stays}
 use Rattle.pk_parts.proofs.Keeping.{KeepsAll-none, KeepsAll-then, BreaksAll-then}
 use Rattle.pk_parts.proofs.Rooming.{stands_after}
@@ -38,7 +38,7 @@ use Rattle.pk_parts.proofs.Staying.{stays_same, stays_then}
 use Rattle.pk_parts.proofs.Steps.{none_step, keeps_later, may_after, leaves_none, leaves_twice}
 use Rattle.pk_parts.proofs.Freezing.{no_need, left_some, frozen_is_room}
 use Rattle.pk_schedule.proofs.Backlogs.{index_backlog}
-use Rattle.pk_parts.proofs.Callings.{few_none, few_within, few_more, spends_within, spends_then}
+use Rattle.pk_parts.proofs.Callings.{few_none, few_within, few_then, spends_within, spends_then}
 use Rattle.pk_parts.proofs.ReadSteps.{Passes, passes_none, step_passes, reading_passes, reads_nothing, reading_failed, reading_then, reading_end}
 
 -- ---- steps in a row
@@ -115,16 +115,16 @@ module _ (a : Parts) (s0 : BoardState) (b : Parts) (s : BoardState) (ready : IsR
     number = (let most = on.step.roots_few in let left = on.left in omega (arith, few, most, left));
   }
 
-  pub emptying_more : (c : Parts) (s1 : BoardState) (x : Stepped) → x ≡ Worked → MergesOnce b c s s1 (Ok x) → Emptying a s0 c s1
+  pub emptying_more : (c : Parts) (s1 : BoardState) (x : Stepped) → x ≡ Worked → MergesWhole b c s s1 (Ok x) → Emptying a s0 c s1
   emptying_more c s1 x is once =
       let less = once.less (ap (λ y. Ok y) is) in
       let one = reads_ended x b c 1 s s1 once.step in
       record {
-        made = on.made + 1;
-        step = reads_later (Ok tt) a b c on.made 1 (on.made + 1) s0 s s1 ready on.leaves.same_shape (omega arith) on.step.came.0 passes one;
+        made = on.made + once.made;
+        step = reads_later (Ok tt) a b c on.made 1 (on.made + once.made) s0 s s1 ready on.leaves.same_shape (let some = once.some in omega (arith, some)) on.step.came.0 passes one;
         may = may_behind b c 1 s s1 on.may once.leaves.same_shape one;
         none_pending = once.none_pending;
-        calls = few_more on.made s0 s s1 on.calls once.calls;
+        calls = few_then on.made once.made s0 s s1 on.calls once.calls;
         left = (let left = on.left in omega (arith, left, less));
         due = (let before = on.due in let after = once.due in omega (arith, before, after));
         leaves = leaves_twice a b c on.leaves once.leaves;
@@ -144,13 +144,13 @@ module _ (a : Parts) (s0 : BoardState) (b : Parts) (s : BoardState) (ready : IsR
       }
 
   -- where nothing was left to do
-  pub emptying_idle : (c : Parts) (s1 : BoardState) (x : Stepped) → x ≡ Idle → MergesOnce b c s s1 (Ok x) → KeepsOrReads {T = Unit {0}} a c (merges_left a + 1) s0 s1 (Ok tt)
+  pub emptying_idle : (c : Parts) (s1 : BoardState) (x : Stepped) → x ≡ Idle → MergesWhole b c s s1 (Ok x) → KeepsOrReads {T = Unit {0}} a c (merges_left a + 1) s0 s1 (Ok tt)
   emptying_idle c s1 x is once =
       let idle = once.idle (ap (λ y. Ok y) is) in
       let T : Parts → BoardState → Type 0 = λ d t. KeepsOrReads {T = Unit {0}} a d (merges_left a + 1) s0 t (Ok tt) in
       subst (λ d. T d s1) (sym idle.1) (subst (λ t. T b t) (sym idle.2) emptying_end)
 
-  pub emptying_failed : (c : Parts) (s1 : BoardState) (e : Fault) → MergesOnce b c s s1 (Err e) → KeepsOrReads {T = Unit {0}} a c (merges_left a + 1) s0 s1 (Err e)
+  pub emptying_failed : (c : Parts) (s1 : BoardState) (e : Fault) → MergesWhole b c s s1 (Err e) → KeepsOrReads {T = Unit {0}} a c (merges_left a + 1) s0 s1 (Err e)
   emptying_failed c s1 e once =
       let left = on.left in
       reads_later (Err e) a b c on.made 1 (merges_left a + 1) s0 s s1 ready on.leaves.same_shape (omega (arith, left)) on.step.came.0 passes (reads_failed e b c 1 1 s s1 (omega arith) once.step)
@@ -162,7 +162,7 @@ module _ (a : Parts) (s0 : BoardState) (b : Parts) (s : BoardState) (ready : IsR
       let most = due_most a.log.shape (backlog_of (index_of a)) in
       omega (arith, few, due, most)
 
-  pub idle_spends : (c : Parts) (s1 : BoardState) (x : Stepped) → x ≡ Idle → MergesOnce b c s s1 (Ok x) → Spends (merges_left a) 4 s0 s1
+  pub idle_spends : (c : Parts) (s1 : BoardState) (x : Stepped) → x ≡ Idle → MergesWhole b c s s1 (Ok x) → Spends (merges_left a) 4 s0 s1
   idle_spends c s1 x is once =
       let idle = once.idle (ap (λ y. Ok y) is) in
       let left = on.left in
@@ -172,19 +172,16 @@ module _ (a : Parts) (s0 : BoardState) (b : Parts) (s : BoardState) (ready : IsR
       }
 
   -- the call that failed was one of a merge
-  pub failed_spends : (c : Parts) (s1 : BoardState) (e : Fault) → MergesOnce b c s s1 (Err e) → Spends (merges_left a) 4 s0 s1
+  pub failed_spends : (c : Parts) (s1 : BoardState) (e : Fault) → MergesWhole b c s s1 (Err e) → Spends (merges_left a) 4 s0 s1
   failed_spends c s1 e once =
       let left = on.left in
-      let some = once.some in
+      let within = once.within in
       record {
-        calls = few_within (on.made + 1) (merges_left a) s0 s1 (omega (arith, left, some)) (few_more on.made s0 s s1 on.calls once.calls);
+        calls = few_within (on.made + once.made) (merges_left a) s0 s1 (omega (arith, left, within)) (few_then on.made once.made s0 s s1 on.calls once.calls);
         installs = emptying_roots s1 once.installs;
       }
 
 -- ---- a freeze
-
-abbrev pub freeze_left_of : Parts → ℕ
-freeze_left_of d = freeze_left d.schedule.freeze d.log.next
 
 -- So many steps of it were made, they kept the map, and each lowered what is left; none installed a root.
 pub record Ongoing (a : Parts) (s0 : BoardState) (b : Parts) (s : BoardState) : Type 0 where
@@ -213,13 +210,14 @@ ongoing_begin a s0 may none none_merges = record {
   stays = stays_same a a refl;
 }
 
-few_installs : (b : Bool) → (if b then 2 else 1) ≤ 2
-few_installs true = omega arith
-few_installs false = omega arith
+few_installs : (next : Next) → install_steps next ≤ 3
+few_installs (Erase beside) = omega arith
+few_installs (Program page) = omega arith
+few_installs (Again page) = omega arith
 
 -- it has few steps
-freeze_few : (d : Parts) → freeze_left_of d ≤ 6
-freeze_few d = let few = few_installs (erases_next d.log.next) in omega (arith, few)
+freeze_few : (d : Parts) → freeze_left_of d ≤ 7
+freeze_few d = let few = few_installs d.log.next in omega (arith, few)
 
 -- ended steps of it, whatever they answered
 ended_keeps : {T : Type 0} (x : T) (b c : Parts) (k : ℕ) (s1 s2 : BoardState) → StepKeeps b c k s1 s2 (Ok x) → StepKeeps {T = Unit {0}} b c k s1 s2 (Ok tt)
@@ -254,12 +252,15 @@ module _ (a : Parts) (s0 : BoardState) (b : Parts) (s : BoardState) (ready : IsR
         omega (arith, few, most, left, least));
   }
 
-  room_left : on.made + 1 ≤ whole_freeze
-  room_left = let left = on.left in let few = freeze_few a in omega (arith, left, few)
+  -- one more, and the second program of its root
+  room_left : (n : ℕ) → n ≤ freeze_left_of b + 1 → on.made + n ≤ whole_freeze
+  room_left n few = let left = on.left in let most = freeze_few a in omega (arith, left, few, most)
 
-  pub ongoing_more : (c : Parts) (s1 : BoardState) (x : Bool) → x ≡ false → FreezesOnce b c s s1 (Ok x) → Ongoing a s0 c s1
+  pub ongoing_more : (c : Parts) (s1 : BoardState) (x : Bool) → x ≡ false → FreezesWhole b c s s1 (Ok x) → Ongoing a s0 c s1
   ongoing_more c s1 x is once =
-      let moves : FreezeMoves (index_of b) (index_of c) = subst (λ done. MatchBool done (Freezes (index_of b) (index_of c)) (FreezeMoves (index_of b) (index_of c))) is once.freezes in
+      let on_with = once.goes_on (ap (λ y. Ok y) is) in
+      let moves : FreezeMoves (index_of b) (index_of c) = on_with.1 in
+      let single : once.made ≡ 1 = on_with.0 in
       let one = ended_keeps x b c 1 s s1 once.step in
       record {
         made = on.made + 1;
@@ -267,7 +268,7 @@ module _ (a : Parts) (s0 : BoardState) (b : Parts) (s : BoardState) (ready : IsR
         may = may_after b c 1 s s1 tt on.may once.leaves.same_shape one;
         none_pending = once.none_pending;
         none_merges = still_none (index_of b) (index_of c) moves ∙ on.none_merges;
-        calls = few_more on.made s0 s s1 on.calls once.calls;
+        calls = few_within (on.made + once.made) (on.made + 1) s0 s1 (omega (arith, single)) (few_then on.made once.made s0 s s1 on.calls once.calls);
         left = (let left = on.left in let less = moves.lowers.less in let none = moves.lowers.none_ready in omega (arith, left, less, none));
         no_root = once.no_root (ap (λ y. Ok y) is) ∙ on.no_root;
         leaves = leaves_twice a b c on.leaves once.leaves;
@@ -275,29 +276,29 @@ module _ (a : Parts) (s0 : BoardState) (b : Parts) (s : BoardState) (ready : IsR
       }
 
   -- whether it went on, ended or failed; its last step installs a root
-  pub ongoing_spends : (c : Parts) (s1 : BoardState) (r : Result Bool Fault) → FreezesOnce b c s s1 r → Spends whole_freeze 1 s0 s1
+  pub ongoing_spends : (c : Parts) (s1 : BoardState) (r : Result Bool Fault) → FreezesWhole b c s s1 r → Spends whole_freeze 1 s0 s1
   ongoing_spends c s1 r once =
       let one : roots s1 ≤ roots s + 1 = once.step.roots_few in
       let none = on.no_root in
       record {
-        calls = few_within (on.made + 1) whole_freeze s0 s1 room_left (few_more on.made s0 s s1 on.calls once.calls);
+        calls = few_within (on.made + once.made) whole_freeze s0 s1 (room_left once.made once.within) (few_then on.made once.made s0 s s1 on.calls once.calls);
         installs = omega (arith, one, none);
       }
 
-  pub ongoing_end : (c : Parts) (s1 : BoardState) (x : Bool) → FreezesOnce b c s s1 (Ok x) → StepKeeps {T = Unit {0}} a c whole_freeze s0 s1 (Ok tt)
-  ongoing_end c s1 x once = keeps_later (Ok tt) a b c on.made 1 whole_freeze s0 s s1 tt ready on.leaves.same_shape room_left on.step (ended_keeps x b c 1 s s1 once.step)
+  pub ongoing_end : (c : Parts) (s1 : BoardState) (x : Bool) → FreezesWhole b c s s1 (Ok x) → StepKeeps {T = Unit {0}} a c whole_freeze s0 s1 (Ok tt)
+  ongoing_end c s1 x once = keeps_later (Ok tt) a b c on.made 1 whole_freeze s0 s s1 tt ready on.leaves.same_shape (room_left 1 (omega arith)) on.step (ended_keeps x b c 1 s s1 once.step)
 
-  pub ongoing_failed : (c : Parts) (s1 : BoardState) (e : Fault) → FreezesOnce b c s s1 (Err e) → StepKeeps {T = Unit {0}} a c whole_freeze s0 s1 (Err e)
+  pub ongoing_failed : (c : Parts) (s1 : BoardState) (e : Fault) → FreezesWhole b c s s1 (Err e) → StepKeeps {T = Unit {0}} a c whole_freeze s0 s1 (Err e)
   ongoing_failed c s1 e once =
-      keeps_later (Err e) a b c on.made 1 whole_freeze s0 s s1 tt ready on.leaves.same_shape room_left on.step
+      keeps_later (Err e) a b c on.made 1 whole_freeze s0 s s1 tt ready on.leaves.same_shape (room_left 1 (omega arith)) on.step
       (Step-broken e (λ (x : Bool). KeepsAll b c s s1) (λ (x : Unit). KeepsAll b c s s1) (BreaksAll b s s1) (BreaksAll b s s1) b.log.shape 1 1 s s1 (omega arith) (λ broken. broken) once.step)
 
   -- ---- behind it any key has room
 
-  -- the active buffer is empty, and the newest epoch has all its pages
-  module _ (c : Parts) (s1 : BoardState) (x : Bool) (ended : x ≡ true) (once : FreezesOnce b c s s1 (Ok x)) where
-    freezes : Freezes (index_of b) (index_of c)
-    freezes = subst (λ done. MatchBool done (Freezes (index_of b) (index_of c)) (FreezeMoves (index_of b) (index_of c))) ended once.freezes
+  -- the active buffer is empty, and the newest epoch has all its commits
+  module _ (c : Parts) (s1 : BoardState) (x : Bool) (ended : x ≡ true) (once : FreezesWhole b c s s1 (Ok x)) where
+    freezes : BeginsEpoch b c
+    freezes = once.begins (ap (λ y. Ok y) ended)
 
     abbrev there : (m : Map) × StandsFor c c.log.shape s1.pages m
     there = stands_after b c s s1 on.may.stands once.leaves.same_shape once.step.ended
@@ -308,8 +309,8 @@ module _ (a : Parts) (s0 : BoardState) (b : Parts) (s : BoardState) (ready : IsR
     none_active : c.log.active.entries ≡ []
     none_active = ap (λ (t : Table). t.entries) freezes.active ∙ none_left (is_between b.schedule.phase) b.log.frozen.entries on.none_merges
 
-    all_left : left_of c.log.epoch ≡ epoch_pages c.log.shape
-    all_left = (λ i. if freezes.takes_more i then epoch_pages (logs.epoch_shape i) - freezes.unused i else 0) ∙ minus_none (epoch_pages c.log.shape)
+    all_left : left_of c.log.epoch ≡ epoch_commits c.log.shape
+    all_left = (λ i. if freezes.takes_more i then epoch_commits (logs.epoch_shape i) - freezes.unused i else 0) ∙ minus_none (epoch_commits c.log.shape)
 
     any_room : (key : Key) → needs_freeze c.log key ≡ false
     any_room key =
@@ -329,7 +330,9 @@ module _ (a : Parts) (s0 : BoardState) (b : Parts) (s : BoardState) (ready : IsR
 pub left_most : (d : Parts) (board : BoardState) → MayStep d board → merges_left d ≤ emptying d.log.shape 4
 left_most d board may =
     let there = may.stands.1 in
-    merging_most d.log.shape (backlog_of (index_of d)) (index_backlog (index_of d) (frames_of d) board.pages there.top there.found there.with.index there.with.placed.size)
+    let most = merging_most d.log.shape (backlog_of (index_of d)) (index_backlog (index_of d) (frames_of d) board.pages there.top there.found there.with.index there.with.placed.size) in
+    let none : repeating d.log.shape (backlog_of (index_of d)) ≡ 0 = ap (λ (b : Bool). if b then 1 else 0) there.whole.settles.whole in
+    omega (arith, most, none)
 
 -- the numbers of roots last
 pub merges_last : (d : Parts) (board : BoardState) → MayStep d board → roots board + room_calls d.log.shape < 18446744073709551615 → roots board + merges_left d < 18446744073709551615

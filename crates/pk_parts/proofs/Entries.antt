@@ -47,6 +47,7 @@ use Rattle.pk_parts.specs.Agreeing.{DriveOnFlashWith}
 use Rattle.pk_parts.specs.Moves.{StandsFor}
 use Rattle.pk_parts.specs.Noting.{Puts, Drops, more_keys}
 use Rattle.pk_schedule.proofs.Keeping.{index_pushed}
+use Rattle.pk_parts.proofs.Halves.{whole_like}
 use Rattle.pk_parts.proofs.Reclaiming.{reclaim_stored, reclaim_gone, zero_fewer, replaced_fewer}
 use Rattle.pk_parts.proofs.Writing.{named_owner, journal_or_values, meta_or_values}
 
@@ -147,6 +148,7 @@ module _ (d : Parts) (flash : Flash) (m : Map) (key : Key) (value : List ℕ) (p
     rising = rising d d.log.shape flash p.top p.found p.without m p.with;
     old_is = ap (span_if_some d.log.shape) p.old_is ∙ sym o_is;
     new_is = sym n_is;
+    even = p.place.even;
     short = p.place.short;
     in_open = p.in_open;
     free = λ k is is_value. p.written.apart p.top p.found p.without m p.with k is is_value;
@@ -230,6 +232,7 @@ put_stands_at d flash m key value page old p log space keys o n noted o_is n_is 
       found = p.found;
       without = p.without;
       with = put_agrees d flash m key value page old p space placed_now o space_now logs (noted.fits_in flash p.top p.found p.with.index.logs);
+      whole = whole_like d (record d { log = pushed d.log e; space = space; keys = more_keys d.keys old }) refl (λ none. none) refl refl p.whole;
     } in
     subst (λ (l : LogState). P l keys) (sym noted.pushed_is) (subst (λ (k : ℕ). P (pushed d.log e) k) (sym keys_are) there)
 
@@ -334,6 +337,7 @@ gone_stands_at d flash m key old p log space n noted n_is space_is removed =
       found = p.found;
       without = p.without;
       with = gone_agrees d flash m key old p space placed_now n.page space_is logs (noted.fits_in flash p.top p.found p.with.index.logs);
+      whole = whole_like d (record d { log = pushed d.log e; space = space; keys = d.keys - 1 }) refl (λ none. none) refl refl p.whole;
     } in
     subst (λ (l : LogState). StandsFor (record d { log = l; space = space; keys = d.keys - 1 }) d.log.shape flash (remove m key)) (sym noted.pushed_is) there
 

@@ -4,6 +4,7 @@ use Rattle.std.specs.Prelude.{IfOk, OnErr}
 use Rattle.pk_base.specs.Key.{Key}
 use Rattle.pk_base.specs.Shape.{Shape, charge}
 use Rattle.pk_base.specs.Page.{Flash, page_at, erased, whole}
+use Rattle.pk_base.proofs.ShapeLemmas.{charge_even}
 use Rattle.pk_segfmt.specs.Stored.{page_of, IsStored}
 use Rattle.pk_nand.specs.BoardState.{BoardState}
 use Rattle.pk_nand.specs.Calls.{ProgramFailed}
@@ -43,6 +44,7 @@ writes_next shape key value page space between new next run stored =
     let count : ℕ = charge shape (length value) in
     let outside : SameOutside page count between.pages new.pages = at_end run.0 between new (λ flash _. SameOutside page count between.pages flash) run.1 in
     record {
+      pairs = charge_even shape (length value);
       outside = subst (λ (p : ℕ). SameOutside p count between.pages new.pages) next outside;
       written = λ k low high. stored_page shape new.pages key page value stored k (omega (arith, low, next)) (omega (arith, high, next));
     }

@@ -2,7 +2,7 @@
 use Rattle.std.proofs.Common.{◌≡◌, ℕ, ◌<◌, Bool, true, false, ◌&&◌, ◌==◌, [], length, arith, refl}
 use Rattle.std.proofs.lemmas.Bool.Decides.{nat_tests}
 use Rattle.pk_base.specs.Key.{Key}
-use Rattle.pk_base.specs.Shape.{Shape, IsShape, buffer, epoch_pages}
+use Rattle.pk_base.specs.Shape.{Shape, IsShape, buffer, epoch_commits}
 use Rattle.pk_base.proofs.ShapeLemmas.{block_pages_positive}
 use Rattle.pk_work.specs.Backlog.{is_tight}
 use Rattle.pk_jrn.specs.Epochs.{left_of}
@@ -28,7 +28,7 @@ pub left_some : (shape : Shape) → IsShape shape → 0 < buffer shape
 left_some shape is_shape = let least = is_shape.page_least in omega (arith, least)
 
 -- and room for the moves of any reclaim
-pub frozen_is_room : (shape : Shape) → IsShape shape → is_tight shape 0 (epoch_pages shape) ≡ false
+pub frozen_is_room : (shape : Shape) → IsShape shape → is_tight shape 0 (epoch_commits shape) ≡ false
 frozen_is_room shape is_shape =
     let few = is_shape.moves_fit in
     let positive = block_pages_positive shape is_shape in

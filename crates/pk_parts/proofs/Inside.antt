@@ -1,6 +1,6 @@
 -- Steps of merges and of a freeze inside a command: each keeps the map.
-use Rattle.std.proofs.Common.{◌≡◌, inl, inr, ℕ, zero, suc, ◌+◌, ◌-◌, ◌<◌, ◌≤◌, refl, sym, ap, subst, ◌∙◌, arith, Bool, true, false, if◌then◌else◌, List, [], length, Option, Some, None, Result, Ok, Err}
-use Rattle.std.specs.Prelude.{IfOk, IfErr, IfSome, OnOk, OnErr, MatchBool}
+use Rattle.std.proofs.Common.{◌≡◌, ◌⊎◌, inl, inr, ℕ, zero, suc, ◌+◌, ◌-◌, ◌<◌, ◌≤◌, refl, sym, ap, subst, ◌∙◌, arith, Bool, true, false, List, [], length, Option, Some, None, Result, Ok, Err}
+use Rattle.std.specs.Prelude.{IfSome, OnOk, OnErr}
 use Rattle.pk_base.specs.Shape.{Shape}
 use Rattle.pk_base.specs.Page.{Flash, page_at}
 use Rattle.pk_base.specs.Map.{Map}
@@ -15,36 +15,40 @@ use Rattle.pk_rootfmt.specs.Root.{Root}
 use Rattle.pk_rootfmt.specs.Newest.{newest_root}
 use Rattle.pk_model.specs.Found.{Found}
 use Rattle.pk_model.specs.Reading.{reading}
-use Rattle.pk_model.specs.Growth.{Goes}
+use Rattle.pk_model.specs.Growth.{Grows, Goes}
 use Rattle.pk_model.specs.Crashes.{CrashFinds, background, commit}
 use Rattle.pk_model.specs.Wear.{root_number, roots}
 use Rattle.pk_model.proofs.Growing.{weaken, weaken_went}
 use Rattle.pk_steps.specs.Under.{places}
 use Rattle.pk_steps.proofs.Untouched.{under_reads}
 use Rattle.pk_root.specs.declared.next.Next.{Next}
-use Rattle.pk_root.specs.Installing.{erases_next}
+use Rattle.pk_root.specs.declared.next.Next.TheVariants.{Erase, Program, Again}
+use Rattle.pk_root.specs.Installing.{repeats_next}
+use Rattle.pk_plan.specs.declared.owner.Owner.TheVariants.{Values}
+use Rattle.pk_pool.specs.Blocks.{used_by}
 use Rattle.pk_compact.specs.FreezeSteps.{install_steps}
 use Rattle.pk_schedule.specs.declared.phase.Phase.{Phase}
 use Rattle.pk_schedule.specs.declared.phase.Phase.TheVariants.{Idle as Between, Running, Ready}
 use Rattle.pk_schedule.specs.declared.phase.Stepped.{Stepped}
 use Rattle.pk_schedule.specs.declared.phase.Stepped.TheVariants.{Worked, Idle}
-use Rattle.pk_schedule.specs.Index.{Index, IndexOnFlash}
-use Rattle.pk_schedule.specs.Steps.{MayWork, MayFreeze, IndexMoves, Moves, Unmoved, StandsStill, Breaks, KeepsActive, FreezeMoves, Freezes, Less, LessIsLeft, backlog_of, merge_left, has_no_merge, is_between}
+use Rattle.pk_schedule.specs.Index.{Index, IndexOnFlash, settled}
+use Rattle.pk_schedule.specs.Steps.{MayWork, MayFreeze, IndexMoves, Moves, Unmoved, StandsStill, Breaks, KeepsActive, FreezeMoves, Freezes, FreezeBreaks, Less, LessIsLeft, backlog_of, merge_left, has_no_merge, is_between}
 use Rattle.pk_log.specs.State.{LogState}
 use Rattle.pk_jrn.specs.Epochs.{JournalEpoch}
 use Rattle.pk_work.specs.Backlog.{due_level}
-use Rattle.pk_work.specs.Work.{merging, merging_from}
+use Rattle.pk_work.specs.Work.{merging_left, merging_from}
 use Rattle.pk_schedule.proofs.Backlogs.{some_due}
 use Rattle.pk_parts.specs.Parts.{Parts, frames_of, index_of, outputs_of}
 use Rattle.pk_parts.specs.Agreeing.{DriveOnFlashWith}
-use Rattle.pk_parts.specs.Moves.{StandsFor, Keeps, KeepsAll, BreaksAll, LeavesValues}
+use Rattle.pk_parts.specs.Moves.{StandsFor, Keeps, KeepsAll, KeepsBetween, KeepsAllBetween, BreaksAll, LeavesValues}
 use Rattle.pk_parts.specs.Reclaiming.{Holds, HoldsAll, FailsAll}
 use Rattle.pk_parts.specs.Emptying.{Came, ReadsUpTo, OnRunning, MayEmpty, MergesOnce, FreezesOnce, merges_left, merges_due}
 use Rattle.pk_parts.specs.Staying.{Stays}
 use Rattle.pk_parts.proofs.Standing.{same_found}
-use Rattle.pk_parts.proofs.Keeping.{KeepsAll-none}
+use Rattle.pk_parts.proofs.Halves.{counted_index, whole_like}
+use Rattle.pk_parts.proofs.Keeping.{KeepsAll-none, keeps_between}
 use Rattle.pk_parts.proofs.Staying.{stays_same}
-use Rattle.pk_parts.proofs.Indexing.{with_index, may_work as may_work_with, moved_with}
+use Rattle.pk_parts.proofs.Indexing.{with_index, may_work as may_work_with, moved_with, moved_course}
 
 -- ---- what a step asks
 
@@ -66,7 +70,7 @@ module _ (d : Parts) (old : BoardState) (may : MayEmpty d old) where
   Here m = StandsFor d d.log.shape old.pages m
 
   pub may_work : (m : Map) (there : Here m) → MayWork (index_of d) (frames_of d) old.pages there.top there.found m
-  may_work m there = may_work_with d old.pages there.top there.found there.without m there.with may.none_pending (
+  may_work m there = may_work_with d old.pages there.top there.found there.without m there.with may.none_pending there.whole.settles (
       let few = may.number in
       let of_log : roots old ≡ d.log.root.number = number_is (index_of d) (frames_of d) old there.top there.found may.may.ready there.with.index in
       omega (arith, few, of_log))
@@ -89,9 +93,15 @@ module _ (d : Parts) (old : BoardState) (may : MayEmpty d old) where
       let P : Shape → Type 0 = λ s. StandsFor d s old.pages m → Keeps d e s m old new in
       subst P stands.with.shape_is (keeps m) stands
 
+  -- the same where a pair may be half made
+  on_own_between : (e : Parts) (new : BoardState) → ((m : Map) → Here m → KeepsBetween d e d.log.shape m old new) → KeepsAllBetween d e old new
+  on_own_between e new keeps shape m stands =
+      let P : Shape → Type 0 = λ s. StandsFor d s old.pages m → KeepsBetween d e s m old new in
+      subst P stands.with.shape_is (keeps m) stands
+
   -- wherever it is cut
-  pub moved_holds : (x : Index) (new : BoardState) → IsReady new d.log.shape → Moves (index_of d) old x new → HoldsAll d (with_index d x) old new
-  moved_holds x new ready moves shape m stands =
+  pub moved_holds : (x : Index) (new : BoardState) → IsReady new d.log.shape → x.log.epoch.half ≡ false → Moves (index_of d) old x new → HoldsAll d (with_index d x) old new
+  moved_holds x new ready epoch moves shape m stands =
       let P : Shape → Type 0 = λ s. StandsFor d s old.pages m → Holds (with_index d x) s m old new in
       subst P stands.with.shape_is (λ there.
       let is = moves (frames_of d) there.top there.found m (may_work m there) in
@@ -101,6 +111,7 @@ module _ (d : Parts) (old : BoardState) (may : MayEmpty d old) where
           found = is.then_found;
           without = m;
           with = moved_with d old new there.top there.found there.without m there.with may.none_pending x ready is;
+          course = moved_course d old new there.top there.found there.without m there.with may.none_pending x ready is there.whole epoch;
         };
         cuts = is.cuts;
       }) stands
@@ -110,8 +121,8 @@ module _ (d : Parts) (old : BoardState) (may : MayEmpty d old) where
       let P : Shape → Type 0 = λ s. StandsFor d s old.pages m → Goes s old new (CrashFinds s background old.pages m) in
       subst P stands.with.shape_is (λ there. breaks (frames_of d) there.top there.found m (may_work m there)) stands
 
-  pub moved_keeps : (x : Index) (new : BoardState) → IsReady new d.log.shape → Moves (index_of d) old x new → KeepsAll d (with_index d x) old new
-  moved_keeps x new ready moves = on_own_shape (with_index d x) new (λ m there.
+  pub moved_keeps : (x : Index) (new : BoardState) → IsReady new d.log.shape → x.log.epoch.half ≡ false → Moves (index_of d) old x new → KeepsAllBetween d (with_index d x) old new
+  moved_keeps x new ready epoch moves = on_own_between (with_index d x) new (λ m there.
       let is = moves (frames_of d) there.top there.found m (may_work m there) in
       let run = is.cuts in
       record {
@@ -120,6 +131,7 @@ module _ (d : Parts) (old : BoardState) (may : MayEmpty d old) where
           found = is.then_found;
           without = m;
           with = moved_with d old new there.top there.found there.without m there.with may.none_pending x ready is;
+          course = moved_course d old new there.top there.found there.without m there.with may.none_pending x ready is there.whole epoch;
         };
         same_places = λ was.
             ap (places is.then_found) is.none_pending
@@ -129,6 +141,10 @@ module _ (d : Parts) (old : BoardState) (may : MayEmpty d old) where
         still = inr (under_reads d.log.shape new.pages [] is.then_top is.then_found m is.under);
         cuts = (run.0, weaken run.0 old new (CrashFinds d.log.shape background old.pages m) (CrashFinds d.log.shape commit old.pages m) (commit_cut m) run.1, run.2);
       })
+
+  -- the tree grows
+  pub moved_grows : (x : Index) (new : BoardState) → Moves (index_of d) old x new → Grows d.log.shape old.pages new.pages
+  moved_grows x new moves = let some = may.may.stands in (moves (frames_of d) some.1.top some.1.found some.0 (may_work some.0 some.1)).grows
 
   pub broken_breaks : (new : BoardState) → Breaks (index_of d) old new → BreaksAll d old new
   broken_breaks new breaks shape m stands =
@@ -163,7 +179,13 @@ module _ (d : Parts) (old : BoardState) (may : MayEmpty d old) where
       } in
       let K : Parts → Type 0 = λ e. Keeps d e d.log.shape m old new in
       subst K (sym here) (record {
-        stands = record { top = there.top; found = there.found; without = there.without; with = subst D (sym same) agrees };
+        stands = record {
+          top = there.top;
+          found = there.found;
+          without = there.without;
+          with = subst D (sym same) agrees;
+          whole = whole_like d (with_job x) refl (λ none. none) refl refl there.whole;
+        };
         same_places = λ was. ap (λ (f : Found). places f d.log.pending) (same_found d d.log.shape old.pages m was there);
         still = inl (ap (λ (f : Flash). reading d.log.shape f []) same);
         cuts = ([], Reached-start old new (CrashFinds d.log.shape commit old.pages m) (ap (λ (b : BoardState). b.shape) read_only) same (ap (λ (b : BoardState). b.trail) read_only) (ap (λ (b : BoardState). b.posted) read_only) (refl, inl refl), tt);
@@ -180,11 +202,9 @@ one_call old new few (inr (inr (inr (same, p, e)))) = record { up = omega (arith
 -- ---- a step of the merges
 
 installs_some : (next : Next) → 1 ≤ install_steps next
-installs_some next = picked (erases_next next)
-  where
-    picked : (b : Bool) → 1 ≤ (if b then 2 else 1)
-    picked true = omega arith
-    picked false = omega arith
+installs_some (Erase beside) = omega arith
+installs_some (Program page) = omega arith
+installs_some (Again page) = omega arith
 
 -- a merge that runs has steps left
 running_some : (phase : Phase) (x : Index) → IfSome (merge_left phase x) (λ left. 1 ≤ left)
@@ -224,6 +244,10 @@ module _ (d : Parts) (old : BoardState) (may : MayEmpty d old) (x : Index) (new 
   same_epoch : KeepsActive d.log x.log → x.log.epoch ≡ d.log.epoch
   same_epoch active = ap (λ (l : LogState). l.epoch) active
 
+  -- no commit of the epoch is half made
+  pub whole_epoch : KeepsActive d.log x.log → x.log.epoch.half ≡ false
+  whole_epoch active = ap (λ (e : JournalEpoch). e.half) (same_epoch active) ∙ may.may.stands.1.whole.epoch
+
   -- the map for which it stands
   abbrev some : (m : Map) × StandsFor d d.log.shape old.pages m
   some = may.may.stands
@@ -231,8 +255,12 @@ module _ (d : Parts) (old : BoardState) (may : MayEmpty d old) (x : Index) (new 
   moved : Moves (index_of d) old x new → IndexMoves (index_of d) (frames_of d) old some.1.found some.0 x new
   moved moves = moves (frames_of d) some.1.top some.1.found some.0 (may_work d old may some.0 some.1)
 
+  -- as many blocks have values, also where some leave
+  pub moved_many : Moves (index_of d) old x new → used_by Values x.pool.states ≡ used_by Values d.pool.states
+  moved_many moves = let is = moved moves in counted_index x new.pages some.0 is.ends ∙ is.values.as_many
+
   pub moved_leaves : x.log.shape ≡ d.log.shape → Moves (index_of d) old x new → LeavesValues d its
-  moved_leaves same moves = let is = moved moves in record { rest = refl; frames = is.stands.arena_is.size; same_shape = same; as_many = is.values.as_many }
+  moved_leaves same moves = let is = moved moves in record { rest = refl; frames = is.stands.arena_is.size; same_shape = same; as_many = moved_many moves }
 
   -- an epoch that goes on
   pub moved_stays : x.log.epoch ≡ d.log.epoch → Moves (index_of d) old x new → Stays d its
@@ -249,14 +277,14 @@ module _ (d : Parts) (old : BoardState) (may : MayEmpty d old) (x : Index) (new 
               ∙ was.epoch_number
               ∙ sym (ap (λ (r : Root). r.epoch) was.root_is));
         };
-        blocks = record { used = ap (λ (n : ℕ). n - length (outputs_of d)) is.values.as_many; open_same = refl };
+        blocks = record { used = ap (λ (n : ℕ). n - length (outputs_of d)) (moved_many moves); open_same = refl };
       }
 
   -- one that begins
   pub begun_stays : x.log.epoch.takes_more ≡ true → Moves (index_of d) old x new → Stays d its
   begun_stays more moves = record {
     fresh = record { stays = λ was. more; begun = inr more };
-    blocks = record { used = ap (λ (n : ℕ). n - length (outputs_of d)) (moved moves).values.as_many; open_same = refl };
+    blocks = record { used = ap (λ (n : ℕ). n - length (outputs_of d)) (moved_many moves); open_same = refl };
   }
 
   -- the same index
@@ -275,9 +303,9 @@ module _ (d : Parts) (old : BoardState) (may : MayEmpty d old) (x : Index) (new 
       let S : Index → Type 0 = λ y. Stays d (with_index d y) in
       subst S (sym unmoved.rest) (record { fresh = record { stays = λ e. e; begun = inl refl }; blocks = record { used = refl; open_same = refl } })
 
-  merge_came : (r : Result Stepped Fault) → MergeStep (index_of d) old x new r → old.read_faults ≤ last_count → Came (λ (s : Stepped). KeepsAll d its old new) (KeepsAll d its old new) (BreaksAll d old new) old new r
-  merge_came (Ok Idle) step few = let idle = step.idle refl in (KeepsAll-none d its old new (ap (with_index d) idle.1) idle.2, step.sound)
-  merge_came (Ok Worked) step few = (moved_keeps d old may x new step.ready (step.moves refl), step.sound)
+  merge_came : (r : Result Stepped Fault) → MergeStep (index_of d) old x new r → old.read_faults ≤ last_count → Came (λ (s : Stepped). KeepsAllBetween d its old new) (KeepsAll d its old new) (BreaksAll d old new) old new r
+  merge_came (Ok Idle) step few = let idle = step.idle refl in (keeps_between d its old new (KeepsAll-none d its old new (ap (with_index d) idle.1) idle.2), step.sound)
+  merge_came (Ok Worked) step few = (moved_keeps d old may x new step.ready (whole_epoch step.active) (step.moves refl), step.sound)
   merge_came (Err Reading) step few =
       let unmoved = step.unmoved refl in
       let rose = step.unread refl in (
@@ -306,7 +334,8 @@ module _ (d : Parts) (old : BoardState) (may : MayEmpty d old) (x : Index) (new 
   merge_some (Ok s) step = tt
   merge_some (Err e) step =
       let due : 1 ≤ merges_due d = some_due (index_of d) (frames_of d) old.pages some.1.top some.1.found some.1.with.index step.running in
-      merging_some d.log.shape (merges_due d) (merge_left d.schedule.phase (index_of d)) due (running_some d.schedule.phase (index_of d))
+      let least = merging_some d.log.shape (merges_due d) (merge_left d.schedule.phase (index_of d)) due (running_some d.schedule.phase (index_of d)) in
+      omega (arith, least)
 
   -- ---- the roots
 
@@ -316,7 +345,7 @@ module _ (d : Parts) (old : BoardState) (may : MayEmpty d old) (x : Index) (new 
   its_number : IsReady new d.log.shape → x.log.shape ≡ d.log.shape → Moves (index_of d) old x new → roots new ≡ x.log.root.number
   its_number ready same moves =
       let is = moved moves in
-      number_is x (frames_of d) new is.then_top is.then_found (subst (λ (s : Shape). IsReady new s) (sym same) ready) is.stands
+      number_is (settled x) (frames_of d) new is.then_top is.then_found (subst (λ (s : Shape). IsReady new s) (sym same) ready) is.stands
 
   its_less : Less (index_of d) old.pages x → LessIsLeft (index_of d) x
   its_less less = less (frames_of d) some.1.top some.1.found some.0 (may_work d old may some.0 some.1)
@@ -370,7 +399,7 @@ module _ (d : Parts) (old : BoardState) (may : MayEmpty d old) (x : Index) (new 
     some = merge_some r step;
     less = λ is.
         let less = (its_less (step.less is)).merging in
-        subst (λ (s : Shape). merging s (backlog_of x) < merges_left d) (sym (same_shape step.active)) less;
+        subst (λ (s : Shape). merging_left s (backlog_of x) < merges_left d) (sym (same_shape step.active)) less;
     installs = merge_installs r step;
     due = merge_due r step;
     none_pending = ap (λ (l : LogState). l.pending) step.active ∙ may.none_pending;
@@ -381,23 +410,34 @@ module _ (d : Parts) (old : BoardState) (may : MayEmpty d old) (x : Index) (new 
   -- ---- a step of a freeze
 
   -- what a freeze that goes on or ends says
-  abbrev pub FreezeDone : Bool → Type 0
-  FreezeDone done = MatchBool done (Freezes (index_of d) x) (FreezeMoves (index_of d) x)
+  abbrev pub FreezeDone : Type 0
+  FreezeDone = FreezeMoves (index_of d) x ⊎ Freezes (index_of d) x
 
-  freeze_stays : (done : Bool) → Moves (index_of d) old x new → FreezeDone done → Stays d its
-  freeze_stays true moves done = begun_stays done.takes_more moves
-  freeze_stays false moves done = moved_stays (ap (λ (l : LogState). l.epoch) done.log) moves
+  freeze_stays : Moves (index_of d) old x new → FreezeDone → Stays d its
+  freeze_stays moves (inl on) = moved_stays (ap (λ (l : LogState). l.epoch) on.log) moves
+  freeze_stays moves (inr done) = begun_stays done.takes_more moves
 
-  -- a step behind which it goes on installs no root
-  freeze_root : (done : Bool) → IsReady new d.log.shape → x.log.shape ≡ d.log.shape → Moves (index_of d) old x new → FreezeDone done → ◌≡◌ {A = Result Bool Fault} (Ok done) (Ok false) → roots new ≡ roots old
-  freeze_root true ready same moves done is = absurd (let z : ⊥ = cc in z)
-  freeze_root false ready same moves done is = its_number ready same moves ∙ ap (λ (l : LogState). l.root.number) done.log ∙ sym was_number
+  pub freeze_epoch : FreezeDone → x.log.epoch.half ≡ false
+  freeze_epoch (inl on) = ap (λ (l : LogState). l.epoch.half) on.log ∙ some.1.whole.epoch
+  freeze_epoch (inr done) = done.whole_epoch
 
-  pub freezes_once : (r : Result Bool Fault) → OnOk r (Moves (index_of d) old x new) → IfOk r FreezeDone → (x.log.shape ≡ d.log.shape) × (x.log.pending ≡ d.log.pending) → IfErr r (λ fault. fault ≡ Stopped)
-      → OnErr r (Breaks (index_of d) old new × Stops old new) → OnOk r (Works old new) → AtMostOneCall old new → roots new ≤ roots old + 1 → IsReady new d.log.shape → FreezesOnce d its old new r
-  freezes_once (Ok done) moves freezes same stopped broken works calls few ready = record {
+  -- a step after which no root is half made installs none
+  freeze_root : IsReady new d.log.shape → x.log.shape ≡ d.log.shape → Moves (index_of d) old x new → FreezeDone → repeats_next x.log.next ≡ false → roots new ≡ roots old
+  freeze_root ready same moves (inl on) whole = its_number ready same moves ∙ ap (λ (l : LogState). l.root.number) on.log ∙ sym was_number
+  freeze_root ready same moves (inr done) whole = absurd (let clash : true ≡ false = sym done.half ∙ whole in let z : ⊥ = cc in z)
+
+  -- no pair of a root is half made before, so that the step was not a second program
+  pub freeze_first : (done : Bool) (r : Result Bool Fault) → r ≡ Ok done → done ≡ repeats_next d.log.next → r ≡ Ok false
+  freeze_first done r is turn = is ∙ ap Ok (turn ∙ some.1.whole.settles.whole)
+
+  pub freeze_breaks : has_no_merge (index_of d) ≡ true → FreezeBreaks (index_of d) old new → Breaks (index_of d) old new
+  freeze_breaks none breaks frames top found m ok = breaks frames top found m (inl (record { may = ok; none_merges = none }))
+
+  pub freeze_went : Moves (index_of d) old x new → FreezeDone → (x.log.shape ≡ d.log.shape) × (x.log.pending ≡ d.log.pending) → Works old new → AtMostOneCall old new → roots new ≤ roots old + 1 → IsReady new d.log.shape
+      → FreezesOnce d its old new (Ok tt)
+  freeze_went moves freezes same works calls few ready = record {
     step = record {
-      ended = moved_keeps d old may x new ready moves;
+      ended = moved_keeps d old may x new ready (freeze_epoch freezes) moves;
       broken = tt;
       works = works;
       stops = tt;
@@ -407,24 +447,27 @@ module _ (d : Parts) (old : BoardState) (may : MayEmpty d old) (x : Index) (new 
     };
     calls = calls;
     freezes = freezes;
-    no_root = freeze_root done ready same.0 moves freezes;
+    no_root = freeze_root ready same.0 moves freezes;
     none_pending = same.1 ∙ may.none_pending;
     leaves = moved_leaves same.0 moves;
-    stays = freeze_stays done moves freezes;
+    stays = freeze_stays moves freezes;
   }
-  freezes_once (Err fault) moves freezes same stopped broken works calls few ready = record {
+
+  pub freeze_failed : (fault : Fault) → (x.log.shape ≡ d.log.shape) × (x.log.pending ≡ d.log.pending) → fault ≡ Stopped → Breaks (index_of d) old new → Stops old new → AtMostOneCall old new → roots new ≤ roots old + 1
+      → IsReady new d.log.shape → FreezesOnce d its old new (Err fault)
+  freeze_failed fault same stopped broken stops calls few ready = record {
     step = record {
       ended = tt;
-      broken = broken_breaks d old may new broken.0;
+      broken = broken_breaks d old may new broken;
       works = tt;
-      stops = broken.1;
+      stops = stops;
       stopped = stopped;
       roots_few = few;
       ready = ready;
     };
     calls = calls;
     freezes = tt;
-    no_root = λ is. absurd (let z : ⊥ = cc in z);
+    no_root = tt;
     none_pending = same.1 ∙ may.none_pending;
     leaves = tt;
     stays = tt;

@@ -1,3 +1,4 @@
+pub mod Halves
 pub mod Searching
 pub mod Changing
 pub mod Standing
@@ -40,3 +41,8 @@ pub mod ReclaimTicks
 pub mod StoreCalls
 pub mod TickSteps
 pub mod MergeTicks
+pub mod Finishing
+pub mod Ending
+pub mod Whole
+pub mod Pairs
+pub mod HalfTicks

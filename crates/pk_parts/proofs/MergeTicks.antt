@@ -1,35 +1,34 @@
 -- What one step of a merge or of a freeze does, and what a Tick promises of it.
-use Rattle.std.proofs.Common.{◌≡◌, refl, sym, ap, subst, ◌∙◌, arith, Bool, true, false, length, Result, Ok, Err}
-use Rattle.std.specs.Prelude.{IfOk, IfErr, OnOk, OnErr, MatchBool, ◌&&◌, ◌==◌}
+use Rattle.std.proofs.Common.{◌≡◌, refl, sym, ap, subst, ◌∙◌, arith, true, false, length, Result, Ok, Err}
+use Rattle.std.specs.Prelude.{IfOk, IfErr, ◌&&◌, ◌==◌}
 use Rattle.pk_base.specs.Page.{Flash}
 use Rattle.pk_nand.specs.declared.types.Fault.{Fault}
 use Rattle.pk_nand.specs.declared.types.Fault.TheVariants.{Reading, Stopped}
 use Rattle.pk_nand.specs.BoardState.{BoardState}
-use Rattle.pk_model.specs.Growth.{Grows}
 use Rattle.pk_model.specs.Wear.{roots}
 use Rattle.pk_work.specs.Work.{work}
 use Rattle.pk_call.specs.declared.types.Ticked.TheVariants.{Worked as Goes, Fault as Fails}
 use Rattle.pk_schedule.specs.declared.phase.Stepped.{Stepped}
 use Rattle.pk_schedule.specs.declared.phase.Stepped.TheVariants.{Worked, Idle}
 use Rattle.pk_schedule.specs.Index.{Index}
-use Rattle.pk_schedule.specs.Steps.{Moves, Breaks, FreezeMoves, Freezes, Unmoved, backlog_of as backlog_of_index, has_no_merge, is_between}
-use Rattle.pk_parts.specs.Parts.{Parts, frames_of, index_of, sight_of, backlog_of, may_freeze}
+use Rattle.pk_schedule.specs.Steps.{Moves, Breaks, Unmoved, backlog_of as backlog_of_index, has_no_merge, is_between}
+use Rattle.pk_parts.specs.Parts.{Parts, frames_of, index_of, sight_of, backlog_of, may_freeze, is_half}
 use Rattle.pk_parts.specs.Moves.{StandsFor}
 use Rattle.pk_parts.specs.Emptying.{MayEmpty, MergesOnce, FreezesOnce}
 use Rattle.pk_parts.specs.Reclaiming.{FailsAll}
 use Rattle.pk_parts.specs.Merging.{DoesMerge, FailsMerge, Merges, CannotMerge, FreezesOn}
 use Rattle.pk_parts.specs.Ticking.{MayTick, Advances, WantsFreeze}
+use Rattle.pk_parts.proofs.Halves.{not_both}
 use Rattle.pk_parts.proofs.Indexing.{with_index}
 use Rattle.pk_parts.proofs.Unchanging.{agrees_ready}
 use Rattle.pk_parts.proofs.Staying.{stays_frees}
-use Rattle.pk_parts.proofs.Inside.{MergeStep, number_is, may_work, moved_holds, broken_fails, still_keeps}
+use Rattle.pk_parts.proofs.Inside.{MergeStep, FreezeDone, number_is, may_work, moved_holds, moved_many, whole_epoch, freeze_epoch, broken_fails, still_keeps}
 use Rattle.pk_parts.proofs.Remaining.{merge_less, freeze_less, freeze_wanted}
 use Rattle.pk_parts.proofs.Advancing.{busy_merge}
 use Rattle.pk_parts.proofs.Ticking.{busy_wanted}
 use Rattle.pk_pool.specs.Blocks.{IsShared}
 use Rattle.pk_nand.specs.Calls.{IsReady}
-use Rattle.pk_nand.specs.Effects.{Stops}
-use Rattle.pk_parts.proofs.TickSteps.{its_stand, made_advances, unread_advances, stop_advances}
+use Rattle.pk_parts.proofs.TickSteps.{its_whole, whole_holds, whole_fails, read_grows, made_advances, unread_advances, stop_advances}
 
 -- ---- made by a Tick or by a command
 
@@ -55,10 +54,11 @@ module _ (d : Parts) (old : BoardState) (may : MayEmpty d old) (x : Index) (new 
       let is = step.moves refl (frames_of d) some.1.top some.1.found some.0 work_may in
       let less = step.less refl (frames_of d) some.1.top some.1.found some.0 work_may in
       record {
-        holds = moved_holds d old may x new step.ready (step.moves refl);
+        holds = moved_holds d old may x new step.ready (whole_epoch d old may x new step.active) (step.moves refl);
+        grows = is.grows;
         busy = works refl;
         number = is.numbers;
-        less = merge_less d x is.values.as_many is.same_shape freeze step.active less.work;
+        less = merge_less d x (moved_many d old may x new (step.moves refl)) is.same_shape freeze step.active less.work;
       }
   merge_does (Err e) step works = tt
 
@@ -80,58 +80,60 @@ module _ (d : Parts) (old : BoardState) (may : MayEmpty d old) (x : Index) (new 
   merge_fails (Err Stopped) step = let broken = step.broken refl in (busy_of d step.running, broken_fails d old may new broken.0, broken.1)
 
 module _ (d : Parts) (old : BoardState) (may : MayEmpty d old) (x : Index) (new : BoardState) where
-  pub freeze_does : (r : Result Bool Fault) → OnOk r (Moves (index_of d) old x new) → IfOk r (λ done. MatchBool done (Freezes (index_of d) x) (FreezeMoves (index_of d) x))
-      → has_no_merge (index_of d) ≡ true → IsReady new d.log.shape
-      → OnOk r (FreezesOn d (with_index d x) old new)
-  freeze_does (Ok done) moves freezes merged ready =
+  pub freeze_does : Moves (index_of d) old x new → FreezeDone d old may x new → has_no_merge (index_of d) ≡ true → IsReady new d.log.shape → FreezesOn d (with_index d x) old new
+  freeze_does moves freezes merged ready =
       let some = may.may.stands in
       let is = moves (frames_of d) some.1.top some.1.found some.0 (may_work d old may some.0 some.1) in
       record {
-        holds = moved_holds d old may x new ready moves;
+        holds = moved_holds d old may x new ready (freeze_epoch d old may x new freezes) moves;
+        grows = is.grows;
         number = is.numbers;
-        less = λ wants. freeze_less d x done merged (freeze_wanted d wants) freezes is.values.as_many is.same_shape some.1.with.index.logs.is_shape is.stands.logs.epoch_shape;
+        less = λ wants.
+            freeze_less d x merged some.1.whole.settles.whole (freeze_wanted d wants) freezes (moved_many d old may x new moves) is.same_shape some.1.with.index.logs.is_shape is.stands.logs.epoch_shape;
       }
-  freeze_does (Err e) moves freezes merged ready = tt
 
-  pub freeze_fails : (r : Result Bool Fault) → OnErr r (Breaks (index_of d) old new × Stops old new) → OnErr r (FailsAll d old new)
-  freeze_fails (Ok done) broken = tt
-  freeze_fails (Err e) broken = broken_fails d old may new broken.0
+  pub freeze_fails : Breaks (index_of d) old new → FailsAll d old new
+  freeze_fails breaks = broken_fails d old may new breaks
 
 -- ---- made by a Tick
 
-module _ (d : Parts) (old : BoardState) (m : MayTick d old) where
+module _ (d : Parts) (old : BoardState) (m : MayTick d old) (none_half : is_half d ≡ false) where
+  no_pair : {X : Type 0} → is_half d ≡ true → X
+  no_pair half = absurd (not_both (is_half d) half none_half)
+
   pub may_empty : MayEmpty d old
   may_empty =
       let ready = agrees_ready d old m.agrees in
-      let there = its_stand d old m in
+      let there = its_whole d old m none_half in
       let few = m.number in
       let of_root : roots old ≡ d.log.root.number = number_is (index_of d) (frames_of d) old there.top there.found ready there.with.index in
       record { may = record { ready = ready; stands = (m.agrees.all, there) }; none_pending = m.none; number = omega (arith, few, of_root) }
 
-  module _ (d' : Parts) (new : BoardState) (grows : Grows d.log.shape old.pages new.pages) where
+  module _ (d' : Parts) (new : BoardState) where
     pub tick_merged : MergesOnce d d' old new (Ok Worked) → Merges d d' old new → Advances d d' old new Goes
     tick_merged once is =
-        made_advances d old m d' new once.step.ready once.calls once.step.rest once.step.roots_few grows (busy_merge d old old m is.busy) once.none_pending
-        is.holds once.step.came.1 once.leaves.frames (ap (λ (e : Parts). e.stopped) once.leaves.rest) (stays_frees d d' once.stays) is.number is.less
+        made_advances d old m d' new once.step.ready once.calls once.step.rest once.step.roots_few no_pair no_pair is.grows (busy_merge d old old m none_half is.busy) once.none_pending
+        (whole_holds d old m d' new none_half is.holds) once.step.came.1 once.leaves.frames (ap (λ (e : Parts). e.stopped) once.leaves.rest) (stays_frees d d' once.stays) is.number is.less
 
     pub tick_unread : MergesOnce d d' old new (Err Reading) → CannotMerge d d' old new → Advances d d' old new (Fails false)
     tick_unread once is =
         let number = ap (λ (e : Parts). e.log.root.number) is.rest in
-        unread_advances d old m d' new once.step.ready once.calls once.step.rest once.step.roots_few grows (busy_merge d old old m is.busy) once.none_pending
-        is.seen (is.stands d.log.shape m.agrees.all (its_stand d old m)) is.only is.read is.flash once.leaves.frames (ap (λ (e : Parts). e.stopped) once.leaves.rest)
+        unread_advances d old m d' new once.step.ready once.calls once.step.rest once.step.roots_few no_pair no_pair (read_grows d.log.shape old new is.only) (busy_merge d old old m none_half is.busy) once.none_pending
+        is.seen (is.stands d.log.shape m.agrees.all (its_whole d old m none_half)) is.only is.read is.flash once.leaves.frames (ap (λ (e : Parts). e.stopped) once.leaves.rest)
         (stays_frees d d' once.stays) (omega (arith, number))
 
     pub tick_stopped : MergesOnce d d' old new (Err Stopped) → FailsMerge d d' old new Stopped → Advances d (record d' { stopped = true }) old new (Fails true)
     tick_stopped once is =
-        stop_advances d old m (record d' { stopped = true }) new once.step.ready once.calls once.step.rest once.step.roots_few grows (busy_merge d old old m is.0) once.none_pending refl is.1 is.2
+        stop_advances d old m (record d' { stopped = true }) new once.step.ready once.calls once.step.rest once.step.roots_few no_pair (busy_merge d old old m none_half is.0) once.none_pending refl
+        (whole_fails d old m d' new none_half is.1) is.2
 
-    pub tick_frozen : (done : Bool) → FreezesOnce d d' old new (Ok done) → FreezesOn d d' old new → WantsFreeze d → IsShared d.pool.shape d.pool.states → Advances d d' old new Goes
-    tick_frozen done once is wants shared =
-        made_advances d old m d' new once.step.ready once.calls once.step.works.rest once.step.roots_few grows (busy_wanted d old m.agrees shared wants) once.none_pending
-        is.holds once.step.works.no_fault once.leaves.frames (ap (λ (e : Parts). e.stopped) once.leaves.rest) (stays_frees d d' once.stays) is.number (is.less wants)
+    pub tick_frozen : FreezesOnce d d' old new (Ok tt) → FreezesOn d d' old new → WantsFreeze d → IsShared d.pool.shape d.pool.states → Advances d d' old new Goes
+    tick_frozen once is wants shared =
+        made_advances d old m d' new once.step.ready once.calls once.step.works.rest once.step.roots_few no_pair no_pair is.grows (busy_wanted d old m.agrees shared wants) once.none_pending
+        (whole_holds d old m d' new none_half is.holds) once.step.works.no_fault once.leaves.frames (ap (λ (e : Parts). e.stopped) once.leaves.rest) (stays_frees d d' once.stays) is.number (is.less wants)
 
     pub tick_unfrozen : (e : Fault) → FreezesOnce d d' old new (Err e) → FailsAll d old new → WantsFreeze d → IsShared d.pool.shape d.pool.states
         → Advances d (record d' { stopped = true }) old new (Fails true)
     tick_unfrozen e once fails wants shared =
-        stop_advances d old m (record d' { stopped = true }) new once.step.ready once.calls once.step.stops.rest once.step.roots_few grows
-        (busy_wanted d old m.agrees shared wants) once.none_pending refl fails once.step.stops
+        stop_advances d old m (record d' { stopped = true }) new once.step.ready once.calls once.step.stops.rest once.step.roots_few no_pair
+        (busy_wanted d old m.agrees shared wants) once.none_pending refl (whole_fails d old m d' new none_half fails) once.step.stops

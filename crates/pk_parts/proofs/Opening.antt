@@ -6,6 +6,7 @@ use Rattle.pk_base.specs.Entry.{Entry, Place}
 use Rattle.pk_base.specs.Key.{Key}
 use Rattle.pk_base.specs.Map.{Map}
 use Rattle.pk_rootfmt.specs.Root.{named}
+use Rattle.pk_root.specs.Installing.{repeats_next}
 use Rattle.pk_jrn.specs.Epochs.{JournalEpoch}
 use Rattle.pk_plan.specs.declared.owner.Owner.TheVariants.{Values as for_values}
 use Rattle.pk_pool.specs.Blocks.{Blocks, used_by}
@@ -28,7 +29,7 @@ use Rattle.pk_gc.specs.Stepping.{runs_in}
 use Rattle.pk_gc.specs.Standing.{held_blocks}
 use Rattle.pk_scan.specs.Opened.{ListsOnFlash, BlocksOnFlash, FoundOnFlash}
 use Rattle.pk_scan.specs.declared.contents.Found.{Found as Opened}
-use Rattle.pk_parts.specs.Parts.{Parts}
+use Rattle.pk_parts.specs.Parts.{Parts, commits_in}
 use Rattle.pk_parts.specs.Opening.{OpenedOn}
 use Rattle.pk_parts.proofs.Reclaiming.{reclaim_rests}
 use Rattle.pk_schedule.proofs.Keeping.{IsFound, index_opens}
@@ -60,6 +61,7 @@ values_found shape flash f found is has = record {
   written = has.written;
   closed_owned = has.owners.closed_owned;
   owned_closed = has.owners.owned_closed;
+  none_leaves = has.owners.none_leaves;
 }
 
 -- the parts of a drive behind what was found
@@ -120,6 +122,14 @@ module _ {A : Type 0} (shape : Shape) (flash : Flash) (frames : ℕ) (f : Opened
           former_read = λ k is. subst (λ (p : Phase). IsOutput (held_blocks p) (k / shape.block_pages) → ⊥) (sym rests.1) (λ none_held. none_held);
           reclaim = reclaim_rests shape job space.live f.pool flash (places was.found log.pending) (rests.0 ∙ was.lists.shape_is) (ap runs_in rests.1);
           keys_are = was.keys_are ∙ sym (ap (λ (es : List Entry). length (places was.found es)) none);
+        };
+        whole = record {
+          settles = record {
+            whole = ap (λ (l : LogState). repeats_next l.next) log_is;
+            none_leaves = (values_found shape flash f was.found is was.blocks).none_leaves;
+          };
+          moves = ap commits_in rests.1;
+          epoch = ap (λ (l : LogState). l.epoch.half) log_is ∙ ap (λ (e : JournalEpoch). e.half) was.lists.epoch_is.1;
         };
         frames_are = was.lists.arena_is.size;
         runs = refl;

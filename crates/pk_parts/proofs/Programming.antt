@@ -3,7 +3,7 @@ use Rattle.std.proofs.Common.{◌≡◌, ◌≢◌, inl, inr, ℕ, zero, suc, �
 use Rattle.std.specs.Prelude.{OnOk, if◌then◌else◌}
 use Rattle.std.proofs.lemmas.Bool.{ne_eqb, eq-eqb, cases_lt}
 use Rattle.std.proofs.lemmas.List.{length-append}
-use Rattle.pk_base.specs.Shape.{Shape, charge, page_entries}
+use Rattle.pk_base.specs.Shape.{Shape, charge, page_entries, commit_programs}
 use Rattle.pk_base.specs.Entry.{Entry}
 use Rattle.pk_base.specs.Key.{Key}
 use Rattle.pk_base.specs.Map.{Map}
@@ -11,11 +11,11 @@ use Rattle.pk_nand.specs.declared.types.Fault.{Fault}
 use Rattle.pk_nand.specs.BoardState.{BoardState}
 use Rattle.pk_nand.specs.Calls.{counted}
 use Rattle.pk_nand.specs.Counts.{counted_by}
-use Rattle.pk_nand.specs.Effects.{OneProgram}
 use Rattle.pk_seg.specs.Stored.{written}
 use Rattle.pk_pool.specs.Blocks.{Blocks}
 use Rattle.pk_log.specs.State.{LogState, needs_freeze, pushed}
 use Rattle.pk_data.specs.State.{DataState, fits_open}
+use Rattle.pk_call.specs.Commit.{ProgramsOfCommit}
 use Rattle.pk_call.specs.Moving.{commits_for}
 use Rattle.pk_parts.specs.Parts.{Parts, sight_of}
 use Rattle.pk_parts.specs.Moves.{StandsFor}
@@ -62,11 +62,15 @@ place_programs shape key value d p old page d' q new is room = elim is.reserved.
 
 -- ---- the steps of a Store and of a Delete
 
-pub full_ok : (r : Result Unit Fault) (d : Parts) (old new : BoardState) → (m : Map) × StandsFor d d.log.shape old.pages m → (d.log.pending ≢ [] → OneProgram old new) → OnOk r (page_entries d.log.shape ≤ length d.log.pending → Programs 1 old new)
+pub full_ok : (r : Result Unit Fault) (d : Parts) (old new : BoardState) → (m : Map) × StandsFor d d.log.shape old.pages m → OnOk r (d.log.pending ≢ [] → ProgramsOfCommit commit_programs old new)
+    → OnOk r (page_entries d.log.shape ≤ length d.log.pending → Programs commit_programs old new)
 full_ok (Ok x) d old new stands made = λ full.
     let some = entries_some d.log.shape stands.1.with.placed.is_shape in
-    let one = made (λ none. let e = ap (λ (es : List Entry). length es) none in absurd (omega (arith, full, some, e))) in
-    record { programs = one.programs; erases = one.erases }
+    let both = made (λ none. let e = ap (λ (es : List Entry). length es) none in absurd (omega (arith, full, some, e))) in
+    let least = both.some in
+    let most = both.most in
+    let two : both.made ≡ commit_programs = omega (arith, least, most) in
+    record { programs = both.programs ∙ ap (λ (n : ℕ). counted_by n old.programs) two; erases = both.erases }
 full_ok (Err e) d old new stands made = tt
 
 pub pushed_more : (log log' : LogState) (e : Entry) → log' ≡ pushed log e → length log'.pending ≡ length log.pending + 1
@@ -76,15 +80,15 @@ pub not_wanted_ok : {X E : Type 0} (A : Type 0) (r : Result X E) (b : Bool) → 
 not_wanted_ok A (Ok x) b wanted = λ e. absurd (no_yes b wanted e)
 not_wanted_ok A (Err e) b wanted = tt
 
-commits_one : (n m : ℕ) → n ≡ m → ◌≡◌ {A = ℕ} (if n == m then 1 else 0) 1
-commits_one n m same = ap {B = ℕ} (λ b. if b then 1 else 0) (eq-eqb n m same)
+commits_one : (n m : ℕ) → n ≡ m → ◌≡◌ {A = ℕ} (if n == m then commit_programs else 0) commit_programs
+commits_one n m same = ap {B = ℕ} (λ b. if b then commit_programs else 0) (eq-eqb n m same)
 
-commits_none : (n m : ℕ) → (n ≡ m → ⊥) → ◌≡◌ {A = ℕ} (if n == m then 1 else 0) 0
-commits_none n m other = ap {B = ℕ} (λ b. if b then 1 else 0) (ne_eqb n m other)
+commits_none : (n m : ℕ) → (n ≡ m → ⊥) → ◌≡◌ {A = ℕ} (if n == m then commit_programs else 0) 0
+commits_none n m other = ap {B = ℕ} (λ b. if b then commit_programs else 0) (ne_eqb n m other)
 
 -- a commit behind one entry more
 commit_part : (r : Result Unit Fault) (a n c : Parts) (s1 s2 : BoardState) → length a.log.pending < page_entries a.log.shape → length n.log.pending ≡ length a.log.pending + 1 → n.log.shape ≡ a.log.shape
-    → OnOk r (length n.log.pending < page_entries n.log.shape → (c ≡ n) × (s2 ≡ s1)) → OnOk r (page_entries n.log.shape ≤ length n.log.pending → Programs 1 s1 s2) → OnOk r (Programs (commits_for a.log.shape (sight_of a)) s1 s2)
+    → OnOk r (length n.log.pending < page_entries n.log.shape → (c ≡ n) × (s2 ≡ s1)) → OnOk r (page_entries n.log.shape ≤ length n.log.pending → Programs commit_programs s1 s2) → OnOk r (Programs (commits_for a.log.shape (sight_of a)) s1 s2)
 commit_part (Err e) a n c s1 s2 few more shapes idle full = tt
 commit_part (Ok x) a n c s1 s2 few more shapes idle full =
     let entries : page_entries n.log.shape ≡ page_entries a.log.shape = ap (λ s. page_entries s) shapes in
@@ -100,14 +104,14 @@ then_ok (Err e) a b c n m P first second = tt
 module _ (r : Result Unit Fault) (a b n c : Parts) (s0 s1 s2 : BoardState) (size : ℕ) where
   pub put_programs : length a.log.pending < page_entries a.log.shape → (fits_open a.log.shape a.space (charge a.log.shape size) ≡ true → Programs (charge a.log.shape size) s0 s1) → b.log ≡ a.log
       → length n.log.pending ≡ length b.log.pending + 1 → n.log.shape ≡ b.log.shape
-      → OnOk r (length n.log.pending < page_entries n.log.shape → (c ≡ n) × (s2 ≡ s1)) → OnOk r (page_entries n.log.shape ≤ length n.log.pending → Programs 1 s1 s2)
+      → OnOk r (length n.log.pending < page_entries n.log.shape → (c ≡ n) × (s2 ≡ s1)) → OnOk r (page_entries n.log.shape ≤ length n.log.pending → Programs commit_programs s1 s2)
       → OnOk r (fits_open a.log.shape a.space (charge a.log.shape size) ≡ true → Programs (charge a.log.shape size + commits_for a.log.shape (sight_of a)) s0 s2)
   put_programs few first same more shapes idle full =
       then_ok r s0 s1 s2 (charge a.log.shape size) (commits_for a.log.shape (sight_of a)) (fits_open a.log.shape a.space (charge a.log.shape size) ≡ true) first
       (commit_part r a n c s1 s2 few (more ∙ ap (λ (l : LogState). length l.pending + 1) same) (shapes ∙ ap (λ (l : LogState). l.shape) same) idle full)
 
 pub take_programs : (r : Result Unit Fault) (a n c : Parts) (s1 s2 : BoardState) → length a.log.pending < page_entries a.log.shape → length n.log.pending ≡ length a.log.pending + 1 → n.log.shape ≡ a.log.shape
-    → OnOk r (length n.log.pending < page_entries n.log.shape → (c ≡ n) × (s2 ≡ s1)) → OnOk r (page_entries n.log.shape ≤ length n.log.pending → Programs 1 s1 s2) → OnOk r (Programs (commits_for a.log.shape (sight_of a)) s1 s2)
+    → OnOk r (length n.log.pending < page_entries n.log.shape → (c ≡ n) × (s2 ≡ s1)) → OnOk r (page_entries n.log.shape ≤ length n.log.pending → Programs commit_programs s1 s2) → OnOk r (Programs (commits_for a.log.shape (sight_of a)) s1 s2)
 take_programs r a n c s1 s2 few more shapes idle full = commit_part r a n c s1 s2 few more shapes idle full
 
 -- where no freeze is wanted, what makes room does nothing

@@ -120,6 +120,7 @@ puts_of b its shape flash m key value page old same may written place in_open = 
   found = may.stands.found;
   without = may.stands.without;
   with = may.stands.with;
+  whole = may.stands.whole;
   old_is = may.old_is;
   written = subst (λ (s : Shape). IsWritten b s flash key value page) same written;
   place = subst (λ (s : Shape). IsPlace s (record { page = page; len = length value })) same place;
@@ -129,7 +130,7 @@ puts_of b its shape flash m key value page old same may written place in_open = 
 }
 
 pub drops_of : (d : Parts) (shape : Shape) (flash : Flash) (m : Map) (key : Key) (old : Place) → MayTake d shape flash m key old → Drops d shape flash m key old
-drops_of d shape flash m key old may = record { top = may.stands.top; found = may.stands.found; without = may.stands.without; with = may.stands.with; old_is = may.old_is; bytes = may.bytes }
+drops_of d shape flash m key old may = record { top = may.stands.top; found = may.stands.found; without = may.stands.without; with = may.stands.with; whole = may.stands.whole; old_is = may.old_is; bytes = may.bytes }
 
 -- for some map
 pub some_puts : (a b : Parts) (s0 s1 : BoardState) (key : Key) (value : List ℕ) (page : ℕ) (old : Option Place)

@@ -17,20 +17,21 @@ use Rattle.pk_call.specs.declared.types.Ticked.TheVariants.{Worked, Fault}
 use Rattle.pk_gc.specs.declared.reclaimed.Reclaimed.{Reclaimed}
 use Rattle.pk_gc.specs.declared.reclaimed.Reclaimed.TheVariants.{Worked as GoesOn, Ended}
 use Rattle.pk_gc.specs.declared.course.Phase.{Phase}
-use Rattle.pk_gc.specs.declared.course.Phase.TheVariants.{Idle, Copies, GivesBack}
+use Rattle.pk_gc.specs.declared.course.Phase.TheVariants.{Idle, Copies, Commits, GivesBack}
 use Rattle.pk_gc.specs.Standing.{held_blocks}
 use Rattle.pk_gc.specs.Stepping.{runs_in}
 use Rattle.pk_schedule.specs.Steps.{has_no_merge}
-use Rattle.pk_parts.specs.Parts.{Parts, counts_of, index_of, sight_of, is_reclaim_due, may_freeze, has_moves}
+use Rattle.pk_parts.specs.Parts.{Parts, counts_of, index_of, sight_of, is_reclaim_due, may_freeze, has_moves, is_half}
 use Rattle.pk_parts.specs.Moves.{StandsFor}
 use Rattle.pk_parts.specs.Reclaiming.{MayReclaim, Holds, Lessens, DoesReclaim, Waits, CannotRead, FailsAll, is_tight_for}
 use Rattle.pk_parts.specs.Ticking.{MayTick, Advances, WantsReclaim, WantsFreeze}
 use Rattle.pk_parts.proofs.Unchanging.{agrees_ready}
 use Rattle.pk_parts.proofs.SpaceSteps.{leaves_stay, unread_stays}
-use Rattle.pk_parts.proofs.Stored.{blocks_most, blocks_at}
+use Rattle.pk_parts.proofs.Stored.{blocks_between, blocks_at}
 use Rattle.pk_parts.proofs.Ticking.{busy_reclaim}
 use Rattle.pk_parts.proofs.ReclaimWork.{worked_less, ended_less}
-use Rattle.pk_parts.proofs.TickSteps.{its_stand, made_advances, unread_advances, stop_advances}
+use Rattle.pk_parts.proofs.Halves.{not_both}
+use Rattle.pk_parts.proofs.TickSteps.{its_whole, whole_fails, made_advances, unread_advances, stop_advances}
 use Rattle.pk_model.specs.Sight.{IsIdle}
 use Rattle.pk_pool.specs.Blocks.{IsShared}
 
@@ -52,6 +53,7 @@ due_blocks d due = eqb-true (counts_of d).blocks (data_blocks d.log.shape - 1) (
 turn_at : (p : Phase) (used all : ℕ) → used - length (held_blocks p) ≡ all → (runs_in p ≡ true) ⊎ (used ≡ all)
 turn_at Idle used all is = inr (omega (arith, is))
 turn_at (Copies c) used all is = inl refl
+turn_at (Commits victim) used all is = inl refl
 turn_at (GivesBack victim) used all is = inl refl
 
 turn_of : (d : Parts) → WantsReclaim d → (runs_in d.reclaim.phase ≡ true) ⊎ (used_by Values d.pool.states ≡ data_blocks d.log.shape - 1)
@@ -66,9 +68,15 @@ blocks_full : (d : Parts) (flash : Flash) (m : Map) → StandsFor d d.log.shape 
 blocks_full d flash m stands (inl runs) = all_least d.reclaim.phase (used_by Values d.pool.states) (data_blocks d.log.shape) runs (stands.with.reclaim.full runs)
 blocks_full d flash m stands (inr due) = let all = due_blocks d due in omega (arith, all)
 
-module _ (d : Parts) (old : BoardState) (m : MayTick d old) (wants : WantsReclaim d) where
+module _ (d : Parts) (old : BoardState) (m : MayTick d old) (none_half : is_half d ≡ false) (wants : WantsReclaim d) where
+  its : StandsFor d d.log.shape old.pages m.agrees.all
+  its = its_whole d old m none_half
+
+  no_pair : {X : Type 0} → is_half d ≡ true → X
+  no_pair half = absurd (not_both (is_half d) half none_half)
+
   pub may_reclaim : MayReclaim d old
-  may_reclaim = record { may = record { ready = agrees_ready d old m.agrees; stands = (m.agrees.all, its_stand d old m) }; none_pending = m.none; turn = turn_of d wants }
+  may_reclaim = record { may = record { ready = agrees_ready d old m.agrees; stands = (m.agrees.all, its) }; none_pending = m.none; turn = turn_of d wants }
 
   module _ (new : BoardState) (calls : AtMostOneCall old new) (rest : OnlyFlash old new) (same_roots : roots new ≡ roots old) (grows : Grows d.log.shape old.pages new.pages) (ready : IsReady new d.log.shape) where
     installs : roots new ≤ roots old + 1
@@ -80,12 +88,12 @@ module _ (d : Parts) (old : BoardState) (m : MayTick d old) (wants : WantsReclai
     worked_advances : (d' : Parts) → Lessens d d' old new → d'.log.pending ≡ [] → NoFault old new → IsShared d.pool.shape d.pool.states
         → (sight_of d').work < (sight_of d).work → Advances d d' old new Worked
     worked_advances d' made none sound shared less =
-        let there : Holds d' d.log.shape m.agrees.all old new = made.holds d.log.shape m.agrees.all (its_stand d old m) in
+        let there : Holds d' d.log.shape m.agrees.all old new = made.holds d.log.shape m.agrees.all its in
         let stays = leaves_stay d d' made.leaves in
-        let most = blocks_most d' d.log.shape new.pages m.agrees.all there.stands in
-        let least = blocks_full d old.pages m.agrees.all (its_stand d old m) wants in
+        let most = blocks_between d' d.log.shape new.pages m.agrees.all there.stands in
+        let least = blocks_full d old.pages m.agrees.all its wants in
         let number = ap (λ (e : Parts). e.log.root.number) made.leaves in
-        made_advances d old m d' new ready calls rest installs grows (busy shared) none made.holds sound stays.frames stays.stopped
+        made_advances d old m d' new ready calls rest installs no_pair no_pair grows (busy shared) none there sound stays.frames stays.stopped
         (record { fresh = stays.fresh; no_more = omega (arith, most, least) }) (omega (arith, number)) less
 
     pub goes_on : (d' : Parts) (x : Reclaimed) → x ≡ GoesOn → DoesReclaim d d' old new x → d'.log.pending ≡ [] → NoFault old new → IsShared d.pool.shape d.pool.states → Advances d d' old new Worked
@@ -103,12 +111,12 @@ module _ (d : Parts) (old : BoardState) (m : MayTick d old) (wants : WantsReclai
         let stays = unread_stays d d' old new unread in
         let same = ap (λ (e : Parts). (counts_of e).blocks) unread.rest in
         let number = ap (λ (e : Parts). e.log.root.number) unread.rest in
-        unread_advances d old m d' new ready calls rest installs grows (busy shared) (ap (λ (e : Parts). e.log.pending) unread.rest ∙ m.none) (ap (λ (e : Parts). sight_of e) unread.rest)
-        (unread.stands d.log.shape m.agrees.all (its_stand d old m)) unread.only unread.read unread.flash stays.frames stays.stopped
+        unread_advances d old m d' new ready calls rest installs no_pair no_pair grows (busy shared) (ap (λ (e : Parts). e.log.pending) unread.rest ∙ m.none) (ap (λ (e : Parts). sight_of e) unread.rest)
+        (unread.stands d.log.shape m.agrees.all its) unread.only unread.read unread.flash stays.frames stays.stopped
         (record { fresh = stays.fresh; no_more = omega (arith, same) }) (omega (arith, number))
 
     pub stops_so : (d' : Parts) → d'.stopped ≡ true → d'.log.pending ≡ [] → FailsAll d old new → Stops old new → IsShared d.pool.shape d.pool.states → Advances d d' old new (Fault true)
-    stops_so d' stopped none fails stops shared = stop_advances d old m d' new ready calls rest installs grows (busy shared) none stopped fails stops
+    stops_so d' stopped none fails stops shared = stop_advances d old m d' new ready calls rest installs no_pair (busy shared) none stopped (whole_fails d old m d' new none_half fails) stops
 
   -- ---- one that wants a freeze
 

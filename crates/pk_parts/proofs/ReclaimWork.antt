@@ -11,7 +11,7 @@ use Rattle.pk_work.specs.Rest.{whole_reclaim, Lowers}
 use Rattle.pk_work.specs.Work.{reclaiming, reclaiming_from}
 use Rattle.pk_work.proofs.Lowering.{reclaims}
 use Rattle.pk_gc.specs.declared.course.Phase.{Phase}
-use Rattle.pk_gc.specs.declared.course.Phase.TheVariants.{Idle, Copies, GivesBack}
+use Rattle.pk_gc.specs.declared.course.Phase.TheVariants.{Idle, Copies, Commits, GivesBack}
 use Rattle.pk_gc.specs.Standing.{held_blocks}
 use Rattle.pk_gc.specs.Stepping.{runs_in}
 use Rattle.pk_log.specs.State.{LogState}
@@ -79,11 +79,26 @@ module _ (b c : Parts) (due due' : Bool) where
   works_lower Idle (Copies d) (inl runs) falls on none = absurd (false_true runs)
   works_lower Idle (Copies d) (inr is) falls on none = subst (λ x. Less Idle x b (Copies d) due' c) (sym is) (record { none_ready = falls.none_ready; less = falls.less })
   works_lower (Copies e) (Copies d) wants falls on none = record { none_ready = falls.none_ready; less = falls.less }
+  works_lower (Commits victim) (Copies d) wants falls on none = let less = falls.less in let ready = falls.none_ready in absurd (omega (arith, less, ready))
   works_lower (GivesBack victim) (Copies d) wants falls on none = let less = falls.less in let ready = falls.none_ready in absurd (omega (arith, less, ready))
+  works_lower Idle (Commits other) (inl runs) falls on none = absurd (false_true runs)
+  works_lower Idle (Commits other) (inr is) falls on none =
+      subst (λ x. Less Idle x b (Commits other) due' c) (sym is) (subst (λ y. Less Idle true b (Commits other) y c) (sym (none on)) (record { none_ready = falls.none_ready; less = falls.less }))
+  works_lower (Copies e) (Commits other) wants falls on none = subst (λ y. Less (Copies e) due b (Commits other) y c) (sym (none on)) (record { none_ready = falls.none_ready; less = falls.less })
+  works_lower (Commits victim) (Commits other) wants falls on none = let less = falls.less in let ready = falls.none_ready in absurd (omega (arith, less, ready))
+  works_lower (GivesBack victim) (Commits other) wants falls on none = let less = falls.less in let ready = falls.none_ready in absurd (omega (arith, less, ready))
   works_lower Idle (GivesBack other) (inl runs) falls on none = absurd (false_true runs)
   works_lower Idle (GivesBack other) (inr is) falls on none =
       subst (λ x. Less Idle x b (GivesBack other) due' c) (sym is) (subst (λ y. Less Idle true b (GivesBack other) y c) (sym (none on)) (record { none_ready = falls.none_ready; less = falls.less }))
   works_lower (Copies e) (GivesBack other) wants falls on none = subst (λ y. Less (Copies e) due b (GivesBack other) y c) (sym (none on)) (record { none_ready = falls.none_ready; less = falls.less })
+  works_lower (Commits victim) (GivesBack other) wants falls on none = subst (λ y. Less (Commits victim) due b (GivesBack other) y c) (sym (none on)) (by due)
+    where
+      by : (x : Bool) → Less (Commits victim) x b (GivesBack other) false c
+      by true =
+          let less = falls.less in
+          let ready = falls.none_ready in
+          record { none_ready = ready; less = omega (arith, less, ready) }
+      by false = record { none_ready = falls.none_ready; less = falls.less }
   works_lower (GivesBack victim) (GivesBack other) wants falls on none = let less = falls.less in let ready = falls.none_ready in absurd (omega (arith, less, ready))
 
   works_may : (p q : Phase) → Wants p → FallsTo p b q c → RunsOn q b c → (HasSpace (space_of c) → due' ≡ false) → may_at q due' c ≡ true → may_at p due b ≡ true
@@ -91,7 +106,9 @@ module _ (b c : Parts) (due due' : Bool) where
   works_may Idle (Copies d) (inl runs) falls on none may = absurd (false_true runs)
   works_may Idle (Copies d) (inr is) falls on none may = ap (λ x. x && is_tight_for b) is ∙ (sym (tight_same b c on) ∙ may)
   works_may (Copies e) (Copies d) wants falls on none may = sym (tight_same b c on) ∙ may
+  works_may (Commits victim) (Copies d) wants falls on none may = let less = falls.less in let ready = falls.none_ready in absurd (omega (arith, less, ready))
   works_may (GivesBack victim) (Copies d) wants falls on none may = let less = falls.less in let ready = falls.none_ready in absurd (omega (arith, less, ready))
+  works_may p (Commits other) wants falls on none may = absurd (false_true (sym (ap (λ x. x && is_tight_for c) (none on)) ∙ may))
   works_may p (GivesBack other) wants falls on none may = absurd (false_true (sym (ap (λ x. x && is_tight_for c) (none on)) ∙ may))
 
   ends_lower : (p : Phase) → Wants p → FallsTo p b Idle c → RoomBehind p (space_of b) (space_of c) → (HasSpace (space_of c) → due' ≡ false) → ((runs_in p ≡ true) → c.log ≡ b.log → c.space ≡ b.space → due' ≡ due) → Less p due b Idle due' c
@@ -99,6 +116,7 @@ module _ (b c : Parts) (due due' : Bool) where
   ends_lower Idle (inr is) falls from none same =
       subst (λ x. Less Idle x b Idle due' c) (sym is) (subst (λ y. Less Idle true b Idle y c) (sym (none from)) (record { none_ready = falls.none_ready; less = falls.less }))
   ends_lower (Copies e) wants falls from none same = subst (λ y. Less (Copies e) due b Idle y c) (sym (none from)) (record { none_ready = falls.none_ready; less = falls.less })
+  ends_lower (Commits victim) wants falls from none same = absurd from
   ends_lower (GivesBack victim) wants falls from none same =
       let shapes : c.log.shape ≡ b.log.shape = ap (λ (l : LogState). l.shape) from.0 in
       subst (λ y. Less (GivesBack victim) due b Idle y c) (sym (same refl from.0 from.1)) (by due shapes)
@@ -114,21 +132,22 @@ module _ (b c : Parts) (due due' : Bool) where
   ends_may : (p : Phase) → RoomBehind p (space_of b) (space_of c) → (HasSpace (space_of c) → due' ≡ false) → ((runs_in p ≡ true) → c.log ≡ b.log → c.space ≡ b.space → due' ≡ due) → may_at Idle due' c ≡ true → may_at p due b ≡ true
   ends_may Idle from none same may = absurd (false_true (sym (ap (λ x. x && is_tight_for c) (none from)) ∙ may))
   ends_may (Copies e) from none same may = absurd (false_true (sym (ap (λ x. x && is_tight_for c) (none from)) ∙ may))
+  ends_may (Commits victim) from none same may = absurd from
   ends_may (GivesBack victim) from none same may = (λ i. sym (same refl from.0 from.1) i && sym (tight_same b c from.0) i) ∙ may
 
 -- ---- the work
 
 -- what is left of a merge does not depend on what a reclaim changes
-merge_beside : (p : MergePhase) (x : Index) (es : List Entry) (used : ℕ) (q : Blocks)
-    → merge_left p (record x { log = record x.log { active = record x.log.active { entries = es }; epoch = record x.log.epoch { used = used } }; pool = q }) ≡ merge_left p x
-merge_beside NoMerge x es used q = refl
-merge_beside (Running level) x es used q = refl
-merge_beside (Ready level) x es used q = refl
+merge_beside : (p : MergePhase) (x : Index) (es : List Entry) (used : ℕ) (half : Bool) (q : Blocks)
+    → merge_left p (record x { log = record x.log { active = record x.log.active { entries = es }; epoch = record x.log.epoch { used = used; half = half } }; pool = q }) ≡ merge_left p x
+merge_beside NoMerge x es used half q = refl
+merge_beside (Running level) x es used half q = refl
+merge_beside (Ready level) x es used half q = refl
 
 module _ (b c : Parts) (leaves : LeavesIndex b c) where
   abbrev later : Parts
   later = record b {
-    log = record b.log { active = record b.log.active { entries = c.log.active.entries }; epoch = record b.log.epoch { used = c.log.epoch.used } };
+    log = record b.log { active = record b.log.active { entries = c.log.active.entries }; epoch = record b.log.epoch { used = c.log.epoch.used; half = c.log.epoch.half } };
     space = c.space;
     reclaim = c.reclaim;
     pool = c.pool;
@@ -143,7 +162,7 @@ module _ (b c : Parts) (leaves : LeavesIndex b c) where
       let L : Parts → Type 0 = λ x. Lowers (reclaiming b.log.shape (backlog_of b)) (unready b.pool.states) (reclaiming x.log.shape (backlog_of x)) (unready x.pool.states) in
       let M : Parts → Type 0 = λ x. may_freeze x ≡ true → may_freeze b ≡ true in
       let W : Parts → Type 0 = λ x. (sight_of x).work < (sight_of b).work in
-      let merge = merge_beside b.schedule.phase (index_of b) c.log.active.entries c.log.epoch.used c.pool in
+      let merge = merge_beside b.schedule.phase (index_of b) c.log.active.entries c.log.epoch.used c.log.epoch.half c.pool in
       subst W (sym leaves) (reclaims b.log.shape (backlog_of b) (backlog_of later) (record {
         stepped = λ i. record (backlog_of later) { merge = merge i };
         no_freeze = subst M leaves may;
@@ -161,6 +180,7 @@ module _ (b c : Parts) (leaves : LeavesIndex b c) where
   held_one : (p : Phase) → runs_in p ≡ true → length (held_blocks p) ≡ 1
   held_one Idle runs = absurd (false_true runs)
   held_one (Copies d) runs = refl
+  held_one (Commits victim) runs = refl
   held_one (GivesBack victim) runs = refl
 
   pub ended_less : (runs_in b.reclaim.phase ≡ true) ⊎ (is_reclaim_due b ≡ true) → FallsTo b.reclaim.phase b c.reclaim.phase c → c.reclaim.phase ≡ Idle → used_by Values c.pool.states + 1 ≡ used_by Values b.pool.states

@@ -9,7 +9,8 @@ use Rattle.pk_base.specs.Map.{Map}
 use Rattle.pk_rootfmt.specs.Root.{Root}
 use Rattle.pk_plan.specs.declared.owner.Owner.TheVariants.{Journal, Meta}
 use Rattle.pk_pool.specs.declared.state.BlockState.TheVariants.{Owned}
-use Rattle.pk_pool.specs.Blocks.{Blocks, PoolOnFlash}
+use Rattle.pk_root.specs.Installing.{repeats_next}
+use Rattle.pk_pool.specs.Blocks.{Blocks, NoneLeaves, PoolOnFlash}
 use Rattle.pk_nand.specs.BoardState.{BoardState}
 use Rattle.pk_nand.specs.declared.types.Fault.{Fault}
 use Rattle.pk_nand.specs.declared.types.Fault.TheVariants.{Reading, Stopped}
@@ -24,7 +25,7 @@ use Rattle.pk_steps.specs.Under.{IsUnder, places}
 use Rattle.pk_gc.specs.Stepping.{runs_in}
 use Rattle.pk_gc.specs.Standing.{held_blocks, ReclaimOnFlash}
 use Rattle.pk_gc.specs.declared.course.Phase.{Phase}
-use Rattle.pk_gc.specs.declared.course.Phase.TheVariants.{Idle, Copies, GivesBack}
+use Rattle.pk_gc.specs.declared.course.Phase.TheVariants.{Idle, Copies, Commits, GivesBack}
 use Rattle.pk_gc.specs.declared.reclaimed.Reclaimed.{Reclaimed}
 use Rattle.pk_gc.specs.declared.reclaimed.Reclaimed.TheVariants.{Worked, NeedsFreeze, Ended}
 use Rattle.pk_data.specs.Placed.{ValuesOnFlash}
@@ -32,15 +33,16 @@ use Rattle.pk_merge.specs.Elsewhere.{IsElsewhere}
 use Rattle.pk_compact.specs.FreezeSteps.{IsTaken, taken_by}
 use Rattle.pk_log.specs.State.{LogState}
 use Rattle.pk_log.specs.Logs.{LogOnFlash}
-use Rattle.pk_schedule.specs.Index.{Index, IndexOnFlash}
+use Rattle.pk_schedule.specs.Index.{Index, IndexOnFlash, IsSettled}
 use Rattle.pk_schedule.proofs.Keeping.{KeepsTaken, index_then}
 use Rattle.pk_reclaim.specs.Space as spaces
-use Rattle.pk_reclaim.specs.Space.{Space, SpaceOnFlash}
+use Rattle.pk_reclaim.specs.Space.{Space, SpaceOnFlash, HalfIn}
 use Rattle.pk_reclaim.specs.Steps as steps
 use Rattle.pk_reclaim.specs.Steps.{SpaceMoves, KeepsLog, KeepsOthers, with_newest}
-use Rattle.pk_parts.specs.Parts.{Parts, frames_of, index_of, outputs_of}
-use Rattle.pk_parts.specs.Agreeing.{DriveOnFlashWith}
+use Rattle.pk_parts.specs.Parts.{Parts, frames_of, index_of, outputs_of, commits_in}
+use Rattle.pk_parts.specs.Agreeing.{DriveOnFlashWith, IsWhole, IsHalfAtMost}
 use Rattle.pk_parts.specs.Moves.{StandsFor}
+use Rattle.pk_parts.proofs.Halves.{with_settled, whole_like, half_in}
 use Rattle.pk_parts.specs.Reclaiming.{MayReclaim, HoldsAll, FailsAll, LeavesIndex, Lessens, RunsOn, DoesReclaim, CannotRead, FailsReclaim, space_of}
 
 -- ---- the space of a drive
@@ -49,7 +51,8 @@ use Rattle.pk_parts.specs.Reclaiming.{MayReclaim, HoldsAll, FailsAll, LeavesInde
 abbrev pub over_space : Parts → Space → Parts
 over_space d x = record d { log = x.log; space = x.values; reclaim = x.job; pool = x.pool }
 
-module _ (d : Parts) (shape : Shape) (flash : Flash) (top : ℕ × Root) (found : Found) (without m : Map) (none : d.log.pending ≡ []) (with : DriveOnFlashWith d shape flash top found without m) where
+module _ (d : Parts) (shape : Shape) (flash : Flash) (top : ℕ × Root) (found : Found) (without m : Map) (none : d.log.pending ≡ []) (with : DriveOnFlashWith d shape flash top found without m)
+    (half : HalfIn d.reclaim.phase (space_of d) flash top found m) (none_leaves : NoneLeaves d.pool) where
   pub space_stands : SpaceOnFlash (space_of d) flash top found m
   space_stands =
       let U : Shape → List Entry → Type 0 = λ s p. IsUnder s flash p top found m in
@@ -61,19 +64,25 @@ module _ (d : Parts) (shape : Shape) (flash : Flash) (top : ℕ × Root) (found 
         under = subst (λ p. U d.log.shape p) none (subst (λ s. U s d.log.pending) (sym with.shape_is) with.pending);
         placed = subst (λ p. V d.log.shape p) none (subst (λ s. V s d.log.pending) (sym with.shape_is) with.placed);
         reclaim = subst (λ p. R d.log.shape p) none (subst (λ s. R s d.log.pending) (sym with.shape_is) with.reclaim);
+        half = half;
         journal = with.index.journal;
         runs = with.index.runs;
+        none_leaves = none_leaves;
       }
+
+-- no commit of a drive that is whole is half made
+whole_in : (d : Parts) (flash : Flash) (top : ℕ × Root) (found : Found) (m : Map) → IsWhole d → HalfIn d.reclaim.phase (space_of d) flash top found m
+whole_in d flash top found m whole = half_in d.reclaim.phase (space_of d) flash top found m whole.moves whole.epoch
 
 -- it may make a step of a reclaim
 pub may_reclaim : (d : Parts) (board : BoardState) (may : MayReclaim d board) → (top : ℕ × Root) × (found : Found) × (m : Map) × spaces.MayReclaim (space_of d) board.pages top found m
 may_reclaim d board may =
     let s = may.may.stands.1 in
-    (s.top, s.found, may.may.stands.0, record { stands = space_stands d d.log.shape board.pages s.top s.found s.without may.may.stands.0 may.none_pending s.with; turn = may.turn })
+    (s.top, s.found, may.may.stands.0, record { stands = space_stands d d.log.shape board.pages s.top s.found s.without may.may.stands.0 may.none_pending s.with (whole_in d board.pages s.top s.found may.may.stands.0 s.whole) s.whole.settles.none_leaves; turn = may.turn })
 
 -- for each map for which it stands
 pub may_for : (d : Parts) (board : BoardState) (shape : Shape) (m : Map) → MayReclaim d board → (s : StandsFor d shape board.pages m) → spaces.MayReclaim (space_of d) board.pages s.top s.found m
-may_for d board shape m may s = record { stands = space_stands d shape board.pages s.top s.found s.without m may.none_pending s.with; turn = may.turn }
+may_for d board shape m may s = record { stands = space_stands d shape board.pages s.top s.found s.without m may.none_pending s.with (whole_in d board.pages s.top s.found m s.whole) s.whole.settles.none_leaves; turn = may.turn }
 
 -- ---- the index behind a step
 
@@ -111,13 +120,13 @@ module _ (x : Index) (frames : ℕ) (old new : Flash) (top : ℕ × Root) (found
 
   -- with more entries in the newest epoch and in its buffer
   pub index_moved : (log' : LogState) (newest : List Entry)
-      → log' ≡ record x.log { active = record x.log.active { entries = log'.active.entries }; epoch = record x.log.epoch { used = log'.epoch.used } }
+      → log' ≡ record x.log { active = record x.log.active { entries = log'.active.entries }; epoch = record x.log.epoch { used = log'.epoch.used; half = log'.epoch.half } }
       → PoolOnFlash pool' new → LogOnFlash log' new top (with_newest found newest) → IndexOnFlash (record x { log = log'; pool = pool' }) frames new top (with_newest found newest)
   index_moved log' newest keeps fits logs =
       let L : LogState → Type 0 = λ l. LogOnFlash l new top (with_newest found newest) in
       let I : LogState → Type 0 = λ l. IndexOnFlash (record x { log = l; pool = pool' }) frames new top (with_newest found newest) in
       subst I (sym keeps)
-      (index_then x frames old new top found stands pool' (runs_apart fits) taken_apart (record x.log.epoch { used = log'.epoch.used }) (record x.log.active { entries = log'.active.entries }) x.log.pending newest (subst L keeps logs))
+      (index_then x frames old new top found stands pool' (runs_apart fits) taken_apart (record x.log.epoch { used = log'.epoch.used; half = log'.epoch.half }) (record x.log.active { entries = log'.active.entries }) x.log.pending newest (subst L keeps logs))
 
 -- ---- the drive behind a step
 
@@ -155,6 +164,21 @@ module _ (d : Parts) (x' : Space) (keeps : KeepsLog (space_of d) x') where
           keys_are = with.keys_are ∙ (ap (λ p. length (places found p)) none ∙ (sym moves.as_many ∙ ap (λ p. length (places then p)) (sym empty)));
         }
 
+-- ---- which pair is half made then
+
+module _ (d : Parts) (x' : Space) (keeps : KeepsLog (space_of d) x') (flash : Flash) (top : ℕ × Root) (found : Found) (m : Map) (was : repeats_next d.log.next ≡ false) (stands : SpaceOnFlash x' flash top found m) where
+  pub settles_then : IsSettled (index_of (over_space d x'))
+  settles_then = record { whole = ap (λ (l : LogState). repeats_next l.next) keeps ∙ was; none_leaves = stands.none_leaves }
+
+  course_at : (p : Phase) → x'.job.phase ≡ p → HalfIn p x' flash top found m → IsHalfAtMost (over_space d x') flash top found m
+  course_at Idle is half = inl (record { settles = settles_then; moves = ap commits_in is; epoch = half })
+  course_at (Copies c) is half = inl (record { settles = settles_then; moves = ap commits_in is; epoch = half })
+  course_at (Commits victim) is half = inr (inr (record { settles = settles_then; victim = victim; phase = is; half = half; none_pending = stands.none_pending }))
+  course_at (GivesBack victim) is half = inl (record { settles = settles_then; moves = ap commits_in is; epoch = half })
+
+  pub course_then : IsHalfAtMost (over_space d x') flash top found m
+  course_then = course_at x'.job.phase refl stands.half
+
 -- every map for which it stood
 pub holds_all : (d : Parts) (x' : Space) (old new : BoardState) → MayReclaim d old → KeepsLog (space_of d) x' → IsReady new d.log.shape → steps.Moves (space_of d) old x' new → HoldsAll d (over_space d x') old new
 holds_all d x' old new may keeps ready moves shape m was =
@@ -164,7 +188,11 @@ holds_all d x' old new may keeps ready moves shape m was =
         top = was.top;
         found = with_newest was.found now.newest;
         without = m;
-        with = drive_moved d x' keeps shape old new was.top was.found was.without m may.none_pending ready was.with now;
+        with =
+            with_settled (over_space d x') shape new.pages was.top (with_newest was.found now.newest) m m
+            (settles_then d x' keeps new.pages was.top (with_newest was.found now.newest) m was.whole.settles.whole now.stands)
+            (drive_moved d x' keeps shape old new was.top was.found was.without m may.none_pending ready was.with now);
+        course = course_then d x' keeps new.pages was.top (with_newest was.found now.newest) m was.whole.settles.whole now.stands;
       };
       cuts = subst (λ t. Reaches t old new (CrashFinds t background old.pages m)) was.with.shape_is now.cuts;
     }
@@ -185,6 +213,7 @@ module _ (d : Parts) (x' : Space) (old new : BoardState) (may : MayReclaim d old
   runs_on : (p : Phase) → runs_in p ≡ true → steps.RoomIn p x' → steps.LogIn p (space_of d) x' → RunsOn p d (over_space d x')
   runs_on Idle runs room same = false_true runs
   runs_on (Copies c) runs room same = same
+  runs_on (Commits victim) runs room same = room
   runs_on (GivesBack victim) runs room same = room
 
   pub does_reclaim : (r : Reclaimed) → steps.Does (space_of d) old x' new r → DoesReclaim d (over_space d x') old new r
@@ -238,7 +267,13 @@ cannot_read d x' old new may u =
           let R : Shape → List Entry → Type 0 = λ t p. ReclaimOnFlash t (record d.reclaim { page = page }) d.space.live d.pool old.pages (places was.found p) in
           let reclaim : R shape d.log.pending = subst (λ p. R shape p) (sym may.none_pending) (subst (λ t. R t []) was.with.shape_is here.stands.reclaim) in
           subst (λ e. StandsFor e shape old.pages m) (sym is)
-          (record { top = was.top; found = was.found; without = was.without; with = with_again d page old.pages shape was.top was.found was.without m was.with reclaim });
+          (record {
+            top = was.top;
+            found = was.found;
+            without = was.without;
+            with = with_again d page old.pages shape was.top was.found was.without m was.with reclaim;
+            whole = whole_like d (with_page d page old.pages) refl (λ none. none) refl refl was.whole;
+          });
       only = u.only;
       read = u.read;
       flash = u.flash;

@@ -19,7 +19,7 @@ use Rattle.pk_data.specs.Placed.{HoldsValues, IsNotOpen, IsOpenIn, ValuesOnFlash
 use Rattle.pk_data.specs.Entries.{IsInOpen, heads_without}
 use Rattle.pk_gc.specs.declared.course.Course.{Course}
 use Rattle.pk_gc.specs.declared.course.Phase.{Phase}
-use Rattle.pk_gc.specs.declared.course.Phase.TheVariants.{Idle, Copies, GivesBack}
+use Rattle.pk_gc.specs.declared.course.Phase.TheVariants.{Idle, Copies, Commits, GivesBack}
 use Rattle.pk_work.specs.Rest.{steps_of, whole_reclaim}
 use Rattle.pk_work.specs.Jobs.{reclaim_rest}
 use Rattle.pk_gc.specs.State.{JobState, live_from, live_unseen, unseen}
@@ -37,16 +37,19 @@ true_false e = cc
 pub runs_or_rests : (p : Phase) → (runs_in p ≡ true) ⊎ (runs_in p ≡ false)
 runs_or_rests Idle = inr refl
 runs_or_rests (Copies c) = inl refl
+runs_or_rests (Commits victim) = inl refl
 runs_or_rests (GivesBack victim) = inl refl
 
 pub holds_none : (p : Phase) → runs_in p ≡ false → held_blocks p ≡ []
 holds_none Idle rests = refl
 holds_none (Copies c) rests = absurd (true_false rests)
+holds_none (Commits victim) rests = absurd (true_false rests)
 holds_none (GivesBack victim) rests = absurd (true_false rests)
 
 rests_so : (p : Phase) (shape : Shape) (job : JobState) (live : Values) (flash : Flash) (es : List (Key × Place)) → runs_in p ≡ false → ReclaimStands p shape job live flash es
 rests_so Idle shape job live flash es rests = tt
 rests_so (Copies c) shape job live flash es rests = absurd (true_false rests)
+rests_so (Commits victim) shape job live flash es rests = absurd (true_false rests)
 rests_so (GivesBack victim) shape job live flash es rests = absurd (true_false rests)
 
 pub reclaim_rests : (shape : Shape) (job : JobState) (live : Values) (pool : Blocks) (flash : Flash) (es : List (Key × Place)) → job.shape ≡ shape → runs_in job.phase ≡ false
@@ -80,6 +83,7 @@ stands_elsewhere (Copies c) shape job d pool old new es was placed same = record
   sparse = was.sparse;
   closed = was.closed;
 }
+stands_elsewhere (Commits victim) shape job d pool old new es was placed same = tt
 stands_elsewhere (GivesBack victim) shape job d pool old new es was placed same = tt
 
 pub reclaim_elsewhere : (shape : Shape) (job : JobState) (d : DataState) (pool pool' : Blocks) (old new : Flash) (es : List (Key × Place)) → ReclaimOnFlash shape job d.live pool old es
@@ -134,6 +138,7 @@ stands_stored (Copies c) shape job d pool flash es key place heads was placed in
       sparse = fewer_in_victim shape c d.live.heads heads (λ k in_victim. fewer k (λ e. other k (omega (arith, e), omega (arith, e, some)) (inl in_victim))) was.sparse;
       closed = was.closed;
     }
+stands_stored (Commits victim) shape job d pool flash es key place heads was placed inside some fewer = tt
 stands_stored (GivesBack victim) shape job d pool flash es key place heads was placed inside some fewer = tt
 
 pub reclaim_stored : (shape : Shape) (job : JobState) (d : DataState) (pool : Blocks) (flash : Flash) (es : List (Key × Place)) (key : Key) (place : Place) (heads : List ℕ) → ReclaimOnFlash shape job d.live pool flash es
@@ -154,6 +159,7 @@ stands_gone (Copies c) shape job live flash es key heads was fewer = record {
   sparse = fewer_in_victim shape c live.heads heads (λ k in_victim. fewer k) was.sparse;
   closed = was.closed;
 }
+stands_gone (Commits victim) shape job live flash es key heads was fewer = tt
 stands_gone (GivesBack victim) shape job live flash es key heads was fewer = tt
 
 pub reclaim_gone : (shape : Shape) (job : JobState) (live : Values) (pool : Blocks) (flash : Flash) (es : List (Key × Place)) (key : Key) (heads : List ℕ) → ReclaimOnFlash shape job live pool flash es
@@ -190,7 +196,7 @@ replaced_fewer o heads page count k other =
 
 -- ---- what is left of it
 
-reclaim_most : (pages most : ℕ) (held : Bool) → pages ≤ most → steps_of (reclaim_rest pages held 2) ≤ most + most + 2 * 1 + 8
+reclaim_most : (pages most : ℕ) (held : Bool) → pages ≤ most → steps_of (reclaim_rest pages held 3) ≤ most + most + 2 * 1 + 8
 reclaim_most pages most true few = omega (arith, few)
 reclaim_most pages most false few = omega (arith, few)
 
@@ -202,5 +208,7 @@ reclaim_within Idle shape true job live flash es stands = omega arith
 reclaim_within (Copies c) shape due job live flash es stands =
     let few = stands.sparse in
     reclaim_most (c.left + live_unseen shape live.heads c) (dense shape) c.held (omega (arith, few))
+reclaim_within (Commits victim) shape false job live flash es stands = omega arith
+reclaim_within (Commits victim) shape true job live flash es stands = omega arith
 reclaim_within (GivesBack victim) shape false job live flash es stands = omega arith
 reclaim_within (GivesBack victim) shape true job live flash es stands = omega arith

@@ -1,8 +1,8 @@
 -- What a step of the jobs leaves of the background work.
-use Rattle.std.proofs.Common.{◌≡◌, inl, inr, ℕ, ◌+◌, ◌-◌, ◌*◌, ◌<◌, ◌≤◌, refl, sym, ap, subst, ◌∙◌, arith, Bool, true, false, cond, length, Option, Some, None}
-use Rattle.std.specs.Prelude.{◌==◌, ◌&&◌, ◌||◌, if◌then◌else◌, nat_lt, is_none, MatchBool, map}
+use Rattle.std.proofs.Common.{◌≡◌, ◌⊎◌, inl, inr, ℕ, ◌+◌, ◌-◌, ◌<◌, ◌≤◌, refl, sym, ap, subst, ◌∙◌, arith, Bool, true, false, cond, length, Option, Some, None}
+use Rattle.std.specs.Prelude.{◌==◌, ◌&&◌, ◌||◌, if◌then◌else◌, nat_lt, is_none, map}
 use Rattle.std.proofs.lemmas.Bool.Decides.{nat_tests}
-use Rattle.pk_base.specs.Shape.{Shape, IsShape, buffer, dense}
+use Rattle.pk_base.specs.Shape.{Shape, IsShape, buffer, dense, epoch_commits}
 use Rattle.pk_plan.specs.declared.owner.Owner.TheVariants.{Values as for_values}
 use Rattle.pk_pool.specs.Blocks.{used_by}
 use Rattle.pk_pool.specs.Unready.{unready}
@@ -12,7 +12,8 @@ use Rattle.pk_work.specs.Rest.{Lowers, left_of, whole_freeze}
 use Rattle.pk_work.specs.Work.{work, emptying, merging, merging_from, freezing_from, reclaiming, reclaiming_from}
 use Rattle.pk_work.proofs.Lowering.{freeze_moves, freeze_ends}
 use Rattle.pk_root.specs.declared.next.Next.{Next}
-use Rattle.pk_root.specs.Installing.{erases_next}
+use Rattle.pk_root.specs.declared.next.Next.TheVariants.{Erase, Program, Again}
+use Rattle.pk_root.specs.Installing.{repeats_next}
 use Rattle.pk_compact.specs.declared.freezing.FreezeJob.{FreezeJob}
 use Rattle.pk_compact.specs.FreezeSteps.{taken_by, freeze_left, install_steps}
 use Rattle.pk_log.specs.State.{LogState}
@@ -110,13 +111,11 @@ none_left (Ready level) x e = absurd (false_true e)
 freeze_some_left : (job : FreezeJob) (next : Next) → (length (taken_by job) == 0) ≡ false → freeze_rest_of job next ≡ Some (freeze_left job next)
 freeze_some_left job next e = ap (λ b. cond b None (Some (freeze_left job next))) e
 
--- an install is made in one step or two
-install_few : (next : Next) → (1 ≤ install_steps next) × (install_steps next ≤ 2)
-install_few next = by (erases_next next)
-  where
-    by : (b : Bool) → (1 ≤ (if b then 2 else 1)) × ((if b then 2 else 1) ≤ 2)
-    by true = (omega arith, omega arith)
-    by false = (omega arith, omega arith)
+-- an install is made in three steps at most
+install_few : (next : Next) → (1 ≤ install_steps next) × (install_steps next ≤ 3)
+install_few (Erase beside) = (omega arith, omega arith)
+install_few (Program page) = (omega arith, omega arith)
+install_few (Again page) = (omega arith, omega arith)
 
 -- no more is left than of a whole freeze, which is left where none has begun
 left_least : (job : FreezeJob) (next : Next) → freeze_left job next ≤ left_of whole_freeze (freeze_rest_of job next)
@@ -137,7 +136,7 @@ and_false : (b c : Bool) → c ≡ false → b && c ≡ false
 and_false true c e = e
 and_false false c e = refl
 
-module _ (d : Parts) (x' : Index) (merged : has_no_merge (index_of d) ≡ true) (wanted : freeze_rest_of d.schedule.freeze d.log.next ≡ None → may_freeze d ≡ true)
+module _ (d : Parts) (x' : Index) (merged : has_no_merge (index_of d) ≡ true) (was_whole : repeats_next d.log.next ≡ false) (wanted : freeze_rest_of d.schedule.freeze d.log.next ≡ None → may_freeze d ≡ true)
     (many : used_by for_values x'.pool.states ≡ used_by for_values d.pool.states) (shape : x'.log.shape ≡ d.log.shape) where
   abbrev later : Parts
   later = with_index d x'
@@ -171,6 +170,7 @@ module _ (d : Parts) (x' : Index) (merged : has_no_merge (index_of d) ≡ true) 
       let frozen : length x'.log.frozen.entries ≡ length d.log.frozen.entries = ap (λ (l : LogState). length l.frozen.entries) log in
       let freeze = freeze_some_left x'.schedule.freeze x'.log.next some in
       let merge = merge_same phase in
+      let half : repeats_next x'.log.next ≡ repeats_next d.log.next = f.whole ∙ sym was_whole in
       freeze_moves d.log.shape (backlog_of d) (backlog_of later) (record {
         left = freeze_left x'.schedule.freeze x'.log.next;
         wanted = wanted;
@@ -180,12 +180,13 @@ module _ (d : Parts) (x' : Index) (merged : has_no_merge (index_of d) ≡ true) 
           merge = merge i;
           freeze = freeze i;
           may_freeze = may i;
+          half = half i;
         };
         no_more = (let same = reclaim_same in omega (arith, same));
         lowers = lowers_left (freeze_left x'.schedule.freeze x'.log.next) (unready x'.pool.states) f.lowers;
       })
 
-  -- one that is over
+  -- one whose root has its first program
   pub freeze_over : IsShape d.log.shape → x'.log.epoch.shape ≡ x'.log.shape → Freezes (index_of d) x' → work d.log.shape (backlog_of later) < work d.log.shape (backlog_of d)
   freeze_over is epoch f =
       let phase : x'.schedule.phase ≡ d.schedule.phase = ap (λ (y : Index). y.schedule.phase) f.rest in
@@ -193,24 +194,26 @@ module _ (d : Parts) (x' : Index) (merged : has_no_merge (index_of d) ≡ true) 
       let merge = merge_same phase in
       let freeze : freeze_rest_of x'.schedule.freeze x'.log.next ≡ None = ap (λ (y : Index). freeze_rest_of y.schedule.freeze x'.log.next) f.rest in
       let empty : length x'.log.active.entries ≡ 0 = ap (λ t. length t.entries) f.active ∙ none_frozen in
-      let some : 0 < pages_left x'.log.epoch = fresh_left x'.log.epoch.takes_more x'.log.epoch.shape.block_pages x'.log.epoch.used f.takes_more f.unused (let e = ap (λ (s : Shape). s.block_pages) (epoch ∙ shape) in let least = is.block_least in omega (arith, e, least)) in
+      let some : 0 < pages_left x'.log.epoch = fresh_left x'.log.epoch.takes_more (epoch_commits x'.log.epoch.shape) x'.log.epoch.used f.takes_more f.unused (let e = ap (λ (s : Shape). epoch_commits s) (epoch ∙ shape) in let least = is.block_least in omega (arith, e, least)) in
       let none : may_freeze later ≡ false = and_false (has_moves (is_reclaim_due later) d.reclaim.phase) (is_tight x'.log.shape (length x'.log.active.entries) (pages_left x'.log.epoch))
       (frozen_room x'.log.shape (length x'.log.active.entries) (pages_left x'.log.epoch) (subst IsShape (sym shape) is) empty some) in
       freeze_ends d.log.shape (backlog_of d) (backlog_of later) (record {
         wanted = wanted;
         none_frozen = none_frozen;
         none_merges = none_left d.schedule.phase (index_of d) between;
+        was_whole = was_whole;
         ended = λ i. record (backlog_of later) {
           runs = map (λ r. r.count) (levels i).runs;
           merge = merge i;
           freeze = freeze i;
           may_freeze = none i;
+          half = f.half i;
         };
         no_more = (let same = reclaim_same in omega (arith, same));
-        lowers = lowers_left 0 (unready x'.pool.states) f.lowers;
+        lowers = lowers_left 1 (unready x'.pool.states) f.lowers;
       })
     where
-      fresh_left : (takes_more : Bool) (n used : ℕ) → takes_more ≡ true → used ≡ 0 → 0 < n → 0 < (if takes_more then 2 * n - used else 0)
+      fresh_left : (takes_more : Bool) (n used : ℕ) → takes_more ≡ true → used ≡ 0 → 0 < n → 0 < (if takes_more then n - used else 0)
       fresh_left true n used takes unused some = omega (arith, unused, some)
       fresh_left false n used takes unused some = absurd (false_true takes)
 
@@ -223,11 +226,11 @@ not_zero : (n : ℕ) → 0 < n → (n == 0) ≡ false
 not_zero n some = grind (arith, nat_tests)
 
 -- by what a step of a freeze did
-pub freeze_less : (d : Parts) (x' : Index) (done : Bool) → has_no_merge (index_of d) ≡ true → (freeze_rest_of d.schedule.freeze d.log.next ≡ None → may_freeze d ≡ true) → MatchBool done (Freezes (index_of d) x') (FreezeMoves (index_of d) x')
+pub freeze_less : (d : Parts) (x' : Index) → has_no_merge (index_of d) ≡ true → repeats_next d.log.next ≡ false → (freeze_rest_of d.schedule.freeze d.log.next ≡ None → may_freeze d ≡ true) → FreezeMoves (index_of d) x' ⊎ Freezes (index_of d) x'
     → used_by for_values x'.pool.states ≡ used_by for_values d.pool.states → x'.log.shape ≡ d.log.shape → IsShape d.log.shape → x'.log.epoch.shape ≡ x'.log.shape → (sight_of (with_index d x')).work < (sight_of d).work
-freeze_less d x' done merged wanted f many shape is epoch =
-    subst (λ (s : Shape). work s (backlog_of (with_index d x')) < work d.log.shape (backlog_of d)) (sym shape) (by done f)
+freeze_less d x' merged was_whole wanted f many shape is epoch =
+    subst (λ (s : Shape). work s (backlog_of (with_index d x')) < work d.log.shape (backlog_of d)) (sym shape) (by f)
   where
-    by : (done : Bool) → MatchBool done (Freezes (index_of d) x') (FreezeMoves (index_of d) x') → work d.log.shape (backlog_of (with_index d x')) < work d.log.shape (backlog_of d)
-    by true over = freeze_over d x' merged wanted many shape is epoch over
-    by false goes = freeze_goes d x' merged wanted many shape goes (not_zero (length (taken_by x'.schedule.freeze)) goes.some)
+    by : FreezeMoves (index_of d) x' ⊎ Freezes (index_of d) x' → work d.log.shape (backlog_of (with_index d x')) < work d.log.shape (backlog_of d)
+    by (inl goes) = freeze_goes d x' merged was_whole wanted many shape goes (not_zero (length (taken_by x'.schedule.freeze)) goes.some)
+    by (inr over) = freeze_over d x' merged was_whole wanted many shape is epoch over

@@ -1,5 +1,5 @@
 -- Steps in a row, each of which keeps the map, but not where its values stand.
-use Rattle.std.proofs.Common.{◌≡◌, inl, inr, ℕ, ◌+◌, ◌≤◌, List, [], ◌++◌, Some, Result, Ok, Err, refl, sym, ap, subst, ◌∙◌, arith}
+use Rattle.std.proofs.Common.{◌≡◌, inl, inr, ℕ, ◌+◌, ◌≤◌, List, [], ◌++◌, Some, Result, Ok, Err, false, refl, sym, ap, subst, ◌∙◌, arith}
 use Rattle.pk_base.specs.Shape.{Shape}
 use Rattle.pk_base.specs.Page.{Flash}
 use Rattle.pk_base.specs.Map.{Map}
@@ -7,18 +7,22 @@ use Rattle.pk_base.specs.Mark.{all_posted}
 use Rattle.pk_nand.specs.declared.types.Fault.{Fault}
 use Rattle.pk_nand.specs.BoardState.{BoardState}
 use Rattle.pk_nand.specs.Calls.{IsReady}
+use Rattle.pk_nand.specs.Crash.{ReachedBy}
 use Rattle.pk_nand.proofs.Reaching.{Reached-start}
 use Rattle.pk_model.specs.Reading.{reading}
 use Rattle.pk_model.specs.Growth.{Goes}
 use Rattle.pk_model.specs.Crashes.{CrashFinds, background, commit}
 use Rattle.pk_model.proofs.Growing.{Reaches-then, Goes-then, at_end, weaken, weaken_went}
-use Rattle.pk_parts.specs.Parts.{Parts}
+use Rattle.pk_log.specs.State.{LogState}
+use Rattle.pk_parts.specs.Parts.{Parts, is_half}
 use Rattle.pk_parts.specs.Moves.{StandsFor, MayStep, Keeps, KeepsAll, BreaksAll}
 use Rattle.pk_parts.specs.Emptying.{StepOrRead, KeepsOrReads}
 use Rattle.pk_parts.specs.Reclaiming.{HoldsAll, FailsAll, CannotRead}
+use Rattle.pk_parts.specs.Pairing.{FinishesHalf, FailsToFinish}
 use Rattle.pk_parts.specs.Spacing.{SameMap, SameMapAll, MovesOrReads, StaysSame}
 use Rattle.pk_parts.proofs.Keeping.{cut_of_both, board_has}
-use Rattle.pk_parts.proofs.Standing.{reads_as}
+use Rattle.pk_parts.proofs.Halves.{stands as whole_stands}
+use Rattle.pk_parts.proofs.Standing.{reads_as, reads_between}
 use Rattle.pk_parts.proofs.ReadSteps.{Passes, passes_none, reading_passes, reading_then, reading_failed, reading_end}
 
 -- a step that leaves the values where they are
@@ -72,15 +76,49 @@ SameMapAll-none a s shape m stands = record {
 commit_cut : (shape : Shape) (start : Flash) (m : Map) (flash : Flash) (posted : List ℕ) → CrashFinds shape background start m flash posted → CrashFinds shape commit start m flash posted
 commit_cut shape start m flash posted cut = (cut.0, inr cut.1)
 
-pub same_held : (a b : Parts) (s0 s1 : BoardState) → b.log.pending ≡ [] → HoldsAll a b s0 s1 → SameMapAll a b s0 s1
-same_held a b s0 s1 none holds shape m stands =
+-- no pair is half made after it
+pub same_held : (a b : Parts) (s0 s1 : BoardState) → b.log.pending ≡ [] → is_half b ≡ false → HoldsAll a b s0 s1 → SameMapAll a b s0 s1
+same_held a b s0 s1 none whole holds shape m stands =
     let is = holds shape m stands in
     let run = is.cuts in
     record {
-      stands = is.stands;
-      still = inr (ap (reading shape s1.pages) (sym none) ∙ reads_as b shape s1.pages m is.stands);
+      stands = whole_stands b shape s1.pages m is.stands whole;
+      still = inr (ap (reading shape s1.pages) (sym none) ∙ reads_between b shape s1.pages m is.stands);
       cuts = (run.0, weaken run.0 s0 s1 (CrashFinds shape background s0.pages m) (CrashFinds shape commit s0.pages m) (commit_cut shape s0.pages m) run.1, run.2);
     }
+
+-- a step that leaves a pair half made, and its second program
+module _ (a b : Parts) (s0 s1 s2 : BoardState) (ready : IsReady s0 a.log.shape) (none : b.log.pending ≡ []) (holds : HoldsAll a b s0 s1) where
+  module _ (shape : Shape) (m : Map) (stands : StandsFor a shape s0.pages m) where
+    seen_half : (flash : Flash) (posted : List ℕ) → CrashFinds shape background s1.pages m flash posted
+        → CrashFinds shape commit s0.pages m flash (all_posted (holds shape m stands).cuts.0 ++ posted)
+    seen_half flash posted cut =
+        let run = (holds shape m stands).cuts in
+        let ends = at_end run.0 s0 s1 (CrashFinds shape background s0.pages m) run.1 in
+        (ap (λ (xs : List ℕ). xs ++ posted) ends.0 ∙ cut.0, inr cut.1)
+
+    first_cuts : ReachedBy (holds shape m stands).cuts.0 s0 s1 (CrashFinds shape commit s0.pages m)
+    first_cuts =
+        let run = (holds shape m stands).cuts in
+        weaken run.0 s0 s1 (CrashFinds shape background s0.pages m) (CrashFinds shape commit s0.pages m) (commit_cut shape s0.pages m) run.1
+
+  pub same_finished : (c : Parts) → FinishesHalf b c s1 s2 → SameMapAll a c s0 s2
+  same_finished c fin shape m stands =
+      let is = holds shape m stands in
+      let done = fin.finished shape m is.stands in
+      let empty : c.log.pending ≡ [] = ap (λ (l : LogState). l.pending) fin.log ∙ none in
+      record {
+        stands = done.stands;
+        still = inr (ap (reading shape s2.pages) (sym empty) ∙ reads_as c shape s2.pages m done.stands);
+        cuts = Reaches-then shape is.cuts.0 s0 s1 (CrashFinds shape commit s0.pages m) (board_has a s0 shape m ready stands) (first_cuts shape m stands) is.cuts.2 s2 (CrashFinds shape background s1.pages m)
+            (seen_half shape m stands) done.cuts;
+      }
+
+  pub breaks_finished : FailsToFinish b s1 s2 → BreaksAll a s0 s2
+  breaks_finished fails shape m stands =
+      let is = holds shape m stands in
+      Goes-then shape is.cuts.0 s0 s1 (CrashFinds shape commit s0.pages m) (board_has a s0 shape m ready stands) (first_cuts shape m stands) is.cuts.2 s2 (CrashFinds shape background s1.pages m)
+      (seen_half shape m stands) (fails.fails shape m is.stands)
 
 pub breaks_failed : (a : Parts) (s0 s1 : BoardState) → FailsAll a s0 s1 → BreaksAll a s0 s1
 breaks_failed a s0 s1 fails shape m stands =

@@ -1,6 +1,6 @@
 -- Steps of reclaims inside a Store, until a value has room.
 use Rattle.std.proofs.Common.{◌≡◌, ◌⊎◌, inl, inr, ℕ, ◌+◌, ◌-◌, ◌≤◌, ◌<◌, Bool, true, false, [], length, refl, sym, ap, subst, ◌∙◌, arith, nat_le, leb→le, T, Result, Ok, Err}
-use Rattle.std.specs.Prelude.{◌&&◌, ◌||◌, OnOk}
+use Rattle.std.specs.Prelude.{◌&&◌, ◌||◌, IsOk, OnOk}
 use Rattle.pk_base.specs.Shape.{Shape, data_blocks, most_pages}
 use Rattle.pk_plan.specs.declared.owner.Owner.TheVariants.{Values}
 use Rattle.pk_pool.specs.Blocks.{used_by}
@@ -14,7 +14,7 @@ use Rattle.pk_work.specs.Rest.{whole_freeze, whole_reclaim}
 use Rattle.pk_work.specs.Work.{emptying}
 use Rattle.pk_work.specs.Calls.{room_calls, room_roots}
 use Rattle.pk_gc.specs.declared.course.Phase.{Phase}
-use Rattle.pk_gc.specs.declared.course.Phase.TheVariants.{Idle, Copies, GivesBack}
+use Rattle.pk_gc.specs.declared.course.Phase.TheVariants.{Idle, Copies, Commits, GivesBack}
 use Rattle.pk_gc.specs.declared.course.Course.{Course}
 use Rattle.pk_gc.specs.declared.reclaimed.Reclaimed.{Reclaimed}
 use Rattle.pk_gc.specs.declared.reclaimed.Reclaimed.TheVariants.{Worked, NeedsFreeze, Ended}
@@ -22,16 +22,21 @@ use Rattle.pk_gc.specs.State.{steps_left}
 use Rattle.pk_gc.specs.Standing.{held_blocks}
 use Rattle.pk_gc.specs.Stepping.{runs_in}
 use Rattle.pk_parts.specs.Costs.{Spends}
-use Rattle.pk_parts.specs.Parts.{Parts, frames_of}
-use Rattle.pk_parts.specs.Moves.{StandsFor, MayStep, LeavesValues}
-use Rattle.pk_parts.specs.Emptying.{KeepsOrReads, OnRunning, HasRoom}
+use Rattle.pk_root.specs.Installing.{repeats_next}
+use Rattle.pk_log.specs.State.{LogState}
+use Rattle.pk_parts.specs.Parts.{Parts, frames_of, commits_in, is_half}
+use Rattle.pk_parts.specs.Moves.{StandsFor, StandsBetween, MayStep, MayCommit, LeavesValues}
+use Rattle.pk_parts.specs.Pairing.{FailsToFinish, FinishesCommit, FinishesCommitOr, CommitsOr}
+use Rattle.pk_parts.specs.Emptying.{KeepsOrReads, OnRunning, HasRoom, ReadsUpTo}
 use Rattle.pk_parts.specs.Staying.{Stays}
-use Rattle.pk_parts.specs.Reclaiming.{MayReclaim, Lessens, LeavesIndex, DoesReclaim, Waits, CannotRead, FailsReclaim, is_tight_for}
+use Rattle.pk_parts.specs.Reclaiming.{MayReclaim, Lessens, LeavesIndex, RunsOn, DoesReclaim, Waits, CannotRead, FailsReclaim, is_tight_for}
 use Rattle.pk_parts.specs.Spacing.{MovesOrReads, StaysSame, where_so, needs, has_moves, space_left, space_roots, Awaits, MaySpace, SpacesOnce}
 use Rattle.pk_call.specs.Calling.{FewCalls}
-use Rattle.pk_parts.proofs.Callings.{few_none, few_one, few_within, few_then, spends_still, spends_within}
+use Rattle.pk_parts.proofs.Halves.{not_made}
+use Rattle.pk_parts.proofs.Callings.{few_none, few_one, few_program, few_within, few_then, spends_still, spends_within}
 use Rattle.pk_parts.proofs.Inside.{one_call}
-use Rattle.pk_parts.proofs.SameMaps.{same_held, same_unread, breaks_failed, moves_kept, moves_later, moves_within, moves_none, may_moved, passes_moved, stays_none, stays_both}
+use Rattle.pk_parts.proofs.SameMaps.{same_held, same_finished, breaks_finished, same_unread, breaks_failed, moves_kept, moves_later, moves_within, moves_none, may_moved, passes_moved, stays_none, stays_both}
+use Rattle.pk_parts.proofs.Whole.{none_then, only_then, halts_then}
 use Rattle.pk_parts.proofs.Spacing.{left_at, roots_at, AwaitsAt, works_less, works_roots, ends_less, ends_roots}
 
 true_false : true ≡ false → ⊥
@@ -51,13 +56,24 @@ turn_at : (p : Phase) (d : Parts) (count : ℕ) → AwaitsAt p count d → used_
 turn_at p d count (inl runs) few = inl runs
 turn_at Idle d count (inr wanted) few = let full = wanted_full d count wanted in inr (omega (arith, full, few))
 turn_at (Copies c) d count (inr wanted) few = inl refl
+turn_at (Commits victim) d count (inr wanted) few = inl refl
 turn_at (GivesBack victim) d count (inr wanted) few = inl refl
 
 some_at : (p : Phase) (d : Parts) (count : ℕ) → AwaitsAt p count d → 1 ≤ left_at p count d
 some_at Idle d count (inl runs) = absurd (true_false (sym runs))
 some_at Idle d count (inr wanted) = let steps : where_so (needs count d) (whole_reclaim d.log.shape - 1) ≡ whole_reclaim d.log.shape - 1 = ap (λ x. where_so x (whole_reclaim d.log.shape - 1)) wanted in omega (arith, steps)
 some_at (Copies c) d count awaits = omega arith
+some_at (Commits victim) d count awaits = omega arith
 some_at (GivesBack victim) d count awaits = omega arith
+
+commits_run : (p : Phase) → commits_in p ≡ true → runs_in p ≡ true
+commits_run Idle e = absurd (true_false (sym e))
+commits_run (Copies c) e = refl
+commits_run (Commits victim) e = refl
+commits_run (GivesBack victim) e = refl
+
+reads_more : (n k : ℕ) (a b c : BoardState) → n ≤ k → ReadsUpTo n a b → c.reads ≡ b.reads → ReadsUpTo k a c
+reads_more n k a b c less r same = record { up = (let up = r.up in omega (arith, up, same)); few = (let few = r.few in omega (arith, few, same, less)) }
 
 -- ---- what stays in a step
 
@@ -93,12 +109,21 @@ module _ (count : ℕ) (b : Parts) (s0 : BoardState) (may : MaySpace count b s0)
     one_spent : Spends 1 (space_roots count b) s0 s1
     one_spent = spends_still 1 (space_roots count b) s0 s1 (few_one s0 s1 calls) same_roots
 
-    stepped : NoFault s0 s1 → Lessens b c s0 s1 → 1 + space_left count c ≤ space_left count b → space_roots count c ≤ space_roots count b → SpacesOnce count b c s0 s1 (Ok tt)
-    stepped sound made less roots_less = record {
+    same_shape : Lessens b c s0 s1 → c.log.shape ≡ b.log.shape
+    same_shape made = ap (λ (d : Parts). d.log.shape) made.leaves
+
+    -- no pair of a root is half made in it
+    stays_whole : Lessens b c s0 s1 → commits_in c.reclaim.phase ≡ false → is_half c ≡ false
+    stays_whole made moves =
+        let next : repeats_next c.log.next ≡ false = ap (λ (d : Parts). repeats_next d.log.next) made.leaves ∙ it.whole.settles.whole in
+        ap (λ (x : Bool). x || commits_in c.reclaim.phase) next ∙ moves
+
+    stepped : NoFault s0 s1 → Lessens b c s0 s1 → is_half c ≡ false → 1 + space_left count c ≤ space_left count b → space_roots count c ≤ space_roots count b → SpacesOnce count b c s0 s1 (Ok tt)
+    stepped sound made whole less roots_less = record {
       made = 1;
       some = omega arith;
       step = record {
-        came = (same_held b c s0 s1 none made.holds, sound);
+        came = (same_held b c s0 s1 none whole made.holds, sound);
         rest = rest;
         reads = one_call s0 s1 reads calls;
         roots_few = omega (arith, same_roots);
@@ -112,20 +137,115 @@ module _ (count : ℕ) (b : Parts) (s0 : BoardState) (may : MaySpace count b s0)
       stays = leaves_stay b c made.leaves;
     }
 
-    worked : NoFault s0 s1 → DoesReclaim b c s0 s1 Worked → SpacesOnce count b c s0 s1 (Ok tt)
-    worked sound made =
-        let same = ap (λ (d : Parts). d.log.shape) made.0.leaves in
-        stepped sound made.0 (works_less count b c same most b.reclaim.phase c.reclaim.phase awaits made.0.falls made.1) (works_roots count b c same most b.reclaim.phase c.reclaim.phase awaits made.0.falls made.1)
+    -- ---- a step after which a reclaim runs
+
+    module _ (sound : NoFault s0 s1) (made : DoesReclaim b c s0 s1 Worked) where
+      first_less : 1 + space_left count c ≤ space_left count b
+      first_less = works_less count b c (same_shape made.0) most b.reclaim.phase c.reclaim.phase awaits made.0.falls made.1
+
+      first_roots : space_roots count c ≤ space_roots count b
+      first_roots = works_roots count b c (same_shape made.0) most b.reclaim.phase c.reclaim.phase awaits made.0.falls made.1
+
+      most_then : count ≤ most_pages c.log.shape
+      most_then = subst (λ (s : Shape). count ≤ most_pages s) (sym (same_shape made.0)) most
+
+      -- no commit is half made
+      worked : commits_in c.reclaim.phase ≡ false → SpacesOnce count b c s0 s1 (Ok tt)
+      worked moves = stepped sound made.0 (stays_whole made.0 moves) first_less first_roots
+
+      module _ (e : Parts) (s2 : BoardState) where
+        -- the second program of the commit was made
+        committed : FinishesCommit c e s1 s2 → SpacesOnce count b e s0 s2 (Ok tt)
+        committed fin =
+            let f = fin.finishes in
+            let shape_e : e.log.shape ≡ c.log.shape = ap (λ (l : LogState). l.shape) f.log in
+            let runs : AwaitsAt c.reclaim.phase count c = inl (ap runs_in fin.was) in
+            let on = subst (λ (p : Phase). RunsOn p c e) (sym fin.phase) fin.room in
+            let first = first_less in
+            let second : 1 + space_left count e ≤ space_left count c = works_less count c e shape_e most_then c.reclaim.phase e.reclaim.phase runs fin.falls on in
+            let one = first_roots in
+            let two : space_roots count e ≤ space_roots count c = works_roots count c e shape_e most_then c.reclaim.phase e.reclaim.phase runs fin.falls on in
+            let same = f.same_roots in
+            record {
+              made = 2;
+              some = omega arith;
+              step = record {
+                came = (same_finished b c s0 s1 s2 may.may.ready none made.0.holds e f, none_then s0 s1 s2 sound f.works.no_fault);
+                rest = only_then s0 s1 s2 rest f.works.rest;
+                reads = reads_more 1 2 s0 s1 s2 (omega arith) (one_call s0 s1 reads calls) f.works.reads;
+                roots_few = omega (arith, same, same_roots);
+                ready = subst (λ (s : Shape). IsReady s2 s) (same_shape made.0) f.ready;
+              };
+              spends = spends_still 2 (space_roots count b) s0 s2 (few_then 1 1 s0 s1 s2 (few_one s0 s1 calls) (few_program s1 s2 f.program)) (same ∙ same_roots);
+              within = omega (arith, first, second);
+              left = omega (arith, first, second);
+              roots_left = omega (arith, same, same_roots, one, two);
+              none_pending = ap (λ (l : LogState). l.pending) f.log ∙ none;
+              stays = stays_both b c e (leaves_stay b c made.0.leaves) (leaves_stay c e fin.leaves);
+            }
+
+        -- or it failed
+        uncommitted : commits_in c.reclaim.phase ≡ true → FailsToFinish c s1 s2 → SpacesOnce count b e s0 s2 (Err Stopped)
+        uncommitted moves fails =
+            let first = first_less in
+            let some = some_at c.reclaim.phase c count (inl (commits_run c.reclaim.phase moves)) in
+            let fewer = fails.no_root in
+            record {
+              made = 2;
+              some = omega arith;
+              step = record {
+                came = (breaks_finished b c s0 s1 s2 may.may.ready none made.0.holds fails, halts_then s0 s1 s2 sound fails.stops);
+                rest = only_then s0 s1 s2 rest fails.stops.rest;
+                reads = reads_more 1 2 s0 s1 s2 (omega arith) (one_call s0 s1 reads calls) fails.stops.reads;
+                roots_few = omega (arith, fewer, same_roots);
+                ready = subst (λ (s : Shape). IsReady s2 s) (same_shape made.0) fails.ready;
+              };
+              spends = record {
+                calls = few_then 1 1 s0 s1 s2 (few_one s0 s1 calls) (few_program s1 s2 fails.program);
+                installs = omega (arith, fewer, same_roots);
+              };
+              within = omega (arith, first, some);
+              left = tt;
+              roots_left = tt;
+              none_pending = tt;
+              stays = tt;
+            }
+
+        pub may_end : MayCommit c s1
+        may_end =
+            let there = made.0.holds b.log.shape may.may.stands.0 it in
+            record {
+              ready = subst (λ (s : Shape). IsReady s1 s) (sym (same_shape made.0)) ready;
+              stands = (may.may.stands.0, subst (λ (s : Shape). StandsBetween c s s1.pages may.may.stands.0) (sym (same_shape made.0)) there.stands);
+            }
+
+        ended_so : (r : Result Unit Fault) → commits_in c.reclaim.phase ≡ true → FinishesCommitOr c e s1 s2 r → SpacesOnce count b e s0 s2 r
+        ended_so (Ok u) moves fin = committed fin
+        ended_so (Err f) moves fin = subst (λ (x : Fault). SpacesOnce count b e s0 s2 (Err x)) (sym fin.0) (uncommitted moves fin.2)
+
+        rested_so : (r : Result Unit Fault) → commits_in c.reclaim.phase ≡ false → IsOk r × (e ≡ c) × (s2 ≡ s1) → SpacesOnce count b e s0 s2 r
+        rested_so (Ok u) moves is =
+            subst (λ (x : Parts). SpacesOnce count b x s0 s2 (Ok tt)) (sym is.1) (subst (λ (s : BoardState). SpacesOnce count b c s0 s (Ok tt)) (sym is.2) (worked moves))
+        rested_so (Err f) moves is = absurd (not_made f is.0)
+
+        worked_then : (r : Result Unit Fault) → CommitsOr c e s1 s2 r → SpacesOnce count b e s0 s2 r
+        worked_then r ends = elim (commits_in c.reclaim.phase) as (λ z. commits_in c.reclaim.phase ≡ z → SpacesOnce count b e s0 s2 r) [
+          | true ↦ λ z. ended_so r z (ends.half z)
+          | false ↦ λ z. rested_so r z (ends.whole z)
+        ] refl
 
     ended : NoFault s0 s1 → DoesReclaim b c s0 s1 Ended → SpacesOnce count b c s0 s1 (Ok tt)
     ended sound made =
         let same = ap (λ (d : Parts). d.log.shape) made.0.leaves in
         let less = ends_less count b c same most b.reclaim.phase awaits it.with.reclaim.full made.1.given made.1.from in
         let roots_less = ends_roots count b c same most b.reclaim.phase awaits it.with.reclaim.full made.1.given made.1.from in
-        stepped sound made.0 (subst (λ (p : Phase). 1 + left_at p count c ≤ space_left count b) (sym made.1.idle) less) (subst (λ (p : Phase). roots_at p count c ≤ space_roots count b) (sym made.1.idle) roots_less)
+        stepped sound made.0 (stays_whole made.0 (ap commits_in made.1.idle)) (subst (λ (p : Phase). 1 + left_at p count c ≤ space_left count b) (sym made.1.idle) less) (subst (λ (p : Phase). roots_at p count c ≤ space_roots count b) (sym made.1.idle) roots_less)
 
-    pub space_worked : (x : Reclaimed) → x ≡ Worked → NoFault s0 s1 → DoesReclaim b c s0 s1 x → SpacesOnce count b c s0 s1 (Ok tt)
-    space_worked x is sound made = worked sound (subst (λ y. DoesReclaim b c s0 s1 y) is made)
+    pub space_worked : (x : Reclaimed) → x ≡ Worked → NoFault s0 s1 → DoesReclaim b c s0 s1 x → (e : Parts) (s2 : BoardState) (r : Result Unit Fault) → CommitsOr c e s1 s2 r → SpacesOnce count b e s0 s2 r
+    space_worked x is sound made e s2 r ends = worked_then sound (subst (λ y. DoesReclaim b c s0 s1 y) is made) e s2 r ends
+
+    pub space_may_end : (x : Reclaimed) → x ≡ Worked → NoFault s0 s1 → DoesReclaim b c s0 s1 x → MayCommit c s1
+    space_may_end x is sound made = may_end sound (subst (λ y. DoesReclaim b c s0 s1 y) is made) c s1
 
     pub space_ended : (x : Reclaimed) → x ≡ Ended → NoFault s0 s1 → DoesReclaim b c s0 s1 x → SpacesOnce count b c s0 s1 (Ok tt)
     space_ended x is sound made = ended sound (subst (λ y. DoesReclaim b c s0 s1 y) is made)

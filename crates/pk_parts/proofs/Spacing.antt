@@ -10,7 +10,7 @@ use Rattle.pk_work.specs.Rest.{whole_reclaim, left_of, Lowers}
 use Rattle.pk_work.specs.Calls.{room_calls, room_roots}
 use Rattle.std.specs.Prelude.{unwrap_or}
 use Rattle.pk_gc.specs.declared.course.Phase.{Phase}
-use Rattle.pk_gc.specs.declared.course.Phase.TheVariants.{Idle, Copies, GivesBack}
+use Rattle.pk_gc.specs.declared.course.Phase.TheVariants.{Idle, Copies, Commits, GivesBack}
 use Rattle.pk_gc.specs.State.{left_in}
 use Rattle.pk_gc.specs.Stepping.{runs_in}
 use Rattle.pk_log.specs.State.{LogState}
@@ -65,7 +65,24 @@ module _ (count : ℕ) (b c : Parts) (same_shape : c.log.shape ≡ b.log.shape) 
       let ready = falls.none_ready in
       let tight : where_so (is_tight_for c) (room_calls c.log.shape) ≡ where_so (is_tight_for b) (room_calls b.log.shape) = λ i. where_so (tight_same b c on i) (room_calls (same_shape i)) in
       omega (arith, less, ready, tight)
+  works_less (Commits victim) (Copies d) awaits falls on =
+      let less = falls.less in
+      let ready = falls.none_ready in
+      absurd (omega (arith, less, ready))
   works_less (GivesBack victim) (Copies d) awaits falls on =
+      let less = falls.less in
+      let ready = falls.none_ready in
+      absurd (omega (arith, less, ready))
+  works_less Idle (Commits other) (inl runs) falls on = absurd (no_yes runs)
+  works_less Idle (Commits other) (inr wanted) falls on =
+      let steps : where_so (needs count b) (whole_reclaim b.log.shape - 1) ≡ whole_reclaim b.log.shape - 1 = ap (λ x. where_so x (whole_reclaim b.log.shape - 1)) wanted in
+      omega (arith, steps)
+  works_less (Copies e) (Commits other) awaits falls on = omega arith
+  works_less (Commits victim) (Commits other) awaits falls on =
+      let less = falls.less in
+      let ready = falls.none_ready in
+      absurd (omega (arith, less, ready))
+  works_less (GivesBack victim) (Commits other) awaits falls on =
       let less = falls.less in
       let ready = falls.none_ready in
       absurd (omega (arith, less, ready))
@@ -76,6 +93,10 @@ module _ (count : ℕ) (b c : Parts) (same_shape : c.log.shape ≡ b.log.shape) 
       let moves : where_so (needs count c && is_tight_for c) (room_calls c.log.shape) ≡ 0 = ap (λ x. where_so (x && is_tight_for c) (room_calls c.log.shape)) (has_room on) in
       omega (arith, steps, none, moves)
   works_less (Copies e) (GivesBack other) awaits falls on =
+      let none : where_so (needs count c) (whole_reclaim c.log.shape - 1) ≡ 0 = ap (λ x. where_so x (whole_reclaim c.log.shape - 1)) (has_room on) in
+      let moves : where_so (needs count c && is_tight_for c) (room_calls c.log.shape) ≡ 0 = ap (λ x. where_so (x && is_tight_for c) (room_calls c.log.shape)) (has_room on) in
+      omega (arith, none, moves)
+  works_less (Commits victim) (GivesBack other) awaits falls on =
       let none : where_so (needs count c) (whole_reclaim c.log.shape - 1) ≡ 0 = ap (λ x. where_so x (whole_reclaim c.log.shape - 1)) (has_room on) in
       let moves : where_so (needs count c && is_tight_for c) (room_calls c.log.shape) ≡ 0 = ap (λ x. where_so (x && is_tight_for c) (room_calls c.log.shape)) (has_room on) in
       omega (arith, none, moves)
@@ -95,10 +116,15 @@ module _ (count : ℕ) (b c : Parts) (same_shape : c.log.shape ≡ b.log.shape) 
   works_roots (Copies e) (Copies d) awaits falls on =
       let tight : where_so (is_tight_for c) room_roots ≡ where_so (is_tight_for b) room_roots = ap (λ t. where_so t room_roots) (tight_same b c on) in
       omega (arith, tight)
+  works_roots (Commits victim) (Copies d) awaits falls on =
+      let less = falls.less in
+      let ready = falls.none_ready in
+      absurd (omega (arith, less, ready))
   works_roots (GivesBack victim) (Copies d) awaits falls on =
       let less = falls.less in
       let ready = falls.none_ready in
       absurd (omega (arith, less, ready))
+  works_roots p (Commits other) awaits falls on = omega arith
   works_roots p (GivesBack other) awaits falls on =
       let none : where_so (needs count c && is_tight_for c) room_roots ≡ 0 = ap (λ x. where_so (x && is_tight_for c) room_roots) (has_room on) in
       omega (arith, none)
@@ -132,6 +158,7 @@ module _ (count : ℕ) (b c : Parts) (same_shape : c.log.shape ≡ b.log.shape) 
       let none : where_so (needs count c) (whole_reclaim c.log.shape - 1) ≡ 0 = ap (λ x. where_so x (whole_reclaim c.log.shape - 1)) (has_room from) in
       let moves : where_so (needs count c && is_tight_for c) (room_calls c.log.shape) ≡ 0 = ap (λ x. where_so (x && is_tight_for c) (room_calls c.log.shape)) (has_room from) in
       omega (arith, none, moves)
+  ends_less (Commits victim) awaits full given from = absurd from
   ends_less (GivesBack victim) awaits full given from =
       let same = needs_same victim full given from in
       let steps : where_so (needs count c) (whole_reclaim c.log.shape - 1) ≡ where_so (needs count b) (whole_reclaim b.log.shape - 1) = λ i. where_so (same i) (whole_reclaim (same_shape i) - 1) in
@@ -147,6 +174,7 @@ module _ (count : ℕ) (b c : Parts) (same_shape : c.log.shape ≡ b.log.shape) 
   ends_roots (Copies e) awaits full given from =
       let none : where_so (needs count c && is_tight_for c) room_roots ≡ 0 = ap (λ x. where_so (x && is_tight_for c) room_roots) (has_room from) in
       omega (arith, none)
+  ends_roots (Commits victim) awaits full given from = absurd from
   ends_roots (GivesBack victim) awaits full given from =
       let same = needs_same victim full given from in
       let moves : where_so (needs count c && is_tight_for c) room_roots ≡ where_so (needs count b && is_tight_for b) room_roots = λ i. where_so (same i && tight_same b c from.0 i) room_roots in

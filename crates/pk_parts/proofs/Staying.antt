@@ -19,7 +19,7 @@ use Rattle.pk_data.specs.State.{DataState, fits_open, more_used, with_written}
 use Rattle.pk_data.specs.Placed.{HoldsValues, IsOpenIn}
 use Rattle.pk_live.specs.declared.open_block.OpenBlock.{OpenBlock}
 use Rattle.pk_gc.specs.declared.course.Phase.{Phase}
-use Rattle.pk_gc.specs.declared.course.Phase.TheVariants.{Idle, Copies, GivesBack}
+use Rattle.pk_gc.specs.declared.course.Phase.TheVariants.{Idle, Copies, Commits, GivesBack}
 use Rattle.pk_gc.specs.Standing.{held_blocks}
 use Rattle.pk_gc.specs.Stepping.{runs_in}
 use Rattle.pk_parts.specs.Parts.{Parts, outputs_of, block_if_open}
@@ -156,6 +156,7 @@ some_data shape is = let fits = is.data_fits in omega (arith, fits)
 held_few : (p : Phase) (used all : ℕ) → (runs_in p ≡ true → used ≡ all) → 1 ≤ all → length (held_blocks p) ≤ used
 held_few Idle used all full some = omega arith
 held_few (Copies c) used all full some = let same = full refl in omega (arith, same, some)
+held_few (Commits victim) used all full some = let same = full refl in omega (arith, same, some)
 held_few (GivesBack victim) used all full some = let same = full refl in omega (arith, same, some)
 
 pub place_stays : (d : Parts) (key : Key) (value : List ℕ) (old : BoardState) (page : ℕ) (space : DataState) (q : Blocks) (new : BoardState) → PlacesValue d.log.shape key value d.space d.pool old page space q new

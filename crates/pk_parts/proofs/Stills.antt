@@ -1,5 +1,5 @@
 -- Calls of the flash that change no page that is read, or kept.
-use Rattle.std.proofs.Common.{◌≡◌, ◌⊎◌, inl, ℕ, zero, suc, ◌+◌, ◌/◌, ◌<◌, ◌≤◌, refl, sym, ap, subst, ◌∙◌, arith, List, [], ◌++◌, length, Some}
+use Rattle.std.proofs.Common.{◌≡◌, ◌⊎◌, inl, inr, ℕ, zero, suc, ◌+◌, ◌/◌, ◌%◌, ◌<◌, ◌≤◌, refl, sym, ap, ◌∙◌, arith, List, [], ◌++◌, length, Some}
 use Rattle.pk_base.specs.Shape.{Shape, charge}
 use Rattle.pk_base.specs.Key.{Key}
 use Rattle.pk_base.specs.Page.{Flash, page_at}
@@ -8,7 +8,7 @@ use Rattle.pk_base.specs.Mark.{program, erase, after, all_posted}
 use Rattle.pk_segfmt.specs.Stored.{page_of}
 use Rattle.pk_rootfmt.specs.Root.{Root}
 use Rattle.pk_nand.specs.BoardState.{BoardState}
-use Rattle.pk_nand.specs.Cut.{Interrupted}
+use Rattle.pk_nand.specs.Cut.{Interrupted, Touches}
 use Rattle.pk_nand.specs.Calls.{after_program, after_erase, ProgramFailed, EraseFailed}
 use Rattle.pk_nand.proofs.Leaving.{interrupted_done}
 use Rattle.pk_nand.proofs.Touching.{untouched}
@@ -78,10 +78,10 @@ module _ (shape : Shape) (root : Root) (found : Found) (pending : List Entry) (k
       pub still_erase_failed : (new : BoardState) → EraseFailed old new block → Goes shape old new StillCut
       still_erase_failed new failed = Goes-erase shape old StillCut has block within_erase grows_erase new failed
 
-    -- a program of a page that is not read
-    module _ (page : ℕ) (bytes : List ℕ) (unread : IsStill shape root found pending kept page → ⊥) where
+    -- a program of a page that is not read, in a pair of which no page is
+    module _ (page : ℕ) (bytes : List ℕ) (unread : (k : ℕ) → Touches shape (program page bytes) k → IsStill shape root found pending kept k → ⊥) where
       within_program : (f : Flash) → Interrupted shape (program page bytes) old.pages f [] → StillCut f []
-      within_program f cut = (refl, λ k is. untouched shape (program page bytes) k _ _ (λ here. unread (subst (λ (j : ℕ). IsStill shape root found pending kept j) here is)) (cut.pages k) ∙ so_far k is)
+      within_program f cut = (refl, λ k is. untouched shape (program page bytes) k _ _ (λ here. unread k here is) (cut.pages k) ∙ so_far k is)
 
       grows_program : Grows shape old.pages (after shape (program page bytes) old.pages)
       grows_program = grows_still old.pages (after shape (program page bytes) old.pages) so_far (within_program (after shape (program page bytes) old.pages) (interrupted_done shape (program page bytes) old.pages)).1
@@ -92,11 +92,23 @@ module _ (shape : Shape) (root : Root) (found : Found) (pending : List Entry) (k
       pub still_program_failed : (new : BoardState) → ProgramFailed old new page bytes → Goes shape old new StillCut
       still_program_failed new failed = Goes-program shape old StillCut has page bytes within_program grows_program new failed
 
-  -- the pages of a value
-  module _ (old : BoardState) (has : old.shape ≡ Some shape) (so_far : SameStill old.pages) (key : Key) (page : ℕ) (value : List ℕ) (unread : (k : ℕ) → page ≤ k → k < page + charge shape (length value) → IsStill shape root found pending kept k → ⊥) where
+  -- the pages of a value, whole pairs
+  module _ (old : BoardState) (has : old.shape ≡ Some shape) (so_far : SameStill old.pages) (key : Key) (page : ℕ) (value : List ℕ) (even : page % shape.block_pages % 2 ≡ 0) (unread : (k : ℕ) → page ≤ k → k < page + charge shape (length value) → IsStill shape root found pending kept k → ⊥) where
     shape_stays : (n : ℕ) → (written shape key page value n old).shape ≡ Some shape
     shape_stays zero = has
     shape_stays (suc n) = shape_stays n
+
+    -- the first page of the pair is one of them
+    touched : (n k : ℕ) (bytes : List ℕ) → n < charge shape (length value) → Touches shape (program (page + n) bytes) k → (page ≤ k) × (k < page + charge shape (length value))
+    touched n k bytes less (inl same) = (omega (arith, same), omega (arith, same, less))
+    touched zero k bytes less (inr partner) =
+        let first : page + zero ≡ page = omega arith in
+        let odd : page % shape.block_pages % 2 ≡ 1 = ap (λ (p : ℕ). p % shape.block_pages % 2) (sym first) ∙ partner.1 in
+        absurd (omega (arith, even, odd))
+    touched (suc n) k bytes less (inr partner) = let next = partner.0 in (omega (arith, next), omega (arith, next, less))
+
+    untouched_value : (n : ℕ) (bytes : List ℕ) → n < charge shape (length value) → (k : ℕ) → Touches shape (program (page + n) bytes) k → IsStill shape root found pending kept k → ⊥
+    untouched_value n bytes less k here is = let within = touched n k bytes less here in unread k within.0 within.1 is
 
     pub still_written : (n : ℕ) → n ≤ charge shape (length value) → Reaches shape old (written shape key page value n old) StillCut
     still_written zero most = still_none old has so_far old refl
@@ -104,7 +116,7 @@ module _ (shape : Shape) (root : Root) (found : Found) (pending : List Entry) (k
         let before = still_written n (omega (arith, most)) in
         let now : BoardState = written shape key page value n old in
         still_then old now (written shape key page value (suc n) old) has before
-        (still_program now (shape_stays n) (still_end old now before) (page + n) (page_of shape key value n) (unread (page + n) (omega arith) (omega (arith, most))) (written shape key page value (suc n) old) refl)
+        (still_program now (shape_stays n) (still_end old now before) (page + n) (page_of shape key value n) (untouched_value n (page_of shape key value n) (omega (arith, most))) (written shape key page value (suc n) old) refl)
 
     pub still_write_failed : (new : BoardState) → WriteFailed shape key page value old new → Goes shape old new StillCut
     still_write_failed new failed =
@@ -113,7 +125,7 @@ module _ (shape : Shape) (root : Root) (found : Found) (pending : List Entry) (k
         let before = still_written n (omega (arith, within)) in
         let now : BoardState = written shape key page value n old in
         still_goes old now new has before
-        (still_program_failed now (shape_stays n) (still_end old now before) (page + n) (page_of shape key value n) (unread (page + n) (omega arith) (omega (arith, within))) new failed.failed)
+        (still_program_failed now (shape_stays n) (still_end old now before) (page + n) (page_of shape key value n) (untouched_value n (page_of shape key value n) (omega (arith, within))) new failed.failed)
 
 -- ---- counts
 

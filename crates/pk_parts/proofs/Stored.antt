@@ -13,12 +13,13 @@ use Rattle.pk_work.specs.Rest.{whole_reclaim}
 use Rattle.pk_work.specs.Calls.{commit_calls, room_calls, room_roots, space_calls}
 use Rattle.pk_steps.specs.Under.{places}
 use Rattle.pk_gc.specs.declared.course.Phase.{Phase}
-use Rattle.pk_gc.specs.declared.course.Phase.TheVariants.{Idle, Copies, GivesBack}
+use Rattle.pk_gc.specs.declared.course.Phase.TheVariants.{Idle, Copies, Commits, GivesBack}
 use Rattle.pk_gc.specs.Standing.{held_blocks, ReclaimStands}
 use Rattle.pk_gc.specs.Stepping.{runs_in}
 use Rattle.pk_parts.specs.Costs.{Spends, reclaim_calls}
 use Rattle.pk_parts.specs.Parts.{Parts, counts_of}
-use Rattle.pk_parts.specs.Moves.{StandsFor, MayStep, StepKeeps, LeavesValues}
+use Rattle.pk_parts.specs.Moves.{StandsFor, MayStep, StepKeeps, LeavesValues, StandsBetween}
+use Rattle.pk_parts.proofs.Halves.{counted_of}
 use Rattle.pk_parts.specs.Emptying.{OnRunning}
 use Rattle.pk_parts.specs.Staying.{Stays}
 use Rattle.pk_parts.specs.Reclaiming.{is_tight_for}
@@ -40,6 +41,7 @@ where_few false n = omega arith
 steps_most : (p : Phase) (count : ℕ) (d : Parts) (flash : Flash) (es : List (Key × Place)) → ReclaimStands p d.log.shape d.reclaim d.space.live flash es → steps_for p count d ≤ whole_reclaim d.log.shape
 steps_most Idle count d flash es stands = let few = where_few (needs count d) (whole_reclaim d.log.shape - 1) in omega (arith, few)
 steps_most (Copies c) count d flash es stands = let few = reclaim_within (Copies c) d.log.shape true d.reclaim d.space.live flash es stands in omega (arith, few)
+steps_most (Commits victim) count d flash es stands = omega arith
 steps_most (GivesBack victim) count d flash es stands = let few = where_few (needs count d) (whole_reclaim d.log.shape - 1) in omega (arith, few)
 
 space_within : (count : ℕ) (d : Parts) (board : BoardState) → MayStep d board → space_left count d ≤ whole_reclaim d.log.shape + room_calls d.log.shape
@@ -99,7 +101,15 @@ most_committed count a b same most = subst (λ (s : Shape). count ≤ most_pages
 pub blocks_most : (d : Parts) (shape : Shape) (flash : Flash) (m : Map) → StandsFor d shape flash m → (counts_of d).blocks ≤ data_blocks shape - 1
 blocks_most d shape flash m stands = let few = stands.with.placed.few in omega (arith, few)
 
+-- the same where a pair may be half made
+pub blocks_between : (d : Parts) (shape : Shape) (flash : Flash) (m : Map) → StandsBetween d shape flash m → (counts_of d).blocks ≤ data_blocks shape - 1
+blocks_between d shape flash m s =
+    let few = s.with.placed.few in
+    let same = counted_of d flash s.top s.found s.without s.course in
+    omega (arith, few, same)
+
 pub blocks_at : (p : Phase) (used all : ℕ) → all - 1 ≤ used → (runs_in p ≡ true → used ≡ all) → all - 1 ≤ used - length (held_blocks p)
 blocks_at Idle used all least full = omega (arith, least)
 blocks_at (Copies c) used all least full = let same = full refl in omega (arith, same)
+blocks_at (Commits victim) used all least full = let same = full refl in omega (arith, same)
 blocks_at (GivesBack victim) used all least full = let same = full refl in omega (arith, same)

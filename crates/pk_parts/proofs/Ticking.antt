@@ -1,6 +1,6 @@
 -- A background step: a spare block is erased, or nothing is done.
 use Rattle.std.proofs.Common.{◌≡◌, ◌≢◌, inl, inr, ℕ, zero, suc, ◌+◌, ◌-◌, ◌*◌, ◌/◌, ◌<◌, ◌≤◌, refl, sym, ap, subst, ◌∙◌, arith, Bool, true, false, cond, List, [], ◌∷◌, ◌++◌, length, Option, Some, None, Ok, nat_le}
-use Rattle.std.specs.Prelude.{slice_get, filter, count_by, unwrap_or, MatchOption, MatchBool, ◌&&◌, ◌==◌, not}
+use Rattle.std.specs.Prelude.{slice_get, filter, count_by, map, unwrap_or, MatchOption, MatchBool, ◌&&◌, ◌==◌, not}
 use Rattle.std.proofs.lemmas.Bool.{le-leb, eqb-true, eq-eqb}
 use Rattle.std.proofs.lemmas.Bool.Decides.{leb_tells}
 use Rattle.std.specs.List.{range_with_len, concat}
@@ -17,12 +17,14 @@ use Rattle.pk_nand.specs.Calls.{IsReady, after_erase, EraseFailed}
 use Rattle.pk_nand.proofs.Reaching.{Reached-start}
 use Rattle.pk_nand.proofs.Touching.{untouched_after}
 use Rattle.pk_pool.specs.declared.state.BlockState.{BlockState}
-use Rattle.pk_pool.specs.declared.state.BlockState.TheVariants.{Root as RootBlock, Free, Ready, Owned}
-use Rattle.pk_pool.specs.Blocks.{Blocks, PoolOnFlash, IsShared, IsOwned, IsNowhere, is_root, is_free, is_ready, is_owned_by, used_by, with_state}
+use Rattle.pk_pool.specs.declared.state.BlockState.TheVariants.{Root as RootBlock, Free, Ready, Owned, Leaving}
+use Rattle.pk_pool.specs.Blocks.{Blocks, PoolOnFlash, IsShared, IsOwned, IsNowhere, NoneLeaves, is_root, is_free, is_ready, is_owned_by, used_by, with_state, freed, freed_state}
 use Rattle.pk_pool.specs.Unready.{unready}
 use Rattle.pk_pool.specs.Taking.{ErasesOne, ErasesNone}
 use Rattle.pk_pool.proofs.States.{free_is_not_root}
 use Rattle.pk_pool.proofs.Sharing.{count-set, behind_roots}
+use Rattle.pk_pool.proofs.Leaving.{shared_freed, state_after}
+use Rattle.pk_schedule.proofs.Settled.{none_leaves_set}
 use Rattle.pk_run.specs.Kept.{Kept as KeptRun, empty}
 use Rattle.pk_jrn.specs.Epochs.{left_of as pages_left}
 use Rattle.pk_work.specs.Backlog.{Backlog, due_level, is_tight}
@@ -53,14 +55,15 @@ use Rattle.pk_call.specs.declared.types.Ticked.TheVariants.{Worked, Idle, Fault}
 use Rattle.pk_model.proofs.Growing.{weaken, weaken_went}
 use Rattle.pk_data.specs.Laws.{SameValues}
 use Rattle.pk_gc.specs.Stepping.{runs_in}
-use Rattle.pk_parts.specs.Parts.{Parts, sight_of, counts_of, index_of, block_if_open, outputs_of, backlog_of, is_reclaim_due, reclaim_left, has_moves, may_freeze}
-use Rattle.pk_parts.specs.Agreeing.{DriveOnFlashWith, DriveOnFlash}
+use Rattle.pk_parts.specs.Parts.{Parts, sight_of, counts_of, index_of, block_if_open, outputs_of, backlog_of, is_reclaim_due, reclaim_left, has_moves, may_freeze, is_half, settled_parts}
+use Rattle.pk_parts.specs.Agreeing.{DriveOnFlashWith, DriveOnFlash, IsWhole}
 use Rattle.pk_parts.specs.Ticking.{Ticks, HasNoStep, WantsReclaim, WantsFreeze}
 use Rattle.pk_parts.proofs.Reclaiming.{reclaim_elsewhere, holds_none}
 use Rattle.pk_parts.proofs.Unread.{KeepsOwners, SameRead, same_top, still_without, still_all, agrees_elsewhere}
 use Rattle.pk_parts.proofs.Stills.{IsStill, SameStill, StillCut, read_still, still_end, went_end, still_erase, still_erase_failed}
 use Rattle.pk_parts.proofs.Writing.{IsIndexed, spare_still, beside_still}
-use Rattle.pk_parts.proofs.Unchanging.{own, for_its_map}
+use Rattle.pk_parts.proofs.Halves.{with_settled, whole_of, whole_like, is_whole, not_both, counted_of, pool_same}
+use Rattle.pk_parts.proofs.Unchanging.{own, own_whole, for_its_map}
 
 pub yes_no : (b : Bool) → b ≡ false → b ≡ true → ⊥
 yes_no true e f = cc
@@ -101,7 +104,7 @@ ticks_nothing d old new d' answer same_drive same_board none runs fine =
       cuts_stopped = λ e. absurd (yes_no (stopped_by answer) runs e);
       idle_rests = λ _. (refl, refl);
       unmade = λ e. absurd (fine e);
-      grows = inl refl;
+      grows = λ _. inl refl;
       rest = refl;
       calls = inl (refl, refl, refl);
       unread = λ e. absurd (fine e);
@@ -141,7 +144,7 @@ same_roots shape old new has has_new same =
 free_or_values : (p : Blocks) (b : ℕ) → slice_get p.states b ≡ Some Free → HoldsValues p b → ⊥
 free_or_values p b free held = cc
 
-module _ (d : Parts) (old new : BoardState) (a : DriveOnFlash d old.shape old.pages) (block : ℕ) (free : slice_get d.pool.states block ≡ Some Free) (shared : IsShared d.pool.shape d.pool.states) where
+module _ (d : Parts) (old new : BoardState) (a : DriveOnFlash d old.shape old.pages) (whole : IsWhole d) (block : ℕ) (free : slice_get d.pool.states block ≡ Some Free) (shared : IsShared d.pool.shape d.pool.states) where
   -- the pages of the index are kept
   abbrev pub Kept : ℕ → Type 0
   Kept = IsIndexed d.pool d.log.shape
@@ -157,12 +160,12 @@ module _ (d : Parts) (old new : BoardState) (a : DriveOnFlash d old.shape old.pa
   grown new same = inl (subst (λ o. newest_root (shape_or_none o) (page_at new.pages) ≡ newest_root (shape_or_none o) (page_at old.pages)) (sym has) same)
 
   unread : (k : ℕ) → k / d.log.shape.block_pages ≡ block → IsStill d.log.shape a.top.1 a.found d.log.pending Kept k → ⊥
-  unread = spare_still d d.log.shape old.pages a.top a.found a.without a.all (own d old a) block (inl free) (behind_roots d.pool.shape d.pool.states block Free free_is_not_root free shared)
+  unread = spare_still d d.log.shape old.pages a.top a.found a.without a.all (own_whole d old a whole) block (inl free) (behind_roots d.pool.shape d.pool.states block Free free_is_not_root free shared)
 
   -- a cut at which no page differs that is read is one of the step
   cut_is : d.log.pending ≡ [] → (f : Flash) (q : List ℕ) → Still f q → CrashFinds d.log.shape background old.pages a.all f q
   cut_is none f q is =
-      let w = own d old a in
+      let w = own_whole d old a whole in
       let s = d.log.shape in
       let held = under_reads s f [] a.top a.found a.without (still_without d d.space d.pool s old.pages f a.top a.found a.without a.all w (read_still s a.top.1 a.found d.log.pending Kept old.pages f is.1)) in
       let first = under_reads s old.pages [] a.top a.found a.without w.committed in
@@ -197,7 +200,7 @@ module _ (d : Parts) (old new : BoardState) (a : DriveOnFlash d old.shape old.pa
     placed : ValuesOnFlash d.log.shape d.space q (outputs_of d) new.pages (places a.found d.log.pending)
     placed =
         subst (λ p. ValuesOnFlash d.log.shape d.space p (outputs_of d) new.pages (places a.found d.log.pending)) (sym marked)
-        (block_elsewhere d.log.shape d.space d.pool (outputs_of d) block Free Ready old.pages new.pages (places a.found d.log.pending) (own d old a).placed free refl refl values_same (subst (λ p. PoolOnFlash p new.pages) marked fits))
+        (block_elsewhere d.log.shape d.space d.pool (outputs_of d) block Free Ready old.pages new.pages (places a.found d.log.pending) (own_whole d old a whole).placed free refl refl values_same (subst (λ p. PoolOnFlash p new.pages) marked fits))
 
     journal_same : used_by Journal q.states ≡ used_by Journal d.pool.states
     journal_same =
@@ -217,10 +220,10 @@ module _ (d : Parts) (old new : BoardState) (a : DriveOnFlash d old.shape old.pa
     agrees_now : DriveOnFlashWith (record d { pool = q }) d.log.shape new.pages a.top a.found a.without a.all
     agrees_now =
         let owners : KeepsOwners d.pool q = λ b o is. owned b (o, is) ∙ is in
-        let its : q.shape ≡ d.log.shape = ap (λ p. p.shape) marked ∙ (own d old a).placed.shape_is in
-        agrees_elsewhere d d.space q d.log.shape old.pages new.pages a.top a.found a.without a.all (own d old a) same ready.flash owners
-        (beside_still d d.log.shape old.pages a.top a.found a.without a.all (own d old a) q new.pages owners its fits journal_same meta_same kept_same) placed
-        (reclaim_elsewhere d.log.shape d.reclaim d.space d.pool q old.pages new.pages (places a.found d.log.pending) (own d old a).reclaim (own d old a).placed values_many (λ k held not_open. all_same k held))
+        let its : q.shape ≡ d.log.shape = ap (λ p. p.shape) marked ∙ (own_whole d old a whole).placed.shape_is in
+        agrees_elsewhere d d.space q d.log.shape old.pages new.pages a.top a.found a.without a.all (own_whole d old a whole) same ready.flash owners
+        (beside_still d d.log.shape old.pages a.top a.found a.without a.all (own_whole d old a whole) q new.pages owners its fits journal_same meta_same kept_same) placed
+        (reclaim_elsewhere d.log.shape d.reclaim d.space d.pool q old.pages new.pages (places a.found d.log.pending) (own_whole d old a whole).reclaim (own_whole d old a whole).placed values_many (λ k held not_open. all_same k held))
 
     less_left : unready q.states + 1 ≡ unready d.pool.states
     less_left =
@@ -238,19 +241,30 @@ module _ (d : Parts) (old new : BoardState) (a : DriveOnFlash d old.shape old.pa
         omega (arith, same, less)
 
     pub agrees_erased : DriveOnFlash (record d { pool = q }) new.shape new.pages
-    agrees_erased = record { shape = d.log.shape; top = a.top; found = a.found; without = a.without; all = a.all; told_is = ready.shape_is; with = agrees_now }
+    agrees_erased =
+        let after_whole = whole_like d after_it refl (λ none. subst NoneLeaves (sym marked) (none_leaves_set d.pool block Ready refl none)) refl refl whole in
+        record {
+          shape = d.log.shape;
+          top = a.top;
+          found = a.found;
+          without = a.without;
+          all = a.all;
+          told_is = ready.shape_is;
+          with = with_settled after_it d.log.shape new.pages a.top a.found a.without a.all after_whole.settles agrees_now;
+          course = inl after_whole;
+        }
 
     pub ticks_erased : d.log.pending ≡ [] → Ticks old new (sight_of d) (sight_of (record d { pool = q })) Worked
     ticks_erased none =
         let works = works_erase old new block made in
         record {
           stands = λ _. for_its_map d old a (λ s f m. HoldsMap s f new (sight_of (record d { pool = q })) m)
-              (record { shape_is = ready.shape_is; frames_is = refl; map_is = under_reads d.log.shape new.pages d.log.pending a.top a.found a.all (still_all d d.space d.pool d.log.shape old.pages new.pages a.top a.found a.without a.all (own d old a) same) });
+              (record { shape_is = ready.shape_is; frames_is = refl; map_is = under_reads d.log.shape new.pages d.log.pending a.top a.found a.all (still_all d d.space d.pool d.log.shape old.pages new.pages a.top a.found a.without a.all (own_whole d old a whole) same) });
           cuts = λ _. for_its_map d old a (λ s f m. Reaches s old new (CrashFinds s background old.pages m)) (reached.0, weaken reached.0 old new Still (CrashFinds d.log.shape background old.pages a.all) (cut_is none) reached.1, reached.2);
           cuts_stopped = λ e. absurd (yes_no false refl e);
           idle_rests = λ e. absurd (worked_idle e);
           unmade = λ e. absurd (worked_fine e);
-          grows = grown new (same_top d.log.shape a.top.1 a.found d.log.pending old.pages new.pages same);
+          grows = λ _. grown new (same_top d.log.shape a.top.1 a.found d.log.pending old.pages new.pages same);
           rest = works.rest;
           calls = subst (λ b. AtMostOneCall old b) (sym made) (inr (inr (inr (refl, refl, refl))));
           unread = λ e. absurd (worked_fine e);
@@ -275,7 +289,7 @@ module _ (d : Parts) (old new : BoardState) (a : DriveOnFlash d old.shape old.pa
         cuts_stopped = λ _. for_its_map d old a (λ s f m. Goes s old new (CrashFinds s background old.pages m)) (went.0, weaken_went went.0 old new Still (CrashFinds d.log.shape background old.pages a.all) (cut_is none) went.1, went.2);
         idle_rests = λ e. absurd (stopped_idle true e);
         unmade = λ e. absurd (stopped_fine e);
-        grows = grown new (same_top d.log.shape a.top.1 a.found d.log.pending old.pages new.pages (read_still d.log.shape a.top.1 a.found d.log.pending Kept old.pages new.pages (went_end d.log.shape a.top.1 a.found d.log.pending Kept old.pages old new went)));
+        grows = λ e. absurd (yes_no true e refl);
         rest = stops.rest;
         calls = inr (inr (inr (ap (λ b. b.reads) made, ap (λ b. b.programs) made, ap (λ b. b.erases) made)));
         unread = λ e. absurd (stopped_fine e);
@@ -300,6 +314,9 @@ all_counted (Ready ∷ ss) = omega (arith, all_counted ss, sum_by-cons {X = Bloc
 all_counted (Owned Journal ∷ ss) = omega (arith, all_counted ss, sum_by-cons {X = BlockState})
 all_counted (Owned Meta ∷ ss) = omega (arith, all_counted ss, sum_by-cons {X = BlockState})
 all_counted (Owned Values ∷ ss) = omega (arith, all_counted ss, sum_by-cons {X = BlockState})
+all_counted (Leaving Journal ∷ ss) = omega (arith, all_counted ss, sum_by-cons {X = BlockState})
+all_counted (Leaving Meta ∷ ss) = omega (arith, all_counted ss, sum_by-cons {X = BlockState})
+all_counted (Leaving Values ∷ ss) = omega (arith, all_counted ss, sum_by-cons {X = BlockState})
 
 none_free : (states : List BlockState) → IsNowhere Free states → count_by is_free states ≡ 0
 none_free [] h = refl
@@ -307,6 +324,16 @@ none_free (Free ∷ ss) h = absurd (h 0 refl)
 none_free (RootBlock ∷ ss) h = omega (arith, none_free ss (λ k. h (suc k)), sum_by-cons {X = BlockState})
 none_free (Ready ∷ ss) h = omega (arith, none_free ss (λ k. h (suc k)), sum_by-cons {X = BlockState})
 none_free (Owned o ∷ ss) h = omega (arith, none_free ss (λ k. h (suc k)), sum_by-cons {X = BlockState})
+none_free (Leaving o ∷ ss) h = omega (arith, none_free ss (λ k. h (suc k)), sum_by-cons {X = BlockState})
+
+-- a block that leaves is not erased
+pub ready_freed : (states : List BlockState) → count_by is_ready (map freed_state states) ≡ count_by is_ready states
+ready_freed [] = refl
+ready_freed (RootBlock ∷ ss) = omega (arith, ready_freed ss, sum_by-cons {X = BlockState})
+ready_freed (Free ∷ ss) = omega (arith, ready_freed ss, sum_by-cons {X = BlockState})
+ready_freed (Ready ∷ ss) = omega (arith, ready_freed ss, sum_by-cons {X = BlockState})
+ready_freed (Owned o ∷ ss) = omega (arith, ready_freed ss, sum_by-cons {X = BlockState})
+ready_freed (Leaving o ∷ ss) = omega (arith, ready_freed ss, sum_by-cons {X = BlockState})
 
 some_free : (states : List BlockState) (b : ℕ) → slice_get states b ≡ Some Free → 1 ≤ count_by is_free states
 some_free states b free =
@@ -374,30 +401,43 @@ no_merge_is x e =
     (parts.0, eqb-true (length x.log.frozen.entries) 0 parts.1)
 
 module _ (d : Parts) (old : BoardState) (a : DriveOnFlash d old.shape old.pages) (shared : IsShared d.pool.shape d.pool.states) where
-  with : DriveOnFlashWith d d.log.shape old.pages a.top a.found a.without a.all
+  -- as if the blocks that leave were free
+  with : DriveOnFlashWith (settled_parts d) d.log.shape old.pages a.top a.found a.without a.all
   with = own d old a
 
-  all_blocks : 2 + length (named a.top.1) + length (taken_by d.schedule.freeze) + length (output d.schedule).blocks + used_by Values d.pool.states + count_by is_ready d.pool.states + count_by is_free d.pool.states ≡ d.log.shape.blocks
+  abbrev states : List BlockState
+  states = (freed d.pool).states
+
+  values_are : used_by Values d.pool.states ≡ used_by Values states
+  values_are = counted_of d old.pages a.top a.found a.without a.course
+
+  ready_are : count_by is_ready states ≡ count_by is_ready d.pool.states
+  ready_are = ready_freed d.pool.states
+
+  all_blocks : 2 + length (named a.top.1) + length (taken_by d.schedule.freeze) + length (output d.schedule).blocks + used_by Values states + count_by is_ready states + count_by is_free states ≡ d.log.shape.blocks
   all_blocks =
-      let all = all_counted d.pool.states in
+      let all = all_counted states in
       let split = length-append (a.top.1.newest ++ a.top.1.older) (concat a.top.1.runs) in
       let journal = with.index.journal_few in
       let meta = with.index.runs_few in
       let size = with.placed.size in
-      let two = shared.roots in
+      let two = (shared_freed d.pool.shape d.pool.states shared).roots in
       omega (arith, all, split, journal, meta, size, two)
 
   open_room : has_open_room d.log.shape old.pages (block_if_open d.space.open_block) ≡ fits_open d.log.shape d.space (most_pages d.log.shape)
-  open_room = room_is d.log.shape d.pool old.pages d.space.open_block with.placed.open_is
+  open_room = room_is d.log.shape (freed d.pool) old.pages d.space.open_block with.placed.open_is
 
   -- every block without an owner is erased where no step is left
   none_unready : HasNoStep d → 2 + length (named a.top.1) + used_by Values d.pool.states + count_by is_ready d.pool.states ≡ d.log.shape.blocks
   none_unready no_step =
       let all = all_blocks in
       let taken = ap (λ (bs : List ℕ). length bs) no_step.no_freeze in
-      let output = none_taken d.schedule.phase (index_of d) old.pages a.top.1 a.found with.index.merge (no_merge_is (index_of d) no_step.no_merge).0 in
-      let no_free = none_free d.pool.states no_step.none_free in
-      omega (arith, all, no_free, taken, output)
+      let output = none_taken d.schedule.phase (index_of (settled_parts d)) old.pages a.top.1 a.found with.index.merge (no_merge_is (index_of d) no_step.no_merge).0 in
+      let whole = whole_of d old.pages a.top a.found a.without a.course no_step.whole in
+      let no_free = none_free states (subst (λ (p : Blocks). IsNowhere Free p.states) (sym (pool_same d whole.settles)) no_step.none_free) in
+      let values = values_are in
+      let ready = ready_are in
+      omega (arith, all, no_free, taken, output, values, ready)
 
   -- where no reclaim runs, all blocks with values are in use
   blocks_are : runs_in d.reclaim.phase ≡ false → (counts_of d).blocks ≡ used_by Values d.pool.states
@@ -442,15 +482,33 @@ module _ (d : Parts) (old : BoardState) (a : DriveOnFlash d old.shape old.pages)
   busy_freeze some idle =
       let all = all_blocks in
       let whole = all_erased_is idle in
-      let none : length (taken_by d.schedule.freeze) ≡ 0 = omega (arith, all, whole) in
+      let values = values_are in
+      let ready = ready_are in
+      let none : length (taken_by d.schedule.freeze) ≡ 0 = omega (arith, all, whole, values, ready) in
       yes_no (length (taken_by d.schedule.freeze) == 0) some (eq-eqb (length (taken_by d.schedule.freeze)) 0 none)
 
-  pub busy_free : (block : ℕ) → slice_get d.pool.states block ≡ Some Free → IsIdle d.log.shape old.pages (sight_of d) → ⊥
+  busy_free : (block : ℕ) → slice_get states block ≡ Some Free → IsIdle d.log.shape old.pages (sight_of d) → ⊥
   busy_free block free idle =
       let all = all_blocks in
-      let one = some_free d.pool.states block free in
+      let one = some_free states block free in
       let whole = all_erased_is idle in
-      omega (arith, all, one, whole)
+      let values = values_are in
+      let ready = ready_are in
+      omega (arith, all, one, whole, values, ready)
+
+  pub busy_spare : (block : ℕ) → slice_get d.pool.states block ≡ Some Free → IsIdle d.log.shape old.pages (sight_of d) → ⊥
+  busy_spare block free idle = busy_free block (state_after d.pool.states block Free free) idle
+
+  -- nor where a pair is half made
+  pub busy_half : is_half d ≡ true → IsIdle d.log.shape old.pages (sight_of d) → ⊥
+  busy_half half idle = elim a.course [
+    | inl w ↦ not_both (is_half d) half (is_whole d w)
+    | inr (inl root) ↦ elim root.index.busy [
+      | inl some ↦ (let none = idle.none_frozen in omega (arith, some, none))
+      | inr there ↦ busy_free there.0 there.1 idle
+    ]
+    | inr (inr commit) ↦ yes_no (runs_in d.reclaim.phase) idle.no_reclaim (ap runs_in commit.phase)
+  ]
 
   -- nor where a reclaim runs or is due, or a freeze is wanted
   pub busy_reclaim : WantsReclaim d → IsIdle d.log.shape old.pages (sight_of d) → ⊥
@@ -476,16 +534,16 @@ none_erased d d' old new r is e = subst (Erases d d' old new) e is
 pub kept_drive : (d d' : Parts) (old new : BoardState) → ErasesNone d.pool old d'.pool new → d' ≡ record d { pool = d'.pool } → d' ≡ d
 kept_drive d d' old new is rest = rest ∙ ap (λ p. record d { pool = p }) is.kept
 
-module _ (d d' : Parts) (old new : BoardState) (a : DriveOnFlash d old.shape old.pages) (one : ErasesOne d.pool old d'.pool new) (rest : d' ≡ record d { pool = d'.pool }) (shared : IsShared d.pool.shape d.pool.states)
+module _ (d d' : Parts) (old new : BoardState) (a : DriveOnFlash d old.shape old.pages) (whole : IsWhole d) (one : ErasesOne d.pool old d'.pool new) (rest : d' ≡ record d { pool = d'.pool }) (shared : IsShared d.pool.shape d.pool.states)
     (ready : IsReady new d.pool.shape) (owned : (b : ℕ) → IsOwned d.pool b → slice_get d'.pool.states b ≡ slice_get d.pool.states b) (fits : PoolOnFlash d'.pool new.pages) where
   own_ready : IsReady new d.log.shape
-  own_ready = subst (λ s. IsReady new s) (own d old a).placed.shape_is ready
+  own_ready = subst (λ s. IsReady new s) (own_whole d old a whole).placed.shape_is ready
 
   pub step_agrees : DriveOnFlash d' new.shape new.pages
-  step_agrees = subst (λ x. DriveOnFlash x new.shape new.pages) (sym rest) (agrees_erased d old new a one.block one.lowest.here shared one.erase own_ready d'.pool one.marked fits owned)
+  step_agrees = subst (λ x. DriveOnFlash x new.shape new.pages) (sym rest) (agrees_erased d old new a whole one.block one.lowest.here shared one.erase own_ready d'.pool one.marked fits owned)
 
   pub step_lowers : (sight_of d').work < (sight_of d).work
-  step_lowers = subst (λ x. (sight_of x).work < (sight_of d).work) (sym rest) (lowers_erased d old new a one.block one.lowest.here shared one.erase own_ready d'.pool one.marked fits owned)
+  step_lowers = subst (λ x. (sight_of x).work < (sight_of d).work) (sym rest) (lowers_erased d old new a whole one.block one.lowest.here shared one.erase own_ready d'.pool one.marked fits owned)
 
   pub step_ticks : d.log.pending ≡ [] → Ticks old new (sight_of d) (sight_of d') Worked
-  step_ticks none = subst (λ x. Ticks old new (sight_of d) (sight_of x) Worked) (sym rest) (ticks_erased d old new a one.block one.lowest.here shared one.erase own_ready d'.pool one.marked fits owned none)
+  step_ticks none = subst (λ x. Ticks old new (sight_of d) (sight_of x) Worked) (sym rest) (ticks_erased d old new a whole one.block one.lowest.here shared one.erase own_ready d'.pool one.marked fits owned none)

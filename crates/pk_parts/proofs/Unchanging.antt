@@ -13,10 +13,11 @@ use Rattle.pk_level.specs.Levels.{ReadsUpTo, ReadFailsWithin}
 use Rattle.pk_model.specs.Reading.{reading}
 use Rattle.pk_steps.proofs.Untouched.{under_reads}
 use Rattle.pk_call.specs.Drive.{HoldsMap}
-use Rattle.pk_parts.specs.Parts.{Parts, sight_of, frames_of}
-use Rattle.pk_parts.specs.Agreeing.{DriveOnFlashWith, DriveOnFlash}
+use Rattle.pk_parts.specs.Parts.{Parts, sight_of, frames_of, settled_parts}
+use Rattle.pk_parts.specs.Agreeing.{DriveOnFlashWith, DriveOnFlash, IsWhole}
 use Rattle.pk_parts.specs.Finding.{IsPlaceIn}
 use Rattle.pk_parts.specs.Quiet.{ReadsOnly, ReadsFailing, Looks}
+use Rattle.pk_parts.proofs.Halves.{with_whole}
 
 -- ---- the board
 
@@ -75,8 +76,13 @@ pub same_ok : {E : Type 0} (x y : Map) → ◌≡◌ {A = Result Map E} (Ok x) (
 same_ok x y e = cc
 
 module _ (d : Parts) (board : BoardState) (a : DriveOnFlash d board.shape board.pages) where
-  pub own : DriveOnFlashWith d d.log.shape board.pages a.top a.found a.without a.all
-  own = subst (λ s. DriveOnFlashWith d s board.pages a.top a.found a.without a.all) (sym a.with.shape_is) a.with
+  -- on its own shape, as if the blocks that leave were free
+  pub own : DriveOnFlashWith (settled_parts d) d.log.shape board.pages a.top a.found a.without a.all
+  own = subst (λ s. DriveOnFlashWith (settled_parts d) s board.pages a.top a.found a.without a.all) (sym a.with.shape_is) a.with
+
+  -- as it is, where no pair is half made
+  pub own_whole : IsWhole d → DriveOnFlashWith d d.log.shape board.pages a.top a.found a.without a.all
+  own_whole whole = with_whole d d.log.shape board.pages a.top a.found a.without a.all whole.settles own
 
   -- what holds of its one map holds of every map that it stands for
   pub for_its_map : (P : Shape → ℕ → Map → Type 0) → P d.log.shape (frames_of d) a.all → (shape : Shape) (frames : ℕ) (m : Map) → HoldsMap shape frames board (sight_of d) m → P shape frames m

@@ -7,6 +7,7 @@ use Rattle.pk_base.specs.Shape.{Shape, IsShape, charge, greatest, data_blocks}
 use Rattle.pk_base.specs.Page.{Flash, page_at, erased, whole}
 use Rattle.pk_base.specs.Key.{Key, IsKey}
 use Rattle.pk_base.specs.Map.{Map}
+use Rattle.pk_base.proofs.CommitPages.{even_rest}
 use Rattle.pk_base.proofs.ShapeLemmas.{block_pages_positive}
 use Rattle.pk_segfmt.proofs.StoredLemmas.{charge_some, value_again}
 use Rattle.pk_rootfmt.specs.Root.{Root, named}
@@ -21,7 +22,7 @@ use Rattle.pk_nand.specs.BoardState.{BoardState, shape_or_none}
 use Rattle.pk_nand.specs.Calls.{IsReady}
 use Rattle.pk_pool.specs.declared.state.BlockState.{BlockState}
 use Rattle.pk_pool.specs.declared.state.BlockState.TheVariants.{Free, Ready, Owned}
-use Rattle.pk_pool.specs.Blocks.{Blocks, PoolOnFlash, IsShared, IsSpare, is_owned_by, used_by, with_state}
+use Rattle.pk_pool.specs.Blocks.{Blocks, NoneLeaves, PoolOnFlash, IsShared, IsSpare, is_owned_by, used_by, with_state}
 use Rattle.pk_pool.proofs.States.{get-set_other}
 use Rattle.pk_pool.proofs.Sharing.{count-set}
 use Rattle.pk_pool.proofs.Fitting.{block_of}
@@ -45,10 +46,12 @@ use Rattle.pk_data.specs.Placed.{HoldsValues, IsNotOpen}
 use Rattle.pk_data.specs.Reserving.{TakesNext}
 use Rattle.pk_gc.specs.Standing.{ReclaimOnFlash}
 use Rattle.pk_parts.specs.Parts.{Parts, outputs_of}
-use Rattle.pk_parts.specs.Agreeing.{DriveOnFlashWith}
+use Rattle.pk_parts.specs.Agreeing.{DriveOnFlashWith, IsWhole}
 use Rattle.pk_parts.specs.Moves.{StandsFor, Keeps, KeepsAll, BreaksAll, MayStep}
 use Rattle.pk_parts.specs.Noting.{IsPlaced, StepPlaces}
 use Rattle.pk_parts.specs.Placing.{Reserves, PlacesValue, FailsToPlace}
+use Rattle.pk_schedule.proofs.Settled.{none_leaves_set}
+use Rattle.pk_parts.proofs.Halves.{whole_like}
 use Rattle.pk_parts.proofs.Standing.{found_once}
 use Rattle.pk_parts.proofs.Reclaiming.{SameButOpen, runs_or_rests, reclaim_rests, reclaim_elsewhere, not_of_open}
 use Rattle.pk_schedule.proofs.Keeping.{IsBeside}
@@ -218,6 +221,17 @@ module _ (d : Parts) (page count : ℕ) (space : DataState) (q : Blocks) (old ne
     | inr opens ↦ ap (λ (r : Blocks). used_by Meta r.states) opens.taken ∙ meta_taken d.pool opens.block opens.spare
   ]
 
+  -- no block leaves
+  pub leaves_reserved : NoneLeaves d.pool → NoneLeaves q
+  leaves_reserved none = elim reserved.taken [
+    | inl next ↦ subst NoneLeaves (sym next.same_pool) none
+    | inr opens ↦ subst NoneLeaves (sym opens.taken) (none_leaves_set d.pool opens.block (Owned Values) refl none)
+  ]
+
+  -- the pages are whole pairs
+  pub even_page : IsShape d.log.shape → page % d.log.shape.block_pages % 2 ≡ 0
+  even_page is = even_rest page d.log.shape.block_pages reserved.pages.even is.eights
+
   pub works_reserved : Works old new
   works_reserved = elim reserved.taken [
     | inl next ↦ works_none old new next.same_board
@@ -319,7 +333,7 @@ module _ (d : Parts) (key : Key) (value : List ℕ) (old : BoardState) (page : �
         let before = reserve_reaches d page count is.space q old is.between is.reserved ready top found without all with in
         let so_far = still_end shape top.1 found d.log.pending (IsIndexed d.pool shape) old.pages old is.between before in
         let unread = pages_unread d page count is.space q old is.between is.reserved ready top found without all with in
-        let more = still_written shape top.1 found d.log.pending (IsIndexed d.pool shape) old.pages is.between is.reserved.ready.shape_is so_far key page value unread count (omega arith) in
+        let more = still_written shape top.1 found d.log.pending (IsIndexed d.pool shape) old.pages is.between is.reserved.ready.shape_is so_far key page value (even_page d page count is.space q old is.between is.reserved with.index.logs.is_shape) unread count (omega arith) in
         still_then shape top.1 found d.log.pending (IsIndexed d.pool shape) old.pages old is.between new ready.shape_is before
         (subst (λ (b : BoardState). Reaches shape is.between b (StillCut shape top.1 found d.log.pending (IsIndexed d.pool shape) old.pages)) (sym is.writes) more)
 
@@ -359,16 +373,22 @@ module _ (d : Parts) (key : Key) (value : List ℕ) (old : BoardState) (page : �
         (meta_reserved d page (charge shape (length value)) is.space q old is.between is.reserved) same_placed in
         agrees_elsewhere d space q shape old.pages new.pages top found without all with (λ k is. same_placed k (inl is)) ready_new.flash owners beside values placed_reclaims
 
-    pub placed_keeps : Keeps d after shape all old new
-    placed_keeps = record {
-      stands = record { top = top; found = found; without = without; with = placed_agrees };
+    pub placed_keeps : IsWhole d → Keeps d after shape all old new
+    placed_keeps w = record {
+      stands = record {
+        top = top;
+        found = found;
+        without = without;
+        with = placed_agrees;
+        whole = whole_like d after refl (leaves_reserved d page (charge shape (length value)) is.space q old is.between is.reserved) refl refl w;
+      };
       same_places = λ was. ap (λ (f : Found). places f d.log.pending) (found_once d d shape old.pages was.top top was.found found was.without all without all was.with with);
       still = (still_commits d shape old.pages top found without all with new.pages [] (refl, same_placed)).1;
       cuts = (placed_reaches.0, weaken placed_reaches.0 old new (StillCut shape top.1 found d.log.pending (IsIndexed d.pool shape) old.pages) (CrashFinds shape commit old.pages all) (still_commits d shape old.pages top found without all with) placed_reaches.1, placed_reaches.2);
     }
 
   pub placed_keeps_all : KeepsAll d after old new
-  placed_keeps_all = keeps_for d after old new (λ m stands. placed_keeps stands.top stands.found stands.without m stands.with)
+  placed_keeps_all = keeps_for d after old new (λ m stands. placed_keeps stands.top stands.found stands.without m stands.with stands.whole)
 
 -- ---- a call that failed
 
@@ -391,7 +411,8 @@ module _ (d : Parts) (key : Key) (value : List ℕ) (old new : BoardState) (shar
         let so_far = still_end d.log.shape top.1 found d.log.pending (IsIndexed d.pool d.log.shape) old.pages old write.between before in
         let unread = pages_unread d write.page count write.space write.pool old write.between write.reserved ready top found without all with in
         still_goes d.log.shape top.1 found d.log.pending (IsIndexed d.pool d.log.shape) old.pages old write.between new ready.shape_is before
-        (still_write_failed d.log.shape top.1 found d.log.pending (IsIndexed d.pool d.log.shape) old.pages write.between write.reserved.ready.shape_is so_far key write.page value unread new write.failed)
+        (still_write_failed d.log.shape top.1 found d.log.pending (IsIndexed d.pool d.log.shape) old.pages write.between write.reserved.ready.shape_is so_far key write.page value
+        (even_page d write.page count write.space write.pool old write.between write.reserved with.index.logs.is_shape) unread new write.failed)
 
   pub breaks_placing : FailsToPlace d.log.shape key value d.space d.pool old new → BreaksAll d old new
   breaks_placing failed = breaks_for d old new (λ m stands.
@@ -440,6 +461,7 @@ value_written d key value old page space q new is ready ready_new room is_key sh
       place = record {
         exists = let e = is.reserved.pages.exists in let some = charge_some shape with.index.logs.is_shape (length value) in omega (arith, e, some);
         past_roots = is.reserved.pages.behind_roots;
+        even = is.reserved.pages.even;
         short = short;
         inside = is.reserved.pages.inside;
       };

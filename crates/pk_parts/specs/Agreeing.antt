@@ -1,5 +1,5 @@
 -- How a drive stands to its flash.
-use Rattle.std.specs.Prelude.{◌≡◌, ℕ, ◌/◌, List, [], length, Option, Some}
+use Rattle.std.specs.Prelude.{◌≡◌, ℕ, ◌/◌, List, [], length, Option, Some, ◌⊎◌, false}
 use Rattle.pk_base.specs.Shape.{Shape}
 use Rattle.pk_base.specs.Page.{Flash, IsFlash}
 use Rattle.pk_base.specs.Map.{Map}
@@ -7,9 +7,11 @@ use Rattle.pk_rootfmt.specs.Root.{Root}
 use Rattle.pk_model.specs.Found.{Found}
 use Rattle.pk_steps.specs.Under.{IsUnder, IsValuePage, places}
 use Rattle.pk_data.specs.Placed.{HoldsValues, IsOutput, ValuesOnFlash}
+use Rattle.pk_gc.specs.declared.course.Phase.TheVariants.{Commits}
 use Rattle.pk_gc.specs.Standing.{ReclaimOnFlash}
-use Rattle.pk_schedule.specs.Index.{IndexOnFlash}
-use Rattle.pk_parts.specs.Parts.{Parts, frames_of, index_of, outputs_of}
+use Rattle.pk_schedule.specs.Index.{IndexOnFlash, IsSettled, HalfStands}
+use Rattle.pk_reclaim.specs.Space.{HalfMoves, space}
+use Rattle.pk_parts.specs.Parts.{Parts, frames_of, index_of, outputs_of, settled_parts, commits_in}
 
 -- The parts are those of what stands under the newest root, beside a reclaim that holds these blocks for values: without is the map of the
 -- flash, all the one with the pending entries.
@@ -31,7 +33,34 @@ pub record DriveOnFlashBeside (d : Parts) (outputs : List ℕ) (shape : Shape) (
 abbrev pub DriveOnFlashWith : Parts → Shape → Flash → ℕ × Root → Found → Map → Map → Type 0
 DriveOnFlashWith d shape flash top found without all = DriveOnFlashBeside d (outputs_of d) shape flash top found without all
 
--- the board has this shape and these pages, and the drive agrees with them
+-- ---- half made pairs
+
+-- no pair is half made, of a root or of a commit, and no block leaves
+pub record IsWhole (d : Parts) : Type 0 where
+  pub settles : IsSettled (index_of d)
+  pub moves : commits_in d.reclaim.phase ≡ false
+  pub epoch : d.log.epoch.half ≡ false
+
+-- The pair of the newest root is half made, with nothing pending; before its first program the flash had the same map.
+pub record IsHalfRoot (d : Parts) (flash : Flash) (m : Map) : Type 0 where
+  pub index : HalfStands (index_of d) flash m
+  pub moves : commits_in d.reclaim.phase ≡ false
+  pub epoch : d.log.epoch.half ≡ false
+  pub none_pending : d.log.pending ≡ []
+
+-- The commit of a reclaim's moves is half made, with nothing pending; before its first program the flash had the same map.
+pub record IsHalfCommit (d : Parts) (flash : Flash) (top : ℕ × Root) (found : Found) (m : Map) : Type 0 where
+  pub settles : IsSettled (index_of d)
+  pub victim : ℕ
+  pub phase : d.reclaim.phase ≡ Commits victim
+  pub half : HalfMoves (space d.log d.space d.pool d.reclaim) flash top found m
+  pub none_pending : d.log.pending ≡ []
+
+-- at most one pair is half made
+abbrev pub IsHalfAtMost : Parts → Flash → ℕ × Root → Found → Map → Type 0
+IsHalfAtMost d flash top found m = IsWhole d ⊎ (IsHalfRoot d flash m ⊎ IsHalfCommit d flash top found m)
+
+-- The board has this shape and these pages, and the drive agrees with them, as if the blocks that leave were free; at most one pair is half made.
 pub record DriveOnFlash (d : Parts) (told : Option Shape) (flash : Flash) : Type 0 where
   pub shape : Shape
   pub top : ℕ × Root
@@ -39,4 +68,5 @@ pub record DriveOnFlash (d : Parts) (told : Option Shape) (flash : Flash) : Type
   pub without : Map
   pub all : Map
   pub told_is : told ≡ Some shape
-  pub with : DriveOnFlashWith d shape flash top found without all
+  pub with : DriveOnFlashWith (settled_parts d) shape flash top found without all
+  pub course : IsHalfAtMost d flash top found without

@@ -8,6 +8,7 @@ pub mod Programming
 pub mod Quiet
 pub mod Placing
 pub mod Ticking
+pub mod Pairing
 pub mod Noting
 pub mod Changes
 pub mod Opening

@@ -7,6 +7,7 @@ use Rattle.pk_nand.specs.declared.types.Fault.TheVariants.{Reading, Stopped}
 use Rattle.pk_nand.specs.BoardState.{BoardState}
 use Rattle.pk_nand.specs.Calls.{Rose}
 use Rattle.pk_nand.specs.Effects.{OnlyReading, Stops}
+use Rattle.pk_model.specs.Growth.{Grows}
 use Rattle.pk_schedule.specs.declared.phase.Stepped.{Stepped}
 use Rattle.pk_schedule.specs.declared.phase.Stepped.TheVariants.{Worked, Idle}
 use Rattle.pk_schedule.specs.Steps.{has_no_merge}
@@ -18,6 +19,7 @@ use Rattle.pk_parts.specs.Ticking.{WantsFreeze}
 -- The map is unchanged at every crash point, and less work remains.
 pub record Merges (before after : Parts) (old new : BoardState) : Type 0 where
   pub holds : HoldsAll before after old new
+  pub grows : Grows before.log.shape old.pages new.pages
   pub busy : has_no_merge (index_of before) ≡ false
   pub number : after.log.root.number ≤ before.log.root.number + 1
   pub less : (sight_of after).work < (sight_of before).work
@@ -51,5 +53,6 @@ FailsMerge before after old new Stopped = (has_no_merge (index_of before) ≡ fa
 -- A step of a freeze: the map is unchanged at every crash point, and less work remains if the freeze had begun or a reclaim needs it.
 pub record FreezesOn (before after : Parts) (old new : BoardState) : Type 0 where
   pub holds : HoldsAll before after old new
+  pub grows : Grows before.log.shape old.pages new.pages
   pub number : after.log.root.number ≤ before.log.root.number + 1
   pub less : WantsFreeze before → (sight_of after).work < (sight_of before).work

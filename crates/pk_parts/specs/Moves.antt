@@ -18,15 +18,24 @@ use Rattle.pk_steps.specs.Under.{IsValuePage, places}
 use Rattle.pk_model.specs.Growth.{Reaches, Goes}
 use Rattle.pk_model.specs.Crashes.{CrashFinds, commit}
 use Rattle.pk_model.specs.Steps.{Step}
-use Rattle.pk_parts.specs.Parts.{Parts, frames_of}
-use Rattle.pk_parts.specs.Agreeing.{DriveOnFlashWith}
+use Rattle.pk_parts.specs.Parts.{Parts, frames_of, settled_parts}
+use Rattle.pk_parts.specs.Agreeing.{DriveOnFlashWith, IsWhole, IsHalfAtMost}
 
--- the drive agrees with these pages, for this map with the pending entries
+-- The drive agrees with these pages, for this map with the pending entries, and no pair is half made.
 pub record StandsFor (d : Parts) (shape : Shape) (flash : Flash) (m : Map) : Type 0 where
   pub top : ℕ × Root
   pub found : Found
   pub without : Map
   pub with : DriveOnFlashWith d shape flash top found without m
+  pub whole : IsWhole d
+
+-- The same as if the blocks that leave were free; at most one pair is half made.
+pub record StandsBetween (d : Parts) (shape : Shape) (flash : Flash) (m : Map) : Type 0 where
+  pub top : ℕ × Root
+  pub found : Found
+  pub without : Map
+  pub with : DriveOnFlashWith (settled_parts d) shape flash top found without m
+  pub course : IsHalfAtMost d flash top found without
 
 -- The map with the pending entries is the same. The flash holds what it held, or that map; and so it does at every cut.
 pub record Keeps (before after : Parts) (shape : Shape) (m : Map) (old new : BoardState) : Type 0 where
@@ -36,9 +45,19 @@ pub record Keeps (before after : Parts) (shape : Shape) (m : Map) (old new : Boa
   pub still : (reading shape new.pages [] ≡ reading shape old.pages []) ⊎ (reading shape new.pages [] ≡ Ok m)
   pub cuts : Reaches shape old new (CrashFinds shape commit old.pages m)
 
+-- the same of a step after which a pair may be half made
+pub record KeepsBetween (before after : Parts) (shape : Shape) (m : Map) (old new : BoardState) : Type 0 where
+  pub stands : StandsBetween after shape new.pages m
+  pub same_places : (was : StandsFor before shape old.pages m) → places stands.found after.log.pending ≡ places was.found before.log.pending
+  pub still : (reading shape new.pages [] ≡ reading shape old.pages []) ⊎ (reading shape new.pages [] ≡ Ok m)
+  pub cuts : Reaches shape old new (CrashFinds shape commit old.pages m)
+
 -- for every map for which the drive stood
 abbrev pub KeepsAll : Parts → Parts → BoardState → BoardState → Type 0
 KeepsAll before after old new = (shape : Shape) (m : Map) → StandsFor before shape old.pages m → Keeps before after shape m old new
+
+abbrev pub KeepsAllBetween : Parts → Parts → BoardState → BoardState → Type 0
+KeepsAllBetween before after old new = (shape : Shape) (m : Map) → StandsFor before shape old.pages m → KeepsBetween before after shape m old new
 
 -- the same of a step that stopped the drive
 abbrev pub BreaksAll : Parts → BoardState → BoardState → Type 0
@@ -50,6 +69,11 @@ BreaksAll before old new = (shape : Shape) (m : Map) → StandsFor before shape 
 pub record MayStep (d : Parts) (board : BoardState) : Type 0 where
   pub ready : IsReady board d.log.shape
   pub stands : (m : Map) × StandsFor d d.log.shape board.pages m
+
+-- what a commit asks: the same, where a pair may be half made
+pub record MayCommit (d : Parts) (board : BoardState) : Type 0 where
+  pub ready : IsReady board d.log.shape
+  pub stands : (m : Map) × StandsBetween d d.log.shape board.pages m
 
 -- a step that keeps the map
 abbrev pub StepKeeps : {T : Type 0} → Parts → Parts → ℕ → BoardState → BoardState → Result T Fault → Type 0

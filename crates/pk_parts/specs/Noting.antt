@@ -18,7 +18,7 @@ use Rattle.pk_model.specs.Steps.{Step}
 use Rattle.pk_data.specs.Placed.{HoldsValues}
 use Rattle.pk_data.specs.Entries.{IsInOpen}
 use Rattle.pk_parts.specs.Parts.{Parts}
-use Rattle.pk_parts.specs.Agreeing.{DriveOnFlashWith}
+use Rattle.pk_parts.specs.Agreeing.{DriveOnFlashWith, IsWhole}
 use Rattle.pk_parts.specs.Moves.{KeepsAll, BreaksAll, IsWritten}
 
 -- A key is to have a value that was written into the open block and is in no map yet. Until now it had the one at old, or none.
@@ -27,6 +27,7 @@ pub record Puts (d : Parts) (shape : Shape) (flash : Flash) (m : Map) (key : Key
   pub found : Found
   pub without : Map
   pub with : DriveOnFlashWith d shape flash top found without m
+  pub whole : IsWhole d
   pub old_is : find key_cmp key (places found d.log.pending) ≡ old
   pub written : IsWritten d shape flash key value page
   pub place : IsPlace shape (record { page = page; len = length value })
@@ -40,6 +41,7 @@ pub record Drops (d : Parts) (shape : Shape) (flash : Flash) (m : Map) (key : Ke
   pub found : Found
   pub without : Map
   pub with : DriveOnFlashWith d shape flash top found without m
+  pub whole : IsWhole d
   pub old_is : find key_cmp key (places found d.log.pending) ≡ Some old
   pub bytes : AreBytes key
 

@@ -8,15 +8,16 @@ use Rattle.pk_model.specs.Found.{Found}
 use Rattle.pk_call.specs.Steady.{live_blocks}
 use Rattle.pk_gc.specs.Stepping.{runs_in}
 use Rattle.pk_parts.specs.Parts.{Parts, counts_of, frames_of}
-use Rattle.pk_parts.specs.Agreeing.{DriveOnFlashWith}
+use Rattle.pk_parts.specs.Agreeing.{DriveOnFlashWith, IsWhole}
 
--- The drive agrees with the flash and runs, with these frames. Nothing is pending, the epoch takes no more pages, no block is open, so
+-- The drive agrees with the flash and runs, with these frames. Nothing is pending, the epoch takes no more commits, no block is open, so
 -- many blocks are in use as have a page of a value, and no reclaim runs.
 pub record OpenedOn (shape : Shape) (flash : Flash) (frames : ℕ) (d : Parts) : Type 0 where
   pub top : ℕ × Root
   pub found : Found
   pub all : Map
   pub with : DriveOnFlashWith d shape flash top found all all
+  pub whole : IsWhole d
   pub frames_are : frames_of d ≡ frames
   pub runs : d.stopped ≡ false
   pub none_pending : d.log.pending ≡ []

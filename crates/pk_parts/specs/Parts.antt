@@ -1,9 +1,9 @@
 -- What a drive keeps in memory, and what contracts see of it.
-use Rattle.std.specs.Prelude.{ℕ, ◌-◌, Bool, true, List, length, sum, count_by, Option, Some, None, ◌==◌, ◌&&◌, not, if◌then◌else◌}
+use Rattle.std.specs.Prelude.{ℕ, ◌-◌, Bool, true, List, length, sum, count_by, Option, Some, None, ◌==◌, ◌&&◌, not, if◌then◌else◌, ◌||◌, false}
 use Rattle.pk_base.specs.Shape.{Shape, charge, limit, data_blocks, most_pages}
 use Rattle.pk_plan.specs.declared.owner.Owner.TheVariants.{Values}
 use Rattle.pk_pin.specs.Frames.{Frames, leased_frames}
-use Rattle.pk_pool.specs.Blocks.{Blocks, is_ready, used_by}
+use Rattle.pk_pool.specs.Blocks.{Blocks, is_ready, used_by, freed}
 use Rattle.pk_level.specs.Levels.{Levels, run_of}
 use Rattle.pk_model.specs.Sight.{Sight, Counts}
 use Rattle.pk_log.specs.State.{LogState}
@@ -17,10 +17,11 @@ use Rattle.pk_compact.specs.FreezeSteps.{taken_by}
 use Rattle.pk_schedule.specs.Index.{Index, Schedule, index, merging, output}
 use Rattle.pk_schedule.specs.Steps.{backlog_of as backlog_of_index}
 use Rattle.pk_gc.specs.declared.course.Phase.{Phase}
-use Rattle.pk_gc.specs.declared.course.Phase.TheVariants.{Idle, Copies, GivesBack}
+use Rattle.pk_gc.specs.declared.course.Phase.TheVariants.{Idle, Copies, GivesBack, Commits}
 use Rattle.pk_gc.specs.State.{JobState, steps_left}
 use Rattle.pk_gc.specs.Stepping.{runs_in}
 use Rattle.pk_gc.specs.Standing.{held_blocks}
+use Rattle.pk_root.specs.Installing.{repeats_next}
 
 -- The log, the runs with the arena of their frames, the jobs that keep both short, where values lie, the reclaim, the blocks, how many
 -- keys there are, and whether it stopped.
@@ -42,6 +43,21 @@ frames_of d = length d.arena.used
 -- where it keeps which key has its value where
 abbrev pub index_of : Parts → Index
 index_of d = index d.log d.levels d.arena d.pool d.schedule
+
+-- the parts as if the blocks that leave were free
+abbrev pub settled_parts : Parts → Parts
+settled_parts d = record d { pool = freed d.pool }
+
+-- the commit of a reclaim's moves is half made
+abbrev pub commits_in : Phase → Bool
+commits_in Idle = false
+commits_in (Copies c) = false
+commits_in (Commits victim) = true
+commits_in (GivesBack victim) = false
+
+-- the pair of a root, or of the commit of a reclaim's moves, is half made
+abbrev pub is_half : Parts → Bool
+is_half d = repeats_next d.log.next || commits_in d.reclaim.phase
 
 -- Blocks that running jobs hold and the root does not name: for the journal, for meta pages, and for values.
 pub record Held : Type 0 where
@@ -103,12 +119,14 @@ is_reclaim_due d = ((counts_of d).blocks == data_blocks d.log.shape - 1) && not 
 abbrev pub reclaim_left : Shape → List ℕ → Bool → Phase → Option ℕ
 reclaim_left shape heads due Idle = if due then Some (whole_reclaim shape - 2) else None
 reclaim_left shape heads due (Copies c) = Some (steps_left shape heads c)
+reclaim_left shape heads due (Commits victim) = Some (if due then whole_reclaim shape else 2)
 reclaim_left shape heads due (GivesBack victim) = Some (if due then whole_reclaim shape - 1 else 1)
 
 -- a reclaim that is due or runs has its moves to commit yet
 abbrev pub has_moves : Bool → Phase → Bool
 has_moves due Idle = due
 has_moves due (Copies c) = true
+has_moves due (Commits victim) = due
 has_moves due (GivesBack victim) = due
 
 -- their commit may need a freeze
@@ -132,5 +150,6 @@ sight_of d = record {
   open_block = block_if_open d.space.open_block;
   reclaims = runs_in d.reclaim.phase;
   fresh = d.log.epoch.takes_more;
+  half = is_half d;
   work = work d.log.shape (backlog_of d);
 }

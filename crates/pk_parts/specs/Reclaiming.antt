@@ -15,13 +15,13 @@ use Rattle.pk_model.specs.Growth.{Reaches, Goes}
 use Rattle.pk_model.specs.Crashes.{CrashFinds, background}
 use Rattle.pk_gc.specs.declared.course.Course.{Course}
 use Rattle.pk_gc.specs.declared.course.Phase.{Phase}
-use Rattle.pk_gc.specs.declared.course.Phase.TheVariants.{Idle, Copies, GivesBack}
+use Rattle.pk_gc.specs.declared.course.Phase.TheVariants.{Idle, Copies, Commits, GivesBack}
 use Rattle.pk_gc.specs.declared.reclaimed.Reclaimed.{Reclaimed}
 use Rattle.pk_gc.specs.declared.reclaimed.Reclaimed.TheVariants.{Worked, NeedsFreeze, Ended}
 use Rattle.pk_reclaim.specs.Space.{Space, space, IsTurn, Falls, HasRoom as HasSpace}
 use Rattle.pk_reclaim.specs.Steps.{RoomBehind}
 use Rattle.pk_parts.specs.Parts.{Parts}
-use Rattle.pk_parts.specs.Moves.{StandsFor, MayStep}
+use Rattle.pk_parts.specs.Moves.{StandsFor, StandsBetween, MayStep}
 
 -- its log, its values, its blocks and its reclaim
 abbrev pub space_of : Parts → Space
@@ -35,9 +35,9 @@ pub record MayReclaim (d : Parts) (board : BoardState) : Type 0 where
 
 -- ---- the map
 
--- The drive stands for the map on the flash that is left, and wherever the step is cut, the flash holds it.
+-- The drive stands for the map on the flash that is left, where a pair may be half made, and wherever the step is cut, the flash holds it.
 pub record Holds (after : Parts) (shape : Shape) (m : Map) (old new : BoardState) : Type 0 where
-  pub stands : StandsFor after shape new.pages m
+  pub stands : StandsBetween after shape new.pages m
   pub cuts : Reaches shape old new (CrashFinds shape background old.pages m)
 
 -- for every map for which it stood
@@ -50,12 +50,12 @@ FailsAll before old new = (shape : Shape) (m : Map) → StandsFor before shape o
 
 -- ---- what differs, and what is left
 
--- Nothing differs but where values stand, the blocks, the reclaim, and the entries of the active buffer with the pages of the newest epoch.
+-- Nothing differs but where values stand, the blocks, the reclaim, and the entries of the active buffer with the commits of the newest epoch.
 abbrev pub LeavesIndex : Parts → Parts → Type 0
 LeavesIndex before after =
     after
     ≡ record before {
-      log = record before.log { active = record before.log.active { entries = after.log.active.entries }; epoch = record before.log.epoch { used = after.log.epoch.used } };
+      log = record before.log { active = record before.log.active { entries = after.log.active.entries }; epoch = record before.log.epoch { used = after.log.epoch.used; half = after.log.epoch.half } };
       space = after.space;
       reclaim = after.reclaim;
       pool = after.pool;
@@ -73,10 +73,11 @@ pub record Lessens (before after : Parts) (old new : BoardState) : Type 0 where
   pub leaves : LeavesIndex before after
   pub falls : Falls (space_of before) (space_of after)
 
--- The log is the same while values are copied; behind the commit of their moves every value has room.
+-- The log is the same while values are copied; from the first program of their moves' commit on every value has room.
 abbrev pub RunsOn : Phase → Parts → Parts → Type 0
 RunsOn Idle before after = ⊥
 RunsOn (Copies c) before after = after.log ≡ before.log
+RunsOn (Commits victim) before after = HasSpace (space_of after)
 RunsOn (GivesBack victim) before after = HasSpace (space_of after)
 
 -- A block was given back, and no reclaim runs.

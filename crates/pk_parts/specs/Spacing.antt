@@ -12,7 +12,7 @@ use Rattle.pk_model.specs.Reading.{reading}
 use Rattle.pk_model.specs.Growth.{Reaches}
 use Rattle.pk_model.specs.Crashes.{CrashFinds, commit}
 use Rattle.pk_gc.specs.declared.course.Phase.{Phase}
-use Rattle.pk_gc.specs.declared.course.Phase.TheVariants.{Idle, Copies, GivesBack}
+use Rattle.pk_gc.specs.declared.course.Phase.TheVariants.{Idle, Copies, Commits, GivesBack}
 use Rattle.pk_gc.specs.State.{steps_left}
 use Rattle.pk_gc.specs.Stepping.{runs_in}
 use Rattle.pk_data.specs.State.{needs_reclaim}
@@ -63,12 +63,14 @@ needs count d = needs_reclaim d.log.shape d.space d.pool count
 abbrev pub steps_for : Phase → ℕ → Parts → ℕ
 steps_for Idle count d = where_so (needs count d) (whole_reclaim d.log.shape - 1)
 steps_for (Copies c) count d = steps_left d.log.shape d.space.live.heads c
+steps_for (Commits victim) count d = 2
 steps_for (GivesBack victim) count d = 1 + where_so (needs count d) (whole_reclaim d.log.shape - 1)
 
 -- moves are to be committed before that
 abbrev pub has_moves : Phase → ℕ → Parts → Bool
 has_moves Idle count d = needs count d
 has_moves (Copies c) count d = true
+has_moves (Commits victim) count d = false
 has_moves (GivesBack victim) count d = needs count d
 
 -- how many calls may be left at most: these steps, and where the moves may find no room, merges and a freeze

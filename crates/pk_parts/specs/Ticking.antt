@@ -7,7 +7,7 @@ use Rattle.pk_nand.specs.Calls.{Rose, last_count}
 use Rattle.pk_model.specs.Sight.{Sight, IsIdle}
 use Rattle.pk_model.specs.Growth.{Grows}
 use Rattle.pk_model.specs.Wear.{roots}
-use Rattle.pk_nand.specs.Effects.{OnlyFlash, OnlyReading, NoFault, AtMostOneCall}
+use Rattle.pk_nand.specs.Effects.{OnlyFlash, OnlyReading, NoFault, AtMostOneCall, OneProgram}
 use Rattle.pk_model.specs.Crashes.{background}
 use Rattle.pk_call.specs.Call.{KeepsMap, CallReaches, CallGoes}
 use Rattle.pk_call.specs.Seen.{stopped_by}
@@ -16,7 +16,7 @@ use Rattle.pk_call.specs.declared.types.Ticked.TheVariants.{Worked, Idle, Fault}
 use Rattle.pk_compact.specs.FreezeSteps.{taken_by}
 use Rattle.pk_schedule.specs.Steps.{has_no_merge}
 use Rattle.pk_gc.specs.Stepping.{runs_in}
-use Rattle.pk_parts.specs.Parts.{Parts, index_of, sight_of, is_reclaim_due, may_freeze}
+use Rattle.pk_parts.specs.Parts.{Parts, index_of, sight_of, is_half, is_reclaim_due, may_freeze}
 use Rattle.pk_parts.specs.Agreeing.{DriveOnFlash}
 use Rattle.pk_parts.specs.Staying.{StaysOrFrees}
 
@@ -36,7 +36,7 @@ pub record Ticks (old new : BoardState) (before after : Sight) (answer : Ticked)
   pub cuts_stopped : stopped_by answer ≡ true → CallGoes old new before background
   pub idle_rests : answer ≡ Idle → (new ≡ old) × (after ≡ before)
   pub unmade : answer ≡ Fault false → (after ≡ before) × OnlyReading old new
-  pub grows : Grows (shape_of old) old.pages new.pages
+  pub grows : stopped_by answer ≡ false → Grows (shape_of old) old.pages new.pages
   pub rest : OnlyFlash old new
   pub calls : AtMostOneCall old new
   pub unread : answer ≡ Fault false → Rose old.read_faults new.read_faults
@@ -47,9 +47,10 @@ pub record Ticks (old new : BoardState) (before after : Sight) (answer : Ticked)
   pub no_stop : stopped_by answer ≡ false → new.stop_faults ≡ old.stop_faults
   pub installs : roots new ≤ roots old + 1
 
--- Nothing is left to do: no merge and no freeze runs, nothing is frozen, no reclaim runs or is due, and every free block was erased in
--- this session.
+-- Nothing is left to do: no pair is half made, no merge and no freeze runs, nothing is frozen, no reclaim runs or is due, and every free
+-- block was erased in this session.
 pub record HasNoStep (d : Parts) : Type 0 where
+  pub whole : is_half d ≡ false
   pub no_merge : has_no_merge (index_of d) ≡ true
   pub no_freeze : taken_by d.schedule.freeze ≡ []
   pub no_reclaim : runs_in d.reclaim.phase ≡ false
@@ -74,6 +75,9 @@ pub record Advances (d d' : Parts) (old new : BoardState) (answer : Ticked) : Ty
   pub none : d'.log.pending ≡ []
   pub agrees : stopped_by answer ≡ false → DriveOnFlash d' new.shape new.pages
   pub moves : stopped_by answer ≡ false → StaysOrFrees d d'
+  -- the second program of a pair that is half made comes first
+  pub repeats : is_half d ≡ true → OneProgram old new
+  pub finishes : is_half d ≡ true → stopped_by answer ≡ false → is_half d' ≡ false
   pub number : stopped_by answer ≡ false → d'.log.root.number ≤ d.log.root.number + 1
   pub lowers : answer ≡ Worked → (sight_of d').work < (sight_of d).work
   pub idle : answer ≡ Idle → HasNoStep d × (d' ≡ d)

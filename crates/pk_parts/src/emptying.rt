@@ -1,6 +1,5 @@
 //! Merges to the end and a whole freeze, inside a command that needs the room.
 ghost use Rattle.std.specs.Prelude.{◌≡◌, ◌+◌, [], true, OnOk, OnErr, IfOk, IfErr};
-ghost use Rattle.pk_model.specs.Growth.{Grows};
 ghost use Rattle.pk_parts.specs.Merging.{DoesMerge, FailsMerge, FreezesOn};
 ghost use Rattle.pk_parts.specs.Reclaiming.{FailsAll};
 ghost use Rattle.pk_parts.specs.Costs.{NumbersLast, Spends};
@@ -10,7 +9,7 @@ ghost use Rattle.pk_work.specs.Calls.{room_calls, room_roots};
 ghost use Rattle.pk_schedule.specs.Steps.{has_no_merge};
 ghost use Rattle.pk_parts.specs.Parts.{index_of};
 ghost use Rattle.pk_parts.specs.Moves.{MayStep, StepKeeps, LeavesValues};
-ghost use Rattle.pk_parts.specs.Emptying.{MayEmpty, MergesOnce, FreezesOnce, KeepsOrReads, OnRunning, HasRoom, merges_left};
+ghost use Rattle.pk_parts.specs.Emptying.{MayEmpty, MergesOnce, MergesWhole, FreezesOnce, FreezesWhole, KeepsOrReads, OnRunning, HasRoom, merges_left};
 ghost use Rattle.pk_parts.specs.Staying.{Stays};
 
 use crate::parts::Parts;
@@ -19,7 +18,8 @@ use pk_region::Region;
 use pk_schedule::Stepped;
 
 impl<A: Region> Parts<A> {
-    // One step of the merges, by at most one flash operation. `Reading` if a read fails: the step can be made again.
+    // One step of the merges, by at most one flash operation, which may leave the pair of a root half made. `Reading` if a read fails:
+    // the step can be made again.
     pub(crate) fn merge_once<B: Nand>(&mut self, board: &mut B) -> Result<Stepped, Fault>
         requires { MayEmpty self.old (B.state board.old) }
 
@@ -33,8 +33,6 @@ impl<A: Region> Parts<A> {
 
         // After success and failure.
         ensures once { MergesOnce self.old self.new (B.state board.old) (B.state board.new) result }
-        ensures grows { Grows self.old.log.shape (B.state board.old).pages
-            (B.state board.new).pages }
     {
         // so that the board's counts are known to be of 64 bits
         let _ = board.read_count();
@@ -46,6 +44,22 @@ impl<A: Region> Parts<A> {
             &mut self.log,
             &mut self.page,
         )
+    }
+
+    // One step of the merges, with the second program of a root whose first one it makes. `Reading` if a read fails: the step can be made
+    // again.
+    fn merge_whole<B: Nand>(&mut self, board: &mut B) -> Result<Stepped, Fault>
+        requires { MayEmpty self.old (B.state board.old) }
+        ensures { MergesWhole self.old self.new (B.state board.old) (B.state board.new) result }
+    {
+        match self.merge_once(board) {
+            Ok(Stepped::Worked) => match self.settle(board) {
+                Ok(()) => Ok(Stepped::Worked),
+                Err(fault) => Err(fault),
+            },
+            Ok(Stepped::Idle) => Ok(Stepped::Idle),
+            Err(fault) => Err(fault),
+        }
     }
 
     // Makes steps of the merges until none runs and nothing is frozen. `Reading` where a read fails: what was merged stays so.
@@ -68,7 +82,7 @@ impl<A: Region> Parts<A> {
     {
         // the proof names the loop by its label
         'merges: loop {
-            match self.merge_once(board) {
+            match self.merge_whole(board) {
                 Ok(Stepped::Worked) => {}
                 Ok(Stepped::Idle) => return Ok(()),
                 Err(fault) => return Err(fault),
@@ -76,8 +90,9 @@ impl<A: Region> Parts<A> {
         }
     }
 
-    // One step of a freeze of the active buffer, by at most one flash operation; true if it has ended.
-    pub(crate) fn freeze_once<B: Nand>(&mut self, board: &mut B) -> Result<bool, Fault>
+    // One step of a freeze of the active buffer, by at most one flash operation, up to the first program of its root, which leaves the
+    // pair half made.
+    pub(crate) fn freeze_once<B: Nand>(&mut self, board: &mut B) -> Result<(), Fault>
         requires may { MayEmpty self.old (B.state board.old) }
         requires none_merges { has_no_merge (index_of self.old) ≡ true }
 
@@ -88,17 +103,36 @@ impl<A: Region> Parts<A> {
 
         // After success and failure.
         ensures once { FreezesOnce self.old self.new (B.state board.old) (B.state board.new) result }
-        ensures grows { Grows self.old.log.shape (B.state board.old).pages
-            (B.state board.new).pages }
     {
-        self.schedule.freeze_step(
+        match self.schedule.freeze_step(
             board,
             &mut self.pool,
             &self.arena,
             &self.levels,
             &mut self.log,
             &mut self.page,
-        )
+        ) {
+            Ok(_) => Ok(()),
+            Err(fault) => Err(fault),
+        }
+    }
+
+    // One step of a freeze of the active buffer, with the second program of its root if it makes the first; true if it has ended.
+    fn freeze_whole<B: Nand>(&mut self, board: &mut B) -> Result<bool, Fault>
+        requires may { MayEmpty self.old (B.state board.old) }
+        requires none_merges { has_no_merge (index_of self.old) ≡ true }
+        ensures { FreezesWhole self.old self.new (B.state board.old) (B.state board.new) result }
+    {
+        match self.freeze_once(board) {
+            Ok(()) => {
+                let ends = self.log.repeats_next();
+                match self.settle(board) {
+                    Ok(()) => Ok(ends),
+                    Err(fault) => Err(fault),
+                }
+            }
+            Err(fault) => Err(fault),
+        }
     }
 
     // Freezes the active buffer, so that any key has room. Nothing may be pending, no merge run, and nothing be frozen.
@@ -122,7 +156,7 @@ impl<A: Region> Parts<A> {
     {
         // the proof names the loop by its label
         'freezes: loop {
-            match self.freeze_once(board) {
+            match self.freeze_whole(board) {
                 Ok(false) => {}
                 Ok(true) => return Ok(()),
                 Err(fault) => return Err(fault),

@@ -12,6 +12,7 @@ mod moves;
 mod noting;
 mod numbers;
 mod over;
+mod pair;
 mod parts;
 mod place;
 mod placing;

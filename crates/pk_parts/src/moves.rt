@@ -1,8 +1,9 @@
 //! The steps inside a command. Each keeps the map, wherever it is cut.
 ghost use Rattle.std.specs.Prelude.{◌≡◌, ◌≢◌, ◌≤◌, [], IsOk, OnOk, OnErr};
-ghost use Rattle.pk_nand.specs.Effects.{OneProgram};
+ghost use Rattle.pk_base.specs.Shape.{commit_programs};
 ghost use Rattle.pk_jrn.specs.Epochs.{left_of};
-ghost use Rattle.pk_parts.specs.Moves.{MayStep, StepKeeps, OnlyCommits};
+ghost use Rattle.pk_parts.specs.Moves.{MayCommit, StepKeeps, OnlyCommits};
+ghost use Rattle.pk_call.specs.Commit.{ProgramsOfCommit};
 ghost use Rattle.pk_call.specs.Moving.{Commits};
 ghost use Rattle.pk_parts.specs.Parts.{sight_of};
 ghost use Rattle.pk_parts.specs.Staying.{Stays};
@@ -15,14 +16,16 @@ impl<A: Region> Parts<A> {
     /// Commits the pending entries; nothing is done where there are none. A step inside commands too, which are told more of it than
     /// `commit` tells.
     pub fn commit_pending<B: Nand>(&mut self, board: &mut B) -> Result<(), Fault>
-        requires may { MayStep self.old (B.state board.old) }
+        requires may { MayCommit self.old (B.state board.old) }
 
-        // Nothing is pending, by one program or none.
+        // Nothing is pending, by the two programs of a commit or none.
         ensures step { StepKeeps self.old self.new 0 (B.state board.old)
             (B.state board.new) result }
         ensures none { OnOk result (self.new.log.pending ≡ []) }
         ensures program { self.old.log.pending ≢ []
-            → OneProgram (B.state board.old) (B.state board.new) }
+            → ProgramsOfCommit 1 (B.state board.old) (B.state board.new) }
+        ensures programs { OnOk result (self.old.log.pending ≢ []
+            → ProgramsOfCommit commit_programs (B.state board.old) (B.state board.new)) }
         ensures idle { self.old.log.pending ≡ []
             → IsOk result × (self.new ≡ self.old) × (B.state board.new ≡ B.state board.old) }
 

@@ -17,6 +17,7 @@ fn held_count(phase: Phase) -> u32
     match phase {
         Phase::Idle => 0,
         Phase::Copies(_) => 1,
+        Phase::Commits(_) => 1,
         Phase::GivesBack(_) => 1,
     }
 }

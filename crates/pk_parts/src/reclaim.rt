@@ -13,8 +13,8 @@ use pk_reclaim::reclaim_step;
 use pk_region::Region;
 
 impl<A: Region> Parts<A> {
-    /// One step of a reclaim, by at most one call of the board; one is begun where none runs. `NeedsFreeze` where its moves find no
-    /// room: nothing was done. `Reading` where a read fails: the step can be made again.
+    /// One step of a reclaim, by at most one flash operation, which may leave the commit of its moves half made; one is begun where none
+    /// runs. `NeedsFreeze` where its moves find no room: nothing was done. `Reading` where a read fails: the step can be made again.
     pub(crate) fn reclaim_once<B: Nand>(&mut self, board: &mut B) -> Result<Reclaimed, Fault>
         requires may { MayReclaim self.old (B.state board.old) }
 

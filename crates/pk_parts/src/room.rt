@@ -1,7 +1,7 @@
 //! Room for one more entry: merges and a freeze where the buffer or the journal is full, and a commit where the journal page is.
 ghost use Rattle.std.specs.Prelude.{◌≡◌, ◌≤◌, ◌<◌, length, false, OnOk};
 ghost use Rattle.pk_parts.specs.Costs.{NumbersLast, Spends};
-ghost use Rattle.pk_base.specs.Shape.{page_entries};
+ghost use Rattle.pk_base.specs.Shape.{commit_programs, page_entries};
 ghost use Rattle.pk_log.specs.State.{needs_freeze as needs_freeze_for};
 ghost use Rattle.pk_work.specs.Calls.{commit_calls, room_calls, room_roots};
 ghost use Rattle.pk_call.specs.Calling.{FewCalls};
@@ -50,7 +50,7 @@ impl<A: Region> Parts<A> {
     pub(crate) fn commit_if_full<B: Nand>(&mut self, board: &mut B) -> Result<(), Fault>
         requires may { MayStep self.old (B.state board.old) }
 
-        // Fewer entries are pending than a page of the journal takes, by one program or none.
+        // Fewer entries are pending than a page of the journal takes, by the two programs of a commit or none.
         ensures step { StepKeeps self.old self.new 0 (B.state board.old)
             (B.state board.new) result }
         ensures few { OnOk result (length self.new.log.pending < page_entries self.old.log.shape) }
@@ -60,7 +60,7 @@ impl<A: Region> Parts<A> {
             → (self.new ≡ self.old) × (B.state board.new ≡ B.state board.old)) }
         ensures moves { OnOk result (Stays self.old self.new) }
         ensures full { OnOk result (page_entries self.old.log.shape ≤ length self.old.log.pending
-            → Programs 1 (B.state board.old) (B.state board.new)) }
+            → Programs commit_programs (B.state board.old) (B.state board.new)) }
         ensures calls { FewCalls commit_calls (B.state board.old) (B.state board.new) }
     {
         if self.log.pending() >= self.log.root().shape().entries() {

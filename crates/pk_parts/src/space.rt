@@ -31,7 +31,8 @@ impl<A: Region> Parts<A> {
         self.reclaim.runs() || self.needs_space(count)
     }
 
-    // One step of a reclaim; where its moves find no room, merges and a freeze make it.
+    // One step of a reclaim, with the second program of its moves' commit if it makes the first; where its moves find no room, merges and a
+    // freeze make it.
     fn make_space_once<B: Nand>(&mut self, board: &mut B, count: u32) -> Result<(), Fault>
         requires may { MaySpace count self.old (B.state board.old) }
         requires some { count ≤ spec.most_pages self.old.log.shape }
@@ -41,7 +42,7 @@ impl<A: Region> Parts<A> {
     {
         let _ = board.read_count();
         match self.reclaim_once(board) {
-            Ok(Reclaimed::Worked) => Ok(()),
+            Ok(Reclaimed::Worked) => self.end_commit(board),
             Ok(Reclaimed::Ended) => Ok(()),
             Ok(Reclaimed::NeedsFreeze) => self.empty_active(board),
             Err(fault) => Err(fault),

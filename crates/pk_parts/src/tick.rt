@@ -7,7 +7,7 @@ ghost use Rattle.pk_call.specs.declared.types.Ticked.TheVariants.{Fault as Stops
 ghost use Rattle.pk_compact.specs.FreezeSteps.{taken_by};
 ghost use Rattle.pk_schedule.specs.Steps.{has_no_merge};
 ghost use Rattle.pk_parts.specs.Parts as spec;
-ghost use Rattle.pk_parts.specs.Parts.{index_of};
+ghost use Rattle.pk_parts.specs.Parts.{index_of, is_half};
 ghost use Rattle.pk_parts.specs.Ticking.{MayTick, Advances, WantsFreeze, WantsReclaim, wants_reclaim};
 
 use crate::parts::Parts;
@@ -58,9 +58,24 @@ impl<A: Region> Parts<A> {
         Ticked::Fault { stopped: true }
     }
 
+    // The second program of the pair that is half made.
+    fn finish_step<B: Nand>(&mut self, board: &mut B) -> Ticked
+        requires may { MayTick self.old (B.state board.old) }
+        requires half { is_half self.old ≡ true }
+        ensures { Advances self.old self.new (B.state board.old) (B.state board.new) result }
+    {
+        self.pool.known();
+        match self.finish_half(board) {
+            Ok(()) => Ticked::Worked,
+            // only a program can fail here
+            Err(_) => self.stop(),
+        }
+    }
+
     // One step of the merges, of which one runs, or the frozen buffer has entries.
     fn merge_step<B: Nand>(&mut self, board: &mut B) -> Ticked
         requires may { MayTick self.old (B.state board.old) }
+        requires whole { is_half self.old ≡ false }
         requires merges { has_no_merge (index_of self.old) ≡ false }
         ensures { Advances self.old self.new (B.state board.old) (B.state board.new) result }
     {
@@ -76,6 +91,7 @@ impl<A: Region> Parts<A> {
     // One step of the freeze that runs, or that a reclaim needs.
     fn freeze_step<B: Nand>(&mut self, board: &mut B) -> Ticked
         requires may { MayTick self.old (B.state board.old) }
+        requires whole { is_half self.old ≡ false }
         requires merged { has_no_merge (index_of self.old) ≡ true }
         requires wanted { WantsFreeze self.old }
         ensures { Advances self.old self.new (B.state board.old) (B.state board.new) result }
@@ -91,6 +107,7 @@ impl<A: Region> Parts<A> {
     // One step of the reclaim that runs or is due; where its moves find no room, one of the freeze that makes it.
     fn reclaim_step<B: Nand>(&mut self, board: &mut B) -> Ticked
         requires may { MayTick self.old (B.state board.old) }
+        requires whole { is_half self.old ≡ false }
         requires merged { has_no_merge (index_of self.old) ≡ true }
         requires wanted { WantsReclaim self.old }
         ensures { Advances self.old self.new (B.state board.old) (B.state board.new) result }
@@ -108,6 +125,7 @@ impl<A: Region> Parts<A> {
     // The lowest free block that was not erased in this session is erased; idle where there is none.
     fn erase_step<B: Nand>(&mut self, board: &mut B) -> Ticked
         requires may { MayTick self.old (B.state board.old) }
+        requires whole { is_half self.old ≡ false }
         requires merged { has_no_merge (index_of self.old) ≡ true }
         requires frozen { (length (taken_by self.old.schedule.freeze) == 0) ≡ true }
         requires reclaimed { wants_reclaim self.old ≡ false }
@@ -137,12 +155,15 @@ impl<A: Region> Parts<A> {
         self.reclaim.runs() || self.is_reclaim_due()
     }
 
-    /// The next background step: a merge's, a freeze's, a reclaim's, or the erase of a free block. Idle where there is none.
+    /// The next background step: the second program of a pair that is half made, first of all; a merge's, a freeze's, a reclaim's, or the
+    /// erase of a free block. Idle if there is none.
     pub fn advance<B: Nand>(&mut self, board: &mut B) -> Ticked
         requires may { MayTick self.old (B.state board.old) }
         ensures { Advances self.old self.new (B.state board.old) (B.state board.new) result }
     {
-        if !self.schedule.has_no_merge(&self.log) {
+        if self.is_half() {
+            self.finish_step(board)
+        } else if !self.schedule.has_no_merge(&self.log) {
             self.merge_step(board)
         } else if self.schedule.freezes() {
             self.freeze_step(board)

@@ -3,7 +3,7 @@ use Rattle.std.proofs.Common.{inl, inr, [], ◌∷◌, refl, arith}
 use Rattle.std.specs.Prelude.{not}
 use Rattle.std.proofs.lemmas.List.Sums.{sum_by-cons}
 use Rattle.pk_pool.specs.declared.state.BlockState.{BlockState}
-use Rattle.pk_pool.specs.declared.state.BlockState.TheVariants.{Root, Free, Ready, Owned}
+use Rattle.pk_pool.specs.declared.state.BlockState.TheVariants.{Root, Free, Ready, Owned, Leaving}
 use Rattle.pk_pool.specs.Blocks.{is_ready}
 use Rattle.pk_pool.proofs.Sharing.{count-set}
 use Rattle.pk_pool.specs.Unready.{Erased, TakenReady, TakenFree, GivenBack, AllCounted, TakePays}
@@ -26,6 +26,7 @@ all_counted (Root ∷ ss) = omega (arith, all_counted ss, sum_by-cons {X = Block
 all_counted (Free ∷ ss) = omega (arith, all_counted ss, sum_by-cons {X = BlockState})
 all_counted (Ready ∷ ss) = omega (arith, all_counted ss, sum_by-cons {X = BlockState})
 all_counted (Owned o ∷ ss) = omega (arith, all_counted ss, sum_by-cons {X = BlockState})
+all_counted (Leaving o ∷ ss) = omega (arith, all_counted ss, sum_by-cons {X = BlockState})
 
 pub take_pays : TakePays
 take_pays p b o left left' (inl free) less = let e = taken_free p.states b o free in record { none_ready = omega arith; less = omega arith }

@@ -1,27 +1,27 @@
 -- What programs and erases leave of a pool's view of a flash.
-use Rattle.std.proofs.Common.{◌≡◌, ◌≢◌, ◌⊎◌, inl, inr, ℕ, zero, suc, ◌+◌, ◌-◌, ◌*◌, ◌/◌, ◌%◌, ◌<◌, ◌≤◌, List, [], ◌∷◌, length, Some, refl, sym, ap, ◌∙◌, subst, arith, zero-add, length-set}
+use Rattle.std.proofs.Common.{◌≡◌, ◌≢◌, ◌⊎◌, inl, inr, ℕ, suc, ◌+◌, ◌-◌, ◌*◌, ◌/◌, ◌%◌, ◌<◌, ◌≤◌, List, [], ◌∷◌, length, Some, refl, sym, ap, ◌∙◌, subst, arith, zero-add}
 use Rattle.std.specs.Prelude.{slice_get}
 use Rattle.std.proofs.Math.ListN.{set}
-use Rattle.std.proofs.Math.Nat.{suc-mul, mul-le-mul_right, mul-mod_left}
+use Rattle.std.proofs.Math.Nat.{suc-mul, mul-le-mul_right, mul-mod_left, mul_assoc, mul_comm}
 use Rattle.std.proofs.lemmas.Nat.{div-mul-add, div-add-mod'}
-use Rattle.std.proofs.lemmas.Option.{slice_get_within, same_Some}
+use Rattle.std.proofs.lemmas.Option.{same_Some}
 use Rattle.std.proofs.lemmas.Bool.{cases_eq, cases_lt}
 use Rattle.pk_base.specs.Shape.{Shape, IsShape, page_count}
-use Rattle.pk_base.specs.Page.{Page, Flash, page_at, erased}
+use Rattle.pk_base.specs.Page.{Flash, page_at}
 use Rattle.pk_base.specs.Mark.{Mark, program, erase, after}
 use Rattle.pk_nand.specs.BoardState.{BoardState, shape_of}
-use Rattle.pk_nand.specs.Cut.{Interrupted, MayLeave, touched_block}
+use Rattle.pk_nand.specs.Cut.{Interrupted, touched_block}
 use Rattle.pk_nand.specs.Calls.{IsReady, InOrder, LeftBehind, after_erase, EraseFailed, IsErasedBlock}
-use Rattle.pk_nand.specs.Crash.{SameOutside, Reached, Went}
+use Rattle.pk_nand.specs.Crash.{SameOutside}
 use Rattle.pk_nand.proofs.Leaving.{erased_leaves, page-erased_in, interrupted_done, IsFlash-after, IsFlash-left, full_erase}
 use Rattle.pk_nand.proofs.Reaching.{Reached-start, Reached-erase, Went-erase_failed}
 use Rattle.pk_nand.proofs.Touching.{elsewhere}
 use Rattle.pk_nand.proofs.Writing.{shape_is}
 use Rattle.pk_pool.specs.declared.state.BlockState.{BlockState}
-use Rattle.pk_pool.specs.declared.state.BlockState.TheVariants.{Root, Free, Ready, Owned}
-use Rattle.pk_pool.specs.Blocks.{Blocks, PoolOnFlash, IsOwned, IsShared, IsSpare, with_state}
+use Rattle.pk_pool.specs.declared.state.BlockState.TheVariants.{Free, Ready, Owned}
+use Rattle.pk_pool.specs.Blocks.{Blocks, PoolOnFlash, IsOwned, with_state}
 use Rattle.pk_pool.specs.Laws.{IsNotReady, IsInBlock}
-use Rattle.pk_pool.specs.Taking.{SameButBlock, ReachesIn, WentIn, FailsToErase}
+use Rattle.pk_pool.specs.Taking.{SameButBlock, ReachesIn, WentIn}
 use Rattle.pk_pool.proofs.States.{get-set_other, get-set_same, free_is_not_ready, owned_is_not_ready}
 
 -- ---- pages of a block
@@ -42,6 +42,13 @@ block_of n k b low high =
 -- a block ends where a later one begins, or before
 pub apart : (a b n : ℕ) → a < b → a * n + n ≤ b * n
 apart a b n h = omega (arith, mul-le-mul_right {m = suc a} {n = b} n (omega arith), suc-mul a n)
+
+-- a block of whole pairs begins at an even page
+pub even_start : (b n : ℕ) → n % 8 ≡ 0 → b * n % 2 ≡ 0
+even_start b n eights =
+    let pairs : n ≡ 2 * (n / 2) = omega (arith, eights) in
+    let product : b * n ≡ 2 * (b * (n / 2)) = ap (λ (k : ℕ). b * k) pairs ∙ sym (mul_assoc b 2 (n / 2)) ∙ ap (λ (k : ℕ). k * (n / 2)) (mul_comm b 2) ∙ mul_assoc 2 b (n / 2) in
+    omega (arith, product)
 
 -- a page outside the block is below it or above it
 outside : (n b c k : ℕ) → c ≢ b → c * n ≤ k → k < c * n + n → (k < b * n) ⊎ (b * n + n ≤ k)

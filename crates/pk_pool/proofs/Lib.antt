@@ -2,3 +2,4 @@ pub mod States
 pub mod Sharing
 pub mod Fitting
 pub mod Counting
+pub mod Leaving

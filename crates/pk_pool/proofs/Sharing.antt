@@ -1,5 +1,5 @@
 -- Counts of blocks after one changes its state.
-use Rattle.std.proofs.Common.{◌≡◌, ◌≢◌, ℕ, zero, suc, ◌+◌, ◌<◌, ◌≤◌, ◌⊎◌, inl, inr, Bool, true, false, cond, List, [], ◌∷◌, length, Some, refl, sym, ap, ◌∙◌, subst, arith, length-set}
+use Rattle.std.proofs.Common.{◌≡◌, ◌≢◌, ℕ, zero, suc, ◌+◌, ◌<◌, ◌≤◌, inl, inr, Bool, true, false, cond, List, [], ◌∷◌, length, Some, refl, sym, ap, ◌∙◌, arith, length-set}
 use Rattle.std.specs.Prelude.{count_by, slice_get}
 use Rattle.std.proofs.Math.ListN.{set}
 use Rattle.std.proofs.lemmas.List.Sums.{sum_by-set, sum_by-cons}
@@ -9,8 +9,8 @@ use Rattle.pk_plan.specs.declared.owner.Owner.{Owner}
 use Rattle.pk_plan.specs.declared.owner.Owner.TheVariants.{Journal, Meta, Values}
 use Rattle.pk_plan.specs.Quotas.{quota_of}
 use Rattle.pk_pool.specs.declared.state.BlockState.{BlockState}
-use Rattle.pk_pool.specs.declared.state.BlockState.TheVariants.{Root, Free, Ready, Owned}
-use Rattle.pk_pool.specs.Blocks.{Blocks, is_root, is_free, is_ready, is_owned_by, same_owner, used_by, IsShared, IsNowhere, IsSpare, IsOwned}
+use Rattle.pk_pool.specs.declared.state.BlockState.TheVariants.{Root, Free, Ready, Owned, Leaving}
+use Rattle.pk_pool.specs.Blocks.{is_root, is_free, is_ready, is_owned_by, same_owner, used_by, IsShared, IsNowhere, IsSpare, IsOwned}
 use Rattle.pk_pool.proofs.States.{get-set_other, free_is_not_root, ready_is_not_root, owned_is_not_root, owned_is_not_free}
 
 -- a count after one state is written
@@ -29,6 +29,9 @@ all_counted (Ready ∷ ss) = omega (arith, all_counted ss, sum_by-cons {X = Bloc
 all_counted (Owned Journal ∷ ss) = omega (arith, all_counted ss, sum_by-cons {X = BlockState})
 all_counted (Owned Meta ∷ ss) = omega (arith, all_counted ss, sum_by-cons {X = BlockState})
 all_counted (Owned Values ∷ ss) = omega (arith, all_counted ss, sum_by-cons {X = BlockState})
+all_counted (Leaving Journal ∷ ss) = omega (arith, all_counted ss, sum_by-cons {X = BlockState})
+all_counted (Leaving Meta ∷ ss) = omega (arith, all_counted ss, sum_by-cons {X = BlockState})
+all_counted (Leaving Values ∷ ss) = omega (arith, all_counted ss, sum_by-cons {X = BlockState})
 
 none_ready : (states : List BlockState) → IsNowhere Ready states → count_by is_ready states ≡ 0
 none_ready [] h = refl
@@ -36,6 +39,7 @@ none_ready (Ready ∷ ss) h = absurd (h 0 refl)
 none_ready (Root ∷ ss) h = omega (arith, none_ready ss (λ k. h (suc k)), sum_by-cons {X = BlockState})
 none_ready (Free ∷ ss) h = omega (arith, none_ready ss (λ k. h (suc k)), sum_by-cons {X = BlockState})
 none_ready (Owned o ∷ ss) h = omega (arith, none_ready ss (λ k. h (suc k)), sum_by-cons {X = BlockState})
+none_ready (Leaving o ∷ ss) h = omega (arith, none_ready ss (λ k. h (suc k)), sum_by-cons {X = BlockState})
 
 none_free : (states : List BlockState) → IsNowhere Free states → count_by is_free states ≡ 0
 none_free [] h = refl
@@ -43,6 +47,7 @@ none_free (Free ∷ ss) h = absurd (h 0 refl)
 none_free (Root ∷ ss) h = omega (arith, none_free ss (λ k. h (suc k)), sum_by-cons {X = BlockState})
 none_free (Ready ∷ ss) h = omega (arith, none_free ss (λ k. h (suc k)), sum_by-cons {X = BlockState})
 none_free (Owned o ∷ ss) h = omega (arith, none_free ss (λ k. h (suc k)), sum_by-cons {X = BlockState})
+none_free (Leaving o ∷ ss) h = omega (arith, none_free ss (λ k. h (suc k)), sum_by-cons {X = BlockState})
 
 -- below its quota an owner finds a block
 pub one_is_left : (shape : Shape) (states : List BlockState) (o : Owner) → IsShared shape states → used_by o states < quota_of shape o → IsNowhere Ready states → IsNowhere Free states → ⊥
@@ -69,6 +74,7 @@ not_root_is Root h = absurd (h refl)
 not_root_is Free h = refl
 not_root_is Ready h = refl
 not_root_is (Owned o) h = refl
+not_root_is (Leaving o) h = refl
 
 -- a block that is no root block becomes another one that is none
 module _ (shape : Shape) (states : List BlockState) (b : ℕ) (s t : BlockState) (s_is : Root ≡ s → ⊥) (t_is : Root ≡ t → ⊥) (h : slice_get states b ≡ Some s) (i : IsShared shape states) where

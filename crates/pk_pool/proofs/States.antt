@@ -7,8 +7,8 @@ use Rattle.std.proofs.lemmas.Bool.{cases_eq}
 use Rattle.pk_base.specs.Shape.{Shape}
 use Rattle.pk_plan.specs.declared.owner.Owner.{Owner}
 use Rattle.pk_pool.specs.declared.state.BlockState.{BlockState}
-use Rattle.pk_pool.specs.declared.state.BlockState.TheVariants.{Root, Free, Ready, Owned}
-use Rattle.pk_pool.specs.Blocks.{unused}
+use Rattle.pk_pool.specs.declared.state.BlockState.TheVariants.{Root, Free, Ready, Owned, Leaving}
+use Rattle.pk_pool.specs.Blocks.{unused, NoneLeaves}
 
 pub get-set_other : {X : Type 0} (xs : List X) (i k : ℕ) (y : X) → k ≢ i → slice_get (set xs i y) k ≡ slice_get xs k
 get-set_other [] i k y ne = refl
@@ -46,6 +46,15 @@ owned_is_not_ready e = cc
 pub owned_is_not_free : {o : Owner} → Owned o ≡ Free → ⊥
 owned_is_not_free e = cc
 
+pub leaving_is_not_root : {o : Owner} → Root ≡ Leaving o → ⊥
+leaving_is_not_root e = cc
+
+pub leaving_is_not_free : {o : Owner} → Free ≡ Leaving o → ⊥
+leaving_is_not_free e = cc
+
+pub leaving_is_not_ready : {o : Owner} → Leaving o ≡ Ready → ⊥
+leaving_is_not_ready e = cc
+
 -- what stands in a list of one element, and where one was written
 nowhere_replicate : {X : Type 0} (n k : ℕ) (x y : X) → slice_get (replicate n x) k ≡ Some y → x ≡ y
 nowhere_replicate zero k x y h = cc
@@ -58,12 +67,19 @@ set_one xs i k x y h = elim (cases_eq k i) [
   | inr other ↦ inr (sym (get-set_other xs i k x other) ∙ h)
 ]
 
--- no block is erased at first
-pub none_ready_unused : (shape : Shape) (b : ℕ) → slice_get (unused shape).states b ≡ Some Ready → ⊥
-none_ready_unused shape b h = elim (set_one (set (replicate shape.blocks Free) 0 Root) 1 b Root Ready h) [
-  | inl root ↦ ready_is_not_root (sym root)
-  | inr one ↦ elim (set_one (replicate shape.blocks Free) 0 b Root Ready one) [
-    | inl root ↦ ready_is_not_root (sym root)
-    | inr free ↦ free_is_not_ready (nowhere_replicate shape.blocks b Free Ready free)
+-- at first a block is a root block or free
+of_unused : (shape : Shape) (b : ℕ) (s : BlockState) → slice_get (unused shape).states b ≡ Some s → (s ≡ Root) ⊎ (Free ≡ s)
+of_unused shape b s h = elim (set_one (set (replicate shape.blocks Free) 0 Root) 1 b Root s h) [
+  | inl root ↦ inl root
+  | inr one ↦ elim (set_one (replicate shape.blocks Free) 0 b Root s one) [
+    | inl root ↦ inl root
+    | inr free ↦ inr (nowhere_replicate shape.blocks b Free s free)
   ]
 ]
+
+-- so none is erased, and none leaves
+pub none_ready_unused : (shape : Shape) (b : ℕ) → slice_get (unused shape).states b ≡ Some Ready → ⊥
+none_ready_unused shape b h = elim (of_unused shape b Ready h) [ inl root ↦ ready_is_not_root (sym root) | inr free ↦ free_is_not_ready free ]
+
+pub none_leaves_unused : (shape : Shape) → NoneLeaves (unused shape)
+none_leaves_unused shape b o h = elim (of_unused shape b (Leaving o) h) [ inl root ↦ leaving_is_not_root (sym root) | inr free ↦ leaving_is_not_free free ]

@@ -1,13 +1,13 @@
 -- The blocks of a flash, each with its owner or free.
-use Rattle.std.specs.Prelude.{◌≡◌, ◌⊎◌, ℕ, ◌+◌, ◌*◌, ◌<◌, ◌≤◌, Bool, true, false, List, [], ◌∷◌, length, count_by, slice_get, slice_set, Some, replicate}
-use Rattle.pk_base.specs.Shape.{Shape, IsShape}
-use Rattle.pk_base.specs.Page.{Flash, page_at, erased}
+use Rattle.std.specs.Prelude.{◌≡◌, ◌⊎◌, ℕ, ◌<◌, ◌≤◌, Bool, true, false, List, [], ◌∷◌, length, count_by, slice_get, slice_set, Some, replicate, map}
+use Rattle.pk_base.specs.Shape.{Shape}
+use Rattle.pk_base.specs.Page.{Flash}
 use Rattle.pk_nand.specs.Calls.{IsErasedBlock}
 use Rattle.pk_plan.specs.declared.owner.Owner.{Owner}
 use Rattle.pk_plan.specs.declared.owner.Owner.TheVariants.{Journal, Meta, Values}
 use Rattle.pk_plan.specs.Quotas.{quota_of, IsPlan}
 use Rattle.pk_pool.specs.declared.state.BlockState.{BlockState}
-use Rattle.pk_pool.specs.declared.state.BlockState.TheVariants.{Root, Free, Ready, Owned}
+use Rattle.pk_pool.specs.declared.state.BlockState.TheVariants.{Root, Free, Ready, Owned, Leaving}
 
 -- the shape, and what each block is
 pub record Blocks : Type 0 where
@@ -19,6 +19,7 @@ is_root Root = true
 is_root Free = false
 is_root Ready = false
 is_root (Owned o) = false
+is_root (Leaving o) = false
 
 -- free, and not erased in this session since it last had an owner
 abbrev pub is_free : BlockState → Bool
@@ -26,6 +27,7 @@ is_free Root = false
 is_free Free = true
 is_free Ready = false
 is_free (Owned o) = false
+is_free (Leaving o) = false
 
 -- free, and erased in this session since it last had an owner
 abbrev pub is_ready : BlockState → Bool
@@ -33,6 +35,7 @@ is_ready Root = false
 is_ready Free = false
 is_ready Ready = true
 is_ready (Owned o) = false
+is_ready (Leaving o) = false
 
 abbrev pub same_owner : Owner → Owner → Bool
 same_owner Journal Journal = true
@@ -45,19 +48,15 @@ same_owner Values Journal = false
 same_owner Values Meta = false
 same_owner Values Values = true
 
+-- the block counts as the owner's, also while it leaves
 abbrev pub is_owned_by : Owner → BlockState → Bool
 is_owned_by o Root = false
 is_owned_by o Free = false
 is_owned_by o Ready = false
 is_owned_by o (Owned p) = same_owner o p
+is_owned_by o (Leaving p) = same_owner o p
 
-abbrev pub is_in : BlockState → BlockState → Bool
-is_in Root = is_root
-is_in Free = is_free
-is_in Ready = is_ready
-is_in (Owned o) = is_owned_by o
-
--- how many blocks an owner has
+-- how many blocks an owner has, those that leave included
 abbrev pub used_by : Owner → List BlockState → ℕ
 used_by o states = count_by (is_owned_by o) states
 
@@ -81,6 +80,30 @@ with_state p b s = record p { states = slice_set p.states b s }
 abbrev pub given_back : Blocks → List ℕ → Blocks
 given_back p [] = p
 given_back p (b ∷ bs) = given_back (with_state p b Free) bs
+
+-- these blocks leave their owner: they count as its blocks until all that leave are freed
+abbrev pub left_by : Owner → Blocks → List ℕ → Blocks
+left_by o p [] = p
+left_by o p (b ∷ bs) = left_by o (with_state p b (Leaving o)) bs
+
+-- what a block is where those that leave are freed: such a one is free, and counts as not erased
+abbrev pub freed_state : BlockState → BlockState
+freed_state Root = Root
+freed_state Free = Free
+freed_state Ready = Ready
+freed_state (Owned o) = Owned o
+freed_state (Leaving o) = Free
+
+-- the pool where every block that leaves is freed
+abbrev pub freed : Blocks → Blocks
+freed p = record p { states = map freed_state p.states }
+
+abbrev pub IsLeaving : Blocks → ℕ → Type 0
+IsLeaving p b = (o : Owner) × (slice_get p.states b ≡ Some (Leaving o))
+
+-- no block leaves
+abbrev pub NoneLeaves : Blocks → Type 0
+NoneLeaves p = (b : ℕ) (o : Owner) → slice_get p.states b ≡ Some (Leaving o) → ⊥
 
 abbrev pub IsOwned : Blocks → ℕ → Type 0
 IsOwned p b = (o : Owner) × (slice_get p.states b ≡ Some (Owned o))

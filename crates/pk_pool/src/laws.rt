@@ -1,5 +1,6 @@
 //! What calls of other crates leave of a pool's view of a flash.
 ghost use Rattle.pk_pool.specs.Laws.{ChangesElsewhere, ProgramElsewhere, EraseElsewhere, ErasedInOrder};
+ghost use Rattle.pk_pool.specs.Leaving.{LeftAndFreed, FreedWith, FreedSame, SpareFreed, LeavingFreed, OwnedFreed, LeftUnready, FreedUnready};
 ghost use Rattle.pk_pool.specs.Unready.{Erased, TakenReady, TakenFree, GivenBack, AllCounted, TakePays};
 
 /// Changes within a block that does not count as erased leave the pool fitting.
@@ -30,4 +31,16 @@ pub fn blocks_not_ready()
     ensures given_back { GivenBack }
     ensures counted { AllCounted }
     ensures pays { TakePays }
+{}
+
+/// What becomes of blocks that leave, where they are freed.
+pub fn blocks_that_leave()
+    ensures left { LeftAndFreed }
+    ensures with { FreedWith }
+    ensures same { FreedSame }
+    ensures spare { SpareFreed }
+    ensures leaving { LeavingFreed }
+    ensures owned { OwnedFreed }
+    ensures left_unready { LeftUnready }
+    ensures freed_unready { FreedUnready }
 {}

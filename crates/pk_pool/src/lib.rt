@@ -7,7 +7,8 @@ mod pool;
 mod state;
 
 pub use laws::{
-    blocks_not_ready, changes_elsewhere, erase_elsewhere, erased_in_order, program_elsewhere,
+    blocks_not_ready, blocks_that_leave, changes_elsewhere, erase_elsewhere, erased_in_order,
+    program_elsewhere,
 };
 pub use pk_plan::Owner;
 pub use pool::Pool;

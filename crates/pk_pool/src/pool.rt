@@ -1,13 +1,14 @@
 //! The pool.
-ghost use Rattle.std.specs.Prelude.{◌≡◌, ℕ, ◌+◌, ◌*◌, ◌<◌, ◌≤◌, ◌⊎◌, count_by, length, slice_get, nat_lt, Some, IfOk, IfErr, OnOk, OnErr, MatchOption, MatchBool};
+ghost use Rattle.std.specs.Prelude.{◌≡◌, ℕ, ◌+◌, ◌*◌, ◌<◌, ◌≤◌, ◌⊎◌, count_by, length, map, slice_get, nat_lt, Some, IfOk, IfErr, OnOk, OnErr, MatchOption, MatchBool};
 ghost use Rattle.pk_base.specs.Page.{Flash};
 ghost use Rattle.pk_plan.specs.Quotas.{quota_of};
 ghost use Rattle.pk_plan.specs.declared.owner.Owner.{Owner};
 ghost use Rattle.pk_nand.specs.Calls.{IsReady, IsErasedBlock};
 ghost use Rattle.pk_nand.specs.declared.types.Fault.TheVariants.{Stopped};
-ghost use Rattle.pk_pool.specs.declared.state.BlockState.TheVariants.{Free, Ready, Owned};
+ghost use Rattle.pk_pool.specs.declared.state.BlockState.TheVariants.{Free, Ready, Owned, Leaving};
 ghost use Rattle.pk_pool.specs.Blocks as spec;
-ghost use Rattle.pk_pool.specs.Blocks.{is_ready, used_by, unused, with_state, IsOwned, IsSpare, IsShared, IsLowest, IsNowhere, PoolOnFlash};
+ghost use Rattle.pk_pool.specs.Blocks.{is_ready, used_by, unused, with_state, freed, IsOwned, IsLeaving, IsSpare, NoneLeaves, IsShared, IsLowest, IsNowhere, PoolOnFlash};
+ghost use Rattle.pk_pool.specs.Unready.{unready};
 ghost use Rattle.pk_pool.specs.Taking.{ReachesIn, TakesReady, ErasesFree, FailsToErase, ErasesOne, ErasesNone};
 
 use crate::state::BlockState;
@@ -46,31 +47,68 @@ fn lowest(states: &[BlockState], wanted: BlockState) -> Option<usize>
     None
 }
 
-// Whether a block's state is this one.
-fn is_in(state: BlockState, wanted: BlockState) -> bool
-    ensures { result ≡ spec.is_in wanted state }
+// Whether a block counts as the owner's.
+fn is_owned_by(state: BlockState, owner: Owner) -> bool
+    ensures { result ≡ spec.is_owned_by owner state }
 {
-    state == wanted
+    match state {
+        BlockState::Owned(other) | BlockState::Leaving(other) => other == owner,
+        _ => false,
+    }
 }
 
-// How many blocks are in this state.
-fn count(states: &[BlockState], wanted: BlockState) -> u32
+// How many blocks count as the owner's.
+fn count_used(states: &[BlockState], owner: Owner) -> u32
     requires { length states.now ≤ MOST_BLOCKS }
-    ensures { result ≡ count_by (spec.is_in wanted) states.now }
+    ensures { result ≡ used_by owner states.now }
 {
     let mut count = 0;
     for state in states {
-        if is_in(*state, wanted) {
+        if is_owned_by(*state, owner) {
             count += 1;
         }
     }
     count
 }
 
+// How many free blocks were erased in this session.
+fn count_ready(states: &[BlockState]) -> u32
+    requires { length states.now ≤ MOST_BLOCKS }
+    ensures { result ≡ count_by is_ready states.now }
+{
+    let mut count = 0;
+    for state in states {
+        if *state == BlockState::Ready {
+            count += 1;
+        }
+    }
+    count
+}
+
+// What a block is where those that leave are freed.
+fn freed_state(state: BlockState) -> BlockState
+    ensures { result ≡ spec.freed_state state }
+{
+    match state {
+        BlockState::Leaving(_) => BlockState::Free,
+        other => other,
+    }
+}
+
+// Frees every block that leaves.
+fn release<A: Allocator>(states: &mut Vec<BlockState, A>)
+    ensures { states.new.items ≡ map spec.freed_state states.old.items }
+{
+    for state in states.iter_mut() {
+        *state = freed_state(*state);
+    }
+}
+
 impl<A: Allocator> Pool<A> {
     /// All blocks behind the root blocks are free, and none is erased. All memory of the pool is taken here.
     pub fn new(alloc: A, plan: Plan) -> Result<Pool<A>, AllocError>
         ensures unused { IfOk result (λ p. p ≡ unused plan) }
+        ensures whole { IfOk result (λ p. NoneLeaves p) }
         ensures fits { IfOk result (λ p. (flash : Flash) → PoolOnFlash p flash) }
     {
         plan.known();
@@ -162,6 +200,32 @@ impl<A: Allocator> Pool<A> {
         self.states[block as usize] = BlockState::Free;
     }
 
+    /// Makes a block leave its owner: it still counts as the owner's, and is not handed out until `free_left`.
+    pub fn leave(&mut self, block: u32)
+        requires { IsOwned self.old block }
+        ensures left { (o : Owner) → slice_get self.old.states block ≡ Some (Owned o)
+            → self.new ≡ with_state self.old block (Leaving o) }
+        ensures freed { freed self.new ≡ with_state (freed self.old) block Free }
+        ensures unready { unready self.new.states ≡ unready self.old.states }
+        ensures counted { (o : Owner) → used_by o self.new.states ≡ used_by o self.old.states }
+        ensures fits { (flash : Flash) → PoolOnFlash self.old flash → PoolOnFlash self.new flash }
+    {
+        match self.states[block as usize] {
+            BlockState::Owned(owner) => self.states[block as usize] = BlockState::Leaving(owner),
+            _ => unreachable!(),
+        }
+    }
+
+    /// Frees every block that leaves. They count as not erased.
+    pub fn free_left(&mut self)
+        ensures freed { self.new ≡ freed self.old }
+        ensures none { NoneLeaves self.new }
+        ensures counted { (o : Owner) → used_by o self.new.states ≤ used_by o self.old.states }
+        ensures fits { (flash : Flash) → PoolOnFlash self.old flash → PoolOnFlash self.new flash }
+    {
+        release(&mut self.states);
+    }
+
     /// Erases the lowest-numbered free block that was not erased in this session, by one call of the board; false exactly where
     /// there is none. `Stopped` where this call fails; the pool is as before then.
     pub fn erase_one<B: Nand>(&mut self, board: &mut B) -> Result<bool, Fault>
@@ -219,18 +283,18 @@ impl<A: Allocator> Pool<A> {
         self.states.get(block as usize).copied()
     }
 
-    /// How many blocks the owner has.
+    /// How many blocks the owner has, those that leave included.
     pub fn used(&self, owner: Owner) -> u32
         ensures value { result ≡ used_by owner self.now.states }
         ensures most { result ≤ quota_of self.now.shape owner }
     {
-        count(&self.states, BlockState::Owned(owner))
+        count_used(&self.states, owner)
     }
 
     /// How many free blocks were erased in this session.
     pub fn ready(&self) -> u32
         ensures { result ≡ count_by is_ready self.now.states }
     {
-        count(&self.states, BlockState::Ready)
+        count_ready(&self.states)
     }
 }

@@ -4,7 +4,7 @@ use Rattle.std.proofs.lemmas.Option.{slice_get_within}
 use Rattle.pk_base.specs.Key.{Key}
 use Rattle.pk_base.specs.Shape.{Shape, data_blocks, dense}
 use Rattle.pk_base.specs.Page.{Flash, page_at}
-use Rattle.pk_base.specs.Entry.{Place}
+use Rattle.pk_base.specs.Entry.{Entry, Place}
 use Rattle.pk_base.specs.Map.{Map}
 use Rattle.pk_plan.specs.declared.owner.Owner.TheVariants.{Values as for_values}
 use Rattle.pk_nand.specs.BoardState.{BoardState}
@@ -49,8 +49,8 @@ sparse_started shape live victim output same few =
     let counted : count_of live victim ≡ sum (take n (drop (victim * n) live.heads)) = λ i. sum (take (same i) (drop (victim * same i) live.heads)) in
     omega (arith, few, all, counted)
 
-module _ (log : LogState) (values values' : DataState) (pool pool' : Blocks) (moves : List Move) (page : List ℕ) (old new : BoardState) (top : ℕ × Root) (found : Found) (m : Map)
-    (ready : IsReady old log.shape) (may : MayReclaim (space_in log values pool moves page Idle) old.pages top found m) (job' : JobState) where
+module _ (log : LogState) (values values' : DataState) (pool pool' : Blocks) (moves : List Move) (entries : List Entry) (page : List ℕ) (old new : BoardState) (top : ℕ × Root) (found : Found) (m : Map)
+    (ready : IsReady old log.shape) (may : MayReclaim (space_in log values pool moves entries page Idle) old.pages top found m) (job' : JobState) where
   abbrev shape : Shape
   shape = log.shape
 
@@ -58,20 +58,20 @@ module _ (log : LogState) (values values' : DataState) (pool pool' : Blocks) (mo
   es = places found []
 
   abbrev before : Space
-  before = space_in log values pool moves page Idle
+  before = space_in log values pool moves entries page Idle
 
   placed : ValuesOnFlash shape values pool [] old.pages es
   placed = may.stands.placed
 
   used : used_by for_values pool.states ≡ data_blocks shape - 1
-  used = used_is log values pool moves page old.pages top found m may.turn
+  used = used_is log values pool moves entries page old.pages top found m may.turn
 
   names : NamesOwned pool top.1
   names = names_of before old.pages top found m may.stands
 
   -- ---- a block was taken
 
-  module _ (s : Starts (job_in log moves page Idle) values.live values.open_block pool old job' values'.live values'.open_block pool' new) where
+  module _ (s : Starts (job_in log moves entries page Idle) values.live values.open_block pool old job' values'.live values'.open_block pool' new) where
     quiet : IsQuiet log pool old top found m s.output
     quiet = record {
       has = ready.shape_is;
@@ -90,7 +90,7 @@ module _ (log : LogState) (values values' : DataState) (pool pool' : Blocks) (mo
     reaches = elim s.choice [ inl taken ↦ none_reaches quiet new taken.same | inr free ↦ erase_reaches quiet new free.erase ]
 
     taken : ValuesOnFlash shape values' pool' (s.output ∷ []) new.pages es × (used_by for_values pool'.states ≡ used_by for_values pool.states + 1)
-    taken = output_taken shape (job_in log moves page Idle) job' values values' pool pool' old new es placed s
+    taken = output_taken shape (job_in log moves entries page Idle) job' values values' pool pool' old new es placed s
 
     owners : SameOwners pool pool'
     owners = subst (λ (q : Blocks). SameOwners pool q) (sym s.taken) (owners_taken pool s.output s.spare)
@@ -111,7 +111,7 @@ module _ (log : LogState) (values values' : DataState) (pool pool' : Blocks) (mo
     full : used_by for_values pool'.states ≡ data_blocks shape
     full = let more = taken.1 in let less = below_quota shape (used_by for_values pool.states) placed.is_shape used in let is = used in omega (arith, more, less, is)
 
-    stands : SpaceOnFlash (space_in log values' pool' [] page (Copies course)) new.pages top found m
+    stands : SpaceOnFlash (space_in log values' pool' [] [] page (Copies course)) new.pages top found m
     stands =
         let still = names_stay pool pool' top.1 owners names in
         record {
@@ -124,8 +124,10 @@ module _ (log : LogState) (values values' : DataState) (pool pool' : Blocks) (mo
             stands = record { runs = runs; sparse = sparse_started shape values'.live s.victim s.output taken.0.block_pages_is s.chooses.0.sparse; closed = closed };
             full = λ is. full;
           };
+          half = may.stands.half;
           journal = still.journal;
           runs = still.runs;
+          none_leaves = owners.none_leaves may.stands.none_leaves;
         }
 
     pub starts_moves : SpaceMoves before old top found m (space log values' pool' job') new
@@ -133,6 +135,7 @@ module _ (log : LogState) (values values' : DataState) (pool pool' : Blocks) (mo
       moves = [];
       newest = found.newest;
       newest_is = sym (append-nil found.newest);
+      still = tt;
       then_places = refl;
       as_many = refl;
       stands = stands;
@@ -142,9 +145,9 @@ module _ (log : LogState) (values values' : DataState) (pool pool' : Blocks) (mo
 
   -- ---- a block without live pages was given back
 
-  module _ (g : GivesBack (job_in log moves page Idle) values.live values.open_block pool old job' values'.live values'.open_block pool' new) where
+  module _ (g : GivesBack (job_in log moves entries page Idle) values.live values.open_block pool old job' values'.live values'.open_block pool' new) where
     given : ValuesOnFlash shape values' pool' [] new.pages es × (used_by for_values pool'.states + 1 ≡ used_by for_values pool.states)
-    given = dead_given_back shape (job_in log moves page Idle) job' values values' pool pool' old new es placed g
+    given = dead_given_back shape (job_in log moves entries page Idle) job' values values' pool pool' old new es placed g
 
     abbrev with_chosen : DataState
     with_chosen = record { live = g.chosen; open_block = values'.open_block }
@@ -155,18 +158,20 @@ module _ (log : LogState) (values values' : DataState) (pool pool' : Blocks) (mo
     owners_behind : SameOwners pool pool'
     owners_behind = subst (λ (q : Blocks). SameOwners pool q) (sym g.given) (owners_given pool g.victim held)
 
-    stands_behind : SpaceOnFlash (space_in log values' pool' moves page Idle) new.pages top found m
+    stands_behind : SpaceOnFlash (space_in log values' pool' moves entries page Idle) new.pages top found m
     stands_behind =
         let still = names_stay pool pool' top.1 owners_behind names in
-        let P : Flash → Type 0 = λ f. SpaceOnFlash (space_in log values' pool' moves page Idle) f top found m in
+        let P : Flash → Type 0 = λ f. SpaceOnFlash (space_in log values' pool' moves entries page Idle) f top found m in
         subst P (sym (ap (λ (b : BoardState). b.pages) g.same)) (record {
           logs = may.stands.logs;
           none_pending = may.stands.none_pending;
           under = may.stands.under;
           placed = subst (λ (f : Flash). ValuesOnFlash shape values' pool' [] f es) (ap (λ (b : BoardState). b.pages) g.same) given.0;
           reclaim = record { shape_is = refl; stands = tt; full = λ is. absurd (no_run is) };
+          half = may.stands.half;
           journal = still.journal;
           runs = still.runs;
+          none_leaves = owners_behind.none_leaves may.stands.none_leaves;
         })
       where
         no_run : false ≡ true → ⊥
@@ -174,7 +179,7 @@ module _ (log : LogState) (values values' : DataState) (pool pool' : Blocks) (mo
 
     pub dead_moves : SpaceMoves before old top found m (space log values' pool' job') new
     dead_moves = subst (λ (j : JobState). SpaceMoves before old top found m (space log values' pool' j) new) (sym g.kept)
-        (still_moves before (space_in log values' pool' moves page Idle) old new top found m (still_same old new g.same) may.stands owners_behind stands_behind)
+        (still_moves before (space_in log values' pool' moves entries page Idle) old new top found m (still_same old new g.same) may.stands owners_behind stands_behind)
 
     pub dead_given : used_by for_values pool'.states + 1 ≡ used_by for_values pool.states
     dead_given = given.1

@@ -1,5 +1,5 @@
 -- What the one call of a step does to a board beside its pages.
-use Rattle.std.proofs.Common.{◌≡◌, inl, inr, ℕ, ◌*◌, ◌/◌, ◌<◌, ◌≤◌, refl, sym, ap, subst, ◌∙◌, arith, List, [], div-lt_iff_lt-mul}
+use Rattle.std.proofs.Common.{◌≡◌, inl, inr, ℕ, ◌+◌, ◌*◌, ◌/◌, ◌%◌, ◌<◌, ◌≤◌, refl, sym, ap, subst, ◌∙◌, arith, List, [], div-lt_iff_lt-mul}
 use Rattle.pk_base.specs.Shape.{Shape}
 use Rattle.pk_base.specs.Page.{Flash, page_at}
 use Rattle.pk_base.specs.Mark.{Mark, program, erase}
@@ -8,6 +8,7 @@ use Rattle.pk_nand.specs.Calls.{IsReady, after_read, after_program, after_erase,
 use Rattle.pk_nand.specs.Cut.{Interrupted, Touches}
 use Rattle.pk_nand.specs.Effects.{AtMostOneCall, NoFault, OnlyFlash, OnlyReading}
 use Rattle.pk_nand.proofs.Effects.{stops_erase, stops_program}
+use Rattle.std.proofs.Math.Nat.{mul-mod_left}
 use Rattle.pk_nand.proofs.Touching.{untouched}
 use Rattle.pk_rootfmt.specs.Newest.{newest_root}
 use Rattle.pk_model.proofs.SamePages.{newest_root_same}
@@ -93,10 +94,18 @@ low_left : (shape : Shape) (mark : Mark) (old new : BoardState) → ((k : ℕ) �
 low_left shape mark old new apart told (inl marked) k low = untouched shape mark k _ _ (apart k low) ((subst (λ (s : Shape). Interrupted s mark old.pages new.pages []) told marked.0).pages k)
 low_left shape mark old new apart told (inr none) k low = ap (λ (f : Flash). page_at f k) none.0
 
+-- nor does the first page behind them share a pair with one of them
+no_partner : (n at k : ℕ) → k < 2 * n → 2 * n ≤ at → (at ≡ k + 1) × (at % n % 2 ≡ 1) → ⊥
+no_partner n at k low high is =
+    let here : at ≡ 2 * n = let next = is.0 in omega (arith, low, high, next) in
+    let none : at % n ≡ 0 = ap (λ (x : ℕ). x % n) here ∙ mul-mod_left 2 n in
+    let odd = is.1 in
+    omega (arith, none, odd)
+
 pub program_low : (shape : Shape) (old new : BoardState) (at : ℕ) (bytes : List ℕ) → IsReady old shape → 2 * shape.block_pages ≤ at → ProgramFailed old new at bytes → SameRoots shape old new
 program_low shape old new at bytes ready high failed =
     roots_low shape old new ready (ap (λ (b : BoardState). b.shape) failed.rest)
-    (low_left shape (program at bytes) old new (λ k low is. omega (arith, low, high, is)) (ap shape_or_none ready.shape_is) failed.left)
+    (low_left shape (program at bytes) old new (λ k low is. elim is [ inl same ↦ omega (arith, low, high, same) | inr partner ↦ no_partner shape.block_pages at k low high partner ]) (ap shape_or_none ready.shape_is) failed.left)
 
 pub erase_low : (shape : Shape) (old new : BoardState) (block : ℕ) → IsReady old shape → 0 < shape.block_pages → 2 ≤ block → EraseFailed old new block → SameRoots shape old new
 erase_low shape old new block ready some behind failed =

@@ -2,9 +2,9 @@
 use Rattle.std.proofs.Common.{◌≡◌, inl, ℕ, ◌*◌, ◌<◌, ◌≤◌, refl, sym, subst, ◌∙◌, arith, true, false, List, []}
 use Rattle.std.proofs.Math.Nat.{mul-le-mul_right}
 use Rattle.pk_base.specs.Key.{Key}
-use Rattle.pk_base.specs.Shape.{Shape, epoch_pages}
-use Rattle.pk_base.specs.Page.{Flash, page_at, page_in}
-use Rattle.pk_base.specs.Entry.{Place}
+use Rattle.pk_base.specs.Shape.{Shape, epoch_commits}
+use Rattle.pk_base.specs.Page.{Flash, commit_page}
+use Rattle.pk_base.specs.Entry.{Entry, Place}
 use Rattle.pk_base.specs.Map.{Map}
 use Rattle.pk_base.proofs.ShapeLemmas.{block_pages_positive}
 use Rattle.pk_nand.specs.BoardState.{BoardState}
@@ -17,11 +17,10 @@ use Rattle.pk_pool.specs.Taking.{FailsToErase}
 use Rattle.pk_pool.proofs.Sharing.{behind_roots}
 use Rattle.pk_pool.proofs.States.{free_is_not_root}
 use Rattle.pk_jrn.specs.Epochs.{left_of, next_page}
-use Rattle.pk_jrn.proofs.Appending.{page_left}
+use Rattle.pk_jrn.proofs.Appending.{commit_left}
 use Rattle.pk_model.specs.Found.{Found}
 use Rattle.pk_model.specs.Growth.{Goes}
 use Rattle.pk_model.specs.Crashes.{CrashFinds, background}
-use Rattle.pk_model.proofs.Commits.{valid_blocks, behind_roots as in_newest}
 use Rattle.pk_steps.specs.Under.{places}
 use Rattle.pk_gc.specs.declared.course.Course.{Course}
 use Rattle.pk_gc.specs.declared.course.Phase.TheVariants.{Idle, Copies}
@@ -36,6 +35,7 @@ use Rattle.pk_reclaim.specs.Space.{SpaceOnFlash, MayReclaim}
 use Rattle.pk_reclaim.proofs.Owners.{spare_aside}
 use Rattle.pk_reclaim.proofs.Quiet.{IsQuiet, erase_goes, program_goes}
 use Rattle.pk_reclaim.proofs.Boards.{SameRoots, erase_low, program_low}
+use Rattle.pk_reclaim.proofs.Places.{high as pair_high}
 use Rattle.pk_reclaim.proofs.Still.{names_of}
 use Rattle.pk_reclaim.proofs.Ready.{job_in, space_in}
 use Rattle.pk_reclaim.proofs.Copies.{quiet, in_output}
@@ -50,6 +50,7 @@ other_page shape c moves page other flash es free runs = record {
   output_exists = runs.output_exists;
   within = runs.within;
   room = runs.room;
+  even = runs.even;
   free = runs.free;
   written = runs.written;
   unwritten = runs.unwritten;
@@ -65,13 +66,13 @@ other_page shape c moves page other flash es free runs = record {
     not_both : false ≡ true → ⊥
     not_both e = cc
 
-module _ (log : LogState) (values : DataState) (pool : Blocks) (moves : List Move) (page : List ℕ) (old new : BoardState) (top : ℕ × Root) (found : Found) (m : Map) (ready : IsReady old log.shape) where
+module _ (log : LogState) (values : DataState) (pool : Blocks) (moves : List Move) (entries : List Entry) (page : List ℕ) (old new : BoardState) (top : ℕ × Root) (found : Found) (m : Map) (ready : IsReady old log.shape) where
   abbrev shape : Shape
   shape = log.shape
 
   -- ---- the erase of the output
 
-  module _ (shared : IsShared pool.shape pool.states) (stands : SpaceOnFlash (space_in log values pool moves page Idle) old.pages top found m) (f : FailsToErase pool old new) where
+  module _ (shared : IsShared pool.shape pool.states) (stands : SpaceOnFlash (space_in log values pool moves entries page Idle) old.pages top found m) (f : FailsToErase pool old new) where
     behind : 2 ≤ f.block
     behind = behind_roots pool.shape pool.states f.block Free (λ e. free_is_not_root e) f.lowest.here shared
 
@@ -80,7 +81,7 @@ module _ (log : LogState) (values : DataState) (pool : Blocks) (moves : List Mov
       has = ready.shape_is;
       logs = stands.logs;
       under = stands.under;
-      names = names_of (space_in log values pool moves page Idle) old.pages top found m stands;
+      names = names_of (space_in log values pool moves entries page Idle) old.pages top found m stands;
       behind = behind;
       aside = spare_aside pool f.block (inl f.lowest.here);
       unread = λ k here. none_in_spare shape values pool [] old.pages (places found []) f.block stands.placed (inl f.lowest.here) k here;
@@ -94,10 +95,10 @@ module _ (log : LogState) (values : DataState) (pool : Blocks) (moves : List Mov
 
   -- ---- the program of a copied page
 
-  module _ (c : Course) (stands : SpaceOnFlash (space_in log values pool moves page (Copies c)) old.pages top found m) (e : Fault) (f : FailsToCopy c (job_in log moves page (Copies c)) old new e) where
+  module _ (c : Course) (stands : SpaceOnFlash (space_in log values pool moves entries page (Copies c)) old.pages top found m) (e : Fault) (f : FailsToCopy c (job_in log moves entries page (Copies c)) old new e) where
     pub copy_breaks : Goes shape old new (CrashFinds shape background old.pages m)
     copy_breaks =
-        program_goes (quiet log values pool c moves page old new top found m ready stands) (target shape c) page (in_output log values pool c moves page old new top found m ready stands f.held) new f.failed
+        program_goes (quiet log values pool c moves entries page old new top found m ready stands) (target shape c) page (in_output log values pool c moves entries page old new top found m ready stands f.held) new f.failed
 
     high : 2 * shape.block_pages ≤ target shape c
     high =
@@ -108,27 +109,26 @@ module _ (log : LogState) (values : DataState) (pool : Blocks) (moves : List Mov
     pub copy_roots : SameRoots shape old new
     copy_roots = program_low shape old new (target shape c) page ready high f.failed
 
-  -- ---- the program of the moves
+  -- ---- the first program of the moves
 
-  module _ (c : Course) (stands : SpaceOnFlash (space_in log values pool moves page (Copies c)) old.pages top found m) (left : 0 < left_of log.epoch) where
+  module _ (c : Course) (stands : SpaceOnFlash (space_in log values pool moves entries page (Copies c)) old.pages top found m) (left : 0 < left_of log.epoch) where
     next_high : 2 * shape.block_pages ≤ next_page log.epoch
     next_high =
         let logs = stands.logs in
-        let inside : log.epoch.used < epoch_pages shape = subst (λ (s : Shape). log.epoch.used < epoch_pages s) logs.epoch_shape (page_left log.epoch left) in
-        let same : page_in shape top.1.newest log.epoch.used ≡ next_page log.epoch = λ i. page_in (sym logs.epoch_shape i) (sym logs.epoch_blocks i) log.epoch.used in
-        subst (λ (k : ℕ). 2 * shape.block_pages ≤ k) same
-        (in_newest shape top.1 (valid_blocks shape (page_at old.pages) top logs.is_top) (block_pages_positive shape logs.is_shape) log.epoch.used inside)
+        let inside : log.epoch.used < epoch_commits shape = subst (λ (s : Shape). log.epoch.used < epoch_commits s) logs.epoch_shape (commit_left log.epoch left) in
+        let same : commit_page shape top.1.newest log.epoch.used ≡ next_page log.epoch = λ i. commit_page (sym logs.epoch_shape i) (sym logs.epoch_blocks i) log.epoch.used in
+        subst (λ (k : ℕ). 2 * shape.block_pages ≤ k) same (pair_high (space_in log values pool moves entries page (Copies c)) old.pages top found m stands log.epoch.used inside)
 
     pub commit_roots : (bytes : List ℕ) → ProgramFailed old new (next_page log.epoch) bytes → SameRoots shape old new
     commit_roots bytes failed = program_low shape old new (next_page log.epoch) bytes ready next_high failed
 
   -- ---- a read
 
-  module _ (c : Course) (other : List ℕ) (may : MayReclaim (space_in log values pool moves page (Copies c)) old.pages top found m) (free : c.held ≡ false) (same : new.pages ≡ old.pages) where
-    pub read_again : MayReclaim (space_in log values pool moves other (Copies c)) new.pages top found m
+  module _ (c : Course) (other : List ℕ) (may : MayReclaim (space_in log values pool moves entries page (Copies c)) old.pages top found m) (free : c.held ≡ false) (same : new.pages ≡ old.pages) where
+    pub read_again : MayReclaim (space_in log values pool moves entries other (Copies c)) new.pages top found m
     read_again =
         let s = may.stands in
-        let P : Flash → Type 0 = λ g. MayReclaim (space_in log values pool moves other (Copies c)) g top found m in
+        let P : Flash → Type 0 = λ g. MayReclaim (space_in log values pool moves entries other (Copies c)) g top found m in
         subst P (sym same) (record {
           stands = record {
             logs = s.logs;
@@ -140,8 +140,10 @@ module _ (log : LogState) (values : DataState) (pool : Blocks) (moves : List Mov
               stands = record { runs = other_page shape c moves page other old.pages (places found []) free s.reclaim.stands.runs; sparse = s.reclaim.stands.sparse; closed = s.reclaim.stands.closed };
               full = s.reclaim.full;
             };
+            half = s.half;
             journal = s.journal;
             runs = s.runs;
+            none_leaves = s.none_leaves;
           };
           turn = may.turn;
         })

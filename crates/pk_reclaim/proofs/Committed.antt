@@ -1,21 +1,20 @@
--- The moves of a reclaim are committed, or the program of their page failed.
-use Rattle.std.proofs.Common.{◌≡◌, inl, ℕ, ◌+◌, ◌-◌, ◌*◌, ◌/◌, ◌<◌, ◌≤◌, refl, sym, ap, subst, ◌∙◌, arith, List, [], ◌∷◌, ◌++◌, reverse, append-nil, Some}
+-- The first program of the commit of a reclaim's moves was made, or it failed.
+use Rattle.std.proofs.Common.{◌≡◌, inl, ℕ, ◌+◌, ◌-◌, ◌*◌, ◌/◌, ◌<◌, ◌≤◌, refl, sym, ap, subst, ◌∙◌, arith, true, List, [], ◌∷◌, ◌++◌, length, reverse, append-nil, Some}
 use Rattle.std.specs.Prelude.{slice_get, slice_set, flat_map}
 use Rattle.pk_base.specs.Key.{Key}
-use Rattle.pk_base.specs.Shape.{Shape, dense, data_blocks, epoch_pages}
-use Rattle.pk_base.specs.Page.{Flash, page_at, page_in, whole as whole_page}
+use Rattle.pk_base.specs.Shape.{Shape, dense, data_blocks, page_entries, epoch_commits}
+use Rattle.pk_base.specs.Page.{Flash, page_at, commit_page, whole as whole_page}
 use Rattle.pk_base.specs.Entry.{Entry, Place}
 use Rattle.pk_base.specs.Firsts.{firsts}
 use Rattle.pk_base.specs.Map.{Map}
-use Rattle.pk_base.proofs.ShapeLemmas.{block_pages_positive}
 use Rattle.pk_plan.specs.declared.owner.Owner.TheVariants.{Journal, Meta, Values as for_values}
 use Rattle.pk_nand.specs.BoardState.{BoardState}
-use Rattle.pk_nand.specs.Calls.{IsReady, after_program}
+use Rattle.pk_nand.specs.Calls.{IsReady}
 use Rattle.pk_nand.proofs.Leaving.{page_at-slice_set}
-use Rattle.pk_jrn.specs.Epochs.{JournalEpoch, EpochOnFlash, left_of, next_page}
+use Rattle.pk_jrn.specs.Epochs.{JournalEpoch, left_of, next_page}
 use Rattle.pk_jrn.specs.Appends.{next_bytes}
 use Rattle.pk_jrn.specs.Replays.{buffer_of}
-use Rattle.pk_jrn.proofs.Appending.{page_left}
+use Rattle.pk_jrn.proofs.Appending.{commit_left}
 use Rattle.pk_rootfmt.specs.Root.{Root}
 use Rattle.pk_root.proofs.Places.{InstallerOnFlash-by_same}
 use Rattle.pk_pool.specs.declared.state.BlockState.TheVariants.{Owned}
@@ -23,27 +22,24 @@ use Rattle.pk_pool.specs.Blocks.{Blocks, used_by}
 use Rattle.pk_model.specs.Found.{Found}
 use Rattle.pk_model.specs.Laws.{AnyByRecursion}
 use Rattle.pk_model.specs.Values.{placed as placed_of}
-use Rattle.pk_model.specs.Growth.{Reaches, Goes}
+use Rattle.pk_model.specs.Growth.{Goes}
 use Rattle.pk_model.specs.Crashes.{CrashFinds, background}
-use Rattle.pk_model.proofs.Commits.{Blocks as RootBlocks, valid_blocks, behind_roots, among_newest}
-use Rattle.pk_model.proofs.SamePages.{any_front}
 use Rattle.pk_steps.specs.Under.{IsUnder, places}
-use Rattle.pk_steps.specs.Roots.{committed}
 use Rattle.pk_moves.specs.Moves.{moved, CanMove}
 use Rattle.pk_moves.specs.Victims.{exchanged}
 use Rattle.pk_moves.proofs.Moving.{places_move}
 use Rattle.pk_gc.specs.declared.course.Course.{Course}
-use Rattle.pk_gc.specs.declared.course.Phase.TheVariants.{Copies, GivesBack}
+use Rattle.pk_gc.specs.declared.course.Phase.TheVariants.{Copies, Commits}
 use Rattle.pk_gc.specs.declared.moves.Move.{Move}
 use Rattle.pk_gc.specs.State.{JobState, source, placed_at, left_of as moves_left, entries_all}
 use Rattle.pk_gc.specs.Victims.{AreDead}
-use Rattle.pk_gc.specs.Cuts.{Journals}
+use Rattle.pk_gc.specs.Cuts.{Journals, IsHalfMoved, MovesStand}
 use Rattle.pk_gc.specs.Committing.{HasRoom as MovesHaveRoom, FailsToAdd, entries_left}
 use Rattle.pk_gc.specs.Ending.{CanGive}
 use Rattle.pk_gc.specs.Stepping.{Hands, CommitsMoves}
-use Rattle.pk_gc.proofs.Finishing.{may_move}
+use Rattle.pk_gc.proofs.Finishing.{may_move, entries_are as left_are}
 use Rattle.pk_gc.proofs.Buffering.{moves_buffered, moves_fit}
-use Rattle.pk_gc.proofs.Cutting.{commit_reaches}
+use Rattle.pk_gc.proofs.Cutting.{commit_begins, commit_begin_fails}
 use Rattle.pk_data.specs.State.{DataState, fits_open}
 use Rattle.pk_data.specs.Placed.{ValuesOnFlash, HoldsValues, IsOutput}
 use Rattle.pk_data.specs.Laws.{value_blocks}
@@ -52,18 +48,19 @@ use Rattle.pk_data.proofs.Unchanged.{lie_in_few, among_values}
 use Rattle.pk_reclaim.proofs.Ends.{moves_placed}
 use Rattle.pk_log.specs.State.{LogState}
 use Rattle.pk_log.specs.Logs.{LogOnFlash}
-use Rattle.pk_reclaim.specs.Space.{Space, SpaceOnFlash, HasRoom, space}
+use Rattle.pk_reclaim.specs.Space.{Space, SpaceOnFlash, HalfMoves, HasRoom, space}
 use Rattle.pk_reclaim.specs.Steps.{SpaceMoves, with_newest}
 use Rattle.pk_reclaim.proofs.Known.{as_many_known}
 use Rattle.pk_reclaim.proofs.Owners.{owners_same, held_aside, others_kept}
 use Rattle.pk_reclaim.proofs.Quiet.{aside_unnamed}
 use Rattle.pk_reclaim.proofs.Still.{names_of}
-use Rattle.pk_reclaim.proofs.Room.{fits_need}
+use Rattle.pk_reclaim.proofs.Room.{fits_need, entries_few}
+use Rattle.pk_reclaim.proofs.Places.{high, in_newest, for_journal}
 use Rattle.pk_reclaim.proofs.Given.{output_fits}
 use Rattle.pk_reclaim.proofs.Ready.{job_in, space_in, is_copied, can_give}
 
-module _ (log : LogState) (values : DataState) (pool : Blocks) (c : Course) (moves : List Move) (page : List ℕ) (old : BoardState) (top : ℕ × Root) (found : Found) (m : Map)
-    (ready : IsReady old log.shape) (stands : SpaceOnFlash (space_in log values pool moves page (Copies c)) old.pages top found m)
+module _ (log : LogState) (values : DataState) (pool : Blocks) (c : Course) (moves : List Move) (entries : List Entry) (page : List ℕ) (old : BoardState) (top : ℕ × Root) (found : Found) (m : Map)
+    (ready : IsReady old log.shape) (stands : SpaceOnFlash (space_in log values pool moves entries page (Copies c)) old.pages top found m)
     (whole : c.left ≡ 0) (dead : AreDead values.live.heads (source log.shape c) (c.victim * log.shape.block_pages + log.shape.block_pages)) where
   abbrev shape : Shape
   shape = log.shape
@@ -72,10 +69,10 @@ module _ (log : LogState) (values : DataState) (pool : Blocks) (c : Course) (mov
   es = places found []
 
   abbrev before : Space
-  before = space_in log values pool moves page (Copies c)
+  before = space_in log values pool moves entries page (Copies c)
 
   abbrev job : JobState
-  job = job_in log moves page (Copies c)
+  job = job_in log moves entries page (Copies c)
 
   abbrev hands : Hands
   hands = hands_of values pool log.active log.epoch
@@ -90,8 +87,11 @@ module _ (log : LogState) (values : DataState) (pool : Blocks) (c : Course) (mov
   abbrev bytes : List ℕ
   bytes = next_bytes log.epoch left_entries
 
+  abbrev where_to : List ℕ
+  where_to = exchanged c.victim c.output (value_blocks pool (c.output ∷ []))
+
   give : CanGive shape c job hands old.pages es
-  give = can_give log values pool moves page old.pages top found m c stands whole dead
+  give = can_give log values pool moves entries page old.pages top found m c stands whole dead
 
   active_was : log.active ≡ buffer_of shape found.newest
   active_was = stands.logs.active_is ∙ ap (λ (xs : List Entry). buffer_of shape (found.newest ++ xs)) stands.none_pending ∙ ap (buffer_of shape) (append-nil found.newest)
@@ -105,7 +105,7 @@ module _ (log : LogState) (values : DataState) (pool : Blocks) (c : Course) (mov
   can_move : MovesHaveRoom log.active log.epoch left_entries → CanMove shape old.pages [] top.1 found left_moves (exchanged c.victim c.output blocks)
   can_move room =
       let few = lie_in_few shape values pool (c.output ∷ []) old.pages es stands.placed in
-      may_move shape c moves page values.live.heads old.pages top.1 found blocks (is_copied log values pool moves page old.pages top found m c stands whole dead)
+      may_move shape c moves page values.live.heads old.pages top.1 found blocks (is_copied log values pool moves entries page old.pages top found m c stands whole dead)
       (aside_unnamed pool top.1 c.output (names_of before old.pages top found m stands) (held_aside pool c.output (stands.placed.outputs_are.owned c.output (inl refl))))
       (among_values pool (c.output ∷ []) c.victim victim_held.0 victim_held.1) few.1 few.0
       (moves_fit shape c job hands old.pages es found.newest give active_was room)
@@ -122,32 +122,28 @@ module _ (log : LogState) (values : DataState) (pool : Blocks) (c : Course) (mov
 
   -- ---- the page of the entries
 
-  positive : 0 < shape.block_pages
-  positive = block_pages_positive shape stands.logs.is_shape
-
-  root_blocks : RootBlocks top.1
-  root_blocks = valid_blocks shape (page_at old.pages) top stands.logs.is_top
-
-  page_is : page_in shape top.1.newest log.epoch.used ≡ next_page log.epoch
-  page_is i = page_in (sym stands.logs.epoch_shape i) (sym stands.logs.epoch_blocks i) log.epoch.used
+  page_is : commit_page shape top.1.newest log.epoch.used ≡ next_page log.epoch
+  page_is i = commit_page (sym stands.logs.epoch_shape i) (sym stands.logs.epoch_blocks i) log.epoch.used
 
   module _ (left : 0 < left_of log.epoch) where
-    inside : log.epoch.used < epoch_pages shape
-    inside = subst (λ (s : Shape). log.epoch.used < epoch_pages s) stands.logs.epoch_shape (page_left log.epoch left)
+    inside : log.epoch.used < epoch_commits shape
+    inside = subst (λ (s : Shape). log.epoch.used < epoch_commits s) stands.logs.epoch_shape (commit_left log.epoch left)
 
-    high : 2 * shape.block_pages ≤ next_page log.epoch
-    high = subst (λ (k : ℕ). 2 * shape.block_pages ≤ k) page_is (behind_roots shape top.1 root_blocks positive log.epoch.used inside)
+    next_high : 2 * shape.block_pages ≤ next_page log.epoch
+    next_high = subst (λ (k : ℕ). 2 * shape.block_pages ≤ k) page_is (high before old.pages top found m stands log.epoch.used inside)
 
-    in_newest : AnyByRecursion (λ b. next_page log.epoch / shape.block_pages ≡ b) top.1.newest
-    in_newest = subst (λ (k : ℕ). AnyByRecursion (λ b. k / shape.block_pages ≡ b) top.1.newest) page_is (among_newest shape top.1 root_blocks positive log.epoch.used inside)
+    next_newest : AnyByRecursion (λ b. next_page log.epoch / shape.block_pages ≡ b) top.1.newest
+    next_newest =
+        subst (λ (k : ℕ). AnyByRecursion (λ b. k / shape.block_pages ≡ b) top.1.newest) page_is (in_newest before old.pages top found m stands log.epoch.used inside (commit_page shape top.1.newest log.epoch.used) (omega arith) (omega arith))
 
-    for_journal : slice_get pool.states (next_page log.epoch / shape.block_pages) ≡ Some (Owned Journal)
-    for_journal = stands.journal (next_page log.epoch / shape.block_pages) (any_front (λ b. next_page log.epoch / shape.block_pages ≡ b) top.1.newest top.1.older in_newest)
+    next_journal : slice_get pool.states (next_page log.epoch / shape.block_pages) ≡ Some (Owned Journal)
+    next_journal =
+        subst (λ (k : ℕ). slice_get pool.states (k / shape.block_pages) ≡ Some (Owned Journal)) page_is (for_journal before old.pages top found m stands log.epoch.used inside (commit_page shape top.1.newest log.epoch.used) (omega arith) (omega arith))
 
-  -- ---- the commit failed
+  -- ---- the program failed
 
   breaks : (new : BoardState) → FailsToAdd left_entries log.active log.epoch old new → Goes shape old new (CrashFinds shape background old.pages m)
-  breaks new f = (commit_reaches shape old top found m left_moves (exchanged c.victim c.output blocks) log.epoch bytes ready journals f.room.1 stands.under (can_move f.room) f.spells).2 new f.failed
+  breaks new f = commit_begin_fails shape old new top found m left_moves where_to log.epoch ready journals f.room.1 stands.half stands.under (can_move f.room) f.fails
 
   -- ---- it was made
 
@@ -159,20 +155,20 @@ module _ (log : LogState) (values : DataState) (pool : Blocks) (c : Course) (mov
     abbrev then_log : LogState
     then_log = record log {
       active = record log.active { entries = entries_all values.live.heads log.active.entries moves };
-      epoch = record log.epoch { used = log.epoch.used + 1 };
+      epoch = record log.epoch { used = log.epoch.used + 1; half = true };
     }
 
     abbrev there : Space
-    there = space_in then_log values' pool moves job'.page (GivesBack c.victim)
+    there = space_in then_log values' pool moves left_entries job'.page (Commits c.victim)
 
     log_then : log' ≡ then_log
-    log_then = log_is ∙ (λ i. record log { active = (ap (λ (h : Hands). h.active) commits.hands) i; epoch = commits.adds.taken i })
+    log_then = log_is ∙ (λ i. record log { active = (ap (λ (h : Hands). h.active) commits.hands) i; epoch = commits.adds.begins.epoch_is i })
 
     pool_same : pool' ≡ pool
     pool_same = ap (λ (h : Hands). h.pool) commits.hands
 
     pages_are : new.pages ≡ slice_set old.pages (next_page log.epoch) (whole_page bytes)
-    pages_are = ap (λ (b : BoardState). b.pages) commits.adds.board
+    pages_are = ap (λ (b : BoardState). b.pages) commits.adds.begins.program
 
     other_page : (k : ℕ) → (k ≡ next_page log.epoch → ⊥) → page_at new.pages k ≡ page_at old.pages k
     other_page k other = ap (λ (f : Flash). page_at f k) pages_are ∙ page_at-slice_set old.pages (next_page log.epoch) k (whole_page bytes) other
@@ -181,16 +177,54 @@ module _ (log : LogState) (values : DataState) (pool : Blocks) (c : Course) (mov
     room = commits.adds.room
 
     low : (k : ℕ) → k < 2 * shape.block_pages → page_at new.pages k ≡ page_at old.pages k
-    low k below = other_page k (λ same. let behind = high room.1 in omega (arith, same, below, behind))
+    low k below = other_page k (λ same. let behind = next_high room.1 in omega (arith, same, below, behind))
 
-    reaches : IsUnder shape (after_program old (next_page log.epoch) bytes).pages [] top (committed found left_entries) m
-        × Reaches shape old (after_program old (next_page log.epoch) bytes) (CrashFinds shape background old.pages m)
-    reaches =
-        let all = commit_reaches shape old top found m left_moves (exchanged c.victim c.output blocks) log.epoch bytes ready journals room.1 stands.under (can_move room) commits.adds.spells in
-        (all.0, all.1)
+    begun : IsHalfMoved shape log'.epoch old.pages new.pages top found m left_moves where_to × MovesStand shape old top found m left_moves new
+    begun = commit_begins shape old new top found m left_moves where_to log.epoch log'.epoch ready journals room.1 stands.half stands.under (can_move room) commits.adds.begins
 
     under : IsUnder shape new.pages [] top then_found m
-    under = subst (λ (f : Flash). IsUnder shape f [] top then_found m) (sym pages_are) reaches.0
+    under = begun.1.under
+
+    half_moved : IsHalfMoved shape then_log.epoch old.pages new.pages top found m left_moves where_to
+    half_moved = subst (λ (e : JournalEpoch). IsHalfMoved shape e old.pages new.pages top found m left_moves where_to) commits.adds.begins.epoch_is begun.0
+
+    moves_few : length left_entries ≤ page_entries shape
+    moves_few =
+        let less = entries_few values.live.heads moves in
+        let few = stands.reclaim.stands.runs.few in
+        let sparse = stands.reclaim.stands.sparse in
+        let fit = stands.logs.is_shape.moves_fit in
+        omega (arith, less, few, sparse, fit)
+
+    used_few : c.used ≤ dense shape
+    used_few = let sparse = stands.reclaim.stands.sparse in omega (arith, sparse)
+
+    room_there : HasRoom there
+    room_there count most =
+        fits_need (fits_open shape values' count) (data_blocks shape - 1) (used_by for_values pool.states)
+        (output_fits shape values' c.output c.used count stands.placed.is_shape (ap (λ (h : Hands). h.front) commits.hands) used_few most)
+
+    half_made : HalfMoves there new.pages top then_found m
+    half_made = record {
+      former = old.pages;
+      was = found;
+      moves = left_moves;
+      blocks = where_to;
+      half = half_moved;
+      entries_are = refl;
+      found_is = refl;
+      can = record {
+        some = some_of left_entries commits.adds.some;
+        most = moves_few;
+        each = left_are shape c old.pages es values.live.heads moves stands.reclaim.stands.runs.moves_are;
+        half = half_moved.half;
+      };
+      room = room_there;
+    }
+      where
+        some_of : (xs : List Entry) → (xs ≡ [] → ⊥) → 1 ≤ length xs
+        some_of [] none = absurd (none refl)
+        some_of (x ∷ xs) none = omega arith
 
     then_places : places then_found [] ≡ moved left_moves es
     then_places = stay (append-nil (found.newest ++ left_entries)) ∙ places_move found [] left_moves
@@ -208,7 +242,7 @@ module _ (log : LogState) (values : DataState) (pool : Blocks) (c : Course) (mov
       epoch_shape = stands.logs.epoch_shape;
       epoch_number = stands.logs.epoch_number;
       epoch_blocks = stands.logs.epoch_blocks;
-      epoch_fits = subst (λ (e : JournalEpoch). EpochOnFlash e new.pages) commits.adds.taken commits.adds.fits;
+      epoch_fits = half_moved.half.fits;
       active_is = moves_buffered shape c job hands old.pages es found.newest give active_was
           ∙ ap (buffer_of shape) (sym (append-nil (found.newest ++ left_entries)))
           ∙ ap (λ (xs : List Entry). buffer_of shape ((found.newest ++ left_entries) ++ xs)) (sym stands.none_pending);
@@ -216,13 +250,14 @@ module _ (log : LogState) (values : DataState) (pool : Blocks) (c : Course) (mov
       pending_are = stands.logs.pending_are;
       pending_few = stands.logs.pending_few;
       pending_room = λ some. absurd (some stands.none_pending);
+      pending_whole = λ some. absurd (some stands.none_pending);
     }
 
     placed : ValuesOnFlash shape values' pool (c.victim ∷ []) new.pages (places then_found [])
     placed =
         subst (λ (xs : List (Key × Place)). ValuesOnFlash shape values' pool (c.victim ∷ []) new.pages xs) (sym then_places)
         (subst (λ (p : Blocks). ValuesOnFlash shape values' p (c.victim ∷ []) new.pages (moved left_moves es)) pool_same
-        (moves_placed shape c job job' values values' pool pool' log.active log'.active log.epoch log'.epoch old new es stands.placed give commits (for_journal room.1)))
+        (moves_placed shape c job job' values values' pool pool' log.active log'.active log.epoch log'.epoch old new es stands.placed give commits (next_journal room.1)))
 
     stands_then : SpaceOnFlash there new.pages top then_found m
     stands_then = record {
@@ -231,12 +266,14 @@ module _ (log : LogState) (values : DataState) (pool : Blocks) (c : Course) (mov
       under = under;
       placed = placed;
       reclaim = record { shape_is = refl; stands = tt; full = λ runs. stands.reclaim.full refl };
+      half = half_made;
       journal = stands.journal;
       runs = stands.runs;
+      none_leaves = stands.none_leaves;
     }
 
     -- what was made of log, pool and job
-    as_made : (P : LogState → Blocks → JobState → Type 0) → P then_log pool (job_in log moves job'.page (GivesBack c.victim)) → P log' pool' job'
+    as_made : (P : LogState → Blocks → JobState → Type 0) → P then_log pool (job_in log moves left_entries job'.page (Commits c.victim)) → P log' pool' job'
     as_made P is =
         subst (λ (l : LogState). P l pool' job') (sym log_then)
         (subst (λ (p : Blocks). P then_log p job') (sym pool_same)
@@ -247,40 +284,36 @@ module _ (log : LogState) (values : DataState) (pool : Blocks) (c : Course) (mov
       moves = left_moves;
       newest = found.newest ++ left_entries;
       newest_is = refl;
+      still = tt;
       then_places = then_places;
       as_many = as_many_known shape old.pages new.pages top found then_found m stands.logs.is_shape ready.flash ready'.flash stands.under under;
       stands = stands_then;
       others = others_kept shape top.1 pool old.pages pool new.pages (owners_same pool) low
           (λ k owned. other_page k (λ same. no_meta k same owned))
-          (λ k owned other. other_page k (λ same. other (subst (λ (x : ℕ). AnyByRecursion (λ b. x / shape.block_pages ≡ b) top.1.newest) (sym same) (in_newest room.1))));
-      cuts = subst (λ (b : BoardState). Reaches shape old b (CrashFinds shape background old.pages m)) (sym commits.adds.board) reaches.1;
+          (λ k owned other. other_page k (λ same. other (subst (λ (x : ℕ). AnyByRecursion (λ b. x / shape.block_pages ≡ b) top.1.newest) (sym same) (next_newest room.1))));
+      cuts = begun.1.cuts;
     })
       where
         no_meta : (k : ℕ) → k ≡ next_page log.epoch → slice_get pool.states (k / shape.block_pages) ≡ Some (Owned Meta) → ⊥
         no_meta k same owned =
-            let clash : Some (Owned Meta) ≡ Some (Owned Journal) = sym owned ∙ (ap (λ (x : ℕ). slice_get pool.states (x / shape.block_pages)) same ∙ for_journal room.1) in cc
-
-    used_few : c.used ≤ dense shape
-    used_few = let sparse = stands.reclaim.stands.sparse in omega (arith, sparse)
+            let clash : Some (Owned Meta) ≡ Some (Owned Journal) = sym owned ∙ (ap (λ (x : ℕ). slice_get pool.states (x / shape.block_pages)) same ∙ next_journal room.1) in cc
 
     commit_room : HasRoom (space log' values' pool' job')
-    commit_room = as_made (λ l p j. HasRoom (space l values' p j)) (λ count most.
-        fits_need (fits_open shape values' count) (data_blocks shape - 1) (used_by for_values pool.states)
-        (output_fits shape values' c.output c.used count stands.placed.is_shape (ap (λ (h : Hands). h.front) commits.hands) used_few most))
+    commit_room = as_made (λ l p j. HasRoom (space l values' p j)) room_there
 
 -- ---- the same, for all that stands before and behind
 
-module _ (log log' : LogState) (values values' : DataState) (pool pool' : Blocks) (c : Course) (moves : List Move) (page : List ℕ) (old new : BoardState) (top : ℕ × Root) (found : Found) (m : Map)
-    (ready : IsReady old log.shape) (ready' : IsReady new log.shape) (stands : SpaceOnFlash (space_in log values pool moves page (Copies c)) old.pages top found m)
+module _ (log log' : LogState) (values values' : DataState) (pool pool' : Blocks) (c : Course) (moves : List Move) (entries : List Entry) (page : List ℕ) (old new : BoardState) (top : ℕ × Root) (found : Found) (m : Map)
+    (ready : IsReady old log.shape) (ready' : IsReady new log.shape) (stands : SpaceOnFlash (space_in log values pool moves entries page (Copies c)) old.pages top found m)
     (whole : c.left ≡ 0) (dead : AreDead values.live.heads (source log.shape c) (c.victim * log.shape.block_pages + log.shape.block_pages)) (job' : JobState) where
   abbrev IsCommit : Type 0
-  IsCommit = CommitsMoves c (job_in log moves page (Copies c)) (hands_of values pool log.active log.epoch) old job' (hands_of values' pool' log'.active log'.epoch) new
+  IsCommit = CommitsMoves c (job_in log moves entries page (Copies c)) (hands_of values pool log.active log.epoch) old job' (hands_of values' pool' log'.active log'.epoch) new
 
-  pub committed_moves : log' ≡ record log { active = log'.active; epoch = log'.epoch } → IsCommit → SpaceMoves (space_in log values pool moves page (Copies c)) old top found m (space log' values' pool' job') new
-  committed_moves log_is is = commit_moves log values pool c moves page old top found m ready stands whole dead log' values' pool' job' new ready' log_is is
+  pub committed_moves : log' ≡ record log { active = log'.active; epoch = log'.epoch } → IsCommit → SpaceMoves (space_in log values pool moves entries page (Copies c)) old top found m (space log' values' pool' job') new
+  committed_moves log_is is = commit_moves log values pool c moves entries page old top found m ready stands whole dead log' values' pool' job' new ready' log_is is
 
   pub committed_room : log' ≡ record log { active = log'.active; epoch = log'.epoch } → IsCommit → HasRoom (space log' values' pool' job')
-  committed_room log_is is = commit_room log values pool c moves page old top found m ready stands whole dead log' values' pool' job' new ready' log_is is
+  committed_room log_is is = commit_room log values pool c moves entries page old top found m ready stands whole dead log' values' pool' job' new ready' log_is is
 
   pub commit_breaks : FailsToAdd (entries_left values.live.heads moves) log.active log.epoch old new → Goes log.shape old new (CrashFinds log.shape background old.pages m)
-  commit_breaks is = breaks log values pool c moves page old top found m ready stands whole dead new is
+  commit_breaks is = breaks log values pool c moves entries page old top found m ready stands whole dead new is

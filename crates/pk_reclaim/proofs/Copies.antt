@@ -3,7 +3,7 @@ use Rattle.std.proofs.Common.{◌≡◌, inl, ℕ, ◌-◌, ◌*◌, ◌/◌, re
 use Rattle.pk_base.specs.Key.{Key}
 use Rattle.pk_base.specs.Shape.{Shape, charge}
 use Rattle.pk_base.specs.Page.{Flash}
-use Rattle.pk_base.specs.Entry.{Place}
+use Rattle.pk_base.specs.Entry.{Entry, Place}
 use Rattle.pk_base.specs.Map.{Map}
 use Rattle.pk_nand.specs.BoardState.{BoardState}
 use Rattle.pk_nand.specs.Calls.{IsReady, after_read, after_program}
@@ -38,8 +38,8 @@ use Rattle.pk_reclaim.proofs.Ready.{job_in, space_in, are_held, hands}
 still_read : (old new : BoardState) → new ≡ after_read old → IsStill old new
 still_read old new is = record { shape = ap (λ (s : BoardState). s.shape) is; pages = ap (λ (s : BoardState). s.pages) is; trail = ap (λ (s : BoardState). s.trail) is; posted = ap (λ (s : BoardState). s.posted) is }
 
-module _ (log : LogState) (values : DataState) (pool : Blocks) (c : Course) (moves : List Move) (page : List ℕ) (old new : BoardState) (top : ℕ × Root) (found : Found) (m : Map)
-    (ready : IsReady old log.shape) (stands : SpaceOnFlash (space_in log values pool moves page (Copies c)) old.pages top found m) where
+module _ (log : LogState) (values : DataState) (pool : Blocks) (c : Course) (moves : List Move) (entries : List Entry) (page : List ℕ) (old new : BoardState) (top : ℕ × Root) (found : Found) (m : Map)
+    (ready : IsReady old log.shape) (stands : SpaceOnFlash (space_in log values pool moves entries page (Copies c)) old.pages top found m) where
   abbrev shape : Shape
   shape = log.shape
 
@@ -47,58 +47,60 @@ module _ (log : LogState) (values : DataState) (pool : Blocks) (c : Course) (mov
   es = places found []
 
   abbrev before : Space
-  before = space_in log values pool moves page (Copies c)
+  before = space_in log values pool moves entries page (Copies c)
 
-  copying : IsCopying shape c (job_in log moves page (Copies c)) values.live old.pages es
+  copying : IsCopying shape c (job_in log moves entries page (Copies c)) values.live old.pages es
   copying = stands.reclaim.stands
 
   -- it goes on so, on this flash
-  goes_on : (c' : Course) (ms : List Move) (bytes : List ℕ) (flash : Flash) → flash ≡ old.pages → c'.output ≡ c.output → IsCopying shape c' (job_in log ms bytes (Copies c')) values.live flash es
-      → SpaceOnFlash (space_in log values pool ms bytes (Copies c')) flash top found m
+  goes_on : (c' : Course) (ms : List Move) (bytes : List ℕ) (flash : Flash) → flash ≡ old.pages → c'.output ≡ c.output → IsCopying shape c' (job_in log ms [] bytes (Copies c')) values.live flash es
+      → SpaceOnFlash (space_in log values pool ms [] bytes (Copies c')) flash top found m
   goes_on c' ms bytes flash same output is =
-      let P : Flash → Type 0 = λ f. SpaceOnFlash (space_in log values pool ms bytes (Copies c')) f top found m in
+      let P : Flash → Type 0 = λ f. SpaceOnFlash (space_in log values pool ms [] bytes (Copies c')) f top found m in
       subst P (sym same) (record {
         logs = stands.logs;
         none_pending = stands.none_pending;
         under = stands.under;
         placed = subst (λ (b : ℕ). ValuesOnFlash shape values pool (b ∷ []) old.pages es) (sym output) stands.placed;
-        reclaim = record { shape_is = refl; stands = subst (λ (f : Flash). IsCopying shape c' (job_in log ms bytes (Copies c')) values.live f es) same is; full = λ runs. stands.reclaim.full refl };
+        reclaim = record { shape_is = refl; stands = subst (λ (f : Flash). IsCopying shape c' (job_in log ms [] bytes (Copies c')) values.live f es) same is; full = λ runs. stands.reclaim.full refl };
+        half = stands.half;
         journal = stands.journal;
         runs = stands.runs;
+        none_leaves = stands.none_leaves;
       })
 
   module _ (job' : JobState) where
     -- ---- the next page of a value was read
 
-    pub read_moves : ReadsNext c (job_in log moves page (Copies c)) old job' new → SpaceMoves before old top found m (space log values pool job') new
+    pub read_moves : ReadsNext c (job_in log moves entries page (Copies c)) old job' new → SpaceMoves before old top found m (space log values pool job') new
     read_moves r =
         let still = still_read old new r.board in
-        let there = space_in log values pool moves job'.page (Copies (read_next c)) in
+        let there = space_in log values pool moves [] job'.page (Copies (read_next c)) in
         subst (λ (j : JobState). SpaceMoves before old top found m (space log values pool j) new) (sym r.job_is)
         (still_moves before there old new top found m still stands (owners_same pool)
         (goes_on (read_next c) moves job'.page new.pages still.pages refl (record { runs = r.runs es copying.runs; sparse = copying.sparse; closed = copying.closed })))
 
     -- ---- the first page of the next one was
 
-    pub begin_moves : BeginsValue c (job_in log moves page (Copies c)) (hands log values pool moves page old.pages top found m) old job' new → SpaceMoves before old top found m (space log values pool job') new
+    pub begin_moves : BeginsValue c (job_in log moves entries page (Copies c)) (hands log values pool moves entries page old.pages top found m) old job' new → SpaceMoves before old top found m (space log values pool job') new
     begin_moves r =
         let still = still_read old new r.board in
-        let next = next_is_value shape c moves page values.live.heads old.pages es r.page copying.runs (are_held log values pool moves page old.pages top found m c stands ready.flash) copying.sparse r.whole r.inside.0 r.inside.1 r.head r.first in
+        let next = next_is_value shape c moves page values.live.heads old.pages es r.page copying.runs (are_held log values pool moves entries page old.pages top found m c stands ready.flash) copying.sparse r.whole r.inside.0 r.inside.1 r.head r.first in
         let key = next.1.0 in
         let place = next.1.1 in
         let is = next.1.2 in
         let c' = begun_at c (r.page - c.victim * shape.block_pages) (charge shape place.len) in
         let ms = moves ++ begun_move shape c r.page key place.len ∷ [] in
-        let there = space_in log values pool ms job'.page (Copies c') in
+        let there = space_in log values pool ms [] job'.page (Copies c') in
         let sparse = begin_sparse shape values.live.heads c r.page (charge shape place.len) r.whole (charge_some shape stands.placed.is_shape place.len) r.inside.0 is.inside next.1.3 copying.sparse in
         subst (λ (j : JobState). SpaceMoves before old top found m (space log values pool j) new) (sym (r.job_is es key place is))
         (still_moves before there old new top found m still stands (owners_same pool)
         (goes_on c' ms job'.page new.pages still.pages refl (record { runs = r.runs es key place copying.runs is; sparse = sparse; closed = copying.closed })))
 
     -- the values are copied still
-    pub begin_phase : BeginsValue c (job_in log moves page (Copies c)) (hands log values pool moves page old.pages top found m) old job' new → (then : Course) × (job'.phase ≡ Copies then)
+    pub begin_phase : BeginsValue c (job_in log moves entries page (Copies c)) (hands log values pool moves entries page old.pages top found m) old job' new → (then : Course) × (job'.phase ≡ Copies then)
     begin_phase r =
-        let next = next_is_value shape c moves page values.live.heads old.pages es r.page copying.runs (are_held log values pool moves page old.pages top found m c stands ready.flash) copying.sparse r.whole r.inside.0 r.inside.1 r.head r.first in
+        let next = next_is_value shape c moves page values.live.heads old.pages es r.page copying.runs (are_held log values pool moves entries page old.pages top found m c stands ready.flash) copying.sparse r.whole r.inside.0 r.inside.1 r.head r.first in
         (_, ap (λ (j : JobState). j.phase) (r.job_is es next.1.0 next.1.1 next.1.2))
 
   -- ---- a page was programmed
@@ -120,14 +122,14 @@ module _ (log : LogState) (values : DataState) (pool : Blocks) (c : Course) (mov
       let room = copying.runs.room in
       block_of shape.block_pages (target shape c) c.output (omega arith) (omega (arith, some, room))
 
-  module _ (job' : JobState) (p : ProgramsHeld c (job_in log moves page (Copies c)) old job' new) where
+  module _ (job' : JobState) (p : ProgramsHeld c (job_in log moves entries page (Copies c)) old job' new) where
     same : SameBut quiet new.pages
     same = program_quiet quiet (target shape c) page (in_output p.held) new p.board
 
     pages_are : new.pages ≡ (after_program old (target shape c) page).pages
     pages_are = ap (λ (s : BoardState). s.pages) p.board
 
-    behind : IsCopying shape (programmed c) (job_in log moves page (Copies (programmed c))) values.live new.pages es
+    behind : IsCopying shape (programmed c) (job_in log moves [] page (Copies (programmed c))) values.live new.pages es
     behind =
         let exists = target_exists shape c moves page old.pages es copying.runs p.held ready.flash in
         record {
@@ -136,7 +138,7 @@ module _ (log : LogState) (values : DataState) (pool : Blocks) (c : Course) (mov
           closed = copying.closed;
         }
 
-    stands_behind : SpaceOnFlash (space_in log values pool moves page (Copies (programmed c))) new.pages top found m
+    stands_behind : SpaceOnFlash (space_in log values pool moves [] page (Copies (programmed c))) new.pages top found m
     stands_behind = record {
       logs = log_quiet quiet new.pages same;
       none_pending = stands.none_pending;
@@ -144,8 +146,10 @@ module _ (log : LogState) (values : DataState) (pool : Blocks) (c : Course) (mov
       placed = subst (λ (f : Flash). ValuesOnFlash shape values pool (c.output ∷ []) f es) (sym pages_are)
           (programmed_output shape values pool c.output (target shape c) page old.pages es stands.placed (in_output p.held));
       reclaim = record { shape_is = refl; stands = behind; full = λ runs. stands.reclaim.full refl };
+      half = stands.half;
       journal = stands.journal;
       runs = stands.runs;
+      none_leaves = stands.none_leaves;
     }
 
     pub program_moves : SpaceMoves before old top found m (space log values pool job') new
@@ -153,6 +157,7 @@ module _ (log : LogState) (values : DataState) (pool : Blocks) (c : Course) (mov
       moves = [];
       newest = found.newest;
       newest_is = sym (append-nil found.newest);
+      still = tt;
       then_places = refl;
       as_many = refl;
       stands = stands_behind;

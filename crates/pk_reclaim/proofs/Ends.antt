@@ -50,7 +50,7 @@ moves_placed shape c job job' d d' p q active active' epoch epoch' old new es pl
     bytes = next_bytes epoch (entries_left d.live.heads job.moves)
 
     pages_are : new.pages ≡ slice_set old.pages (next_page epoch) (whole bytes)
-    pages_are = ap (λ (b : BoardState). b.pages) commits.adds.board
+    pages_are = ap (λ (b : BoardState). b.pages) commits.adds.begins.program
 
     same : SameValues shape p [] old.pages new.pages
     same k held none =

@@ -4,7 +4,7 @@ use Rattle.std.proofs.lemmas.Bool.{le-leb}
 use Rattle.pk_base.specs.Key.{Key}
 use Rattle.pk_base.specs.Shape.{Shape, IsShape, data_blocks, dense, most_pages}
 use Rattle.pk_base.specs.Page.{Flash}
-use Rattle.pk_base.specs.Entry.{Place}
+use Rattle.pk_base.specs.Entry.{Entry, Place}
 use Rattle.pk_base.specs.Map.{Map}
 use Rattle.pk_plan.specs.declared.owner.Owner.TheVariants.{Values as for_values}
 use Rattle.pk_nand.specs.BoardState.{BoardState}
@@ -60,10 +60,10 @@ output_fits shape d output used count is_shape is few most =
 
 -- ---- the end without moves
 
-module _ (log log' : LogState) (values values' : DataState) (pool pool' : Blocks) (c : Course) (moves : List Move) (page : List ℕ) (old new : BoardState) (top : ℕ × Root) (found : Found) (m : Map)
-    (stands : SpaceOnFlash (space_in log values pool moves page (Copies c)) old.pages top found m) (log_is : log' ≡ record log { active = log'.active; epoch = log'.epoch })
+module _ (log log' : LogState) (values values' : DataState) (pool pool' : Blocks) (c : Course) (moves : List Move) (entries : List Entry) (page : List ℕ) (old new : BoardState) (top : ℕ × Root) (found : Found) (m : Map)
+    (stands : SpaceOnFlash (space_in log values pool moves entries page (Copies c)) old.pages top found m) (log_is : log' ≡ record log { active = log'.active; epoch = log'.epoch })
     (whole : c.left ≡ 0) (dead : AreDead values.live.heads (source log.shape c) (c.victim * log.shape.block_pages + log.shape.block_pages)) (job' : JobState)
-    (e : EndsWithout c (job_in log moves page (Copies c)) (hands_of values pool log.active log.epoch) old job' (hands_of values' pool' log'.active log'.epoch) new) where
+    (e : EndsWithout c (job_in log moves entries page (Copies c)) (hands_of values pool log.active log.epoch) old job' (hands_of values' pool' log'.active log'.epoch) new) where
   abbrev shape : Shape
   shape = log.shape
 
@@ -71,13 +71,13 @@ module _ (log log' : LogState) (values values' : DataState) (pool pool' : Blocks
   es = places found []
 
   abbrev before : Space
-  before = space_in log values pool moves page (Copies c)
+  before = space_in log values pool moves entries page (Copies c)
 
   same_log : log' ≡ log
   same_log = log_is ∙ (λ i. record log { active = (ap (λ (h : Hands). h.active) e.hands) i; epoch = (ap (λ (h : Hands). h.epoch) e.hands) i })
 
   ended : ValuesOnFlash shape values' pool' [] new.pages es × (used_by for_values pool'.states + 1 ≡ used_by for_values pool.states)
-  ended = end_placed shape c (job_in log moves page (Copies c)) job' values values' pool pool' log.active log'.active log.epoch log'.epoch old new es stands.placed (can_give log values pool moves page old.pages top found m c stands whole dead) e
+  ended = end_placed shape c (job_in log moves entries page (Copies c)) job' values values' pool pool' log.active log'.active log.epoch log'.epoch old new es stands.placed (can_give log values pool moves entries page old.pages top found m c stands whole dead) e
 
   owners : SameOwners pool pool'
   owners = subst (λ (q : Blocks). SameOwners pool q) (sym (ap (λ (h : Hands). h.pool) e.hands)) (owners_given pool c.victim (stands.placed.closed_owned c.victim stands.reclaim.stands.closed).0)
@@ -85,10 +85,10 @@ module _ (log log' : LogState) (values values' : DataState) (pool pool' : Blocks
   no_run : false ≡ true → ⊥
   no_run is = cc
 
-  stands_behind : SpaceOnFlash (space_in log values' pool' moves page Idle) new.pages top found m
+  stands_behind : SpaceOnFlash (space_in log values' pool' moves [] page Idle) new.pages top found m
   stands_behind =
       let still = names_stay pool pool' top.1 owners (names_of before old.pages top found m stands) in
-      let P : Flash → Type 0 = λ f. SpaceOnFlash (space_in log values' pool' moves page Idle) f top found m in
+      let P : Flash → Type 0 = λ f. SpaceOnFlash (space_in log values' pool' moves [] page Idle) f top found m in
       let same = ap (λ (b : BoardState). b.pages) e.board in
       subst P (sym same) (record {
         logs = stands.logs;
@@ -96,15 +96,17 @@ module _ (log log' : LogState) (values values' : DataState) (pool pool' : Blocks
         under = stands.under;
         placed = subst (λ (f : Flash). ValuesOnFlash shape values' pool' [] f es) same ended.0;
         reclaim = record { shape_is = refl; stands = tt; full = λ is. absurd (no_run is) };
+        half = stands.half;
         journal = still.journal;
         runs = still.runs;
+        none_leaves = owners.none_leaves stands.none_leaves;
       })
 
   pub end_moves : SpaceMoves before old top found m (space log' values' pool' job') new
   end_moves =
       subst (λ (l : LogState). SpaceMoves before old top found m (space l values' pool' job') new) (sym same_log)
       (subst (λ (j : JobState). SpaceMoves before old top found m (space log values' pool' j) new) (sym e.job_is)
-      (still_moves before (space_in log values' pool' moves page Idle) old new top found m (still_same old new e.board) stands owners stands_behind))
+      (still_moves before (space_in log values' pool' moves [] page Idle) old new top found m (still_same old new e.board) stands owners stands_behind))
 
   pub end_given : used_by for_values pool'.states + 1 ≡ used_by for_values pool.states
   end_given = ended.1
@@ -119,11 +121,11 @@ module _ (log log' : LogState) (values values' : DataState) (pool pool' : Blocks
 
 -- ---- the giving back behind the commit
 
-module _ (log log' : LogState) (values values' : DataState) (pool pool' : Blocks) (victim : ℕ) (moves : List Move) (page : List ℕ) (old new : BoardState) (top : ℕ × Root) (found : Found) (m : Map)
-    (stands : SpaceOnFlash (space_in log values pool moves page (GivesBack victim)) old.pages top found m) (log_is : log' ≡ record log { active = log'.active; epoch = log'.epoch }) (job' : JobState) (r : Reclaimed)
-    (g : GivesVictim victim (job_in log moves page (GivesBack victim)) (hands_of values pool log.active log.epoch) old job' (hands_of values' pool' log'.active log'.epoch) new r) where
+module _ (log log' : LogState) (values values' : DataState) (pool pool' : Blocks) (victim : ℕ) (moves : List Move) (entries : List Entry) (page : List ℕ) (old new : BoardState) (top : ℕ × Root) (found : Found) (m : Map)
+    (stands : SpaceOnFlash (space_in log values pool moves entries page (GivesBack victim)) old.pages top found m) (log_is : log' ≡ record log { active = log'.active; epoch = log'.epoch }) (job' : JobState) (r : Reclaimed)
+    (g : GivesVictim victim (job_in log moves entries page (GivesBack victim)) (hands_of values pool log.active log.epoch) old job' (hands_of values' pool' log'.active log'.epoch) new r) where
   abbrev start : Space
-  start = space_in log values pool moves page (GivesBack victim)
+  start = space_in log values pool moves entries page (GivesBack victim)
 
   parts : SameParts values values' (victim_given victim (hands_of values pool log.active log.epoch)).pool pool' log.active log'.active log.epoch log'.epoch
   parts = same_parts values values' (victim_given victim (hands_of values pool log.active log.epoch)).pool pool' log.active log'.active log.epoch log'.epoch g.hands
@@ -132,7 +134,7 @@ module _ (log log' : LogState) (values values' : DataState) (pool pool' : Blocks
   log_same = log_is ∙ (λ i. record log { active = parts.active i; epoch = parts.epoch i })
 
   given : ValuesOnFlash log.shape values' pool' [] new.pages (places found []) × (used_by for_values pool'.states + 1 ≡ used_by for_values pool.states)
-  given = victim_given_back log.shape victim (job_in log moves page (GivesBack victim)) job' values values' pool pool' log.active log'.active log.epoch log'.epoch old new r (places found []) stands.placed g
+  given = victim_given_back log.shape victim (job_in log moves entries page (GivesBack victim)) job' values values' pool pool' log.active log'.active log.epoch log'.epoch old new r (places found []) stands.placed g
 
   owners_behind : SameOwners pool pool'
   owners_behind = subst (λ (q : Blocks). SameOwners pool q) (sym parts.pool) (owners_given pool victim (stands.placed.outputs_are.owned victim (inl refl)))
@@ -140,10 +142,10 @@ module _ (log log' : LogState) (values values' : DataState) (pool pool' : Blocks
   none_runs : false ≡ true → ⊥
   none_runs is = cc
 
-  stands_then : SpaceOnFlash (space_in log values' pool' moves page Idle) new.pages top found m
+  stands_then : SpaceOnFlash (space_in log values' pool' moves [] page Idle) new.pages top found m
   stands_then =
       let still = names_stay pool pool' top.1 owners_behind (names_of start old.pages top found m stands) in
-      let P : Flash → Type 0 = λ f. SpaceOnFlash (space_in log values' pool' moves page Idle) f top found m in
+      let P : Flash → Type 0 = λ f. SpaceOnFlash (space_in log values' pool' moves [] page Idle) f top found m in
       let same = ap (λ (b : BoardState). b.pages) g.board in
       subst P (sym same) (record {
         logs = stands.logs;
@@ -151,15 +153,17 @@ module _ (log log' : LogState) (values values' : DataState) (pool pool' : Blocks
         under = stands.under;
         placed = subst (λ (f : Flash). ValuesOnFlash log.shape values' pool' [] f (places found [])) same given.0;
         reclaim = record { shape_is = refl; stands = tt; full = λ is. absurd (none_runs is) };
+        half = stands.half;
         journal = still.journal;
         runs = still.runs;
+        none_leaves = owners_behind.none_leaves stands.none_leaves;
       })
 
   pub given_moves : SpaceMoves start old top found m (space log' values' pool' job') new
   given_moves =
       subst (λ (l : LogState). SpaceMoves start old top found m (space l values' pool' job') new) (sym log_same)
       (subst (λ (j : JobState). SpaceMoves start old top found m (space log values' pool' j) new) (sym g.job_is)
-      (still_moves start (space_in log values' pool' moves page Idle) old new top found m (still_same old new g.board) stands owners_behind stands_then))
+      (still_moves start (space_in log values' pool' moves [] page Idle) old new top found m (still_same old new g.board) stands owners_behind stands_then))
 
   pub given_one : used_by for_values pool'.states + 1 ≡ used_by for_values pool.states
   given_one = given.1

@@ -13,7 +13,7 @@ use Rattle.pk_live.specs.declared.open_block.OpenBlock.{OpenBlock}
 use Rattle.pk_buf.specs.Table.{Table}
 use Rattle.pk_jrn.specs.Epochs.{JournalEpoch}
 use Rattle.pk_gc.specs.declared.course.Phase.{Phase}
-use Rattle.pk_gc.specs.declared.course.Phase.TheVariants.{Idle, Copies, GivesBack}
+use Rattle.pk_gc.specs.declared.course.Phase.TheVariants.{Idle, Copies, Commits, GivesBack}
 use Rattle.pk_gc.specs.declared.reclaimed.Reclaimed.{Reclaimed}
 use Rattle.pk_gc.specs.declared.reclaimed.Reclaimed.TheVariants.{Worked, NeedsFreeze, Ended}
 use Rattle.pk_gc.specs.State.{JobState}
@@ -57,6 +57,7 @@ module _ (log : LogState) (values : DataState) (pool pool' : Blocks) (job job' :
   idle_stops : (phase : Phase) (e : Fault) → phase ≡ Idle → BreaksIn phase job hands old new e → e ≡ Stopped
   idle_stops Idle e is b = b.0
   idle_stops (Copies c) e is b = cc
+  idle_stops (Commits victim) e is b = cc
   idle_stops (GivesBack victim) e is b = absurd b
 
   values_kept : (e : Fault) → BreaksBelow job hands old new e → (front' ≡ values.open_block) × (live' ≡ values.live)

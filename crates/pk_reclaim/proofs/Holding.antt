@@ -181,6 +181,7 @@ module _ (shape : Shape) (d : DataState) (p : Blocks) (b : ℕ) (flash : Flash) 
     behind_roots = open_is.behind_roots;
     exists = open_is.exists;
     within = open_is.within;
+    even = open_is.even;
     written = open_is.written;
     unwritten = open_is.unwritten;
   }

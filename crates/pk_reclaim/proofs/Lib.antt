@@ -7,6 +7,7 @@ pub mod Quiet
 pub mod Owners
 pub mod Still
 pub mod Room
+pub mod Places
 pub mod Ready
 pub mod Begun
 pub mod Boards
@@ -14,6 +15,7 @@ pub mod Copies
 pub mod Given
 pub mod Broken
 pub mod Committed
+pub mod Repeated
 pub mod Stepping
 pub mod Sounding
 pub mod Whole

@@ -1,5 +1,5 @@
 -- A block that is for values changes its state, and the journal and runs keep theirs.
-use Rattle.std.proofs.Common.{◌≡◌, inl, inr, ℕ, ◌*◌, ◌/◌, ◌<◌, refl, sym, ap, ◌∙◌, arith, Bool, true, false, cond, Some}
+use Rattle.std.proofs.Common.{◌≡◌, inl, inr, ℕ, ◌*◌, ◌/◌, ◌<◌, refl, sym, ap, subst, ◌∙◌, arith, Bool, true, false, cond, Some}
 use Rattle.std.specs.Prelude.{slice_get}
 use Rattle.std.proofs.lemmas.Option.{same_Some}
 use Rattle.std.proofs.lemmas.Bool.{cases_eq}
@@ -10,7 +10,8 @@ use Rattle.pk_plan.specs.declared.owner.Owner.TheVariants.{Journal, Meta, Values
 use Rattle.pk_rootfmt.specs.Root.{Root}
 use Rattle.pk_pool.specs.declared.state.BlockState.{BlockState}
 use Rattle.pk_pool.specs.declared.state.BlockState.TheVariants.{Free, Ready, Owned}
-use Rattle.pk_pool.specs.Blocks.{Blocks, IsSpare, is_owned_by, used_by, with_state}
+use Rattle.pk_pool.specs.Blocks.{Blocks, IsSpare, NoneLeaves, freed_state, is_owned_by, used_by, with_state}
+use Rattle.pk_pool.proofs.Leaving.{freed_same, freed_set, none_leaves}
 use Rattle.pk_pool.proofs.Sharing.{count-set}
 use Rattle.pk_pool.proofs.States.{get-set_other}
 use Rattle.pk_model.specs.Laws.{AnyByRecursion}
@@ -18,16 +19,17 @@ use Rattle.pk_data.specs.Placed.{HoldsValues}
 use Rattle.pk_reclaim.specs.Steps.{KeepsOthers}
 use Rattle.pk_reclaim.proofs.Quiet.{NamesOwned, IsAside}
 
--- the blocks of the journal and of runs are the same ones
+-- the blocks of the journal and of runs are the same ones, and where no block leaves, none does
 pub record SameOwners (pool pool' : Blocks) : Type 0 where
   pub shape_is : pool'.shape ≡ pool.shape
   pub journal : (b : ℕ) → slice_get pool.states b ≡ Some (Owned Journal) → slice_get pool'.states b ≡ Some (Owned Journal)
   pub journal_used : used_by Journal pool'.states ≡ used_by Journal pool.states
   pub meta : (b : ℕ) → slice_get pool.states b ≡ Some (Owned Meta) → slice_get pool'.states b ≡ Some (Owned Meta)
   pub meta_used : used_by Meta pool'.states ≡ used_by Meta pool.states
+  pub none_leaves : NoneLeaves pool → NoneLeaves pool'
 
 pub owners_same : (pool : Blocks) → SameOwners pool pool
-owners_same pool = record { shape_is = refl; journal = λ b is. is; journal_used = refl; meta = λ b is. is; meta_used = refl }
+owners_same pool = record { shape_is = refl; journal = λ b is. is; journal_used = refl; meta = λ b is. is; meta_used = refl; none_leaves = λ none. none }
 
 -- the state is none of the owner's
 abbrev IsNone : Owner → BlockState → Type 0
@@ -53,22 +55,26 @@ module _ (pool : Blocks) (b : ℕ) (s t : BlockState) (here : slice_get pool.sta
       let behind : ◌≡◌ {A = ℕ} (cond (is_owned_by o t) 1 0) 0 = ap (λ (x : Bool). cond x 1 0) now in
       omega (arith, all, before, behind)
 
-  owners_set : IsNone Journal s → IsNone Meta s → IsNone Journal t → IsNone Meta t → SameOwners pool then
-  owners_set j m j' m' = record {
+  none_leaves_then : freed_state t ≡ t → NoneLeaves pool → NoneLeaves then
+  none_leaves_then same none = subst NoneLeaves (freed_set pool b t ∙ (λ i. with_state (freed_same pool none i) b (same i))) (none_leaves then)
+
+  owners_set : IsNone Journal s → IsNone Meta s → IsNone Journal t → IsNone Meta t → freed_state t ≡ t → SameOwners pool then
+  owners_set j m j' m' stays = record {
     shape_is = refl;
     journal = keeps Journal refl j;
     journal_used = counts Journal j j';
     meta = keeps Meta refl m;
     meta_used = counts Meta m m';
+    none_leaves = none_leaves_then stays;
   }
 
 -- a spare block is taken for values, or one of values given back
 pub owners_taken : (pool : Blocks) (b : ℕ) → IsSpare pool b → SameOwners pool (with_state pool b (Owned for_values))
-owners_taken pool b (inl free) = owners_set pool b Free (Owned for_values) free refl refl refl refl
-owners_taken pool b (inr ready) = owners_set pool b Ready (Owned for_values) ready refl refl refl refl
+owners_taken pool b (inl free) = owners_set pool b Free (Owned for_values) free refl refl refl refl refl
+owners_taken pool b (inr ready) = owners_set pool b Ready (Owned for_values) ready refl refl refl refl refl
 
 pub owners_given : (pool : Blocks) (b : ℕ) → HoldsValues pool b → SameOwners pool (with_state pool b Free)
-owners_given pool b held = owners_set pool b (Owned for_values) Free held refl refl refl refl
+owners_given pool b held = owners_set pool b (Owned for_values) Free held refl refl refl refl refl
 
 -- ---- blocks aside
 

@@ -11,7 +11,7 @@ use Rattle.pk_plan.specs.declared.owner.Owner.TheVariants.{Journal, Meta}
 use Rattle.pk_nand.specs.BoardState.{BoardState, shape_or_none}
 use Rattle.pk_nand.specs.Cut.{Interrupted, Touches}
 use Rattle.pk_nand.specs.Calls.{after_program, after_erase, ProgramFailed, EraseFailed}
-use Rattle.pk_nand.proofs.Touching.{untouched, untouched_after}
+use Rattle.pk_nand.proofs.Touching.{untouched, untouched_after, partner_block}
 use Rattle.pk_rootfmt.specs.Root.{Root, named}
 use Rattle.pk_pool.specs.declared.state.BlockState.TheVariants.{Owned}
 use Rattle.pk_pool.specs.Blocks.{Blocks}
@@ -127,7 +127,8 @@ module _ {log : LogState} {pool : Blocks} {old : BoardState} {top : ℕ × Root}
   -- a program of a page in it
   module _ (at : ℕ) (bytes : List ℕ) (here : at / n ≡ b) where
     in_programmed : (k : ℕ) → Touches shape (program at bytes) k → k / n ≡ b
-    in_programmed k is = ap (λ (x : ℕ). x / n) is ∙ here
+    in_programmed k (inl is) = ap (λ (x : ℕ). x / n) is ∙ here
+    in_programmed k (inr partner) = sym (partner_block shape at k partner) ∙ here
 
     pub program_quiet : (new : BoardState) → new ≡ after_program old at bytes → SameBut new.pages
     program_quiet new made = subst (λ (s : BoardState). SameBut s.pages) (sym made) (subst (λ (s : Shape). SameBut (after s (program at bytes) old.pages)) (sym (ap shape_or_none q.has)) (done (program at bytes) in_programmed))

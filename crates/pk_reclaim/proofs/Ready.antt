@@ -6,7 +6,7 @@ use Rattle.std.proofs.lemmas.List.FromFn.{length-map-range_with_len}
 use Rattle.pk_base.specs.Key.{Key, key_cmp}
 use Rattle.pk_base.specs.Shape.{Shape, page_count, data_blocks}
 use Rattle.pk_base.specs.Page.{Flash, IsFlash}
-use Rattle.pk_base.specs.Entry.{Place}
+use Rattle.pk_base.specs.Entry.{Entry, Place}
 use Rattle.pk_base.specs.Map.{Map}
 use Rattle.pk_plan.specs.declared.owner.Owner.TheVariants.{Values as for_values}
 use Rattle.pk_buf.specs.Table.{Table}
@@ -18,7 +18,7 @@ use Rattle.pk_steps.specs.Under.{places}
 use Rattle.pk_live.specs.Lives.{head_of}
 use Rattle.pk_gc.specs.declared.course.Course.{Course}
 use Rattle.pk_gc.specs.declared.course.Phase.{Phase}
-use Rattle.pk_gc.specs.declared.course.Phase.TheVariants.{Idle, Copies, GivesBack}
+use Rattle.pk_gc.specs.declared.course.Phase.TheVariants.{Idle, Copies, Commits, GivesBack}
 use Rattle.pk_gc.specs.declared.moves.Move.{Move}
 use Rattle.pk_live.specs.declared.open_block.OpenBlock.{OpenBlock}
 use Rattle.pk_gc.specs.State.{JobState, source}
@@ -48,18 +48,18 @@ open_below shape pool flash n (Some o) size is = let exists = is.exists in omega
 
 -- ---- a space, in a phase of its reclaim
 
-abbrev pub job_in : LogState → List Move → List ℕ → Phase → JobState
-job_in log moves page phase = record { shape = log.shape; phase = phase; moves = moves; page = page }
+abbrev pub job_in : LogState → List Move → List Entry → List ℕ → Phase → JobState
+job_in log moves entries page phase = record { shape = log.shape; phase = phase; moves = moves; entries = entries; page = page }
 
-abbrev pub space_in : LogState → DataState → Blocks → List Move → List ℕ → Phase → Space
-space_in log values pool moves page phase = space log values pool (job_in log moves page phase)
+abbrev pub space_in : LogState → DataState → Blocks → List Move → List Entry → List ℕ → Phase → Space
+space_in log values pool moves entries page phase = space log values pool (job_in log moves entries page phase)
 
-module _ (log : LogState) (values : DataState) (pool : Blocks) (moves : List Move) (page : List ℕ) (flash : Flash) (top : ℕ × Root) (found : Found) (m : Map) where
+module _ (log : LogState) (values : DataState) (pool : Blocks) (moves : List Move) (entries : List Entry) (page : List ℕ) (flash : Flash) (top : ℕ × Root) (found : Found) (m : Map) where
   abbrev job : Phase → JobState
-  job phase = job_in log moves page phase
+  job phase = job_in log moves entries page phase
 
   abbrev there : Phase → Space
-  there phase = space_in log values pool moves page phase
+  there phase = space_in log values pool moves entries page phase
 
   abbrev pub hands : Hands
   hands = hands_of values pool log.active log.epoch
@@ -82,6 +82,7 @@ module _ (log : LogState) (values : DataState) (pool : Blocks) (moves : List Mov
         block_pages_is = placed.block_pages_is;
         closed_size = placed.closed_size ∙ sym placed.size;
         full = used_is may.turn;
+        none_leaves = may.stands.none_leaves;
         within = live_few log.shape flash top found m may.stands.under values pool [] placed;
         closed = λ b held other. placed.owned_closed b held other (λ none. none);
         closed_owned = λ b closed. (placed.closed_owned b closed).0;
@@ -128,6 +129,7 @@ module _ (log : LogState) (values : DataState) (pool : Blocks) (moves : List Mov
     can_go_on is_flash = record {
       es = es;
       runs = stands.reclaim.stands.runs;
+      no_half = stands.half;
       next = λ whole at low high live dead. next_is_value log.shape c moves page values.live.heads flash es at stands.reclaim.stands.runs (are_held is_flash) stands.reclaim.stands.sparse whole low high live dead;
       end = λ whole dead. gives_up log.shape c (job (Copies c)) hands flash es (can_give whole dead);
     }
@@ -135,4 +137,5 @@ module _ (log : LogState) (values : DataState) (pool : Blocks) (moves : List Mov
   pub can_step_in : (phase : Phase) → IsFlash log.shape flash → MayReclaim (there phase) flash top found m → CanStep (job phase) hands flash
   can_step_in Idle is_flash may = is_full may
   can_step_in (Copies c) is_flash may = can_go_on c may.stands is_flash
+  can_step_in (Commits victim) is_flash may = (may.stands.half.former, may.stands.half.can)
   can_step_in (GivesBack victim) is_flash may = (for_values, may.stands.placed.outputs_are.owned victim (inl refl))

@@ -63,6 +63,7 @@ module _ (shape : Shape) (d : DataState) (p : Blocks) (outputs : List ℕ) (flas
     behind_roots = open_is.behind_roots;
     exists = open_is.exists;
     within = open_is.within;
+    even = open_is.even;
     written = open_is.written;
     unwritten = open_is.unwritten;
   }

@@ -259,6 +259,7 @@ module _ (shape : Shape) (c : Course) (job : JobState) (d : DataState) (h : Hand
       behind_roots = runs.behind_roots;
       exists = runs.output_exists;
       within = let room = runs.room in omega (arith, room);
+      even = let pairs = runs.even in let whole = give.copied.whole in omega (arith, pairs, whole);
       written = λ k low high e. runs.written k low high (sym (output_page k (block_of shape.block_pages k c.output low (let room = runs.room in omega (arith, high, room)))) ∙ e);
       unwritten = λ k low high. output_page k (block_of shape.block_pages k c.output (omega (arith, low)) high) ∙ runs.unwritten k low high;
     };

@@ -1,5 +1,5 @@
 -- Room for values, and for the moves of a reclaim.
-use Rattle.std.proofs.Common.{◌≡◌, inl, inr, ℕ, zero, suc, ◌+◌, ◌-◌, ◌*◌, ◌<◌, ◌≤◌, refl, sym, ap, subst, ◌∙◌, arith, Bool, true, false, cond, List, [], ◌∷◌, length}
+use Rattle.std.proofs.Common.{◌≡◌, inl, inr, ℕ, zero, suc, ◌+◌, ◌-◌, ◌<◌, ◌≤◌, refl, sym, ap, subst, ◌∙◌, arith, Bool, true, false, cond, List, [], ◌∷◌, length}
 use Rattle.std.specs.Prelude.{nat_le, nat_lt, not, ◌&&◌, ◌||◌, ◌==◌}
 use Rattle.std.proofs.lemmas.Bool.{lt-leb, lt-ltb, le-ltb, ne_eqb, cases_lt}
 use Rattle.std.proofs.lemmas.List.Sums.{count_by-le-length}
@@ -64,10 +64,10 @@ tight_known shape active e heads ms capacity few none =
 pub freeze_makes_room : FreezeMakesRoom
 freeze_makes_room shape active e is_shape none same unused more =
     let left : left_of e ≡ epoch_commits shape - 0 = λ i. cond (more i) (epoch_commits (same i) - unused i) 0 in
-    let pages : epoch_commits shape ≡ 2 * shape.block_pages = refl in
+    let commits : epoch_commits shape ≡ shape.block_pages = refl in
     let fits = is_shape.moves_fit in
     let least = is_shape.block_least in
     let no : length active.entries ≡ 0 = ap length none in
     let small : nat_lt (buffer shape) (length active.entries + dense shape) ≡ false = le-ltb (buffer shape) (length active.entries + dense shape) (omega (arith, no, fits)) in
-    let some : (left_of e == 0) ≡ false = ne_eqb (left_of e) 0 (λ is. omega (arith, is, left, pages, least)) in
+    let some : (left_of e == 0) ≡ false = ne_eqb (left_of e) 0 (λ is. omega (arith, is, left, commits, least)) in
     λ i. small i || some i

@@ -3,6 +3,7 @@ use Rattle.std.proofs.Common.{◌≡◌, ◌≢◌, ◌⊎◌, inl, inr, ℕ, �
 use Rattle.std.specs.Prelude.{unwrap_or}
 use Rattle.pk_base.specs.Shape.{Shape, dense}
 use Rattle.pk_base.specs.Map.{Map}
+use Rattle.pk_base.specs.Entry.{Entry}
 use Rattle.pk_work.specs.Rest.{Lowers}
 use Rattle.pk_buf.specs.Table.{Table}
 use Rattle.pk_nand.specs.BoardState.{BoardState}
@@ -13,7 +14,7 @@ use Rattle.pk_pool.specs.Unready.{unready}
 use Rattle.pk_model.specs.Found.{Found}
 use Rattle.pk_gc.specs.declared.course.Course.{Course}
 use Rattle.pk_gc.specs.declared.course.Phase.{Phase}
-use Rattle.pk_gc.specs.declared.course.Phase.TheVariants.{Idle, Copies, GivesBack}
+use Rattle.pk_gc.specs.declared.course.Phase.TheVariants.{Idle, Copies, Commits, GivesBack}
 use Rattle.pk_gc.specs.declared.moves.Move.{Move}
 use Rattle.pk_gc.specs.declared.reclaimed.Reclaimed.{Reclaimed}
 use Rattle.pk_gc.specs.declared.reclaimed.Reclaimed.TheVariants.{Worked, NeedsFreeze, Ended}
@@ -29,6 +30,7 @@ use Rattle.pk_reclaim.proofs.Ready.{job_in, space_in, can_step_in}
 use Rattle.pk_reclaim.proofs.Begun.{starts_moves, dead_moves, dead_given, dead_room}
 use Rattle.pk_reclaim.proofs.Copies.{read_moves, begin_moves, begin_phase, program_moves}
 use Rattle.pk_reclaim.proofs.Committed.{committed_moves, committed_room}
+use Rattle.pk_reclaim.proofs.Repeated.{repeat_moves, repeat_room, repeat_whole}
 use Rattle.pk_reclaim.proofs.Given.{same_parts, end_moves, end_given, end_room, given_moves, given_one, given_values}
 use Rattle.pk_reclaim.proofs.Room.{tight_known}
 
@@ -45,10 +47,10 @@ worked_needs e = cc
 ended_needs : Ended ≡ NeedsFreeze → ⊥
 ended_needs e = cc
 
-module _ (log log' : LogState) (values values' : DataState) (pool pool' : Blocks) (moves : List Move) (page : List ℕ) (old new : BoardState) (job' : JobState)
+module _ (log log' : LogState) (values values' : DataState) (pool pool' : Blocks) (moves : List Move) (entries : List Entry) (page : List ℕ) (old new : BoardState) (job' : JobState)
     (ready : IsReady old log.shape) (ready' : IsReady new log.shape) (log_is : log' ≡ record log { active = log'.active; epoch = log'.epoch }) (job_shape : job'.shape ≡ log.shape) where
   abbrev pub before : Phase → Space
-  before phase = space_in log values pool moves page phase
+  before phase = space_in log values pool moves entries page phase
 
   abbrev pub after : Space
   after = space log' values' pool' job'
@@ -59,13 +61,13 @@ module _ (log log' : LogState) (values values' : DataState) (pool pool' : Blocks
   abbrev pub hands' : Hands
   hands' = hands_of values' pool' log'.active log'.epoch
 
-  can : (phase : Phase) → Somewhere (before phase) old → CanStep (job_in log moves page phase) hands old.pages
-  can phase s = can_step_in log values pool moves page old.pages s.top s.found s.m phase ready.flash s.may
+  can : (phase : Phase) → Somewhere (before phase) old → CanStep (job_in log moves entries page phase) hands old.pages
+  can phase s = can_step_in log values pool moves entries page old.pages s.top s.found s.m phase ready.flash s.may
 
   -- less is left
-  falls : (phase : Phase) (r : Reclaimed) → Somewhere (before phase) old → StepsIn phase (job_in log moves page phase) hands old job' hands' new r → r ≢ NeedsFreeze → Falls (before phase) after
+  falls : (phase : Phase) (r : Reclaimed) → Somewhere (before phase) old → StepsIn phase (job_in log moves entries page phase) hands old job' hands' new r → r ≢ NeedsFreeze → Falls (before phase) after
   falls phase r s steps other =
-      let less = step_lowers (job_in log moves page phase) hands old job' hands' new r (can phase s) steps other in
+      let less = step_lowers (job_in log moves entries page phase) hands old job' hands' new r (can phase s) steps other in
       let same : log'.shape ≡ job'.shape = ap (λ (l : LogState). l.shape) log_is ∙ sym job_shape in
       subst (λ (x : Shape). Lowers (left_before (before phase)) (unready pool.states) (unwrap_or (left_in x values'.live.heads job'.phase) 0) (unready pool'.states)) (sym same) less
 
@@ -74,50 +76,51 @@ module _ (log log' : LogState) (values values' : DataState) (pool pool' : Blocks
 
   -- ---- none ran
 
-  idle_does : (r : Reclaimed) → Somewhere (before Idle) old → StepsIn Idle (job_in log moves page Idle) hands old job' hands' new r → Does (before Idle) old after new r
+  idle_does : (r : Reclaimed) → Somewhere (before Idle) old → StepsIn Idle (job_in log moves entries page Idle) hands old job' hands' new r → Does (before Idle) old after new r
   idle_does Worked s steps =
       let same = same_log steps.1 steps.2 in
       let phase = ap (λ (j : JobState). j.phase) steps.0.job_is in
       record {
         moves = λ top found m may. subst (λ (l : LogState). SpaceMoves (before Idle) old top found m (space l values' pool' job') new) (sym same)
-            (starts_moves log values values' pool pool' moves page old new top found m ready may job' steps.0);
+            (starts_moves log values values' pool pool' moves entries page old new top found m ready may job' steps.0);
         falls = falls Idle Worked s steps worked_needs;
         runs = ap runs_in phase;
         log = subst (λ (p : Phase). LogIn p (before Idle) after) (sym phase) same;
         room = subst (λ (p : Phase). RoomIn p after) (sym phase) tt;
+        pair = tt;
       }
   idle_does NeedsFreeze s steps = absurd steps.0
   idle_does Ended s steps =
       let same = same_log steps.1 steps.2 in
       record {
         moves = λ top found m may. subst (λ (l : LogState). SpaceMoves (before Idle) old top found m (space l values' pool' job') new) (sym same)
-            (dead_moves log values values' pool pool' moves page old new top found m ready may job' steps.0);
+            (dead_moves log values values' pool pool' moves entries page old new top found m ready may job' steps.0);
         falls = falls Idle Ended s steps ended_needs;
         idle = ap (λ (j : JobState). j.phase) steps.0.kept;
-        given = dead_given log values values' pool pool' moves page old new s.top s.found s.m ready s.may job' steps.0;
+        given = dead_given log values values' pool pool' moves entries page old new s.top s.found s.m ready s.may job' steps.0;
         room = subst (λ (l : LogState). RoomBehind Idle (before Idle) (space l values' pool' job')) (sym same)
-            (dead_room log values values' pool pool' moves page old new s.top s.found s.m ready s.may job' steps.0);
+            (dead_room log values values' pool pool' moves entries page old new s.top s.found s.m ready s.may job' steps.0);
       }
 
   -- ---- values are copied
 
   abbrev Copied : Course → Type 0
-  Copied c = ProgramsHeld c (job_in log moves page (Copies c)) old job' new
-      ⊎ (ReadsNext c (job_in log moves page (Copies c)) old job' new ⊎ BeginsValue c (job_in log moves page (Copies c)) hands old job' new)
+  Copied c = ProgramsHeld c (job_in log moves entries page (Copies c)) old job' new
+      ⊎ (ReadsNext c (job_in log moves entries page (Copies c)) old job' new ⊎ BeginsValue c (job_in log moves entries page (Copies c)) hands old job' new)
 
   module _ (c : Course) (s : Somewhere (before (Copies c)) old) where
     copy_moves : Copied c → (top : ℕ × Root) (found : Found) (m : Map) → MayReclaim (before (Copies c)) old.pages top found m → SpaceMoves (before (Copies c)) old top found m (space log values pool job') new
-    copy_moves (inl p) top found m may = program_moves log values pool c moves page old new top found m ready may.stands job' p
-    copy_moves (inr (inl r)) top found m may = read_moves log values pool c moves page old new top found m ready may.stands job' r
-    copy_moves (inr (inr b)) top found m may = begin_moves log values pool c moves page old new top found m ready may.stands job' b
+    copy_moves (inl p) top found m may = program_moves log values pool c moves entries page old new top found m ready may.stands job' p
+    copy_moves (inr (inl r)) top found m may = read_moves log values pool c moves entries page old new top found m ready may.stands job' r
+    copy_moves (inr (inr b)) top found m may = begin_moves log values pool c moves entries page old new top found m ready may.stands job' b
 
     -- the values are copied still
     copy_phase : Copied c → (then : Course) × (job'.phase ≡ Copies then)
     copy_phase (inl p) = (_, ap (λ (j : JobState). j.phase) p.job_is)
     copy_phase (inr (inl r)) = (_, ap (λ (j : JobState). j.phase) r.job_is)
-    copy_phase (inr (inr b)) = begin_phase log values pool c moves page old new s.top s.found s.m ready s.may.stands job' b
+    copy_phase (inr (inr b)) = begin_phase log values pool c moves entries page old new s.top s.found s.m ready s.may.stands job' b
 
-    goes_worked : (h : hands' ≡ hands) → Copied c → StepsIn (Copies c) (job_in log moves page (Copies c)) hands old job' hands' new Worked → Works (before (Copies c)) old after new
+    goes_worked : (h : hands' ≡ hands) → Copied c → StepsIn (Copies c) (job_in log moves entries page (Copies c)) hands old job' hands' new Worked → Works (before (Copies c)) old after new
     goes_worked h copied steps =
         let parts = same_parts values values' pool pool' log.active log'.active log.epoch log'.epoch h in
         let same = same_log parts.active parts.epoch in
@@ -131,6 +134,7 @@ module _ (log log' : LogState) (values values' : DataState) (pool pool' : Blocks
           runs = ap runs_in phase;
           log = subst (λ (p : Phase). LogIn p (before (Copies c)) after) (sym phase) same;
           room = subst (λ (p : Phase). RoomIn p after) (sym phase) tt;
+          pair = tt;
         }
 
     moves_few : length moves ≤ dense log.shape
@@ -140,16 +144,17 @@ module _ (log log' : LogState) (values values' : DataState) (pool pool' : Blocks
         omega (arith, few, sparse)
 
     -- the end
-    ends_does : (r : Reclaimed) → Tries c (job_in log moves page (Copies c)) hands old job' hands' new r → Does (before (Copies c)) old after new r
+    ends_does : (r : Reclaimed) → Tries c (job_in log moves entries page (Copies c)) hands old job' hands' new r → Does (before (Copies c)) old after new r
     ends_does Worked t =
         let phase = ap (λ (j : JobState). j.phase) t.finishes.job_is in
         record {
-          moves = λ top found m may. committed_moves log log' values values' pool pool' c moves page old new top found m ready ready' may.stands t.whole t.dead job' log_is t.finishes;
+          moves = λ top found m may. committed_moves log log' values values' pool pool' c moves entries page old new top found m ready ready' may.stands t.whole t.dead job' log_is t.finishes;
           falls = falls (Copies c) Worked s (inr t) worked_needs;
           runs = ap runs_in phase;
           log = subst (λ (p : Phase). LogIn p (before (Copies c)) after) (sym phase) tt;
           room = subst (λ (p : Phase). RoomIn p after) (sym phase)
-              (committed_room log log' values values' pool pool' c moves page old new s.top s.found s.m ready ready' s.may.stands t.whole t.dead job' log_is t.finishes);
+              (committed_room log log' values values' pool pool' c moves entries page old new s.top s.found s.m ready ready' s.may.stands t.whole t.dead job' log_is t.finishes);
+          pair = tt;
         }
     ends_does NeedsFreeze t =
         let refuses = t.finishes.2 in
@@ -164,37 +169,54 @@ module _ (log log' : LogState) (values values' : DataState) (pool pool' : Blocks
         }
     ends_does Ended t =
         record {
-          moves = λ top found m may. end_moves log log' values values' pool pool' c moves page old new top found m may.stands log_is t.whole t.dead job' t.finishes;
+          moves = λ top found m may. end_moves log log' values values' pool pool' c moves entries page old new top found m may.stands log_is t.whole t.dead job' t.finishes;
           falls = falls (Copies c) Ended s (inr t) ended_needs;
           idle = ap (λ (j : JobState). j.phase) t.finishes.job_is;
-          given = end_given log log' values values' pool pool' c moves page old new s.top s.found s.m s.may.stands log_is t.whole t.dead job' t.finishes;
-          room = end_room log log' values values' pool pool' c moves page old new s.top s.found s.m s.may.stands log_is t.whole t.dead job' t.finishes;
+          given = end_given log log' values values' pool pool' c moves entries page old new s.top s.found s.m s.may.stands log_is t.whole t.dead job' t.finishes;
+          room = end_room log log' values values' pool pool' c moves entries page old new s.top s.found s.m s.may.stands log_is t.whole t.dead job' t.finishes;
         }
 
-    copies_does : (r : Reclaimed) → GoesOn c (job_in log moves page (Copies c)) hands old job' hands' new r → Does (before (Copies c)) old after new r
+    copies_does : (r : Reclaimed) → GoesOn c (job_in log moves entries page (Copies c)) hands old job' hands' new r → Does (before (Copies c)) old after new r
     copies_does r (inl on) = subst (λ (x : Reclaimed). Does (before (Copies c)) old after new x) (sym on.0) (goes_worked on.1 on.2 (inl (refl, on.1, on.2)))
     copies_does r (inr t) = ends_does r t
 
+  -- ---- the second program of the moves' commit
+
+  repeats_does : (victim : ℕ) (r : Reclaimed) → Somewhere (before (Commits victim)) old → StepsIn (Commits victim) (job_in log moves entries page (Commits victim)) hands old job' hands' new r
+      → Does (before (Commits victim)) old after new r
+  repeats_does victim r s g =
+      let steps = subst (λ (x : Reclaimed). StepsIn (Commits victim) (job_in log moves entries page (Commits victim)) hands old job' hands' new x) g.answer g in
+      let phase = ap (λ (j : JobState). j.phase) g.job_is in
+      subst (λ (x : Reclaimed). Does (before (Commits victim)) old after new x) (sym g.answer) (record {
+        moves = λ top found m may. repeat_moves log values pool victim moves entries page old top found m ready may.stands log' values' pool' job' new r log_is g;
+        falls = falls (Commits victim) Worked s steps worked_needs;
+        runs = ap runs_in phase;
+        log = subst (λ (p : Phase). LogIn p (before (Commits victim)) after) (sym phase) tt;
+        room = subst (λ (p : Phase). RoomIn p after) (sym phase) (repeat_room log values pool victim moves entries page old s.top s.found s.m ready s.may.stands log' values' pool' job' new r log_is g);
+        pair = repeat_whole log values pool victim moves entries page old s.top s.found s.m ready s.may.stands log' values' pool' job' new r log_is g;
+      })
+
   -- ---- a victim is given back
 
-  gives_does : (victim : ℕ) (r : Reclaimed) → Somewhere (before (GivesBack victim)) old → StepsIn (GivesBack victim) (job_in log moves page (GivesBack victim)) hands old job' hands' new r
+  gives_does : (victim : ℕ) (r : Reclaimed) → Somewhere (before (GivesBack victim)) old → StepsIn (GivesBack victim) (job_in log moves entries page (GivesBack victim)) hands old job' hands' new r
       → Does (before (GivesBack victim)) old after new r
   gives_does victim r s g =
-      let steps = subst (λ (x : Reclaimed). StepsIn (GivesBack victim) (job_in log moves page (GivesBack victim)) hands old job' hands' new x) g.answer g in
+      let steps = subst (λ (x : Reclaimed). StepsIn (GivesBack victim) (job_in log moves entries page (GivesBack victim)) hands old job' hands' new x) g.answer g in
       subst (λ (x : Reclaimed). Does (before (GivesBack victim)) old after new x) (sym g.answer) (record {
-        moves = λ top found m may. given_moves log log' values values' pool pool' victim moves page old new top found m may.stands log_is job' r g;
+        moves = λ top found m may. given_moves log log' values values' pool pool' victim moves entries page old new top found m may.stands log_is job' r g;
         falls = falls (GivesBack victim) Ended s steps ended_needs;
         idle = ap (λ (j : JobState). j.phase) g.job_is;
-        given = given_one log log' values values' pool pool' victim moves page old new s.top s.found s.m s.may.stands log_is job' r g;
+        given = given_one log log' values values' pool pool' victim moves entries page old new s.top s.found s.m s.may.stands log_is job' r g;
         room = (
           same_log (ap (λ (h : Hands). h.active) g.hands) (ap (λ (h : Hands). h.epoch) g.hands),
-          given_values log log' values values' pool pool' victim moves page old new s.top s.found s.m s.may.stands log_is job' r g,
+          given_values log log' values values' pool pool' victim moves entries page old new s.top s.found s.m s.may.stands log_is job' r g,
         );
       })
 
   -- ---- the whole
 
-  pub does_in : (phase : Phase) (r : Reclaimed) → Somewhere (before phase) old → StepsIn phase (job_in log moves page phase) hands old job' hands' new r → Does (before phase) old after new r
+  pub does_in : (phase : Phase) (r : Reclaimed) → Somewhere (before phase) old → StepsIn phase (job_in log moves entries page phase) hands old job' hands' new r → Does (before phase) old after new r
   does_in Idle r s steps = idle_does r s steps
   does_in (Copies c) r s steps = copies_does c s r steps
+  does_in (Commits victim) r s steps = repeats_does victim r s steps
   does_in (GivesBack victim) r s steps = gives_does victim r s steps

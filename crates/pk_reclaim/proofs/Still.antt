@@ -9,7 +9,9 @@ use Rattle.pk_model.specs.Found.{Found}
 use Rattle.pk_model.specs.Crashes.{CrashFinds, background}
 use Rattle.pk_steps.proofs.Untouched.{under_reads}
 use Rattle.pk_reclaim.specs.Space.{Space, SpaceOnFlash}
-use Rattle.pk_reclaim.specs.Steps.{SpaceMoves}
+use Rattle.pk_gc.specs.declared.course.Phase.{Phase}
+use Rattle.pk_gc.specs.declared.course.Phase.TheVariants.{Idle, Copies, Commits, GivesBack}
+use Rattle.pk_reclaim.specs.Steps.{SpaceMoves, StillIn}
 use Rattle.pk_reclaim.proofs.Owners.{SameOwners, others_kept}
 use Rattle.pk_reclaim.proofs.Quiet.{NamesOwned}
 
@@ -23,6 +25,12 @@ pub record IsStill (old new : BoardState) : Type 0 where
 pub still_same : (old new : BoardState) → new ≡ old → IsStill old new
 still_same old new same = record { shape = ap (λ (s : BoardState). s.shape) same; pages = ap (λ (s : BoardState). s.pages) same; trail = ap (λ (s : BoardState). s.trail) same; posted = ap (λ (s : BoardState). s.posted) same }
 
+still_in : (p : Phase) (found : Found) → StillIn p found found.newest
+still_in Idle found = tt
+still_in (Copies c) found = tt
+still_in (Commits victim) found = refl
+still_in (GivesBack victim) found = tt
+
 -- no value moves, and no entry is written
 pub still_moves : (x x' : Space) (old new : BoardState) (top : ℕ × Root) (found : Found) (m : Map) → IsStill old new → SpaceOnFlash x old.pages top found m → SameOwners x.pool x'.pool
     → SpaceOnFlash x' new.pages top found m → SpaceMoves x old top found m x' new
@@ -30,6 +38,7 @@ still_moves x x' old new top found m still was owners stands = record {
   moves = [];
   newest = found.newest;
   newest_is = sym (append-nil found.newest);
+  still = still_in x.job.phase found;
   then_places = refl;
   as_many = refl;
   stands = stands;

@@ -26,8 +26,8 @@ use Rattle.pk_reclaim.proofs.Stepping.{Somewhere, does_in}
 use Rattle.pk_reclaim.proofs.Sounding.{keeps_log, sound_in, failed_in, roots_in, broken_in, unread_in}
 
 -- a job of this shape, part by part
-job_is : (log : LogState) (job : JobState) → job.shape ≡ log.shape → job ≡ job_in log job.moves job.page job.phase
-job_is log job same = λ i. record { shape = same i; phase = job.phase; moves = job.moves; page = job.page }
+job_is : (log : LogState) (job : JobState) → job.shape ≡ log.shape → job ≡ job_in log job.moves job.entries job.page job.phase
+job_is log job same = λ i. record { shape = same i; phase = job.phase; moves = job.moves; entries = job.entries; page = job.page }
 
 same_answer : (a b : Fault) → ◌≡◌ {A = Result Reclaimed Fault} (Err a) (Err b) → a ≡ b
 same_answer a b e = cc
@@ -38,7 +38,7 @@ other_answer r e is = cc
 pub can_step : (log : LogState) (values : DataState) (pool : Blocks) (job : JobState) (old : BoardState) → IsReady old log.shape → Somewhere (space log values pool job) old → CanStep job (hands_of values pool log.active log.epoch) old.pages
 can_step log values pool job old ready s =
     let P : JobState → Type 0 = λ j. Somewhere (space log values pool j) old → CanStep j (hands_of values pool log.active log.epoch) old.pages in
-    subst P (sym (job_is log job s.may.stands.reclaim.shape_is)) (λ t. can_step_in log values pool job.moves job.page old.pages t.top t.found t.m job.phase ready.flash t.may) s
+    subst P (sym (job_is log job s.may.stands.reclaim.shape_is)) (λ t. can_step_in log values pool job.moves job.entries job.page old.pages t.top t.found t.m job.phase ready.flash t.may) s
 
 -- what the step of the parts below said
 pub record Below (log log' : LogState) (values values' : DataState) (pool pool' : Blocks) (job job' : JobState) (old new : BoardState) (result : Result Reclaimed Fault) : Type 0 where
@@ -101,11 +101,11 @@ module _ (log log' : LogState) (values values' : DataState) (pool pool' : Blocks
       let steps = subst (λ (j : JobState). Steps j hands old job' hands' new r) is b.steps in
       let shape = b.shape ∙ b.where_is.may.stands.reclaim.shape_is in
       let does = subst (λ (j : JobState). Does (space log values pool j) old x' new r) (sym is)
-      (does_in log log' values values' pool pool' job.moves job.page old new job' b.ready b.then_ready b.rest shape job.phase r there steps) in
-      let sound = sound_in log log' values values' pool pool' job.moves job.page old new job' job.phase r steps in
+      (does_in log log' values values' pool pool' job.moves job.entries job.page old new job' b.ready b.then_ready b.rest shape job.phase r there steps) in
+      let sound = sound_in log log' values values' pool pool' job.moves job.entries job.page old new job' job.phase r steps in
       record {
         does = does;
-        same_log = keeps_log log log' values values' pool pool' job.moves job.page old new job' job.phase r b.rest steps;
+        same_log = keeps_log log log' values values' pool pool' job.moves job.entries job.page old new job' job.phase r b.rest steps;
         same_roots = roots_done r b.ready b.then_ready b.where_is (ap (λ (l : LogState). l.shape) b.rest) does;
         unread = λ e. other_answer r Reading e;
         broken = λ e. other_answer r Stopped e;
@@ -119,21 +119,21 @@ module _ (log log' : LogState) (values values' : DataState) (pool pool' : Blocks
       let is = job_is log job b.where_is.may.stands.reclaim.shape_is in
       let there = subst (λ (j : JobState). Somewhere (space log values pool j) old) is b.where_is in
       let breaks = subst (λ (j : JobState). BreaksBelow j hands old new e) is b.breaks in
-      let failed = failed_in log log' values values' pool pool' job.moves job.page old new job' job.phase e breaks in
-      let job_kept : job' ≡ job_in log job.moves job'.page job.phase = b.kept_job ∙ (λ i. record (is i) { page = job'.page }) in
+      let failed = failed_in log log' values values' pool pool' job.moves job.entries job.page old new job' job.phase e breaks in
+      let job_kept : job' ≡ job_in log job.moves job.entries job'.page job.phase = b.kept_job ∙ (λ i. record (is i) { page = job'.page }) in
       record {
         does = tt;
         same_log = subst (λ (l : LogState). KeepsLog x (space l values' pool' job')) (sym b.kept) refl;
-        same_roots = roots_in log log' values values' pool pool' job.moves job.page old new job' b.ready b.then_ready b.shared job.phase e there breaks;
+        same_roots = roots_in log log' values values' pool pool' job.moves job.entries job.page old new job' b.ready b.then_ready b.shared job.phase e there breaks;
         unread = λ same.
             let reading = same_answer e Reading same in
             subst (λ (j : JobState). Unread (space log values pool j) old x' new) (sym is)
-            (unread_in log log' values values' pool pool' job.moves job.page old new job' b.ready b.then_ready b.shared job.phase
-            (subst (λ (f : Fault). BreaksBelow (job_in log job.moves job.page job.phase) hands old new f) reading breaks) b.kept (b.kept_values reading) b.kept_pool job_kept);
+            (unread_in log log' values values' pool pool' job.moves job.entries job.page old new job' b.ready b.then_ready b.shared job.phase
+            (subst (λ (f : Fault). BreaksBelow (job_in log job.moves job.entries job.page job.phase) hands old new f) reading breaks) b.kept (b.kept_values reading) b.kept_pool job_kept);
         broken = λ same.
             subst (λ (j : JobState). Breaks (space log values pool j) old new × Stops old new) (sym is)
-            (broken_in log log' values values' pool pool' job.moves job.page old new job' b.ready b.then_ready b.shared job.phase
-            (subst (λ (f : Fault). BreaksBelow (job_in log job.moves job.page job.phase) hands old new f) (same_answer e Stopped same) breaks));
+            (broken_in log log' values values' pool pool' job.moves job.entries job.page old new job' b.ready b.then_ready b.shared job.phase
+            (subst (λ (f : Fault). BreaksBelow (job_in log job.moves job.entries job.page job.phase) hands old new f) (same_answer e Stopped same) breaks));
         sound = tt;
         calls = failed.calls;
         only = failed.rest;

@@ -1,20 +1,27 @@
 -- The space of a drive: its journal, the places of its values, its blocks, and the reclaim that makes room for values.
-use Rattle.std.specs.Prelude.{◌≡◌, ◌⊎◌, ℕ, ◌-◌, ◌≤◌, [], ◌++◌, slice_get, true, false, Some, unwrap_or}
+use Rattle.std.specs.Prelude.{◌≡◌, ◌⊎◌, ℕ, ◌-◌, ◌≤◌, List, [], ◌++◌, slice_get, true, false, Some, unwrap_or}
 use Rattle.std.specs.List.{concat}
 use Rattle.pk_base.specs.Shape.{data_blocks, most_pages}
 use Rattle.pk_base.specs.Page.{Flash}
+use Rattle.pk_base.specs.Key.{Key}
+use Rattle.pk_base.specs.Entry.{Place}
 use Rattle.pk_base.specs.Map.{Map}
 use Rattle.pk_work.specs.Rest.{whole_reclaim, left_of, Lowers}
 use Rattle.pk_plan.specs.declared.owner.Owner.TheVariants.{Journal, Meta, Values}
 use Rattle.pk_pool.specs.declared.state.BlockState.TheVariants.{Owned}
-use Rattle.pk_pool.specs.Blocks.{Blocks, used_by}
+use Rattle.pk_pool.specs.Blocks.{Blocks, NoneLeaves, used_by}
 use Rattle.pk_pool.specs.Unready.{unready}
 use Rattle.pk_rootfmt.specs.Root.{Root}
 use Rattle.pk_model.specs.Found.{Found}
 use Rattle.pk_model.specs.Laws.{AnyByRecursion}
 use Rattle.pk_steps.specs.Under.{IsUnder, places}
+use Rattle.pk_steps.specs.Roots.{committed}
+use Rattle.pk_moves.specs.Moves.{entries_of}
+use Rattle.pk_gc.specs.declared.course.Phase.{Phase}
+use Rattle.pk_gc.specs.declared.course.Phase.TheVariants.{Idle, Copies, Commits, GivesBack}
+use Rattle.pk_gc.specs.Cuts.{IsHalfMoved}
 use Rattle.pk_gc.specs.State.{JobState, left_in}
-use Rattle.pk_gc.specs.Stepping.{runs_in}
+use Rattle.pk_gc.specs.Stepping.{runs_in, IsHalfCommitted}
 use Rattle.pk_gc.specs.Standing.{held_blocks, ReclaimOnFlash}
 use Rattle.pk_data.specs.State.{DataState, needs_reclaim}
 use Rattle.pk_data.specs.Placed.{ValuesOnFlash}
@@ -31,16 +38,42 @@ pub record Space : Type 0 where
 abbrev pub space : LogState → DataState → Blocks → JobState → Space
 space log values pool job = record { log = log; values = values; pool = pool; job = job }
 
+-- no value wants a reclaim before it
+abbrev pub HasRoom : Space → Type 0
+HasRoom x = (count : ℕ) → count ≤ most_pages x.log.shape → needs_reclaim x.log.shape x.values x.pool count ≡ false
+
+-- The commit of a reclaim's moves is half made: before its first program the map stood on a former flash, without the moves, and the second
+-- program can be made. There is room for every value.
+pub record HalfMoves (x : Space) (flash : Flash) (top : ℕ × Root) (found : Found) (m : Map) : Type 0 where
+  pub former : Flash
+  pub was : Found
+  pub moves : List (Key × Place)
+  pub blocks : List ℕ
+  pub half : IsHalfMoved x.log.shape x.log.epoch former flash top was m moves blocks
+  pub entries_are : x.job.entries ≡ entries_of moves
+  pub found_is : found ≡ committed was (entries_of moves)
+  pub can : IsHalfCommitted x.job x.log.epoch former flash
+  pub room : HasRoom x
+
+-- in all other phases of a reclaim no commit is half made
+abbrev pub HalfIn : Phase → Space → Flash → ℕ × Root → Found → Map → Type 0
+HalfIn Idle x flash top found m = x.log.epoch.half ≡ false
+HalfIn (Copies c) x flash top found m = x.log.epoch.half ≡ false
+HalfIn (Commits victim) x flash top found m = HalfMoves x flash top found m
+HalfIn (GivesBack victim) x flash top found m = x.log.epoch.half ≡ false
+
 -- The log stands on the flash, whose map this is, with nothing pending. The values lie in blocks of their own, beside them a reclaim as far
--- as it has come, and the root names blocks of the journal and of runs alone.
+-- as it has come, and the root names blocks of the journal and of runs alone. No block leaves.
 pub record SpaceOnFlash (x : Space) (flash : Flash) (top : ℕ × Root) (found : Found) (m : Map) : Type 0 where
   pub logs : LogOnFlash x.log flash top found
   pub none_pending : x.log.pending ≡ []
   pub under : IsUnder x.log.shape flash [] top found m
   pub placed : ValuesOnFlash x.log.shape x.values x.pool (held_blocks x.job.phase) flash (places found [])
   pub reclaim : ReclaimOnFlash x.log.shape x.job x.values.live x.pool flash (places found [])
+  pub half : HalfIn x.job.phase x flash top found m
   pub journal : (b : ℕ) → AnyByRecursion (λ c. b ≡ c) (top.1.newest ++ top.1.older) → slice_get x.pool.states b ≡ Some (Owned Journal)
   pub runs : (b : ℕ) → AnyByRecursion (λ c. b ≡ c) (concat top.1.runs) → slice_get x.pool.states b ≡ Some (Owned Meta)
+  pub none_leaves : NoneLeaves x.pool
 
 -- a reclaim runs, or may begin: all data blocks are in use but the one that is kept for it
 abbrev pub IsTurn : Space → Type 0
@@ -51,7 +84,7 @@ pub record MayReclaim (x : Space) (flash : Flash) (top : ℕ × Root) (found : F
   pub stands : SpaceOnFlash x flash top found m
   pub turn : IsTurn x
 
--- ---- what is left of it, and room
+-- ---- what is left of it
 
 -- what is left before a step: a whole reclaim where none runs, but for two steps, which a block that is taken counts
 abbrev pub left_before : Space → ℕ
@@ -64,7 +97,3 @@ left_behind x = unwrap_or (left_in x.log.shape x.values.live.heads x.job.phase) 
 -- less is left, where a block that is taken counts twice
 abbrev pub Falls : Space → Space → Type 0
 Falls x x' = Lowers (left_before x) (unready x.pool.states) (left_behind x') (unready x'.pool.states)
-
--- no value wants a reclaim before it
-abbrev pub HasRoom : Space → Type 0
-HasRoom x = (count : ℕ) → count ≤ most_pages x.log.shape → needs_reclaim x.log.shape x.values x.pool count ≡ false

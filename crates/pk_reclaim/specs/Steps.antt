@@ -1,5 +1,5 @@
 -- What a step of a reclaim does to the space of a drive, and what it leaves of the flash.
-use Rattle.std.specs.Prelude.{◌≡◌, ℕ, ◌+◌, ◌/◌, ◌<◌, List, [], ◌++◌, length, slice_get, true, Some}
+use Rattle.std.specs.Prelude.{◌≡◌, ◌≢◌, ℕ, ◌+◌, ◌/◌, ◌<◌, List, [], ◌++◌, length, slice_get, true, false, Some, Result, Err}
 use Rattle.pk_base.specs.Key.{Key}
 use Rattle.pk_base.specs.Shape.{Shape, root_pages}
 use Rattle.pk_base.specs.Page.{Flash, page_at}
@@ -8,7 +8,9 @@ use Rattle.pk_base.specs.Map.{Map}
 use Rattle.pk_work.specs.Backlog.{is_tight}
 use Rattle.pk_nand.specs.BoardState.{BoardState}
 use Rattle.pk_nand.specs.Calls.{Rose}
-use Rattle.pk_nand.specs.Effects.{OnlyReading}
+use Rattle.pk_nand.specs.Effects.{OneProgram, OnlyReading}
+use Rattle.pk_nand.specs.declared.types.Fault.{Fault}
+use Rattle.pk_nand.specs.declared.types.Fault.TheVariants.{Reading}
 use Rattle.pk_plan.specs.declared.owner.Owner.TheVariants.{Journal, Meta, Values}
 use Rattle.pk_pool.specs.declared.state.BlockState.TheVariants.{Owned}
 use Rattle.pk_pool.specs.Blocks.{Blocks, used_by}
@@ -22,7 +24,7 @@ use Rattle.pk_steps.specs.Under.{places}
 use Rattle.pk_moves.specs.Moves.{entries_of, moved}
 use Rattle.pk_gc.specs.declared.course.Course.{Course}
 use Rattle.pk_gc.specs.declared.course.Phase.{Phase}
-use Rattle.pk_gc.specs.declared.course.Phase.TheVariants.{Idle, Copies, GivesBack}
+use Rattle.pk_gc.specs.declared.course.Phase.TheVariants.{Idle, Copies, Commits, GivesBack}
 use Rattle.pk_gc.specs.declared.reclaimed.Reclaimed.{Reclaimed}
 use Rattle.pk_gc.specs.declared.reclaimed.Reclaimed.TheVariants.{Worked, NeedsFreeze, Ended}
 use Rattle.pk_gc.specs.Stepping.{runs_in}
@@ -46,11 +48,19 @@ pub record KeepsOthers (shape : Shape) (root : Root) (pool : Blocks) (old : Flas
   pub journal_pages : (k : ℕ) → slice_get pool.states (k / shape.block_pages) ≡ Some (Owned Journal)
       → (AnyByRecursion (λ b. k / shape.block_pages ≡ b) root.newest → ⊥) → page_at new k ≡ page_at old k
 
--- The map is the same, wherever the step is cut. Some values have moved, all in one page of the newest epoch; no other entry was written.
+-- the second program of the moves' commit writes no further entry
+abbrev pub StillIn : Phase → Found → List Entry → Type 0
+StillIn Idle found newest = Unit {0}
+StillIn (Copies c) found newest = Unit {0}
+StillIn (Commits victim) found newest = newest ≡ found.newest
+StillIn (GivesBack victim) found newest = Unit {0}
+
+-- The map is the same, wherever the step is cut. Some values have moved, all in one commit of the newest epoch; no other entry was written.
 pub record SpaceMoves (x : Space) (old : BoardState) (top : ℕ × Root) (found : Found) (m : Map) (x' : Space) (new : BoardState) : Type 0 where
   pub moves : List (Key × Place)
   pub newest : List Entry
   pub newest_is : newest ≡ found.newest ++ entries_of moves
+  pub still : StillIn x.job.phase found newest
   pub then_places : places (with_newest found newest) [] ≡ moved moves (places found [])
   pub as_many : length (places (with_newest found newest) []) ≡ length (places found [])
   pub stands : SpaceOnFlash x' new.pages top (with_newest found newest) m
@@ -61,25 +71,47 @@ pub record SpaceMoves (x : Space) (old : BoardState) (top : ℕ × Root) (found 
 abbrev pub Moves : Space → BoardState → Space → BoardState → Type 0
 Moves x old x' new = (top : ℕ × Root) (found : Found) (m : Map) → MayReclaim x old.pages top found m → SpaceMoves x old top found m x' new
 
--- of the log only the entries of the active buffer and the written pages of the newest epoch may differ
+-- of the log only the entries of the active buffer and the commits of the newest epoch may differ
 abbrev pub KeepsLog : Space → Space → Type 0
 KeepsLog x x' = x'.log ≡ record x.log {
   active = record x.log.active { entries = x'.log.active.entries };
-  epoch = record x.log.epoch { used = x'.log.epoch.used };
+  epoch = record x.log.epoch { used = x'.log.epoch.used; half = x'.log.epoch.half };
 }
 
 -- ---- by its answer
 
--- behind the commit of the moves there is room for every value
+-- from the first program of the moves' commit on there is room for every value
 abbrev pub RoomIn : Phase → Space → Type 0
 RoomIn Idle x = Unit {0}
 RoomIn (Copies c) x = Unit {0}
+RoomIn (Commits victim) x = HasRoom x
 RoomIn (GivesBack victim) x = HasRoom x
+
+-- The second program leaves all but the epoch, which is whole then, and the phase and the page of the reclaim.
+pub record MakesWhole (victim : ℕ) (x x' : Space) : Type 0 where
+  pub phase : x'.job.phase ≡ GivesBack victim
+  pub log : x'.log ≡ record x.log { epoch = record x.log.epoch { half = false } }
+  pub values : x'.values ≡ x.values
+  pub pool : x'.pool ≡ x.pool
+
+abbrev pub PairIn : Phase → Space → Space → Type 0
+PairIn Idle x x' = Unit {0}
+PairIn (Copies c) x x' = Unit {0}
+PairIn (Commits victim) x x' = MakesWhole victim x x'
+PairIn (GivesBack victim) x x' = Unit {0}
+
+-- a commit that is half made is made whole by its second program alone, whether or not it fails
+abbrev pub RepeatsIn : Phase → BoardState → BoardState → Result Reclaimed Fault → Type 0
+RepeatsIn Idle old new result = Unit {0}
+RepeatsIn (Copies c) old new result = Unit {0}
+RepeatsIn (Commits victim) old new result = OneProgram old new × (result ≢ Err Reading)
+RepeatsIn (GivesBack victim) old new result = Unit {0}
 
 -- while values are copied the log is the same
 abbrev pub LogIn : Phase → Space → Space → Type 0
 LogIn Idle x x' = Unit {0}
 LogIn (Copies c) x x' = x'.log ≡ x.log
+LogIn (Commits victim) x x' = Unit {0}
 LogIn (GivesBack victim) x x' = Unit {0}
 
 -- A step was made of a reclaim that runs now.
@@ -89,11 +121,13 @@ pub record Works (x : Space) (old : BoardState) (x' : Space) (new : BoardState) 
   pub runs : runs_in x'.job.phase ≡ true
   pub log : LogIn x'.job.phase x x'
   pub room : RoomIn x'.job.phase x'
+  pub pair : PairIn x.job.phase x x'
 
 -- where the moves were committed before, the log is the same, and values lie as they did; otherwise there is room for every value
 abbrev pub RoomBehind : Phase → Space → Space → Type 0
 RoomBehind Idle x x' = HasRoom x'
 RoomBehind (Copies c) x x' = HasRoom x'
+RoomBehind (Commits victim) x x' = ⊥
 RoomBehind (GivesBack victim) x x' = (x'.log ≡ x.log) × (x'.values ≡ x.values)
 
 -- A block was given back, and no reclaim runs now.

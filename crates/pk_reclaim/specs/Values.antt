@@ -42,7 +42,8 @@ CopyProgrammed =
     (shape : Shape) (d : DataState) (p : Blocks) (output page : ℕ) (bytes : List ℕ) (flash : Flash) (es : List (Key × Place)) → ValuesOnFlash shape d p (output ∷ []) flash es
     → page / shape.block_pages ≡ output → ValuesOnFlash shape d p (output ∷ []) (after shape (program page bytes) flash) es
 
--- The moves that were left are committed: the values are at their new places, the output is the open block, and the victim is held in its stead.
+-- The first program of the commit of the moves that were left was made: the values are at their new places, the output is the open block, and
+-- the victim is held in its stead.
 abbrev pub MovesPlaced : Type 0
 MovesPlaced =
     (shape : Shape) (c : Course) (job job' : JobState) (d d' : DataState) (p q : Blocks) (active active' : Table) (epoch epoch' : JournalEpoch) (old new : BoardState) (es : List (Key × Place))

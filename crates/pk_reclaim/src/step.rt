@@ -9,7 +9,7 @@ ghost use Rattle.pk_model.specs.Found.{Found};
 ghost use Rattle.pk_model.specs.Growth.{Grows};
 ghost use Rattle.pk_model.specs.Wear.{roots};
 ghost use Rattle.pk_reclaim.specs.Space.{MayReclaim, space};
-ghost use Rattle.pk_reclaim.specs.Steps.{Does, Unread, Breaks, KeepsLog};
+ghost use Rattle.pk_reclaim.specs.Steps.{Does, Unread, Breaks, KeepsLog, RepeatsIn};
 
 use pk_data::Data;
 use pk_gc::{ReclaimJob, Reclaimed};
@@ -19,10 +19,11 @@ use pk_pool::Pool;
 use pk_region::Region;
 
 /// One step of a reclaim, by at most one call of the board: it begins where none runs, a page of the victim is read, or
-/// programmed into the output, the moves are committed, or the victim is given back. `NeedsFreeze` where the moves find no room
-/// in the active buffer or the newest epoch: nothing was done, and after a freeze the step is to be made again. `Reading` where
-/// a read fails: all is as it was, and the step can be made again. `Stopped` where a program or an erase fails; nothing is to be
-/// used any more then.
+/// programmed into the output, the first or the second program of the moves' commit is made, or the victim is given back. Behind
+/// the first program the step is the second one alone, which a Store or a Delete makes before its own entry. `NeedsFreeze` where
+/// the moves find no room in the active buffer or the newest epoch: nothing was done, and after a freeze the step is to be made
+/// again. `Reading` where a read fails: all is as it was, and the step can be made again. `Stopped` where a program or an erase
+/// fails; nothing is to be used any more then.
 pub fn reclaim_step<B: Nand, A: Region>(
     board: &mut B,
     job: &mut ReclaimJob<A>,
@@ -39,6 +40,9 @@ pub fn reclaim_step<B: Nand, A: Region>(
     // A step was made, or wants a freeze before it.
     ensures does { IfOk result (λ r. Does (space log.old values.old pool.old job.old)
         (B.state board.old) (space log.new values.new pool.new job.new) (B.state board.new) r) }
+
+    // Out of a commit that is half made it is its second program.
+    ensures repeats { RepeatsIn job.old.phase (B.state board.old) (B.state board.new) result }
 
     // Whatever came of it, of the log only the newest epoch differs, and the roots are the same.
     ensures same_log { KeepsLog (space log.old values.old pool.old job.old)

@@ -1,27 +1,29 @@
 -- Erases and programs of root blocks.
-use Rattle.std.proofs.Common.{◌≡◌, inl, inr, ℕ, ◌+◌, ◌*◌, ◌/◌, ◌%◌, ◌<◌, ◌≤◌, Bool, true, false, List, [], ◌∷◌, length, Some, nat_lt, if◌then◌else◌, refl, sym, ap, ◌∙◌, subst, arith, le_refl}
+use Rattle.std.proofs.Common.{◌≡◌, inl, inr, ℕ, ◌+◌, ◌*◌, ◌/◌, ◌%◌, ◌<◌, ◌≤◌, Bool, true, false, List, [], ◌∷◌, length, Some, nat_lt, if◌then◌else◌, refl, sym, ap, ◌∙◌, subst, arith, le_refl, mod-lt, length-set}
 use Rattle.std.proofs.Math.ListN.{set}
-use Rattle.std.proofs.Math.Nat.{mul-le-mul_right}
+use Rattle.std.proofs.Math.Nat.{mul-le-mul_right, mul-mod_left}
 use Rattle.std.proofs.lemmas.Nat.{div-add-mod'}
 use Rattle.std.proofs.lemmas.Bool.{ltb-true}
 use Rattle.pk_base.specs.Shape.{Shape, IsShape}
-use Rattle.pk_base.specs.Page.{Page, Flash, whole}
-use Rattle.pk_base.specs.Mark.{Mark, program, erase, after}
+use Rattle.pk_base.specs.Page.{Page, Flash, page_at, erased, whole, SameBehind}
+use Rattle.pk_base.specs.Mark.{Mark, erase, after}
 use Rattle.pk_nand.specs.BoardState.{BoardState, shape_of}
 use Rattle.pk_nand.specs.Cut.{Interrupted, MayLeave, touched_block}
-use Rattle.pk_nand.specs.Calls.{IsReady, LeftBehind, after_program, after_erase, ProgramFailed, EraseFailed}
+use Rattle.pk_nand.specs.Calls.{IsReady, InOrder, LeftBehind, after_program, after_erase, EraseFailed}
 use Rattle.pk_nand.specs.Crash.{Reached, Went}
-use Rattle.pk_nand.proofs.Leaving.{interrupted_done, IsFlash-left, full_erase}
-use Rattle.pk_nand.proofs.Reaching.{Reached-program, Went-program_failed, Reached-erase, Went-erase_failed}
+use Rattle.pk_nand.specs.Pairs.{IsPairCut}
+use Rattle.pk_nand.proofs.Leaving.{interrupted_done, IsFlash-left, full_erase, page_at-slice_set}
+use Rattle.pk_nand.proofs.Reaching.{Reached-erase, Went-erase_failed}
 use Rattle.pk_nand.proofs.Touching.{elsewhere}
-use Rattle.pk_nand.proofs.Writing.{shape_is, InOrder-next}
-use Rattle.pk_rootfmt.specs.Root.{Root, root_page}
-use Rattle.pk_model.specs.Laws.{IsInstall, RootErase, RootProgram, RootInstalled}
+use Rattle.pk_nand.proofs.Writing.{shape_is, InOrder-next, mod-add}
+use Rattle.pk_rootfmt.specs.Root.{Root, root_page, root_bytes}
+use Rattle.pk_model.specs.Laws.{IsInstall, RootErase, RootPair}
+use Rattle.pk_model.proofs.Roots.{first_stands}
 use Rattle.pk_seg.proofs.ErasedBlocks.{order_erased}
-use Rattle.pk_root.specs.declared.next.Next.TheVariants.{Erase, Program}
-use Rattle.pk_root.specs.Installing.{other_block, next_behind, IsPossible, InstallerOnFlash, KeepsRoot, MayInstall}
+use Rattle.pk_root.specs.declared.next.Next.TheVariants.{Erase, Program, Again}
+use Rattle.pk_root.specs.Installing.{other_block, next_behind, before_pair, IsPossible, InstallerOnFlash, KeepsRoot, MayInstall}
 use Rattle.pk_root.proofs.Scanning.{root_page_exists}
-use Rattle.pk_root.proofs.Places.{some_pages, block_below, page_below, not_other, in_block, first_below}
+use Rattle.pk_root.proofs.Places.{block_below, page_below, not_other, set_back}
 
 -- ---- pages behind the root blocks
 
@@ -30,9 +32,6 @@ pub behind_block : (shape : Shape) (mark : Mark) (k block : ℕ) (old new : Page
     → MayLeave shape mark k old new → new ≡ old
 behind_block shape mark k block old new some touched low high =
     elsewhere shape mark k block old new touched (λ (e : k / shape.block_pages ≡ block). let below : k < 2 * shape.block_pages = page_below shape.block_pages k some (omega (arith, e, low)) in omega (arith, below, high))
-
-pub behind_page : (shape : Shape) (page : ℕ) (bytes : List ℕ) (k : ℕ) (old new : Page) → page < 2 * shape.block_pages → 2 * shape.block_pages ≤ k → MayLeave shape (program page bytes) k old new → new ≡ old
-behind_page shape page bytes k old new low = behind_block shape (program page bytes) k (page / shape.block_pages) old new (some_pages shape.block_pages page low) refl (block_below shape.block_pages page low)
 
 -- ---- erases
 
@@ -83,76 +82,174 @@ module _ (law : RootErase) (shape : Shape) (board : BoardState) (beside : ℕ) (
   erase_fits now former = record {
     newest = erase_done.newest ∙ former.newest;
     possible = record {
-      in_root_blocks = first_below shape.block_pages block some (omega arith);
+      in_root_blocks = let least = is_shape.block_least in let product = mul-le-mul_right {m = block} {n = 1} shape.block_pages (omega arith) in omega (arith, least, product);
+      even = let none : block * shape.block_pages % shape.block_pages ≡ 0 = mul-mod_left block shape.block_pages in omega (arith, none);
       order = order_erased board shape block (block * shape.block_pages) ready (let fit = is_shape.data_fits in omega (arith, fit)) refl;
     };
   }
 
 -- ---- programs
 
--- behind a root page that was programmed
-possible_behind : (shape : Shape) (flash : Flash) (page : ℕ) (bytes : List ℕ) (t : Bool) → nat_lt (page % shape.block_pages + 1) shape.block_pages ≡ t
-    → page < length flash → IsPossible shape (Program page) page flash → IsPossible shape (if t then Program (page + 1) else Erase page) page (set flash page (whole bytes))
-possible_behind shape flash page bytes true test exists possible =
-    let n : ℕ = shape.block_pages in
-    let room : page % n + 1 < n = ltb-true _ _ test in
-    let low : page / n < 2 = block_below n page possible.in_root_blocks in
-    let all : page / n * n + page % n ≡ page = div-add-mod' page n in
-    record {
-      in_root_blocks = omega (arith, all, room, mul-le-mul_right {m = page / n} {n = 1} n (omega (arith, low)));
-      order = InOrder-next shape flash page bytes exists room possible.order;
-    }
-possible_behind shape flash page bytes false test exists possible = record { in_root_blocks = possible.in_root_blocks; elsewhere = not_other shape.block_pages page possible.in_root_blocks }
+-- a pair whose first page is even in its block lies in it
+even_room : (shape : Shape) (page : ℕ) → IsShape shape → page % shape.block_pages % 2 ≡ 0 → page % shape.block_pages + 1 < shape.block_pages
+even_room shape page is even =
+    let least = is.block_least in
+    let eights = is.eights in
+    let less : page % shape.block_pages < shape.block_pages = mod-lt page (omega (arith, least)) in
+    omega (arith, less, eights, even)
 
--- a root with a greater number than the newest one's, and its bytes, for the page that is next
-module _ (law : RootProgram) (shape : Shape) (board : BoardState) (page : ℕ) (top : ℕ × Root) (bytes : List ℕ) (root : Root) (is_shape : IsShape shape) (ready : IsReady board shape)
+-- cuts of the pair
+pair_install : (shape : Shape) (page : ℕ) (top : ℕ × Root) (bytes : List ℕ) (root : Root) (start : Flash) → RootPair → IsInstall shape start top page bytes root
+    → (f : Flash) → IsPairCut page bytes start f → MayInstall shape page root start f
+pair_install shape page top bytes root start law install f is_cut = record {
+  newest = elim (law shape start top page bytes root f install is_cut) [ inl former ↦ inl (former ∙ sym install.was) | inr new ↦ inr new ];
+  behind = λ k high. is_cut.outside.above k (let below = install.in_root_blocks in omega (arith, high, below));
+  size = is_cut.outside.size;
+}
+
+-- the same of all cuts of a call
+pub reached_installs : (shape : Shape) (page : ℕ) (top : ℕ × Root) (bytes : List ℕ) (root : Root) (start : Flash) → RootPair → IsInstall shape start top page bytes root
+    → (old new : BoardState) → Reached old new (λ f _. IsPairCut page bytes start f) → Reached old new (λ f _. MayInstall shape page root start f)
+reached_installs shape page top bytes root start law install old new run = (
+  run.0,
+  record {
+    trail = run.1.trail;
+    posted = run.1.posted;
+    same_shape = run.1.same_shape;
+    cuts = λ f q c. pair_install shape page top bytes root start law install f (run.1.cuts f q c);
+    stands = run.1.stands;
+  },
+)
+
+pub went_installs : (shape : Shape) (page : ℕ) (top : ℕ × Root) (bytes : List ℕ) (root : Root) (start : Flash) → RootPair → IsInstall shape start top page bytes root
+    → (old new : BoardState) → Went old new (λ f _. IsPairCut page bytes start f) → Went old new (λ f _. MayInstall shape page root start f)
+went_installs shape page top bytes root start law install old new run = (
+  run.0,
+  record {
+    trail = run.1.trail;
+    posted = run.1.posted;
+    same_shape = run.1.same_shape;
+    cuts = λ f q c. pair_install shape page top bytes root start law install f (run.1.cuts f q c);
+    stands = run.1.stands;
+  },
+)
+
+-- where a call stopped, its flash is a cut
+went_left : (old new : BoardState) (P : Flash → Type 0) → Went old new (λ f _. P f) → P new.pages
+went_left old new P run = run.1.cuts new.pages _ run.1.stands
+
+pub went_behind : (shape : Shape) (page : ℕ) (bytes : List ℕ) (old new : BoardState) → page + 1 < 2 * shape.block_pages → Went old new (λ f _. IsPairCut page bytes old.pages f) → SameBehind shape old.pages new.pages
+went_behind shape page bytes old new below run k high = (went_left old new (IsPairCut page bytes old.pages) run).outside.above k (omega (arith, high, below))
+
+-- a root with a greater number than the newest one's, and its bytes, for the pair that is next
+module _ (shape : Shape) (board : BoardState) (page : ℕ) (top : ℕ × Root) (bytes : List ℕ) (root : Root) (is_shape : IsShape shape) (ready : IsReady board shape)
     (fits : InstallerOnFlash shape (Program page) top board.pages) (spells : root_page shape bytes ≡ Some root) (greater : top.1.number < root.number) where
-  install : IsInstall shape board.pages top page bytes root
-  install =
-      let below : page < 2 * shape.block_pages = fits.possible.in_root_blocks in
+  pub room : page % shape.block_pages + 1 < shape.block_pages
+  room = even_room shape page is_shape fits.possible.even
+
+  pub exists : page + 1 < length board.pages
+  exists = root_page_exists shape board (page + 1) is_shape ready fits.possible.in_root_blocks
+
+  pub install : IsInstall shape board.pages top page bytes root
+  install = record {
+    was = fits.newest;
+    in_root_blocks = fits.possible.in_root_blocks;
+    exists = exists;
+    even = fits.possible.even;
+    first_erased = fits.possible.order.behind page (le_refl page) (let r = room in omega (arith, r));
+    second_erased = fits.possible.order.behind (page + 1) (omega arith) (let r = room in omega (arith, r));
+    spells = spells;
+    greater_number = greater;
+  }
+
+  -- the root is the newest in the first page, and its second program is next
+  pub program_fits : (new : BoardState) → new ≡ after_program board page bytes → bytes ≡ root_bytes shape root → IsPairCut page bytes board.pages new.pages → page_at new.pages page ≡ whole bytes
+      → InOrder shape new.pages (page + 1) → InstallerOnFlash shape (Again page) (page, root) new.pages
+  program_fits new made spelled is_cut here order = record {
+    newest = first_stands shape board.pages new.pages top page bytes root install is_cut here;
+    possible = record {
+      at_first = refl;
+      here = here ∙ ap (λ (b : List ℕ). whole b) spelled;
+      order = order;
+      former = top;
+      install = subst (λ (b : List ℕ). IsInstall shape (before_pair new.pages page) top page b root) spelled
+          (subst (λ (f : Flash). IsInstall shape f top page bytes root) (sym (ap (λ (b : BoardState). before_pair b.pages page) made ∙ set_back board.pages page (whole bytes) install.first_erased)) install);
+    };
+  }
+
+-- behind a root in a pair that was programmed
+possible_behind : (shape : Shape) (flash : Flash) (page : ℕ) (bytes : List ℕ) (root : Root) (t : Bool) → nat_lt (page % shape.block_pages + 2) shape.block_pages ≡ t → IsShape shape
+    → page + 1 < length flash → page + 1 < 2 * shape.block_pages → page % shape.block_pages % 2 ≡ 0 → InOrder shape flash (page + 1)
+    → IsPossible shape (if t then Program (page + 2) else Erase page) (page, root) (set flash (page + 1) (whole bytes))
+possible_behind shape flash page bytes root true test is exists below even order =
+    let n : ℕ = shape.block_pages in
+    let room : page % n + 2 < n = ltb-true _ _ test in
+    let low : page / n < 2 = block_below n page (omega (arith, below)) in
+    let all : page / n * n + page % n ≡ page = div-add-mod' page n in
+    let one : (page + 1) % n ≡ page % n + 1 = mod-add page 1 n (omega (arith, room)) in
+    let two : (page + 2) % n ≡ page % n + 2 = mod-add page 2 n room in
+    let eights = is.eights in
+    let end : page / n * n ≤ 1 * n = mul-le-mul_right {m = page / n} {n = 1} n (omega (arith, low)) in
+    let behind : InOrder shape (set flash (page + 1) (whole bytes)) ((page + 1) + 1) = InOrder-next shape flash (page + 1) bytes exists (omega (arith, one, room)) order in
+    let next : (page + 1) + 1 ≡ page + 2 = omega arith in
+    record {
+      in_root_blocks = omega (arith, all, room, end, eights, even);
+      even = omega (arith, two, even);
+      order = subst (λ (k : ℕ). InOrder shape (set flash (page + 1) (whole bytes)) k) next behind;
+    }
+possible_behind shape flash page bytes root false test is exists below even order = record { in_root_blocks = omega (arith, below); elsewhere = not_other shape.block_pages page (omega (arith, below)) }
+
+-- the second program of a root
+module _ (shape : Shape) (board : BoardState) (page at : ℕ) (root : Root) (is_shape : IsShape shape) (fits : InstallerOnFlash shape (Again page) (at, root) board.pages) where
+  abbrev bytes : List ℕ
+  bytes = root_bytes shape root
+
+  abbrev start : Flash
+  start = before_pair board.pages page
+
+  pub again_install : IsInstall shape start fits.possible.former page bytes root
+  again_install = fits.possible.install
+
+  pub again_exists : page + 1 < length board.pages
+  again_exists = subst (λ (n : ℕ). page + 1 < n) (length-set board.pages page erased) again_install.exists
+
+  second_free : page_at board.pages (page + 1) ≡ erased
+  second_free = fits.possible.order.behind (page + 1) (le_refl (page + 1)) (let one : (page + 1) % shape.block_pages ≡ page % shape.block_pages + 1 = mod-add page 1 shape.block_pages (even_room shape page is_shape again_install.even) in
+      let r = even_room shape page is_shape again_install.even in omega (arith, one, r))
+
+  -- what stands before the second program is a cut of the pair
+  pub again_start : IsPairCut page bytes start board.pages
+  again_start = record {
+    outside = record {
+      size = sym (length-set board.pages page erased);
+      below = λ k low. sym (page_at-slice_set board.pages page k erased (λ e. omega (arith, e, low)));
+      above = λ k high. sym (page_at-slice_set board.pages page k erased (λ e. omega (arith, e, high)));
+    };
+    first = inl fits.possible.here;
+    second = inr (inl second_free);
+  }
+
+  -- the root is the newest one still, and what is behind its pair is next
+  pub again_fits : (new : BoardState) → new ≡ after_program board (page + 1) bytes → IsPairCut page bytes start new.pages → InstallerOnFlash shape (next_behind shape page) (page, root) new.pages
+  again_fits new made is_cut =
+      let still : page_at new.pages page ≡ whole bytes = ap (λ (b : BoardState). page_at b.pages page) made ∙ page_at-slice_set board.pages (page + 1) page (whole bytes) (λ e. omega (arith, e)) ∙ fits.possible.here in
       record {
-        was = fits.newest;
-        in_root_blocks = below;
-        exists = root_page_exists shape board page is_shape ready below;
-        was_erased = fits.possible.order.behind page (le_refl page) (in_block shape.block_pages page below);
-        spells = spells;
-        greater_number = greater;
+        newest = first_stands shape start new.pages fits.possible.former page bytes root again_install is_cut still;
+        possible = subst (λ (f : Flash). IsPossible shape (next_behind shape page) (page, root) f) (sym (ap (λ (b : BoardState). b.pages) made))
+            (possible_behind shape board.pages page bytes root (nat_lt (page % shape.block_pages + 2) shape.block_pages) refl is_shape again_exists again_install.in_root_blocks again_install.even fits.possible.order);
       }
 
-  -- a program of the page, done or not
-  program_cut : (f : Flash) → Interrupted shape (program page bytes) board.pages f [] → MayInstall shape page root board.pages f
-  program_cut f cut = record {
-    newest = elim (law shape board.pages top page bytes root f [] install (inl cut)) [ inl former ↦ inl (former ∙ sym install.was) | inr new ↦ inr new ];
-    behind = λ k high. behind_page shape page bytes k _ _ install.in_root_blocks high (cut.pages k);
-    size = cut.same_size;
-  }
+  -- no page behind the root blocks differs
+  pub again_behind : (f : Flash) → IsPairCut page bytes start f → SameBehind shape board.pages f
+  again_behind f is_cut k high =
+      let below = again_install.in_root_blocks in
+      is_cut.outside.above k (omega (arith, high, below)) ∙ page_at-slice_set board.pages page k erased (λ e. omega (arith, e, high, below))
 
-  program_within : (f : Flash) → Interrupted (shape_of board) (program page bytes) board.pages f [] → MayInstall shape page root board.pages f
-  program_within f cut = program_cut f (subst (λ s. Interrupted s (program page bytes) board.pages f []) (shape_is board shape ready) cut)
+  pub again_reached : RootPair → (new : BoardState) → Reached board new (λ f _. IsPairCut page bytes start f) → Reached board new (λ f _. MayInstall shape page root start f)
+  again_reached law new run = reached_installs shape page fits.possible.former bytes root start law again_install board new run
 
-  pub program_done : MayInstall shape page root board.pages (after_program board page bytes).pages
-  program_done = program_cut (after shape (program page bytes) board.pages) (interrupted_done shape (program page bytes) board.pages)
+  pub again_went : RootPair → (new : BoardState) → Went board new (λ f _. IsPairCut page bytes start f) → Went board new (λ f _. MayInstall shape page root start f)
+  again_went law new run = went_installs shape page fits.possible.former bytes root start law again_install board new run
 
-  pub program_reaches : Reached board (after_program board page bytes) (λ cut _. MayInstall shape page root board.pages cut)
-  program_reaches = (program page bytes ∷ [], Reached-program board (λ cut _. MayInstall shape page root board.pages cut) page bytes program_within program_done)
-
-  pub program_went : (new : BoardState) → ProgramFailed board new page bytes → Went board new (λ cut _. MayInstall shape page root board.pages cut)
-  program_went new failed = Went-program_failed board (λ cut _. MayInstall shape page root board.pages cut) new page bytes failed program_within program_done
-
-  -- where it failed
-  pub program_left : (new : BoardState) → ProgramFailed board new page bytes → MayInstall shape page root board.pages new.pages
-  program_left new failed = elim failed.left [
-    | inl marked ↦ program_within new.pages marked.0
-    | inr same ↦ rw same.0 (record { newest = inl refl; behind = λ k high. refl; size = refl })
-  ]
-
-  -- the new root is the newest, and what is behind its page is next
-  pub program_fits : RootInstalled → InstallerOnFlash shape (next_behind shape page) (page, root) (after_program board page bytes).pages
-  program_fits installed = record {
-    newest = installed shape board.pages top page bytes root install;
-    possible = possible_behind shape board.pages page bytes (nat_lt (page % shape.block_pages + 1) shape.block_pages) refl install.exists fits.possible;
-  }
-
--- by the bytes that were programmed
-pub programmed : (board new : BoardState) (page : ℕ) (bytes bytes' : List ℕ) → bytes ≡ bytes' → new ≡ after_program board page bytes → new ≡ after_program board page bytes'
-programmed board new page bytes bytes' same made = made ∙ ap (λ (b : List ℕ). after_program board page b) same
+  pub again_went_behind : (new : BoardState) → Went board new (λ f _. IsPairCut page bytes start f) → SameBehind shape board.pages new.pages
+  again_went_behind new run = again_behind new.pages (went_left board new (IsPairCut page bytes start) run)

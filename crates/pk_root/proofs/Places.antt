@@ -1,14 +1,17 @@
 -- Where the pages of the root blocks lie, and what changes behind them leave.
-use Rattle.std.proofs.Common.{◌≡◌, ◌≢◌, ℕ, zero, suc, ◌+◌, ◌-◌, ◌*◌, ◌/◌, ◌%◌, ◌<◌, ◌≤◌, sym, ◌∙◌, arith, mod-lt, Some}
+use Rattle.std.proofs.Common.{◌≡◌, ◌≢◌, ℕ, zero, suc, ◌+◌, ◌-◌, ◌*◌, ◌/◌, ◌%◌, ◌<◌, ◌≤◌, refl, sym, ap, ◌∙◌, arith, inl, inr, List, [], ◌∷◌, length, slice_set, mod-lt, Some}
 use Rattle.std.proofs.Math.Nat.{mul-le-mul_right, div-lt_iff_lt-mul}
 use Rattle.std.proofs.lemmas.Nat.{div-add-mod'}
 use Rattle.pk_base.specs.Shape.{Shape}
-use Rattle.pk_base.specs.Page.{Flash, page_at}
-use Rattle.pk_rootfmt.specs.Root.{Root}
+use Rattle.std.proofs.lemmas.Bool.Decides.{eqb_tells}
+use Rattle.pk_base.specs.Page.{Page, Flash, page_at, erased, whole}
+use Rattle.pk_nand.specs.Calls.{InOrder}
+use Rattle.pk_nand.proofs.Leaving.{page_at-slice_set, page_at-slice_set_same}
+use Rattle.pk_rootfmt.specs.Root.{Root, root_bytes}
 use Rattle.pk_rootfmt.specs.Newest.{newest_root}
 use Rattle.pk_root.specs.declared.next.Next.{Next}
-use Rattle.pk_root.specs.declared.next.Next.TheVariants.{Erase, Program}
-use Rattle.pk_root.specs.Installing.{IsPossible, InstallerOnFlash}
+use Rattle.pk_root.specs.declared.next.Next.TheVariants.{Erase, Program, Again}
+use Rattle.pk_root.specs.Installing.{before_pair, IsPossible, InstallerOnFlash}
 use Rattle.pk_root.specs.Laws.{SameFront}
 use Rattle.pk_root.proofs.Scanning.{newest_among, newest_root_same}
 
@@ -55,16 +58,66 @@ InstallerOnFlash-after shape flash page root newest =
     let below : page < 2 * shape.block_pages = omega (arith, is.high) in
     record { newest = newest; possible = record { in_root_blocks = below; elsewhere = not_other shape.block_pages page below } }
 
-possible_same : (shape : Shape) (next : Next) (newest : ℕ) (old new : Flash) → SameFront shape old new → IsPossible shape next newest old → IsPossible shape next newest new
-possible_same shape (Erase beside) newest old new same possible = possible
-possible_same shape (Program page) newest old new same possible =
-    let n : ℕ = shape.block_pages in
-    let below : page < 2 * n = possible.in_root_blocks in
+-- a page that was written and made Erased again
+pub set_back : (flash : Flash) (at : ℕ) (p : Page) → page_at flash at ≡ erased → slice_set (slice_set flash at p) at erased ≡ flash
+set_back [] at p is = refl
+set_back (x ∷ xs) zero p is = ap (λ (q : Page). q ∷ xs) (sym is)
+set_back (x ∷ xs) (suc at) p is = ap (λ (qs : Flash). x ∷ qs) (set_back xs at p is)
+
+-- a page that is not torn exists
+whole_exists : (flash : Flash) (k : ℕ) (bytes : List ℕ) → page_at flash k ≡ whole bytes → k < length flash
+whole_exists [] k bytes is = cc
+whole_exists (p ∷ ps) zero bytes is = omega arith
+whole_exists (p ∷ ps) (suc k) bytes is = omega (arith, whole_exists ps k bytes is)
+
+erased_exists : (flash : Flash) (k : ℕ) → page_at flash k ≡ erased → k < length flash
+erased_exists [] k is = cc
+erased_exists (p ∷ ps) zero is = omega arith
+erased_exists (p ∷ ps) (suc k) is = omega (arith, erased_exists ps k is)
+
+-- the order of the pages of a root block
+order_same : (shape : Shape) (page : ℕ) (old new : Flash) → SameFront shape old new → page < 2 * shape.block_pages → InOrder shape old page → InOrder shape new page
+order_same shape page old new same below order = record {
+  before = λ k low high e. order.before k low high (sym (same k (omega (arith, high, below))) ∙ e);
+  behind = λ k low high. same k (let end = block_end shape.block_pages page below in omega (arith, high, end)) ∙ order.behind k low high;
+}
+
+-- where the pair of a page is half made
+before_same : (shape : Shape) (page : ℕ) (old new : Flash) (bytes : List ℕ) → SameFront shape old new → page < 2 * shape.block_pages → page_at old page ≡ whole bytes
+    → SameFront shape (before_pair old page) (before_pair new page)
+before_same shape page old new bytes same below here k low = elim (eqb_tells k page) [
+  | inl is ↦
+      let there : page_at new page ≡ whole bytes = same page below ∙ here in
+      ap (page_at (before_pair new page)) is.1 ∙ page_at-slice_set_same new page erased (whole_exists new page bytes there)
+      ∙ sym (page_at-slice_set_same old page erased (whole_exists old page bytes here)) ∙ ap (page_at (before_pair old page)) (sym is.1)
+  | inr other ↦ page_at-slice_set new page k erased other.1 ∙ same k low ∙ sym (page_at-slice_set old page k erased other.1)
+]
+
+possible_same : (shape : Shape) (next : Next) (top : ℕ × Root) (old new : Flash) → SameFront shape old new → IsPossible shape next top old → IsPossible shape next top new
+possible_same shape (Erase beside) top old new same possible = possible
+possible_same shape (Program page) top old new same possible =
+    let below = possible.in_root_blocks in
+    record { in_root_blocks = below; even = possible.even; order = order_same shape page old new same (omega (arith, below)) possible.order }
+possible_same shape (Again page) top old new same possible =
+    let install = possible.install in
+    let below = install.in_root_blocks in
+    let front = before_same shape page old new (root_bytes shape top.1) same (omega (arith, below)) possible.here in
+    let order : InOrder shape new (page + 1) = order_same shape (page + 1) old new same below possible.order in
+    let second : page_at (before_pair new page) (page + 1) ≡ erased = front (page + 1) below ∙ install.second_erased in
     record {
-      in_root_blocks = below;
-      order = record {
-        before = λ k low high e. possible.order.before k low high (sym (same k (omega (arith, high, below))) ∙ e);
-        behind = λ k low high. same k (let end = block_end n page below in omega (arith, high, end)) ∙ possible.order.behind k low high;
+      at_first = possible.at_first;
+      here = same page (omega (arith, below)) ∙ possible.here;
+      order = order;
+      former = possible.former;
+      install = record {
+        was = newest_root_same shape (page_at (before_pair old page)) (page_at (before_pair new page)) front ∙ install.was;
+        in_root_blocks = below;
+        exists = erased_exists (before_pair new page) (page + 1) second;
+        even = install.even;
+        first_erased = front page (omega (arith, below)) ∙ install.first_erased;
+        second_erased = second;
+        spells = install.spells;
+        greater_number = install.greater_number;
       };
     }
 
@@ -75,5 +128,5 @@ newest_by_same shape old new same = newest_root_same shape (page_at old) (page_a
 pub InstallerOnFlash-by_same : (shape : Shape) (next : Next) (top : ℕ × Root) (old new : Flash) → SameFront shape old new → InstallerOnFlash shape next top old → InstallerOnFlash shape next top new
 InstallerOnFlash-by_same shape next top old new same fits = record {
   newest = newest_by_same shape old new same ∙ fits.newest;
-  possible = possible_same shape next top.0 old new same fits.possible;
+  possible = possible_same shape next top old new same fits.possible;
 }

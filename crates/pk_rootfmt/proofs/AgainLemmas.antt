@@ -210,7 +210,7 @@ module _ (g : Shape) (shape : IsShape g) (number epoch : ℕ) (newest older : Li
         let blocks_most = shape.blocks_most in
         first_none (shape_checks g page) (
         stands_unlike 0 magic (drop 8 page) page row.0
-        ⊕ equal_unless 8 (u16_at page 8) 1 (stands_number 2 8 1 (drop 10 page) page row.1.0 (omega arith))
+        ⊕ equal_unless 8 (u16_at page 8) 2 (stands_number 2 8 2 (drop 10 page) page row.1.0 (omega arith))
         ⊕ equal_unless 10 (u16_at page 10) g.block_pages (stands_number 2 10 g.block_pages (drop 12 page) page row.1.1.0 (omega arith))
         ⊕ equal_unless 12 (u32_at page 12) g.page_bytes (stands_number 4 12 g.page_bytes (drop 16 page) page row.1.1.1.0 (omega arith))
         ⊕ equal_unless 16 (u16_at page 16) g.blocks (stands_number 2 16 g.blocks (drop 18 page) page row.1.1.1.1.0 (omega arith))

@@ -7,9 +7,6 @@ use Rattle.pk_nand.specs.BoardState.{BoardState}
 use Rattle.pk_nand.specs.Calls.{IsReady, ReadFailed}
 use Rattle.pk_nand.specs.Counts.{after_reads}
 use Rattle.pk_level.proofs.Looking.{reads_more}
-use Rattle.pk_jrn.specs.Replays.{Refused}
-use Rattle.pk_jrn.specs.declared.error.ReplayError.{ReplayError}
-use Rattle.pk_jrn.specs.declared.error.ReplayError.TheVariants.{Damaged as ReplayDamaged, Fault as ReplayFault}
 use Rattle.pk_scan.specs.Opening.{OnlyReads, FaultCounted}
 use Rattle.pk_nand.specs.Effects.{OnlyReading}
 use Rattle.pk_scan.specs.Board.{StaysReady}
@@ -43,10 +40,6 @@ rest_failed old new made page failed =
 
 pub rest_both : (old now new : BoardState) → OnlyReading old now → OnlyReading now new → OnlyReading old new
 rest_both old now new a b = b ∙ ap (λ (x : BoardState). record x { reads = new.reads; flash_faults = new.flash_faults; read_faults = new.read_faults; failed_at = new.failed_at }) a
-
-pub rest_refused : (shape : Shape) (number : ℕ) (blocks : List ℕ) (old new : BoardState) (e : ReplayError) → Refused shape number blocks old new e → OnlyReading old new
-rest_refused shape number blocks old new (ReplayDamaged page) why = rest_reads old new (_, why.board)
-rest_refused shape number blocks old new ReplayFault why = rest_failed old new why.made _ why.failed
 
 pub rest_not_read : (shape : Shape) (level count : ℕ) (blocks : List ℕ) (old new : BoardState) (e : PageError) → NotRead shape level count blocks old new e → OnlyReading old new
 rest_not_read shape level count blocks old new (Damaged page) why = rest_reads old new (_, why.board)

@@ -6,7 +6,7 @@ use Rattle.std.proofs.lemmas.Bool.Decides.{nat_tests}
 use Rattle.std.specs.declared.cmp.Ordering.TheVariants.{Less, Equal, Greater}
 use Rattle.std.specs.FinMap.Entries.{put, by_order}
 use Rattle.pk_base.specs.Key.{Key, key_cmp}
-use Rattle.pk_base.specs.Shape.{Shape, epoch_pages}
+use Rattle.pk_base.specs.Shape.{Shape, epoch_commits}
 use Rattle.pk_base.specs.Entry.{Entry, Place}
 use Rattle.pk_base.specs.Page.{Page, Flash, page_at, page_in, commits_of}
 use Rattle.pk_base.specs.Firsts.{firsts}
@@ -80,7 +80,7 @@ module _ (shape : Shape) (flash : Flash) (root : Root) where
 
   empty_is : (number : ℕ) → epoch shape at number [] ≡ Ok []
   unfolding epoch
-  empty_is number = let none : 0 * shape.block_pages ≡ 0 = omega arith in ap (λ (n : ℕ). journal shape number 0 [] (commits_of shape at [] 0 n)) none
+  empty_is number = let none : 0 * (shape.block_pages / 2) ≡ 0 = omega arith in ap (λ (n : ℕ). journal shape number 0 [] (commits_of shape at [] 0 n)) none
 
   no_blocks : (number : ℕ) (bs : List ℕ) → bs ≡ [] → epoch shape at number bs ≡ Ok []
   no_blocks number bs none = ap (epoch shape at number) none ∙ empty_is number
@@ -136,7 +136,7 @@ module _ (shape : Shape) (flash : Flash) (root : Root) where
       → NewestHeld shape flash root into (found_at_opening shape root.epoch bs used)
   newest_held bs used into two is r fits =
       let same : bs ≡ root.newest = is ∙ two_is root.newest two in
-      ((r.entries, record { finds = sym (ap (epoch shape at root.epoch) same) ∙ r.read; held = r.held; each = r.each }), (used, ap (λ (b : List ℕ). found_at_opening shape root.epoch b used) same, subst (λ (b : List ℕ). used < epoch_pages shape → HasCommit shape flash b used → ⊥) same r.ends), fits)
+      ((r.entries, record { finds = sym (ap (epoch shape at root.epoch) same) ∙ r.read; held = r.held; each = r.each }), (used, ap (λ (b : List ℕ). found_at_opening shape root.epoch b used) same, subst (λ (b : List ℕ). used < epoch_commits shape → HasCommit shape flash b used → ⊥) same r.ends), fits)
 
   pub newest_refused : (bs : List ℕ) (page : ℕ) → length root.newest ≡ 2 → bs ≡ two_of root.newest → epoch shape at root.epoch bs ≡ Err (damaged page) → epoch shape at root.epoch root.newest ≡ Err (damaged page)
   newest_refused bs page two is read = sym (ap (epoch shape at root.epoch) (is ∙ two_is root.newest two)) ∙ read

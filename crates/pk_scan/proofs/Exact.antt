@@ -1,14 +1,14 @@
 -- How many pages are read: of an epoch, and of runs.
-use Rattle.std.proofs.Common.{◌≡◌, ℕ, zero, suc, ◌+◌, ◌-◌, ◌*◌, ◌<◌, ◌≤◌, List, [], ◌∷◌, ◌++◌, length, take, get_or, refl, sym, ap, subst, ◌∙◌, arith, Some, None}
+use Rattle.std.proofs.Common.{◌≡◌, ℕ, zero, suc, ◌+◌, ◌-◌, ◌*◌, ◌/◌, ◌<◌, ◌≤◌, List, [], ◌∷◌, ◌++◌, length, take, get_or, refl, sym, ap, subst, ◌∙◌, arith, Some, None}
 use Rattle.std.specs.Prelude.{slice_index}
 use Rattle.std.proofs.lemmas.List.{take_all}
 use Rattle.pk_base.specs.Shape.{Shape, run_pages}
-use Rattle.pk_base.specs.Page.{Flash, page_at, commits_of}
+use Rattle.pk_base.specs.Page.{Flash, page_at}
 use Rattle.pk_nand.specs.BoardState.{BoardState}
 use Rattle.pk_nand.specs.Counts.{after_reads}
 use Rattle.pk_rootfmt.specs.Root.{Root}
 use Rattle.pk_rootfmt.specs.Held.{two_of, older_of}
-use Rattle.pk_jrn.specs.Replays.{pages_to_end, epoch_reads}
+use Rattle.pk_jrn.specs.Replays.{reads_to_end, epoch_reads}
 use Rattle.pk_scan.specs.Reads.{pages_of_runs, list_reads}
 use Rattle.pk_scan.proofs.Naming.{two_is, older_is, older_none}
 use Rattle.pk_scan.proofs.Boards.{reads_sum}
@@ -18,8 +18,8 @@ use Rattle.pk_scan.proofs.Boards.{reads_sum}
 module _ (shape : Shape) (flash : Flash) (root : Root) where
   pub none_exact : None ≡ older_of root.older → (old : BoardState) → old ≡ after_reads (epoch_reads shape (page_at flash) root.older) old
   none_exact none old =
-      let nothing : 0 * shape.block_pages ≡ 0 = omega arith in
-      let zero_reads : epoch_reads shape (page_at flash) [] ≡ 0 = ap (λ (n : ℕ). pages_to_end (commits_of shape (page_at flash) [] 0 n)) nothing in
+      let nothing : 0 * (shape.block_pages / 2) ≡ 0 = omega arith in
+      let zero_reads : epoch_reads shape (page_at flash) [] ≡ 0 = ap (reads_to_end shape (page_at flash) [] 0) nothing in
       sym (ap (λ (n : ℕ). after_reads n old) (ap (epoch_reads shape (page_at flash)) (older_none root.older none) ∙ zero_reads))
 
   module _ (bs : List ℕ) (old new : BoardState) (reads : new ≡ after_reads (epoch_reads shape (page_at flash) bs) old) where

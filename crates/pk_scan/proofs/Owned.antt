@@ -13,9 +13,10 @@ use Rattle.pk_base.specs.Page.{Page}
 use Rattle.pk_base.specs.Refusal.{ensure, ◌>>=◌}
 use Rattle.pk_plan.specs.declared.owner.Owner.TheVariants.{Journal, Meta}
 use Rattle.pk_pool.specs.declared.state.BlockState.{BlockState}
-use Rattle.pk_pool.specs.declared.state.BlockState.TheVariants.{Root as RootBlock, Free, Ready, Owned}
+use Rattle.pk_pool.specs.declared.state.BlockState.TheVariants.{Root as RootBlock, Free, Ready, Owned, Leaving}
 use Rattle.pk_pool.specs.Blocks.{Blocks, unused, IsSpare}
 use Rattle.pk_pool.proofs.Sharing.{used_given}
+use Rattle.pk_pool.proofs.States.{none_leaves_unused}
 use Rattle.pk_rootfmt.specs.Root.{Root, named, is_root, differ}
 use Rattle.pk_segfmt.specs.Value.{value_pages, value_at}
 use Rattle.pk_live.specs.Values.{Values}
@@ -104,6 +105,7 @@ module _ (shape : Shape) (root : Root) (is : IsShape shape) (e : is_root shape r
       let one = used_given (unused shape).states b o at in
       let none = unused_none o shape (let fits = is.data_fits in omega (arith, fits)) in
       absurd (omega (arith, one, none))
+  none_owned b (Some (Leaving o)) at = absurd (none_leaves_unused shape b o at)
 
   -- where the root's blocks have got their owners, they are those that have one
   pub owned_named : (pool : Blocks) → NamesOwned root (unused shape) pool → (b : ℕ) → list_any (λ c. c == b) (owned_blocks pool) ≡ list_any (λ c. c == b) (named root)

@@ -1,5 +1,5 @@
 -- The owners of all blocks, behind those of the root's blocks and of the values'.
-use Rattle.std.proofs.Common.{◌≡◌, inl, inr, ℕ, ◌-◌, ◌<◌, ◌≤◌, true, false, ◌==◌, List, [], ◌∷◌, ◌++◌, length, get_or, refl, sym, ap, subst, ◌∙◌, arith, Option, Some, None, option_map}
+use Rattle.std.proofs.Common.{◌≡◌, inl, inr, ℕ, ◌-◌, ◌<◌, ◌≤◌, Bool, true, false, ◌==◌, List, [], ◌∷◌, ◌++◌, length, get_or, refl, sym, ap, subst, ◌∙◌, arith, Option, Some, None, option_map}
 use Rattle.std.specs.Prelude.{slice_get, count_by}
 use Rattle.std.specs.List.{concat, AllByRecursion}
 use Rattle.std.proofs.lemmas.Bool.{cases_Bool, eq-eqb, or_left, or_right, false≢true, eqb-true}
@@ -11,9 +11,10 @@ use Rattle.pk_base.specs.Page.{Flash}
 use Rattle.pk_plan.specs.declared.owner.Owner.{Owner}
 use Rattle.pk_plan.specs.declared.owner.Owner.TheVariants.{Journal, Meta, Values}
 use Rattle.pk_pool.specs.declared.state.BlockState.{BlockState}
-use Rattle.pk_pool.specs.declared.state.BlockState.TheVariants.{Free, Ready, Owned}
+use Rattle.pk_pool.specs.declared.state.BlockState.TheVariants.{Free, Ready, Owned, Leaving}
 use Rattle.pk_pool.specs.Blocks.{Blocks, used_by, unused, IsSpare, PoolOnFlash}
 use Rattle.pk_pool.proofs.Sharing.{used_given}
+use Rattle.pk_pool.proofs.States.{none_leaves_unused}
 use Rattle.pk_live.specs.Values.{Values as LiveValues, IsClosed}
 use Rattle.pk_rootfmt.specs.Root.{Root, named, is_root}
 use Rattle.pk_model.specs.Laws.{AnyByRecursion}
@@ -56,6 +57,17 @@ some_state p b (inr ready) = (Ready, ready)
 spare_not_owned : (p : Blocks) (b : ℕ) (o : Owner) → IsSpare p b → slice_get p.states b ≡ Some (Owned o) → ⊥
 spare_not_owned p b o (inl free) owned = let clash : ◌≡◌ {A = Option BlockState} (Some Free) (Some (Owned o)) = sym free ∙ owned in cc
 spare_not_owned p b o (inr ready) owned = let clash : ◌≡◌ {A = Option BlockState} (Some Ready) (Some (Owned o)) = sym ready ∙ owned in cc
+
+-- a block that leaves did so before it was found whose it is
+not_left : (owner : Owner) (x : Bool) (s : Option BlockState) (o : Owner) → option_map (owned_if owner x) s ≡ Some (Leaving o) → s ≡ Some (Leaving o)
+not_left owner x None o e = cc
+not_left owner true (Some t) o e = cc
+not_left owner false (Some t) o e = e
+
+named_left : (root : Root) (b : ℕ) (s : Option BlockState) (o : Owner) → option_map (state_of root b) s ≡ Some (Leaving o) → s ≡ Some (Leaving o)
+named_left root b None o e = cc
+named_left root b (Some t) o e =
+    not_left Journal (is_among (root.newest ++ root.older) b) (Some t) o (not_left Meta (is_among (concat root.runs) b) (Some (owned_if Journal (is_among (root.newest ++ root.older) b) t)) o e)
 
 module _ (shape : Shape) (root : Root) (is : IsShape shape) (e : is_root shape root ≡ true) (live : LiveValues) (taken : List (Key × Place)) (lives : Lives shape (named root) live taken) where
   module _ (p q r : Blocks) (new : p ≡ unused shape) (fits : (flash : Flash) → PoolOnFlash p flash) (owned : NamesOwned root p q) (closing : Adopts Values (λ b. get_or live.closed b false) (count_by (λ b. b) live.closed) q r)
@@ -138,5 +150,7 @@ module _ (shape : Shape) (root : Root) (is : IsShape shape) (e : is_root shape r
         runs_few = closing.others Meta refl ∙ meta;
         closed_owned = is_owned;
         owned_closed = is_closed;
+        none_leaves = λ b o got. none_leaves_unused shape b o
+            (named_left root b (slice_get (unused shape).states b) o (sym (from_new.states b) ∙ not_left Values (get_or live.closed b false) (slice_get q.states b) o (sym (closing.states b) ∙ got)));
         values_few = subst (λ (s : Shape). used_by Values r.states ≤ data_blocks s - 1) (sym closing.shape ∙ shape_is) few;
       }

@@ -7,8 +7,8 @@ use Rattle.pk_plan.specs.declared.owner.Owner.{Owner}
 use Rattle.pk_plan.specs.declared.owner.Owner.TheVariants.{Journal, Meta, Values}
 use Rattle.pk_plan.specs.Quotas.{quota_of}
 use Rattle.pk_pool.specs.declared.state.BlockState.{BlockState}
-use Rattle.pk_pool.specs.declared.state.BlockState.TheVariants.{Root as RootBlock, Free, Ready, Owned}
-use Rattle.pk_pool.specs.Blocks.{Blocks, unused, used_by, same_owner, IsSpare, PoolOnFlash}
+use Rattle.pk_pool.specs.declared.state.BlockState.TheVariants.{Root as RootBlock, Free, Ready, Owned, Leaving}
+use Rattle.pk_pool.specs.Blocks.{Blocks, unused, used_by, same_owner, IsSpare, NoneLeaves, PoolOnFlash}
 use Rattle.pk_rootfmt.specs.Root.{Root, differ}
 use Rattle.pk_live.specs.Values.{Values as LiveValues, IsClosed}
 use Rattle.pk_model.specs.Laws.{AnyByRecursion}
@@ -19,6 +19,7 @@ has_owner (Some RootBlock) = false
 has_owner (Some Free) = false
 has_owner (Some Ready) = false
 has_owner (Some (Owned o)) = true
+has_owner (Some (Leaving o)) = true
 
 -- the blocks that have an owner
 unfoldable pub owned_blocks : Blocks → List ℕ
@@ -74,6 +75,7 @@ pub record HasOwners (shape : Shape) (root : Root) (live : LiveValues) (pool : B
   pub closed_owned : (b : ℕ) → IsClosed live b → slice_get pool.states b ≡ Some (Owned Values)
   pub owned_closed : (b : ℕ) → slice_get pool.states b ≡ Some (Owned Values) → IsClosed live b
   pub values_few : used_by Values pool.states ≤ data_blocks shape - 1
+  pub none_leaves : NoneLeaves pool
 
 -- ---- inside
 

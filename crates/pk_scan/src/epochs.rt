@@ -17,9 +17,8 @@ use pk_nand::Nand;
 use pk_region::Region;
 use pk_rootfmt::Root;
 
-/// Reads the older epoch, where the root names one, into an empty write buffer: each page once, up to the first that is not
-/// Whole. `Damaged` names the first page that is wrong, or the epoch's first page where it has no entry; `Fault` where a read
-/// failed. `buf` has the bytes of a page, which are lost.
+/// Reads the older epoch, if the root names one, into an empty write buffer: commit by commit, up to the first that has no page.
+/// `Damaged` names the first page that is wrong, or the epoch's first page if it has no entry; `Fault` if a read failed. `buf` has the bytes of a page, which are lost.
 pub fn read_older<B: Nand, A: Region>(
     board: &mut B,
     root: &Root<A>,
@@ -64,8 +63,8 @@ pub fn read_older<B: Nand, A: Region>(
     }
 }
 
-/// Reads the newest epoch into an empty write buffer: each page once, up to the first that is not Whole. `Damaged` names the
-/// first page that is wrong; `Fault` where a read failed. `buf` has the bytes of a page, which are lost.
+/// Reads the newest epoch into an empty write buffer: commit by commit, up to the first that has no page. `Damaged` names the
+/// first page that is wrong; `Fault` if a read failed. `buf` has the bytes of a page, which are lost.
 pub fn read_newest<B: Nand, A: Region>(
     board: &mut B,
     root: &Root<A>,

@@ -23,6 +23,7 @@ fn has_owner(state: Option<BlockState>) -> bool
 {
     match state {
         Some(BlockState::Owned(_)) => true,
+        Some(BlockState::Leaving(_)) => true,
         Some(BlockState::Root) => false,
         Some(BlockState::Free) => false,
         Some(BlockState::Ready) => false,

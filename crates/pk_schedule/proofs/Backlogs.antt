@@ -18,7 +18,7 @@ use Rattle.pk_rootfmt.specs.Root.{Root, is_root}
 use Rattle.pk_pin.specs.Frames.{Frames}
 use Rattle.pk_pool.specs.Blocks.{is_ready}
 use Rattle.pk_root.specs.declared.next.Next.{Next}
-use Rattle.pk_root.specs.Installing.{erases_next}
+use Rattle.pk_root.specs.declared.next.Next.TheVariants.{Erase, Program, Again}
 use Rattle.pk_run.specs.Kept.{Kept, empty, most_pages, most_blocks}
 use Rattle.pk_level.specs.Levels.{RunsOnFlash, HaveBlocks, run_of}
 use Rattle.pk_model.specs.Found.{Found}
@@ -69,12 +69,10 @@ four_most shape a b c d one two three four (suc (suc (suc (suc i)))) less = absu
 
 -- ---- steps
 
-installs_most : (next : Next) → install_steps next ≤ 2
-installs_most next = picked (erases_next next)
-  where
-    picked : (b : Bool) → (if b then 2 else 1) ≤ 2
-    picked true = omega arith
-    picked false = omega arith
+pub installs_most : (next : Next) → install_steps next ≤ 3
+installs_most (Erase beside) = omega arith
+installs_most (Program page) = omega arith
+installs_most (Again page) = omega arith
 
 freeze_within : (job : FreezeJob) (next : Next) → IfSome (freeze_rest_of job next) (λ left. left ≤ whole_freeze)
 freeze_within job next = by_test (length (taken_by job) == 0)

@@ -36,7 +36,6 @@ use Rattle.pk_steps.proofs.Untouched.{under_reads}
 use Rattle.pk_steps.proofs.FourRuns.{IsLevel, next_is_level}
 use Rattle.pk_steps.proofs.Outputs.{output_fits}
 use Rattle.pk_steps.proofs.Amounts.{quota_fits}
-use Rattle.pk_root.specs.Installing.{erases_next}
 use Rattle.pk_merge.specs.declared.source.Source.{Source}
 use Rattle.pk_merge.specs.declared.source.Source.TheVariants.{Frozen, Run}
 use Rattle.pk_merge.specs.Sources.{count_of, pages_in, blocks_in, Has, IsOf}
@@ -48,13 +47,15 @@ use Rattle.pk_merge.specs.Jobs.{Job, JobRuns, IsIdle, begun, pins, output_of, wi
 use Rattle.pk_compact.specs.FreezeSteps.{install_steps}
 use Rattle.pk_schedule.specs.declared.phase.Phase.{Phase}
 use Rattle.pk_schedule.specs.declared.phase.Phase.TheVariants.{Idle, Running}
-use Rattle.pk_schedule.specs.Index.{Index, IndexOnFlash, IsDue, MergesInto, MergeRuns, MergeStands, behind, output, source_at, entries_at}
+use Rattle.pk_schedule.specs.Index.{Index, IndexOnFlash, IsDue, MergesInto, MergeRuns, MergeStands, behind, output, source_at, entries_at, IsSettled}
 use Rattle.pk_schedule.specs.Steps.{MayWork, IndexMoves, LessIsLeft, merge_left, backlog_of}
 use Rattle.pk_schedule.specs.Sources.{ShowsSame}
 use Rattle.pk_schedule.proofs.Carried.{Shown, shown, job_carried, left_same}
 use Rattle.pk_schedule.proofs.Grown.{got_in}
 use Rattle.pk_schedule.proofs.Entries.{output_same, frozen_many, frozen_rising, counts_same, run_stands, count_at, frozen_are, run_are}
 use Rattle.pk_schedule.proofs.Leveled.{Fit, run_fits, run_blocks_in, frames_left}
+use Rattle.pk_schedule.proofs.Settled.{stands_settled, values_settled}
+use Rattle.pk_schedule.proofs.Backlogs.{installs_most}
 
 -- the source, for a buffer and runs in any memory
 abbrev pub source_in : (X : Type 0) → Index → ℕ → Source X
@@ -78,10 +79,6 @@ chosen false true c d level e = record { some = refl; which = inl (same_level 1 
 chosen false false true d level e = record { some = refl; which = inr (inl (same_level 2 level e, refl)) }
 chosen false false false true level e = record { some = refl; which = inr (inr (inl (same_level 3 level e, refl))) }
 chosen false false false false level e = record { some = refl; which = inr (inr (inr (same_level 4 level e, refl))) }
-
-few_steps : (b : Bool) → (if b then 2 else 1) ≤ 2
-few_steps true = omega arith
-few_steps false = omega arith
 
 not_zero : (n : ℕ) → (n == 0) ≡ false → 1 ≤ n
 not_zero zero e = absurd (let x : ⊥ = cc in x)
@@ -320,16 +317,20 @@ module _ (x : Index) (frames : ℕ) (old : BoardState) (top : ℕ × Root) (foun
       freeze = record { taken = stands.freeze.taken; different = stands.freeze.different; none_frozen = stands.freeze.none_frozen };
     }
 
+    settles : IsSettled begun_index
+    settles = record { whole = may.settles.whole; none_leaves = may.settles.none_leaves }
+
     pub begin_moves : IndexMoves x frames old found m begun_index old
     begin_moves = record {
       then_top = top;
       then_found = found;
-      stands = index_then;
+      stands = stands_settled begun_index frames old.pages top found settles index_then;
+      ends = inl settles;
       same_shape = refl;
       none_pending = may.none_pending;
       under = may.under;
       same_places = refl;
-      values = record { size = refl; owned = λ b is. is; no_more = λ b is. is; as_many = refl; pages = λ k is. refl };
+      values = values_settled begun_index x.log.shape x.pool old.pages old.pages settles (record { size = refl; owned = λ b is. is; no_more = λ b is. is; as_many = refl; pages = λ k is. refl });
       numbers = omega arith;
       grows = inl refl;
       cuts = Reaches-none x.log.shape old (CrashFinds x.log.shape background old.pages m) ready.shape_is old refl (refl, under_reads x.log.shape old.pages [] top found m may.under);
@@ -358,7 +359,7 @@ module _ (x : Index) (frames : ℕ) (old : BoardState) (top : ℕ × Root) (foun
       left = steps_left (source_at x level) (run_of x.levels level) (output_of job) job.merger (most_pages (output_of job)) (most_blocks (output_of job)) + 1 + install_steps x.log.next;
       due = next_now;
       moved = refl;
-      lowers = record { none_ready = omega arith; less = (let most = whole in let few = few_steps (erases_next x.log.next) in let e = not_begun in omega (arith, most, few, e)) };
+      lowers = record { none_ready = omega arith; less = (let most = whole in let few = installs_most x.log.next in let e = not_begun in omega (arith, most, few, e)) };
     }
 
     pub begin_less : LessIsLeft x begun_index

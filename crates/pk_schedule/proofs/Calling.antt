@@ -1,5 +1,5 @@
 -- The call of a step: at most one, also where it failed, and none where nothing was done.
-use Rattle.std.proofs.Common.{◌≡◌, ℕ, inl, refl, arith, Result, Ok, Err}
+use Rattle.std.proofs.Common.{inl, refl, arith, Result, Ok, Err}
 use Rattle.pk_base.specs.Shape.{Shape}
 use Rattle.pk_nand.specs.declared.types.Fault.{Fault}
 use Rattle.pk_nand.specs.BoardState.{BoardState}
@@ -8,8 +8,8 @@ use Rattle.pk_compact.specs.Steps.{StepByCall}
 use Rattle.pk_schedule.specs.Steps.{CallsOnce}
 
 pub calls_one : {T : Type 0} (Ended : T → Type 0) (Broken : Type 0) (shape : Shape) (old new : BoardState) (r : Result T Fault) → StepByCall Ended Broken shape 1 old new r → CallsOnce shape old new
-calls_one Ended Broken shape old new (Ok x) is = record { calls = is.calls; rest = is.step.works.rest; grows = is.grows; installs = is.step.roots_few; ready = is.step.ready }
-calls_one Ended Broken shape old new (Err fault) is = record { calls = is.calls; rest = is.step.stops.rest; grows = is.grows; installs = is.step.roots_few; ready = is.step.ready }
+calls_one Ended Broken shape old new (Ok x) is = record { calls = is.calls; rest = is.step.works.rest; installs = is.step.roots_few; ready = is.step.ready }
+calls_one Ended Broken shape old new (Err fault) is = record { calls = is.calls; rest = is.step.stops.rest; installs = is.step.roots_few; ready = is.step.ready }
 
 pub calls_none : (shape : Shape) (board : BoardState) → IsReady board shape → CallsOnce shape board board
-calls_none shape board ready = record { calls = inl (refl, refl, refl); rest = refl; grows = inl refl; installs = omega arith; ready = ready }
+calls_none shape board ready = record { calls = inl (refl, refl, refl); rest = refl; installs = omega arith; ready = ready }

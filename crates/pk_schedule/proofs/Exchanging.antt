@@ -1,10 +1,9 @@
 -- The exchange of runs behind a merge, from its parts.
-use Rattle.std.proofs.Common.{◌≡◌, ℕ, List, [], ◌∷◌, ◌++◌, refl, sym, ap, subst, ◌∙◌, Some}
+use Rattle.std.proofs.Common.{◌≡◌, ℕ, List, [], ◌++◌, sym, ap, subst, ◌∙◌, Some}
 use Rattle.std.proofs.lemmas.Option.{same_Some}
 use Rattle.pk_base.specs.Page.{Flash}
 use Rattle.pk_pin.specs.Frames.{Frames, AreLeases}
-use Rattle.pk_pool.specs.declared.state.BlockState.TheVariants.{Free}
-use Rattle.pk_pool.specs.Blocks.{Blocks, PoolOnFlash, with_state, given_back}
+use Rattle.pk_pool.specs.Blocks.{Blocks, PoolOnFlash, given_back}
 use Rattle.pk_pool.specs.Unready.{unready}
 use Rattle.pk_run.specs.Kept.{Kept}
 use Rattle.pk_level.specs.Levels.{Levels, run_of, with_run}

@@ -1,8 +1,9 @@
 -- A step of a freeze, over an index.
-use Rattle.std.proofs.Common.{◌≡◌, inl, inr, ℕ, ◌+◌, ◌/◌, Bool, true, false, ◌==◌, if◌then◌else◌, T, List, [], ◌∷◌, ◌++◌, length, reverse, Some, Result, Ok, Err, refl, sym, ap, subst, ◌∙◌, arith, length-append, append-nil, eqb→eq}
+use Rattle.std.proofs.Common.{◌≡◌, ◌⊎◌, inl, inr, ℕ, ◌+◌, ◌/◌, ◌<◌, slice_index, Bool, true, false, not, ◌==◌, if◌then◌else◌, T, List, [], ◌∷◌, ◌++◌, length, reverse, Some, Result, Ok, Err, refl, sym, ap, subst, ◌∙◌, arith, length-append, append-nil, eqb→eq}
 use Rattle.std.specs.Prelude.{slice_get, MatchBool, IfOk, OnOk, OnErr}
 use Rattle.std.specs.List.{concat, AllByRecursion}
 use Rattle.pk_base.specs.Shape.{Shape}
+use Rattle.pk_base.specs.Entry.{Entry}
 use Rattle.pk_base.specs.Firsts.{firsts}
 use Rattle.pk_base.specs.Page.{Flash, page_at}
 use Rattle.pk_base.specs.Map.{Map}
@@ -19,10 +20,10 @@ use Rattle.pk_root.specs.declared.next.Next.{Next}
 use Rattle.pk_jrn.proofs.Puts.{firsts-reverse}
 use Rattle.pk_model.specs.Found.{Found, entries_in_order}
 use Rattle.pk_model.specs.Values.{placed}
-use Rattle.pk_model.proofs.Commits.{blocks_of_root, differ_front}
+use Rattle.pk_model.proofs.Commits.{blocks_of_root, differ_front, member}
 use Rattle.pk_model.proofs.SamePages.{any_front}
 use Rattle.pk_pool.specs.declared.state.BlockState.TheVariants.{Free, Owned}
-use Rattle.pk_pool.specs.Blocks.{Blocks, IsShared, used_by}
+use Rattle.pk_pool.specs.Blocks.{Blocks, IsShared, used_by, NoneLeaves, given_back, freed}
 use Rattle.pk_merge.specs.Jobs.{IsIdle}
 use Rattle.pk_steps.specs.Under.{IsUnder}
 use Rattle.pk_steps.specs.Next.{tree_of}
@@ -39,13 +40,17 @@ use Rattle.pk_compact.proofs.TakingOne.{all_in}
 use Rattle.pk_log.specs.State.{LogState}
 use Rattle.pk_log.specs.Logs.{LogOnFlash}
 use Rattle.pk_log.specs.FreezeSteps.{begun, CanStep, LogGoesOn, LogFrozen, LogSteps, LogStepBreaks}
-use Rattle.pk_log.proofs.Buffers.{none_of_firsts}
+use Rattle.pk_log.proofs.Buffers.{none_of_firsts, tells_some}
 use Rattle.pk_schedule.specs.declared.phase.Phase.TheVariants.{Idle}
-use Rattle.pk_schedule.specs.Index.{Index, IndexOnFlash, MergeStands}
+use Rattle.pk_schedule.specs.Index.{Index, IndexOnFlash, MergeStands, IsSettled, HalfStands, settled}
 use Rattle.pk_schedule.specs.Steps.{MayWork, MayFreeze, KeepsValues, IndexMoves, Moves, Breaks, FreezeMoves, Freezes, has_no_merge, is_between}
-use Rattle.pk_schedule.proofs.Giving.{GivesBack, gives_back, TakesFor, takes_for, in_or_not, not_spare, one_owner}
+use Rattle.pk_schedule.proofs.Giving.{GivesBack, gives_back, left_counted, TakesFor, takes_for, in_or_not, not_spare, one_owner}
 use Rattle.pk_schedule.proofs.Keeping.{RunsOnFlash-same}
 use Rattle.pk_schedule.proofs.Standing.{both_true, idle_of, apart_top, owned_beyond}
+use Rattle.pk_root.specs.Installing.{repeats_next}
+use Rattle.pk_pool.proofs.Leaving.{left_and_freed, freed_same, freed_fits}
+use Rattle.pk_schedule.proofs.Settled.{none_leaves_set, stands_settled, values_settled}
+use Rattle.std.proofs.lemmas.Bool.{ltb-true}
 
 length_none : {X : Type 0} (xs : List X) → length xs ≡ 0 → xs ≡ []
 length_none [] none = refl
@@ -86,6 +91,11 @@ grown pool job pool' job' (inr (b, spare, pool_is, job_is)) =
       subst P (sym pool_is) (grown_one pool b _ (λ o owned. not_spare pool o b owned spare) (takes_for Journal b pool spare)),
       ap (λ (xs : List ℕ). length xs) job_is ∙ length-append (taken_by job) (b ∷ []),
     )
+
+-- no block leaves
+none_leave : (pool : Blocks) (job : FreezeJob) (pool' : Blocks) (job' : FreezeJob) → NoneLeaves pool → TakesOne pool job pool' job' → NoneLeaves pool'
+none_leave pool job pool' job' none (inl same) = subst NoneLeaves (sym same.0) none
+none_leave pool job pool' job' none (inr (b, spare, pool_is, job_is)) = subst NoneLeaves (sym pool_is) (none_leaves_set pool b (Owned Journal) refl none)
 
 -- ---- a freeze leaves the entries that count
 
@@ -131,6 +141,7 @@ module _ (x : Index) (frames : ℕ) (old : BoardState) (top : ℕ × Root) (foun
       let A : Root → Type 0 = λ r. IsApart shape x.pool r found in
       record {
         logs = may.stands.logs;
+        whole = may.settles.whole;
         none_pending = may.none_pending;
         none_frozen = none_frozen;
         under = may.under;
@@ -199,25 +210,29 @@ module _ (x : Index) (frames : ℕ) (old : BoardState) (top : ℕ × Root) (foun
         pages = λ k owned. same_page Values k owned (not_journal Values (k / shape.block_pages) (λ e. let c : ⊥ = cc in c) owned);
       }
 
+      settles : IsSettled on_index
+      settles = record { whole = on.still.whole; none_leaves = none_leave x.pool x.schedule.freeze pool' job' may.settles.none_leaves on.takes }
+
       moves_on : IndexMoves x frames old found m on_index new
       moves_on = record {
         then_top = top;
         then_found = found;
-        stands = stands_on;
+        stands = stands_settled on_index frames new.pages top found settles stands_on;
+        ends = inl settles;
         same_shape = refl;
         none_pending = may.none_pending;
         under = on.still.under;
         same_places = refl;
-        values = values_on;
+        values = values_settled on_index shape x.pool old.pages new.pages settles values_on;
         numbers = omega arith;
         grows = inl (on.still.under.is_top ∙ sym may.under.is_top);
         cuts = on.cuts;
       }
 
       pub went_on : IndexMoves x frames old found m on_index new × FreezeMoves x on_index
-      went_on = (moves_on, record { log = refl; rest = refl; lowers = on.lowers; some = on.some })
+      went_on = (moves_on, record { log = refl; whole = on.still.whole; rest = refl; lowers = on.lowers; some = on.some })
 
-    -- ---- the freeze is over
+    -- ---- its root has its first program
 
     module _ (log' : LogState) (job' : FreezeJob) (f : LogFrozen x.log x.pool x.schedule.freeze old top found m log' pool' job' new) where
       abbrev then_root : Root
@@ -229,7 +244,11 @@ module _ (x : Index) (frames : ℕ) (old : BoardState) (top : ℕ × Root) (foun
       abbrev over_index : Index
       over_index = record x { log = then_log; pool = pool'; schedule = record x.schedule { freeze = NoFreeze } }
 
-      -- the blocks that are given back, and the older epoch's
+      -- the pool as if the blocks that leave were free
+      abbrev free : Blocks
+      free = freed pool'
+
+      -- the blocks that leave, and the older epoch's
       abbrev gone : List ℕ
       gone = if length found.newest == 0 then top.1.newest else []
 
@@ -254,42 +273,45 @@ module _ (x : Index) (frames : ℕ) (old : BoardState) (top : ℕ × Root) (foun
       newest_owned : (b : ℕ) → In b top.1.newest → slice_get x.pool.states b ≡ Some (Owned Journal)
       newest_owned b is = may.stands.journal b (any_front (λ c. b ≡ c) top.1.newest top.1.older is)
 
-      gives : GivesBack Journal gone x.pool pool'
+      free_is : free ≡ given_back x.pool gone
+      free_is = ap freed f.pool_is ∙ left_and_freed Journal x.pool gone ∙ ap (λ (p : Blocks). given_back p gone) (freed_same x.pool may.settles.none_leaves)
+
+      gives : GivesBack Journal gone x.pool free
       gives = let P : Blocks → Type 0 = λ p. GivesBack Journal gone x.pool p in
-          subst P (sym f.pool_is) (gives_back Journal gone x.pool (gone_differs (length found.newest == 0)) (λ b is. newest_owned b (in_gone (length found.newest == 0) b is)))
+          subst P (sym free_is) (gives_back Journal gone x.pool (gone_differs (length found.newest == 0)) (λ b is. newest_owned b (in_gone (length found.newest == 0) b is)))
 
       -- a block of another owner stays, and so does one of the journal that is not given back
-      stays : (o : Owner) (b : ℕ) → slice_get x.pool.states b ≡ Some (Owned o) → (In b gone → ⊥) → slice_get pool'.states b ≡ Some (Owned o)
+      stays : (o : Owner) (b : ℕ) → slice_get x.pool.states b ≡ Some (Owned o) → (In b gone → ⊥) → slice_get free.states b ≡ Some (Owned o)
       stays o b owned away = gives.others b away ∙ owned
 
-      other_stays : (o : Owner) → (Journal ≡ o → ⊥) → (b : ℕ) → slice_get x.pool.states b ≡ Some (Owned o) → slice_get pool'.states b ≡ Some (Owned o)
+      other_stays : (o : Owner) → (Journal ≡ o → ⊥) → (b : ℕ) → slice_get x.pool.states b ≡ Some (Owned o) → slice_get free.states b ≡ Some (Owned o)
       other_stays o away b owned = stays o b owned (λ is. away (one_owner x.pool Journal o b (newest_owned b (in_gone (length found.newest == 0) b is)) owned))
 
       taken : AllByRecursion (IsTaken shape x.pool old.pages top.1) (f.first ∷ f.second ∷ [])
       taken = subst (AllByRecursion (IsTaken shape x.pool old.pages top.1)) f.taken_are may.stands.freeze.taken
 
-      taken_stays : (b : ℕ) → IsTaken shape x.pool old.pages top.1 b → slice_get pool'.states b ≡ Some (Owned Journal)
+      taken_stays : (b : ℕ) → IsTaken shape x.pool old.pages top.1 b → slice_get free.states b ≡ Some (Owned Journal)
       taken_stays b t = stays Journal b t.owned (λ is. t.unnamed (any_front (λ c. b ≡ c) (top.1.newest ++ top.1.older) (concat top.1.runs) (any_front (λ c. b ≡ c) top.1.newest top.1.older (in_gone (length found.newest == 0) b is))))
 
-      older_stays : (z : Bool) (b : ℕ) → ((b' : ℕ) → (In b' (if z then top.1.newest else []) → ⊥) → slice_get pool'.states b' ≡ slice_get x.pool.states b') → In b (if z then [] else top.1.newest) → slice_get pool'.states b ≡ Some (Owned Journal)
+      older_stays : (z : Bool) (b : ℕ) → ((b' : ℕ) → (In b' (if z then top.1.newest else []) → ⊥) → slice_get free.states b' ≡ slice_get x.pool.states b') → In b (if z then [] else top.1.newest) → slice_get free.states b ≡ Some (Owned Journal)
       older_stays true b others is = absurd is
       older_stays false b others is = others b (λ there. there) ∙ newest_owned b is
 
-      journal_stays : (b : ℕ) → In b ((f.first ∷ f.second ∷ []) ++ older) → slice_get pool'.states b ≡ Some (Owned Journal)
-      journal_stays b (inl e) = subst (λ n. slice_get pool'.states n ≡ Some (Owned Journal)) (sym e) (taken_stays f.first taken.0)
-      journal_stays b (inr (inl e)) = subst (λ n. slice_get pool'.states n ≡ Some (Owned Journal)) (sym e) (taken_stays f.second taken.1.0)
+      journal_stays : (b : ℕ) → In b ((f.first ∷ f.second ∷ []) ++ older) → slice_get free.states b ≡ Some (Owned Journal)
+      journal_stays b (inl e) = subst (λ n. slice_get free.states n ≡ Some (Owned Journal)) (sym e) (taken_stays f.first taken.0)
+      journal_stays b (inr (inl e)) = subst (λ n. slice_get free.states n ≡ Some (Owned Journal)) (sym e) (taken_stays f.second taken.1.0)
       journal_stays b (inr (inr is)) = older_stays (length found.newest == 0) b gives.others is
 
       behind_page : (o : Owner) (k : ℕ) → slice_get x.pool.states (k / shape.block_pages) ≡ Some (Owned o) → page_at new.pages k ≡ page_at old.pages k
       behind_page o k owned = f.behind k (owned_beyond x frames old.pages top found m may shared o k owned)
 
-      stands_over : IndexOnFlash over_index frames new.pages (f.page, then_root) (frozen found)
+      stands_over : IndexOnFlash (settled over_index) frames new.pages (f.page, then_root) (frozen found)
       stands_over =
           let L : LogState → Type 0 = λ l. LogOnFlash l new.pages (f.page, l.root) (frozen found) in
           record {
             logs = subst L f.begun_is f.logs;
             pool_shape = gives.same_shape ∙ may.stands.pool_shape;
-            pool_fits = f.pool_fits;
+            pool_fits = freed_fits pool' new.pages f.pool_fits;
             levels_shape = may.stands.levels_shape;
             levels_pinned = may.stands.levels_pinned;
             stand = RunsOnFlash-same shape old.pages new.pages x.arena x.levels.runs top.1.runs found.runs (block_pages_positive shape may.stands.logs.is_shape) may.stands.run_blocks
@@ -307,16 +329,16 @@ module _ (x : Index) (frames : ℕ) (old : BoardState) (top : ℕ × Root) (foun
             runs = λ b is. other_stays Meta (λ e. let c : ⊥ = cc in c) b (may.stands.runs b is);
             runs_few = gives.same_used Meta (λ e. let c : ⊥ = cc in c) ∙ may.stands.runs_few;
             pins_are = may.stands.pins_are;
-            merge = merge_idle over_index refl refl refl new.pages then_root (frozen found);
+            merge = merge_idle (settled over_index) refl refl refl new.pages then_root (frozen found);
             freeze = record { taken = tt; different = refl; none_frozen = λ some. absurd (omega (arith, some)) };
           }
 
-      values_over : KeepsValues shape x.pool old.pages pool' new.pages
+      values_over : KeepsValues shape x.pool old.pages free new.pages
       values_over = record {
         size = gives.size;
         owned = λ b is. other_stays Values (λ e. let c : ⊥ = cc in c) b is;
         no_more = λ b is. elim (in_or_not b gone) [
-          | inl there ↦ absurd (let e : ⊥ = not_free pool' b (gives.gone b there) is in e)
+          | inl there ↦ absurd (let e : ⊥ = not_free free b (gives.gone b there) is in e)
           | inr away ↦ sym (gives.others b away) ∙ is
         ];
         as_many = gives.same_used Values (λ e. let c : ⊥ = cc in c);
@@ -326,6 +348,45 @@ module _ (x : Index) (frames : ℕ) (old : BoardState) (top : ℕ × Root) (foun
           not_free : (p : Blocks) (b : ℕ) → slice_get p.states b ≡ Some Free → slice_get p.states b ≡ Some (Owned Values) → ⊥
           not_free p b free owned = cc
 
+      -- something is frozen, or the former epoch's blocks leave
+      keys : length x.log.active.entries ≡ length (firsts found.newest)
+      keys =
+          ap (λ (t : Table). length t.entries) may.stands.logs.active_is
+          ∙ ap (λ (es : List Entry). length (firsts (reverse (found.newest ++ es)))) may.none_pending
+          ∙ ap (λ (es : List Entry). length (firsts (reverse es))) (append-nil found.newest)
+          ∙ firsts-reverse found.newest
+
+      frozen_some : (length found.newest == 0) ≡ false → 0 < length x.log.active.entries
+      frozen_some some = ltb-true 0 (length x.log.active.entries) (not_false _ (sym some ∙ tells_some found.newest (length x.log.active.entries) keys))
+        where
+          not_false : (b : Bool) → false ≡ not b → b ≡ true
+          not_false true e = refl
+          not_false false e = cc
+
+      leaves_one : (length found.newest == 0) ≡ true → (b : ℕ) × (slice_get free.states b ≡ Some Free)
+      leaves_one none_there = (
+        slice_index top.1.newest 0,
+        gives.gone (slice_index top.1.newest 0) (subst (λ (z : Bool). In (slice_index top.1.newest 0) (if z then top.1.newest else [])) (sym none_there) (member top.1.newest 0 (let e = two in omega (arith, e)))),
+      )
+
+      busy : (0 < length x.log.active.entries) ⊎ ((b : ℕ) × (slice_get free.states b ≡ Some Free))
+      busy = elim (length found.newest == 0) as (λ z. (length found.newest == 0) ≡ z → (0 < length x.log.active.entries) ⊎ ((b : ℕ) × (slice_get free.states b ≡ Some Free))) [
+        | true ↦ λ e. inr (leaves_one e)
+        | false ↦ λ e. inl (frozen_some e)
+      ] refl
+
+      half : HalfStands over_index new.pages m
+      half = record {
+        half = f.half;
+        no_merge = idle.0;
+        no_freeze = refl;
+        busy = busy;
+        counted =
+            ap (λ (p : Blocks). used_by Values p.states) f.pool_is
+            ∙ left_counted Journal Values gone x.pool (gone_differs (length found.newest == 0)) (λ b is. newest_owned b (in_gone (length found.newest == 0) b is))
+            ∙ sym values_over.as_many;
+      }
+
       moves_over : IndexMoves x frames old found m over_index new
       moves_over =
           let U : LogState → Type 0 = λ l. IsUnder shape new.pages [] (f.page, l.root) (frozen found) m in
@@ -334,6 +395,7 @@ module _ (x : Index) (frames : ℕ) (old : BoardState) (top : ℕ × Root) (foun
             then_top = (f.page, then_root);
             then_found = frozen found;
             stands = stands_over;
+            ends = inr half;
             same_shape = refl;
             none_pending = may.none_pending;
             under = under;
@@ -351,7 +413,7 @@ module _ (x : Index) (frames : ℕ) (old : BoardState) (top : ℕ × Root) (foun
           }
 
       pub went_over : IndexMoves x frames old found m over_index new × Freezes x over_index
-      went_over = (moves_over, record { rest = refl; active = refl; frozen = refl; unused = refl; takes_more = refl; lowers = f.lowers })
+      went_over = (moves_over, record { rest = refl; active = refl; frozen = refl; unused = refl; takes_more = refl; whole_epoch = refl; half = ap repeats_next f.half.again; lowers = f.lowers })
 
 -- ---- either way, by what the log's step did
 

@@ -8,10 +8,11 @@ use Rattle.pk_plan.specs.declared.owner.Owner.TheVariants.{Journal, Meta, Values
 use Rattle.pk_rootfmt.specs.Root.{differ}
 use Rattle.pk_model.proofs.Commits.{apart, rest_differs}
 use Rattle.pk_pool.specs.declared.state.BlockState.{BlockState}
-use Rattle.pk_pool.specs.declared.state.BlockState.TheVariants.{Free, Ready, Owned}
-use Rattle.pk_pool.specs.Blocks.{Blocks, IsSpare, with_state, used_by, is_owned_by, same_owner, given_back}
+use Rattle.pk_pool.specs.declared.state.BlockState.TheVariants.{Free, Ready, Owned, Leaving}
+use Rattle.pk_pool.specs.Blocks.{Blocks, IsSpare, with_state, used_by, is_owned_by, same_owner, given_back, left_by}
 use Rattle.pk_pool.specs.Unready.{unready}
 use Rattle.pk_pool.proofs.Counting.{given_back as one_given}
+use Rattle.pk_pool.proofs.Leaving.{used_left}
 use Rattle.pk_pool.proofs.Sharing.{count-set, used_given, used_adopted}
 use Rattle.pk_pool.proofs.States.{get-set_other, set_is, owned_is_not_free, owned_is_not_ready}
 use Rattle.pk_steps.proofs.Places.{In}
@@ -73,6 +74,14 @@ gives_back o (x ∷ xs) pool d owned =
       same_used = λ p away. rest.same_used p away ∙ same_count p pool.states x (Owned o) Free (other_owner o p away) refl here;
       same_unready = rest.same_unready ∙ one_given pool.states x o here;
     }
+
+-- blocks that leave count as before
+pub left_counted : (o p : Owner) (blocks : List ℕ) (pool : Blocks) → T (differ blocks) → ((b : ℕ) → In b blocks → slice_get pool.states b ≡ Some (Owned o)) → used_by p (left_by o pool blocks).states ≡ used_by p pool.states
+left_counted o p [] pool d owned = refl
+left_counted o p (x ∷ xs) pool d owned =
+    let not_x : (b : ℕ) → In b xs → b ≢ x = λ b is e. apart x (x ∷ []) xs d (inl refl) (subst (λ y. In y xs) e is) in
+    let middle : Blocks = with_state pool x (Leaving o) in
+    left_counted o p xs middle (rest_differs x xs d) (λ b is. get-set_other pool.states x b (Leaving o) (not_x b is) ∙ owned b (inr is)) ∙ used_left pool.states x o p (owned x (inl refl))
 
 -- ---- a spare block that is taken
 

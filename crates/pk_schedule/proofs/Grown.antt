@@ -14,7 +14,7 @@ use Rattle.pk_plan.specs.declared.owner.Owner.{Owner}
 use Rattle.pk_plan.specs.declared.owner.Owner.TheVariants.{Journal, Meta, Values}
 use Rattle.pk_rootfmt.specs.Root.{differ}
 use Rattle.pk_pool.specs.declared.state.BlockState.TheVariants.{Free, Ready, Owned}
-use Rattle.pk_pool.specs.Blocks.{Blocks, IsSpare, used_by, is_owned_by, same_owner, with_state}
+use Rattle.pk_pool.specs.Blocks.{Blocks, IsSpare, used_by, is_owned_by, same_owner, with_state, NoneLeaves}
 use Rattle.pk_pool.specs.Taking.{SameButBlock}
 use Rattle.pk_pool.proofs.States.{get-set_other, set_is, owned_is_not_free, owned_is_not_ready}
 use Rattle.pk_pool.proofs.Sharing.{count-set, used_adopted}
@@ -31,6 +31,7 @@ use Rattle.pk_merge.specs.declared.next.Next.TheVariants.{LoadSource, LoadTarget
 use Rattle.pk_merge.specs.Merging.{Merger}
 use Rattle.pk_merge.specs.Steps.{Acts}
 use Rattle.pk_merge.specs.Elsewhere.{IsForOutput, StepReaches, StepWent, LeavesRuns}
+use Rattle.pk_schedule.proofs.Settled.{none_leaves_set}
 
 -- ---- lists
 
@@ -74,6 +75,11 @@ abbrev pub Grew : Blocks → Kept → Blocks → Kept → Type 0
 Grew pool out pool' out' =
     ((pool' ≡ pool) × (out'.blocks ≡ out.blocks))
     ⊎ ((b : ℕ) × IsSpare pool b × (pool' ≡ with_state pool b (Owned Meta)) × (out'.blocks ≡ out.blocks ++ b ∷ []))
+
+-- no block leaves then that did not before
+pub grew_none_leaves : (pool : Blocks) (out : Kept) (pool' : Blocks) (out' : Kept) → NoneLeaves pool → Grew pool out pool' out' → NoneLeaves pool'
+grew_none_leaves pool out pool' out' none (inl s) = subst NoneLeaves (sym s.0) none
+grew_none_leaves pool out pool' out' none (inr (b, spare, is, more)) = subst NoneLeaves (sym is) (none_leaves_set pool b (Owned Meta) refl none)
 
 module _ (pool : Blocks) (out : Kept) (pool' : Blocks) (out' : Kept) where
   pub grew_shape : Grew pool out pool' out' → pool'.shape ≡ pool.shape

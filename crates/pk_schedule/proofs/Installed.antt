@@ -1,15 +1,16 @@
 -- A step of the install of a merge, for whatever stands on the flash.
-use Rattle.std.proofs.Common.{◌≡◌, ℕ, ◌≤◌, false, true, List, [], ◌∷◌, refl, sym, ap, subst, ◌∙◌, arith, Option, Result, Ok, Err}
+use Rattle.std.proofs.Common.{◌≡◌, ℕ, ◌≤◌, true, List, [], ◌∷◌, refl, sym, ap, subst, ◌∙◌, arith, Option, Result, Ok, Err}
 use Rattle.pk_base.specs.Map.{Map}
 use Rattle.pk_nand.specs.declared.types.Fault.{Fault}
 use Rattle.pk_nand.specs.BoardState.{BoardState}
 use Rattle.pk_rootfmt.specs.Root.{Root}
 use Rattle.pk_rootfmt.specs.Held.{older_of, blocks_or_none}
-use Rattle.pk_root.specs.Installing.{erases_next}
+use Rattle.pk_root.specs.Installing.{erases_next, programs_next}
 use Rattle.pk_pin.specs.Frames.{Frames}
 use Rattle.pk_model.specs.Found.{Found}
 use Rattle.pk_model.specs.Steps.{Step, RootsUpTo}
-use Rattle.pk_pool.specs.Blocks.{Blocks, IsShared}
+use Rattle.pk_plan.specs.declared.owner.Owner.TheVariants.{Values}
+use Rattle.pk_pool.specs.Blocks.{Blocks, IsShared, freed, used_by}
 use Rattle.pk_level.specs.Levels.{Levels, IsLevels}
 use Rattle.pk_run.specs.Kept.{Kept}
 use Rattle.pk_log.specs.State.{LogState}
@@ -23,6 +24,7 @@ use Rattle.pk_schedule.proofs.Installing.{installed_moves, installed_less}
 use Rattle.pk_schedule.proofs.Preparing.{prepared_moves, prepared_less}
 use Rattle.pk_schedule.proofs.Replaced.{replaced_one, replaced_deep}
 use Rattle.pk_schedule.proofs.Waiting as wait
+use Rattle.pk_pool.proofs.Leaving.{freed_same}
 
 same_older : (blocks : List ℕ) → blocks_or_none (older_of blocks) ≡ blocks
 same_older [] = refl
@@ -64,14 +66,15 @@ module _ (x : Index) (level : ℕ) (is : x.schedule.phase ≡ Ready level) (shar
   older_is : (s : Stands x old) → blocks_or_none (older_of x.log.root.older) ≡ s.1.1.older
   older_is s = same_older x.log.root.older ∙ ap (λ (r : Root). r.older) s.4.stands.logs.root_is
 
-  pub ask_first : Stands x old → level ≡ 1 → (older : Option (List ℕ)) → older ≡ older_of x.log.root.older → CanEndFirst x.levels x.arena x.pool x.schedule.job (blocks_or_none older)
-  ask_first s one older told = subst (λ os. CanEndFirst x.levels x.arena x.pool x.schedule.job os) (sym (ap blocks_or_none told ∙ older_is s)) (wait.can_end_first x s.0 old s.1 s.2 s.3 s.4 level is shared known one)
+  pub ask_first : Stands x old → level ≡ 1 → (older : Option (List ℕ)) → older ≡ older_of x.log.root.older → CanEndFirst x.levels x.arena (freed x.pool) x.schedule.job (blocks_or_none older)
+  ask_first s one older told = subst (λ os. CanEndFirst x.levels x.arena (freed x.pool) x.schedule.job os) (sym (ap blocks_or_none told ∙ older_is s))
+      (subst (λ (p : Blocks). CanEndFirst x.levels x.arena p x.schedule.job s.1.1.older) (sym (freed_same x.pool s.4.settles.none_leaves)) (wait.can_end_first x s.0 old s.1 s.2 s.3 s.4 level is shared known one))
 
   pub ask_level : Stands x old → (1 ≤ level) × (level ≤ 4)
   ask_level s = (wait.least x s.0 old s.1 s.2 s.3 s.4 level is shared known, wait.most x s.0 old s.1 s.2 s.3 s.4 level is shared known)
 
-  pub ask_deep : Stands x old → 2 ≤ level → CanEndDeep x.levels x.arena x.pool x.schedule.job level
-  ask_deep s deep = wait.can_end_deep x s.0 old s.1 s.2 s.3 s.4 level is shared known deep
+  pub ask_deep : Stands x old → 2 ≤ level → CanEndDeep x.levels x.arena (freed x.pool) x.schedule.job level
+  ask_deep s deep = subst (λ (p : Blocks). CanEndDeep x.levels x.arena p x.schedule.job level) (sym (freed_same x.pool s.4.settles.none_leaves)) (wait.can_end_deep x s.0 old s.1 s.2 s.3 s.4 level is shared known deep)
 
   -- ---- what the step leaves
 
@@ -118,7 +121,7 @@ module _ (x : Index) (level : ℕ) (is : x.schedule.phase ≡ Ready level) (shar
       ready = step.ready;
     }
 
-    module _ (programs : erases_next x.log.next ≡ false) (merges : LogMerges x.log old level (output x.schedule).count (output x.schedule).blocks log' new)
+    module _ (programs : programs_next x.log.next ≡ true) (merges : LogMerges x.log old level (output x.schedule).count (output x.schedule).blocks log' new)
         (levels' : Levels) (arena' : Frames) (pool' : Blocks) (schedule' : Schedule) (rest : schedule' ≡ record x.schedule { job = schedule'.job; phase = Idle }) where
       abbrev then_index : LogState → Schedule → Index
       then_index l s = record { log = l; levels = levels'; arena = arena'; pool = pool'; schedule = s }
@@ -127,19 +130,23 @@ module _ (x : Index) (level : ℕ) (is : x.schedule.phase ≡ Ready level) (shar
       ended_schedule = record x.schedule { job = schedule'.job; phase = Idle }
 
       pub made_first : level ≡ 1 → (older : Option (List ℕ)) → older ≡ older_of x.log.root.older
-          → EndsFirst x.levels x.arena x.pool x.schedule.job (blocks_or_none older) levels' arena' pool' schedule'.job → Made (then_index log' schedule') new
-      made_first one older told e frames top found m may =
+          → EndsFirst x.levels x.arena (freed x.pool) x.schedule.job (blocks_or_none older) levels' arena' (freed pool') schedule'.job
+          → used_by Values pool'.states ≡ used_by Values x.pool.states → Made (then_index log' schedule') new
+      made_first one older told e counted frames top found m may =
           let f = merges top found m (wait.may_merge x frames old top found m may level is shared known) in
-          let e' = subst (λ os. EndsFirst x.levels x.arena x.pool x.schedule.job os levels' arena' pool' schedule'.job) (ap blocks_or_none told ∙ older_is (frames, top, found, m, may)) e in
-          let r = replaced_one x frames old top found m may level is shared known new f.behind one levels' arena' pool' schedule'.job e' in
+          let here = subst (λ (p : Blocks). EndsFirst x.levels x.arena p x.schedule.job (blocks_or_none older) levels' arena' (freed pool') schedule'.job) (freed_same x.pool may.settles.none_leaves) e in
+          let e' = subst (λ os. EndsFirst x.levels x.arena x.pool x.schedule.job os levels' arena' (freed pool') schedule'.job) (ap blocks_or_none told ∙ older_is (frames, top, found, m, may)) here in
+          let r = replaced_one x frames old top found m may level is shared known new f.behind one levels' arena' (freed pool') schedule'.job e' in
           let P : LogState → Schedule → Type 0 = λ l s. IndexMoves x frames old found m (then_index l s) new × LessIsLeft x (then_index l s) in
           subst (λ s. P log' s) (sym rest) (subst (λ l. P l ended_schedule) (sym f.merged_is)
-          (installed_moves x frames old top found m may level is shared known new log' programs f levels' arena' pool' schedule'.job r, installed_less x frames old top found m may level is shared known new log' programs f levels' arena' pool' schedule'.job r))
+          (installed_moves x frames old top found m may level is shared known new log' programs f levels' arena' pool' schedule'.job r counted, installed_less x frames old top found m may level is shared known new log' programs f levels' arena' pool' schedule'.job r counted))
 
-      pub made_deep : 2 ≤ level → EndsDeep x.levels x.arena x.pool x.schedule.job level levels' arena' pool' schedule'.job → Made (then_index log' schedule') new
-      made_deep deep e frames top found m may =
+      pub made_deep : 2 ≤ level → EndsDeep x.levels x.arena (freed x.pool) x.schedule.job level levels' arena' (freed pool') schedule'.job
+          → used_by Values pool'.states ≡ used_by Values x.pool.states → Made (then_index log' schedule') new
+      made_deep deep e counted frames top found m may =
           let f = merges top found m (wait.may_merge x frames old top found m may level is shared known) in
-          let r = replaced_deep x frames old top found m may level is shared known new f.behind deep levels' arena' pool' schedule'.job e in
+          let r = replaced_deep x frames old top found m may level is shared known new f.behind deep levels' arena' (freed pool') schedule'.job
+          (subst (λ (p : Blocks). EndsDeep x.levels x.arena p x.schedule.job level levels' arena' (freed pool') schedule'.job) (freed_same x.pool may.settles.none_leaves) e) in
           let P : LogState → Schedule → Type 0 = λ l s. IndexMoves x frames old found m (then_index l s) new × LessIsLeft x (then_index l s) in
           subst (λ s. P log' s) (sym rest) (subst (λ l. P l ended_schedule) (sym f.merged_is)
-          (installed_moves x frames old top found m may level is shared known new log' programs f levels' arena' pool' schedule'.job r, installed_less x frames old top found m may level is shared known new log' programs f levels' arena' pool' schedule'.job r))
+          (installed_moves x frames old top found m may level is shared known new log' programs f levels' arena' pool' schedule'.job r counted, installed_less x frames old top found m may level is shared known new log' programs f levels' arena' pool' schedule'.job r counted))

@@ -1,9 +1,9 @@
 -- The root of a merge is installed, and the runs are exchanged, over an index.
-use Rattle.std.proofs.Common.{◌≡◌, ◌⊎◌, inl, inr, ℕ, ◌+◌, ◌-◌, ◌<◌, ◌≤◌, Bool, true, false, ◌==◌, if◌then◌else◌, List, [], ◌++◌, length, map, slice_index, Some, None, refl, sym, ap, subst, ◌∙◌, arith, length-append}
+use Rattle.std.proofs.Common.{◌≡◌, ◌⊎◌, inl, inr, ℕ, zero, suc, reverse, ◌∷◌, ◌+◌, ◌-◌, ◌<◌, ◌≤◌, Bool, true, false, ◌==◌, if◌then◌else◌, List, [], ◌++◌, length, map, slice_index, Some, None, refl, sym, ap, subst, ◌∙◌, arith, length-append}
 use Rattle.std.specs.Prelude.{slice_get, unwrap_or}
 use Rattle.std.specs.List.{concat, AllByRecursion}
 use Rattle.pk_base.specs.Shape.{Shape}
-use Rattle.pk_base.specs.Page.{Flash}
+use Rattle.pk_base.specs.Page.{Flash, page_at}
 use Rattle.pk_base.specs.Map.{Map}
 use Rattle.pk_buf.specs.Table.{Table}
 use Rattle.pk_work.specs.Rest.{Lowers, left_of, whole_merge}
@@ -15,23 +15,23 @@ use Rattle.pk_plan.specs.declared.owner.Owner.TheVariants.{Journal, Meta, Values
 use Rattle.pk_nand.specs.BoardState.{BoardState}
 use Rattle.pk_rootfmt.specs.Root.{Root, named}
 use Rattle.pk_root.specs.declared.next.Next.{Next}
-use Rattle.pk_root.specs.Installing.{erases_next}
+use Rattle.pk_root.specs.Installing.{programs_next, repeats_next}
 use Rattle.pk_pin.specs.Frames.{Frames}
 use Rattle.pk_model.specs.Found.{Found}
 use Rattle.pk_model.proofs.SamePages.{any_front, any_back}
 use Rattle.pk_model.proofs.ValueSets.{is_true}
 use Rattle.pk_pool.specs.declared.state.BlockState.TheVariants.{Free, Owned}
-use Rattle.pk_pool.specs.Blocks.{Blocks, IsShared, PoolOnFlash, used_by}
+use Rattle.pk_pool.specs.Blocks.{Blocks, IsShared, PoolOnFlash, used_by, freed}
 use Rattle.pk_pool.specs.Unready.{unready}
 use Rattle.pk_run.specs.Kept.{Kept, empty}
 use Rattle.pk_level.specs.Levels.{Levels, IsLevels, RunsOnFlash, HaveBlocks}
 use Rattle.pk_level.specs.Arenas.{HasArena}
-use Rattle.pk_steps.specs.Merging.{IsMerged, merged_root, merged_found, freed_by}
+use Rattle.pk_steps.specs.Merging.{IsMerged, merged_root, merged_found, freed_by, blocks_at}
 use Rattle.pk_steps.specs.Under.{IsUnder}
 use Rattle.pk_steps.specs.Next.{IsNext}
 use Rattle.pk_steps.proofs.FreedCounts.{freed_counted}
 use Rattle.pk_steps.proofs.Following.{merged_next}
-use Rattle.pk_steps.proofs.Freeing.{freed}
+use Rattle.pk_steps.proofs.Freeing.{freed as freed_unread}
 use Rattle.pk_steps.proofs.Merging.{in_after}
 use Rattle.pk_steps.proofs.Places.{In, in_append}
 use Rattle.pk_steps.proofs.Standing.{installed}
@@ -41,13 +41,21 @@ use Rattle.pk_log.specs.State.{LogState}
 use Rattle.pk_log.specs.Logs.{LogOnFlash}
 use Rattle.pk_log.specs.MergeSteps.{LogMerged, frozen_after}
 use Rattle.pk_schedule.specs.declared.phase.Phase.TheVariants.{Idle, Ready}
-use Rattle.pk_schedule.specs.Index.{Index, IndexOnFlash, output}
+use Rattle.pk_schedule.specs.Index.{Index, IndexOnFlash, output, HalfStands, settled}
 use Rattle.pk_schedule.specs.Steps.{MayWork, KeepsValues, IndexMoves, LessIsLeft, backlog_of}
 use Rattle.pk_schedule.proofs.Backlogs.{index_backlog}
 use Rattle.pk_schedule.proofs.Giving.{in_or_not, one_owner}
 use Rattle.pk_schedule.proofs.Preparing.{no_freeze, pool_still, same_page, merge_is, due_now}
 use Rattle.pk_schedule.proofs.Standing.{named_owned}
 use Rattle.pk_schedule.proofs.Waiting as wait
+use Rattle.pk_root.specs.declared.next.Next.TheVariants.{Erase, Program, Again}
+use Rattle.pk_pool.proofs.Leaving.{freed_unready}
+use Rattle.pk_schedule.proofs.Settled.{none_there}
+use Rattle.pk_work.proofs.Targets.{next_told}
+use Rattle.std.proofs.lemmas.Bool.{cases_lt}
+use Rattle.pk_base.specs.Firsts.{firsts}
+use Rattle.pk_base.specs.Entry.{Entry}
+use Rattle.pk_model.proofs.Commits.{member}
 
 not_values : (pool : Blocks) (b : ℕ) → (slice_get pool.states b ≡ Some (Owned Journal)) ⊎ (slice_get pool.states b ≡ Some (Owned Meta)) → slice_get pool.states b ≡ Some (Owned Values) → ⊥
 not_values pool b (inl journal) values = let e : Journal ≡ Values = one_owner pool Journal Values b journal values in let c : ⊥ = cc in c
@@ -61,8 +69,11 @@ frozen_size : (one : Bool) (t : Table) → length (if one then record t { entrie
 frozen_size true t = refl
 frozen_size false t = refl
 
-one_left : (a : Next) (u u' : ℕ) → erases_next a ≡ false → u' ≡ u → Lowers (install_steps a) u 0 u'
-one_left a u u' programs same = record { none_ready = omega (arith, same); less = (let one : install_steps a ≡ 1 = rw programs refl in omega (arith, one, same)) }
+-- the first program leaves the second one
+one_left : (a : Next) (u u' : ℕ) → programs_next a ≡ true → u' ≡ u → Lowers (install_steps a) u 1 u'
+one_left (Program page) u u' programs same = record { none_ready = omega (arith, same); less = omega (arith, same) }
+one_left (Erase beside) u u' programs same = absurd (let x : ⊥ = cc in x)
+one_left (Again page) u u' programs same = absurd (let x : ⊥ = cc in x)
 
 module _ (x : Index) (frames : ℕ) (old : BoardState) (top : ℕ × Root) (found : Found) (m : Map) (may : MayWork x frames old.pages top found m) (level : ℕ) (is : x.schedule.phase ≡ Ready level)
     (shared : IsShared x.pool.shape x.pool.states) (known : IsLevels x.levels) (new : BoardState) where
@@ -102,12 +113,17 @@ module _ (x : Index) (frames : ℕ) (old : BoardState) (top : ℕ × Root) (foun
     pub source : 2 ≤ level → slice_index (map (λ (r : Kept). r.count) levels'.runs) (level - 2) ≡ 0
     pub above : (i : ℕ) → i + 2 < level → slice_index (map (λ (r : Kept). r.count) levels'.runs) i ≡ slice_index (map (λ (r : Kept). r.count) x.levels.runs) i
 
-  module _ (log' : LogState) (programs : erases_next x.log.next ≡ false) (f : LogMerged x.log old top found m level out.count out.blocks log' new) (levels' : Levels) (arena' : Frames) (pool' : Blocks) (job' : Job) (r : Replaced levels' arena' pool' job') where
+  module _ (log' : LogState) (programs : programs_next x.log.next ≡ true) (f : LogMerged x.log old top found m level out.count out.blocks log' new) (levels' : Levels) (arena' : Frames) (left : Blocks) (job' : Job) (r : Replaced levels' arena' (freed left) job')
+      (counted : used_by Values left.states ≡ used_by Values x.pool.states) where
+    -- the pool as if the blocks that leave were free
+    abbrev pool' : Blocks
+    pool' = freed left
+
     abbrev then_log : LogState
     then_log = record x.log { root = then_root; next = log'.next; frozen = frozen_after level x.log.frozen }
 
     abbrev then_index : Index
-    then_index = record { log = then_log; levels = levels'; arena = arena'; pool = pool'; schedule = record { job = job'; phase = Idle; freeze = x.schedule.freeze } }
+    then_index = record { log = then_log; levels = levels'; arena = arena'; pool = left; schedule = record { job = job'; phase = Idle; freeze = x.schedule.freeze } }
 
     is_merged : IsMerged shape old.pages [] top found level out.count out.blocks
     is_merged = wait.is_merged x frames old top found m may level is shared known
@@ -117,7 +133,7 @@ module _ (x : Index) (frames : ℕ) (old : BoardState) (top : ℕ × Root) (foun
 
     -- what was freed is named no more
     not_freed : (b : ℕ) → In b (named then_root) → In b (freed_by level root) → ⊥
-    not_freed b among gone = (freed shape old.pages [] top found m level out.count out.blocks b may.stands.logs.is_shape may.under is_merged gone).0 among
+    not_freed b among gone = (freed_unread shape old.pages [] top found m level out.count out.blocks b may.stands.logs.is_shape may.under is_merged gone).0 among
 
     freed_named : (b : ℕ) → In b (freed_by level root) → In b (named root)
     freed_named = (freed_counted shape root level out.count out.blocks (is_true _ (wait.valid x frames old top found m may level is shared known)) (wait.least x frames old top found m may level is shared known) (wait.most x frames old top found m may level is shared known)).2
@@ -154,7 +170,7 @@ module _ (x : Index) (frames : ℕ) (old : BoardState) (top : ℕ × Root) (foun
     under : IsUnder shape new.pages [] (f.page, then_root) then_found m
     under = let U : LogState → Type 0 = λ l. IsUnder shape new.pages [] (f.page, l.root) then_found m in subst U f.merged_is f.under
 
-    stands_then : IndexOnFlash then_index frames new.pages (f.page, then_root) then_found
+    stands_then : IndexOnFlash (settled then_index) frames new.pages (f.page, then_root) then_found
     stands_then =
         let L : LogState → Type 0 = λ l. LogOnFlash l new.pages (f.page, l.root) then_found in
         record {
@@ -197,11 +213,57 @@ module _ (x : Index) (frames : ℕ) (old : BoardState) (top : ℕ × Root) (foun
       pages = λ k owned. same_page x frames old top found m may level is shared known new.pages f.behind Values k owned;
     }
 
+    -- something is frozen still, or the blocks of the older epoch leave
+    frozen_before : 0 < length x.log.frozen.entries
+    frozen_before = not_zero (length x.log.frozen.entries) (next_told shape (backlog_of x).frozen (backlog_of x).runs level (due_now x frames old top found m may level is shared known)).0
+      where
+        not_zero : (n : ℕ) → (n == 0) ≡ false → 0 < n
+        not_zero zero e = absurd (let z : ⊥ = cc in z)
+        not_zero (suc n) e = omega arith
+
+    older_some : 0 < length root.older
+    older_some = elim (cases_lt 0 (length root.older)) [
+      | inl some ↦ some
+      | inr none ↦
+          let empty : root.older ≡ [] = length_none root.older (omega (arith, none)) in
+          let gone : found.older ≡ [] = none_there shape (page_at old.pages) root found may.under.is_found empty in
+          let size : length x.log.frozen.entries ≡ length (firsts (reverse found.older)) = ap (λ (t : Table). length t.entries) may.stands.logs.frozen_is in
+          let zero_keys : length (firsts (reverse found.older)) ≡ 0 = ap (λ (es : List Entry). length (firsts (reverse es))) gone in
+          let some = frozen_before in
+          absurd (omega (arith, some, size, zero_keys))
+    ]
+      where
+        length_none : (xs : List ℕ) → length xs ≤ 0 → xs ≡ []
+        length_none [] none = refl
+        length_none (b ∷ xs) none = absurd (omega (arith, none))
+
+    leaves_one : (one : Bool) (source : List ℕ) → ((b : ℕ) → In b ((if one then root.older else source) ++ blocks_at root.runs level) → slice_get pool'.states b ≡ Some Free) → one ≡ true
+        → (b : ℕ) × (slice_get pool'.states b ≡ Some Free)
+    leaves_one true source gone e = (
+      slice_index root.older 0,
+      gone (slice_index root.older 0) (any_front (λ c. slice_index root.older 0 ≡ c) root.older (blocks_at root.runs level) (member root.older 0 older_some)),
+    )
+    leaves_one false source gone e = absurd (let z : ⊥ = cc in z)
+
+    frozen_still : (one : Bool) → one ≡ false → 0 < length (if one then record x.log.frozen { entries = [] } else x.log.frozen).entries
+    frozen_still false e = frozen_before
+    frozen_still true e = absurd (let z : ⊥ = cc in z)
+
+    busy : (0 < length (frozen_after level x.log.frozen).entries) ⊎ ((b : ℕ) × (slice_get pool'.states b ≡ Some Free))
+    busy = elim (level == 1) as (λ z. (level == 1) ≡ z → (0 < length (frozen_after level x.log.frozen).entries) ⊎ ((b : ℕ) × (slice_get pool'.states b ≡ Some Free))) [
+      | true ↦ λ e. inr (leaves_one (level == 1) (blocks_at root.runs (level - 1)) r.gone e)
+      | false ↦ λ e. inl (frozen_still (level == 1) e)
+    ] refl
+
+    half : HalfStands then_index new.pages m
+    half = record { half = f.half; no_merge = refl; no_freeze = none_taken; busy = busy; counted = counted ∙ sym r.same_values }
+
     pub installed_moves : IndexMoves x frames old found m then_index new
     installed_moves = record {
       then_top = (f.page, then_root);
       then_found = then_found;
       stands = stands_then;
+      ends = inr half;
       same_shape = refl;
       none_pending = may.none_pending;
       under = under;
@@ -212,7 +274,7 @@ module _ (x : Index) (frames : ℕ) (old : BoardState) (top : ℕ × Root) (foun
       cuts = f.cuts;
     }
 
-    over : backlog_of then_index ≡ record (backlog_of x) { frozen = length (frozen_after level x.log.frozen).entries; runs = map (λ (r : Kept). r.count) levels'.runs; merge = None; unready = unready pool'.states }
+    over : backlog_of then_index ≡ record (backlog_of x) { frozen = length (frozen_after level x.log.frozen).entries; runs = map (λ (r : Kept). r.count) levels'.runs; merge = None; half = true; unready = unready left.states }
     over = λ i. record {
       frozen = length (frozen_after level x.log.frozen).entries;
       runs = map (λ (r : Kept). r.count) levels'.runs;
@@ -221,7 +283,8 @@ module _ (x : Index) (frames : ℕ) (old : BoardState) (top : ℕ × Root) (foun
       reclaim = None;
       is_due = false;
       may_freeze = false;
-      unready = unready pool'.states;
+      half = ap repeats_next f.half.again i;
+      unready = unready left.states;
     }
 
     pub installed_less : LessIsLeft x then_index
@@ -229,12 +292,13 @@ module _ (x : Index) (frames : ℕ) (old : BoardState) (top : ℕ × Root) (foun
         let step : EndsMerge shape (backlog_of x) (backlog_of then_index) = record {
           level = level;
           due = due_now x frames old top found m may level is shared known;
+          was_whole = may.settles.whole;
           ended = over;
           frozen = frozen_size (level == 1) x.log.frozen;
           source = r.source;
           above = r.above;
-          lowers = subst (λ o. Lowers (left_of (whole_merge shape level) o) (unready x.pool.states) 0 (unready pool'.states)) (sym (merge_is x frames old top found m may level is shared known))
-              (one_left x.log.next (unready x.pool.states) (unready pool'.states) programs r.same_unready);
+          lowers = subst (λ o. Lowers (left_of (whole_merge shape level) o) (unready x.pool.states) 1 (unready left.states)) (sym (merge_is x frames old top found m may level is shared known))
+              (one_left x.log.next (unready x.pool.states) (unready left.states) programs (sym (freed_unready left) ∙ r.same_unready));
         } in
         let less = ends shape (backlog_of x) (backlog_of then_index) (index_backlog x frames old.pages top found may.stands (shared.size ∙ ap (λ (s : Shape). s.blocks) may.stands.pool_shape)) step in
         let one_less : due_level shape (backlog_of then_index) + 1 ≡ due_level shape (backlog_of x) = less.2 in

@@ -245,10 +245,11 @@ module _ (x : Index) (frames : ℕ) (old new : Flash) (top : ℕ × Root) (found
 
 -- ---- a commit
 
+-- no page differs but in this block of the newest epoch
 module _ (x : Index) (frames : ℕ) (old new : Flash) (top : ℕ × Root) (found : Found) (stands : IndexOnFlash x frames old top found)
-    (at : ℕ) (among : AnyByRecursion (λ b. at / x.log.shape.block_pages ≡ b) top.1.newest) (others : (k : ℕ) → (k ≡ at → ⊥) → page_at new k ≡ page_at old k) (fits : PoolOnFlash x.pool new) where
-  at_owned : slice_get x.pool.states (at / x.log.shape.block_pages) ≡ Some (Owned Journal)
-  at_owned = stands.journal (at / x.log.shape.block_pages) (any_front (λ c. at / x.log.shape.block_pages ≡ c) top.1.newest top.1.older among)
+    (block : ℕ) (among : AnyByRecursion (λ b. block ≡ b) top.1.newest) (others : (k : ℕ) → (k / x.log.shape.block_pages ≡ block → ⊥) → page_at new k ≡ page_at old k) (fits : PoolOnFlash x.pool new) where
+  block_owned : slice_get x.pool.states block ≡ Some (Owned Journal)
+  block_owned = stands.journal block (any_front (λ c. block ≡ c) top.1.newest top.1.older among)
 
   not_both : (b : ℕ) → slice_get x.pool.states b ≡ Some (Owned Meta) → slice_get x.pool.states b ≡ Some (Owned Journal) → ⊥
   not_both b one other = cc
@@ -260,8 +261,8 @@ module _ (x : Index) (frames : ℕ) (old new : Flash) (top : ℕ × Root) (found
     used = refl;
     owned = λ b is. is;
     same = λ b k is here. others k (λ e.
-        let its : b ≡ at / x.log.shape.block_pages = sym here ∙ ap (λ (s : Shape). k / s.block_pages) stands.pool_shape ∙ ap (λ (n : ℕ). n / x.log.shape.block_pages) e in
-        not_both b is (subst (λ (n : ℕ). slice_get x.pool.states n ≡ Some (Owned Journal)) (sym its) at_owned));
+        let its : b ≡ block = sym here ∙ ap (λ (s : Shape). k / s.block_pages) stands.pool_shape ∙ e in
+        not_both b is (subst (λ (n : ℕ). slice_get x.pool.states n ≡ Some (Owned Journal)) (sym its) block_owned));
   }
 
   taken_apart : KeepsTaken x.pool (taken_by x.schedule.freeze) old x.pool new
@@ -269,13 +270,13 @@ module _ (x : Index) (frames : ℕ) (old new : Flash) (top : ℕ × Root) (found
     owned = λ b is. is;
     used = refl;
     same = λ b k is here. others k (λ e.
-        let its : b ≡ at / x.log.shape.block_pages = sym here ∙ ap (λ (s : Shape). k / s.block_pages) stands.pool_shape ∙ ap (λ (n : ℕ). n / x.log.shape.block_pages) e in
+        let its : b ≡ block = sym here ∙ ap (λ (s : Shape). k / s.block_pages) stands.pool_shape ∙ e in
         let t = member_all (IsTaken x.log.shape x.pool old top.1) (taken_by x.schedule.freeze) b stands.freeze.taken is in
         t.unnamed (subst (λ (n : ℕ). AnyByRecursion (λ c. n ≡ c) (named top.1)) (sym its)
-        (any_front (λ c. at / x.log.shape.block_pages ≡ c) (top.1.newest ++ top.1.older) (concat top.1.runs) (any_front (λ c. at / x.log.shape.block_pages ≡ c) top.1.newest top.1.older among))));
+        (any_front (λ c. block ≡ c) (top.1.newest ++ top.1.older) (concat top.1.runs) (any_front (λ c. block ≡ c) top.1.newest top.1.older among))));
   }
 
-  -- behind a commit, which programs a page of the newest epoch
+  -- after a commit, which programs two pages of the newest epoch
   pub index_committed : LogOnFlash (all_committed x.log) new top (committed found x.log.pending) → IndexOnFlash (record x { log = all_committed x.log }) frames new top (committed found x.log.pending)
   index_committed logs = index_then x frames old new top found stands x.pool meta_same taken_apart (all_committed x.log).epoch x.log.active [] (found.newest ++ x.log.pending) logs
 

@@ -1,3 +1,4 @@
+pub mod Settled
 pub mod Keeping
 pub mod Exchanging
 pub mod Giving
@@ -19,3 +20,4 @@ pub mod Leveled
 pub mod Beginning
 pub mod Stepping
 pub mod Calling
+pub mod Finishing

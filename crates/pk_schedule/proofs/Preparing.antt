@@ -15,7 +15,7 @@ use Rattle.pk_plan.specs.declared.owner.Owner.TheVariants.{Meta, Values}
 use Rattle.pk_nand.specs.BoardState.{BoardState}
 use Rattle.pk_rootfmt.specs.Root.{Root}
 use Rattle.pk_root.specs.declared.next.Next.{Next}
-use Rattle.pk_root.specs.Installing.{erases_next}
+use Rattle.pk_root.specs.Installing.{erases_next, programs_next, repeats_next}
 use Rattle.pk_model.specs.Found.{Found}
 use Rattle.pk_model.specs.Laws.{AnyByRecursion}
 use Rattle.pk_pool.specs.declared.state.BlockState.TheVariants.{Owned, Ready as ReadyBlock}
@@ -31,12 +31,15 @@ use Rattle.pk_compact.specs.FreezeSteps.{IsTaken, taken_by, install_steps}
 use Rattle.pk_compact.specs.declared.freezing.FreezeJob.{FreezeJob}
 use Rattle.pk_log.specs.MergeSteps.{LogPrepared}
 use Rattle.pk_schedule.specs.declared.phase.Phase.TheVariants.{Ready}
-use Rattle.pk_schedule.specs.Index.{Index, IndexOnFlash, MergeWaits, MergeStands, output}
+use Rattle.pk_schedule.specs.Index.{Index, IndexOnFlash, MergeWaits, MergeStands, output, IsSettled}
 use Rattle.pk_schedule.specs.Steps.{MayWork, IndexMoves, LessIsLeft, backlog_of, merge_left, freeze_rest_of}
 use Rattle.pk_schedule.proofs.Backlogs.{frozen_is, entries_are}
 use Rattle.pk_schedule.proofs.Keeping.{RunOnFlash-same, RunsOnFlash-same}
 use Rattle.pk_schedule.proofs.Standing.{owned_beyond}
 use Rattle.pk_schedule.proofs.Waiting.{waits, none_taken}
+use Rattle.pk_root.specs.declared.next.Next.TheVariants.{Erase, Program, Again}
+use Rattle.pk_compact.proofs.NextRoot.{programs_whole}
+use Rattle.pk_schedule.proofs.Settled.{stands_settled, values_settled}
 
 -- a block that counts as erased lies behind the root blocks
 pub pool_behind : (pool : Blocks) (old new : Flash) → IsShared pool.shape pool.states → SameBehind pool.shape old new → PoolOnFlash pool old → PoolOnFlash pool new
@@ -51,11 +54,12 @@ pub no_freeze : (job : FreezeJob) (next : Next) → taken_by job ≡ [] → free
 no_freeze job next none = rw (ap (λ (xs : List ℕ). length xs) none) refl
 
 -- an install has one step less behind its erase
-one_fewer : (a b : Next) (u : ℕ) → erases_next a ≡ false → erases_next b ≡ true → Lowers (install_steps b) u (install_steps a) u
-one_fewer a b u programs erases = record {
-  none_ready = omega arith;
-  less = (let one : install_steps a ≡ 1 = rw programs refl in let both : install_steps b ≡ 2 = rw erases refl in omega (arith, one, both));
-}
+one_fewer : (a b : Next) (u : ℕ) → programs_next a ≡ true → erases_next b ≡ true → Lowers (install_steps b) u (install_steps a) u
+one_fewer (Program page) (Erase beside) u programs erases = record { none_ready = omega arith; less = omega arith }
+one_fewer (Program page) (Program other) u programs erases = absurd (let x : ⊥ = cc in x)
+one_fewer (Program page) (Again other) u programs erases = absurd (let x : ⊥ = cc in x)
+one_fewer (Erase beside) b u programs erases = absurd (let x : ⊥ = cc in x)
+one_fewer (Again page) b u programs erases = absurd (let x : ⊥ = cc in x)
 
 module _ (x : Index) (frames : ℕ) (old : BoardState) (top : ℕ × Root) (found : Found) (m : Map) (may : MayWork x frames old.pages top found m) (level : ℕ) (is : x.schedule.phase ≡ Ready level)
     (shared : IsShared x.pool.shape x.pool.states) (known : IsLevels x.levels) where
@@ -138,16 +142,24 @@ module _ (x : Index) (frames : ℕ) (old : BoardState) (top : ℕ × Root) (foun
       };
     }
 
+    whole : repeats_next next' ≡ false
+    whole = programs_whole next' p.programs
+
+    settles : IsSettled then_index
+    settles = record { whole = whole; none_leaves = may.settles.none_leaves }
+
     pub prepared_moves : IndexMoves x frames old found m then_index new
     prepared_moves = record {
       then_top = top;
       then_found = found;
-      stands = stands_on;
+      stands = stands_settled then_index frames new.pages top found settles stands_on;
+      ends = inl settles;
       same_shape = refl;
       none_pending = may.none_pending;
       under = p.under;
       same_places = refl;
-      values = record { size = refl; owned = λ b owned. owned; no_more = λ b owned. owned; as_many = refl; pages = λ k owned. same_page new.pages p.behind Values k owned };
+      values = values_settled then_index shape x.pool old.pages new.pages settles
+          (record { size = refl; owned = λ b owned. owned; no_more = λ b owned. owned; as_many = refl; pages = λ k owned. same_page new.pages p.behind Values k owned });
       numbers = omega arith;
       grows = inl (p.under.is_top ∙ sym may.under.is_top);
       cuts = p.cuts;
@@ -162,6 +174,7 @@ module _ (x : Index) (frames : ℕ) (old : BoardState) (top : ℕ × Root) (foun
       reclaim = None;
       is_due = false;
       may_freeze = false;
+      half = (whole ∙ sym may.settles.whole) i;
       unready = unready x.pool.states;
     }
 
@@ -172,7 +185,7 @@ module _ (x : Index) (frames : ℕ) (old : BoardState) (top : ℕ × Root) (foun
           left = install_steps next';
           due = due_now;
           moved = moved;
-          lowers = subst (λ o. Lowers (left_of (whole_merge shape level) o) (unready x.pool.states) (install_steps next') (unready x.pool.states)) (sym merge_is) (one_fewer next' x.log.next (unready x.pool.states) p.programs_next erases);
+          lowers = subst (λ o. Lowers (left_of (whole_merge shape level) o) (unready x.pool.states) (install_steps next') (unready x.pool.states)) (sym merge_is) (one_fewer next' x.log.next (unready x.pool.states) p.programs erases);
         } in
         let less = moves shape (backlog_of x) (backlog_of then_index) step in
         record { work = less.0; merging = less.1; roots = ap (λ n. x.log.root.number + n) less.2 }

@@ -50,9 +50,10 @@ use Rattle.pk_compact.proofs.Touching.{program_unread, erase_unread}
 use Rattle.pk_log.specs.Laws.{SameNamed}
 use Rattle.pk_log.proofs.Standing.{logs_elsewhere}
 use Rattle.pk_schedule.specs.declared.phase.Phase.{Phase}
-use Rattle.pk_schedule.specs.Index.{Index, IndexOnFlash, MergesInto, MergeStands, output, source_at, entries_at}
+use Rattle.pk_schedule.specs.Index.{Index, IndexOnFlash, MergesInto, MergeStands, output, source_at, entries_at, IsSettled}
 use Rattle.pk_schedule.specs.Steps.{MayWork, IndexMoves}
-use Rattle.pk_schedule.proofs.Grown.{Grew, SameEnd, got_in, in_got, differ_of, owned_not_spare, grew_shape, grew_kept, grew_no_more, grew_size, grew_used, grew_meta, grew_from, same_page, runs_leave}
+use Rattle.pk_schedule.proofs.Grown.{Grew, SameEnd, got_in, in_got, differ_of, owned_not_spare, grew_shape, grew_kept, grew_no_more, grew_size, grew_used, grew_meta, grew_from, same_page, runs_leave, grew_none_leaves}
+use Rattle.pk_schedule.proofs.Settled.{stands_settled, values_settled}
 
 -- what holds of each of a list is shown of it and the ones that are left
 all_of : (P Q : ℕ → Type 0) (xs : List ℕ) → ((x : ℕ) → P x → Q x) → AllByRecursion P xs → AllByRecursion Q xs
@@ -280,22 +281,26 @@ module _ (x : Index) (frames : ℕ) (old : BoardState) (top : ℕ × Root) (foun
         };
       }
 
+      settles : IsSettled stepped
+      settles = record { whole = may.settles.whole; none_leaves = grew_none_leaves x.pool out pool (output_of job) may.settles.none_leaves grew }
+
       pub moves_then : MergeStands phase stepped new.pages top.1 found → IndexMoves x frames old found m stepped new
       moves_then merge = record {
         then_top = top;
         then_found = found;
-        stands = index_then merge;
+        stands = stands_settled stepped frames new.pages top found settles (index_then merge);
+        ends = inl settles;
         same_shape = refl;
         none_pending = may.none_pending;
         under = leaves.under;
         same_places = refl;
-        values = record {
+        values = values_settled stepped x.log.shape x.pool old.pages new.pages settles (record {
           size = grew_size x.pool out pool (output_of job) grew;
           owned = kept Values;
           no_more = λ b owned. grew_no_more x.pool out pool (output_of job) grew b Values refl owned;
           as_many = grew_used x.pool out pool (output_of job) grew Values refl;
           pages = λ k owned. owned_page new.pages end k Values (λ e. cc) owned;
-        };
+        });
         numbers = omega arith;
         grows = grows new.pages end;
         cuts = leaves.cuts;

@@ -1,7 +1,7 @@
 -- What the step of a merge's job leaves of an index, whether it was done or a call of it failed.
 use Rattle.std.proofs.Common.{◌≡◌, inl, inr, ℕ, ◌+◌, ◌≤◌, Bool, true, false, List, length, map, Option, Some, Result, Err, refl, sym, ap, subst, ◌∙◌, arith}
 use Rattle.std.specs.Prelude.{unwrap_or, IsTrue, ◌↔◌}
-use Rattle.pk_base.specs.Shape.{Shape, IsShape, cap}
+use Rattle.pk_base.specs.Shape.{Shape, cap}
 use Rattle.pk_base.specs.Entry.{Entry}
 use Rattle.pk_base.specs.Map.{Map}
 use Rattle.pk_base.specs.Merge.{next_merge}
@@ -21,7 +21,7 @@ use Rattle.pk_work.proofs.Lowering.{moves as merge_moves}
 use Rattle.pk_run.specs.Kept.{Kept, RunOnFlash, empty, most_pages, most_blocks}
 use Rattle.pk_level.specs.Levels.{run_of}
 use Rattle.pk_model.specs.Found.{Found}
-use Rattle.pk_model.specs.Growth.{Grows, Goes}
+use Rattle.pk_model.specs.Growth.{Goes}
 use Rattle.pk_model.specs.Crashes.{CrashFinds, background}
 use Rattle.pk_model.specs.Tree.{run_at}
 use Rattle.pk_model.specs.Wear.{roots}
@@ -50,7 +50,7 @@ use Rattle.pk_schedule.specs.Sources.{ShowsSame}
 use Rattle.pk_schedule.proofs.Carried.{Shown, shown, same_shown, job_carried, left_same, done_same}
 use Rattle.pk_schedule.proofs.Grown.{Grew, SameEnd, acts_grow, acts_frames, reached_end, went_end}
 use Rattle.pk_schedule.proofs.Entries.{output_same, frozen_many, counts_same}
-use Rattle.pk_schedule.proofs.Running.{job_leaves, job_breaks, same_leaves, front_same, grows as front_grows, into_then, index_then, moves_then}
+use Rattle.pk_schedule.proofs.Running.{job_leaves, job_breaks, same_leaves, front_same, into_then, index_then, moves_then}
 
 not_both : (b : Bool) → b ≡ true → b ≡ false → ⊥
 not_both true e f = absurd (let z : ⊥ = cc in z)
@@ -186,9 +186,6 @@ module _ (x : Index) (frames : ℕ) (old : BoardState) (top : ℕ × Root) (foun
           let pinned : pins x.schedule.job ≡ pins job = sym (ap (λ (j : Job). pins j) is_job) in
           moves_to (Ready level) (record { into = into_behind (Ready level); whole = subst (λ (b : Bool). IsWhole b (output_of job) new.pages arena (whole_output level found)) pinned (subst (λ (xs : List Entry). IsWhole (pins x.schedule.job) (output_of job) new.pages arena xs) its all) })
 
-      pub flash_grows : Grows x.log.shape old.pages new.pages
-      flash_grows = front_grows x frames old top found m may shared ready level into new.pages end
-
       -- ---- what is left
 
       module _ (lowers : LowersTo source target out x.schedule.job.merger x.pool (output_of job) job.merger pool (most_pages out) (most_blocks out)) where
@@ -249,9 +246,6 @@ module _ (x : Index) (frames : ℕ) (old : BoardState) (top : ℕ × Root) (foun
     module _ (new : BoardState) (j' : Merger) (fails : Fails source target out x.schedule.job.merger x.pool old Stopped j' new) where
       pub goes_broken : Goes x.log.shape old new (CrashFinds x.log.shape background old.pages m)
       goes_broken = job_breaks x frames old top found m may shared ready level into new source target x.schedule.job.merger x.arena es fs job_now.running j' fails
-
-    pub stopped_grows : (new : BoardState) → StepWent x.pool out old new → Grows x.log.shape old.pages new.pages
-    stopped_grows new went = front_grows x frames old top found m may shared ready level into new.pages (went_end x.pool out old new went)
 
     -- ---- a step whose read failed
 
@@ -368,9 +362,6 @@ module _ (x : Index) (frames : ℕ) (old : BoardState) (top : ℕ × Root) (foun
 
   pub read_end : (new : BoardState) → OnlyReading old new → SameEnd x.pool out old.pages new.pages
   read_end new only = inl (ap (λ (b : BoardState). b.pages) only)
-
-  pub grows_by : (new : BoardState) → SameEnd x.pool out old.pages new.pages → Grows x.log.shape old.pages new.pages
-  grows_by new end = front_grows x frames old top found m may shared ready level into new.pages end
 
   pub ready_by : (new : BoardState) → IsReady new x.schedule.job.merger.shape → IsReady new x.log.shape
   ready_by new after = subst (λ (s : Shape). IsReady new s) into.merger_shape after

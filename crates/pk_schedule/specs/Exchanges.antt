@@ -1,4 +1,4 @@
--- The exchange of runs behind a merge.
+-- The exchange of runs after a merge. Each pool is seen as if the blocks that leave were free.
 use Rattle.std.specs.Prelude.{◌≡◌, ℕ, ◌-◌, List, ◌++◌, true, slice_get, Some}
 use Rattle.std.specs.List.{AllByRecursion}
 use Rattle.pk_base.specs.Page.{Flash}

@@ -1,5 +1,5 @@
 -- The index of a drive, where it keeps which key has its value where: its log and its runs, the blocks of both, and the jobs that keep the lists short.
-use Rattle.std.specs.Prelude.{◌≡◌, ℕ, ◌+◌, ◌-◌, ◌<◌, List, [], length, map, ◌==◌, ◌++◌, if◌then◌else◌, slice_get, Some, true}
+use Rattle.std.specs.Prelude.{◌≡◌, ◌⊎◌, ℕ, ◌+◌, ◌-◌, ◌<◌, List, [], length, map, ◌==◌, ◌++◌, if◌then◌else◌, slice_get, Some, true, false}
 use Rattle.std.specs.Borrow.{Bor}
 use Rattle.std.specs.List.{concat, AllByRecursion}
 use Rattle.pk_base.specs.Shape.{Shape, pinned}
@@ -8,11 +8,11 @@ use Rattle.pk_base.specs.Firsts.{firsts}
 use Rattle.pk_base.specs.Merge.{next_merge}
 use Rattle.pk_base.specs.Page.{Flash}
 use Rattle.pk_plan.specs.declared.owner.Owner.{Owner}
-use Rattle.pk_plan.specs.declared.owner.Owner.TheVariants.{Journal, Meta}
+use Rattle.pk_plan.specs.declared.owner.Owner.TheVariants.{Journal, Meta, Values}
 use Rattle.pk_rootfmt.specs.Root.{Root, named, differ}
 use Rattle.pk_pin.specs.Frames.{Frames}
-use Rattle.pk_pool.specs.declared.state.BlockState.TheVariants.{Owned}
-use Rattle.pk_pool.specs.Blocks.{Blocks, PoolOnFlash, used_by}
+use Rattle.pk_pool.specs.declared.state.BlockState.TheVariants.{Owned, Free}
+use Rattle.pk_pool.specs.Blocks.{Blocks, PoolOnFlash, NoneLeaves, used_by, freed}
 use Rattle.pk_run.specs.Kept.{Kept}
 use Rattle.pk_level.specs.Levels.{Levels, RunsOnFlash, HaveBlocks, run_of}
 use Rattle.pk_level.specs.Arenas.{HasArena}
@@ -27,6 +27,9 @@ use Rattle.pk_merge.specs.Merging.{IsDone}
 use Rattle.pk_merge.specs.Running.{IsWhole}
 use Rattle.pk_compact.specs.declared.freezing.FreezeJob.{FreezeJob}
 use Rattle.pk_compact.specs.FreezeSteps.{IsTaken, taken_by}
+use Rattle.pk_compact.specs.Installing.{IsHalf}
+use Rattle.pk_root.specs.Installing.{repeats_next}
+use Rattle.pk_base.specs.Map.{Map}
 use Rattle.pk_schedule.specs.declared.phase.Phase.{Phase}
 use Rattle.pk_schedule.specs.declared.phase.Phase.TheVariants.{Idle, Running, Ready}
 use Rattle.pk_log.specs.State.{LogState}
@@ -132,6 +135,28 @@ pub record FreezeStands (x : Index) (flash : Flash) (root : Root) : Type 0 where
   pub taken : AllByRecursion (IsTaken x.log.shape x.pool flash root) (taken_by x.schedule.freeze)
   pub different : differ (taken_by x.schedule.freeze) ≡ true
   pub none_frozen : 0 < length (taken_by x.schedule.freeze) → x.log.frozen.entries ≡ []
+
+-- ---- half made pairs
+
+-- the index as if the blocks that leave were free
+abbrev pub settled : Index → Index
+settled x = record x { pool = freed x.pool }
+
+-- no pair of a root is half made, and no block leaves
+pub record IsSettled (x : Index) : Type 0 where
+  pub whole : repeats_next x.log.next ≡ false
+  pub none_leaves : NoneLeaves x.pool
+
+-- The pair of the newest root is half made; before its first program the same map stood under the former root. No merge and no freeze runs.
+-- Something is frozen, or a block is free that was not erased since it had an owner, so that the index is not idle.
+pub record HalfStands (x : Index) (flash : Flash) (m : Map) : Type 0 where
+  pub half : IsHalf x.log.shape x.log.next flash m
+  pub no_merge : x.schedule.phase ≡ Idle
+  pub no_freeze : taken_by x.schedule.freeze ≡ []
+  -- no block for values leaves
+  pub counted : used_by Values x.pool.states ≡ used_by Values (freed x.pool).states
+  pub busy : (0 < length x.log.frozen.entries)
+      ⊎ ((b : ℕ) × (slice_get (freed x.pool).states b ≡ Some Free))
 
 -- ---- how it stands to a flash
 

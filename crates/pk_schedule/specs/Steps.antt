@@ -1,25 +1,26 @@
 -- What a step of the jobs asks of an index and its flash, and what it leaves.
-use Rattle.std.specs.Prelude.{◌≡◌, ℕ, ◌+◌, ◌/◌, ◌<◌, ◌≤◌, [], length, map, Bool, true, false, ◌==◌, ◌&&◌, if◌then◌else◌, slice_get, Option, Some, None}
+use Rattle.std.specs.Prelude.{◌≡◌, ◌⊎◌, ℕ, ◌+◌, ◌/◌, ◌<◌, ◌≤◌, [], length, map, Bool, true, false, ◌==◌, ◌&&◌, if◌then◌else◌, slice_get, Option, Some, None}
 use Rattle.pk_base.specs.Shape.{Shape}
 use Rattle.pk_base.specs.Page.{Flash, page_at}
 use Rattle.pk_base.specs.Map.{Map}
 use Rattle.pk_work.specs.Backlog.{Backlog, due_level}
 use Rattle.pk_work.specs.Rest.{Lowers}
-use Rattle.pk_work.specs.Work.{work, merging as merging_left}
+use Rattle.pk_work.specs.Work.{work, merging_left}
 use Rattle.pk_nand.specs.BoardState.{BoardState}
 use Rattle.pk_nand.specs.Calls.{IsReady, Rose}
 use Rattle.pk_nand.specs.Effects.{AtMostOneCall, OnlyFlash, OnlyReading}
 use Rattle.pk_plan.specs.declared.owner.Owner.TheVariants.{Values}
 use Rattle.pk_rootfmt.specs.Root.{Root, last_number}
 use Rattle.pk_pool.specs.declared.state.BlockState.TheVariants.{Owned}
-use Rattle.pk_pool.specs.Blocks.{Blocks, used_by}
+use Rattle.pk_pool.specs.Blocks.{Blocks, used_by, freed}
 use Rattle.pk_pool.specs.Unready.{unready}
 use Rattle.pk_root.specs.declared.next.Next.{Next}
+use Rattle.pk_root.specs.Installing.{repeats_next}
 use Rattle.pk_run.specs.Kept.{most_pages, most_blocks}
 use Rattle.pk_level.specs.Levels.{run_of}
 use Rattle.pk_model.specs.Found.{Found}
 use Rattle.pk_model.specs.Growth.{Grows, Reaches, Goes}
-use Rattle.pk_model.specs.Wear.{roots}
+use Rattle.pk_model.specs.Wear.{roots, root_number}
 use Rattle.pk_model.specs.Crashes.{CrashFinds, background}
 use Rattle.pk_steps.specs.Under.{IsUnder, IsValuePage, places}
 use Rattle.pk_merge.specs.Remaining.{steps_left}
@@ -29,7 +30,7 @@ use Rattle.pk_compact.specs.FreezeSteps.{freeze_left, install_steps, taken_by}
 use Rattle.pk_schedule.specs.declared.phase.Phase.{Phase}
 use Rattle.pk_schedule.specs.declared.phase.Phase.TheVariants.{Idle, Running, Ready}
 pub use Rattle.pk_log.specs.MergeSteps.{KeepsActive}
-use Rattle.pk_schedule.specs.Index.{Index, IndexOnFlash, output, source_at}
+use Rattle.pk_schedule.specs.Index.{Index, IndexOnFlash, IsSettled, HalfStands, settled, output, source_at}
 
 -- ---- what is left
 
@@ -56,6 +57,7 @@ backlog_of x = record {
   reclaim = None;
   is_due = false;
   may_freeze = false;
+  half = repeats_next x.log.next;
   unready = unready x.pool.states;
 }
 
@@ -71,10 +73,11 @@ has_no_merge x = is_between x.schedule.phase && (length x.log.frozen.entries == 
 
 -- ---- what a step asks
 
--- The index stands on the flash, whose map this is, with nothing pending, and the values lie in blocks of their own.
+-- The index stands on the flash, whose map this is, with nothing pending and no pair half made, and the values lie in blocks of their own.
 pub record MayWork (x : Index) (frames : ℕ) (flash : Flash) (top : ℕ × Root) (found : Found)
     (m : Map) : Type 0 where
   pub stands : IndexOnFlash x frames flash top found
+  pub settles : IsSettled x
   pub none_pending : x.log.pending ≡ []
   pub under : IsUnder x.log.shape flash [] top found m
   pub values : (k : ℕ) → IsValuePage x.log.shape (places found []) k
@@ -96,17 +99,18 @@ pub record KeepsValues (shape : Shape) (pool : Blocks) (old : Flash) (pool' : Bl
       → page_at new k ≡ page_at old k
 
 -- One step further the index stands on the flash, with the same map and the same places of its values, under the same root or the one that
--- follows; so it is wherever the step is cut.
+-- follows, whose pair is half made then: it stands as if the blocks that leave were free. So it is wherever the step is cut.
 pub record IndexMoves (x : Index) (frames : ℕ) (old : BoardState) (found : Found) (m : Map)
     (x' : Index) (new : BoardState) : Type 0 where
   pub then_top : ℕ × Root
   pub then_found : Found
-  pub stands : IndexOnFlash x' frames new.pages then_top then_found
+  pub stands : IndexOnFlash (settled x') frames new.pages then_top then_found
+  pub ends : IsSettled x' ⊎ HalfStands x' new.pages m
   pub same_shape : x'.log.shape ≡ x.log.shape
   pub none_pending : x'.log.pending ≡ []
   pub under : IsUnder x.log.shape new.pages [] then_top then_found m
   pub same_places : places then_found [] ≡ places found []
-  pub values : KeepsValues x.log.shape x.pool old.pages x'.pool new.pages
+  pub values : KeepsValues x.log.shape x.pool old.pages (freed x'.pool) new.pages
   pub numbers : x'.log.root.number ≤ x.log.root.number + 1
   pub grows : Grows x.log.shape old.pages new.pages
   pub cuts : Reaches x.log.shape old new (CrashFinds x.log.shape background old.pages m)
@@ -124,8 +128,8 @@ pub record Unmoved (x : Index) (x' : Index) : Type 0 where
 
 -- ---- a step of the merges
 
--- It lowers what is left of the background work, and what is left to empty the frozen buffer. Where it installs a root, the level that is
--- due is one less.
+-- It lowers what is left of the background work, and what is left to empty the frozen buffer. Where it makes the first program of a root, the
+-- level that is due is one less.
 pub record LessIsLeft (x x' : Index) : Type 0 where
   pub work : work x.log.shape (backlog_of x') < work x.log.shape (backlog_of x)
   pub merging : merging_left x.log.shape (backlog_of x') < merging_left x.log.shape (backlog_of x)
@@ -160,17 +164,54 @@ pub record FailsByRead (x : Index) (old : BoardState) (x' : Index) (new : BoardS
   pub flash : Rose old.flash_faults new.flash_faults
   pub only : OnlyReading old new
 
--- Whatever came of it, it made at most one call of the flash, whose pages have grown, and installed at most one root.
+-- Whatever came of it, it made at most one call of the flash, and installed at most one root.
 pub record CallsOnce (shape : Shape) (old new : BoardState) : Type 0 where
   pub calls : AtMostOneCall old new
   pub rest : OnlyFlash old new
-  pub grows : Grows shape old.pages new.pages
   pub installs : roots new ≤ roots old + 1
   pub ready : IsReady new shape
 
+-- ---- the second program of a root
+
+-- What it asks: the pair of the newest root is half made, and the index stands on the flash as if the blocks that leave were free.
+pub record MaySettle (x : Index) (frames : ℕ) (flash : Flash) (top : ℕ × Root) (found : Found)
+    (m : Map) : Type 0 where
+  pub stands : IndexOnFlash (settled x) frames flash top found
+  pub half : HalfStands x flash m
+  pub none_pending : x.log.pending ≡ []
+  pub under : IsUnder x.log.shape flash [] top found m
+  pub values : (k : ℕ) → IsValuePage x.log.shape (places found []) k
+      → slice_get (freed x.pool).states (k / x.log.shape.block_pages) ≡ Some (Owned Values)
+
+-- The pair is whole, and the blocks that left are free; of the log no more differs than what its installer does next. The index stands on the
+-- flash under the same root, with the same map, wherever the program is cut. Less is left then.
+pub record IndexSettles (x : Index) (frames : ℕ) (old : BoardState) (top : ℕ × Root) (found : Found)
+    (m : Map) (x' : Index) (new : BoardState) : Type 0 where
+  pub stands : IndexOnFlash x' frames new.pages top found
+  pub settles : IsSettled x'
+  pub log : x'.log ≡ record x.log { next = x'.log.next }
+  pub rest : x' ≡ record (settled x) { log = x'.log }
+  pub under : IsUnder x.log.shape new.pages [] top found m
+  pub values : KeepsValues x.log.shape (freed x.pool) old.pages x'.pool new.pages
+  pub less : LessIsLeft x x'
+  pub number : root_number x.log.shape new.pages ≡ root_number x.log.shape old.pages
+  pub grows : Grows x.log.shape old.pages new.pages
+  pub cuts : Reaches x.log.shape old new (CrashFinds x.log.shape background old.pages m)
+
+-- for whatever stands there
+abbrev pub Settles : Index → BoardState → Index → BoardState → Type 0
+Settles x old x' new = (frames : ℕ) (top : ℕ × Root) (found : Found) (m : Map)
+    → MaySettle x frames old.pages top found m → IndexSettles x frames old top found m x' new
+
+-- the same of a program that failed
+abbrev pub SettleBreaks : Index → BoardState → BoardState → Type 0
+SettleBreaks x old new =
+    (frames : ℕ) (top : ℕ × Root) (found : Found) (m : Map) → MaySettle x frames old.pages top found m
+    → Goes x.log.shape old new (CrashFinds x.log.shape background old.pages m)
+
 -- ---- a step of a freeze
 
--- what a step of a freeze asks: no merge runs, and nothing is frozen
+-- what a step of a freeze asks up to the first program of its root: no merge runs, and nothing is frozen
 pub record MayFreeze (x : Index) (frames : ℕ) (flash : Flash) (top : ℕ × Root) (found : Found)
     (m : Map) : Type 0 where
   pub may : MayWork x frames flash top found m
@@ -179,6 +220,7 @@ pub record MayFreeze (x : Index) (frames : ℕ) (flash : Flash) (top : ℕ × Ro
 -- The freeze is one step further, and the log is as before, but for what its installer does next; less is left of the freeze.
 pub record FreezeMoves (x x' : Index) : Type 0 where
   pub log : x'.log ≡ record x.log { next = x'.log.next }
+  pub whole : repeats_next x'.log.next ≡ false
   pub rest : x' ≡ record x {
     log = x'.log;
     pool = x'.pool;
@@ -189,7 +231,7 @@ pub record FreezeMoves (x x' : Index) : Type 0 where
   -- it has taken a block
   pub some : 0 < length (taken_by x'.schedule.freeze)
 
--- The freeze is over: an empty epoch is the newest one, and the buffers are exchanged.
+-- The first program of the freeze's root was made: an empty epoch is the newest one, and the buffers are exchanged. The second program is left.
 pub record Freezes (x x' : Index) : Type 0 where
   pub rest : x' ≡ record x {
     log = x'.log;
@@ -200,5 +242,14 @@ pub record Freezes (x x' : Index) : Type 0 where
   pub frozen : x'.log.frozen ≡ x.log.active
   pub unused : x'.log.epoch.used ≡ 0
   pub takes_more : x'.log.epoch.takes_more ≡ true
-  pub lowers : Lowers (freeze_left x.schedule.freeze x.log.next) (unready x.pool.states) 0
+  pub whole_epoch : x'.log.epoch.half ≡ false
+  pub half : repeats_next x'.log.next ≡ true
+  pub lowers : Lowers (freeze_left x.schedule.freeze x.log.next) (unready x.pool.states) 1
       (unready x'.pool.states)
+
+-- a step of a freeze that failed, the second program of a root too
+abbrev pub FreezeBreaks : Index → BoardState → BoardState → Type 0
+FreezeBreaks x old new =
+    (frames : ℕ) (top : ℕ × Root) (found : Found) (m : Map)
+    → MayFreeze x frames old.pages top found m ⊎ MaySettle x frames old.pages top found m
+    → Goes x.log.shape old new (CrashFinds x.log.shape background old.pages m)

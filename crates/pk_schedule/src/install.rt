@@ -18,9 +18,9 @@ use pk_pool::Pool;
 use pk_region::Region;
 
 impl<A: Region> Schedule<A> {
-    // One step of the install of the merge whose output stands: the erase before its root, where one
-    // is next, or the program of the root. Behind that the runs are exchanged, and what the former
-    // ones and the source had is given back. `Stopped` where the call fails.
+    // One step of the install of the merge whose output stands, up to the first program of its root: the erase before the root, if
+    // one is next, or that program. After it the runs are exchanged; the blocks of the former ones and of the source leave, and their
+    // frames are given back. `Stopped` if the call fails.
     pub(crate) fn install<B: Nand>(
         &mut self,
         board: &mut B,

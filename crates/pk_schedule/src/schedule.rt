@@ -1,18 +1,22 @@
 //! The schedule of merges and freezes.
-ghost use Rattle.std.specs.Prelude.{◌≡◌, ◌≤◌, ◌<◌, ◌+◌, true, false, ℕ, length, IfOk, IfErr, OnOk, OnErr, Ok, Err, MatchBool, MatchOption, not, ◌==◌};
+ghost use Rattle.std.specs.Prelude.{◌≡◌, ◌≤◌, ◌<◌, ◌+◌, ◌⊎◌, true, false, ℕ, length, IfOk, IfErr, OnOk, OnErr, Ok, Err, MatchBool, MatchOption, not, ◌==◌};
 ghost use Rattle.pk_base.specs.Map.{Map};
 ghost use Rattle.pk_base.specs.Shape.{pinned};
 ghost use Rattle.pk_nand.specs.Calls.{IsReady};
-ghost use Rattle.pk_nand.specs.Effects.{NoFault, Stops, Works};
+ghost use Rattle.pk_nand.specs.Effects.{NoFault, OneProgram, Stops, Works};
 ghost use Rattle.pk_nand.specs.declared.types.Fault.TheVariants.{Reading, Stopped};
 ghost use Rattle.pk_rootfmt.specs.Root.{Root as RootValue};
 ghost use Rattle.pk_model.specs.Found.{Found};
+ghost use Rattle.pk_model.specs.Wear.{roots};
 ghost use Rattle.pk_merge.specs.Jobs.{IsIdle};
 ghost use Rattle.pk_compact.specs.FreezeSteps.{taken_by};
 ghost use Rattle.pk_compact.specs.declared.freezing.FreezeJob.TheVariants.{Idle as NoFreeze};
 ghost use Rattle.pk_schedule.specs.declared.phase.Phase.TheVariants.{Idle as NoMerge};
 ghost use Rattle.pk_schedule.specs.Index.{index, merging as merging_of};
-ghost use Rattle.pk_schedule.specs.Steps.{MayWork, MayFreeze, Moves, Less, FailsByRead, KeepsActive, CallsOnce, Breaks, FreezeMoves, Freezes, has_no_merge, is_between};
+ghost use Rattle.pk_schedule.specs.Steps.{MayWork, MayFreeze, MaySettle, Moves, Less, FailsByRead, KeepsActive, CallsOnce, Breaks, Settles, SettleBreaks, FreezeBreaks, FreezeMoves, Freezes, has_no_merge, is_between};
+ghost use Rattle.pk_pin.specs.Frames.{Frames};
+ghost use Rattle.pk_level.specs.Levels.{Levels as LevelsSpec};
+ghost use Rattle.pk_root.specs.Installing.{repeats_next};
 
 use crate::phase::{Phase, Stepped};
 use pk_compact::FreezeJob;
@@ -92,9 +96,10 @@ impl<A: Region> Schedule<A> {
     }
 
     /// One step of the merges, by at most one call of the board: the next merge begins, its output grows, the root block that is next
-    /// is erased, or its root is programmed. In the step that programs the root the runs are exchanged, and the blocks and frames of
-    /// the former ones are given back. `Reading` where a read fails: all is as it was, and the step can be made again. `Stopped` where
-    /// a program or an erase fails; nothing is to be used any more then. `buf` has a page's bytes, which are lost.
+    /// is erased, or its root gets its first program. In the step that makes that program the runs are exchanged, the blocks of the
+    /// former ones leave, and their frames are given back; `finish` is the next step then. No pair may be half made before. `Reading`
+    /// if a read fails: all is as it was, and the step can be made again. `Stopped` if a program or an erase fails; nothing is to be
+    /// used any more then. `buf` has a page's bytes, which are lost.
     pub fn step<B: Nand>(
         &mut self,
         board: &mut B,
@@ -161,11 +166,111 @@ impl<A: Region> Schedule<A> {
         }
     }
 
+    /// The second program of the newest root, whose pair is half made: the one call of the board. After it the blocks that leave are
+    /// free. `Stopped` if it fails; nothing is to be used any more then. `buf` has a page's bytes, which are lost.
+    pub fn finish<B: Nand>(
+        &self,
+        board: &mut B,
+        pool: &mut Pool<A>,
+        log: &mut Log<A>,
+        buf: &mut [u8],
+    ) -> Result<(), Fault>
+        requires ready { IsReady (B.state board.old) log.old.shape }
+        requires repeats { repeats_next log.old.next ≡ true }
+        requires may { (levels : LevelsSpec) × (arena : Frames) × (frames : ℕ)
+            × (top : ℕ × RootValue) × (found : Found) × (m : Map)
+            × MaySettle (index log.old levels arena pool.old self.now) frames
+            (B.state board.old).pages top found m }
+        requires room { length buf.old ≡ log.old.shape.page_bytes }
+
+        // The pair is whole.
+        ensures settles { OnOk result ((levels : LevelsSpec) (arena : Frames)
+            → Settles (index log.old levels arena pool.old self.now) (B.state board.old)
+            (index log.new levels arena pool.new self.now) (B.state board.new)) }
+
+        // Or the program failed.
+        ensures stopped { IfErr result (λ fault. fault ≡ Stopped) }
+        ensures broken { OnErr result ((levels : LevelsSpec) (arena : Frames) → SettleBreaks
+            (index log.old levels arena pool.old self.now) (B.state board.old)
+            (B.state board.new)) }
+        ensures stops { OnErr result (Stops (B.state board.old) (B.state board.new)) }
+
+        // The board and the log.
+        ensures sound { OnOk result (Works (B.state board.old) (B.state board.new)) }
+        ensures calls { CallsOnce log.old.shape (B.state board.old) (B.state board.new) }
+        ensures program { OneProgram (B.state board.old) (B.state board.new) }
+        ensures number { roots (B.state board.new) ≤ roots (B.state board.old) }
+        ensures same_log { log.new ≡ record log.old { next = log.new.next } }
+        ensures buffer { length buf.new ≡ length buf.old }
+    {
+        pool.known();
+        log.finish_pair(board, pool, buf)
+    }
+
     /// One step of a freeze of the active buffer, by at most one call of the board: a block of the empty epoch, the other one, the
-    /// erase before the root, its program. True exactly where this call programmed it: the empty epoch is the newest one then, and the
-    /// buffers are exchanged. Nothing may be pending, no merge run, and nothing be frozen. `Stopped` where the call fails; nothing is
-    /// to be used any more then. `buf` has a page's bytes, which are lost.
+    /// erase before the root, its first program, its second one. True exactly if this call made the second program of a root. From the
+    /// first program on the empty epoch is the newest one, and the buffers are exchanged; the blocks of a former epoch without entries
+    /// are free after the second. Nothing may be pending; at the freeze's start no merge may run, and nothing be frozen. `Stopped` if
+    /// the call fails; nothing is to be used any more then. `buf` has a page's bytes, which are lost.
     pub fn freeze_step<B: Nand>(
+        &mut self,
+        board: &mut B,
+        pool: &mut Pool<A>,
+        arena: &PinArena<A>,
+        levels: &Levels<A>,
+        log: &mut Log<A>,
+        buf: &mut [u8],
+    ) -> Result<bool, Fault>
+        requires ready { IsReady (B.state board.old) log.old.shape }
+        requires may { (frames : ℕ) × (top : ℕ × RootValue) × (found : Found) × (m : Map)
+            × (MayFreeze (index log.old levels.now arena.now pool.old self.old) frames
+            (B.state board.old).pages top found m
+            ⊎ MaySettle (index log.old levels.now arena.now pool.old self.old) frames
+            (B.state board.old).pages top found m) }
+        requires room { length buf.old ≡ log.old.shape.page_bytes }
+
+        // The second program of a root, or a step before the first one, or the first one.
+        ensures turn { IfOk result (λ done. done ≡ repeats_next log.old.next) }
+        ensures settles { result ≡ Ok true → Settles (index log.old levels.now arena.now pool.old
+            self.old) (B.state board.old) (index log.new levels.now arena.now pool.new self.new)
+            (B.state board.new) }
+        ensures moves { result ≡ Ok false → Moves (index log.old levels.now arena.now pool.old
+            self.old) (B.state board.old) (index log.new levels.now arena.now pool.new self.new)
+            (B.state board.new) }
+        ensures freezes { result ≡ Ok false
+            → FreezeMoves (index log.old levels.now arena.now pool.old self.old)
+            (index log.new levels.now arena.now pool.new self.new)
+            ⊎ Freezes (index log.old levels.now arena.now pool.old self.old)
+            (index log.new levels.now arena.now pool.new self.new) }
+
+        // Whatever came of it, nothing is pending.
+        ensures same_log { (log.new.shape ≡ log.old.shape) × (log.new.pending ≡ log.old.pending) }
+
+        // Or the call failed.
+        ensures stopped { IfErr result (λ fault. fault ≡ Stopped) }
+        ensures broken { OnErr result (FreezeBreaks (index log.old levels.now arena.now pool.old
+            self.old) (B.state board.old) (B.state board.new)) }
+        ensures stops { OnErr result (Stops (B.state board.old) (B.state board.new)) }
+
+        // The board.
+        ensures sound { OnOk result (Works (B.state board.old) (B.state board.new)) }
+        ensures calls { CallsOnce log.old.shape (B.state board.old) (B.state board.new) }
+        ensures buffer { length buf.new ≡ length buf.old }
+    {
+        if log.repeats_next() {
+            return match self.finish(board, pool, log, buf) {
+                Ok(()) => Ok(true),
+                Err(fault) => Err(fault),
+            };
+        }
+        match self.freeze_once(board, pool, arena, levels, log, buf) {
+            Ok(_) => Ok(false),
+            Err(fault) => Err(fault),
+        }
+    }
+
+    // One step of a freeze up to the first program of its root. True exactly if this call made that program.
+    fn freeze_once<B: Nand>(
         &mut self,
         board: &mut B,
         pool: &mut Pool<A>,
@@ -180,7 +285,7 @@ impl<A: Region> Schedule<A> {
             (B.state board.old).pages top found m }
         requires room { length buf.old ≡ log.old.shape.page_bytes }
 
-        // The freeze is a step further, or over.
+        // The freeze is a step further, or its root is named.
         ensures moves { OnOk result (Moves (index log.old levels.now arena.now pool.old self.old)
             (B.state board.old) (index log.new levels.now arena.now pool.new self.new)
             (B.state board.new)) }
@@ -189,8 +294,6 @@ impl<A: Region> Schedule<A> {
             (index log.new levels.now arena.now pool.new self.new))
             (FreezeMoves (index log.old levels.now arena.now pool.old self.old)
             (index log.new levels.now arena.now pool.new self.new))) }
-
-        // Whatever came of it, nothing is pending.
         ensures same_log { (log.new.shape ≡ log.old.shape) × (log.new.pending ≡ log.old.pending) }
 
         // Or the call failed.

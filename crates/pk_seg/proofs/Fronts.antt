@@ -8,11 +8,11 @@ use Rattle.std.proofs.lemmas.Bool.{cases_lt}
 use Rattle.pk_base.specs.Fields.{zeros}
 use Rattle.pk_base.specs.Key.{Key, IsKey}
 use Rattle.pk_base.specs.Shape.{Shape, IsShape, charge, fetched}
-use Rattle.pk_base.proofs.ShapeLemmas.{fetched_needed}
+use Rattle.pk_base.proofs.ShapeLemmas.{fetched_needed, charge_room}
 use Rattle.pk_base.proofs.Tables.{length-padded}
 use Rattle.pk_segfmt.specs.Value.{head_bytes, value_bytes}
 use Rattle.pk_segfmt.specs.Stored.{page_of}
-use Rattle.pk_segfmt.proofs.StoredLemmas.{charge_room, length-head_bytes, page_is}
+use Rattle.pk_segfmt.proofs.StoredLemmas.{length-head_bytes, page_is}
 
 -- a piece that is cut from a page of a text, where the text goes on behind the first h bytes
 cut_piece : (h d s p a m : ℕ) (text : List ℕ) → s + a ≡ h + d → s ≤ p → take m (drop s (take p (drop a text))) ≡ take m (take (p - s) (drop d (drop h text)))
@@ -60,7 +60,7 @@ value_front shape key value n is_key short =
 pub fetched_within : (shape : Shape) (i n len : ℕ) → IsShape shape → i < fetched shape n → n ≤ len → i < charge shape len
 fetched_within shape i n len is less short =
     let needed : i * shape.page_bytes < 32 + n = fetched_needed shape i n is less in
-    let room : 32 + len ≤ charge shape len * shape.page_bytes = charge_room shape is len in
+    let room : 32 + len ≤ charge shape len * shape.page_bytes = charge_room shape len is in
     lt_of_mul-lt-mul_right shape.page_bytes (omega arith)
 
 -- a value's page is full

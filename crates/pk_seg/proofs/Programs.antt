@@ -9,8 +9,10 @@ use Rattle.pk_nand.specs.BoardState.{BoardState, shape_of}
 use Rattle.pk_nand.specs.Cut.{Interrupted}
 use Rattle.pk_nand.specs.Calls.{Rose, InOrder, IsReady, ProgramFailed, after_program, LeftBehind}
 use Rattle.pk_nand.specs.Crash.{SameOutside, Reached, Went}
+use Rattle.pk_nand.specs.Pairs.{first_of_pair, SameOutsidePair}
 use Rattle.pk_nand.proofs.Leaving.{page_at-slice_set, page_at-slice_set_same, IsFlash-left, full_program}
 use Rattle.pk_nand.proofs.Reaching.{Went-then, Went-program_failed, Reached-then, Reached-program, Reached-start}
+use Rattle.pk_nand.proofs.Pairing.{pair_even, pair_low, pair_high}
 use Rattle.pk_nand.proofs.Writing.{mod-add, SameOutside-set, SameOutside-cut, InOrder-next, IsReady-program, shape_is}
 use Rattle.pk_segfmt.specs.Stored.{page_of}
 use Rattle.pk_seg.specs.Stored.{written, WriteFailed}
@@ -50,11 +52,15 @@ Writing-start old shape key value page count ready order =
       counts = (refl, refl, refl);
     }
 
+-- a page that is even in its block is so by the board's shape
+even_of : (board : BoardState) (shape : Shape) (page : ℕ) → IsReady board shape → page % shape.block_pages % 2 ≡ 0 → page % (shape_of board).block_pages % 2 ≡ 0
+even_of board shape page ready even = subst (λ (s : Shape). page % s.block_pages % 2 ≡ 0) (sym (shape_is board shape ready)) even
+
 -- one page more
 Writing-next : (old now : BoardState) (shape : Shape) (key : Key) (value : List ℕ) (page count i : ℕ)
-    → i < count → page + count ≤ page_count shape → IsReady (after_program now (page + i) (page_of shape key value i)) shape
+    → page % shape.block_pages % 2 ≡ 0 → i < count → page + count ≤ page_count shape → IsReady (after_program now (page + i) (page_of shape key value i)) shape
     → Writing old now shape key value page count i → Writing old (after_program now (page + i) (page_of shape key value i)) shape key value page count (i + 1)
-Writing-next old now shape key value page count i less all ready w =
+Writing-next old now shape key value page count i even less all ready w =
     let bytes : List ℕ = page_of shape key value i in
     let size = w.ready.flash.size in
     let lt : page + i < length now.pages = omega (arith, size, less, all) in
@@ -73,28 +79,28 @@ Writing-next old now shape key value page count i less all ready w =
       cuts = (
         w.cuts.0 ++ program (page + i) bytes ∷ [],
         Reached-then w.cuts.0 (program (page + i) bytes ∷ []) old now (after_program now (page + i) bytes) P w.cuts.1
-            (Reached-program now P (page + i) bytes (λ f cut. SameOutside-cut (shape_of now) page count (page + i) old.pages now.pages f bytes [] w.outside (omega arith) (omega (arith, less)) cut) outside),
+            (Reached-program now P (page + i) bytes (λ f cut. SameOutside-cut (shape_of now) page count (page + i) old.pages now.pages f bytes [] (even_of now shape page w.ready even) w.outside (omega arith) (omega (arith, less)) cut) outside),
       );
       counts = w.counts;
     }
 
 -- the same, by what the call says
 pub Writing-written : (old now new : BoardState) (shape : Shape) (key : Key) (value : List ℕ) (page count i : ℕ) (bytes : List ℕ)
-    → bytes ≡ page_of shape key value i → new ≡ after_program now (page + i) bytes → IsReady new shape → i < count → page + count ≤ page_count shape
+    → page % shape.block_pages % 2 ≡ 0 → bytes ≡ page_of shape key value i → new ≡ after_program now (page + i) bytes → IsReady new shape → i < count → page + count ≤ page_count shape
     → Writing old now shape key value page count i → Writing old new shape key value page count (i + 1)
-Writing-written old now new shape key value page count i bytes bytes_are made ready less all w =
+Writing-written old now new shape key value page count i bytes even bytes_are made ready less all w =
     let e : new ≡ after_program now (page + i) (page_of shape key value i) = made ∙ ap (λ (q : List ℕ). after_program now (page + i) q) bytes_are in
     subst (λ (b : BoardState). Writing old b shape key value page count (i + 1)) (sym e)
-    (Writing-next old now shape key value page count i less all (subst (λ (b : BoardState). IsReady b shape) e ready) w)
+    (Writing-next old now shape key value page count i even less all (subst (λ (b : BoardState). IsReady b shape) e ready) w)
 
 -- the next page fails
-pub Writing-failed : (old now new : BoardState) (shape : Shape) (key : Key) (value : List ℕ) (page count i : ℕ) → i < count → Writing old now shape key value page count i
+pub Writing-failed : (old now new : BoardState) (shape : Shape) (key : Key) (value : List ℕ) (page count i : ℕ) → page % shape.block_pages % 2 ≡ 0 → i < count → Writing old now shape key value page count i
     → ProgramFailed now new (page + i) (page_of shape key value i) → Went old new (λ f _. SameOutside page count old.pages f)
-Writing-failed old now new shape key value page count i less w failed =
+Writing-failed old now new shape key value page count i even less w failed =
     let bytes : List ℕ = page_of shape key value i in
     let P : Flash → List ℕ → Type 0 = λ f _. SameOutside page count old.pages f in
     let last = Went-program_failed now P new (page + i) bytes failed
-    (λ f cut. SameOutside-cut (shape_of now) page count (page + i) old.pages now.pages f bytes [] w.outside (omega arith) (omega (arith, less)) cut)
+    (λ f cut. SameOutside-cut (shape_of now) page count (page + i) old.pages now.pages f bytes [] (even_of now shape page w.ready even) w.outside (omega arith) (omega (arith, less)) cut)
     (SameOutside-set page count (page + i) old.pages now.pages (whole bytes) w.outside (omega arith) (omega (arith, less))) in
     (w.cuts.0 ++ last.0, Went-then w.cuts.0 last.0 old now new P w.cuts.1 last.1)
 
@@ -111,15 +117,21 @@ WriteFailed-next old now new shape key value page i less w failed = record {
 
 -- ---- one page
 
-pub one_program : (old : BoardState) (page : ℕ) (bytes : List ℕ) → Reached old (after_program old page bytes) (λ f _. SameOutside page 1 old.pages f)
-one_program old page bytes = (
-  program page bytes ∷ [],
-  Reached-program old (λ f _. SameOutside page 1 old.pages f) page bytes
-      (λ f cut. SameOutside-cut (shape_of old) page 1 page old.pages old.pages f bytes [] (SameOutside-same page 1 old.pages) (omega arith) (omega arith) cut)
-      (SameOutside-set page 1 page old.pages old.pages (whole bytes) (SameOutside-same page 1 old.pages) (omega arith) (omega arith)),
-)
+module _ (old : BoardState) (page : ℕ) (bytes : List ℕ) where
+  abbrev first : ℕ
+  first = first_of_pair (shape_of old) page
 
-pub one_failed : (old new : BoardState) (page : ℕ) (bytes : List ℕ) → ProgramFailed old new page bytes → Went old new (λ f _. SameOutside page 1 old.pages f)
-one_failed old new page bytes failed = Went-program_failed old (λ f _. SameOutside page 1 old.pages f) new page bytes failed
-    (λ f cut. SameOutside-cut (shape_of old) page 1 page old.pages old.pages f bytes [] (SameOutside-same page 1 old.pages) (omega arith) (omega arith) cut)
-    (SameOutside-set page 1 page old.pages old.pages (whole bytes) (SameOutside-same page 1 old.pages) (omega arith) (omega arith))
+  abbrev P : Flash → List ℕ → Type 0
+  P f _ = SameOutsidePair (shape_of old) page old.pages f
+
+  within : (f : Flash) → Interrupted (shape_of old) (program page bytes) old.pages f [] → P f []
+  within f cut = SameOutside-cut (shape_of old) first 2 page old.pages old.pages f bytes [] (pair_even (shape_of old) page) (SameOutside-same first 2 old.pages) (pair_low (shape_of old) page) (pair_high (shape_of old) page) cut
+
+  done : P (after_program old page bytes).pages []
+  done = SameOutside-set first 2 page old.pages old.pages (whole bytes) (SameOutside-same first 2 old.pages) (pair_low (shape_of old) page) (pair_high (shape_of old) page)
+
+  pub one_program : Reached old (after_program old page bytes) P
+  one_program = (program page bytes ∷ [], Reached-program old P page bytes within done)
+
+  pub one_failed : (new : BoardState) → ProgramFailed old new page bytes → Went old new P
+  one_failed new failed = Went-program_failed old P new page bytes failed within done

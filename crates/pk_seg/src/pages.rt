@@ -4,7 +4,8 @@ ghost use Rattle.pk_base.specs.Shape as spec;
 ghost use Rattle.pk_base.specs.Page.{page_at, whole};
 ghost use Rattle.pk_nand.specs.BoardState.{shape_of};
 ghost use Rattle.pk_nand.specs.Calls.{IsReady, InOrder, after_read, after_program, ReadFailed, ProgramFailed};
-ghost use Rattle.pk_nand.specs.Crash.{Reached, Went, SameOutside};
+ghost use Rattle.pk_nand.specs.Crash.{Reached, Went};
+ghost use Rattle.pk_nand.specs.Pairs.{SameOutsidePair};
 ghost use Rattle.pk_nand.specs.declared.types.Fault.TheVariants.{Reading, Stopped};
 
 use pk_nand::{Fault, Nand};
@@ -30,7 +31,7 @@ pub fn read_page<B: Nand>(board: &mut B, page: u32, buf: &mut [u8]) -> Result<()
 }
 
 /// Programs the next Erased page of its block with the buffer's bytes. `Stopped` where this fails. Wherever it is cut, no
-/// other page differs.
+/// page outside its pair differs.
 pub fn write_page<B: Nand>(board: &mut B, page: u32, buf: &[u8]) -> Result<(), Fault>
     requires exists { page < length (B.state board.old).pages }
     requires full { length buf.now ≡ (shape_of (B.state board.old)).page_bytes }
@@ -40,14 +41,14 @@ pub fn write_page<B: Nand>(board: &mut B, page: u32, buf: &[u8]) -> Result<(), F
     ensures ok { OnOk result (B.state board.new ≡ after_program (B.state board.old) page buf.now) }
     ensures written { OnOk result (page_at (B.state board.new).pages page ≡ whole buf.now) }
     ensures cuts { OnOk result (Reached (B.state board.old) (B.state board.new) (λ flash _.
-        SameOutside page 1 (B.state board.old).pages flash)) }
+        SameOutsidePair (shape_of (B.state board.old)) page (B.state board.old).pages flash)) }
 
     // Or it failed.
     ensures stopped { IfErr result (λ e. e ≡ Stopped) }
     ensures err { OnErr result (ProgramFailed (B.state board.old) (B.state board.new) page
         buf.now) }
     ensures cuts_err { OnErr result (Went (B.state board.old) (B.state board.new) (λ flash _.
-        SameOutside page 1 (B.state board.old).pages flash)) }
+        SameOutsidePair (shape_of (B.state board.old)) page (B.state board.old).pages flash)) }
 
     // Either way the board may be called again.
     ensures ready { (shape : spec.Shape) → IsReady (B.state board.old) shape

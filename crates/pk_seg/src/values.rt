@@ -15,8 +15,8 @@ use pk_base::{HEAD_BYTES, Key, MOST_PAGE_BYTES, Shape};
 use pk_nand::{Fault, Nand};
 use pk_segfmt::page as value_page;
 
-/// Programs the pages of a value, the next Erased ones of a block. `Stopped` where a program fails. Wherever it is cut, no
-/// other page differs. `buf` has the bytes of a page, which are lost.
+/// Programs the pages of a value, the next Erased ones of a block, from an even one on. `Stopped` where a program fails. Wherever it
+/// is cut, no other page differs. `buf` has the bytes of a page, which are lost.
 pub fn write_value<B: Nand>(
     board: &mut B,
     shape: &Shape,
@@ -30,6 +30,7 @@ pub fn write_value<B: Nand>(
     requires exist { page + spec.charge shape.now (length value.now) ≤ spec.page_count shape.now }
     requires block { page % shape.now.block_pages + spec.charge shape.now (length value.now)
         ≤ shape.now.block_pages }
+    requires even { page % 2 ≡ 0 }
     requires order { InOrder shape.now (B.state board.old).pages page }
     requires room { length buf.old ≡ shape.now.page_bytes }
 

@@ -4,7 +4,6 @@ use Rattle.std.specs.Prelude.{min, nat_eq, Result, Ok, Err}
 use Rattle.std.specs.List.{starts_with}
 use Rattle.std.proofs.Math.Nat.{mul-le-mul_right}
 use Rattle.std.proofs.Math.Seq.{take-add}
-use Rattle.std.proofs.lemmas.Grind.{div_ceil_times}
 use Rattle.std.proofs.lemmas.List.{take_all, drop_all, drop_at, take_at, take-append-le, length-take, take-append-drop}
 use Rattle.pk_base.specs.Fields.{padded, zeros}
 use Rattle.pk_base.specs.Key.{Key, IsKey}
@@ -12,6 +11,7 @@ use Rattle.pk_base.specs.Shape.{Shape, IsShape, charge}
 use Rattle.pk_base.specs.Entry.{Place}
 use Rattle.pk_base.specs.Page.{Page, whole}
 use Rattle.pk_base.specs.Refusal.{Refusal, ◌>>=◌}
+use Rattle.pk_base.proofs.ShapeLemmas.{charge_least, charge_room}
 use Rattle.pk_base.proofs.Tables.{length-padded}
 use Rattle.pk_segfmt.specs.Value.{head_bytes, value_bytes, value_from, value_at}
 use Rattle.pk_segfmt.specs.Head.{IsHead}
@@ -23,18 +23,9 @@ pub length-head_bytes : (key : Key) (len : ℕ) → IsKey key → length (head_b
 unfolding head_bytes
 length-head_bytes key len is = simp length-append (omega (arith, length-padded 16 key is.most, length-append key (zeros (16 - length key))))
 
-module _ (shape : Shape) (is : IsShape shape) (len : ℕ) where
-  -- the pages of a value have room for its head and itself
-  pub charge_room : 32 + len ≤ charge shape len * shape.page_bytes
-  unfolding charge
-  charge_room = let least = is.page_least in (div_ceil_times (32 + len) shape.page_bytes (omega arith)).0
-
-  pub charge_some : 0 < charge shape len
-  charge_some = some (charge shape len) charge_room
-    where
-      some : (n : ℕ) → 32 + len ≤ n * shape.page_bytes → 0 < n
-      some zero h = absurd (omega arith)
-      some (suc n) h = omega arith
+-- a value has a page
+pub charge_some : (shape : Shape) (is : IsShape shape) (len : ℕ) → 0 < charge shape len
+charge_some shape is len = omega (arith, charge_least shape len is)
 
 -- a front of a page of a text is a front of the text
 take_front : (n size : ℕ) (xs : List ℕ) → n ≤ size → n ≤ length xs → take n (cut size xs) ≡ take n xs
@@ -65,7 +56,7 @@ module _ (shape : Shape) (is : IsShape shape) (key : Key) (value : List ℕ) (is
   page_is i less =
       let product : suc i * size ≤ charge shape (length value) * size = mul-le-mul_right size less in
       let split : suc i * size ≡ i * size + size = omega arith in
-      padded_cut (i * size) size (charge shape (length value) * size) text (omega arith) (omega (arith, length-text, charge_room shape is (length value)))
+      padded_cut (i * size) size (charge shape (length value) * size) text (omega arith) (omega (arith, length-text, charge_room shape (length value) is))
 
   cut_text : cut size text ≡ front ++ padded (size - 32) (take (size - 32) value)
   cut_text =
@@ -119,7 +110,7 @@ module _ (shape : Shape) (is : IsShape shape) (key : Key) (value : List ℕ) (is
       let starts : starts_with nat_eq (cut size text) front ≡ true =
       ap (λ (r : List ℕ). starts_with nat_eq r front) cut_text ∙ starts_front front (padded (size - 32) (take (size - 32) value)) in
       let found : value_from shape at page front (length text) n ≡ Ok text =
-      text_again shape at n page front text (omega (arith, length-text, charge_room shape is (length value))) starts (λ (k : ℕ) (less : k < n). stored k less ∙ ap whole (page_is k less)) in
+      text_again shape at n page front text (omega (arith, length-text, charge_room shape (length value) is)) starts (λ (k : ℕ) (less : k < n). stored k less ∙ ap whole (page_is k less)) in
       ap (λ (l : ℕ). value_from shape at page front l n >>= (λ bytes. Ok (drop 32 bytes))) (sym length-text)
       ∙ ap (λ (r : Result (List ℕ) Refusal). r >>= (λ bytes. Ok (drop 32 bytes))) found
       ∙ ap (λ (r : List ℕ). Ok r) (drop_at front value 32 front_len)
@@ -151,7 +142,7 @@ value_found shape at key place value is head full e =
     let front : List ℕ = head_bytes key place.len in
     let least = is.page_least in
     let own = behind_head (value_from shape at place.page front (32 + place.len) n) value e in
-    let found = text_found shape at full n place.page front own.text (32 + place.len) (charge_room shape is place.len) own.found in
+    let found = text_found shape at full n place.page front own.text (32 + place.len) (charge_room shape place.len is) own.found in
     let starts = found.starts (charge_some shape is place.len) in
     let parts : own.text ≡ front ++ value = head_and_value shape.page_bytes front own.text value (length-head_bytes key place.len head.is_key) (omega arith) (omega (arith, found.len)) starts own.behind in
     let len : length value ≡ place.len = omega (arith, ap length parts, length-append front value, length-head_bytes key place.len head.is_key, found.len) in (

@@ -1,12 +1,12 @@
 -- Counts of calls of the flash.
 use Rattle.std.proofs.Common.{◌≡◌, ◌≢◌, ℕ, zero, suc, ◌+◌, ◌≤◌, List, [], ◌∷◌, ◌++◌, take, Some, refl, ap, subst, arith}
-use Rattle.pk_base.specs.Shape.{Shape}
+use Rattle.pk_base.specs.Shape.{Shape, commit_programs}
 use Rattle.pk_base.specs.Entry.{Entry}
 use Rattle.pk_nvme.specs.Command.{Command}
 use Rattle.pk_nand.specs.BoardState.{BoardState, shape_of, shape_or_none}
 use Rattle.pk_nand.specs.Counts.{counted_by}
-use Rattle.pk_nand.specs.Effects.{OneProgram}
 use Rattle.pk_call.specs.Calling.{FewCalls, most_calls_of}
+use Rattle.pk_call.specs.Commit.{ProgramsOfCommit}
 use Rattle.pk_serve.specs.Calling.{calls_of, owed, most_calls_of_all}
 
 -- ---- one call of the drive
@@ -30,13 +30,17 @@ command_calls shape b c opcode size has f =
     few_made (most_calls_of shape opcode size) b c (subst T (ap shape_or_none has) f)
 
 -- a commit, of what is pending
-pub commit_calls : (b c : BoardState) (pending : List Entry) → (pending ≡ [] → c ≡ b) → (pending ≢ [] → OneProgram b c) → calls_of c ≤ calls_of b + owed pending
+pub commit_calls : (b c : BoardState) (pending : List Entry) → (pending ≡ [] → c ≡ b) → (pending ≢ [] → ProgramsOfCommit 1 b c) → calls_of c ≤ calls_of b + owed pending
 commit_calls b c [] idle made = let same = ap calls_of (idle refl) in omega (arith, same)
-commit_calls b c (entry ∷ more) idle made = let one = made (λ e. cc) in omega (arith, one.reads, one.programs, one.erases)
+commit_calls b c (entry ∷ more) idle made =
+    let few = made (λ e. cc) in
+    let most = few.most in
+    let counted = counted_most few.made b.programs in
+    omega (arith, most, counted, few.reads, few.programs, few.erases)
 
-pub owed_one : (pending : List Entry) → owed pending ≤ 1
-owed_one [] = omega arith
-owed_one (entry ∷ more) = omega arith
+pub owed_most : (pending : List Entry) → owed pending ≤ commit_programs
+owed_most [] = omega arith
+owed_most (entry ∷ more) = omega arith
 
 -- ---- lists of commands
 

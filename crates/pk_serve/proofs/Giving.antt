@@ -53,14 +53,14 @@ breaks_second b c d xs ys more whole end is p q drive idle shape frames start a 
 -- ---- a commit
 
 pub commit-breaks : (b c : BoardState) (drive : Sight) (heads : List ℕ) → CallGoes b c drive commit → c.read_faults ≡ b.read_faults → c.reads ≡ b.reads → Rose b.stop_faults c.stop_faults
-    → (drive.pending ≡ [] → c ≡ b) → CommitPrograms b c drive → Breaks b c drive heads Flash
+    → (drive.pending ≡ [] → c ≡ b) → CommitPrograms 1 b c drive → Breaks b c drive heads Flash
 commit-breaks b c drive heads went reading read rose idle programs shape frames start a behind all m w =
     let calls = commit_calls b c drive.pending idle (programs shape frames m w.stands) in
     (Cutoff-commit shape frames start a b drive (heads ++ behind) all m w c (went shape frames m w.stands) reading read calls, rose_from w.no_faults.stop rose)
 
 module _ (b c : BoardState) (drive after : Sight) (reaches : CallReaches b c drive commit) (stands : KeepsMap b c drive after)
     (rest : OnlyFlash b c) (reading : c.read_faults ≡ b.read_faults) (no_stop : c.stop_faults ≡ b.stop_faults) (read : c.reads ≡ b.reads) (same : roots c ≡ roots b)
-    (idle : drive.pending ≡ [] → c ≡ b) (programs : CommitPrograms b c drive) (none : after.pending ≡ []) where
+    (idle : drive.pending ≡ [] → c ≡ b) (programs : CommitPrograms 1 b c drive) (none : after.pending ≡ []) where
   committed : (shape : Shape) (frames : ℕ) (start : Map) (a : BoardState) (unposted : List ℕ) (all : List Exchange) (m : Map)
       → Serving shape frames start a b drive unposted all m → Serving shape frames start a c after unposted all m
   committed shape frames start a unposted all m w =

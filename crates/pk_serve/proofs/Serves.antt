@@ -1,7 +1,7 @@
 -- The steps of serving: what was kept is kept.
 use Rattle.std.proofs.Common.{◌≡◌, ◌≢◌, ◌⊎◌, inl, inr, ℕ, suc, ◌+◌, ◌≤◌, ◌<◌, List, [], ◌∷◌, ◌++◌, length, take, Option, Some, None, Ok, refl, sym, ◌∙◌, ap, subst, arith, append_assoc, append-nil, replicate}
 use Rattle.std.proofs.lemmas.Fn.{FoldsTo-push}
-use Rattle.pk_base.specs.Shape.{Shape, limit}
+use Rattle.pk_base.specs.Shape.{Shape, limit, commit_programs}
 use Rattle.pk_base.specs.Page.{Flash}
 use Rattle.pk_base.specs.Entry.{Entry}
 use Rattle.pk_base.specs.Mark.{Mark, post, all_posted}
@@ -29,7 +29,7 @@ use Rattle.pk_model.proofs.Growing.{weaken, at_end, grows_behind, Goes-then, Gro
 use Rattle.pk_call.specs.Calling.{most_calls_of}
 use Rattle.pk_serve.specs.Calling.{calls_of, owed, most_calls_of_all}
 use Rattle.pk_serve.specs.Serving.{KeptAt, Serving, Answered, Cutoff, Next, StepWithin}
-use Rattle.pk_serve.proofs.Calling.{owed_one, most_calls-append}
+use Rattle.pk_serve.proofs.Calling.{owed_most, most_calls-append}
 use Rattle.pk_serve.proofs.Counting.{at_most-zero, at_most-more, at_most-one, commands-push, records-push, faults-push, faults-one}
 use Rattle.pk_serve.proofs.Answering.{reply_other, answers}
 
@@ -196,12 +196,12 @@ module _ (shape : Shape) (frames : ℕ) (start : Map) (a b : BoardState) (drive 
         answered = answered_by c more out front.0 front.1 went.1.posted up read few_calls;
       }
 
-  -- the calls of one more command, and the commit that is owed behind it
-  calls_next : (c : BoardState) (cmd : Command) (owed_behind : ℕ) → owed_behind ≤ 1 → calls_of c ≤ calls_of b + most_calls_of shape cmd.opcode cmd.size → calls_of c + owed_behind ≤ calls_of a + most_calls_of_all shape (commands all ++ cmd ∷ [])
-  calls_next c cmd owed_behind one few =
+  -- the calls of one more command, and of the commit that is owed after it
+  calls_next : (c : BoardState) (cmd : Command) (owed_behind : ℕ) → owed_behind ≤ commit_programs → calls_of c ≤ calls_of b + most_calls_of shape cmd.opcode cmd.size → calls_of c + owed_behind ≤ calls_of a + most_calls_of_all shape (commands all ++ cmd ∷ [])
+  calls_next c cmd owed_behind most few =
       let so_far = w.few_calls in
       let whole = most_calls-append shape (commands all) (cmd ∷ []) in
-      omega (arith, one, few, so_far, whole)
+      omega (arith, most, few, so_far, whole)
 
   -- a command was served
   pub Serving-exec : (c : BoardState) (e : Sight) (cmd : Command) (rep : Reply) (reads taken : ℕ) → taken ≡ length all
@@ -238,7 +238,7 @@ module _ (shape : Shape) (frames : ℕ) (start : Map) (a b : BoardState) (drive 
           ];
           rose = omega (arith, w.rose, up);
           metered = FoldsTo-push Metered (meter a) all (meter b) x (meter c) w.metered (record { reads = read; failed = unread; sound = sound; unworn = unworn; installs = few_roots });
-          few_calls = subst C (sym (commands-push all x)) (calls_next c cmd (owed e.pending) (owed_one e.pending) few_calls);
+          few_calls = subst C (sym (commands-push all x)) (calls_next c cmd (owed e.pending) (owed_most e.pending) few_calls);
           no_faults = record {
             output = ap (λ s. s.out_faults) rest ∙ w.no_faults.output;
             stop = no_stop ∙ w.no_faults.stop;

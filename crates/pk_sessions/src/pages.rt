@@ -42,7 +42,7 @@ fn put_notes(page: &mut [u8], notes: &[Note]) {
     }
 }
 
-/// The page of an epoch with this index.
+/// The page of the commit of an epoch with this index.
 pub fn journal_page(epoch: u64, index: u32, notes: &[Note]) -> [u8; 512] {
     let mut page = [0u8; 512];
     put_text(&mut page, 0, b"PINKJRNL");
@@ -89,7 +89,7 @@ pub fn put_root(page: &mut [u8], sizes: &Sizes, top: &Top) {
         return;
     }
     put_text(page, 0, b"PINKROOT");
-    put_u16(page, 8, 1);
+    put_u16(page, 8, 2);
     put_u16(page, 18, top.epochs.saturating_mul(2));
     put_u64(page, 24, top.number);
     put_u64(page, 32, top.epoch);
@@ -150,7 +150,7 @@ pub fn root_page(
     page
 }
 
-// The head of a value, the value, and zeros up to whole pages.
+// The head of a value, the value, and zeros up to whole pairs of pages.
 fn value_bytes(alloc: Global, key: u8, value: &Value) -> Result<Vec<u8>, AllocError> {
     let mut bytes = value_head(key, value.len).to_vec(alloc)?;
     push_padded(&mut bytes, value)?;
@@ -169,8 +169,8 @@ fn value_head(key: u8, len: u32) -> [u8; 32] {
 
 fn push_padded(into: &mut Vec<u8>, value: &Value) -> Result<(), AllocError> {
     push_value(into, value)?;
-    for _ in 0..512u32 {
-        if into.len() % 512 != 0 {
+    for _ in 0..1024u32 {
+        if into.len() % 1024 != 0 {
             into.push(0)?;
         }
     }
@@ -191,6 +191,17 @@ pub fn set(pages: &mut Vec<PageState>, at: u32, page: PageState) -> Result<(), F
 pub fn write(alloc: Global, pages: &mut Vec<PageState>, at: u32, bytes: &[u8]) -> Result<(), Fail> {
     let own = bytes.to_vec(alloc)?;
     set(pages, at, PageState::Whole(PageBytes::of(own)))
+}
+
+/// Makes both pages of a pair Whole with these bytes.
+pub fn write_pair(
+    alloc: Global,
+    pages: &mut Vec<PageState>,
+    first: u32,
+    bytes: &[u8],
+) -> Result<(), Fail> {
+    write(alloc, pages, first, bytes)?;
+    write(alloc, pages, first.saturating_add(1), bytes)
 }
 
 /// Writes the pages of a value of at most 4 pages, from this one on.

@@ -3,7 +3,9 @@
 //! The lists are, from the first that counts: the newest epoch, the older one, and runs 1 to 4. Keys are bytes, and the value of a key
 //! stands at a place of its own. An entry that one of an earlier list covers names a page that has no value.
 
-use crate::pages::{Note, erased, journal_page, meta_page, root_page, write, write_value};
+use crate::pages::{
+    Note, erased, journal_page, meta_page, root_page, write, write_pair, write_value,
+};
 use crate::script::Value;
 use pk_nand::PageState;
 use std::alloc::{AllocError, Global};
@@ -18,7 +20,7 @@ pub const KEYS: [u8; 43] = [
     40, 42, 44, 45, 46, 48, 50, 52, 54, 55, 56, 58, 60, 62, 65, 75, 80,
 ];
 
-/// The value of a key. Those of two keys have two pages, and the others one.
+/// The value of a key. Those of two keys need two pages, and the others one, with zeros in the second page of their pair.
 pub fn value_of(key: u8) -> Value {
     let len = if key == 33 || key == 40 { 600 } else { 100 };
     Value { first: key, len }
@@ -122,13 +124,13 @@ fn write_fourth(alloc: Global, pages: &mut Vec<PageState>) -> Result<(), Fail> {
 
 // Epoch 3 in the blocks 2 and 3, over epoch 2 in the blocks 4 and 5.
 fn write_two_epochs(alloc: Global, pages: &mut Vec<PageState>) -> Result<(), Fail> {
-    write(alloc, pages, 64, &journal_page(2, 0, &first_notes()))?;
-    write(alloc, pages, 32, &journal_page(3, 0, &next_notes()))?;
-    write(alloc, pages, 33, &journal_page(3, 1, &last_notes()))?;
+    write_pair(alloc, pages, 64, &journal_page(2, 0, &first_notes()))?;
+    write_pair(alloc, pages, 32, &journal_page(3, 0, &next_notes()))?;
+    write_pair(alloc, pages, 34, &journal_page(3, 1, &last_notes()))?;
     write_root(alloc, pages, 2, &[2, 3, 4, 5, 6, 7, 8, 9])
 }
 
-// The entries of the journal, in three pages.
+// The entries of the journal, in three commits.
 fn first_notes() -> [Note; 3] {
     [Note::Gone(30), there(7), Note::Gone(1)]
 }
@@ -149,14 +151,14 @@ fn write_root(
     blocks: &[u16],
 ) -> Result<(), Fail> {
     let page = root_page(7, 3, epochs, [2, 16, 31, 17], blocks);
-    write(alloc, pages, 0, &page)
+    write_pair(alloc, pages, 0, &page)
 }
 
 // The same entries in epoch 3 alone, in the blocks 2 and 3.
 fn write_one_epoch(alloc: Global, pages: &mut Vec<PageState>) -> Result<(), Fail> {
-    write(alloc, pages, 32, &journal_page(3, 0, &first_notes()))?;
-    write(alloc, pages, 33, &journal_page(3, 1, &next_notes()))?;
-    write(alloc, pages, 34, &journal_page(3, 2, &last_notes()))?;
+    write_pair(alloc, pages, 32, &journal_page(3, 0, &first_notes()))?;
+    write_pair(alloc, pages, 34, &journal_page(3, 1, &next_notes()))?;
+    write_pair(alloc, pages, 36, &journal_page(3, 2, &last_notes()))?;
     write_root(alloc, pages, 1, &[2, 3, 6, 7, 8, 9])
 }
 

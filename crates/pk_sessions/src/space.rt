@@ -14,18 +14,18 @@ use pk_nvme::status::{CAPACITY_EXCEEDED, SUCCESSFUL_COMPLETION};
 use std::alloc::{AllocError, Global};
 use std::test::*;
 
-// The keys of one page each that a full drive of 64 blocks of 16 pages has.
-const KEYS: u32 = 492;
+// The keys of two pages each that a full drive of 64 blocks of 16 pages has.
+const KEYS: u32 = 246;
 
 const ROOM: Room = Room {
     posted: 262_144,
-    marks: 12_000,
+    marks: 30_000,
 };
 
 // The status of a Store that is done, as a record's number.
 const COMPLETED: u32 = SUCCESSFUL_COMPLETION as u32;
 
-// One more key has no room; an overwrite of a page has, and one of two pages has not.
+// One more key has no room; an overwrite of two pages has, and one of four pages has not.
 const OVERWRITTEN: [u8; 3] = [CAPACITY_EXCEEDED, SUCCESSFUL_COMPLETION, CAPACITY_EXCEEDED];
 
 // The session of this script on a made drive, which is to end well.
@@ -44,11 +44,11 @@ fn of_len(len: u32) -> Value {
     Value { first: 9, len }
 }
 
-// One more key, overwrites of one page and of two, and a Retrieve.
+// One more key, overwrites of two pages and of four, and a Retrieve.
 fn push_tries(into: &mut Vec<u8>) -> Result<(), AllocError> {
     push_store(into, KEYS, &value_of(OTHER))?;
-    push_store(into, 0, &of_len(480))?;
-    push_store(into, 0, &of_len(481))?;
+    push_store(into, 0, &of_len(992))?;
+    push_store(into, 0, &of_len(993))?;
     into.extend_from_slice(&entry(2, RETRIEVE, [0, 0], 2, 1000))
 }
 
@@ -80,7 +80,7 @@ fn check_statuses(posted: &[u8], from: usize, statuses: &[u8]) -> Result<usize, 
     Ok(at)
 }
 
-// The record that begins here has the value of one page: where the next one begins.
+// The record that begins here has the value of two pages: where the next one begins.
 fn check_old(alloc: Global, posted: &[u8], at: usize) -> Result<usize, Fail> {
     let old = record_at(posted, at).ok_or("a record")?;
     let found = posted.get(old.data..old.end()).unwrap_or(&[]);
@@ -89,12 +89,12 @@ fn check_old(alloc: Global, posted: &[u8], at: usize) -> Result<usize, Fail> {
 }
 
 fn check_value(alloc: Global, found: &[u8]) -> Result<(), Fail> {
-    let want = value_bytes(alloc, &of_len(480))?;
+    let want = value_bytes(alloc, &of_len(992))?;
     same(found, want.as_slice(), "the old value")
 }
 
-/// The drive is full with 492 values of one page each. One more key has no room; an overwrite of a page has, one of two pages has not,
-/// and leaves the old value; and behind a Delete the key has room.
+/// The drive is full with 246 values of two pages each. One more key has no room; an overwrite of two pages has, one of four pages has
+/// not, and leaves the old value; and after a Delete the key has room.
 pub fn full_drive<P: Program>(alloc: Global) -> Result<(), Fail> {
     let flash = session::<P>(alloc, full_script(alloc)?)?;
     check_full(alloc, flash.posted())

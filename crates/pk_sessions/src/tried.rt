@@ -40,8 +40,6 @@ pub enum Place {
     Way(usize, u32),
     /// While this call fails.
     Call(u64),
-    /// The same, which leaves this.
-    CallWay(u64, u8),
     Root(u64),
 }
 
@@ -51,7 +49,7 @@ impl Place {
         match self {
             Place::Named(name) => *name,
             Place::Mark(_) | Place::Way(_, _) => "mark",
-            Place::Call(_) | Place::CallWay(_, _) => "call",
+            Place::Call(_) => "call",
             Place::Root(_) => "root",
         }
     }
@@ -61,7 +59,7 @@ impl Place {
         match self {
             Place::Named(_) => 0,
             Place::Mark(k) | Place::Way(k, _) => *k as u64,
-            Place::Call(call) | Place::CallWay(call, _) => *call,
+            Place::Call(call) => *call,
             Place::Root(number) => *number,
         }
     }
@@ -70,7 +68,6 @@ impl Place {
     fn way(&self) -> u32 {
         match self {
             Place::Way(_, way) => *way,
-            Place::CallWay(_, way) => u32::from(*way),
             _ => 0,
         }
     }

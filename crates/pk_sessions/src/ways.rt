@@ -1,44 +1,82 @@
 //! Outcomes of an interruption.
 
-use pk_flash::{Flash, Left, PageLeft};
+use pk_flash::{EraseLeft, Flash, Left, PageLeft};
 use pk_nand::Mark;
 use std::alloc::{AllocError, Global};
 
-/// Some ways in which this mark is interrupted: a program is not begun, torn or done; an erase leaves all as it was, all Torn, all Erased,
-/// or each page by turns. Behind the last mark there is one way; at a post, which leaves the pages as they are, there is none.
-pub fn few_ways(alloc: Global, flash: &Flash, k: usize) -> Result<Vec<Left>, AllocError> {
+/// What an interruption of this mark may leave of it.
+#[derive(Clone, Copy, PartialEq, Eq)]
+pub enum Kind {
+    /// There is no such mark.
+    None,
+    Post,
+    /// A program of the first page of a pair.
+    First,
+    /// A program of the second page of a pair, which may tear the first one.
+    Second,
+    Erase,
+}
+
+/// What this mark is.
+pub fn kind_of(flash: &Flash, k: usize) -> Kind {
+    if k >= flash.marks() {
+        return Kind::None;
+    }
+    match flash.mark(k) {
+        Mark::Post { .. } => Kind::Post,
+        Mark::Program { page, .. } if *page % 2 == 0 => Kind::First,
+        Mark::Program { .. } => Kind::Second,
+        Mark::Erase { .. } => Kind::Erase,
+    }
+}
+
+/// All ways in which a program may be interrupted: its page is as it was, Torn or done, and where it is the second one of a pair, the
+/// first one may be Torn besides.
+pub fn ways_of_program(alloc: Global, is_second: bool) -> Result<Vec<Left>, AllocError> {
     let mut ways = Vec::new(alloc);
-    push_few(&mut ways, alloc, few_of(flash, k))?;
+    ways.push(Left::Untouched)?;
+    ways.push(Left::Torn)?;
+    ways.push(Left::Done)?;
+    if is_second {
+        ways.push(Left::WithEven(PageLeft::Untouched))?;
+        ways.push(Left::WithEven(PageLeft::Torn))?;
+        ways.push(Left::WithEven(PageLeft::Done))?;
+    }
     Ok(ways)
 }
 
-// How many of the few ways there are: one of no mark, none of a post, three of a program, four of an erase.
-fn few_of(flash: &Flash, k: usize) -> u8 {
-    if k >= flash.marks() {
-        return 1;
-    }
-    match flash.mark(k) {
-        Mark::Post { .. } => 0,
-        Mark::Program { .. } => 3,
-        Mark::Erase { .. } => 4,
+/// Some ways in which this mark is interrupted: all of a program; an erase leaves all as it was, all Torn, all Erased, or each page by
+/// turns. After the last mark there is one way; at a post, which leaves the pages as they are, there is none.
+pub fn few_ways(alloc: Global, flash: &Flash, k: usize) -> Result<Vec<Left>, AllocError> {
+    match kind_of(flash, k) {
+        Kind::None => only_way(alloc),
+        Kind::Post => Ok(Vec::new(alloc)),
+        Kind::First => ways_of_program(alloc, false),
+        Kind::Second => ways_of_program(alloc, true),
+        Kind::Erase => few_of_erase(alloc),
     }
 }
 
-fn push_few(into: &mut Vec<Left>, alloc: Global, count: u8) -> Result<(), AllocError> {
-    for way in 0..count {
-        into.push(few(alloc, way)?)?;
-    }
-    Ok(())
+fn only_way(alloc: Global) -> Result<Vec<Left>, AllocError> {
+    let mut ways = Vec::new(alloc);
+    ways.push(Left::Untouched)?;
+    Ok(ways)
 }
 
-const KEPT: PageLeft = PageLeft::Kept;
+fn few_of_erase(alloc: Global) -> Result<Vec<Left>, AllocError> {
+    let mut ways = ways_of_program(alloc, false)?;
+    ways.push(by_turns(alloc)?)?;
+    Ok(ways)
+}
 
-const ERASED: PageLeft = PageLeft::Erased;
+const KEPT: EraseLeft = EraseLeft::Kept;
 
-const TORN: PageLeft = PageLeft::Torn;
+const ERASED: EraseLeft = EraseLeft::Erased;
+
+const TORN: EraseLeft = EraseLeft::Torn;
 
 /// Each of 16 pages as it was, Erased or Torn by turns.
-const BY_TURNS: [PageLeft; 16] = [
+const BY_TURNS: [EraseLeft; 16] = [
     KEPT, ERASED, TORN, KEPT, ERASED, TORN, KEPT, ERASED, TORN, KEPT, ERASED, TORN, KEPT, ERASED,
     TORN, KEPT,
 ];
@@ -48,11 +86,11 @@ pub fn by_turns(alloc: Global) -> Result<Left, AllocError> {
     Ok(Left::Each(BY_TURNS.to_vec(alloc)?))
 }
 
-fn few(alloc: Global, way: u8) -> Result<Left, AllocError> {
-    match way {
-        0 => Ok(Left::Untouched),
-        1 => Ok(Left::Torn),
-        2 => Ok(Left::Done),
-        _ => by_turns(alloc),
-    }
+/// Whether what is programmed to a pair is there after the interruption of the program of its second page: in its first page, unless that
+/// is Torn, or in its second one.
+pub fn keeps_pair(left: &Left) -> bool {
+    !matches!(
+        left,
+        Left::WithEven(PageLeft::Untouched) | Left::WithEven(PageLeft::Torn)
+    )
 }

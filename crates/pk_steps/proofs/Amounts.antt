@@ -1,5 +1,5 @@
 -- How many entries a run and an epoch have, and how many blocks hold them.
-use Rattle.std.proofs.Common.{◌≡◌, inl, inr, ℕ, zero, suc, ◌+◌, ◌-◌, ◌*◌, ◌<◌, ◌≤◌, min, max, refl, sym, ap, subst, ◌∙◌, arith, Bool, true, false, not, ◌&&◌, ◌||◌, T, List, [], ◌∷◌, ◌++◌, length, map, zip, nat_le, nat_lt, ◌==◌, is_some, Some, Result, Ok, leb→le, length-append, mul-le-mul_right, add-mul, suc-mul, le_trans}
+use Rattle.std.proofs.Common.{◌≡◌, inl, inr, ℕ, zero, suc, ◌+◌, ◌-◌, ◌*◌, ◌/◌, ◌<◌, ◌≤◌, min, max, refl, sym, ap, subst, ◌∙◌, arith, Bool, true, false, not, ◌&&◌, ◌||◌, T, List, [], ◌∷◌, ◌++◌, length, map, zip, nat_le, nat_lt, ◌==◌, is_some, Some, Result, Ok, leb→le, length-append, mul-le-mul_right, add-mul, suc-mul, le_trans}
 use Rattle.std.specs.Prelude.{bytes_eq}
 use Rattle.std.specs.List.{list_all, concat}
 use Rattle.std.specs.Int.{div_ceil}
@@ -8,7 +8,7 @@ use Rattle.std.proofs.lemmas.Grind.{div_ceil_times}
 use Rattle.std.specs.FinMap.Entries.{is_sorted}
 use Rattle.pk_base.specs.Key.{key_cmp}
 use Rattle.pk_base.specs.Shape.{Shape, IsShape, page_entries, buffer, caps, run_pages, run_blocks, blocks_of, meta_blocks, deepest}
-use Rattle.pk_base.specs.Page.{Page, erased, whole, torn, page_in, pages_of_blocks}
+use Rattle.pk_base.specs.Page.{Page, erased, whole, torn, page_in, pages_of_blocks, NumberedPages, commits_of}
 use Rattle.pk_base.specs.Entry.{Entry}
 use Rattle.pk_base.specs.EntryBytes.{entries_from}
 use Rattle.pk_base.specs.Refusal.{Refusal, damaged, ensure, some_or}
@@ -73,23 +73,19 @@ module _ (shape : Shape) (at : ℕ → Page) where
   unfolding run
   run_most level count blocks es ok = meta_most level count 0 [] blocks 0 (run_pages shape count) es (omega arith) (omega arith) ok
 
-  journal_most : (number index : ℕ) (before : List Entry) (blocks : List ℕ) (i n : ℕ) (es : List Entry) → length (firsts before) ≤ buffer shape → journal shape number index before (pages_of_blocks shape at blocks i n) ≡ Ok es → length (firsts es) ≤ buffer shape
-  journal_most number index before blocks i zero es few ok = subst (λ (x : List Entry). length (firsts x) ≤ buffer shape) (ok_same before es ok) few
-  journal_most number index before blocks i (suc n) es few ok =
-      let p = page_in shape blocks i in
-      elim (at p) as (λ page. at p ≡ page → journal shape number index before ((p, page) ∷ pages_of_blocks shape at blocks (i + 1) n) ≡ Ok es → length (firsts es) ≤ buffer shape) [
-        | erased ↦ λ e f. subst (λ (x : List Entry). length (firsts x) ≤ buffer shape) (ok_same before es f) few
-        | torn ↦ λ e f. subst (λ (x : List Entry). length (firsts x) ≤ buffer shape) (ok_same before es f) few
-        | whole bytes ↦ λ e f.
-            let read = bind_ok (some_or (journal_entries shape number index bytes) (damaged p)) _ es f in
-            let tested = bind_ok (ensure (nat_le (length (firsts (before ++ read.0))) (buffer shape)) p) _ es read.2 in
-            journal_most number (index + 1) (before ++ read.0) blocks (i + 1) n es (leb→le _ _ (passed _ _ tested.0 tested.1)) tested.2
-      ] refl ok
+  journal_most : (number index : ℕ) (before : List Entry) (pages : NumberedPages) (es : List Entry) → length (firsts before) ≤ buffer shape → journal shape number index before pages ≡ Ok es → length (firsts es) ≤ buffer shape
+  journal_most number index before [] es few ok = subst (λ (x : List Entry). length (firsts x) ≤ buffer shape) (ok_same before es ok) few
+  journal_most number index before ((p, erased) ∷ pages) es few ok = subst (λ (x : List Entry). length (firsts x) ≤ buffer shape) (ok_same before es ok) few
+  journal_most number index before ((p, torn) ∷ pages) es few ok = subst (λ (x : List Entry). length (firsts x) ≤ buffer shape) (ok_same before es ok) few
+  journal_most number index before ((p, whole bytes) ∷ pages) es few ok =
+      let read = bind_ok (some_or (journal_entries shape number index bytes) (damaged p)) _ es ok in
+      let tested = bind_ok (ensure (nat_le (length (firsts (before ++ read.0))) (buffer shape)) p) _ es read.2 in
+      journal_most number (index + 1) (before ++ read.0) pages es (leb→le _ _ (passed _ _ tested.0 tested.1)) tested.2
 
   -- an epoch has no more keys than a buffer
   pub epoch_most : (number : ℕ) (blocks : List ℕ) (es : List Entry) → epoch shape at number blocks ≡ Ok es → length (firsts es) ≤ buffer shape
   unfolding epoch
-  epoch_most number blocks es ok = journal_most number 0 [] blocks 0 (length blocks * shape.block_pages) es (omega arith) ok
+  epoch_most number blocks es ok = journal_most number 0 [] (commits_of shape at blocks 0 (length blocks * (shape.block_pages / 2))) es (omega arith) ok
 
 -- ---- counts of a root
 

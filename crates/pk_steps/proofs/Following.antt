@@ -26,7 +26,7 @@ ok_same x y e = cc
 
 no_blocks : (shape : Shape) (at : ℕ → Page) (number : ℕ) → epoch shape at number [] ≡ Ok []
 unfolding epoch
-no_blocks shape at number = rw (zero-mul shape.block_pages) refl
+no_blocks shape at number = rw (zero-mul (shape.block_pages / 2)) refl
 
 -- no older epoch is named, or the former one
 older_is : (shape : Shape) (at : ℕ → Page) (number : ℕ) (one : Bool) (blocks : List ℕ) (es : List Entry)

@@ -14,13 +14,13 @@ use Rattle.pk_rootfmt.specs.Root.{Root, is_root, named}
 use Rattle.pk_model.specs.Found.{Found, older_epoch, newest_epoch, runs_from, found_under, entries_in_order}
 use Rattle.pk_model.specs.Values.{placed, values_of, all_pages}
 use Rattle.pk_model.specs.Reading.{map_under}
-use Rattle.pk_model.specs.Laws.{IsWholePage}
 use Rattle.pk_base.proofs.ShapeLemmas.{block_pages_positive}
 use Rattle.pk_model.proofs.StrangePages.{bind_ok}
 use Rattle.pk_model.proofs.SamePages.{any_front, any_back, values_same}
 use Rattle.pk_model.proofs.Roots.{newest_sound}
 use Rattle.pk_model.proofs.RootAlone.{found_alone, values_behind}
-use Rattle.pk_model.proofs.Commits.{blocks_of_root, root_valid, ends, behind_roots, values_apart, is_any_back}
+use Rattle.pk_base.proofs.CommitPages.{second as next_page}
+use Rattle.pk_model.proofs.Commits.{blocks_of_root, root_valid, ends, not_read, erased_not, behind_roots, values_apart, is_any_back}
 use Rattle.pk_model.proofs.Entries.{counting_all, journal_are, meta_are}
 use Rattle.pk_model.proofs.ValueSets.{values_sound, values_complete, fits_parts, parts_fit, is_true}
 use Rattle.pk_model.proofs.HeldMap.{nothing_fits}
@@ -39,7 +39,7 @@ not_empty n = elim (suc n == 0) as (λ b. (suc n == 0) ≡ b → b ≡ false) [ 
 -- no blocks, no entries
 no_blocks : (shape : Shape) (at : ℕ → Page) (number : ℕ) → epoch shape at number [] ≡ Ok []
 unfolding epoch
-no_blocks shape at number = rw (zero-mul shape.block_pages) refl
+no_blocks shape at number = rw (zero-mul (shape.block_pages / 2)) refl
 
 -- the older epoch of a freeze is the newest one before, which has entries or is not named
 older_is : (shape : Shape) (at : ℕ → Page) (number : ℕ) (blocks : List ℕ) (es : List Entry) → length blocks ≡ 2 → epoch shape at number blocks ≡ Ok es
@@ -73,14 +73,19 @@ module _ (shape : Shape) (flash new : Flash) (top : ℕ × Root) (found : Found)
 
   -- the lists of the former root on the new flash
   still : found_under shape (page_at new) root ≡ Ok found
-  still = found_alone shape positive (page_at flash) (page_at new) same root was_valid ∙ before.is_found
+  still = found_alone shape is_shape (page_at flash) (page_at new) same root was_valid ∙ before.is_found
 
   nothing : epoch shape (page_at new) (top.1.epoch + 1) (first ∷ second ∷ []) ≡ Ok []
   unfolding epoch
   nothing =
-      let inside : 0 < epoch_pages shape = let p = positive in omega (arith, p) in
-      let behind = behind_roots shape root' (blocks_of_root shape root' valid) positive 0 inside in
-      ends shape (page_at new) (first ∷ second ∷ []) (root.epoch + 1) 0 [] (2 * shape.block_pages) (λ w. subst IsWholePage (same _ behind ∙ are_erased 0 inside) w)
+      let least = is_shape.block_least in
+      let one : 0 < epoch_pages shape = omega (arith, least) in
+      let two : 1 < epoch_pages shape = omega (arith, least) in
+      let behind = behind_roots shape root' (blocks_of_root shape root' valid) positive in
+      ends shape (page_at new) (first ∷ second ∷ []) (root.epoch + 1) 0 [] (2 * (shape.block_pages / 2))
+      (not_read _ _ _
+      (erased_not _ (same _ (behind 0 one) ∙ are_erased 0 one))
+      (erased_not _ (ap (page_at new) (sym (next_page shape (first ∷ second ∷ []) is_shape 0)) ∙ same _ (behind 1 two) ∙ are_erased 1 two)))
 
   is_found : found_under shape (page_at new) root' ≡ Ok (frozen found)
   unfolding found_under

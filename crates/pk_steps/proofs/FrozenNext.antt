@@ -13,12 +13,12 @@ use Rattle.pk_jrnfmt.specs.Epoch.{epoch}
 use Rattle.pk_rootfmt.specs.Root.{Root, is_root, named}
 use Rattle.pk_model.specs.Found.{Found, older_epoch, newest_epoch, found_under, entries_in_order}
 use Rattle.pk_model.specs.Values.{placed}
-use Rattle.pk_model.specs.Laws.{IsWholePage}
 use Rattle.pk_base.proofs.ShapeLemmas.{block_pages_positive}
 use Rattle.pk_model.proofs.Lookups.{firsts_sorted}
 use Rattle.pk_model.proofs.SamePages.{any_front, any_back}
 use Rattle.pk_model.proofs.Roots.{newest_sound}
-use Rattle.pk_model.proofs.Commits.{blocks_of_root, root_valid, ends, values_apart, is_any_back}
+use Rattle.pk_base.proofs.CommitPages.{second as next_page}
+use Rattle.pk_model.proofs.Commits.{blocks_of_root, root_valid, ends, not_read, erased_not, values_apart, is_any_back}
 use Rattle.pk_model.proofs.ValueSets.{is_true}
 use Rattle.pk_steps.specs.Under.{IsUnder, IsNamed, IsValuePage, places}
 use Rattle.pk_steps.specs.Roots.{frozen_root, frozen}
@@ -34,7 +34,7 @@ not_empty n = elim (suc n == 0) as (λ b. (suc n == 0) ≡ b → b ≡ false) [ 
 
 no_blocks : (shape : Shape) (at : ℕ → Page) (number : ℕ) → epoch shape at number [] ≡ Ok []
 unfolding epoch
-no_blocks shape at number = rw (zero-mul shape.block_pages) refl
+no_blocks shape at number = rw (zero-mul (shape.block_pages / 2)) refl
 
 -- the older epoch of a freeze is the newest one before, which has entries or is not named
 older_is : (shape : Shape) (at : ℕ → Page) (number : ℕ) (blocks : List ℕ) (es : List Entry) → length blocks ≡ 2 → epoch shape at number blocks ≡ Ok es
@@ -67,8 +67,11 @@ module _ (shape : Shape) (flash : Flash) (extra : List Entry) (top : ℕ × Root
   nothing : epoch shape (page_at flash) (root.epoch + 1) (first ∷ second ∷ []) ≡ Ok []
   unfolding epoch
   nothing =
-      let inside : 0 < epoch_pages shape = let p = positive in omega (arith, p) in
-      ends shape (page_at flash) (first ∷ second ∷ []) (root.epoch + 1) 0 [] (2 * shape.block_pages) (λ w. subst IsWholePage (is.are_erased 0 inside) w)
+      let least = is_shape.block_least in
+      ends shape (page_at flash) (first ∷ second ∷ []) (root.epoch + 1) 0 [] (2 * (shape.block_pages / 2))
+      (not_read _ _ _
+      (erased_not _ (is.are_erased 0 (omega (arith, least))))
+      (erased_not _ (ap (page_at flash) (sym (next_page shape (first ∷ second ∷ []) is_shape 0)) ∙ is.are_erased 1 (omega (arith, least)))))
 
   is_found : found_under shape (page_at flash) then_root ≡ Ok (frozen found)
   unfolding found_under

@@ -20,6 +20,7 @@ use Rattle.pk_model.specs.Values.{placed, all_pages}
 use Rattle.pk_model.proofs.MapLemmas.{missing, left_part, right_part, both}
 use Rattle.pk_model.proofs.Lookups.{find-firsts, firsts_sorted, find-placed, flat, same_key}
 use Rattle.pk_model.proofs.Merges.{placed_sorted}
+use Rattle.pk_base.proofs.ShapeLemmas.{charge_least}
 use Rattle.pk_model.proofs.Live.{ceil_room}
 use Rattle.pk_base.specs.Refusal.{Refusal, ensure}
 use Rattle.pk_base.specs.Page.{page_in}
@@ -64,15 +65,7 @@ over_most source target = let all = firsts_of_both source target in let fewer = 
 
 -- a value has a page at least
 some_page : (shape : Shape) → IsShape shape → (len : ℕ) → 1 ≤ charge shape len
-unfolding charge
-some_page shape is_shape len =
-    let least = is_shape.page_least in
-    let all = ceil_room (32 + len) shape.page_bytes (omega (arith, least)) in
-    at_least (div_ceil (32 + len) shape.page_bytes) all
-  where
-    at_least : (n : ℕ) → 32 + len ≤ n * shape.page_bytes → 1 ≤ n
-    at_least zero room = absurd (omega (arith, room))
-    at_least (suc n) room = omega arith
+some_page shape is_shape len = omega (arith, charge_least shape len is_shape)
 
 -- so there are no more values than pages of them
 values_most : (shape : Shape) → IsShape shape → (es : List (Key × Place)) → length es ≤ length (all_pages shape es)

@@ -41,7 +41,7 @@ module _ (shape : Shape) (flash new : Flash) (extra : List Entry) (top : ℕ × 
   pub stays : newest_root shape (page_at new) ≡ Some top → IsUnder shape new extra top found m
   stays is_top = record {
     is_top = is_top;
-    is_found = found_alone shape positive (page_at flash) (page_at new) behind top.1 (root_valid shape (page_at flash top.0) top.1 (newest_sound shape (page_at flash) top before.is_top).there) ∙ before.is_found;
+    is_found = found_alone shape is_shape (page_at flash) (page_at new) behind top.1 (root_valid shape (page_at flash top.0) top.1 (newest_sound shape (page_at flash) top before.is_top).there) ∙ before.is_found;
     is_map = map_under_same shape (page_at flash) (page_at new) top.1 found extra values_stay ∙ before.is_map;
   }
 
@@ -54,7 +54,7 @@ module _ (shape : Shape) (flash new : Flash) (extra : List Entry) (top : ℕ × 
     values = values_under shape flash extra top.1 found m before.is_map
 
     still : found_under shape (page_at new) root ≡ Ok then_found
-    still = found_alone shape positive (page_at flash) (page_at new) behind root (subst T (sym next.grammar) tt) ∙ next.is_found
+    still = found_alone shape is_shape (page_at flash) (page_at new) behind root (subst T (sym next.grammar) tt) ∙ next.is_found
 
     -- no value lies in a block that the root names
     apart : (k : ℕ) → In k (all_pages shape es) → T (not (list_any (λ b. b == k / shape.block_pages) (named root)))

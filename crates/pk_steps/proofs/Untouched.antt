@@ -38,12 +38,11 @@ pub same : Same
 same shape flash cut extra top found m is_shape under unchanged =
     let at = page_at flash in
     let at' = page_at cut in
-    let positive = block_pages_positive shape is_shape in
     let root = top.1 in
-    let every = agrees shape at at' extra top.0 root found positive unchanged in
+    let every = agrees shape at at' extra top.0 root found is_shape unchanged in
     record {
       is_top = newest_root_same shape at at' (λ k low. unchanged k (inl low)) ∙ under.is_top;
-      is_found = found_same shape at at' root
+      is_found = found_same shape at at' is_shape root
           (λ j low. every root.newest (λ P is. any_front P (root.newest ++ root.older) (concat root.runs) (any_front P root.newest root.older is)) j)
           (λ j low. every root.older (λ P is. any_front P (root.newest ++ root.older) (concat root.runs) (any_back P root.newest root.older is)) j)
           (agree_runs shape at at' root.counts root.runs (λ blocks among. every blocks (λ P is. any_back P (root.newest ++ root.older) (concat root.runs) (any_in_concat P blocks root.runs among is)))) ∙ under.is_found;

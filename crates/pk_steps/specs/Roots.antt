@@ -1,13 +1,13 @@
 -- What a commit and a freeze make of what stands under the root: the statements.
 use Rattle.std.specs.Prelude.{◌≡◌, ◌⊎◌, ℕ, ◌+◌, ◌<◌, ◌≤◌, List, [], ◌∷◌, ◌++◌, length, true, ◌==◌, if◌then◌else◌, Some}
 use Rattle.pk_base.specs.Shape.{Shape, IsShape, epoch_pages, root_pages}
-use Rattle.pk_base.specs.Page.{Flash, page_at, erased, page_in, commit_page}
+use Rattle.pk_base.specs.Page.{Flash, page_at, erased, whole, page_in, commit_page}
 use Rattle.pk_base.specs.Entry.{Entry}
 use Rattle.pk_base.specs.Map.{Map}
-use Rattle.pk_base.specs.Mark.{program, after}
 use Rattle.pk_rootfmt.specs.Root.{Root, is_root}
 use Rattle.pk_rootfmt.specs.Newest.{newest_root}
 use Rattle.pk_nand.specs.Cut.{Cut}
+use Rattle.pk_nand.specs.Pairs.{marks_of_pair, IsPairCut}
 use Rattle.pk_model.specs.Found.{Found}
 use Rattle.pk_model.specs.Laws.{IsCommit}
 use Rattle.pk_model.specs.Tree.{Follows}
@@ -22,7 +22,15 @@ abbrev pub Commits : Type 0
 Commits =
     (shape : Shape) (flash cut : Flash) (top : ℕ × Root) (found : Found) (es : List Entry) (m0 m1 : Map) (index : ℕ) (bytes posted : List ℕ) → IsShape shape
     → IsUnder shape flash [] top found m0 → IsUnder shape flash es top found m1 → IsCommit shape flash top.1 es index bytes
-    → Cut shape flash (program (commit_page shape top.1.newest index) bytes ∷ []) cut posted
+    → Cut shape flash (marks_of_pair (commit_page shape top.1.newest index) bytes) cut posted
+    → IsUnder shape cut [] top found m0 ⊎ IsUnder shape cut [] top (committed found es) m1
+
+-- the same of each of its two programs by itself: the flash before the first one counts
+abbrev pub CommitsPair : Type 0
+CommitsPair =
+    (shape : Shape) (flash cut : Flash) (top : ℕ × Root) (found : Found) (es : List Entry) (m0 m1 : Map) (index : ℕ) (bytes : List ℕ) → IsShape shape
+    → IsUnder shape flash [] top found m0 → IsUnder shape flash es top found m1 → IsCommit shape flash top.1 es index bytes
+    → IsPairCut (commit_page shape top.1.newest index) bytes flash cut
     → IsUnder shape cut [] top found m0 ⊎ IsUnder shape cut [] top (committed found es) m1
 
 -- the root of a freeze: an empty epoch in these blocks, and the newest one as the older where it has entries
@@ -48,8 +56,10 @@ Freezes =
     → ((j : ℕ) → j < epoch_pages shape → page_at flash (page_in shape (first ∷ second ∷ []) j) ≡ erased)
     → IsUnder shape new [] (page, frozen_root top.1 found first second) (frozen found) m × Follows shape flash new
 
+-- it has them once the first of the two programs was made, and behind both
 abbrev pub Committed : Type 0
 Committed =
-    (shape : Shape) (flash : Flash) (top : ℕ × Root) (found : Found) (es : List Entry) (m0 m1 : Map) (index : ℕ) (bytes : List ℕ) → IsShape shape
+    (shape : Shape) (flash now : Flash) (top : ℕ × Root) (found : Found) (es : List Entry) (m0 m1 : Map) (index : ℕ) (bytes : List ℕ) → IsShape shape
     → IsUnder shape flash [] top found m0 → IsUnder shape flash es top found m1 → IsCommit shape flash top.1 es index bytes
-    → IsUnder shape (after shape (program (commit_page shape top.1.newest index) bytes) flash) [] top (committed found es) m1
+    → IsPairCut (commit_page shape top.1.newest index) bytes flash now → page_at now (commit_page shape top.1.newest index) ≡ whole bytes
+    → IsUnder shape now [] top (committed found es) m1

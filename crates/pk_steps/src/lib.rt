@@ -5,7 +5,7 @@
 ghost use Rattle.pk_steps.specs.Reads.{ReadsUnder, UnderReads, Same, Programs, Erases};
 ghost use Rattle.pk_steps.specs.Stores.{Stores, Deletes, Fits};
 ghost use Rattle.pk_steps.specs.Lookups.{Finds, FoundIn, Counts};
-ghost use Rattle.pk_steps.specs.Roots.{Commits, Committed, Freezes};
+ghost use Rattle.pk_steps.specs.Roots.{Commits, CommitsPair, Committed, Freezes};
 ghost use Rattle.pk_steps.specs.Next.{Installed, Installs};
 ghost use Rattle.pk_steps.specs.Freezing.{Frozen};
 ghost use Rattle.pk_steps.specs.Merging.{Merged, MergedGrammar, MergedStill, Freed, FreedCounted};
@@ -42,6 +42,7 @@ pub fn lookups()
 /// A commit moves the pending entries into the newest epoch, and a freeze makes the newest epoch the older one.
 pub fn roots()
     ensures commits { Commits }
+    ensures pair { CommitsPair }
     ensures committed { Committed }
     ensures freezes { Freezes }
 {}

@@ -1,10 +1,13 @@
 -- A run of the word `make`.
-use Rattle.std.proofs.Common.{◌≡◌, ◌≢◌, inl, inr, ℕ, Option, Some, None, IsSome, refl, sym, ◌∙◌, ap, subst, arith}
+use Rattle.std.proofs.Common.{◌≡◌, ◌≢◌, inl, inr, ℕ, List, Option, Some, None, IsSome, refl, sym, ◌∙◌, ap, subst, arith}
 use Rattle.pk_base.specs.Shape.{Shape}
 use Rattle.pk_nand.specs.BoardState.{BoardState}
-use Rattle.pk_nand.specs.Calls.{Rose, Loaded, MakeFailed}
+use Rattle.pk_nand.specs.Calls.{Rose, Loaded, MakeFailed, ProgramsFailed}
+use Rattle.pk_nand.specs.Pairs.{programs_of_pair}
 use Rattle.pk_nand.specs.declared.types.LoadFault.{LoadFault}
 use Rattle.pk_nand.specs.declared.types.LoadFault.TheVariants.{Fault, BadImage, Memory}
+use Rattle.pk_rootfmt.specs.Held.{first as first_root}
+use Rattle.pk_rootfmt.specs.Root.{root_bytes}
 use Rattle.pk_top.specs.Loads.{load_status}
 use Rattle.pk_top.specs.Makes.{MakeRun, Makes, MadeImage, IsMade}
 use Rattle.pk_top.specs.Statuses.{GivesNothing, Tells}
@@ -24,12 +27,17 @@ module _ (shape : Shape) (old loaded new : BoardState) (none : Loaded old loaded
   tells_refusal status (BadImage at) is not_bad rose same failed = absurd (not_bad at refl)
   tells_refusal status Memory is not_bad rose same failed = tells_memory old new status is (same (λ e. cc) ∙ ap (λ (s : BoardState). s.flash_faults) none.rest) (make_gives failed)
 
+  -- a program of the first root failed
+  root_failed : (made : BoardState) (bytes : List ℕ) → ProgramsFailed made new (programs_of_pair 0 bytes) → Rose made.stop_faults new.stop_faults
+  root_failed made bytes (inl first) = first.stop
+  root_failed made bytes (inr second) = second.stop
+
   tells_image : (status : ℕ) → MadeImage shape loaded new status → Tells old new status
   tells_image status m = elim m.formats [
     | inl done ↦ tells_good old new status (inl done.tells)
     | inr failed ↦
         let T : ℕ → Type 0 = λ n. Rose n new.stop_faults in
-        tells_flash old new status failed.0 (inl (subst T (ap (λ (s : BoardState). s.stop_faults) m.is_made.rest ∙ ap (λ (s : BoardState). s.stop_faults) none.rest) failed.1.stop))
+        tells_flash old new status failed.0 (inl (subst T (ap (λ (s : BoardState). s.stop_faults) m.is_made.rest ∙ ap (λ (s : BoardState). s.stop_faults) none.rest) (root_failed m.made (root_bytes shape first_root) failed.1)))
   ]
 
   tells_makes : (status : ℕ) → Makes shape loaded new status → Tells old new status
@@ -53,7 +61,7 @@ never_done Memory e = omega arith
 formatted_made : (shape : Shape) (loaded new : BoardState) (status : ℕ) → status ≡ 0 → Makes shape loaded new status → IsMade shape new
 formatted_made shape loaded new status done (inl r) = absurd (never_done r.fault (sym r.tells ∙ done))
 formatted_made shape loaded new status done (inr m) = elim m.formats [
-  | inl f ↦ record { shape_is = ap (λ (s : BoardState). s.shape) f.program ∙ m.is_made.shape_is; holds = f.holds }
+  | inl f ↦ record { shape_is = ap (λ (s : BoardState). s.shape) f.programs ∙ m.is_made.shape_is; holds = f.holds }
   | inr failed ↦ absurd (let e : status ≡ 6 = failed.0 in omega arith)
 ]
 

@@ -3,24 +3,25 @@ use Rattle.std.specs.Prelude.{◌≡◌, ◌⊎◌, ℕ, Some, None}
 use Rattle.std.specs.FinMap.{empty}
 use Rattle.pk_base.specs.Shape.{Shape}
 use Rattle.pk_nand.specs.BoardState.{BoardState}
-use Rattle.pk_nand.specs.Calls.{Loaded, Made, ProgramFailed, after_program}
+use Rattle.pk_nand.specs.Calls.{Loaded, Made, ProgramsFailed, after_programs}
+use Rattle.pk_nand.specs.Pairs.{programs_of_pair}
 use Rattle.pk_rootfmt.specs.Held.{first as first_root}
 use Rattle.pk_rootfmt.specs.Root.{root_bytes}
 use Rattle.pk_model.specs.Reading.{Holds}
 use Rattle.pk_top.specs.declared.status.TheConstants.Status.{DONE, FLASH, MEMORY, IMAGE_EXISTS}
 use Rattle.pk_top.specs.Loads.{LoadRefused, MakeRefused}
 
--- The flash of an image that was made holds the empty map, by one program.
+-- The flash of an image that was made holds the empty map, by two programs with the same root.
 pub record Formatted (shape : Shape) (made new : BoardState) (status : ℕ) : Type 0 where
   pub tells : status ≡ DONE.0
   pub holds : Holds shape new.pages empty
-  pub program : new ≡ after_program made 0 (root_bytes shape first_root)
+  pub programs : new ≡ after_programs made (programs_of_pair 0 (root_bytes shape first_root))
 
--- An image of this shape was made; its flash was formatted, or the program of that failed.
+-- An image of this shape was made; its flash was formatted, or a program of that failed.
 pub record MadeImage (shape : Shape) (loaded new : BoardState) (status : ℕ) : Type 0 where
   pub made : BoardState
   pub is_made : Made loaded made shape
-  pub formats : Formatted shape made new status ⊎ ((status ≡ FLASH.0) × ProgramFailed made new 0 (root_bytes shape first_root))
+  pub formats : Formatted shape made new status ⊎ ((status ≡ FLASH.0) × ProgramsFailed made new (programs_of_pair 0 (root_bytes shape first_root)))
 
 -- What was done where there was no image.
 abbrev pub Makes : Shape → BoardState → BoardState → ℕ → Type 0

@@ -2,37 +2,34 @@
 
 use crate::steps::{MAKE_SMALL, answered, ask_small, cut, holds, made, records, same};
 use crate::ways::{Ways, ways_of_erases};
-use pk_flash::{Flash, Left, PageLeft};
-use pk_nand::Mark;
+use pk_flash::{EraseLeft, Flash, Left};
 use pk_sessions::Place;
 use pk_sessions::boards::Session;
 use pk_sessions::cuts::bytes_out;
 use pk_sessions::exits::DONE;
 use pk_sessions::script::{Answer, Ask, Value};
+use pk_sessions::ways::{Kind, kind_of, ways_of_program};
 use std::alloc::Global;
 use std::process::Abort;
 use std::test::*;
 
 const A_FIRST: Value = Value { first: 1, len: 100 };
 
-const A_LATER: Value = Value { first: 2, len: 200 };
+const A_LATER: Value = Value { first: 2, len: 992 };
 
 const B: Value = Value { first: 3, len: 600 };
-
-const C: Value = Value { first: 4, len: 992 };
 
 const D: Value = Value { first: 5, len: 0 };
 
 /// The value of the second session.
 pub const E: Value = Value { first: 6, len: 10 };
 
-// Values of one and two pages, seven in all, which one block takes.
-const FIRST: [Ask; 10] = [
+// Four values of two pages each, which fill one block. The key `c` is never stored.
+const FIRST: [Ask; 9] = [
     Ask::Store(0x61, A_FIRST),
     Ask::Store(0x62, B),
     Ask::Flush,
     Ask::Store(0x61, A_LATER),
-    Ask::Store(0x63, C),
     Ask::Delete(0x62),
     Ask::Flush,
     Ask::Tick(3),
@@ -44,18 +41,17 @@ const FIRST: [Ask; 10] = [
 pub type Held = [Option<Value>; 4];
 
 /// Behind so many commands of the first session.
-pub const HELD: [Held; 11] = [
+pub const HELD: [Held; 10] = [
     [None, None, None, None],
     [Some(A_FIRST), None, None, None],
     [Some(A_FIRST), Some(B), None, None],
     [Some(A_FIRST), Some(B), None, None],
     [Some(A_LATER), Some(B), None, None],
-    [Some(A_LATER), Some(B), Some(C), None],
-    [Some(A_LATER), None, Some(C), None],
-    [Some(A_LATER), None, Some(C), None],
-    [Some(A_LATER), None, Some(C), None],
-    [Some(A_LATER), None, Some(C), Some(D)],
-    [None, None, Some(C), Some(D)],
+    [Some(A_LATER), None, None, None],
+    [Some(A_LATER), None, None, None],
+    [Some(A_LATER), None, None, None],
+    [Some(A_LATER), None, None, Some(D)],
+    [None, None, None, Some(D)],
 ];
 
 const SECOND: [Ask; 6] = [
@@ -67,47 +63,48 @@ const SECOND: [Ask; 6] = [
     Ask::Retrieve(0x65),
 ];
 
-/// In how many ways an interruption of the mark with this number is tried where it is one of two: all of a program, six of an erase, of
+/// The ways in which an interruption of the mark with this number is tried when it is one of two: all of a program, six of an erase, of
 /// which each page may stay, be Erased or Torn (`Ways` has all of these); a post leaves the pages alone, whatever part of it went out.
-/// Behind the last mark there is one way.
-pub fn some_ways(flash: &Flash, k: usize) -> u8 {
-    if k >= flash.marks() {
-        return 1;
-    }
-    match flash.mark(k) {
-        Mark::Program { .. } => 3,
-        Mark::Erase { .. } => 6,
-        Mark::Post { .. } => 1,
+/// After the last mark there is one way.
+pub fn some_ways(rt: &impl Abort, alloc: Global, flash: &Flash, k: usize) -> Vec<Left> {
+    match kind_of(flash, k) {
+        Kind::None | Kind::Post => {
+            let mut ways = Vec::new(alloc);
+            ways.push(Left::Untouched).expect(rt, "memory");
+            ways
+        }
+        Kind::First => ways_of_program(alloc, false).expect(rt, "memory"),
+        Kind::Second => ways_of_program(alloc, true).expect(rt, "memory"),
+        Kind::Erase => ways_of_erase(rt, alloc),
     }
 }
 
-const KEPT: PageLeft = PageLeft::Kept;
+const KEPT: EraseLeft = EraseLeft::Kept;
 
-const ERASED: PageLeft = PageLeft::Erased;
+const ERASED: EraseLeft = EraseLeft::Erased;
 
-const TORN: PageLeft = PageLeft::Torn;
+const TORN: EraseLeft = EraseLeft::Torn;
 
 // Each page of a block of eight by itself.
-const EACH: [[PageLeft; 8]; 3] = [
+const EACH: [[EraseLeft; 8]; 3] = [
     [KEPT, ERASED, TORN, KEPT, ERASED, TORN, KEPT, ERASED],
     [ERASED, KEPT, ERASED, KEPT, ERASED, KEPT, ERASED, KEPT],
     [TORN, KEPT, TORN, KEPT, TORN, KEPT, TORN, KEPT],
 ];
 
-fn each(rt: &impl Abort, alloc: Global, pages: &[PageLeft]) -> Left {
+/// Each page of a block of eight is left by itself, in one of three ways.
+pub fn each(rt: &impl Abort, alloc: Global, way: usize) -> Left {
+    let pages = EACH.get(way).unwrap_or(&EACH[0]);
     Left::Each(pages.to_vec(alloc).expect(rt, "memory"))
 }
 
-/// One of these: nothing is all is Torn, all is or each page of a block by itself.
-pub fn left(rt: &impl Abort, alloc: Global, way: u8) -> Left {
-    match way {
-        0 => Left::Untouched,
-        1 => Left::Torn,
-        2 => Left::Done,
-        3 => each(rt, alloc, &EACH[0]),
-        4 => each(rt, alloc, &EACH[1]),
-        _ => each(rt, alloc, &EACH[2]),
+// Nothing is done, all is Torn, all is Erased, or each page is left by itself.
+fn ways_of_erase(rt: &impl Abort, alloc: Global) -> Vec<Left> {
+    let mut ways = ways_of_program(alloc, false).expect(rt, "memory");
+    for way in 0..EACH.len() {
+        ways.push(each(rt, alloc, way)).expect(rt, "memory");
     }
+    ways
 }
 
 /// The answer to a Retrieve of a key under which this stands.
@@ -183,7 +180,7 @@ fn every_cut(rt: HostRuntime) {
     let alloc = rt.alloc();
     let first = first_session(&rt, alloc);
     let place = Place::Named("the first session");
-    answered(&rt, alloc, &first, &[Answer::Done; 10], place);
+    answered(&rt, alloc, &first, &[Answer::Done; 9], place);
     let ways = ways_of_erases(&rt, alloc, &first.flash);
     same(&rt, u64::from(ways), 7 * 256, "ways");
     for k in 0..first.flash.marks().saturating_add(1) {

@@ -11,12 +11,15 @@ use std::alloc::Global;
 use std::process::Abort;
 use std::test::*;
 
-// The reads that open a made drive: 32 pages of the root blocks, and the Erased first page of the journal.
-const OPENING: u64 = 33;
+// The reads that open a made drive: 32 pages of the root blocks, and the two Erased pages of the first commit of the journal.
+const OPENING: u64 = 34;
 
-// The calls of the first Store: the fetch of its entry, the erases of two blocks for the epoch and of the other root block, the root,
-// the erase of a block for values, and the value. A later Store has the fetch and the value alone.
-const FIRST: u64 = 7;
+// The calls of the first Store: the fetch of its entry, the erases of two blocks for the epoch and of the other root block, both pages of
+// the root, the erase of a block for values, and both pages of the value.
+const FIRST: u64 = 9;
+
+// The calls of a later Store: the fetch, and both pages of the value. The ninth Store erases a block besides, since eight values fill one.
+const LATER: u64 = 3;
 
 // A Store of a value without bytes.
 fn store(cid: u16) -> [u8; 64] {
@@ -77,21 +80,21 @@ fn command_between(rt: HostRuntime) {
     check(&rt, alloc, with_unknown(&rt, alloc), DONE, &want);
     let front = want.get(..7).unwrap_or(&[]);
     let script = with_unknown(&rt, alloc);
-    // behind the fetch of the second entry stands the journal page, and then the post
-    check_failing(&rt, alloc, script, FIRST + 2, Left::Part(7), OUTPUT, front);
+    // the fetch of the second entry is followed by both pages of the commit, and then by the post
+    check_failing(&rt, alloc, script, FIRST + 3, Left::Part(7), OUTPUT, front);
 }
 
 const NO_BYTE: Value = Value { first: 0, len: 0 };
 
 const SIXTEEN: [Ask; 16] = [Ask::Store(0x61, NO_BYTE); 16];
 
-/// The record of a Store is out when as many Stores are done as a journal page has entries, which is 15, and not before.
+/// The record of a Store is out when as many Stores are done as a commit has entries, which is 15, and not before.
 #[test]
 fn held_records(rt: HostRuntime) {
     let alloc = rt.alloc();
     let stored = records(&rt, alloc, &[Answer::Done; 14]);
     let front = stored.get(..9).unwrap_or(&[]);
-    let post = FIRST + 14 * 2 + 1;
+    let post = FIRST + 14 * LATER + 1 + 2;
     let left = Left::Part(9);
     check_failing(
         &rt,
@@ -102,7 +105,7 @@ fn held_records(rt: HostRuntime) {
         OUTPUT,
         front,
     );
-    let fetch = FIRST + 13 * 2;
+    let fetch = FIRST + 13 * LATER + 1;
     let left = Left::Untouched;
     check_failing(
         &rt,

@@ -14,12 +14,8 @@ const B: Value = Value { first: 2, len: 600 };
 
 const C: Value = Value { first: 3, len: 3 };
 
-// Eight values of one page each fill the first block for values. All of them are dead behind the Delete, and `b` stands in the next one.
-const FILL: [Ask; 10] = [
-    Ask::Store(0x61, A),
-    Ask::Store(0x61, A),
-    Ask::Store(0x61, A),
-    Ask::Store(0x61, A),
+// Four values of two pages each fill the first block for values. All of them are dead after the Delete, and `b` stands in the next one.
+const FILL: [Ask; 6] = [
     Ask::Store(0x61, A),
     Ask::Store(0x61, A),
     Ask::Store(0x61, A),

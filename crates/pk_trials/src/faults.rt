@@ -4,7 +4,7 @@ use crate::steps::{
     MAKE_WORKED, answered, ask, ended_well, made, pages_left, posted, records, same, script, serve,
     worked_board,
 };
-use pk_flash::Left;
+use pk_flash::{Left, PageLeft};
 use pk_nand::Board;
 use pk_nvme::opcode::DELETE;
 use pk_sessions::Place;
@@ -22,7 +22,7 @@ const THREE: Value = Value {
 };
 
 // Serves this script on a drive with the key `b`, which one session stored, while the call with this number fails. The drive is opened
-// by 35 reads: 32 pages of the root blocks, the journal page and the Erased one behind it, and the page of the value.
+// by 37 reads: 32 pages of the root blocks, the first page of the commit and the two Erased ones of the next, and both pages of the value.
 fn ask_failing(rt: &impl Abort, alloc: Global, asks: &[Ask], call: u64, left: Left) -> Session {
     let first = ask(
         rt,
@@ -42,15 +42,15 @@ fn ask_failing(rt: &impl Abort, alloc: Global, asks: &[Ask], call: u64, left: Le
 fn read_of_retrieve(rt: HostRuntime) {
     let alloc = rt.alloc();
     let asks = [Ask::Retrieve(0x62), Ask::Retrieve(0x62)];
-    let session = ask_failing(&rt, alloc, &asks, 36, Left::Untouched);
+    let session = ask_failing(&rt, alloc, &asks, 38, Left::Untouched);
     let answers = [Answer::Unread, Answer::Found(THREE)];
-    answered(&rt, alloc, &session, &answers, Place::Call(36));
+    answered(&rt, alloc, &session, &answers, Place::Call(38));
 }
 
 /// Each read of opening fails once: nothing was posted and nothing was written, and the first byte of the input is still to be taken.
 #[test]
 fn reads_of_opening(rt: HostRuntime) {
-    for call in 0..35u64 {
+    for call in 0..37u64 {
         let asks = [Ask::Delete(0x62)];
         let mut session = ask_failing(&rt, rt.alloc(), &asks, call, Left::Untouched);
         posted(&rt, &session, FLASH, &[], Place::Call(call));
@@ -67,180 +67,321 @@ fn reads_of_opening(rt: HostRuntime) {
     }
 }
 
-fn left(rt: &impl Abort, alloc: Global, way: u8) -> Left {
+// What a call that fails leaves.
+#[derive(Clone, Copy)]
+enum Way {
+    Untouched,
+    Torn,
+    Done,
+    // The second page of a pair is left so, and the first one is Torn.
+    WithEven(PageLeft),
+    // The pages of a block as they were, Erased or Torn by turns.
+    ByTurns,
+    // So many bytes of a post.
+    Part(u32),
+}
+
+fn left(rt: &impl Abort, alloc: Global, way: Way) -> Left {
     match way {
-        0 => Left::Untouched,
-        1 => Left::Torn,
-        2 => Left::Done,
-        3 => by_turns(alloc).expect(rt, "memory"),
-        _ => Left::Part(7),
+        Way::Untouched => Left::Untouched,
+        Way::Torn => Left::Torn,
+        Way::Done => Left::Done,
+        Way::WithEven(page) => Left::WithEven(page),
+        Way::ByTurns => by_turns(alloc).expect(rt, "memory"),
+        Way::Part(count) => Left::Part(count),
     }
 }
 
-// A call that fails and what it leaves: the status, how many bytes of the Store's record are posted, and the keys behind the session.
+// A call that fails and what it leaves: the status, how many bytes of the Store's record are posted, and the keys after the session.
 #[derive(Clone, Copy)]
 struct Failure {
     call: u64,
-    way: u8,
+    way: Way,
     status: u8,
     bytes: usize,
     keys: &'static [u8],
 }
 
-// The calls behind those of opening are, in this order: the fetches of the entry and of the value, the erases of two blocks for the
-// epoch and of the other root block, the root, the erase of a block for values, the value, the fetch at the input's end, the journal
-// page, and the post of the record.
-const FAILURES: [Failure; 22] = [
-    Failure {
-        call: 35,
-        way: 0,
-        status: INPUT,
-        bytes: 0,
-        keys: b"b",
-    },
-    Failure {
-        call: 36,
-        way: 0,
-        status: INPUT,
-        bytes: 0,
-        keys: b"b",
-    },
+// The calls after those of opening are, in this order: the fetches of the entry and of the value, the erases of two blocks for the
+// epoch and of the other root block, both pages of the root, the erase of a block for values, both pages of the value, the fetch at the
+// input's end, both pages of the commit, and the post of the record.
+const FAILURES: [Failure; 40] = [
     Failure {
         call: 37,
-        way: 1,
-        status: FLASH,
+        way: Way::Untouched,
+        status: INPUT,
         bytes: 0,
         keys: b"b",
     },
     Failure {
         call: 38,
-        way: 3,
-        status: FLASH,
+        way: Way::Untouched,
+        status: INPUT,
         bytes: 0,
         keys: b"b",
     },
     Failure {
         call: 39,
-        way: 0,
-        status: FLASH,
-        bytes: 0,
-        keys: b"b",
-    },
-    Failure {
-        call: 39,
-        way: 1,
-        status: FLASH,
-        bytes: 0,
-        keys: b"b",
-    },
-    Failure {
-        call: 39,
-        way: 2,
-        status: FLASH,
-        bytes: 0,
-        keys: b"b",
-    },
-    Failure {
-        call: 39,
-        way: 3,
+        way: Way::Torn,
         status: FLASH,
         bytes: 0,
         keys: b"b",
     },
     Failure {
         call: 40,
-        way: 0,
-        status: FLASH,
-        bytes: 0,
-        keys: b"b",
-    },
-    Failure {
-        call: 40,
-        way: 1,
-        status: FLASH,
-        bytes: 0,
-        keys: b"b",
-    },
-    Failure {
-        call: 40,
-        way: 2,
+        way: Way::ByTurns,
         status: FLASH,
         bytes: 0,
         keys: b"b",
     },
     Failure {
         call: 41,
-        way: 3,
+        way: Way::Untouched,
+        status: FLASH,
+        bytes: 0,
+        keys: b"b",
+    },
+    Failure {
+        call: 41,
+        way: Way::Torn,
+        status: FLASH,
+        bytes: 0,
+        keys: b"b",
+    },
+    Failure {
+        call: 41,
+        way: Way::Done,
+        status: FLASH,
+        bytes: 0,
+        keys: b"b",
+    },
+    Failure {
+        call: 41,
+        way: Way::ByTurns,
         status: FLASH,
         bytes: 0,
         keys: b"b",
     },
     Failure {
         call: 42,
-        way: 0,
+        way: Way::Untouched,
         status: FLASH,
         bytes: 0,
         keys: b"b",
     },
     Failure {
         call: 42,
-        way: 1,
+        way: Way::Torn,
         status: FLASH,
         bytes: 0,
         keys: b"b",
     },
     Failure {
         call: 42,
-        way: 2,
+        way: Way::Done,
         status: FLASH,
         bytes: 0,
         keys: b"b",
     },
     Failure {
         call: 43,
-        way: 0,
+        way: Way::Untouched,
+        status: FLASH,
+        bytes: 0,
+        keys: b"b",
+    },
+    Failure {
+        call: 43,
+        way: Way::Torn,
+        status: FLASH,
+        bytes: 0,
+        keys: b"b",
+    },
+    Failure {
+        call: 43,
+        way: Way::Done,
+        status: FLASH,
+        bytes: 0,
+        keys: b"b",
+    },
+    Failure {
+        call: 43,
+        way: Way::WithEven(PageLeft::Untouched),
+        status: FLASH,
+        bytes: 0,
+        keys: b"b",
+    },
+    Failure {
+        call: 43,
+        way: Way::WithEven(PageLeft::Torn),
+        status: FLASH,
+        bytes: 0,
+        keys: b"b",
+    },
+    Failure {
+        call: 43,
+        way: Way::WithEven(PageLeft::Done),
+        status: FLASH,
+        bytes: 0,
+        keys: b"b",
+    },
+    Failure {
+        call: 44,
+        way: Way::ByTurns,
+        status: FLASH,
+        bytes: 0,
+        keys: b"b",
+    },
+    Failure {
+        call: 45,
+        way: Way::Untouched,
+        status: FLASH,
+        bytes: 0,
+        keys: b"b",
+    },
+    Failure {
+        call: 45,
+        way: Way::Torn,
+        status: FLASH,
+        bytes: 0,
+        keys: b"b",
+    },
+    Failure {
+        call: 45,
+        way: Way::Done,
+        status: FLASH,
+        bytes: 0,
+        keys: b"b",
+    },
+    Failure {
+        call: 46,
+        way: Way::Untouched,
+        status: FLASH,
+        bytes: 0,
+        keys: b"b",
+    },
+    Failure {
+        call: 46,
+        way: Way::Torn,
+        status: FLASH,
+        bytes: 0,
+        keys: b"b",
+    },
+    Failure {
+        call: 46,
+        way: Way::Done,
+        status: FLASH,
+        bytes: 0,
+        keys: b"b",
+    },
+    Failure {
+        call: 46,
+        way: Way::WithEven(PageLeft::Untouched),
+        status: FLASH,
+        bytes: 0,
+        keys: b"b",
+    },
+    Failure {
+        call: 46,
+        way: Way::WithEven(PageLeft::Torn),
+        status: FLASH,
+        bytes: 0,
+        keys: b"b",
+    },
+    Failure {
+        call: 46,
+        way: Way::WithEven(PageLeft::Done),
+        status: FLASH,
+        bytes: 0,
+        keys: b"b",
+    },
+    Failure {
+        call: 47,
+        way: Way::Untouched,
         status: INPUT,
         bytes: 24,
         keys: b"ab",
     },
     Failure {
-        call: 44,
-        way: 0,
+        call: 48,
+        way: Way::Untouched,
         status: FLASH,
         bytes: 0,
         keys: b"b",
     },
     Failure {
-        call: 44,
-        way: 1,
+        call: 48,
+        way: Way::Torn,
         status: FLASH,
         bytes: 0,
         keys: b"b",
     },
     Failure {
-        call: 44,
-        way: 2,
+        call: 48,
+        way: Way::Done,
         status: FLASH,
         bytes: 0,
         keys: b"ab",
     },
     Failure {
-        call: 45,
-        way: 0,
+        call: 49,
+        way: Way::Untouched,
+        status: FLASH,
+        bytes: 0,
+        keys: b"ab",
+    },
+    Failure {
+        call: 49,
+        way: Way::Torn,
+        status: FLASH,
+        bytes: 0,
+        keys: b"ab",
+    },
+    Failure {
+        call: 49,
+        way: Way::Done,
+        status: FLASH,
+        bytes: 0,
+        keys: b"ab",
+    },
+    Failure {
+        call: 49,
+        way: Way::WithEven(PageLeft::Untouched),
+        status: FLASH,
+        bytes: 0,
+        keys: b"b",
+    },
+    Failure {
+        call: 49,
+        way: Way::WithEven(PageLeft::Torn),
+        status: FLASH,
+        bytes: 0,
+        keys: b"b",
+    },
+    Failure {
+        call: 49,
+        way: Way::WithEven(PageLeft::Done),
+        status: FLASH,
+        bytes: 0,
+        keys: b"ab",
+    },
+    Failure {
+        call: 50,
+        way: Way::Untouched,
         status: OUTPUT,
         bytes: 0,
         keys: b"ab",
     },
     Failure {
-        call: 45,
-        way: 4,
+        call: 50,
+        way: Way::Part(7),
         status: OUTPUT,
         bytes: 7,
         keys: b"ab",
     },
     Failure {
-        call: 46,
-        way: 0,
+        call: 51,
+        way: Way::Untouched,
         status: DONE,
         bytes: 24,
         keys: b"ab",
@@ -249,7 +390,7 @@ const FAILURES: [Failure; 22] = [
 
 // Stores the key `a` while this call fails: what was posted, and the keys behind the session.
 fn check_store(rt: &impl Abort, alloc: Global, failure: &Failure) {
-    let place = Place::CallWay(failure.call, failure.way);
+    let place = Place::Call(failure.call);
     let left = left(rt, alloc, failure.way);
     let session = ask_failing(rt, alloc, &[Ask::Store(0x61, THREE)], failure.call, left);
     let record = records(rt, alloc, &[Answer::Done]);
@@ -264,7 +405,7 @@ fn check_store(rt: &impl Abort, alloc: Global, failure: &Failure) {
     answered(rt, alloc, &next, &[Answer::Keys(failure.keys)], place);
 }
 
-/// Each call of the session of a Store fails, in some ways.
+/// Each call of the session of a Store fails, in some ways, and the program of the second page of a pair in all.
 #[test]
 fn calls_of_store(rt: HostRuntime) {
     for failure in &FAILURES {

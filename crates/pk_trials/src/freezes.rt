@@ -14,7 +14,7 @@ use std::test::*;
 // The key that is stored, which is above all others.
 const NEW: u16 = 5000;
 
-// The session of a Store and a Flush. An epoch that was found at opening takes no page, so that the first Store needs a freeze.
+// The session of a Store and a Flush. An epoch that was found at opening takes no commit, so that the first Store needs a freeze.
 fn session(rt: &impl Abort, alloc: Global, layered: &Layered) -> Flash {
     let value = value_of(NEW);
     let mut script = Vec::new(alloc);
@@ -25,7 +25,7 @@ fn session(rt: &impl Abort, alloc: Global, layered: &Layered) -> Flash {
     ended_well(rt, session, Place::Named("the Store"))
 }
 
-// Each merge and the freeze made a root, and the page with the entry is programmed; each mark of the session is interrupted in some ways:
+// Each merge and the freeze made a root, and the commit with the entry is programmed; each mark of the session is interrupted in some ways:
 // how many cuts these are.
 fn check_cuts(rt: &impl Abort, alloc: Global, layered: &Layered) -> u32 {
     let flash = session(rt, alloc, layered);

@@ -75,6 +75,45 @@ fn third_state(rt: HostRuntime) {
     fs::remove_dir(&rt, folder.as_str()).expect(&rt, "the folder");
 }
 
+// Both pages of the root of a made image have the version 1 in place of 2: each word that needs the image ends with 8, `make` finds an image,
+// and no byte of the file changes. With the bytes as they were the image is one again.
+#[test]
+fn former_version(rt: HostRuntime) {
+    let folder = own_folder(&rt, "former_version").expect(&rt, "a folder");
+    let path = format!(in rt.alloc(); "{}/image", folder.as_str()).expect(&rt, "memory");
+    let made = status_of(&rt, path.as_str(), &MAKE_WORKED);
+    assert!(rt; made == Status::DONE.0, "a made image");
+    let mut options = OpenOptions::new();
+    options.read(true).write(true);
+    let file = options.open(&rt, path.as_str()).expect(&rt, "the file");
+    write_versions(&file, 1).expect(&rt, "the versions");
+    let before = fs::read(&rt, path.as_str()).expect(&rt, "the file");
+    for words in &WORDS {
+        let wanted = if words.len() == MAKE_WORKED.len() {
+            Status::IMAGE_EXISTS.0
+        } else {
+            Status::NO_DRIVE.0
+        };
+        let status = status_of(&rt, path.as_str(), words);
+        assert!(rt; status == wanted, "the status");
+        let after = fs::read(&rt, path.as_str()).expect(&rt, "the file");
+        assert!(rt; after.as_slice() == before.as_slice(), "the file");
+    }
+    write_versions(&file, 2).expect(&rt, "the versions");
+    let status = status_of(&rt, path.as_str(), &["stat"]);
+    assert!(rt; status == Status::DONE.0, "an image");
+    fs::remove_file(&rt, path.as_str()).expect(&rt, "the file");
+    fs::remove_dir(&rt, folder.as_str()).expect(&rt, "the folder");
+}
+
+// Writes the versions of the roots in the first two pages, which stand behind 32 bytes of the header and 1,024 state bytes.
+fn write_versions(file: &File, version: u8) -> io::Result<()> {
+    for page in 0..2u64 {
+        file.write_all_at(&[version], 32 + 1024 + 512 * page + 8)?;
+    }
+    Ok(())
+}
+
 // The headers of images of shapes (512, 16, 64) and (512, 8, 33), whose lengths are 32 + 1,024 * 513 and 32 + 264 * 513 bytes.
 const WORKED_HEADER: [u8; 20] = *b"PINKIMG1\x00\x02\x00\x00\x10\x00\x00\x00\x40\x00\x00\x00";
 

@@ -7,7 +7,7 @@ use pk_flash::{Flash, Left};
 use pk_nand::{Mark, PageState};
 use pk_sessions::pages::{Sizes, Top, erased, put_root, write};
 use pk_sessions::script::Value;
-use pk_sessions::ways::few_ways;
+use pk_sessions::ways::{few_ways, keeps_pair};
 use std::alloc::Global;
 use std::process::Abort;
 use std::test::*;
@@ -57,14 +57,14 @@ const WIDE: Sizes = Sizes {
 const FIFTEENS: Lists = Lists {
     active: 0,
     frozen: 20,
-    runs: [50, 200, 800, 8],
+    runs: [50, 200, 800, 4],
 };
 
 // The same with 31 entries a page: 30 and 100 are more than 124, 100 and 420 more than 496, 420 and 1,600 more than 1,984.
 const THIRTY_ONES: Lists = Lists {
     active: 0,
     frozen: 30,
-    runs: [100, 420, 1600, 8],
+    runs: [100, 420, 1600, 4],
 };
 
 /// On the smallest flashes that there are with few pages in a block: nothing is in the newest epoch, and the next merges are into levels
@@ -105,7 +105,7 @@ fn entries_of(sizes: &Sizes) -> u16 {
 // The value of each key has five bytes.
 const VALUE_BYTES: u32 = 5;
 
-/// The value of a key, which stands on one page.
+/// The value of a key, which stands on the first page of a pair.
 pub fn value_of(key: u16) -> Value {
     Value {
         first: (key % 256) as u8,
@@ -150,7 +150,7 @@ fn put_meta(page: &mut [u8], level: u8, index: u16, count: u16) {
     put_u32(page, 12, u32::from(index));
 }
 
-// Writes the head of a page of an epoch.
+// Writes the head of a page of the commit of an epoch with this index.
 fn put_journal(page: &mut [u8], epoch: u64, index: u16, count: u16) {
     if page.len() < 32 {
         return;
@@ -161,7 +161,7 @@ fn put_journal(page: &mut [u8], epoch: u64, index: u16, count: u16) {
     put_u16(page, 20, count);
 }
 
-// Writes the value of a key, which stands on one page, behind its head.
+// Writes the value of a key, which stands on one page, after its head.
 fn put_value(page: &mut [u8], key: u16) {
     if page.len() < 37 {
         return;
@@ -200,6 +200,11 @@ impl Writer {
         first.saturating_add(u32::from(i))
     }
 
+    // The number of the first page of a pair of a block.
+    fn first_of(&self, block: u16, pair: u16) -> u32 {
+        self.at(block, pair.saturating_mul(2))
+    }
+
     // Writes the page that was made, and begins a new one.
     fn write(&mut self, rt: &impl Abort, at: u32) {
         done(rt, write(self.alloc, &mut self.pages, at, &self.page));
@@ -218,15 +223,25 @@ impl Writer {
         }
     }
 
-    // Writes run 4, of one page, and the values of its keys, which fill pages of this block.
+    // Writes the page that was made to both pages of a pair of a block, and begins a new one.
+    fn write_pair(&mut self, rt: &impl Abort, block: u16, pair: u16) {
+        let first = self.first_of(block, pair);
+        done(rt, write(self.alloc, &mut self.pages, first, &self.page));
+        self.write(rt, first.saturating_add(1));
+    }
+
+    // Writes run 4, of one page, and the values of its keys, which fill pairs of pages of this block.
     fn write_there(&mut self, rt: &impl Abort, block: u16, entries: u16, values: u16) {
         for i in 0..entries {
+            let first = self.first_of(values, i);
             put_value(&mut self.page, FIRST_THERE.saturating_add(i));
-            self.write(rt, self.at(values, i));
+            self.write(rt, first);
+            // the second page of the pair has zeros
+            self.write(rt, first.saturating_add(1));
         }
         put_meta(&mut self.page, 4, 0, entries);
         for i in 0..entries {
-            let first = self.at(values, i);
+            let first = self.first_of(values, i);
             put_note(
                 &mut self.page,
                 i,
@@ -237,7 +252,7 @@ impl Writer {
         self.write(rt, self.at(block, 0));
     }
 
-    // Writes a page of an epoch with so many deleted keys from this one on, where there are some.
+    // Writes a commit of an epoch with so many deleted keys from this one on, if there are some.
     fn write_epoch(
         &mut self,
         rt: &impl Abort,
@@ -252,7 +267,7 @@ impl Writer {
         }
         put_journal(&mut self.page, epoch, index, count);
         put_gone(&mut self.page, first, count);
-        self.write(rt, self.at(block, index));
+        self.write_pair(rt, block, index);
     }
 }
 
@@ -310,8 +325,8 @@ impl Layered {
         )
     }
 
-    /// The flash: the root in page 0, epoch 3 in blocks 2 and 3, epoch 2 in the next two where there is one, the runs behind them, and the
-    /// values in the last block but one.
+    /// The flash: the root in pages 0 and 1, epoch 3 in blocks 2 and 3, epoch 2 in the next two if there is one, the runs in the blocks after
+    /// them, and the values in the last block but one.
     pub fn pages(&self, rt: &impl Abort, alloc: Global) -> Vec<PageState> {
         let sizes = self.sizes;
         let count = u32::from(sizes.block_pages).saturating_mul(u32::from(sizes.blocks));
@@ -326,7 +341,7 @@ impl Layered {
         writer.pages
     }
 
-    // Writes epoch 3 and, in two pages, epoch 2 where there is one.
+    // Writes epoch 3 and, in two commits, epoch 2 if there is one.
     fn write_epochs(&self, rt: &impl Abort, writer: &mut Writer) {
         let half = self.lists.frozen / 2;
         let rest = self.lists.frozen.saturating_sub(half);
@@ -365,7 +380,7 @@ impl Layered {
             blocks: named.blocks(),
         };
         put_root(&mut writer.page, &self.sizes, &top);
-        writer.write(rt, 0);
+        writer.write_pair(rt, 0, 0);
     }
 
     /// The data of a List: the keys of run 4 but for those that the newest epoch deletes, and one more where it was stored.
@@ -447,24 +462,30 @@ pub fn ways(rt: &impl Abort, alloc: Global, flash: &Flash, k: usize) -> Vec<Left
     ways
 }
 
-// Whether this mark programs a page of the root blocks.
+// Whether this mark programs the first page of a pair of the root blocks.
 fn is_root(mark: &Mark, sizes: &Sizes) -> bool {
     match mark {
-        Mark::Program { page, .. } => *page < u32::from(sizes.block_pages).saturating_mul(2),
+        Mark::Program { page, .. } => {
+            *page % 2 == 0 && *page < u32::from(sizes.block_pages).saturating_mul(2)
+        }
         _ => false,
     }
 }
 
-/// Whether this mark is done where it is cut off at the one with number k, of which this is left.
-pub fn is_done(i: usize, k: usize, left: &Left) -> bool {
-    i < k || i == k && matches!(left, Left::Done)
+/// Whether the pair is there whose first page is programmed by the mark with number i and whose second page by the next mark, where the
+/// marks are cut off at the one with number k, of which this is left.
+pub fn is_pair_there(i: usize, k: usize, left: &Left) -> bool {
+    if k == i {
+        return matches!(left, Left::Done);
+    }
+    i < k && (k != i + 1 || keeps_pair(left))
 }
 
-/// How many roots are programmed behind such a cut.
+/// How many roots are there after such a cut.
 pub fn roots_behind(flash: &Flash, sizes: &Sizes, k: usize, left: &Left) -> usize {
     let mut roots = 0usize;
     for i in 0..flash.marks() {
-        if is_done(i, k, left) && is_root(flash.mark(i), sizes) {
+        if is_root(flash.mark(i), sizes) && is_pair_there(i, k, left) {
             roots = roots.saturating_add(1);
         }
     }

@@ -19,6 +19,8 @@ mod faults;
 #[cfg(test)]
 mod freezes;
 #[cfg(test)]
+mod halves;
+#[cfg(test)]
 mod image;
 #[cfg(test)]
 mod layered;

@@ -165,7 +165,7 @@ fn request(number: u16, command: &Command) -> Request {
     }
 }
 
-// Adds the record of a command by the machine in memory. A value that is handed out stands on one page.
+// Adds the record of a command by the machine in memory. A value that is handed out is read from one page.
 fn add_record(
     rt: &impl Abort,
     alloc: Global,

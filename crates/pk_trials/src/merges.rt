@@ -1,6 +1,6 @@
 //! Freezes and merges by commands from a made drive on; and merges into each level, on flashes made by hand, cut off at every mark.
 
-use crate::layered::{FLASHES, Layered, Lists, Wanted, is_done, key_of, roots_behind, ways};
+use crate::layered::{FLASHES, Layered, Lists, Wanted, is_pair_there, key_of, roots_behind, ways};
 use crate::steps::{
     MAKE_WORKED, add, at_least, cut, done, ended, ended_well, holds, last_program, made,
     pages_left, same, serve, serve_with, worked,
@@ -57,7 +57,7 @@ fn numbers(rt: &impl Abort, posted: &[u8], behind: usize) -> [u32; 16] {
 
 // ---- from a made drive on
 
-// A value of one page.
+// A value of two pages, the second one of zeros.
 const ABC: Value = Value {
     first: 0x61,
     len: 3,
@@ -66,7 +66,7 @@ const ABC: Value = Value {
 // What is asked of a made drive.
 #[derive(Clone, Copy)]
 enum Step {
-    // Stores of so many keys of two bytes, of one page each.
+    // Stores of so many keys of two bytes, of two pages each.
     Stores(u16),
     // With a buffer of 10 bytes.
     Retrieve(u16),
@@ -147,7 +147,7 @@ const FIRST_MERGE: [Step; 5] = [
 ];
 
 // All numbers of a Report behind the first merge.
-const MERGED: [u32; 16] = [31, 492, 31, 2, 36, 2, 1, 0, 30, 0, 0, 0, 1, 2, 57, 0];
+const MERGED: [u32; 16] = [62, 492, 31, 2, 36, 2, 1, 0, 30, 0, 0, 0, 1, 4, 55, 0];
 
 /// Thirty keys are frozen by the 31st Store, and a Tick merges them into run 1: all sixteen numbers of a Report, and the pages that a
 /// Retrieve of the first key reads before and behind the merge.
@@ -246,14 +246,14 @@ fn last_erase(flash: &Flash, wanted: u32) -> Option<usize> {
 #[test]
 fn roots_fill_a_block(rt: HostRuntime) {
     let alloc = rt.alloc();
-    let flash = behind(&rt, alloc, &[Step::Stores(300)]);
+    let flash = behind(&rt, alloc, &[Step::Stores(240)]);
     let k = last_erase(&flash, 0).expect(&rt, "an erase of block 0");
     let left = by_turns(alloc).expect(&rt, "memory");
     let pages = cut(&rt, alloc, &flash, k, &left);
     let later = behind_pages(&rt, alloc, pages, &[Step::List, Step::Report], "36");
     let keys = numbers(&rt, later.posted(), 0)[2];
     let told = bytes_out(&flash, k).div_ceil(24).min(1000) as u32;
-    let is_so = told <= keys && keys <= 300 && keys > 0;
+    let is_so = told <= keys && keys <= 240 && keys > 0;
     holds(&rt, is_so, "the keys", Place::Mark(k));
 }
 
@@ -330,7 +330,7 @@ fn all_merges(rt: &impl Abort, alloc: Global, layered: &Layered) -> Flash {
 }
 
 // What is there where this mark is interrupted and leaves this: each merge and the freeze are made whose root is there; and where a key is
-// stored, it is there where the page with its entry, which is programmed last, is.
+// stored, it is there where the commit with its entry, whose pages are programmed last, is.
 fn wanted_behind(
     layered: &Layered,
     flash: &Flash,
@@ -341,7 +341,9 @@ fn wanted_behind(
     let roots = roots_behind(flash, &layered.sizes, k, left);
     let lists = layered.lists.behind(roots);
     match last_program(flash) {
-        Some(entry_page) if is_done(entry_page, k, left) => lists.with_stored(stored),
+        Some(second) if is_pair_there(second.saturating_sub(1), k, left) => {
+            lists.with_stored(stored)
+        }
         _ => lists.with_stored(None),
     }
 }

@@ -5,7 +5,7 @@ use crate::steps::{
     serve, small, worked,
 };
 use pk_base::Shape;
-use pk_flash::{Flash, Left, Room};
+use pk_flash::{Flash, Left, PageLeft, Room};
 use pk_nand::PageState;
 use pk_nvme::opcode::FLUSH;
 use pk_nvme::status::UNRECOVERED_ERROR;
@@ -39,8 +39,7 @@ const FEW: Room = Room {
     marks: 400,
 };
 
-// A drive that is full with so many keys of one page each, and how many commands are made before the first reclaim: as many as blocks
-// for values have pages, but for one block.
+// A drive that is full with so many keys of two pages each, and how many commands are made before one that reclaims a block.
 #[derive(Clone, Copy)]
 struct Full {
     keys: u32,
@@ -48,15 +47,17 @@ struct Full {
     is_small: bool,
 }
 
+// The first reclaim is made by the ninth command. By the 19th, which makes one too, the records of the first 15 are out.
 const SMALL: Full = Full {
-    keys: 12,
-    before: 16,
+    keys: 6,
+    before: 18,
     is_small: true,
 };
 
+// The first reclaim is made when all blocks for values but one are full, and each has eight values.
 const WORKED: Full = Full {
-    keys: 492,
-    before: 656,
+    keys: 246,
+    before: 328,
     is_small: false,
 };
 
@@ -311,14 +312,14 @@ fn check(rt: &impl Abort, alloc: Global, cutting: &Cutting, first: &Flash) -> Cu
     cuts
 }
 
-// The first reclaim of a full drive, cut off at every mark: from before it to the end of the command that makes it.
-fn check_first(rt: &impl Abort, alloc: Global, full: &Full, every: u32) -> Cuts {
+// A reclaim of a full drive, cut off at every mark: from before it to the end of the command that makes it.
+fn check_one(rt: &impl Abort, alloc: Global, full: &Full, every: u32) -> Cuts {
     let before = full.commands(rt, alloc, full.before);
     let cutting = Cutting {
         full: *full,
         most: full.before.saturating_add(1),
-        // the last page of entries and its post are those of the end of the input
-        from: before.marks().saturating_sub(3),
+        // the last commit and its post are those of the end of the input
+        from: before.marks().saturating_sub(4),
         every,
     };
     let first = full.commands(rt, alloc, cutting.most);
@@ -328,21 +329,21 @@ fn check_first(rt: &impl Abort, alloc: Global, full: &Full, every: u32) -> Cuts 
 /// The first reclaim of a full drive of 64 blocks, cut off at every mark.
 #[test]
 fn first_on_full(rt: HostRuntime) {
-    let cuts = check_first(&rt, rt.alloc(), &WORKED, 0);
+    let cuts = check_one(&rt, rt.alloc(), &WORKED, 0);
     at_least(&rt, cuts.first, 30, "cuts");
 }
 
 /// The same, and of the cuts of the session behind each one, of every mark in some ways, one of every so many. This takes minutes.
 pub fn first_on_full_twice(rt: &impl Abort, alloc: Global, every: u32) -> Cuts {
-    check_first(rt, alloc, &WORKED, every)
+    check_one(rt, alloc, &WORKED, every)
 }
 
-/// The first reclaim of a full drive of 33 blocks, cut off at every mark, and so the session behind each cut.
+/// A reclaim of a full drive of 33 blocks, cut off at every mark, and of the cuts of the session after each one, one of every four.
 #[test]
-fn first_on_small(rt: HostRuntime) {
-    let cuts = check_first(&rt, rt.alloc(), &SMALL, 1);
-    at_least(&rt, cuts.first, 10, "cuts");
-    at_least(&rt, cuts.second, 100, "cuts behind them");
+fn one_on_small(rt: HostRuntime) {
+    let cuts = check_one(&rt, rt.alloc(), &SMALL, 4);
+    at_least(&rt, cuts.first, 40, "cuts");
+    at_least(&rt, cuts.second, 500, "cuts after them");
 }
 
 // A session of so many commands on a full drive of 33 blocks.
@@ -431,10 +432,12 @@ fn is_done(posted: &[u8], from: u32, to: u32) -> bool {
 
 // What the call with this number leaves.
 fn left_by(call: u64) -> Left {
-    if call % 2 == 0 {
-        Left::Torn
-    } else {
-        Left::Done
+    match call % 5 {
+        0 => Left::Torn,
+        1 => Left::Done,
+        2 => Left::WithEven(PageLeft::Torn),
+        3 => Left::WithEven(PageLeft::Untouched),
+        _ => Left::WithEven(PageLeft::Done),
     }
 }
 

@@ -1,16 +1,17 @@
 //! The second session is cut off at every mark, too, behind a cut of the first one at each of its marks.
 
 use crate::cuts::{
-    E, HELD, Held, first_session, left, retrieved, second_answers, second_session, some_ways,
+    E, HELD, Held, each, first_session, retrieved, second_answers, second_session, some_ways,
 };
 use crate::steps::{MAKE_SMALL, answered, ask_small, cut, holds, made, records, same};
 use crate::ways::{Ways, ways_of_erases};
-use pk_flash::{Flash, Left};
+use pk_flash::{Flash, Left, PageLeft};
 use pk_sessions::Place;
 use pk_sessions::boards::Session;
 use pk_sessions::cuts::bytes_out;
 use pk_sessions::exits::DONE;
 use pk_sessions::script::{Answer, Ask, Value};
+use pk_sessions::ways::{Kind, kind_of};
 use std::alloc::Global;
 use std::process::Abort;
 use std::test::*;
@@ -109,9 +110,10 @@ fn check_recut(
 // Interrupts each mark of the second session in some ways.
 fn check_some_ways(rt: &impl Abort, alloc: Global, second: &Flash, held: &Held) {
     for k in 0..second.marks().saturating_add(1) {
-        for way in 0..some_ways(second, k) {
-            let left = left(rt, alloc, way);
-            check_recut(rt, alloc, second, held, k, u32::from(way), &left);
+        let mut way = 0u32;
+        for left in &some_ways(rt, alloc, second, k) {
+            check_recut(rt, alloc, second, held, k, way, left);
+            way = way.saturating_add(1);
         }
     }
 }
@@ -125,12 +127,14 @@ fn check_all_ways(rt: &impl Abort, alloc: Global, second: &Flash, held: &Held, k
     }
 }
 
-// One way in which this mark is interrupted.
-fn one_way(flash: &Flash, k: usize) -> u8 {
-    match some_ways(flash, k) {
-        6 => 3 + (k % 3) as u8,
-        3 => 1,
-        _ => 0,
+// The number of one of the ways in which this mark is interrupted: the program of a first page is Torn, that of a second page is left in
+// all its ways but the first by turns, and of an erase each page is left by itself.
+fn one_way(flash: &Flash, k: usize) -> usize {
+    match kind_of(flash, k) {
+        Kind::None | Kind::Post => 0,
+        Kind::First => 1,
+        Kind::Second => 1 + k % 5,
+        Kind::Erase => 3 + k % 3,
     }
 }
 
@@ -140,10 +144,11 @@ fn cut_twice(rt: HostRuntime) {
     let alloc = rt.alloc();
     let first = first_session(&rt, alloc).flash;
     for k in 0..first.marks().saturating_add(1) {
-        let left = left(&rt, alloc, one_way(&first, k));
-        let (second, kept) = second_session(&rt, alloc, &first, k, &left);
+        let ways = some_ways(&rt, alloc, &first, k);
+        let left = ways.get(one_way(&first, k)).expect(&rt, "a way");
+        let (second, kept) = second_session(&rt, alloc, &first, k, left);
         let commands = kept.expect(&rt, "a map");
-        check_some_ways(&rt, alloc, &second.flash, &HELD[commands.min(10)]);
+        check_some_ways(&rt, alloc, &second.flash, &HELD[commands.min(9)]);
     }
 }
 
@@ -153,7 +158,7 @@ fn second_behind_first(rt: &impl Abort, alloc: Global) -> Session {
     let (second, kept) = second_session(rt, alloc, &first, first.marks(), &Left::Untouched);
     holds(
         rt,
-        kept == Some(10),
+        kept == Some(9),
         "all commands",
         Place::Named("the second session"),
     );
@@ -161,15 +166,15 @@ fn second_behind_first(rt: &impl Abort, alloc: Global) -> Session {
 }
 
 /// The second session is cut off at every mark in all its ways, behind the whole first one. Of its four erases one is that of the other
-/// root block, which has a root.
+/// root block, which has both pages of a root.
 #[test]
 fn every_cut_of_second(rt: HostRuntime) {
     let alloc = rt.alloc();
     let second = second_behind_first(&rt, alloc).flash;
     let ways = ways_of_erases(&rt, alloc, &second);
-    same(&rt, u64::from(ways), 3 * 256 + 3 * 128, "ways");
+    same(&rt, u64::from(ways), 3 * 256 + 9 * 64, "ways");
     for k in 0..second.marks().saturating_add(1) {
-        check_all_ways(&rt, alloc, &second, &HELD[10], k);
+        check_all_ways(&rt, alloc, &second, &HELD[9], k);
     }
 }
 
@@ -177,26 +182,96 @@ fn every_cut_of_second(rt: HostRuntime) {
 #[derive(Clone, Copy)]
 struct Cut {
     k: usize,
-    way: u8,
+    way: Way,
 }
 
-const CUTS: [Cut; 11] = [
-    Cut { k: 2, way: 1 },
-    Cut { k: 3, way: 1 },
-    Cut { k: 3, way: 2 },
-    Cut { k: 2, way: 3 },
-    Cut { k: 3, way: 2 },
-    Cut { k: 4, way: 5 },
-    Cut { k: 1, way: 4 },
-    Cut { k: 3, way: 2 },
-    Cut { k: 5, way: 1 },
-    Cut { k: 6, way: 1 },
-    Cut { k: 8, way: 0 },
+#[derive(Clone, Copy)]
+enum Way {
+    Untouched,
+    Torn,
+    Done,
+    // Each page of a block is left by itself.
+    Each(usize),
+    // The second page of a pair is left so, and the first one is Torn.
+    WithEven(PageLeft),
+}
+
+const CUTS: [Cut; 15] = [
+    Cut {
+        k: 2,
+        way: Way::Torn,
+    },
+    Cut {
+        k: 3,
+        way: Way::Torn,
+    },
+    Cut {
+        k: 4,
+        way: Way::Untouched,
+    },
+    Cut {
+        k: 4,
+        way: Way::WithEven(PageLeft::Torn),
+    },
+    Cut {
+        k: 4,
+        way: Way::Done,
+    },
+    Cut {
+        k: 2,
+        way: Way::Each(0),
+    },
+    Cut {
+        k: 4,
+        way: Way::WithEven(PageLeft::Done),
+    },
+    Cut {
+        k: 4,
+        way: Way::WithEven(PageLeft::Untouched),
+    },
+    Cut {
+        k: 5,
+        way: Way::Each(2),
+    },
+    Cut {
+        k: 1,
+        way: Way::Each(1),
+    },
+    Cut {
+        k: 4,
+        way: Way::Torn,
+    },
+    Cut {
+        k: 7,
+        way: Way::WithEven(PageLeft::Torn),
+    },
+    Cut {
+        k: 8,
+        way: Way::Torn,
+    },
+    Cut {
+        k: 9,
+        way: Way::WithEven(PageLeft::Untouched),
+    },
+    Cut {
+        k: 11,
+        way: Way::Untouched,
+    },
 ];
 
-/// Sessions that are cut off one after another before an entry is on the flash, some behind a root of their own: the marks of each are
-/// the erases of two blocks for the epoch and of the other root block, the root, the erase of a block for values, the value, the journal
-/// page and the post. The last session is not cut.
+fn left_by(rt: &impl Abort, alloc: Global, way: Way) -> Left {
+    match way {
+        Way::Untouched => Left::Untouched,
+        Way::Torn => Left::Torn,
+        Way::Done => Left::Done,
+        Way::Each(number) => each(rt, alloc, number),
+        Way::WithEven(page) => Left::WithEven(page),
+    }
+}
+
+/// Sessions that are cut off one after another before an entry is on the flash, some after a root of their own: the marks of each are
+/// the erases of two blocks for the epoch and of the other root block, both pages of the root, the erase of a block for values, both pages
+/// of the value, both pages of the commit, and the post. The last session is not cut.
 #[test]
 fn cut_many_times(rt: HostRuntime) {
     let alloc = rt.alloc();
@@ -208,7 +283,7 @@ fn cut_many_times(rt: HostRuntime) {
             pages,
             &[Ask::Store(0x66, F), Ask::Retrieve(0x66)],
         );
-        let place = Place::Way(at.k, u32::from(at.way));
+        let place = Place::Mark(at.k);
         answered(
             &rt,
             alloc,
@@ -216,7 +291,8 @@ fn cut_many_times(rt: HostRuntime) {
             &[Answer::Done, Answer::Found(F)],
             place,
         );
-        pages = cut(&rt, alloc, &session.flash, at.k, &left(&rt, alloc, at.way));
+        let left = left_by(&rt, alloc, at.way);
+        pages = cut(&rt, alloc, &session.flash, at.k, &left);
     }
     let last = ask_small(&rt, alloc, pages, &[Ask::Retrieve(0x66)]);
     answered(

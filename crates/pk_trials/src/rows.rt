@@ -31,9 +31,9 @@ const WHOLE: &[u8; 16] = b"abcdefghijklmnop";
 const BEFORE: &[u8; 16] = b"\x60\0\0\0\0\0\0\0\0\0\0\0\0\0\0\0";
 
 // The numbers of a Report: live pages, the limit, keys, levels with frames, frames, and of the drive's own the entries of the active
-// buffer, the pages of the epoch and the blocks in use.
+// buffer, the commits of the epoch and the blocks in use.
 const ONE_KEY: &[u8; 64] = b"\
-    \x01\0\0\0\xec\x01\0\0\x01\0\0\0\x02\0\0\0\
+    \x02\0\0\0\xec\x01\0\0\x01\0\0\0\x02\0\0\0\
     \x24\0\0\0\0\0\0\0\x01\0\0\0\0\0\0\0\
     \0\0\0\0\0\0\0\0\0\0\0\0\0\0\0\0\
     \x01\0\0\0\x01\0\0\0\0\0\0\0\0\0\0\0";

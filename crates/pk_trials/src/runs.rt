@@ -15,6 +15,7 @@ use pk_sessions::exits::{DONE, NO_DRIVE};
 use pk_sessions::pages::set;
 use pk_sessions::runs::{KEYS, NOTHING, value_of, with_one_epoch, with_two_epochs};
 use pk_sessions::script::{Ask, pages_read, push_found, push_head, push_list};
+use pk_sessions::ways::ways_of_program;
 use std::alloc::Global;
 use std::process::Abort;
 use std::test::*;
@@ -294,7 +295,7 @@ impl Listing {
     fn numbers(&self) -> [u32; 16] {
         let (pinned, number, leased) = (self.pinned, self.number, self.leased);
         [
-            45, 492, 43, pinned, number, leased, 3, 3, 2, 16, 31, 17, 2, 11, 0, 0,
+            86, 492, 43, pinned, number, leased, 3, 3, 2, 16, 31, 17, 2, 11, 0, 0,
         ]
     }
 }
@@ -341,7 +342,7 @@ fn keys_with_stored(rt: &impl Abort, alloc: Global) -> Vec<u8> {
 }
 
 // The numbers of a Report behind the Store.
-const STORED: [u32; 16] = [46, 492, 44, 2, 36, 3, 1, 5, 2, 16, 31, 17, 1, 12, 0, 0];
+const STORED: [u32; 16] = [88, 492, 44, 2, 36, 3, 1, 5, 2, 16, 31, 17, 1, 12, 0, 0];
 
 /// A Store begins an epoch over the one with five keys, by a root that names the same runs. The session behind it has all keys.
 #[test]
@@ -350,7 +351,7 @@ fn store_over_runs(rt: HostRuntime) {
     let place = Place::Named("behind the Store");
     let stored = stored(&rt, alloc);
     ended(&rt, &stored, DONE, Place::Named("the Store"));
-    wrote(&rt, &stored, 3, 4);
+    wrote(&rt, &stored, 6, 4);
     let pages = pages_left(&rt, alloc, &stored.flash);
     let lists = ask_with(&rt, alloc, pages, &[Ask::List, Ask::Report], "36");
     let keys = keys_with_stored(&rt, alloc);
@@ -374,85 +375,131 @@ fn check_cut(rt: &impl Abort, alloc: Global, stored: &Flash, k: usize, left: &Le
     holds(rt, is_so, "what is there", Place::Mark(k));
 }
 
-/// The Store is cut off at each of its marks, which is not begun, torn or done.
+/// The Store is cut off at each of its marks, which is not begun, torn or done, and where it programs the second page of a pair, with the
+/// first one torn besides.
 #[test]
 fn cut_over_runs(rt: HostRuntime) {
     let stored = stored(&rt, rt.alloc()).flash;
     for k in 0..stored.marks().saturating_add(1) {
-        check_cut(&rt, rt.alloc(), &stored, k, &Left::Untouched);
-        check_cut(&rt, rt.alloc(), &stored, k, &Left::Torn);
-        check_cut(&rt, rt.alloc(), &stored, k, &Left::Done);
+        for left in &ways_of_program(rt.alloc(), true).expect(&rt, "memory") {
+            check_cut(&rt, rt.alloc(), &stored, k, left);
+        }
     }
 }
 
-// A page that is Torn: the status of a session.
+// Pages that are Torn, so many from one on: the status of a session.
 #[derive(Clone, Copy)]
 struct TornPage {
     name: &'static str,
     page: u32,
+    count: u32,
     status: u8,
 }
 
-// The values of the keys 80, 33 and 39 begin at the pages 480, 386 and 398.
-const TORN_PAGES: [TornPage; 10] = [
+// The values of the keys 80, 33 and 39 begin at the pages 480, 386 and 398. No value has the pages 402 and 403.
+const TORN_PAGES: [TornPage; 15] = [
     TornPage {
         name: "the page of run 1",
         page: 96,
+        count: 1,
         status: NO_DRIVE,
     },
     TornPage {
         name: "the second page of run 2",
         page: 113,
+        count: 1,
         status: NO_DRIVE,
     },
     TornPage {
         name: "the last page of run 3",
         page: 130,
+        count: 1,
         status: NO_DRIVE,
     },
     TornPage {
         name: "the first page of run 4",
         page: 144,
+        count: 1,
         status: NO_DRIVE,
     },
     TornPage {
-        name: "behind run 4",
+        name: "after run 4",
         page: 146,
+        count: 1,
         status: DONE,
     },
     TornPage {
         name: "the value of a key in run 2",
         page: 480,
+        count: 1,
         status: NO_DRIVE,
     },
     TornPage {
         name: "the second page of a value in run 4",
         page: 387,
+        count: 1,
         status: NO_DRIVE,
     },
     TornPage {
-        name: "behind a value",
+        name: "the second page of a value in run 4 that has no byte of it",
         page: 399,
+        count: 1,
+        status: NO_DRIVE,
+    },
+    TornPage {
+        name: "between two values",
+        page: 402,
+        count: 2,
         status: DONE,
     },
     TornPage {
         name: "the place of covered entries",
         page: NOTHING,
+        count: 1,
         status: DONE,
     },
     TornPage {
-        name: "the older epoch",
+        name: "the first page of a commit of the newest epoch",
+        page: 32,
+        count: 1,
+        status: DONE,
+    },
+    TornPage {
+        name: "the second page of a commit of the newest epoch",
+        page: 33,
+        count: 1,
+        status: DONE,
+    },
+    TornPage {
+        name: "the first page of the older epoch",
         page: 64,
+        count: 1,
+        status: DONE,
+    },
+    TornPage {
+        name: "the second page of the older epoch",
+        page: 65,
+        count: 1,
+        status: DONE,
+    },
+    TornPage {
+        name: "the only commit of the older epoch",
+        page: 64,
+        count: 2,
         status: NO_DRIVE,
     },
 ];
 
-/// A page of a run that is Torn, and one of a value under any list, are damage; pages that no list counts are none.
+/// A page of a run that is Torn, and one of a value under any list, are damage, and so is a commit whose pages are both Torn, where it is the
+/// only one of the older epoch; pages that no list counts are none, and neither is one page of a commit.
 #[test]
 fn torn_pages(rt: HostRuntime) {
     for torn in &TORN_PAGES {
         let mut pages = done(&rt, with_two_epochs(rt.alloc()));
-        done(&rt, set(&mut pages, torn.page, PageState::Torn));
+        for i in 0..torn.count {
+            let page = torn.page.saturating_add(i);
+            done(&rt, set(&mut pages, page, PageState::Torn));
+        }
         let session = ask_with(&rt, rt.alloc(), pages, &[Ask::Retrieve(33)], "36");
         refused(&rt, &session, torn.status, Place::Named(torn.name));
     }

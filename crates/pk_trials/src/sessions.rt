@@ -6,8 +6,8 @@ use crate::steps::{
     script, serve, shape_of, worked, worked_board, wrote,
 };
 use pk_base::get_u32;
-use pk_flash::{Flash, Left};
-use pk_nand::PageState;
+use pk_flash::{Flash, Left, PageLeft};
+use pk_nand::{Mark, PageState};
 use pk_nvme::Request;
 use pk_nvme::opcode::{FLUSH, REPORT, RETRIEVE, STORE};
 use pk_nvme::status::SUCCESSFUL_COMPLETION;
@@ -50,7 +50,7 @@ fn makes_once(rt: HostRuntime) {
     let mut flash = blank(&rt, alloc, None, &SCRIPT[..70]);
     let first = Pink::run(alloc, &MAKE_WORKED, &mut flash);
     same(&rt, u64::from(first), u64::from(DONE), "the status");
-    same(&rt, flash.program_count(), 1, "programs");
+    same(&rt, flash.program_count(), 2, "programs");
     let next = Pink::run(alloc, &MAKE_WORKED, &mut flash);
     same(&rt, u64::from(next), u64::from(IMAGE_EXISTS), "the status");
     let session = serve(alloc, flash);
@@ -204,29 +204,29 @@ fn check_keys(rt: &impl Abort, alloc: Global, pages: Vec<PageState>, keys: &'sta
     );
 }
 
-/// A value is stored and deleted by one root, one page of the value and one of the journal; erased are the two blocks of the
-/// new epoch, the other root block and the value's block. In the next session no key is there.
+/// A value is stored and deleted by a pair of pages for each of the root, the value and the commit; erased are the two blocks of the new
+/// epoch, the other root block and the value's block. In the next session no key is there.
 #[test]
 fn store_and_delete(rt: HostRuntime) {
     let alloc = rt.alloc();
     let asks = [Ask::Store(0x61, THREE), Ask::Delete(0x61)];
     let session = ask(&rt, alloc, made(&rt, alloc, &MAKE_WORKED), &asks);
     ended(&rt, &session, DONE, Place::Named("a Store and a Delete"));
-    wrote(&rt, &session, 3, 4);
+    wrote(&rt, &session, 6, 4);
     check_keys(&rt, alloc, pages_left(&rt, alloc, &session.flash), &[]);
 }
 
-/// Sixteen Stores of one key fill the two blocks that values may have, and the next one gives a block back, which has none that is live.
+/// Eight Stores of one key fill the two blocks that values may have, and the next one gives a block back, which has none that is live.
 #[test]
 fn full_blocks(rt: HostRuntime) {
     let alloc = rt.alloc();
     let pages = made(&rt, alloc, &MAKE_SMALL);
-    let filled = ask_small(&rt, alloc, pages, &[Ask::Store(0x61, THREE); 17]);
+    let filled = ask_small(&rt, alloc, pages, &[Ask::Store(0x61, THREE); 9]);
     answered(
         &rt,
         alloc,
         &filled,
-        &[Answer::Done; 17],
+        &[Answer::Done; 9],
         Place::Named("full blocks"),
     );
     let pages = pages_left(&rt, alloc, &filled.flash);
@@ -247,17 +247,74 @@ const COMMITS: [Ask; 4] = [
     Ask::Flush,
 ];
 
-/// Two keys, each with a commit of its own, cut at the journal page of the second, which is not begun, torn or done.
+/// Two keys, each with a commit of its own, cut at the first page of the second commit, which is not begun, torn or done; and at its
+/// second page, where the first one is as it was, or Torn.
 #[test]
-fn journal_page(rt: HostRuntime) {
+fn pages_of_a_commit(rt: HostRuntime) {
     let alloc = rt.alloc();
     let session = ask(&rt, alloc, made(&rt, alloc, &MAKE_WORKED), &COMMITS);
     let flash = ended_well(&rt, session, Place::Named("two commits"));
-    let k = last_program(&flash).expect(&rt, "a journal page");
-    let untouched = cut(&rt, alloc, &flash, k, &Left::Untouched);
-    check_keys(&rt, alloc, untouched, b"a");
-    check_keys(&rt, alloc, cut(&rt, alloc, &flash, k, &Left::Torn), b"a");
-    check_keys(&rt, alloc, cut(&rt, alloc, &flash, k, &Left::Done), b"ab");
+    let second = last_program(&flash).expect(&rt, "the second page of a commit");
+    let first = second
+        .checked_sub(1)
+        .expect(&rt, "the first page of a commit");
+    let cuts: [(usize, Left, &'static [u8]); 9] = [
+        (first, Left::Untouched, b"a"),
+        (first, Left::Torn, b"a"),
+        (first, Left::Done, b"ab"),
+        (second, Left::Untouched, b"ab"),
+        (second, Left::Torn, b"ab"),
+        (second, Left::Done, b"ab"),
+        (second, Left::WithEven(PageLeft::Untouched), b"a"),
+        (second, Left::WithEven(PageLeft::Torn), b"a"),
+        (second, Left::WithEven(PageLeft::Done), b"ab"),
+    ];
+    for (k, left, keys) in &cuts {
+        check_keys(&rt, alloc, cut(&rt, alloc, &flash, *k, left), *keys);
+    }
+}
+
+// The place of the program of the second page of a root among the marks of a session that makes one root.
+fn second_of_root(flash: &Flash) -> Option<usize> {
+    let mut found = None;
+    for i in 0..flash.marks() {
+        if let Mark::Program { page, .. } = flash.mark(i) {
+            if *page < 32 && *page % 2 == 1 {
+                found = Some(i);
+            }
+        }
+    }
+    found
+}
+
+/// A root, by which a Store begins an epoch over one with a key, is cut at its second page, and both pages are Torn: the former root counts,
+/// and the map is the same. So is it where the first page or the second one stays, by the new root.
+#[test]
+fn pages_of_a_root(rt: HostRuntime) {
+    let alloc = rt.alloc();
+    let pages = made(&rt, alloc, &MAKE_WORKED);
+    let first = ask(&rt, alloc, pages, &[Ask::Store(0x61, THREE)]);
+    let first = ended_well(&rt, first, Place::Named("the first key"));
+    let pages = pages_left(&rt, alloc, &first);
+    let next = ask(&rt, alloc, pages, &[Ask::Store(0x62, THREE)]);
+    let flash = ended_well(&rt, next, Place::Named("the second key"));
+    let k = second_of_root(&flash).expect(&rt, "a root");
+    let ways = [
+        (Left::WithEven(PageLeft::Torn), 0),
+        (Left::WithEven(PageLeft::Untouched), 0),
+        (Left::WithEven(PageLeft::Done), 1),
+        (Left::Untouched, 1),
+        (Left::Torn, 1),
+    ];
+    for (left, frozen) in &ways {
+        let pages = cut(&rt, alloc, &flash, k, left);
+        let session = ask(&rt, alloc, pages, &[Ask::List, Ask::Report]);
+        ended(&rt, &session, DONE, Place::Mark(k));
+        let keys = records(&rt, alloc, &[Answer::Keys(b"a")]);
+        let is_so = session.flash.posted().starts_with(&keys);
+        holds(&rt, is_so, "the keys", Place::Mark(k));
+        check_numbers(&rt, session.flash.posted(), &[("frozen", 7, *frozen)]);
+    }
 }
 
 // ---- Reports
@@ -268,7 +325,7 @@ fn add_store(rt: &impl Abort, into: &mut Vec<u8>, store: &[u8; 64]) {
     add(rt, into, b"abc");
 }
 
-// Stores of this many keys of two bytes, each with a value of one page.
+// Stores of this many keys of two bytes, each with a value of two pages.
 fn stores(rt: &impl Abort, alloc: Global, count: u8) -> Vec<u8> {
     let mut script = Vec::new(alloc);
     for i in 0..count {
@@ -284,10 +341,10 @@ fn stores_told(rt: &impl Abort, alloc: Global, count: u8) -> Vec<u8> {
     script
 }
 
-// 33 Stores of one key, each with a Flush behind it, and a Report.
+// 17 Stores of one key, each followed by a Flush, and a Report.
 fn many_commits(rt: &impl Abort, alloc: Global) -> Vec<u8> {
     let mut script = Vec::new(alloc);
-    for _ in 0..33u8 {
+    for _ in 0..17u8 {
         add_store(rt, &mut script, &entry(1, STORE, [0x61, 0], 1, 3));
         add(rt, &mut script, &entry(2, FLUSH, [0, 0], 0, 0));
     }
@@ -313,19 +370,20 @@ fn check_numbers(rt: &impl Abort, posted: &[u8], numbers: &[(&str, usize, u32)])
 
 const GROUPED: [(&str, usize, u32); 2] = [("active", 6, 16), ("epoch", 12, 2)];
 
-/// Sixteen Stores make two commits: one of 15 entries, as many as a page of the journal has, and one before the Report. A root, the
-/// values and two pages of the journal are programmed; two blocks for the epoch, the other root block and the values' block are erased.
+/// Sixteen Stores make two commits: one of 15 entries, as many as a page of the journal has, and one before the Report. Two pages of a root,
+/// 32 of values and four of commits are programmed; two blocks for the epoch, the other root block and two blocks for values are erased.
 #[test]
 fn grouped_commits(rt: HostRuntime) {
     let alloc = rt.alloc();
     let session = serve(alloc, made_board(&rt, alloc, stores_told(&rt, alloc, 16)));
     ended(&rt, &session, DONE, Place::Named("sixteen Stores"));
-    wrote(&rt, &session, 19, 4);
+    wrote(&rt, &session, 38, 5);
     check_numbers(&rt, session.flash.posted(), &GROUPED);
 }
 
 /// A Store, a Flush, and 32 Stores of other keys: the 31st of these finds no room in the write buffer, commits the 14 entries that wait,
-/// and begins an epoch. Two roots, 33 values and five pages of the journal are programmed.
+/// and begins an epoch. Two roots, 33 values and five commits are programmed, of two pages each; erased are two blocks for each of two
+/// epochs, the other root block, and five blocks for values.
 #[test]
 fn commit_before_a_freeze(rt: HostRuntime) {
     let alloc = rt.alloc();
@@ -338,13 +396,13 @@ fn commit_before_a_freeze(rt: HostRuntime) {
     );
     let session = serve(alloc, made_board(&rt, alloc, script));
     ended(&rt, &session, DONE, Place::Named("33 Stores"));
-    wrote(&rt, &session, 40, 8);
+    wrote(&rt, &session, 80, 10);
     let posted = session.flash.posted().len() as u64;
     same(&rt, posted, 34 * 24, "posted bytes");
 }
 
 const FULL_BUFFER: [(&str, usize, u32); 9] = [
-    ("live", 0, 31),
+    ("live", 0, 62),
     ("limit", 1, 492),
     ("keys", 2, 31),
     ("pinned", 3, 2),
@@ -355,7 +413,7 @@ const FULL_BUFFER: [(&str, usize, u32); 9] = [
     ("epoch", 12, 1),
 ];
 
-/// Thirty keys fill the write buffer, and the next one is the first of a new epoch, of which one page is used behind the commit
+/// Thirty keys fill the write buffer, and the next one is the first of a new epoch, of which one commit is used after the one
 /// before the Report.
 #[test]
 fn full_buffer(rt: HostRuntime) {
@@ -412,14 +470,14 @@ fn greatest_value(rt: HostRuntime) {
 }
 
 const FULL_EPOCH: [(&str, usize, u32); 5] = [
-    ("live", 0, 1),
+    ("live", 0, 2),
     ("keys", 2, 1),
     ("active", 6, 1),
     ("frozen", 7, 1),
     ("epoch", 12, 1),
 ];
 
-/// Commits of one key fill the 32 pages of an epoch, and the next one is the first of a new epoch.
+/// Sixteen commits of one key fill an epoch, and the next one is the first of a new epoch.
 #[test]
 fn full_epoch(rt: HostRuntime) {
     let flash = on_made(&rt, rt.alloc(), many_commits(&rt, rt.alloc()));

@@ -3,8 +3,8 @@
 use crate::steps::{Pink, done};
 use std::test::*;
 
-/// The drive is full with 492 values of one page each. One more key has no room; an overwrite of a page has, one of two pages has not,
-/// and leaves the old value; and behind a Delete the key has room.
+/// The drive is full with 246 values of two pages each. One more key has no room; an overwrite of two pages has, one of four pages has
+/// not, and leaves the old value; and after a Delete the key has room.
 #[test]
 fn full_drive(rt: HostRuntime) {
     done(&rt, pk_sessions::space::full_drive::<Pink>(rt.alloc()));

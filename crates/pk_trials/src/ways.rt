@@ -1,8 +1,9 @@
 //! All outcomes of an interruption.
 
 use crate::steps::cut;
-use pk_flash::{Flash, Left, PageLeft};
+use pk_flash::{EraseLeft, Flash, Left, PageLeft};
 use pk_nand::{Mark, PageState};
+use pk_sessions::ways::{Kind, kind_of};
 use std::alloc::Global;
 use std::process::Abort;
 use std::test::*;
@@ -12,15 +13,17 @@ use std::test::*;
 pub struct Ways {
     // For each page of an erased block whether it was Whole before; no page for another mark.
     wholes: Vec<bool>,
+    // Whether the mark programs the second page of a pair.
+    is_second: bool,
     pub count: u32,
 }
 
 // The states that an erase may leave of a page, by their numbers.
-fn page_left(number: u32) -> PageLeft {
+fn page_left(number: u32) -> EraseLeft {
     match number {
-        0 => PageLeft::Kept,
-        1 => PageLeft::Erased,
-        _ => PageLeft::Torn,
+        0 => EraseLeft::Kept,
+        1 => EraseLeft::Erased,
+        _ => EraseLeft::Torn,
     }
 }
 
@@ -39,6 +42,28 @@ fn wholes(rt: &impl Abort, alloc: Global, flash: &Flash, k: usize, block: u32) -
     wholes
 }
 
+// The same of the block that the mark with this number erases; no page where it erases none.
+fn wholes_of_erase(rt: &impl Abort, alloc: Global, flash: &Flash, k: usize) -> Vec<bool> {
+    if k < flash.marks() {
+        if let Mark::Erase { block } = flash.mark(k) {
+            return wholes(rt, alloc, flash, k, *block);
+        }
+    }
+    Vec::new(alloc)
+}
+
+// What the way with this number leaves of a program, which may be that of the second page of a pair.
+fn left_of_program(way: u32, is_second: bool) -> Left {
+    match way {
+        0 => Left::Untouched,
+        1 => Left::Torn,
+        3 if is_second => Left::WithEven(PageLeft::Untouched),
+        4 if is_second => Left::WithEven(PageLeft::Torn),
+        5 if is_second => Left::WithEven(PageLeft::Done),
+        _ => Left::Done,
+    }
+}
+
 // In how many ways an interrupted erase may leave a block. A Whole page may stay, be Erased or be Torn; another one stays only as one
 // of the two that an erase may make of it.
 fn ways_of_block(wholes: &[bool]) -> u32 {
@@ -50,23 +75,25 @@ fn ways_of_block(wholes: &[bool]) -> u32 {
 }
 
 impl Ways {
-    /// All ways of the mark with this number: three of a program, those of all pages of an erase, each by itself, and one of a post,
-    /// which leaves the pages alone, whatever part of it went out. Behind the last mark there is one way.
+    /// All ways of the mark with this number: three of a program, and as many more of the second page of a pair, whose first page may be
+    /// Torn besides; those of all pages of an erase, each by itself; and one of a post, which leaves the pages alone, whatever part of it
+    /// went out. After the last mark there is one way.
     pub fn of(rt: &impl Abort, alloc: Global, flash: &Flash, k: usize) -> Ways {
         let mut wholes_before = Vec::new(alloc);
         let mut count = 1u32;
-        if k < flash.marks() {
-            match flash.mark(k) {
-                Mark::Erase { block } => {
-                    wholes_before = wholes(rt, alloc, flash, k, *block);
-                    count = ways_of_block(&wholes_before);
-                }
-                Mark::Program { .. } => count = 3,
-                Mark::Post { .. } => {}
+        let kind = kind_of(flash, k);
+        match kind {
+            Kind::None | Kind::Post => {}
+            Kind::First => count = 3,
+            Kind::Second => count = 6,
+            Kind::Erase => {
+                wholes_before = wholes_of_erase(rt, alloc, flash, k);
+                count = ways_of_block(&wholes_before);
             }
         }
         Ways {
             wholes: wholes_before,
+            is_second: kind == Kind::Second,
             count,
         }
     }
@@ -74,11 +101,7 @@ impl Ways {
     /// What the way with this number leaves: of an erased block each page as it was, Erased or Torn.
     pub fn left(&self, rt: &impl Abort, alloc: Global, way: u32) -> Left {
         if self.wholes.is_empty() {
-            return match way {
-                0 => Left::Untouched,
-                1 => Left::Torn,
-                _ => Left::Done,
-            };
+            return left_of_program(way, self.is_second);
         }
         let mut pages = Vec::new(alloc);
         let mut rest = way;

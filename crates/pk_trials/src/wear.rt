@@ -16,16 +16,32 @@ const STORES: [Ask; 2] = [
 
 const ANSWERS: [Answer; 2] = [Answer::Done, Answer::Done];
 
-// A made drive whose root, the only one, has this number, which stands at its byte 24.
-fn made_with_number(rt: &impl Abort, alloc: Global, number: u64) -> Vec<PageState> {
-    let mut pages = made(rt, alloc, &MAKE_WORKED);
-    let Some(PageState::Whole(bytes)) = pages.get(0) else {
+// The root in this page with this number, which stands at its byte 24.
+fn root_with(
+    rt: &impl Abort,
+    alloc: Global,
+    pages: &Vec<PageState>,
+    at: usize,
+    number: u64,
+) -> PageState {
+    let Some(PageState::Whole(bytes)) = pages.get(at) else {
         panic!(rt; "a root");
     };
     let mut root = copied(rt, alloc, bytes.bytes());
     assert!(rt; root.len() >= 32, "a root");
     root[24..32].copy_from_slice(&number.to_le_bytes());
-    pages[0] = PageState::Whole(PageBytes::of(root));
+    PageState::Whole(PageBytes::of(root))
+}
+
+// A made drive whose root, the only one, has this number in both of its pages.
+fn made_with_number(rt: &impl Abort, alloc: Global, number: u64) -> Vec<PageState> {
+    let mut pages = made(rt, alloc, &MAKE_WORKED);
+    for at in 0..2usize {
+        let root = root_with(rt, alloc, &pages, at, number);
+        if let Some(page) = pages.get_mut(at) {
+            *page = root;
+        }
+    }
     pages
 }
 

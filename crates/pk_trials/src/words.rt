@@ -119,7 +119,7 @@ fn texts(rt: HostRuntime) {
 
 // What `stat` says behind a Store of three bytes, one of no byte, and a Delete of the other key, each in a session of its own.
 const NUMBERS: &[u8] =
-    b"live 1\nlimit 492\nkeys 1\npinned 2\nframes 36\nleased 1\nactive 1\nfrozen 1\n\
+    b"live 2\nlimit 492\nkeys 1\npinned 2\nframes 36\nleased 1\nactive 1\nfrozen 1\n\
     run1 1\nrun2 0\nrun3 0\nrun4 0\nepoch 1\nblocks 1\nready 0\nmerge 0\n";
 
 // Words, and the text that they are to post with status 0.
@@ -294,7 +294,7 @@ fn words_on_a_torn_value(rt: HostRuntime) {
 // What a workload of three commands posts on a new drive of 512 blocks of 64 pages of 4,096 bytes: an Exist and a Delete of missing
 // keys, and a Store.
 const SUMMARY: &[u8] =
-    b"commands 3\nok 1\nmissing 2\nlarge 0\nfull 0\nfailed 0\nkeys 1\nlive 1\nmost 0\n";
+    b"commands 3\nok 1\nmissing 2\nlarge 0\nfull 0\nfailed 0\nkeys 1\nlive 2\nmost 0\n";
 
 /// A workload has its summary.
 #[test]

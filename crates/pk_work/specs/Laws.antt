@@ -1,13 +1,13 @@
 -- What steps make of the work, and how much it is: the statements.
 use Rattle.std.specs.Prelude.{◌≡◌, ℕ, ◌+◌, ◌-◌, ◌*◌, ◌<◌, ◌≤◌, List, length, sum, slice_index, Bool, true, false}
 use Rattle.pk_base.specs.declared.sizes.TheConstants.{EPOCH_BLOCKS}
-use Rattle.pk_base.specs.Shape.{Shape, IsShape, buffer, dense, epoch_pages, blocks_of, cap, run_pages, run_blocks, most_pages, data_blocks, limit, most_calls}
+use Rattle.pk_base.specs.Shape.{Shape, IsShape, buffer, dense, epoch_commits, blocks_of, cap, run_pages, run_blocks, most_pages, data_blocks, limit, most_calls}
 use Rattle.pk_base.specs.Merge.{room}
 use Rattle.pk_work.specs.Rest.{steps_of, other_steps, whole_merge, whole_freeze, whole_reclaim}
 use Rattle.pk_work.specs.Jobs.{merge_rest, freeze_rest, reclaim_rest}
 use Rattle.pk_work.specs.Backlog.{Backlog, IsBacklog, is_tight, due_level}
-use Rattle.pk_work.specs.Work.{emptying, merging, work}
-use Rattle.pk_work.specs.Steps.{MovesMerge, EndsMerge, MovesFreeze, EndsFreeze, StepsReclaim, ErasesBlock}
+use Rattle.pk_work.specs.Work.{emptying, merging, merging_left, work}
+use Rattle.pk_work.specs.Steps.{MovesMerge, EndsMerge, MovesFreeze, EndsFreeze, EndsPair, StepsReclaim, ErasesBlock}
 
 -- the work is always less than this
 abbrev pub WorkMost : Type 0
@@ -21,12 +21,12 @@ MergingMost = (shape : Shape) (b : Backlog) → IsBacklog shape b → merging sh
 abbrev pub MergeMoves : Type 0
 MergeMoves =
     (shape : Shape) (b b' : Backlog) → MovesMerge shape b b'
-    → (work shape b' < work shape b) × (merging shape b' < merging shape b) × (due_level shape b' ≡ due_level shape b)
+    → (work shape b' < work shape b) × (merging_left shape b' < merging_left shape b) × (due_level shape b' ≡ due_level shape b)
 
 abbrev pub MergeEnds : Type 0
 MergeEnds =
     (shape : Shape) (b b' : Backlog) → IsBacklog shape b → EndsMerge shape b b'
-    → (work shape b' < work shape b) × (merging shape b' < merging shape b) × (due_level shape b' + 1 ≡ due_level shape b)
+    → (work shape b' < work shape b) × (merging_left shape b' < merging_left shape b) × (due_level shape b' + 1 ≡ due_level shape b)
 
 -- each step of a freeze lowers the work
 abbrev pub FreezeMoves : Type 0
@@ -34,6 +34,12 @@ FreezeMoves = (shape : Shape) (b b' : Backlog) → MovesFreeze shape b b' → wo
 
 abbrev pub FreezeEnds : Type 0
 FreezeEnds = (shape : Shape) (b b' : Backlog) → EndsFreeze shape b b' → work shape b' < work shape b
+
+-- the second program of a root lowers both, and the level that is due is the same
+abbrev pub PairEnds : Type 0
+PairEnds =
+    (shape : Shape) (b b' : Backlog) → EndsPair b b'
+    → (work shape b' < work shape b) × (merging_left shape b' < merging_left shape b) × (due_level shape b' ≡ due_level shape b)
 
 -- so does each step of a reclaim
 abbrev pub Reclaims : Type 0
@@ -48,7 +54,7 @@ abbrev pub RoomForMoves : Type 0
 RoomForMoves = (shape : Shape) (active left moves : ℕ) → is_tight shape active left ≡ false → moves ≤ dense shape → (active + moves ≤ buffer shape) × (0 < left)
 
 abbrev pub FrozenIsRoom : Type 0
-FrozenIsRoom = (shape : Shape) → IsShape shape → is_tight shape 0 (epoch_pages shape) ≡ false
+FrozenIsRoom = (shape : Shape) → IsShape shape → is_tight shape 0 (epoch_commits shape) ≡ false
 
 -- No job has more left than the whole of it.
 abbrev pub MergeWithin : Type 0

@@ -2,7 +2,7 @@
 //! over them, each the contract of a function that does nothing.
 #![tactic(auto)]
 
-ghost use Rattle.pk_work.specs.Laws.{WorkMost, MergingMost, MergeMoves, MergeEnds, FreezeMoves, FreezeEnds, Reclaims, Erases, RoomForMoves, FrozenIsRoom, LightVictim, RoomBehind, MergeWithin, MergePrograms, MergeTakes, FreezeWithin, FreezeTakes, ReclaimWithin, ReclaimReads, ReclaimPrograms, FewPages, FewBlocks};
+ghost use Rattle.pk_work.specs.Laws.{WorkMost, MergingMost, MergeMoves, MergeEnds, FreezeMoves, FreezeEnds, PairEnds, Reclaims, Erases, RoomForMoves, FrozenIsRoom, LightVictim, RoomBehind, MergeWithin, MergePrograms, MergeTakes, FreezeWithin, FreezeTakes, ReclaimWithin, ReclaimReads, ReclaimPrograms, FewPages, FewBlocks};
 ghost use Rattle.pk_work.specs.Calls.{CallsMost};
 
 /// There are never more background steps left than four times the most calls of a command, and two for each block.
@@ -11,17 +11,18 @@ pub fn bounds()
     ensures merging { MergingMost }
 {}
 
-/// Each step of a merge lowers the work, and behind the end of one the merge into the level above it is due, or none.
+/// Each step of a merge lowers the work, and after the end of one the merge into the level above it is due, or none.
 pub fn merges()
     ensures moves { MergeMoves }
     ensures ends { MergeEnds }
 {}
 
-/// Each step of a freeze lowers the work, with the merges that are due behind it.
+/// Each step of a freeze lowers the work, with the merges that are due behind it, and so does the second program of a root.
 #[tactic(auto, unfolding(crate::specs::Work::work, crate::specs::Backlog::due_level))]
 pub fn freezes()
     ensures moves { FreezeMoves }
     ensures ends { FreezeEnds }
+    ensures pair { PairEnds }
 {}
 
 /// Each step of a reclaim lowers the work, and so does an erase of a free block.

@@ -1,9 +1,12 @@
-use Rattle.pk_steps.proofs.Committing.{commits, commit_done}
+use Rattle.pk_steps.proofs.Committing.{commits, commits_pair, commit_done}
 use Rattle.pk_steps.proofs.Freezing.{freezes}
 use Rattle.pk_steps.proofs.roots.Goals as goal
 
 pub returns-clause-commits : goal.returns-clause-commits
 returns-clause-commits c = commits
+
+pub returns-clause-pair : goal.returns-clause-pair
+returns-clause-pair c = commits_pair
 
 pub returns-clause-committed : goal.returns-clause-committed
 returns-clause-committed c = commit_done

@@ -3,8 +3,9 @@ use Rattle.pk_base.specs.Shape.{Shape}
 use Rattle.pk_rootfmt.specs.Held.{Held}
 use Rattle.pk_model.specs.Growth.{Grows}
 use Rattle.pk_compact.proofs.FreezeStepping.{first_step, second_step, take_broken, epoch_least, newest_two, can_prepare_at, erase_step, erase_broken, can_install, root_step, root_broken}
-use Rattle.pk_compact.proofs.Growing.{took_grows, take_failed_grows, took_calls, erase_failed_calls}
-use Rattle.pk_compact.proofs.TakingOne.{is_shape, spare_behind}
+use Rattle.pk_compact.proofs.Growing.{took_grows, took_calls, erase_failed_calls}
+use Rattle.pk_compact.proofs.NextRoot.{programs_then}
+use Rattle.pk_compact.proofs.TakingOne.{is_shape}
 use Rattle.pk_compact.proofs.freezing.freeze_step.Goals as goal
 
 pub follow-requires-clause-epoch : goal.follow-requires-clause-epoch
@@ -23,6 +24,9 @@ pub install_root-requires-clause-can : goal.install_root-requires-clause-can
 install_root-requires-clause-can g c =
     can_install c.args.pool.now c.args.root.now c.args.installer.now c.args.job.now c.args.has_entries (g.B.Nand.state c.args.board.now) c.known.ensures c.requires.ready c.requires.may c.in-HasTwo.first c.in-HasTwo.second c.in-HasTwo.is c.follow.new.root c.follow.ensures
 
+pub install_root-requires-clause-programs : goal.install_root-requires-clause-programs
+install_root-requires-clause-programs g c = programs_then c.args.installer.now c.requires.may.3.whole (sym c.erases.ensures ∙ c.if-erases.false)
+
 pub returns-in-Ok-clause-step : goal.returns-in-Ok-clause-step
 returns-in-Ok-clause-step g c =
     let may = c.requires.may in
@@ -38,15 +42,12 @@ returns-in-Ok-clause-step g c =
 
 pub returns-in-Err-clause-step : goal.returns-in-Err-clause-step
 returns-in-Err-clause-step g c =
-    let may = c.requires.may in
     let old = g.B.Nand.state c.args.board.now in
     let new = g.B.Nand.state c.take_block.new.board in
-    let right = is_shape c.args.pool.now c.args.root.now c.args.installer.now c.args.job.now c.args.has_entries old c.known.ensures c.requires.ready may.0 may.1 may.2 may.3 in
-    let behind = spare_behind c.args.pool.now c.args.root.now c.args.installer.now c.args.job.now c.args.has_entries old c.known.ensures c.requires.ready may.0 may.1 may.2 may.3 in
     record {
       step = take_broken c.args.pool.now c.args.root.now c.args.installer.now c.args.job.now c.args.has_entries (g.B.Nand.state c.args.board.now) c.known.ensures c.requires.ready c.requires.may c.take_block.new.pool c.args.root.now c.args.installer.now c.args.job.now (g.B.Nand.state c.take_block.new.board) c.in-Err.fault c.in-Err.ensures.stopped c.in-Err.ensures.failed c.take_block.ensures.ready;
       calls = erase_failed_calls old new c.in-Err.ensures.failed.block c.in-Err.ensures.failed.failed;
-      grows = take_failed_grows c.args.root.now.shape right c.args.pool.now old new c.requires.ready behind c.in-Err.ensures.failed;
+      grows = tt;
     }
 
 pub returns-in-Ok-take_block-clause-step : goal.returns-in-Ok-take_block-clause-step
@@ -64,15 +65,12 @@ returns-in-Ok-take_block-clause-step g c =
 
 pub returns-in-Err-take_block-clause-step : goal.returns-in-Err-take_block-clause-step
 returns-in-Err-take_block-clause-step g c =
-    let may = c.requires.may in
     let old = g.B.Nand.state c.args.board.now in
     let new = g.B.Nand.state c.take_block-in-HasOne.new.board in
-    let right = is_shape c.args.pool.now c.args.root.now c.args.installer.now c.args.job.now c.args.has_entries old c.known.ensures c.requires.ready may.0 may.1 may.2 may.3 in
-    let behind = spare_behind c.args.pool.now c.args.root.now c.args.installer.now c.args.job.now c.args.has_entries old c.known.ensures c.requires.ready may.0 may.1 may.2 may.3 in
     record {
       step = take_broken c.args.pool.now c.args.root.now c.args.installer.now c.args.job.now c.args.has_entries (g.B.Nand.state c.args.board.now) c.known.ensures c.requires.ready c.requires.may c.take_block-in-HasOne.new.pool c.args.root.now c.args.installer.now c.args.job.now (g.B.Nand.state c.take_block-in-HasOne.new.board) c.in-Err-take_block.fault c.in-Err-take_block.ensures.stopped c.in-Err-take_block.ensures.failed c.take_block-in-HasOne.ensures.ready;
       calls = erase_failed_calls old new c.in-Err-take_block.ensures.failed.block c.in-Err-take_block.ensures.failed.failed;
-      grows = take_failed_grows c.args.root.now.shape right c.args.pool.now old new c.requires.ready behind c.in-Err-take_block.ensures.failed;
+      grows = tt;
     }
 
 pub returns-in-Ok-prepare_root-clause-step : goal.returns-in-Ok-prepare_root-clause-step
@@ -92,7 +90,7 @@ returns-in-Err-prepare_root-clause-step g c =
     record {
       step = erase_broken c.args.pool.now c.args.root.now c.args.installer.now c.args.job.now c.args.has_entries (g.B.Nand.state c.args.board.now) c.known.ensures c.requires.ready c.requires.may c.in-HasTwo.first c.in-HasTwo.second c.in-HasTwo.is c.shape.result.now c.shape.ensures c.args.pool.now c.args.root.now c.prepare_root.new.installer c.args.job.now (g.B.Nand.state c.prepare_root.new.board) c.in-Err-prepare_root.fault c.in-Err-prepare_root.ensures.step.step;
       calls = c.in-Err-prepare_root.ensures.step.calls;
-      grows = subst (λ (s : Shape). Grows s old.pages new.pages) c.shape.ensures c.in-Err-prepare_root.ensures.step.grows;
+      grows = tt;
     }
 
 pub returns-in-Ok-install_root-clause-step : goal.returns-in-Ok-install_root-clause-step
@@ -112,5 +110,5 @@ returns-in-Err-install_root-clause-step g c =
     record {
       step = root_broken c.args.pool.now c.args.root.now c.args.installer.now c.args.job.now c.args.has_entries (g.B.Nand.state c.args.board.now) c.known.ensures c.requires.ready c.requires.may c.in-HasTwo.first c.in-HasTwo.second c.in-HasTwo.is c.follow.new.root c.follow.ensures c.args.pool.now c.follow.new.root c.install_root.new.installer c.args.job.now (g.B.Nand.state c.install_root.new.board) c.in-Err-install_root.fault c.in-Err-install_root.ensures.step.step;
       calls = c.in-Err-install_root.ensures.step.calls;
-      grows = subst (λ (s : Shape). Grows s old.pages new.pages) (ap (λ (h : Held). h.shape) c.follow.ensures) c.in-Err-install_root.ensures.step.grows;
+      grows = tt;
     }

@@ -61,12 +61,12 @@ returns-in-20-clause-performs g c =
 
 pub returns-in-1-clause-performs : goal.returns-in-1-clause-performs
 returns-in-1-clause-performs g c =
-    performs_store c.args.parts.now c.store.new.parts (g.B.Nand.state c.args.board.now) (g.B.Nand.state c.store.new.board) c.args.request.now c.args.value.now c.store.result c.in-1.is c.store.ensures.opens c.store.ensures.noted c.store.ensures.quiet
+    performs_store c.args.parts.now c.store.new.parts (g.B.Nand.state c.args.board.now) (g.B.Nand.state c.store.new.board) c.args.request.now c.args.value.now c.store.result c.in-1.is c.store.ensures.half c.store.ensures.finishes c.store.ensures.opens c.store.ensures.noted c.store.ensures.quiet
     (few_for_looks c.args.parts.now.log.shape c.args.request.now.opcode 0x01 c.args.request.now.size refl _ _ c.in-1.is c.store.ensures.spends.calls)
 
 pub returns-in-16-clause-performs : goal.returns-in-16-clause-performs
 returns-in-16-clause-performs g c =
-    performs_delete c.args.parts.now c.delete.new.parts (g.B.Nand.state c.args.board.now) (g.B.Nand.state c.delete.new.board) c.args.request.now c.args.value.now c.delete.result c.in-16.is c.delete.ensures.moves c.delete.ensures.quiet
+    performs_delete c.args.parts.now c.delete.new.parts (g.B.Nand.state c.args.board.now) (g.B.Nand.state c.delete.new.board) c.args.request.now c.args.value.now c.delete.result c.in-16.is c.delete.ensures.half c.delete.ensures.finishes c.delete.ensures.moves c.delete.ensures.quiet
     (few_for_looks c.args.parts.now.log.shape c.args.request.now.opcode 0x10 c.args.request.now.size refl _ _ c.in-16.is c.delete.ensures.spends.calls)
 
 pub returns-in-192-clause-performs : goal.returns-in-192-clause-performs

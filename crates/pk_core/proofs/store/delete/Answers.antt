@@ -5,7 +5,7 @@ use Rattle.pk_core.proofs.Staying.{stays_from}
 use Rattle.pk_parts.proofs.Staying.{stays_same}
 use Rattle.pk_core.proofs.Statuses.{told_refused}
 use Rattle.pk_core.proofs.Programming.{quiet_delete_behind}
-use Rattle.pk_core.proofs.Quieted.{reads_behind}
+use Rattle.pk_core.proofs.Quieted.{reads_behind, whole_looked}
 use Rattle.pk_core.proofs.Callings.{spends_reads, spends_failed}
 use Rattle.pk_parts.specs.Parts.{Parts}
 use Rattle.pk_parts.proofs.StoreCalls.{spends_delete}
@@ -34,16 +34,29 @@ pub returns-in-Err-clause-moves : goal.returns-in-Err-clause-moves
 returns-in-Err-clause-moves g c = λ _. stays_same _ _ c.look.ensures.same
 
 pub returns-in-Ok-clause-quiet : goal.returns-in-Ok-clause-quiet
-returns-in-Ok-clause-quiet g c = λ zero none.
+returns-in-Ok-clause-quiet g c = λ zero whole none.
     let e = c.delete_at.ensures in
     let mid = g.B.Nand.state c.look.new.board in
     let new = g.B.Nand.state c.delete_at.new.board in
-    let same = reads_behind c.args.parts.now c.look.new.self mid new c.key-key.result _ c.look.ensures.same c.key-key.ensures (e.deletes.quiet zero) none in
+    let there = whole_looked c.args.parts.now c.look.new.self c.look.ensures.same whole in
+    let same = reads_behind c.args.parts.now c.look.new.self mid new c.key-key.result _ c.look.ensures.same c.key-key.ensures (e.deletes.quiet zero there) none in
     quiet_delete_behind c.args.parts.now c.look.new.self (g.B.Nand.state c.args.board.now) mid new c.key-key.result _ c.delete_at.result.reads c.look.ensures.same c.in-Ok.ensures.reads c.key-key.ensures (e.deletes.programs zero)
-    (omega (arith, e.told.0, same, c.read_count-before.ensures.value, c.in-Ok.ensures.reads.within)) none
+    (omega (arith, e.told.0, same, c.read_count-before.ensures.value, c.in-Ok.ensures.reads.within)) whole none
 
 pub returns-in-Err-clause-quiet : goal.returns-in-Err-clause-quiet
 returns-in-Err-clause-quiet g c = λ zero. absurd (told_refused c.refusal.result 0x88 0 0 c.reads_since.result false c.refusal.ensures (λ e. omega (arith, e)) zero)
+
+pub returns-in-Ok-clause-half : goal.returns-in-Ok-clause-half
+returns-in-Ok-clause-half g c = λ runs whole. c.delete_at.ensures.deletes.half runs (whole_looked c.args.parts.now c.look.new.self c.look.ensures.same whole)
+
+pub returns-in-Err-clause-half : goal.returns-in-Err-clause-half
+returns-in-Err-clause-half g c = λ _ whole. whole_looked c.args.parts.now c.look.new.self c.look.ensures.same whole
+
+pub returns-in-Ok-clause-finishes : goal.returns-in-Ok-clause-finishes
+returns-in-Ok-clause-finishes g c = c.delete_at.ensures.deletes.finishes
+
+pub returns-in-Err-clause-finishes : goal.returns-in-Err-clause-finishes
+returns-in-Err-clause-finishes g c = λ zero. absurd (told_refused c.refusal.result 0x88 0 0 c.reads_since.result false c.refusal.ensures (λ e. omega (arith, e)) zero)
 
 pub returns-in-Ok-clause-spends : goal.returns-in-Ok-clause-spends
 returns-in-Ok-clause-spends g c =

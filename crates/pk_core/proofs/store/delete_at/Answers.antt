@@ -12,14 +12,14 @@ use Rattle.pk_core.proofs.Statuses.{told_refused}
 use Rattle.pk_parts.proofs.Callings.{spends_same}
 use Rattle.pk_core.proofs.store.delete_at.Goals as goal
 
-pub take_out-answer-requires-clause-can : goal.take_out-answer-requires-clause-can
-take_out-answer-requires-clause-can g c =
+pub take_whole-answer-requires-clause-can : goal.take_whole-answer-requires-clause-can
+take_whole-answer-requires-clause-can g c =
     let r = c.requires.looked_up in
     let looks = subst (λ p. Looks c.args.parts.now (g.B.Nand.state c.args.board.now).pages c.args.key p) c.in-Some.is r.looks in
     can_take c.args.parts.now (g.B.Nand.state c.args.board.now) c.args.request.now [] c.args.key r.servable c.requires.opcode r.named c.known.ensures.key c.known.ensures.bytes c.in-Some.place looks
 
-pub take_out-answer-requires-clause-number : goal.take_out-answer-requires-clause-number
-take_out-answer-requires-clause-number g c =
+pub take_whole-answer-requires-clause-number : goal.take_whole-answer-requires-clause-number
+take_whole-answer-requires-clause-number g c =
     let s = c.requires.looked_up.servable in
     let few = room_few c.args.parts.now.log.shape s.agrees.with.index.logs.is_shape in
     room_last (g.B.Nand.state c.args.board.now) c.args.parts.now.log.shape s.unworn few
@@ -27,7 +27,7 @@ take_out-answer-requires-clause-number g c =
 pub reads_since-requires-in-Some-clause-few : goal.reads_since-requires-in-Some-clause-few
 reads_since-requires-in-Some-clause-few g c =
     let few = room_few c.args.parts.now.log.shape c.requires.looked_up.servable.agrees.with.index.logs.is_shape in
-    let step = c.take_out-answer.ensures.step.reads.few in
+    let step = c.take_whole-answer.ensures.step.reads.few in
     let found = c.requires.looked_up.since.few in
     omega (arith, few, step, found)
 
@@ -46,21 +46,21 @@ returns-in-None-clause-deletes g c = deletes_none c.args.parts.now (g.B.Nand.sta
 pub returns-in-Some-clause-executes : goal.returns-in-Some-clause-executes
 returns-in-Some-clause-executes g c = λ v into.
     let r = c.requires.looked_up in
-    let e = c.take_out-answer.ensures in
+    let e = c.take_whole-answer.ensures in
     let told = c.changed.ensures in
-    let after = g.B.Nand.state c.take_out-answer.new.board in
+    let after = g.B.Nand.state c.take_whole-answer.new.board in
     let looks = subst (λ p. Looks c.args.parts.now (g.B.Nand.state c.args.board.now).pages c.args.key p) c.in-Some.is r.looks in
     subst (λ (d : Parts). Executes c.args.parts.now d (g.B.Nand.state c.args.board.now) after (command_of c.args.request.now v) c.changed.result into (after.reads - (g.B.Nand.state c.args.board.now).reads)) (sym told.rest)
     (delete_came c.args.parts.now (g.B.Nand.state c.args.board.now) c.args.request.now v c.args.key r.servable c.requires.opcode r.named c.known.ensures.key c.known.ensures.bytes c.in-Some.place looks
-    c.take_out-answer.result c.take_out-answer.new.self after _ into c.changed.result _ e.step (let few = e.spends.installs in omega (arith, few)) (record { up = e.step.reads.up; few = c.reads_since-in-Some.ensures.count }) e.stays told.told)
+    c.take_whole-answer.result c.take_whole-answer.new.parts after _ into c.changed.result _ e.step (let few = e.spends.installs in omega (arith, few)) (record { up = e.step.reads.up; few = c.reads_since-in-Some.ensures.count }) e.stays told.told)
 
 pub returns-in-Some-clause-deletes : goal.returns-in-Some-clause-deletes
 returns-in-Some-clause-deletes g c =
-    let e = c.take_out-answer.ensures in
+    let e = c.take_whole-answer.ensures in
     let told = c.changed.ensures in
     let old = g.B.Nand.state c.args.board.now in
-    let new = g.B.Nand.state c.take_out-answer.new.board in
-    deletes_came c.args.parts.now c.take_out-answer.new.self c.changed.new.parts old new c.args.key c.take_out-answer.result c.changed.result _ told.told told.rest e.moves e.programs e.quiet
+    let new = g.B.Nand.state c.take_whole-answer.new.board in
+    deletes_came c.args.parts.now c.take_whole-answer.new.parts c.changed.new.parts old new c.args.key c.take_whole-answer.result c.changed.result _ told.told told.rest e.whole e.moves e.programs e.quiet
 
 pub returns-in-None-clause-spends : goal.returns-in-None-clause-spends
 returns-in-None-clause-spends g c = spends_same _ _ _ _ refl

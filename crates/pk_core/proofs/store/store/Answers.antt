@@ -6,7 +6,7 @@ use Rattle.pk_parts.proofs.Staying.{stays_same, stays_opens}
 use Rattle.pk_parts.specs.Staying.{IsNoted}
 use Rattle.pk_core.proofs.Statuses.{told_refused}
 use Rattle.pk_core.proofs.Programming.{quiet_store_behind}
-use Rattle.pk_core.proofs.Quieted.{reads_behind}
+use Rattle.pk_core.proofs.Quieted.{reads_behind, whole_looked}
 use Rattle.pk_core.proofs.Stored.{room_looked}
 use Rattle.pk_core.proofs.Callings.{spends_reads, spends_failed}
 use Rattle.pk_parts.specs.Parts.{Parts}
@@ -42,16 +42,29 @@ pub returns-in-Err-clause-noted : goal.returns-in-Err-clause-noted
 returns-in-Err-clause-noted g c = λ zero. absurd (told_refused c.refusal.result 0x88 0 0 c.reads_since.result false c.refusal.ensures (λ e. omega (arith, e)) zero)
 
 pub returns-in-Ok-clause-quiet : goal.returns-in-Ok-clause-quiet
-returns-in-Ok-clause-quiet g c = λ zero none room.
+returns-in-Ok-clause-quiet g c = λ zero whole none room.
     let e = c.store_over.ensures in
     let mid = g.B.Nand.state c.look.new.board in
     let new = g.B.Nand.state c.store_over.new.board in
-    let same = reads_behind c.args.parts.now c.look.new.self mid new c.key-key.result _ c.look.ensures.same c.key-key.ensures (e.stores.quiet zero (room_looked c.args.parts.now c.look.new.self c.args.request.now.size c.look.ensures.same room)) none in
+    let there = whole_looked c.args.parts.now c.look.new.self c.look.ensures.same whole in
+    let same = reads_behind c.args.parts.now c.look.new.self mid new c.key-key.result _ c.look.ensures.same c.key-key.ensures (e.stores.quiet zero there (room_looked c.args.parts.now c.look.new.self c.args.request.now.size c.look.ensures.same room)) none in
     quiet_store_behind c.args.parts.now c.look.new.self (g.B.Nand.state c.args.board.now) mid new c.args.request.now.size c.key-key.result _ c.store_over.result.reads c.look.ensures.same c.in-Ok.ensures.reads c.key-key.ensures (e.stores.programs zero)
-    (omega (arith, e.told.0, same, c.read_count-before.ensures.value, c.in-Ok.ensures.reads.within)) none room
+    (omega (arith, e.told.0, same, c.read_count-before.ensures.value, c.in-Ok.ensures.reads.within)) whole none room
 
 pub returns-in-Err-clause-quiet : goal.returns-in-Err-clause-quiet
 returns-in-Err-clause-quiet g c = λ zero. absurd (told_refused c.refusal.result 0x88 0 0 c.reads_since.result false c.refusal.ensures (λ e. omega (arith, e)) zero)
+
+pub returns-in-Ok-clause-half : goal.returns-in-Ok-clause-half
+returns-in-Ok-clause-half g c = λ runs whole. c.store_over.ensures.stores.half runs (whole_looked c.args.parts.now c.look.new.self c.look.ensures.same whole)
+
+pub returns-in-Err-clause-half : goal.returns-in-Err-clause-half
+returns-in-Err-clause-half g c = λ _ whole. whole_looked c.args.parts.now c.look.new.self c.look.ensures.same whole
+
+pub returns-in-Ok-clause-finishes : goal.returns-in-Ok-clause-finishes
+returns-in-Ok-clause-finishes g c = c.store_over.ensures.stores.finishes
+
+pub returns-in-Err-clause-finishes : goal.returns-in-Err-clause-finishes
+returns-in-Err-clause-finishes g c = λ zero. absurd (told_refused c.refusal.result 0x88 0 0 c.reads_since.result false c.refusal.ensures (λ e. omega (arith, e)) zero)
 
 pub returns-in-Ok-clause-spends : goal.returns-in-Ok-clause-spends
 returns-in-Ok-clause-spends g c =

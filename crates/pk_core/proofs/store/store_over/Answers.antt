@@ -17,15 +17,15 @@ use Rattle.pk_core.proofs.store.store_over.Goals as goal
 pub fault_of_store-requires-clause-old_short : goal.fault_of_store-requires-clause-old_short
 fault_of_store-requires-clause-old_short g c = let r = c.requires.looked_up in short_place c.args.parts.now (g.B.Nand.state c.args.board.now) r.servable.agrees c.args.key c.args.old c.known.ensures.key r.looks
 
-pub put_with_space-answer-requires-clause-can : goal.put_with_space-answer-requires-clause-can
-put_with_space-answer-requires-clause-can g c =
+pub put_whole-answer-requires-clause-can : goal.put_whole-answer-requires-clause-can
+put_whole-answer-requires-clause-can g c =
     let r = c.requires.looked_up in
     can_put c.args.parts.now (g.B.Nand.state c.args.board.now) c.args.request.now c.args.value.now c.args.key c.args.old r.servable c.requires.opcode c.requires.whole r.named c.known.ensures.key c.known.ensures.bytes r.looks (sym c.fault_of_store.ensures ∙ c.in-None.is)
 
 pub reads_since-requires-in-None-clause-few : goal.reads_since-requires-in-None-clause-few
 reads_since-requires-in-None-clause-few g c =
     let few = store_few c.args.parts.now.log.shape c.requires.looked_up.servable.agrees.with.index.logs.is_shape in
-    let step = c.put_with_space-answer.ensures.step.reads.few in
+    let step = c.put_whole-answer.ensures.step.reads.few in
     let found = c.requires.looked_up.since.few in
     omega (arith, few, step, found)
 
@@ -47,20 +47,20 @@ returns-in-Some-clause-stores g c =
 pub returns-in-None-clause-executes : goal.returns-in-None-clause-executes
 returns-in-None-clause-executes g c = λ into.
     let r = c.requires.looked_up in
-    let e = c.put_with_space-answer.ensures in
+    let e = c.put_whole-answer.ensures in
     let told = c.changed.ensures in
-    let after = g.B.Nand.state c.put_with_space-answer.new.board in
+    let after = g.B.Nand.state c.put_whole-answer.new.board in
     subst (λ (d : Parts). Executes c.args.parts.now d (g.B.Nand.state c.args.board.now) after (command_of c.args.request.now c.args.value.now) c.changed.result into (after.reads - (g.B.Nand.state c.args.board.now).reads)) (sym told.rest)
     (store_came c.args.parts.now (g.B.Nand.state c.args.board.now) c.args.request.now c.args.value.now c.args.key c.args.old r.servable c.requires.opcode c.requires.whole r.named c.known.ensures.key c.known.ensures.bytes r.looks (sym c.fault_of_store.ensures ∙ c.in-None.is)
-    c.put_with_space-answer.result c.put_with_space-answer.new.parts after _ into c.changed.result _ e.step e.spends.installs (record { up = e.step.reads.up; few = c.reads_since-in-None.ensures.count }) e.stays told.told)
+    c.put_whole-answer.result c.put_whole-answer.new.parts after _ into c.changed.result _ e.step e.spends.installs (record { up = e.step.reads.up; few = c.reads_since-in-None.ensures.count }) e.stays told.told)
 
 pub returns-in-None-clause-stores : goal.returns-in-None-clause-stores
 returns-in-None-clause-stores g c =
-    let e = c.put_with_space-answer.ensures in
+    let e = c.put_whole-answer.ensures in
     let told = c.changed.ensures in
     let old = g.B.Nand.state c.args.board.now in
-    let new = g.B.Nand.state c.put_with_space-answer.new.board in
-    stores_came c.args.parts.now c.put_with_space-answer.new.parts c.changed.new.parts old new c.args.key c.put_with_space-answer.result c.changed.result _ told.told told.rest (length c.args.value.now) c.args.request.now.size c.requires.whole e.opens e.noted e.programs e.quiet
+    let new = g.B.Nand.state c.put_whole-answer.new.board in
+    stores_came c.args.parts.now c.put_whole-answer.new.parts c.changed.new.parts old new c.args.key c.put_whole-answer.result c.changed.result _ told.told told.rest (length c.args.value.now) c.args.request.now.size c.requires.whole e.whole e.opens e.noted e.programs e.quiet
 
 pub returns-in-Some-clause-spends : goal.returns-in-Some-clause-spends
 returns-in-Some-clause-spends g c = spends_same _ _ _ _ refl
@@ -69,4 +69,4 @@ pub returns-in-None-clause-spends : goal.returns-in-None-clause-spends
 returns-in-None-clause-spends g c =
     let r = c.requires.looked_up in
     let can = can_put c.args.parts.now (g.B.Nand.state c.args.board.now) c.args.request.now c.args.value.now c.args.key c.args.old r.servable c.requires.opcode c.requires.whole r.named c.known.ensures.key c.known.ensures.bytes r.looks (sym c.fault_of_store.ensures ∙ c.in-None.is) in
-    spends_stored c.args.parts.now.log.shape (length c.args.value.now) _ _ r.servable.agrees.with.index.logs.is_shape can.short c.put_with_space-answer.ensures.spends
+    spends_stored c.args.parts.now.log.shape (length c.args.value.now) _ _ r.servable.agrees.with.index.logs.is_shape can.short c.put_whole-answer.ensures.spends

@@ -15,7 +15,7 @@ write_page-requires-clause-order g c =
 pub returns-in-Ok-clause-programmed : goal.returns-in-Ok-clause-programmed
 returns-in-Ok-clause-programmed g c =
     let program = rw (c.page.ensures, c.encode.ensures, c.shape.ensures, c.level.ensures, c.pages-index.ensures) at c.in-Ok.ensures.ok in
-    let cuts = rw (c.page.ensures, c.pages-index.ensures) at c.in-Ok.ensures.cuts in
+    let cuts = rw (shape_is _ _ c.requires.ready, c.page.ensures, c.pages-index.ensures) at c.in-Ok.ensures.cuts in
     let keeps = rw (c.encode.ensures, c.shape.ensures, c.level.ensures, c.pages-index.ensures) at c.keep-lease.ensures in
     programs_page c.args.pins c.args.out.now (seen_all c.args.entries.now) _ c.args.arena.now _ _ c.keep-lease.result c.known.ensures.shape c.requires.may.place program keeps
     _ c.copy.result c.requires.may.output
@@ -29,5 +29,5 @@ pub returns-in-Err-clause-failed : goal.returns-in-Err-clause-failed
 returns-in-Err-clause-failed g c = record {
   place = c.requires.may.place;
   failed = rw (c.page.ensures, c.encode.ensures, c.shape.ensures, c.level.ensures, c.pages-index.ensures) at c.in-Err.ensures.err;
-  cuts = rw (c.page.ensures, c.pages-index.ensures) at c.in-Err.ensures.cuts_err;
+  cuts = rw (shape_is _ _ c.requires.ready, c.page.ensures, c.pages-index.ensures) at c.in-Err.ensures.cuts_err;
 }

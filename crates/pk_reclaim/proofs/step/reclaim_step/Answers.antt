@@ -1,6 +1,7 @@
 use Rattle.pk_base.specs.Seen.{entries as seen_all}
 use Rattle.pk_reclaim.proofs.Whole.{can_step}
 use Rattle.pk_reclaim.proofs.Handed.{handed, small_behind}
+use Rattle.pk_reclaim.proofs.Repeated.{repeats_in}
 use Rattle.pk_log.proofs.Standing.{epoch_blocks_are}
 use Rattle.pk_reclaim.proofs.step.reclaim_step.Goals as goal
 
@@ -230,3 +231,7 @@ returns-clause-rest g c =
       kept_parts = e.kept_parts;
       kept_values = e.kept_values;
     })).only
+
+pub returns-clause-repeats : goal.returns-clause-repeats
+returns-clause-repeats g c =
+    repeats_in c.args.job.now.phase c.args.job.now c.step.new.self _ _ (g.B.Nand.state c.args.board.now) (g.B.Nand.state c.step.new.board) c.step.result c.step.ensures.steps c.step.ensures.breaks

@@ -1,35 +1,67 @@
-use Rattle.std.proofs.Common.{refl}
-use Rattle.pk_root.proofs.Installs.{program_done, program_reaches, program_went, program_left, program_fits, programmed}
+use Rattle.std.proofs.Common.{◌<◌, ◌+◌, refl, ap, sym, arith}
+use Rattle.pk_nand.proofs.Writing.{shape_is}
+use Rattle.pk_root.proofs.Installs.{install, room, exists, program_fits, reached_installs, went_installs, went_behind}
 use Rattle.pk_root.proofs.installer.program_root.Goals as goal
+
+pub write_first-requires-clause-exists : goal.write_first-requires-clause-exists
+write_first-requires-clause-exists g c =
+    let f = c.requires.fits in
+    exists c.args.root.now.shape (g.B.Nand.state c.args.board.now) c.args.page f.0 c.encode.new.into c.args.root.now.root (rw c.shape.ensures at c.known.ensures) c.requires.ready f.1 c.encode.ensures.again f.2
+
+pub write_first-requires-clause-even : goal.write_first-requires-clause-even
+write_first-requires-clause-even g c = let f = c.requires.fits in rw (shape_is _ _ c.requires.ready) f.1.possible.even
+
+pub write_first-requires-clause-room : goal.write_first-requires-clause-room
+write_first-requires-clause-room g c =
+    let f = c.requires.fits in
+    rw (shape_is _ _ c.requires.ready) (room c.args.root.now.shape (g.B.Nand.state c.args.board.now) c.args.page f.0 c.encode.new.into c.args.root.now.root (rw c.shape.ensures at c.known.ensures) c.requires.ready f.1 c.encode.ensures.again f.2)
+
+pub write_first-requires-clause-order : goal.write_first-requires-clause-order
+write_first-requires-clause-order g c = let f = c.requires.fits in rw (shape_is _ _ c.requires.ready) f.1.possible.order
 
 pub returns-in-Ok-clause-installs : goal.returns-in-Ok-clause-installs
 returns-in-Ok-clause-installs g c =
     let f = c.requires.fits in
+    let board = g.B.Nand.state c.args.board.now in
+    let new = g.B.Nand.state c.write_first.new.board in
+    let is_shape = rw c.shape.ensures at c.known.ensures in
+    let begun = install c.args.root.now.shape board c.args.page f.0 c.encode.new.into c.args.root.now.root is_shape c.requires.ready f.1 c.encode.ensures.again f.2 in
     record {
       page = c.args.page;
       was = refl;
-      program = programmed (g.B.Nand.state c.args.board.now) (g.B.Nand.state c.write_page.new.board) c.args.page c.encode.new.into _ c.encode.ensures.bytes c.in-Ok.ensures.ok;
+      program = rw c.encode.ensures.bytes at c.in-Ok.ensures.ok;
       then_next = refl;
-      fits = rw c.in-Ok.ensures.ok (program_fits c.root.ensures.program c.args.root.now.shape (g.B.Nand.state c.args.board.now) c.args.page f.0 c.encode.new.into c.args.root.now.root (rw c.shape.ensures at c.known.ensures) c.requires.ready f.1 c.encode.ensures.again f.2 c.root.ensures.installed);
-      cuts = rw c.in-Ok.ensures.ok (program_reaches c.root.ensures.program c.args.root.now.shape (g.B.Nand.state c.args.board.now) c.args.page f.0 c.encode.new.into c.args.root.now.root (rw c.shape.ensures at c.known.ensures) c.requires.ready f.1 c.encode.ensures.again f.2);
+      fits = program_fits c.args.root.now.shape board c.args.page f.0 c.encode.new.into c.args.root.now.root is_shape c.requires.ready f.1 c.encode.ensures.again f.2 new c.in-Ok.ensures.ok c.encode.ensures.bytes
+          c.in-Ok.ensures.cut c.in-Ok.ensures.written (rw (shape_is _ _ c.requires.ready) at c.in-Ok.ensures.order);
+      cuts = reached_installs c.args.root.now.shape c.args.page f.0 c.encode.new.into c.args.root.now.root board.pages c.root.ensures.pair begun board new c.in-Ok.ensures.cuts;
     }
 
 pub returns-in-Ok-clause-behind : goal.returns-in-Ok-clause-behind
 returns-in-Ok-clause-behind g c =
-    let f = c.requires.fits in
-    rw c.in-Ok.ensures.ok ((program_done c.root.ensures.program c.args.root.now.shape (g.B.Nand.state c.args.board.now) c.args.page f.0 c.encode.new.into c.args.root.now.root (rw c.shape.ensures at c.known.ensures) c.requires.ready f.1 c.encode.ensures.again f.2).behind)
+    let below = c.requires.fits.1.possible.in_root_blocks in
+    λ k high. c.in-Ok.ensures.cut.outside.above k (omega (arith, high, below))
 
 pub returns-in-Err-clause-failed : goal.returns-in-Err-clause-failed
 returns-in-Err-clause-failed g c =
     let f = c.requires.fits in
+    let board = g.B.Nand.state c.args.board.now in
+    let new = g.B.Nand.state c.write_first.new.board in
+    let is_shape = rw c.shape.ensures at c.known.ensures in
+    let begun = install c.args.root.now.shape board c.args.page f.0 c.encode.new.into c.args.root.now.root is_shape c.requires.ready f.1 c.encode.ensures.again f.2 in
     record {
       page = c.args.page;
       was = refl;
       failed = rw c.encode.ensures.bytes at c.in-Err.ensures.err;
-      cuts = program_went c.root.ensures.program c.args.root.now.shape (g.B.Nand.state c.args.board.now) c.args.page f.0 c.encode.new.into c.args.root.now.root (rw c.shape.ensures at c.known.ensures) c.requires.ready f.1 c.encode.ensures.again f.2 (g.B.Nand.state c.write_page.new.board) c.in-Err.ensures.err;
+      cuts = went_installs c.args.root.now.shape c.args.page f.0 c.encode.new.into c.args.root.now.root board.pages c.root.ensures.pair begun board new c.in-Err.ensures.cuts_err;
     }
 
 pub returns-in-Err-clause-behind : goal.returns-in-Err-clause-behind
 returns-in-Err-clause-behind g c =
-    let f = c.requires.fits in
-    (program_left c.root.ensures.program c.args.root.now.shape (g.B.Nand.state c.args.board.now) c.args.page f.0 c.encode.new.into c.args.root.now.root (rw c.shape.ensures at c.known.ensures) c.requires.ready f.1 c.encode.ensures.again f.2 (g.B.Nand.state c.write_page.new.board) c.in-Err.ensures.err).behind
+    let below = c.requires.fits.1.possible.in_root_blocks in
+    went_behind c.args.root.now.shape c.args.page c.encode.new.into (g.B.Nand.state c.args.board.now) (g.B.Nand.state c.write_first.new.board) below c.in-Err.ensures.cuts_err
+
+pub returns-in-Ok-clause-ready : goal.returns-in-Ok-clause-ready
+returns-in-Ok-clause-ready g c = c.in-Ok.ensures.ready _ c.requires.ready
+
+pub returns-in-Err-clause-ready : goal.returns-in-Err-clause-ready
+returns-in-Err-clause-ready g c = c.in-Err.ensures.ready _ c.requires.ready

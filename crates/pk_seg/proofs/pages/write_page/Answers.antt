@@ -11,7 +11,7 @@ returns-in-Ok-clause-ready g c shape ready =
     rw c.in-Ok.ensures.ok (IsReady-program _ shape c.args.page c.args.buf.now (c.requires.full ∙ ap (λ s. s.page_bytes) (shape_is _ shape ready), λ i. omega (arith, c.type_inv.buf i)) ready)
 
 pub returns-in-Err-clause-cuts_err : goal.returns-in-Err-clause-cuts_err
-returns-in-Err-clause-cuts_err g c = one_failed _ _ c.args.page c.args.buf.now c.in-Err.ensures.err
+returns-in-Err-clause-cuts_err g c = one_failed _ c.args.page c.args.buf.now _ c.in-Err.ensures.err
 
 pub returns-in-Err-clause-ready : goal.returns-in-Err-clause-ready
 returns-in-Err-clause-ready g c shape ready =

@@ -105,6 +105,20 @@ returns-in-None-clause-quiet_delete g c = rw (← c.self.view_is) (λ is zero qu
 pub returns-in-None-clause-no_more : goal.returns-in-None-clause-no_more
 returns-in-None-clause-no_more g c = rw (← c.self.view_is) (λ runs none. c.perform-outcome.ensures.performs.no_more_work none runs)
 
+pub returns-in-Some-clause-half : goal.returns-in-Some-clause-half
+returns-in-Some-clause-half g c = rw (← c.self.view_is) (λ _ _ whole. whole)
+
+pub returns-in-None-clause-half : goal.returns-in-None-clause-half
+returns-in-None-clause-half g c = rw (← c.self.view_is) c.perform-outcome.ensures.performs.half
+
+pub returns-in-Some-clause-finishes : goal.returns-in-Some-clause-finishes
+returns-in-Some-clause-finishes g c = λ _ zero.
+    let is : early c.self.inside.parts.log.shape (command_of c.args.request.now c.args.value.now) ≡ Some c.in-Some.status = ap (λ (s : Shape). early s (command_of c.args.request.now c.args.value.now)) (sym c.shape.ensures) ∙ sym (c.early_fault.ensures c.args.value.now) ∙ c.in-Some.is in
+    absurd (told_refused c.refusal.result c.in-Some.status 0 0 0 false c.refusal.ensures (early_refuses c.self.inside.parts.log.shape (command_of c.args.request.now c.args.value.now) c.in-Some.status is) zero)
+
+pub returns-in-None-clause-finishes : goal.returns-in-None-clause-finishes
+returns-in-None-clause-finishes g c = c.perform-outcome.ensures.performs.finishes
+
 pub returns-in-Some-clause-settles : goal.returns-in-Some-clause-settles
 returns-in-Some-clause-settles g c = rw (← c.self.view_is) (λ _ zero.
     let is : early c.self.inside.parts.log.shape (command_of c.args.request.now c.args.value.now) ≡ Some c.in-Some.status = ap (λ (s : Shape). early s (command_of c.args.request.now c.args.value.now)) (sym c.shape.ensures) ∙ sym (c.early_fault.ensures c.args.value.now) ∙ c.in-Some.is in

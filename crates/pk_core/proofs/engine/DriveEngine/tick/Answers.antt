@@ -49,3 +49,9 @@ returns-clause-idle g c = rw (← c.self.view_is) c.step-answer.ensures.idle
 
 pub returns-clause-lowers : goal.returns-clause-lowers
 returns-clause-lowers g c = rw (← c.self.view_is) c.step-answer.ensures.lowers
+
+pub returns-clause-repeats : goal.returns-clause-repeats
+returns-clause-repeats g c = rw (← c.self.view_is) c.step-answer.ensures.repeats
+
+pub returns-clause-finishes : goal.returns-clause-finishes
+returns-clause-finishes g c = rw (← c.self.view_is) c.step-answer.ensures.finishes

@@ -1,4 +1,4 @@
-use Rattle.std.proofs.Common.{◌≡◌, ℕ, List, ◌++◌, length, take, drop}
+use Rattle.std.proofs.Common.{◌≡◌, ℕ, List, [], ◌++◌, length, take, drop}
 use Rattle.std.proofs.Common.{sym, ap, subst, ◌∙◌, Result, Ok}
 use Rattle.std.proofs.Math.Seq.{take-append_seam}
 use Rattle.pk_base.specs.Key.{Key}
@@ -51,6 +51,7 @@ returns-in-Ok-head-clause-reads g c =
             shape = (c.self.view_is i).shape;
             phase = Copies (begun_course c.args.course (c.self.view_is i).shape c.args.page (same i).len);
             moves = begun_moves c.args.course (c.self.view_is i) c.args.page (same i).key (same i).len;
+            entries = [];
             page = sym (ap (λ (s : JobState). s.page) c.push.ensures) i;
           });
       board = c.in-Ok.ensures.ok;

@@ -1,9 +1,9 @@
 use Rattle.std.proofs.Common.{◌≡◌, inl, inr, refl, sym, ap, subst, ◌∙◌, arith}
 use Rattle.std.proofs.Common.{Result, Ok, Err, IfOk, OnOk}
 use Rattle.pk_gc.specs.declared.course.Phase.{Phase}
-use Rattle.pk_gc.specs.declared.course.Phase.TheVariants.{Copies}
+use Rattle.pk_gc.specs.declared.course.Phase.TheVariants.{Copies, Commits}
 use Rattle.pk_gc.specs.State.{JobState}
-use Rattle.pk_gc.specs.Stepping.{CanGoOn, CanStepIn, BeginsValue, Tries, StepsIn}
+use Rattle.pk_gc.specs.Stepping.{CanGoOn, CanStepIn, BeginsValue, EndsMoves, Tries, StepsIn}
 use Rattle.pk_gc.specs.Asking.{hands_of}
 use Rattle.pk_gc.proofs.Parts.{first_head, dead_to_end, can_finish, finishes}
 use Rattle.pk_gc.proofs.job.ReclaimJob.step.Goals as goal
@@ -63,7 +63,7 @@ finish-requires g c =
     record {
       can = can_finish course job hands old c.commit.new.epoch (g.B.Nand.state c.commit.new.board)
           c.in-Ok.committed kept c.in-Ok.ensures.commits
-          (ap (λ (s : JobState). s.moves) c.commit.ensures.kept) (on.end whole dead);
+          c.commit.ensures.moves (on.end whole dead);
     }
 
 -- what holds of a call that was Ok, of its answer and by itself
@@ -139,3 +139,57 @@ returns-in-Ok-clause-steps g c =
           (c.finish.ensures.finished epoch);
     } in
     subst (λ (p : Phase). StepsIn p job hands old job' hands' new r) (sym is) (inr tries)
+
+-- ---- the second program of the commit
+
+pub commit-requires-clause-whole : goal.commit-requires-clause-whole
+commit-requires-clause-whole g c =
+    let job = c.args.self.now in
+    let old = g.B.Nand.state c.args.board.now in
+    let hands =
+    hands_of c.args.live.now c.args.front.now c.args.pool.now c.args.active.now c.args.epoch.now in
+    let course = c.in-Copies.course in
+    let is : job.phase ≡ Copies course =
+    sym (ap (λ (s : JobState). s.phase) c.self.view_is) ∙ c.in-Copies.is in
+    let on : CanGoOn course job hands old.pages =
+    subst (λ (p : Phase). CanStepIn p job hands old.pages) is c.requires.can in
+    on.no_half
+
+pub end_commit-requires-clause-half : goal.end_commit-requires-clause-half
+end_commit-requires-clause-half g c =
+    let job = c.args.self.now in
+    let flash = (g.B.Nand.state c.args.board.now).pages in
+    let hands =
+    hands_of c.args.live.now c.args.front.now c.args.pool.now c.args.active.now c.args.epoch.now in
+    let is : job.phase ≡ Commits c.in-Commits.victim =
+    sym (ap (λ (s : JobState). s.phase) c.self.view_is) ∙ c.in-Commits.is in
+    subst (λ (p : Phase). CanStepIn p job hands flash) is c.requires.can
+
+-- the same of three clauses
+if_ok_all : {X E A B : Type 0} {P Q : X → Type 0} (r : Result X E)
+    → ((x : X) → P x → A → B → Q x) → IfOk r P → OnOk r A → OnOk r B → IfOk r Q
+if_ok_all (Ok x) f is a b = f x is a b
+if_ok_all (Err e) f is a b = is
+
+pub returns-in-Commits-clause-steps : goal.returns-in-Commits-clause-steps
+returns-in-Commits-clause-steps g c =
+    let job = c.args.self.now in
+    let old = g.B.Nand.state c.args.board.now in
+    let hands =
+    hands_of c.args.live.now c.args.front.now c.args.pool.now c.args.active.now c.args.epoch.now in
+    let victim = c.in-Commits.victim in
+    let is : job.phase ≡ Commits victim =
+    sym (ap (λ (s : JobState). s.phase) c.self.view_is) ∙ c.in-Commits.is in
+    let job' = c.end_commit.new.self in
+    let new = g.B.Nand.state c.end_commit.new.board in
+    let hands' =
+    hands_of c.args.live.now c.args.front.now c.args.pool.now c.args.active.now c.end_commit.new.epoch in
+    if_ok_all c.end_commit.result (λ r worked made ends.
+    let done : EndsMoves victim job hands old job' hands' new r = record {
+      answer = worked;
+      job_is = made;
+      ends = ends;
+      hands = refl;
+    } in
+    subst (λ (p : Phase). StepsIn p job hands old job' hands' new r) (sym is) done)
+    c.end_commit.ensures.worked c.end_commit.ensures.job c.end_commit.ensures.ends

@@ -7,8 +7,8 @@ freeze_step-requires-clause-may g c =
     let s = rw (← c.self.view_is) at c.requires.can in
     (s.0, s.1, s.2, rw c.len-has_entries.ensures.len (is_freezing _ c.args.pool.now c.args.job.now (g.B.Nand.state c.args.board.now) s.0 s.1 s.2 s.3))
 
-pub give_back-requires-clause-first : goal.give_back-requires-clause-first
-give_back-requires-clause-first g c =
+pub retire_epoch-requires-clause-first : goal.retire_epoch-requires-clause-first
+retire_epoch-requires-clause-first g c =
     let s = rw (← c.self.view_is) at c.requires.can in
     let old = g.B.Nand.state c.args.board.now in
     let new = g.B.Nand.state c.freeze_step.new.board in
@@ -18,8 +18,8 @@ give_back-requires-clause-first g c =
     let done = installed_by _ _ _ _ _ _ _ _ _ _ _ _ step.ended s.0 s.1 s.2 is c.in-Ok-true.field-0-test in
     (former_owned _ c.args.pool.now c.args.job.now old s.0 s.1 s.2 s.3 c.freeze_step.new.pool _ _ _ new done c.newest-former.result c.newest-former.ensures).first
 
-pub give_back-requires-clause-second : goal.give_back-requires-clause-second
-give_back-requires-clause-second g c =
+pub retire_epoch-requires-clause-second : goal.retire_epoch-requires-clause-second
+retire_epoch-requires-clause-second g c =
     let s = rw (← c.self.view_is) at c.requires.can in
     let old = g.B.Nand.state c.args.board.now in
     let new = g.B.Nand.state c.freeze_step.new.board in
@@ -29,8 +29,8 @@ give_back-requires-clause-second g c =
     let done = installed_by _ _ _ _ _ _ _ _ _ _ _ _ step.ended s.0 s.1 s.2 is c.in-Ok-true.field-0-test in
     (former_owned _ c.args.pool.now c.args.job.now old s.0 s.1 s.2 s.3 c.freeze_step.new.pool _ _ _ new done c.newest-former.result c.newest-former.ensures).second
 
-pub give_back-requires-clause-different : goal.give_back-requires-clause-different
-give_back-requires-clause-different g c =
+pub retire_epoch-requires-clause-different : goal.retire_epoch-requires-clause-different
+retire_epoch-requires-clause-different g c =
     let s = rw (← c.self.view_is) at c.requires.can in
     let old = g.B.Nand.state c.args.board.now in
     let new = g.B.Nand.state c.freeze_step.new.board in
@@ -46,7 +46,7 @@ returns-in-Ok-true-clause-step g c =
     let new = g.B.Nand.state c.freeze_step.new.board in
     let once = rw c.len-has_entries.ensures.len at c.in-Ok-true.ensures.step in
     let step = once.step in
-    let given = rw c.len-has_entries.ensures.len at c.give_back.ensures.given in
+    let given = rw c.len-has_entries.ensures.len at c.retire_epoch.ensures.left in
     let starts = rw (c.start-self-inside.ensures.started, c.shape-shape.ensures, c.epoch.ensures, c.freeze_step.ensures.root_shape) at c.start-self-inside.ensures.fits in
     record {
       step = record {
@@ -55,7 +55,7 @@ returns-in-Ok-true-clause-step g c =
             let is = is_freezing _ c.args.pool.now c.args.job.now old top found m a in
             let done = installed_by _ _ _ _ _ _ _ _ _ _ _ _ step.ended top found m is c.in-Ok-true.field-0-test in
             rw (← c.self.view_is) (log_frozen _ c.args.pool.now c.args.job.now old top found m a c.freeze_step.new.pool c.freeze_step.new.root.root c.freeze_step.new.installer c.freeze_step.new.job new done
-            c.newest-former.result c.give_back.new.pool c.newest-former.ensures given (c.give_back.ensures.fits new.pages) c.newest-blocks.result c.newest-blocks.ensures starts _ (search rules));
+            c.newest-former.result c.retire_epoch.new.pool c.newest-former.ensures given (c.retire_epoch.ensures.fits new.pages) c.newest-blocks.result c.newest-blocks.ensures starts _ (search rules));
         broken = tt;
         works = step.works;
         stops = tt;
@@ -108,5 +108,5 @@ returns-in-Err-clause-step g c =
         ready = rw (← c.self.view_is) step.ready;
       };
       calls = once.calls;
-      grows = rw (← c.self.view_is) once.grows;
+      grows = tt;
     }

@@ -48,5 +48,5 @@ returns-in-Err-clause-step g c =
         ready = rw (← c.self.view_is) step.ready;
       };
       calls = once.calls;
-      grows = rw (← c.self.view_is) once.grows;
+      grows = tt;
     }

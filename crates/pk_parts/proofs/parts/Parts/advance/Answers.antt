@@ -27,3 +27,20 @@ reclaim_step-requires-clause-merged g c =
 
 pub reclaim_step-requires-clause-wanted : goal.reclaim_step-requires-clause-wanted
 reclaim_step-requires-clause-wanted g c = wants_is c.args.self.now (sym c.wants_reclaim.ensures ∙ c.if-wants_reclaim.true)
+
+-- ---- whether a pair is half made
+
+pub finish_step-requires-clause-half : goal.finish_step-requires-clause-half
+finish_step-requires-clause-half g c = sym c.is_half.ensures ∙ c.if-is_half.true
+
+pub merge_step-requires-clause-whole : goal.merge_step-requires-clause-whole
+merge_step-requires-clause-whole g c = sym c.is_half.ensures ∙ c.if-is_half.false
+
+pub freeze_step-requires-clause-whole : goal.freeze_step-requires-clause-whole
+freeze_step-requires-clause-whole g c = sym c.is_half.ensures ∙ c.if-is_half.false
+
+pub reclaim_step-requires-clause-whole : goal.reclaim_step-requires-clause-whole
+reclaim_step-requires-clause-whole g c = sym c.is_half.ensures ∙ c.if-is_half.false
+
+pub erase_step-requires-clause-whole : goal.erase_step-requires-clause-whole
+erase_step-requires-clause-whole g c = sym c.is_half.ensures ∙ c.if-is_half.false

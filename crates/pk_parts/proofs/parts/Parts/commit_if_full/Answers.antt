@@ -1,9 +1,13 @@
+use Rattle.pk_parts.proofs.Halves.{may_commit}
 use Rattle.pk_parts.proofs.Steps.{none_step}
 use Rattle.std.proofs.Common.{refl}
 use Rattle.pk_parts.proofs.Staying.{stays_same}
 use Rattle.pk_parts.proofs.Programming.{full_ok}
 use Rattle.pk_parts.proofs.Callings.{few_same, few_commit}
 use Rattle.pk_parts.proofs.parts.Parts.commit_if_full.Goals as goal
+
+pub commit_pending-requires : goal.commit_pending-requires
+commit_pending-requires g c = record { may = may_commit c.args.self.now (g.B.Nand.state c.args.board.now) c.requires.may }
 
 pub returns-else-pending-entries-clause-step : goal.returns-else-pending-entries-clause-step
 returns-else-pending-entries-clause-step g c = none_step c.args.self.now 0 (g.B.Nand.state c.args.board.now) tt c.requires.may.ready
@@ -12,7 +16,7 @@ pub returns-else-pending-entries-clause-moves : goal.returns-else-pending-entrie
 returns-else-pending-entries-clause-moves g c = stays_same _ _ refl
 
 pub returns-then-pending-entries-clause-full : goal.returns-then-pending-entries-clause-full
-returns-then-pending-entries-clause-full g c = full_ok c.commit_pending.result c.args.self.now _ _ c.requires.may.stands c.commit_pending.ensures.program
+returns-then-pending-entries-clause-full g c = full_ok c.commit_pending.result c.args.self.now _ _ c.requires.may.stands c.commit_pending.ensures.programs
 
 pub returns-then-pending-entries-clause-calls : goal.returns-then-pending-entries-clause-calls
 returns-then-pending-entries-clause-calls g c =

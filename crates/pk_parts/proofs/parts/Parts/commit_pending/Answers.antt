@@ -1,4 +1,4 @@
-use Rattle.pk_parts.proofs.Committing.{commit_step, rest_ok, left_ok, one_program, nothing_done}
+use Rattle.pk_parts.proofs.Committing.{commit_step, rest_ok, left_ok, some_programs, all_programs, nothing_done}
 use Rattle.pk_parts.proofs.Sights.{seen_ok}
 use Rattle.pk_parts.proofs.Staying.{commit_stays_ok}
 use Rattle.pk_parts.proofs.parts.Parts.commit_pending.Goals as goal
@@ -20,7 +20,11 @@ returns-clause-pages_left g c =
 pub returns-clause-program : goal.returns-clause-program
 returns-clause-program g c =
     let e = c.commit.ensures in
-    rw (← c.self.view_is) (one_program c.commit.result c.self.inside.log c.commit.new.self (g.B.Nand.state c.args.board.now) (g.B.Nand.state c.commit.new.board) e.ok e.err)
+    rw (← c.self.view_is) (some_programs c.commit.result c.self.inside.log c.commit.new.self (g.B.Nand.state c.args.board.now) (g.B.Nand.state c.commit.new.board) e.ok e.err)
+
+pub returns-clause-programs : goal.returns-clause-programs
+returns-clause-programs g c =
+    rw (← c.self.view_is) (all_programs c.commit.result c.self.inside.log c.commit.new.self (g.B.Nand.state c.args.board.now) (g.B.Nand.state c.commit.new.board) c.commit.ensures.ok)
 
 pub returns-clause-idle : goal.returns-clause-idle
 returns-clause-idle g c =

@@ -1,4 +1,5 @@
-use Rattle.pk_parts.proofs.Emptied.{Ongoing, freeze_left_of}
+use Rattle.pk_parts.specs.Emptying.{freeze_left_of}
+use Rattle.pk_parts.proofs.Emptied.{Ongoing}
 use Rattle.pk_parts.proofs.parts.Parts.freeze_log.Given as goal
 
 abbrev pub invariant-freezes : goal.invariant-freezes

@@ -6,14 +6,14 @@ use Rattle.pk_parts.proofs.MergeTicks.{may_empty, tick_frozen, tick_unfrozen}
 use Rattle.pk_parts.proofs.parts.Parts.freeze_step.Goals as goal
 
 pub freeze_once-requires-clause-may : goal.freeze_once-requires-clause-may
-freeze_once-requires-clause-may g c = may_empty c.args.self.now (g.B.Nand.state c.args.board.now) c.requires.may
+freeze_once-requires-clause-may g c = may_empty c.args.self.now (g.B.Nand.state c.args.board.now) c.requires.may c.requires.whole
 
 pub returns-in-Ok : goal.returns-in-Ok
 returns-in-Ok g c =
     let r = c.requires in
     let old = g.B.Nand.state c.args.board.now in
     let new = g.B.Nand.state c.freeze_once.new.board in
-    tick_frozen c.args.self.now old r.may c.freeze_once.new.self new c.freeze_once.ensures.grows c.in-Ok.field-0
+    tick_frozen c.args.self.now old r.may r.whole c.freeze_once.new.self new
     (subst (λ x. FreezesOnce c.args.self.now c.freeze_once.new.self old new x) c.in-Ok.is c.freeze_once.ensures.once) c.in-Ok.ensures.does r.wanted
     (subst (λ (d : Parts). IsShared d.pool.shape d.pool.states) c.self.view_is c.known.ensures)
 
@@ -23,6 +23,6 @@ returns-in-Err g c =
     let old = g.B.Nand.state c.args.board.now in
     let new = g.B.Nand.state c.freeze_once.new.board in
     rw (c.stop.ensures.stopped, c.stop.ensures.value)
-    (tick_unfrozen c.args.self.now old r.may c.freeze_once.new.self new c.freeze_once.ensures.grows c.in-Err.field-0
+    (tick_unfrozen c.args.self.now old r.may r.whole c.freeze_once.new.self new c.in-Err.field-0
     (subst (λ x. FreezesOnce c.args.self.now c.freeze_once.new.self old new x) c.in-Err.is c.freeze_once.ensures.once) c.in-Err.ensures.fails r.wanted
     (subst (λ (d : Parts). IsShared d.pool.shape d.pool.states) c.self.view_is c.known.ensures))

@@ -13,7 +13,11 @@ use Rattle.pk_parts.proofs.Callings.{few_within, few_commit, spends_same, spends
 use Rattle.pk_parts.proofs.Rooming.{still_numbers}
 use Rattle.pk_parts.proofs.Staying.{stays_same, stays_then}
 use Rattle.pk_parts.proofs.Programming.{not_wanted_ok}
+use Rattle.pk_parts.proofs.Halves.{may_commit}
 use Rattle.pk_parts.proofs.parts.Parts.make_room.Goals as goal
+
+pub commit_pending-requires : goal.commit_pending-requires
+commit_pending-requires g c = record { may = may_commit c.args.self.now (g.B.Nand.state c.args.board.now) c.requires.may }
 
 pub returns-then-not-needs_freeze-clause-step : goal.returns-then-not-needs_freeze-clause-step
 returns-then-not-needs_freeze-clause-step g c = none_reads c.args.self.now _ (g.B.Nand.state c.args.board.now) c.requires.may.ready
@@ -100,4 +104,4 @@ returns-in-Err-clause-spends g c =
     let s1 = g.B.Nand.state c.commit_pending.new.board in
     let e = c.commit_pending.ensures in
     let most = room_calls c.args.self.now.log.shape in
-    spends_still most room_roots s0 s1 (few_within 1 most s0 s1 (omega arith) (few_commit c.args.self.now.log.pending s0 s1 e.program e.idle)) e.step.roots_few
+    spends_still most room_roots s0 s1 (few_within commit_calls most s0 s1 (omega arith) (few_commit c.args.self.now.log.pending s0 s1 e.program e.idle)) e.step.roots_few

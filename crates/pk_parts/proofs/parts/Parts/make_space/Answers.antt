@@ -5,7 +5,11 @@ use Rattle.pk_parts.proofs.Steps.{shape_committed, leaves_committed}
 use Rattle.pk_parts.proofs.Callings.{few_within, few_commit, spends_still}
 use Rattle.pk_parts.specs.Costs.{reclaim_calls}
 use Rattle.pk_parts.proofs.Stored.{space_committed, space_made, space_spends, space_not_made, stays_made, most_committed}
+use Rattle.pk_parts.proofs.Halves.{may_commit}
 use Rattle.pk_parts.proofs.parts.Parts.make_space.Goals as goal
+
+pub commit_pending-requires : goal.commit_pending-requires
+commit_pending-requires g c = record { may = may_commit c.args.self.now (g.B.Nand.state c.args.board.now) c.requires.may }
 
 pub reclaim_for-requires-clause-may : goal.reclaim_for-requires-clause-may
 reclaim_for-requires-clause-may g c =
@@ -52,4 +56,4 @@ returns-in-Err-clause-spends g c =
     let s1 = g.B.Nand.state c.commit_pending.new.board in
     let e = c.commit_pending.ensures in
     let most = reclaim_calls a.log.shape in
-    spends_still most room_roots s0 s1 (few_within 1 most s0 s1 (omega arith) (few_commit a.log.pending s0 s1 e.program e.idle)) e.step.roots_few
+    spends_still most room_roots s0 s1 (few_within commit_calls most s0 s1 (omega arith) (few_commit a.log.pending s0 s1 e.program e.idle)) e.step.roots_few

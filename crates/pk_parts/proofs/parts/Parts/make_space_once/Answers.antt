@@ -1,5 +1,5 @@
 use Rattle.std.proofs.Common.{arith}
-use Rattle.pk_parts.proofs.SpaceSteps.{may_reclaim, space_worked, space_ended, space_failed, waits_may, waits_number, space_frozen, waits_is}
+use Rattle.pk_parts.proofs.SpaceSteps.{may_reclaim, space_worked, space_may_end, space_ended, space_failed, waits_may, waits_number, space_frozen, waits_is}
 use Rattle.pk_parts.proofs.parts.Parts.make_space_once.Goals as goal
 
 pub reclaim_once-requires : goal.reclaim_once-requires
@@ -12,6 +12,17 @@ returns-in-Ok-Worked g c =
     let is = c.in-Ok-Worked.ensures in
     space_worked c.args.count c.args.self.now (g.B.Nand.state c.args.board.now) r.may r.some r.awaits c.reclaim_once.new.self (g.B.Nand.state c.reclaim_once.new.board) e.none e.same_roots e.calls e.rest e.ready
     (omega (arith, c.read_count.ensures.value, c.read_count.type_inv)) c.in-Ok-Worked.field-0 c.in-Ok-Worked.field-0-is is.sound is.does
+    c.end_commit.new.self (g.B.Nand.state c.end_commit.new.board) c.end_commit.result c.end_commit.ensures
+
+pub end_commit-requires : goal.end_commit-requires
+end_commit-requires g c =
+    let r = c.requires in
+    let e = c.reclaim_once.ensures in
+    let is = c.in-Ok-Worked.ensures in
+    record {
+      may = space_may_end c.args.count c.args.self.now (g.B.Nand.state c.args.board.now) r.may r.some r.awaits c.reclaim_once.new.self (g.B.Nand.state c.reclaim_once.new.board) e.none e.same_roots e.calls e.rest e.ready
+          (omega (arith, c.read_count.ensures.value, c.read_count.type_inv)) c.in-Ok-Worked.field-0 c.in-Ok-Worked.field-0-is is.sound is.does;
+    }
 
 pub returns-in-Ok-Ended : goal.returns-in-Ok-Ended
 returns-in-Ok-Ended g c =

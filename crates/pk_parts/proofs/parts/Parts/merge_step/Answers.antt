@@ -5,7 +5,7 @@ use Rattle.pk_parts.proofs.MergeTicks.{may_empty, tick_merged, tick_unread, tick
 use Rattle.pk_parts.proofs.parts.Parts.merge_step.Goals as goal
 
 pub merge_once-requires : goal.merge_once-requires
-merge_once-requires g c = may_empty c.args.self.now (g.B.Nand.state c.args.board.now) c.requires.may
+merge_once-requires g c = may_empty c.args.self.now (g.B.Nand.state c.args.board.now) c.requires.may c.requires.whole
 
 pub returns-in-Ok-Worked : goal.returns-in-Ok-Worked
 returns-in-Ok-Worked g c =
@@ -13,7 +13,7 @@ returns-in-Ok-Worked g c =
     let new = g.B.Nand.state c.merge_once.new.board in
     let e = c.merge_once.ensures in
     let was = c.in-Ok-Worked.is ∙ ap Ok c.in-Ok-Worked.field-0-is in
-    tick_merged c.args.self.now old c.requires.may c.merge_once.new.self new e.grows
+    tick_merged c.args.self.now old c.requires.may c.requires.whole c.merge_once.new.self new
     (subst (λ r. MergesOnce c.args.self.now c.merge_once.new.self old new r) was e.once)
     (subst (λ s. DoesMerge c.args.self.now c.merge_once.new.self old new s) c.in-Ok-Worked.field-0-is c.in-Ok-Worked.ensures.does)
 
@@ -23,7 +23,7 @@ returns-in-Err-Reading g c =
     let new = g.B.Nand.state c.merge_once.new.board in
     let e = c.merge_once.ensures in
     let was = c.in-Err-Reading.is ∙ ap Err c.in-Err-Reading.field-0-is in
-    tick_unread c.args.self.now old c.requires.may c.merge_once.new.self new e.grows
+    tick_unread c.args.self.now old c.requires.may c.requires.whole c.merge_once.new.self new
     (subst (λ r. MergesOnce c.args.self.now c.merge_once.new.self old new r) was e.once)
     (subst (λ x. FailsMerge c.args.self.now c.merge_once.new.self old new x) c.in-Err-Reading.field-0-is c.in-Err-Reading.ensures.fails)
 
@@ -34,6 +34,6 @@ returns-in-Err-Stopped g c =
     let e = c.merge_once.ensures in
     let was = c.in-Err-Stopped.is ∙ ap Err c.in-Err-Stopped.field-0-is in
     rw (c.stop.ensures.stopped, c.stop.ensures.value)
-    (tick_stopped c.args.self.now old c.requires.may c.merge_once.new.self new e.grows
+    (tick_stopped c.args.self.now old c.requires.may c.requires.whole c.merge_once.new.self new
     (subst (λ r. MergesOnce c.args.self.now c.merge_once.new.self old new r) was e.once)
     (subst (λ x. FailsMerge c.args.self.now c.merge_once.new.self old new x) c.in-Err-Stopped.field-0-is c.in-Err-Stopped.ensures.fails))

@@ -41,3 +41,8 @@ returns-clause-noted g c =
 
 pub returns-clause-more : goal.returns-clause-more
 returns-clause-more g c = rw (← c.self.view_is) (pushed_more c.self.inside.log c.push.new.self _ c.push.ensures.pushed)
+
+pub push-requires-clause-whole : goal.push-requires-clause-whole
+push-requires-clause-whole g c =
+    let p = rw (← c.self.view_is) at c.requires.puts in
+    p.4.whole.epoch

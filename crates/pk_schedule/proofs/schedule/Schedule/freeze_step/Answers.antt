@@ -1,26 +1,24 @@
-use Rattle.pk_schedule.proofs.Freezing.{can_step, moves, freezes, broken}
-use Rattle.pk_schedule.proofs.Calling.{calls_one}
+use Rattle.std.proofs.Common.{sym, ◌∙◌}
+use Rattle.pk_schedule.proofs.Finishing.{at_half, at_whole}
 use Rattle.pk_schedule.proofs.schedule.Schedule.freeze_step.Goals as goal
 
-pub freeze_step-requires-clause-can : goal.freeze_step-requires-clause-can
-freeze_step-requires-clause-can g c =
-    let s = rw (← c.self.view_is) at c.requires.may in
-    (s.1, s.2, s.3, can_step _ s.0 (g.B.Nand.state c.args.board.now) s.1 s.2 s.3 s.4.may s.4.none_merges)
+pub finish-requires-clause-may : goal.finish-requires-clause-may
+finish-requires-clause-may g c =
+    let s = c.requires.may in
+    (c.args.levels.now, c.args.arena.now, s.0, s.1, s.2, s.3, at_half _ s.0 (g.B.Nand.state c.args.board.now).pages s.1 s.2 s.3 s.4 (sym c.repeats_next.ensures ∙ c.if-repeats_next.true))
 
-pub returns-clause-moves : goal.returns-clause-moves
-returns-clause-moves g c =
-    let none = rw (← c.self.view_is) at c.requires.may.4.none_merges in
-    rw (← c.self.view_is) (moves _ none c.known.ensures (g.B.Nand.state c.args.board.now) c.freeze_step.new.self c.freeze_step.new.pool c.freeze_step.new.job (g.B.Nand.state c.freeze_step.new.board) c.freeze_step.result c.freeze_step.ensures.step.step)
+pub freeze_once-requires-clause-may : goal.freeze_once-requires-clause-may
+freeze_once-requires-clause-may g c =
+    let s = c.requires.may in
+    (s.0, s.1, s.2, s.3, at_whole _ s.0 (g.B.Nand.state c.args.board.now).pages s.1 s.2 s.3 s.4 (sym c.repeats_next.ensures ∙ c.if-repeats_next.false))
 
-pub returns-clause-freezes : goal.returns-clause-freezes
-returns-clause-freezes g c =
-    let may = rw (← c.self.view_is) at c.requires.may in
-    rw (← c.self.view_is) (freezes _ may.4.none_merges c.known.ensures (g.B.Nand.state c.args.board.now) c.freeze_step.new.self c.freeze_step.new.pool c.freeze_step.new.job (g.B.Nand.state c.freeze_step.new.board) c.freeze_step.result c.freeze_step.ensures.step.step may)
+pub returns-in-Ok-clause-settles : goal.returns-in-Ok-clause-settles
+returns-in-Ok-clause-settles g c = λ done. c.in-Ok.ensures.settles c.args.levels.now c.args.arena.now
 
-pub returns-clause-broken : goal.returns-clause-broken
-returns-clause-broken g c =
-    let none = rw (← c.self.view_is) at c.requires.may.4.none_merges in
-    rw (← c.self.view_is) (broken _ none c.known.ensures (g.B.Nand.state c.args.board.now) c.freeze_step.new.self c.freeze_step.new.pool c.freeze_step.new.job (g.B.Nand.state c.freeze_step.new.board) c.freeze_step.result c.freeze_step.ensures.step.step)
+pub returns-in-Err-clause-broken : goal.returns-in-Err-clause-broken
+returns-in-Err-clause-broken g c = λ frames top found m may.
+    c.in-Err.ensures.broken c.args.levels.now c.args.arena.now frames top found m (at_half _ frames (g.B.Nand.state c.args.board.now).pages top found m may (sym c.repeats_next.ensures ∙ c.if-repeats_next.true))
 
-pub returns-clause-calls : goal.returns-clause-calls
-returns-clause-calls g c = calls_one _ _ _ _ _ _ c.freeze_step.ensures.step
+pub returns-in-Err-freeze_once-clause-broken : goal.returns-in-Err-freeze_once-clause-broken
+returns-in-Err-freeze_once-clause-broken g c = λ frames top found m may.
+    c.in-Err-freeze_once.ensures.broken.0 frames top found m (at_whole _ frames (g.B.Nand.state c.args.board.now).pages top found m may (sym c.repeats_next.ensures ∙ c.if-repeats_next.false)).may

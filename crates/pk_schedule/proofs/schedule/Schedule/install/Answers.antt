@@ -1,8 +1,10 @@
 use Rattle.std.proofs.Common.{◌≡◌, sym, ap, ◌∙◌, arith}
+use Rattle.pk_plan.specs.declared.owner.Owner.TheVariants.{Values}
 use Rattle.pk_rootfmt.specs.Held.{Held, older_of}
 use Rattle.pk_schedule.specs.declared.phase.Phase.TheVariants.{Ready}
 use Rattle.pk_schedule.specs.Index.{Index, Schedule, index, output}
 use Rattle.pk_schedule.proofs.Installed.{ready_at, ask_prepare, ask_merge, ask_first, ask_level, ask_deep, steps_on, made_prepared, made_first, made_deep, merge_breaks, merges_told}
+use Rattle.pk_compact.proofs.NextRoot.{programs_then}
 use Rattle.pk_schedule.proofs.schedule.Schedule.install.Goals as goal
 
 pub prepare_root-requires-clause-may : goal.prepare_root-requires-clause-may
@@ -18,6 +20,9 @@ returns-then-erases_next-clause-step g c =
       calls = c.prepare_root.ensures.step.calls;
       grows = c.prepare_root.ensures.step.grows;
     }
+
+pub install_merge-requires-clause-programs : goal.install_merge-requires-clause-programs
+install_merge-requires-clause-programs g c = programs_then c.args.log.now.next c.requires.may.4.settles.whole (sym c.erases_next.ensures ∙ c.if-erases_next.false)
 
 pub install_merge-requires-clause-may : goal.install_merge-requires-clause-may
 install_merge-requires-clause-may g c =
@@ -62,7 +67,7 @@ returns-then-level-eq1-clause-step g c =
     let out_is : c.output-output.result.now ≡ output c.args.self.now = c.output-output.ensures ∙ ap (λ (s : Schedule). output s) c.self.view_is in
     let older_told : c.older-older.result ≡ older_of c.args.log.now.root.older = c.older-older.ensures ∙ ap (λ (h : Held). older_of h.root.older) c.root.ensures in
     let merges = merges_told x c.merging-level.result is c.known.ensures c.known-2.ensures.levels old c.output-output.result.now c.entries-count.result c.blocks-2.result.now out_is c.entries-count.ensures c.blocks-2.ensures c.install_merge.new.self new c.in-Ok.ensures.step.step.ended in
-    let made = made_first x c.merging-level.result is c.known.ensures c.known-2.ensures.levels old new c.install_merge.new.self (sym c.erases_next.ensures ∙ c.if-erases_next.false) merges c.end_first.new.levels c.end_first.new.arena c.end_first.new.pool c.end_first.new.self c.end_first.ensures.rest c.if-level-eq1.true c.older-older.result older_told c.end_first.ensures.ends in
+    let made = made_first x c.merging-level.result is c.known.ensures c.known-2.ensures.levels old new c.install_merge.new.self (programs_then c.args.log.now.next c.requires.may.4.settles.whole (sym c.erases_next.ensures ∙ c.if-erases_next.false)) merges c.end_first.new.levels c.end_first.new.arena c.end_first.new.pool c.end_first.new.self c.end_first.ensures.rest c.if-level-eq1.true c.older-older.result older_told c.end_first.ensures.ends (c.end_first.ensures.counted Values) in
     record {
       step = record {
         ended = steps_on x c.merging-level.result is c.known.ensures c.known-2.ensures.levels old _ new made;
@@ -86,7 +91,7 @@ returns-else-level-eq1-clause-step g c =
     let out_is : c.output-output.result.now ≡ output c.args.self.now = c.output-output.ensures ∙ ap (λ (s : Schedule). output s) c.self.view_is in
     let merges = merges_told x c.merging-level.result is c.known.ensures c.known-2.ensures.levels old c.output-output.result.now c.entries-count.result c.blocks-2.result.now out_is c.entries-count.ensures c.blocks-2.ensures c.install_merge.new.self new c.in-Ok.ensures.step.step.ended in
     let low = (ask_level x c.merging-level.result is c.known.ensures c.known-2.ensures.levels old c.requires.may).0 in
-    let made = made_deep x c.merging-level.result is c.known.ensures c.known-2.ensures.levels old new c.install_merge.new.self (sym c.erases_next.ensures ∙ c.if-erases_next.false) merges c.end_deep.new.levels c.end_deep.new.arena c.end_deep.new.pool c.end_deep.new.self c.end_deep.ensures.rest (omega (arith, low, c.if-level-eq1.false)) c.end_deep.ensures.ends in
+    let made = made_deep x c.merging-level.result is c.known.ensures c.known-2.ensures.levels old new c.install_merge.new.self (programs_then c.args.log.now.next c.requires.may.4.settles.whole (sym c.erases_next.ensures ∙ c.if-erases_next.false)) merges c.end_deep.new.levels c.end_deep.new.arena c.end_deep.new.pool c.end_deep.new.self c.end_deep.ensures.rest (omega (arith, low, c.if-level-eq1.false)) c.end_deep.ensures.ends (c.end_deep.ensures.counted Values) in
     record {
       step = record {
         ended = steps_on x c.merging-level.result is c.known.ensures c.known-2.ensures.levels old _ new made;
@@ -119,5 +124,5 @@ returns-in-Err-clause-step g c =
         ready = c.in-Err.ensures.step.step.ready;
       };
       calls = c.in-Err.ensures.step.calls;
-      grows = c.in-Err.ensures.step.grows;
+      grows = tt;
     }

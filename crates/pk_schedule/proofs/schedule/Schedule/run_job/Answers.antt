@@ -1,4 +1,4 @@
-use Rattle.pk_schedule.proofs.Stepping.{level_within, few_roots, ran, goes_by, completes_by, less_goes_by, less_ends_by, unmoved_by, stands_by, broken_by, ok_end, grows_by, ready_by, failed_end, fault_is, other_answer}
+use Rattle.pk_schedule.proofs.Stepping.{level_within, few_roots, ran, goes_by, completes_by, less_goes_by, less_ends_by, unmoved_by, stands_by, broken_by, ok_end, ready_by, failed_end, fault_is, other_answer}
 use Rattle.pk_schedule.proofs.schedule.Schedule.run_job.Goals as goal
 
 pub source_of-source-requires : goal.source_of-source-requires
@@ -40,7 +40,6 @@ returns-in-Ok-true-clause-calls g c =
     record {
       calls = c.in-Ok-true.ensures.calls;
       rest = c.in-Ok-true.ensures.only_flash;
-      grows = grows_by _ s.0 (g.B.Nand.state c.args.board.now) s.1 s.2 s.3 s.4 c.known.ensures c.requires.ready c.args.level phase (g.B.Nand.state c.step.new.board) end;
       installs = few_roots _ s.0 (g.B.Nand.state c.args.board.now) s.1 s.2 s.3 s.4 c.known.ensures c.requires.ready c.args.level phase (g.B.Nand.state c.step.new.board) ready end;
       ready = ready;
     }
@@ -54,7 +53,6 @@ returns-in-Ok-false-clause-calls g c =
     record {
       calls = c.in-Ok-false.ensures.calls;
       rest = c.in-Ok-false.ensures.only_flash;
-      grows = grows_by _ s.0 (g.B.Nand.state c.args.board.now) s.1 s.2 s.3 s.4 c.known.ensures c.requires.ready c.args.level phase (g.B.Nand.state c.step.new.board) end;
       installs = few_roots _ s.0 (g.B.Nand.state c.args.board.now) s.1 s.2 s.3 s.4 c.known.ensures c.requires.ready c.args.level phase (g.B.Nand.state c.step.new.board) ready end;
       ready = ready;
     }
@@ -88,7 +86,6 @@ returns-in-Err-clause-calls g c =
     record {
       calls = c.in-Err.ensures.calls;
       rest = c.in-Err.ensures.only_flash;
-      grows = grows_by _ s.0 (g.B.Nand.state c.args.board.now) s.1 s.2 s.3 s.4 c.known.ensures c.requires.ready c.args.level phase (g.B.Nand.state c.step.new.board) end;
       installs = few_roots _ s.0 (g.B.Nand.state c.args.board.now) s.1 s.2 s.3 s.4 c.known.ensures c.requires.ready c.args.level phase (g.B.Nand.state c.step.new.board) ready end;
       ready = ready;
     }

@@ -1,0 +1,24 @@
+use Rattle.std.proofs.Common.{subst}
+use Rattle.pk_pool.specs.Blocks.{IsShared}
+use Rattle.pk_parts.specs.Parts.{Parts}
+use Rattle.pk_parts.specs.Pairing.{FinishesOr}
+use Rattle.pk_parts.proofs.HalfTicks.{may_finish, half_advances, half_stops}
+use Rattle.pk_parts.proofs.parts.Parts.finish_step.Goals as goal
+
+pub finish_half-requires : goal.finish_half-requires
+finish_half-requires g c = record { may = may_finish c.args.self.now (g.B.Nand.state c.args.board.now) c.requires.may c.requires.half }
+
+pub returns-in-Ok : goal.returns-in-Ok
+returns-in-Ok g c =
+    let old = g.B.Nand.state c.args.board.now in
+    let new = g.B.Nand.state c.finish_half.new.board in
+    half_advances c.args.self.now old c.requires.may c.requires.half c.finish_half.new.self new (subst (λ (d : Parts). IsShared d.pool.shape d.pool.states) c.self.view_is c.known.ensures)
+    (subst (λ r. FinishesOr c.args.self.now c.finish_half.new.self old new r) c.in-Ok.is c.finish_half.ensures)
+
+pub returns-in-Err : goal.returns-in-Err
+returns-in-Err g c =
+    let old = g.B.Nand.state c.args.board.now in
+    let new = g.B.Nand.state c.finish_half.new.board in
+    let failed = subst (λ r. FinishesOr c.args.self.now c.finish_half.new.self old new r) c.in-Err.is c.finish_half.ensures in
+    rw (c.stop.ensures.stopped, c.stop.ensures.value)
+    (half_stops c.args.self.now old c.requires.may c.requires.half c.finish_half.new.self new (subst (λ (d : Parts). IsShared d.pool.shape d.pool.states) c.self.view_is c.known.ensures) failed.1 failed.2)

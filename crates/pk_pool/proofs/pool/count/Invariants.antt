@@ -1,7 +1,0 @@
-use Rattle.std.proofs.Common.{◌≡◌, take}
-use Rattle.std.specs.Prelude.{count_by}
-use Rattle.pk_pool.specs.Blocks.{is_in}
-use Rattle.pk_pool.proofs.pool.count.Given as goal
-
-abbrev pub invariant-loop-state : goal.invariant-loop-state
-invariant-loop-state l = l.count ≡ count_by (is_in l.wanted) (take l.state-index l.states)

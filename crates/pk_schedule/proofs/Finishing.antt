@@ -1,0 +1,172 @@
+-- The second program of a root, over an index.
+use Rattle.std.proofs.Common.{◌≡◌, ◌⊎◌, inl, inr, ℕ, ◌+◌, ◌/◌, true, false, length, map, Some, None, refl, sym, ap, subst, ◌∙◌, arith, Result, Ok, Err}
+use Rattle.std.specs.Prelude.{slice_get, OnOk, OnErr}
+use Rattle.std.specs.List.{AllByRecursion}
+use Rattle.pk_base.specs.Shape.{Shape}
+use Rattle.pk_base.specs.Page.{Flash, page_at, SameBehind}
+use Rattle.pk_base.specs.Map.{Map}
+use Rattle.pk_base.proofs.ShapeLemmas.{block_pages_positive}
+use Rattle.pk_work.specs.Steps.{EndsPair}
+use Rattle.pk_work.proofs.Lowering.{pair_ends}
+use Rattle.pk_plan.specs.declared.owner.Owner.{Owner}
+use Rattle.pk_plan.specs.declared.owner.Owner.TheVariants.{Meta, Values}
+use Rattle.pk_nand.specs.BoardState.{BoardState}
+use Rattle.pk_nand.specs.declared.types.Fault.{Fault}
+use Rattle.pk_pin.specs.Frames.{Frames}
+use Rattle.pk_rootfmt.specs.Root.{Root}
+use Rattle.pk_root.specs.declared.next.Next.{Next}
+use Rattle.pk_root.specs.Installing.{repeats_next}
+use Rattle.pk_pool.specs.declared.state.BlockState.TheVariants.{Owned}
+use Rattle.pk_pool.specs.Blocks.{Blocks, IsShared, PoolOnFlash, freed}
+use Rattle.pk_pool.specs.Unready.{unready}
+use Rattle.pk_pool.proofs.Leaving.{freed_unready, shared_freed, none_leaves}
+use Rattle.pk_pool.proofs.Sharing.{behind_roots}
+use Rattle.pk_pool.proofs.States.{owned_is_not_root}
+use Rattle.pk_level.specs.Levels.{Levels, RunsOnFlash}
+use Rattle.pk_model.specs.Found.{Found}
+use Rattle.pk_compact.specs.FreezeSteps.{IsTaken}
+use Rattle.pk_compact.specs.Steps.{StepByCall}
+use Rattle.pk_log.specs.State.{LogState}
+use Rattle.pk_log.specs.Finishing.{MayFinish, LogFinished, LogFinishes, LogFinishBreaks}
+use Rattle.pk_schedule.specs.declared.phase.Phase.{Phase}
+use Rattle.pk_schedule.specs.declared.phase.Phase.TheVariants.{Idle}
+use Rattle.pk_schedule.specs.Index.{Index, Schedule, IndexOnFlash, MergeStands, settled, index}
+use Rattle.pk_schedule.specs.Steps.{MayFreeze, MaySettle, IndexSettles, Settles, SettleBreaks, LessIsLeft, backlog_of, merge_left}
+use Rattle.pk_schedule.proofs.Keeping.{RunsOnFlash-same}
+use Rattle.pk_schedule.proofs.Preparing.{pool_behind, no_freeze}
+use Rattle.pk_schedule.proofs.Standing.{beyond}
+
+module _ (x : Index) (frames : ℕ) (old : BoardState) (top : ℕ × Root) (found : Found) (m : Map) (may : MaySettle x frames old.pages top found m) where
+  abbrev shape : Shape
+  shape = x.log.shape
+
+  abbrev free : Blocks
+  free = freed x.pool
+
+  pub may_finish : MayFinish x.log old.pages top found m
+  may_finish = record { logs = may.stands.logs; under = may.under; half = may.half.half }
+
+  -- nothing behind the root blocks differs
+  module _ (shared : IsShared x.pool.shape x.pool.states) (new : BoardState) (next' : Next) (f : LogFinished x.log old top found m (record x.log { next = next' }) new) where
+    abbrev then_index : Index
+    then_index = record (settled x) { log = record x.log { next = next' } }
+
+    same_page : (o : Owner) (k : ℕ) → slice_get free.states (k / shape.block_pages) ≡ Some (Owned o) → page_at new.pages k ≡ page_at old.pages k
+    same_page o k owned = f.behind k (beyond shape.block_pages k (block_pages_positive shape may.stands.logs.is_shape)
+        (behind_roots x.pool.shape free.states (k / shape.block_pages) (Owned o) (owned_is_not_root {o = o}) owned (shared_freed x.pool.shape x.pool.states shared)))
+
+    pool_still : PoolOnFlash free new.pages
+    pool_still = pool_behind free old.pages new.pages (shared_freed x.pool.shape x.pool.states shared) (subst (λ (s : Shape). SameBehind s old.pages new.pages) (sym may.stands.pool_shape) f.behind) may.stands.pool_fits
+
+    runs_stand : RunsOnFlash new.pages x.arena x.levels.runs found.runs
+    runs_stand = RunsOnFlash-same shape old.pages new.pages x.arena x.levels.runs top.1.runs found.runs (block_pages_positive shape may.stands.logs.is_shape) may.stands.run_blocks
+        (λ k is. same_page Meta k (may.stands.runs (k / shape.block_pages) is)) may.stands.stand
+
+    idle_then : MergeStands x.schedule.phase then_index new.pages top.1 found
+    idle_then = subst (λ (p : Phase). MergeStands p then_index new.pages top.1 found) (sym may.half.no_merge) (subst (λ (p : Phase). MergeStands p (settled x) old.pages top.1 found) may.half.no_merge may.stands.merge)
+
+    stands_then : IndexOnFlash then_index frames new.pages top found
+    stands_then = record {
+      logs = f.logs;
+      pool_shape = may.stands.pool_shape;
+      pool_fits = pool_still;
+      levels_shape = may.stands.levels_shape;
+      levels_pinned = may.stands.levels_pinned;
+      stand = runs_stand;
+      run_blocks = may.stands.run_blocks;
+      arena_is = may.stands.arena_is;
+      journal = may.stands.journal;
+      journal_few = may.stands.journal_few;
+      runs = may.stands.runs;
+      runs_few = may.stands.runs_few;
+      pins_are = may.stands.pins_are;
+      merge = idle_then;
+      freeze = record {
+        taken = subst (AllByRecursion (IsTaken shape free new.pages top.1)) (sym may.half.no_freeze) tt;
+        different = may.stands.freeze.different;
+        none_frozen = may.stands.freeze.none_frozen;
+      };
+    }
+
+    ended : backlog_of then_index ≡ record (backlog_of x) { half = false; unready = unready free.states }
+    ended = λ i. record {
+      frozen = length x.log.frozen.entries;
+      runs = map (λ r. r.count) x.levels.runs;
+      merge = (no_merge x.schedule.phase then_index x may.half.no_merge) i;
+      freeze = (no_freeze x.schedule.freeze next' may.half.no_freeze ∙ sym (no_freeze x.schedule.freeze x.log.next may.half.no_freeze)) i;
+      reclaim = None;
+      is_due = false;
+      may_freeze = false;
+      half = f.whole i;
+      unready = unready free.states;
+    }
+      where
+        no_merge : (p : Phase) (y z : Index) → p ≡ Idle → merge_left p y ≡ merge_left p z
+        no_merge p y z idle = ap (λ (q : Phase). merge_left q y) idle ∙ sym (ap (λ (q : Phase). merge_left q z) idle)
+
+    less : LessIsLeft x then_index
+    less =
+        let step : EndsPair (backlog_of x) (backlog_of then_index) = record {
+          was_half = ap repeats_next may.half.half.again;
+          ended = ended;
+          none_more = (let same = freed_unready x.pool in omega (arith, same));
+        } in
+        let l = pair_ends shape (backlog_of x) (backlog_of then_index) step in
+        record { work = l.0; merging = l.1; roots = ap (λ (n : ℕ). x.log.root.number + n) l.2 }
+
+    pub index_settles : IndexSettles x frames old top found m then_index new
+    index_settles = record {
+      stands = stands_then;
+      settles = record { whole = f.whole; none_leaves = none_leaves x.pool };
+      log = refl;
+      rest = refl;
+      under = f.under;
+      values = record { size = refl; owned = λ b is. is; no_more = λ b is. is; as_many = refl; pages = λ k owned. same_page Values k owned };
+      less = less;
+      number = f.number;
+      grows = inl (f.under.is_top ∙ sym may.under.is_top);
+      cuts = f.cuts;
+    }
+
+-- ---- by what the log's call did
+
+module _ (x : Index) (shared : IsShared x.pool.shape x.pool.states) (old new : BoardState) (log' : LogState) (same : log' ≡ record x.log { next = log'.next }) where
+  pub settles : (pool' : Blocks) → pool' ≡ freed x.pool → LogFinishes x.log old log' new → Settles x old (record x { log = log'; pool = pool' }) new
+  settles pool' pool_is finishes frames top found m may =
+      let Q : LogState → Type 0 = λ l. LogFinished x.log old top found m l new in
+      let P : LogState → Blocks → Type 0 = λ l p. IndexSettles x frames old top found m (record x { log = l; pool = p }) new in
+      let f : LogFinished x.log old top found m (record x.log { next = log'.next }) new = subst Q same (finishes top found m (may_finish x frames old top found m may)) in
+      subst (λ (p : Blocks). P log' p) (sym pool_is) (subst (λ (l : LogState). P l (freed x.pool)) (sym same) (index_settles x frames old top found m may shared new log'.next f))
+
+  pub settle_breaks : LogFinishBreaks x.log old new → SettleBreaks x old new
+  settle_breaks breaks frames top found m may = breaks top found m (may_finish x frames old top found m may)
+
+module _ (log log' : LogState) (pool pool' : Blocks) (s : Schedule) (shared : IsShared pool.shape pool.states) (old new : BoardState) (same : log' ≡ record log { next = log'.next }) where
+  abbrev Call : Result Unit Fault → Type 0
+  Call r = StepByCall (λ u. LogFinishes log old log' new) (LogFinishBreaks log old new) log.shape 1 old new r
+
+  pub settles_all : (r : Result Unit Fault) → Call r → OnOk r (pool' ≡ freed pool) → OnOk r ((levels : Levels) (arena : Frames) → Settles (index log levels arena pool s) old (index log' levels arena pool' s) new)
+  settles_all (Ok u) call pool_is = λ levels arena. settles (index log levels arena pool s) shared old new log' same pool' pool_is call.step.ended
+  settles_all (Err fault) call pool_is = tt
+
+  pub breaks_all : (r : Result Unit Fault) → Call r → OnErr r ((levels : Levels) (arena : Frames) → SettleBreaks (index log levels arena pool s) old new)
+  breaks_all (Ok u) call = tt
+  breaks_all (Err fault) call = λ levels arena. settle_breaks (index log levels arena pool s) shared old new log' same call.step.broken
+
+-- ---- a step of a freeze: of an index that is whole, or of one that is half made
+
+module _ (x : Index) (frames : ℕ) (flash : Flash) (top : ℕ × Root) (found : Found) (m : Map) (may : MayFreeze x frames flash top found m ⊎ MaySettle x frames flash top found m) where
+  is_half : MaySettle x frames flash top found m → repeats_next x.log.next ≡ true
+  is_half half = ap repeats_next half.half.half.again
+
+  pub at_half : repeats_next x.log.next ≡ true → MaySettle x frames flash top found m
+  at_half repeats = elim may [
+    | inl whole ↦ absurd (let clash : true ≡ false = sym repeats ∙ whole.may.settles.whole in let z : ⊥ = cc in z)
+    | inr half ↦ half
+  ]
+
+  pub at_whole : repeats_next x.log.next ≡ false → MayFreeze x frames flash top found m
+  at_whole whole = elim may [
+    | inl here ↦ here
+    | inr half ↦ absurd (let clash : false ≡ true = sym whole ∙ is_half half in let z : ⊥ = cc in z)
+  ]

@@ -1,0 +1,49 @@
+-- An index that is whole stands as it is, and what a step of one leaves.
+use Rattle.std.proofs.Common.{◌≡◌, ℕ, ◌-◌, ◌*◌, ◌/◌, sym, ap, subst, ◌∙◌, arith, ◌||◌, ◌==◌, List, [], length, nat_le, Result, Ok}
+use Rattle.pk_base.specs.Shape.{Shape}
+use Rattle.pk_base.specs.Page.{Page, Flash, page_in, commits_of}
+use Rattle.pk_base.specs.Refusal.{Refusal, ensure}
+use Rattle.pk_rootfmt.specs.Root.{Root}
+use Rattle.pk_jrnfmt.specs.Epoch.{journal, epoch}
+use Rattle.pk_pool.specs.declared.state.BlockState.{BlockState}
+use Rattle.pk_pool.specs.Blocks.{Blocks, NoneLeaves, with_state, freed, freed_state}
+use Rattle.pk_pool.proofs.Leaving.{freed_same, freed_set, none_leaves}
+use Rattle.pk_model.specs.Found.{Found, older_epoch, newest_epoch, runs_from, found_under}
+use Rattle.pk_model.proofs.StrangePages.{bind_ok}
+use Rattle.pk_schedule.specs.Index.{Index, IndexOnFlash, IsSettled, settled}
+use Rattle.pk_schedule.specs.Steps.{KeepsValues}
+
+-- no block leaves, also where one has another owner or is erased
+pub none_leaves_set : (p : Blocks) (b : ℕ) (s : BlockState) → freed_state s ≡ s → NoneLeaves p → NoneLeaves (with_state p b s)
+none_leaves_set p b s same none =
+    subst NoneLeaves (freed_set p b s ∙ (λ i. with_state (freed_same p none i) b (same i))) (none_leaves (with_state p b s))
+
+pub settled_same : (x : Index) → IsSettled x → settled x ≡ x
+settled_same x is = λ i. record x { pool = freed_same x.pool is.none_leaves i }
+
+pub stands_settled : (x : Index) (frames : ℕ) (flash : Flash) (top : ℕ × Root) (found : Found) → IsSettled x → IndexOnFlash x frames flash top found → IndexOnFlash (settled x) frames flash top found
+stands_settled x frames flash top found is stands = subst (λ (y : Index). IndexOnFlash y frames flash top found) (sym (settled_same x is)) stands
+
+pub values_settled : (x : Index) (shape : Shape) (pool : Blocks) (old new : Flash) → IsSettled x → KeepsValues shape pool old x.pool new → KeepsValues shape pool old (freed x.pool) new
+values_settled x shape pool old new is keeps = subst (λ (p : Blocks). KeepsValues shape pool old p new) (sym (freed_same x.pool is.none_leaves)) keeps
+
+-- ---- an older epoch that is not named has no entries
+
+no_commits : (shape : Shape) (at : ℕ → Page) (number : ℕ) → epoch shape at number [] ≡ Ok []
+unfolding epoch
+no_commits shape at number = let none : 0 * (shape.block_pages / 2) ≡ 0 = omega arith in ap (λ (n : ℕ). journal shape number 0 [] (commits_of shape at [] 0 n)) none
+
+ok_same : {A : Type 0} (x y : A) → ◌≡◌ {A = Result A Refusal} (Ok x) (Ok y) → x ≡ y
+ok_same x y e = cc
+
+pub none_there : (shape : Shape) (at : ℕ → Page) (root : Root) (found : Found) → found_under shape at root ≡ Ok found → root.older ≡ [] → found.older ≡ []
+unfolding found_under
+none_there shape at root found is none =
+    let first = bind_ok (older_epoch shape at root) _ found is in
+    let second = bind_ok (newest_epoch shape at root) _ found first.2 in
+    let third = bind_ok (runs_from shape at 1 root.counts root.runs) _ found second.2 in
+    let es = bind_ok (epoch shape at (root.epoch - 1) root.older) _ first.0 first.1 in
+    let tested = bind_ok (ensure (length root.older == 0 || nat_le 1 (length es.0)) (page_in shape root.older 0)) _ first.0 es.2 in
+    let older_is : first.0 ≡ found.older = ap (λ (f : Found). f.older) (ok_same (record { newest = second.0; older = first.0; runs = third.0 }) found third.2) in
+    let empty : es.0 ≡ [] = ok_same es.0 [] (sym es.1 ∙ ap (λ (bs : List ℕ). epoch shape at (root.epoch - 1) bs) none ∙ no_commits shape at (root.epoch - 1)) in
+    sym older_is ∙ sym (ok_same es.0 first.0 tested.2) ∙ empty
