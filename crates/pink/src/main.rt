@@ -1,4 +1,4 @@
-//! The program: serves a key-value drive that stands in an image file, over standard input and output.
+//! The program: serves a key-value drive in an image file, over standard input and output.
 #![tactic(auto)]
 
 use pk_file::FileBoard;
@@ -11,7 +11,7 @@ use std::process::ExitCode;
 /// The word before the paths of a pair of images; no image is named so.
 const PAIR: &str = "mirror";
 
-/// The words behind the program's name; the status where they cannot be had.
+/// The words after the program's name; the status if they cannot be had.
 fn words_of(rt: &HostRuntime) -> Result<Vec<String>, Status> {
     let mut words = Vec::new(rt.alloc());
     let args = match env::args(rt) {
@@ -49,7 +49,8 @@ fn board_over<'a>(rt: &'a HostRuntime, image: &'a str) -> FileBoard<'a> {
 fn run_on(rt: &HostRuntime, image: &str, words: &[&str]) -> Status {
     let mut board = board_over(rt, image);
     let status = run(rt.alloc(), words, &mut board);
-    // What was posted last may still be held. Where it does not go out, that came before whatever ended the run.
+    // What was posted last may still be buffered. If writing it fails, that came before whatever
+    // ended the run.
     match board.finish() {
         Ok(()) => status,
         Err(_) => Status::OUTPUT,

@@ -1,4 +1,4 @@
-//! The program: tells what stands in an image file of a drive.
+//! The program: prints what is in the image file of a drive.
 #![tactic(auto)]
 
 use pk_dump::{DumpError, Form, dump};
@@ -9,7 +9,7 @@ use std::process::ExitCode;
 
 // The exit statuses, as `pink` has them.
 
-/// All was told.
+/// Everything was printed.
 const DONE: u8 = 0;
 /// The words are outside the table.
 const WORDS: u8 = 2;
@@ -22,7 +22,7 @@ const MEMORY: u8 = 7;
 /// No drive is found.
 const NO_DRIVE: u8 = 8;
 
-/// Why nothing is told.
+/// Why nothing is printed.
 #[derive(Clone, Copy, Debug, PartialEq, Eq)]
 enum Refused {
     /// The words are none that it knows.
@@ -35,7 +35,7 @@ enum Refused {
     Fault,
     /// There is not enough memory.
     Memory,
-    /// The text could not be given out.
+    /// The text could not be posted.
     Output,
 }
 
@@ -53,7 +53,7 @@ impl Refused {
     }
 }
 
-/// Tells of the image of this path.
+/// Prints the image of this path.
 fn tell(rt: &HostRuntime, image: &str, form: Form) -> Result<(), Refused> {
     let mut board = FileBoard::new(rt, image);
     let shape = match board.load(rt.alloc()) {
@@ -82,7 +82,7 @@ fn asked(words: &[String]) -> Option<(&str, Form)> {
     }
 }
 
-/// Reads the words, and tells of the image that they name.
+/// Reads the words, and prints the image that they name.
 fn run(rt: &HostRuntime) -> Result<(), Refused> {
     let mut words = Vec::new(rt.alloc());
     let Ok(args) = env::args(rt) else {

@@ -81,7 +81,7 @@ both_digits a b i j None y = refl
 pair_any : (a b i j : ℕ) → result_ok (pair_value a b i) ≡ result_ok (pair_value a b j)
 pair_any a b i j = both_digits a b i (i + 1) (hex_digit_value a) (hex_digit_value b) ∙ sym (both_digits a b j (j + 1) (hex_digit_value a) (hex_digit_value b))
 
--- the byte in front of the bytes behind it
+-- the byte before the bytes that follow it
 abbrev pushed : Option ℕ → Option (List ℕ) → Option (List ℕ)
 pushed (Some byte) (Some bytes) = Some (byte ∷ bytes)
 pushed (Some byte) None = None
@@ -92,7 +92,7 @@ pushed_bytes (Ok byte) (Ok bytes) = refl
 pushed_bytes (Ok byte) (Err e) = refl
 pushed_bytes (Err e) s = refl
 
--- the bytes of pairs of digits, if they are such; the place is told in errors alone
+-- the bytes of pairs of digits, if they are such; the place is used in errors alone
 abbrev bytes_from : ℕ → List ℕ → Option (List ℕ)
 bytes_from i xs = result_ok (decode_pairs i xs)
 
@@ -122,7 +122,7 @@ pushed_some : (o : Option ℕ) (byte : ℕ) (rest : Option (List ℕ)) → o ≡
 pushed_some o byte (Some bytes) e = ap (λ (p : Option ℕ). pushed p (Some bytes)) e
 pushed_some o byte None e = ap (λ (p : Option ℕ). pushed p None) e
 
--- so many first pairs of a word are these bytes
+-- the first n pairs of a word are these bytes
 pub record IsDecodedTo (word : List ℕ) (i : ℕ) (items : List ℕ) : Type 0 where
   pub rest : bytes_from 0 word ≡ option_map (λ rest. items ++ rest) (bytes_from 0 (drop (2 * i) word))
 
@@ -137,7 +137,7 @@ option_map-twice xs ys None = refl
 pub decoded_none : (word : List ℕ) → IsDecodedTo word 0 []
 decoded_none word = record { rest = option_map-nothing (bytes_from 0 word) }
 
--- the pair at a place, and what stands behind it
+-- the pair at a place, and what follows it
 pair_at : (word : List ℕ) (i : ℕ) → 2 * i + 2 ≤ length word → drop (2 * i) word ≡ get_or word (2 * i) 0 ∷ get_or word (2 * i + 1) 0 ∷ drop (2 * (i + 1)) word
 pair_at word i room =
     let end : 2 * i + 1 + 1 ≡ 2 * (i + 1) = omega arith in
@@ -173,7 +173,7 @@ decoded_all word i items all h =
 even_bytes : (word : List ℕ) → length word % 2 ≡ 0 → result_ok (decode_of word) ≡ bytes_from 0 word
 even_bytes word even = ap (λ (r : Result (List ℕ) FromHexError). result_ok r) (decode_of-even word even)
 
--- a list of bytes into which so many pairs of a word were read
+-- a list of bytes into which n pairs of a word were read
 pub record IsDecoding (word : List ℕ) (i room : ℕ) (value : RoomyList) : Type 0 where
   pub count : length value.items ≡ i
   pub room_stays : value.room ≡ room

@@ -14,7 +14,7 @@ use Rattle.pk_asm.specs.PrintedWord.{word_text, tail_text}
 use Rattle.pk_asm.specs.declared.writer.Word.{Word}
 use Rattle.pk_asm.specs.declared.writer.Word.TheVariants.{Text, Hex}
 
--- a list of bytes behind which a text was written
+-- a list of bytes after which a text was written
 pub record Wrote (old : RoomyList) (text : List ℕ) (new : RoomyList) : Type 0 where
   pub now : new ≡ record old { items = old.items ++ text }
 
@@ -39,7 +39,7 @@ hex_append (x ∷ xs) ys = ap (λ (r : List ℕ). get_or lower_digits (x / 16) 0
 pub hex_more : (bytes : List ℕ) (i : ℕ) → i < length bytes → hex_text (take i bytes) ++ hex_text (get_or bytes i 0 ∷ []) ≡ hex_text (take (i + 1) bytes)
 hex_more bytes i lt = sym (hex_append (take i bytes) (get_or bytes i 0 ∷ [])) ∙ ap hex_text (sym (take_more bytes i 0 lt))
 
--- so many bytes were written
+-- n bytes were written
 pub record HexSoFar (bytes : List ℕ) (i : ℕ) (old now : RoomyList) : Type 0 where
   pub wrote : Wrote old (hex_text (take i bytes)) now
 
@@ -60,7 +60,7 @@ hex_step bytes i old now next lt step h = record { wrote = wrote_more old now ne
 pub hex_all : (bytes : List ℕ) (i : ℕ) (old now : RoomyList) → length bytes ≤ i → HexSoFar bytes i old now → now ≡ record old { items = old.items ++ hex_text bytes }
 hex_all bytes i old now all h = h.wrote.now ∙ ap (λ (xs : List ℕ). record old { items = old.items ++ hex_text xs }) (take_all i bytes all)
 
--- ---- words behind blanks
+-- ---- words after blanks
 
 -- what is read past the end of a list of words
 abbrev pub no_word : Word
@@ -104,7 +104,7 @@ fit_all words i left room all so_far =
     let within : length (tail_text words) ≤ room = omega arith in
     grind (arith, nat_tests)
 
--- so many words were written
+-- n words were written
 pub record WordsSoFar (words : List Word) (i : ℕ) (old now : RoomyList) : Type 0 where
   pub wrote : Wrote old (tail_text (take i words)) now
 
@@ -125,7 +125,7 @@ words_step words i old now next lt step h = record { wrote = wrote_more old now 
 pub words_all : (words : List Word) (i : ℕ) (old now : RoomyList) → length words ≤ i → WordsSoFar words i old now → now ≡ record old { items = old.items ++ tail_text words }
 words_all words i old now all h = h.wrote.now ∙ ap (λ (ws : List Word). record old { items = old.items ++ tail_text ws }) (take_all i words all)
 
--- digits behind a blank
+-- digits after a blank
 pub hex_fits : (word : Word) (bytes : Bor (List ℕ)) (old new : RoomyList) → word ≡ Hex bytes → length old.items + (1 + length (word_text word)) ≤ old.room
     → new ≡ record old { items = old.items ++ 32 ∷ [] } → length new.items + 2 * length bytes.now ≤ new.room
 hex_fits word bytes old new is room blank =

@@ -12,7 +12,7 @@ infixl 10 ◌>>=◌
 abbrev pub ◌>>=◌ : {A B : Type 0} → Option A → (A → Option B) → Option B
 o >>= f = option_and_then f o
 
--- ---- named lines without bytes, by the words behind the name
+-- ---- named lines without bytes, by the words after the name
 
 abbrev pub retrieve_of : List (List ℕ) → Option Form
 retrieve_of (k ∷ n ∷ []) = do
@@ -84,7 +84,7 @@ store_of (k ∷ b ∷ []) = store_with (key_of k) (bytes_of b) (Some 0)
 store_of (k ∷ b ∷ o ∷ []) = store_with (key_of k) (bytes_of b) (options_of o)
 store_of _ = None
 
--- an entry as it is, and the bytes behind it
+-- an entry as it is, and the bytes after it
 abbrev pub raw_with : Option (List ℕ) → Option (List ℕ) → Option (List ℕ × List ℕ)
 raw_with e b = do
   entry ← e
@@ -110,7 +110,7 @@ entry_said number (name ∷ operands) =
     if bytes_eq name (codes "raw") then raw_of operands
     else option_map (λ named. (form_entry number named.0, named.1)) (named_of name operands)
 
--- a line gives nothing, or an entry and the bytes behind it
+-- a line gives nothing, or an entry and the bytes after it
 pub data Line : Type 0 where
   nothing : Line
   entry : List ℕ → List ℕ → Line

@@ -5,7 +5,7 @@ use Rattle.pk_asm.specs.Words.{words}
 use Rattle.pk_asm.specs.declared.operands.Operands.{Operands}
 use Rattle.pk_asm.specs.declared.operands.Operands.TheVariants.{Nothing, One, Two, Three, Many}
 
--- the words behind the first, where there is something behind it
+-- the words after the first, if something follows it
 abbrev pub rest_words : Option (Bor (List ℕ)) → List (List ℕ)
 rest_words None = []
 rest_words (Some rest) = words rest.now

@@ -16,7 +16,7 @@ use Rattle.pk_asm.specs.declared.form.Form.TheVariants.{Store, Retrieve, Delete,
 
 -- ---- how words and lines are spelled
 
--- words, each behind a blank
+-- words, each after a blank
 abbrev pub behind_blanks : List (List ℕ) → List ℕ
 behind_blanks words = flat_map (λ word. blank ∷ word) words
 
@@ -25,7 +25,7 @@ abbrev pub line_of : List (List ℕ) → List ℕ
 line_of [] = []
 line_of (word ∷ words) = word ++ behind_blanks words
 
--- the word behind a Store with these option bits, where it has one
+-- the word after a Store with these option bits, if it has one
 abbrev pub option_words : ℕ → List (List ℕ)
 option_words options =
     if options == IF_EXISTS then codes "if-exists" ∷ [] else
@@ -113,14 +113,14 @@ pub record IsSaid (form : Form) (bytes : List ℕ) : Type 0 where
   pub said : named_of name operands ≡ Some (form, bytes)
   pub few : length bytes < 2 ^ 32
 
--- The line is the named one exactly where a named line of this number gives the same entry and bytes, and it gives
+-- The line is the named one exactly if a named line of this number gives the same entry and bytes, and it gives
 -- this entry and these bytes.
 pub record Prints (number : ℕ) (e bytes line : List ℕ) : Type 0 where
   pub named : (form : Form) → IsSaid form bytes → form_entry number form ≡ e → line ≡ form_line form bytes
   pub raw : ((form : Form) → IsSaid form bytes → ¬ (form_entry number form ≡ e)) → line ≡ raw_line e bytes
   pub same : length line ≤ MOST_LINE_BYTES → says number line ≡ Some (entry e bytes)
 
--- the line and its line feed are written where they fit, else nothing
+-- the line and its line feed are written if they fit, otherwise nothing
 pub record WritesLine (line : List ℕ) (old new : RoomyList) (is_written : Bool) : Type 0 where
   pub fits : is_written ≡ (nat_le (length line) MOST_LINE_BYTES && nat_le (length old.items + (length line + 1)) old.room)
   pub written : new ≡ record old { items = if is_written then old.items ++ (line ++ 10 ∷ []) else old.items }

@@ -10,6 +10,6 @@ word_text (Text text) = text.now
 word_text (Hex bytes) = hex_text bytes.now
 word_text (Number number) = decimal number
 
--- the words, each behind a blank
+-- the words, each after a blank
 abbrev pub tail_text : List Word → List ℕ
 tail_text words = behind_blanks (map word_text words)

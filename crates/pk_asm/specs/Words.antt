@@ -5,7 +5,7 @@ use Rattle.pk_base.specs.declared.sizes.TheConstants.{KEY_BYTES}
 use Rattle.pk_nvme.specs.declared.sizes.TheConstants.{SUBMISSION_BYTES}
 use Rattle.pk_nvme.specs.Text.{some_bytes_of}
 
--- what stands between two words
+-- what is between two words
 abbrev pub blank : ℕ
 blank = 32
 

@@ -189,7 +189,7 @@ fn store(operands: Operands, value: &mut Bytes) -> Option<Form>
     }
 }
 
-/// An entry as it is; the bytes behind it come into `value`.
+/// An entry as it is; the bytes after it are put into `value`.
 fn raw(operands: Operands, value: &mut Bytes) -> Option<[u8; SUBMISSION_BYTES]>
     requires empty { value.old.items ≡ [] }
     requires fits { AllByRecursion (λ word. length word ≤ 2 * value.old.room) (words_in operands) }

@@ -7,7 +7,7 @@ use pk_nvme::limits::NAMESPACE;
 use pk_nvme::opcode::{DELETE, EXIST, FLUSH, LIST, REPORT, RETRIEVE, STORE, TICK};
 use pk_nvme::{Request, SUBMISSION_BYTES};
 
-/// A command as a named line gives it; the bytes of a Store stand beside it.
+/// A command as a named line gives it; the bytes of a Store are separate.
 #[derive(Drop)]
 pub enum Form {
     /// `options` are the option bits, `size` the bytes of the value.

@@ -1,10 +1,10 @@
-//! The words of a line behind its first.
+//! The words of a line after its first.
 ghost use Rattle.std.specs.Prelude.{◌≡◌, ◌==◌, ◌∷◌};
 ghost use Rattle.std.specs.List.{position};
 ghost use Rattle.pk_asm.specs.Words.{blank, words};
 ghost use Rattle.pk_asm.specs.Operands.{rest_words, words_in};
 
-/// The words behind the first word of a line; no line has more than three.
+/// The words after the first word of a line; no line has more than three.
 #[derive(Clone, Copy)]
 pub enum Operands<'a> {
     Nothing,
@@ -21,7 +21,7 @@ fn blank_at(line: &[u8]) -> Option<usize>
     line.iter().position(|byte| *byte == b' ')
 }
 
-/// The first word, and what stands behind the blank after it.
+/// The first word, and what follows the blank after it.
 pub fn split_word(line: &[u8]) -> (&[u8], Option<&[u8]>)
     ensures { words line.now ≡ result.0.now ∷ rest_words result.1 }
 {
@@ -31,7 +31,7 @@ pub fn split_word(line: &[u8]) -> (&[u8], Option<&[u8]>)
     }
 }
 
-/// The words of what stands behind the first.
+/// The words of what follows the first.
 pub fn words_behind<'a>(rest: Option<&'a [u8]>) -> Operands<'a>
     ensures { words_in result ≡ rest_words rest.entry }
 {
@@ -47,7 +47,7 @@ pub fn words_behind<'a>(rest: Option<&'a [u8]>) -> Operands<'a>
     }
 }
 
-/// The words behind the first operand.
+/// The words after the first operand.
 fn more_operands<'a>(first: &'a [u8], rest: &'a [u8]) -> Operands<'a>
     ensures { words_in result ≡ first.entry.now ∷ words rest.entry.now }
 {

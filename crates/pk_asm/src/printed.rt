@@ -127,7 +127,7 @@ fn form_that_gives(number: u64, entry: &[u8; SUBMISSION_BYTES], value: &[u8]) ->
     that_gives(number, entry, candidate(&Request::of(entry), value))
 }
 
-/// The line of a Store with these option bits, and its line feed, where they fit.
+/// The line of a Store with these option bits, and its line feed, if they fit.
 fn put_store<'a>(key: &'a [u8], options: u8, value: &'a [u8], into: &mut Bytes) -> bool
     ensures { WritesLine (spec.line_of (codes "store" ∷ hex_text key.now ∷ bytes_text value.now
         ∷ spec.option_words options)) into.old into.new result }
@@ -153,7 +153,7 @@ fn put_list(from: &Option<Key>, size: u32, into: &mut Bytes) -> bool
     }
 }
 
-/// The line of a form and its line feed, where they fit.
+/// The line of a form and its line feed, if they fit.
 fn put_form(form: &Form, value: &[u8], into: &mut Bytes) -> bool
     ensures { WritesLine (spec.form_line form.now value.now) into.old into.new result }
 {
@@ -175,12 +175,14 @@ fn put_form(form: &Form, value: &[u8], into: &mut Bytes) -> bool
     }
 }
 
-/// Writes the line of an entry and its bytes and a line feed behind what stands in `into`: the named line where one
-/// of this number gives the same entry and bytes, else the `raw` line. False, and nothing is written, where they do
-/// not fit into the room or the line has more than `MOST_LINE_BYTES`.
+/// Writes the line of an entry and its bytes and a line feed after what is in `into`: the named
+/// line if one of this number gives the same entry and bytes, otherwise the `raw` line. False, and
+/// nothing is written, if they do not fit into the room or the line has more than
+/// `MOST_LINE_BYTES`.
 pub fn print(entry: &[u8; SUBMISSION_BYTES], value: &[u8], number: u64, into: &mut Bytes) -> bool
     ensures line { WritesLine (spec.printed number entry.now value.now) into.old into.new result }
-    // The named line is printed exactly where it can be, and what is printed is assembled to the same entry and bytes.
+    // The named line is printed exactly if it can be, and what is printed is assembled to the same
+    // entry and bytes.
     ensures prints { spec.Prints number entry.now value.now
         (spec.printed number entry.now value.now) }
 {

@@ -53,7 +53,7 @@ fn value_of(digits: &[u8]) -> Option<u32>
     Some(value)
 }
 
-/// The number below 2^32 that a word of decimal digits is; a leading zero stands in `0` alone.
+/// The number below 2^32 that a word of decimal digits is; only `0` has a leading zero.
 pub fn number(word: &[u8]) -> Option<u32>
     ensures { result ≡ number_of word.now }
 {
@@ -109,7 +109,7 @@ fn pair(high: u8, low: u8) -> Option<u8>
     Some(digit(high)? * 16 + digit(low)?)
 }
 
-/// The bytes that a word of hexadecimal digits is, behind those that stand in `value`.
+/// The bytes that a word of hexadecimal digits is, after those that are in `value`.
 fn decode(word: &[u8], value: &mut Bytes) -> bool
     requires empty { value.old.items ≡ [] }
     requires even { length word.now % 2 ≡ 0 }
@@ -120,7 +120,7 @@ fn decode(word: &[u8], value: &mut Bytes) -> bool
     ensures value { result ≡ true
         → value.new ≡ record value.old { items = unwrap_or (result_ok (decode_of word.now)) [] } }
 
-    // The room stays, and what was read so far has the length of its digits.
+    // The room is unchanged, and what was read so far has the length of its digits.
     ensures room { value.new.room ≡ value.old.room }
     ensures short { 2 * length value.new.items ≤ length word.now }
 {
@@ -133,7 +133,7 @@ fn decode(word: &[u8], value: &mut Bytes) -> bool
     true
 }
 
-/// The bytes that a word is, `-` for none; no byte is left in `value` where the word is none.
+/// The bytes that a word is, `-` for none; `value` is empty if the word is none.
 pub fn bytes_word(word: &[u8], value: &mut Bytes) -> bool
     requires { length word.now ≤ 2 * value.old.room }
     ensures read { result ≡ is_some (bytes_of word.now) }

@@ -45,7 +45,7 @@ impl<'a> Word<'a> {
         }
     }
 
-    /// The word behind a blank.
+    /// The word after a blank.
     fn put(self, into: &mut Bytes)
         requires { length into.old.items + (1 + length (word_text self)) ≤ into.old.room }
         ensures { into.new
@@ -60,7 +60,7 @@ impl<'a> Word<'a> {
     }
 }
 
-/// Whether the words fit into so many bytes, each with a blank before it.
+/// Whether the words fit into `room` bytes, each with a blank before it.
 fn fit(words: &[Word], room: usize) -> bool
     ensures { result ≡ nat_le (length (tail_text words.now)) room }
 {
@@ -75,7 +75,7 @@ fn fit(words: &[Word], room: usize) -> bool
     true
 }
 
-/// The words, each behind a blank.
+/// The words, each after a blank.
 fn put_words(words: &[Word], into: &mut Bytes)
     requires { length into.old.items + length (tail_text words.now) ≤ into.old.room }
     ensures { into.new ≡ record into.old { items = into.old.items ++ tail_text words.now } }
@@ -85,7 +85,7 @@ fn put_words(words: &[Word], into: &mut Bytes)
     }
 }
 
-/// Whether a line that begins with this word, and its line feed, fit into so many bytes.
+/// Whether a line that begins with this word, and its line feed, fit into `left` bytes.
 fn line_fits(name: &[u8], words: &[Word], left: usize) -> bool
     ensures { result
         ≡ (nat_le (length (name.now ++ tail_text words.now)) MOST_LINE_BYTES && nat_le
@@ -102,7 +102,8 @@ fn line_fits(name: &[u8], words: &[Word], left: usize) -> bool
     name.len() <= room && fit(words, room - name.len())
 }
 
-/// Where they fit, writes the line of these words and its line feed and answers true; else writes nothing and answers false.
+/// If they fit, writes the line of these words and its line feed and returns true; otherwise writes
+/// nothing and returns false.
 pub fn put_line(name: &[u8], words: &[Word], into: &mut Bytes) -> bool
     ensures { WritesLine (name.now ++ tail_text words.now) into.old into.new result }
 {

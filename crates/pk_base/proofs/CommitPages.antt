@@ -7,7 +7,7 @@ use Rattle.pk_base.specs.Shape.{Shape, IsShape, epoch_pages, epoch_commits}
 use Rattle.pk_base.specs.Page.{page_in, commit_page}
 use Rattle.pk_base.proofs.EpochPages.{only_index}
 
--- what is left of a number in its block is even where the number and the block are
+-- what remains of a number in its block is even if the number and the block are
 pub even_rest : (x n : ℕ) → x % 2 ≡ 0 → n % 8 ≡ 0 → x % n % 2 ≡ 0
 even_rest x n even eights =
     let whole : x / n * n + x % n ≡ x = div-add-mod' x n in
@@ -32,7 +32,7 @@ module _ (shape : Shape) (blocks : List ℕ) (is : IsShape shape) (index : ℕ) 
       let less : (2 * index) % shape.block_pages < shape.block_pages = mod-lt (2 * index) (omega (arith, least)) in
       omega (arith, eights, less, even)
 
-  -- the second page stands behind the first
+  -- the second page follows the first
   pub second : page_in shape blocks (2 * index + 1) ≡ commit_page shape blocks index + 1
   second =
       let n : ℕ = shape.block_pages in
@@ -60,7 +60,7 @@ module _ (shape : Shape) (blocks : List ℕ) (is : IsShape shape) (index : ℕ) 
       let rest : (b * n + 2 * index % n) % n ≡ 2 * index % n = omega (arith, whole, same) in
       ap (λ (k : ℕ). k % 2) rest ∙ even
 
-  -- and the second page stands in its block
+  -- and the second page is in its block
   pub even_room : commit_page shape blocks index % shape.block_pages + 1 < shape.block_pages
   even_room =
       let n : ℕ = shape.block_pages in
@@ -69,7 +69,7 @@ module _ (shape : Shape) (blocks : List ℕ) (is : IsShape shape) (index : ℕ) 
       let less : commit_page shape blocks index % n < n = mod-lt (commit_page shape blocks index) (omega (arith, least)) in
       omega (arith, less, eights, even_page)
 
-  -- both lie in the block of their place
+  -- both are in the block of their place
   pub block_of_pair : (k : ℕ) → commit_page shape blocks index ≤ k → k < commit_page shape blocks index + 2 → k / shape.block_pages ≡ slice_index blocks (2 * index / shape.block_pages)
   block_of_pair k low high =
       let n : ℕ = shape.block_pages in

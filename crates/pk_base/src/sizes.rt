@@ -1,4 +1,5 @@
-//! Sizes that the formats share, in bytes where nothing else is said. Code, contracts and definitions name them.
+//! Sizes that the formats share, in bytes if nothing else is said. Code, contracts and definitions
+//! name them.
 
 /// The most bytes of a key.
 pub const KEY_BYTES: usize = 16;

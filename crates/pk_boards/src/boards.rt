@@ -48,7 +48,7 @@ pub fn small() -> Result<Shape, Fail> {
     shape_of(512, 8, 33)
 }
 
-/// A board of Erased pages, of which the call of the flash with this number fails and leaves this.
+/// A board of Erased pages, of which the flash operation with this number fails and leaves this.
 pub fn erased_board(alloc: Global, shape: Shape, call: u64, left: Left) -> Result<Flash, Fail>
     ensures ready { IfOk result (λ b. IsReady (⟦<Flash as Nand>⟧.state b) shape) }
     ensures pages { IfOk result (λ b. (⟦<Flash as Nand>⟧.state b).pages ≡ replicate
@@ -146,7 +146,8 @@ fn held_in<'a>(pages: &[(u32, Held<'a>)], page: u32) -> Option<Held<'a>> {
     None
 }
 
-/// A board with these pages, all others Erased, of which the call of the flash with this number fails and leaves this.
+/// A board with these pages, all others Erased, of which the flash operation with this number fails
+/// and leaves this.
 pub fn board_with(
     alloc: Global,
     shape: Shape,

@@ -163,7 +163,7 @@ has_at_read k xs i x b h read test = rw (content_at xs i x h read) (sym test)
 pub has_at_past : (k : Key) (xs : List Slot) (i : ℕ) → length xs ≤ i → has_at k (contents xs) i ≡ false
 has_at_past k xs i h = rw (slice_get-map content xs i, slice_get_past xs i h) refl
 
--- what a look-up answers
+-- what a lookup answers
 pub found_read : (k : Key) (xs : List Slot) (i : ℕ) (x : Slot) → i < length xs → x ≡ get_or xs i x → i ≡ place_of k (contents xs) → has_at k (contents xs) i ≡ true
     → ((content x).0 ≡ k) × (find key_cmp k (contents xs) ≡ Some (content x).1)
 found_read k xs i x h read at has =
@@ -178,7 +178,7 @@ length-contents : (xs : List Slot) → length (contents xs) ≡ length xs
 length-contents [] = refl
 length-contents (x ∷ xs) = ap suc (length-contents xs)
 
--- where a key is not there, there is room for it
+-- if a key is not there, there is room for it
 pub room_in : (k : Key) (xs : List Slot) (i n : ℕ) → T (is_sorted key_cmp (contents xs)) → i ≡ place_of k (contents xs) → has_at k (contents xs) i ≡ false
     → (length (contents xs) < n) ⊎ IsSome (find key_cmp k (contents xs)) → length xs < n
 room_in k xs i n up at has some =

@@ -25,7 +25,7 @@ is_below key e = is_lt (key_cmp (key_of e) key)
 abbrev pub has_key : Key → Entry → Bool
 has_key key e = is_eq (key_cmp (key_of e) key)
 
--- how many entries stand before the first key that is not below this one
+-- how many entries are before the first key that is not below this one
 abbrev pub place_of : Key → List Entry → ℕ
 place_of key [] = 0
 place_of key (e ∷ es) = cond (is_below key e) (suc (place_of key es)) 0

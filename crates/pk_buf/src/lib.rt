@@ -1,7 +1,7 @@
 //! A write buffer: a table of entries in the order of their keys, whose memory is taken once.
 //!
 //! Contracts see the list of its entries. A write puts an entry over the one of its key, or in its
-//! place among the others, which stay.
+//! place among the others, which are unchanged.
 #![tactic(auto)]
 
 mod slot;
@@ -67,7 +67,7 @@ fn has(slot: &Slot, key: &Key) -> bool
     is_same(slot.entry.key(), key)
 }
 
-// How many slots stand before the first key that is not below this one.
+// How many slots are before the first key that is not below this one.
 fn place(slots: &[Slot], key: &Key) -> usize
     requires { T (is_sorted key_cmp (contents slots.now)) }
     ensures place { result ≡ place_of key.now (contents slots.now) }

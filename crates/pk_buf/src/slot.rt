@@ -6,7 +6,7 @@ pub struct Slot {
     pub entry: Entry,
 }
 
-// What stands in a place that is not used. All places are, so no table has it.
+// What is in a place that is not used. All places are, so no table has it.
 impl Default for Slot {
     fn default() -> Slot {
         Slot {

@@ -1,4 +1,4 @@
--- What a call of a drive leaves, for every map that the drive may stand for.
+-- What a call of a drive leaves, for every map that the drive may represent.
 use Rattle.std.specs.Prelude.{ℕ}
 use Rattle.pk_base.specs.Shape.{Shape}
 use Rattle.pk_base.specs.Map.{Map}
@@ -8,7 +8,7 @@ use Rattle.pk_model.specs.Growth.{Reaches, Goes}
 use Rattle.pk_model.specs.Sight.{Sight}
 use Rattle.pk_call.specs.Drive.{HoldsMap}
 
--- it stands for the same map behind the call
+-- it represents the same map after the call
 abbrev pub KeepsMap : BoardState → BoardState → Sight → Sight → Type 0
 KeepsMap old new before after =
     (shape : Shape) (frames : ℕ) (m : Map) → HoldsMap shape frames old before m → HoldsMap shape frames new after m

@@ -1,11 +1,11 @@
--- How many calls of the flash were made.
+-- How many flash operations were made.
 use Rattle.std.specs.Prelude.{◌≡◌, ℕ, ◌+◌, ◌≤◌, ◌==◌, ◌||◌, not, Bool, if◌then◌else◌}
 use Rattle.pk_base.specs.Shape.{Shape, most_calls}
 use Rattle.pk_nvme.specs.declared.opcode.TheConstants.{STORE, DELETE, TICK}
 use Rattle.pk_nand.specs.BoardState.{BoardState}
 use Rattle.pk_nand.specs.Counts.{counted_by}
 
--- At most so many calls of the flash were made, failed ones included.
+-- At most this many flash operations were made, failed ones included.
 pub record FewCalls (most : ℕ) (old new : BoardState) : Type 0 where
   pub reads_made : ℕ
   pub programs_made : ℕ

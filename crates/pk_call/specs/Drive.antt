@@ -6,7 +6,7 @@ use Rattle.pk_base.specs.Map.{Map, live}
 use Rattle.pk_nand.specs.BoardState.{BoardState}
 use Rattle.pk_model.specs.Sight.{Sight, Counts, map_of}
 
--- The drive stands for this map: what the flash holds, under the pending entries.
+-- The drive represents this map: what the flash holds, under the pending entries.
 pub record HoldsMap (shape : Shape) (frames : ℕ) (board : BoardState) (drive : Sight) (m : Map) : Type 0 where
   pub shape_is : board.shape ≡ Some shape
   pub frames_is : drive.counts.frames ≡ frames

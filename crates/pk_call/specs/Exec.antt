@@ -1,4 +1,4 @@
--- What one command does, for every map that the drive may stand for.
+-- What one command does, for every map that the drive may represent.
 use Rattle.std.specs.Prelude.{◌≡◌, ◌≢◌, ◌⊎◌, ℕ, ◌+◌, ◌*◌, ◌≤◌, ◌<◌, List, [], ◌∷◌, flat_map, Some, ◌==◌, if◌then◌else◌}
 use Rattle.pk_nvme.specs.declared.opcode.TheConstants.{STORE, TICK}
 use Rattle.pk_base.specs.Shape.{Shape, greatest}
@@ -42,6 +42,6 @@ report_of counts = flat_map u32 (numbers counts)
 abbrev pub IsNextMerge : Shape → Counts → Type 0
 IsNextMerge shape c = c.merge ≢ 0 → next_merge shape c.frozen (c.run1 ∷ c.run2 ∷ c.run3 ∷ c.run4 ∷ []) ≡ Some c.merge
 
--- The value of a command, and what is handed over of it: nothing where it is too large.
+-- The value of a command, and what is passed of it: nothing if it is too large.
 abbrev pub IsValue : Shape → ℕ → ℕ → List ℕ → List ℕ → Type 0
 IsValue shape opcode size handed value = (value ≡ handed) ⊎ ((opcode ≡ STORE) × (greatest shape < size))

@@ -18,11 +18,11 @@ pub record Meter : Type 0 where
 abbrev pub meter : BoardState → Meter
 meter board = record { reads = board.reads; read_faults = board.read_faults; roots = roots board }
 
--- so many more reads, up to the last value
+-- this many more reads, up to the last value
 abbrev pub reads_after : ℕ → ℕ → ℕ
 reads_after before more = min (before + more) last_count
 
--- Around one command: its number of reads is exact, a read failed only where it is answered so, and the numbers of roots were not used up when it
+-- Around one command: its number of reads is exact, a read failed only if it is answered so, and the numbers of roots were not used up when it
 -- began.
 pub record Metered (before : Meter) (x : Exchange) (after : Meter) : Type 0 where
   pub reads : after.reads ≡ reads_after before.reads x.reads
@@ -31,6 +31,6 @@ pub record Metered (before : Meter) (x : Exchange) (after : Meter) : Type 0 wher
   pub unworn : before.roots < WORN_FROM
   pub installs : after.roots ≤ before.roots + most_installs x.command.opcode x.command.size
 
--- each command begins where the one before it ended
+-- each command begins if the one before it ended
 abbrev pub MeteredAll : Meter → List Exchange → Meter → Type 0
 MeteredAll = FoldsTo Metered

@@ -20,7 +20,7 @@ use Rattle.pk_call.specs.Drive.{HoldsMap}
 
 -- ---- a commit
 
--- Of what is seen only the pending entries, the commits of the epoch and the work that is left may differ.
+-- Of what is seen only the pending entries, the commits of the epoch and the remaining work may differ.
 abbrev pub Commits : Sight → Sight → Type 0
 Commits before after = after ≡ record before { pending = []; counts = record before.counts { epoch = after.counts.epoch }; work = after.work }
 
@@ -34,17 +34,17 @@ pub record KeepsFresh (shape : Shape) (old new : Flash) (before after : Sight) :
 
 -- ---- blocks for values
 
--- The blocks in use are more only after a Store, by one, and only where another block takes values then.
+-- The blocks in use are more only after a Store, by one, and only if another block takes values then.
 abbrev pub BlocksGrow : ℕ → Sight → Sight → Type 0
 BlocksGrow opcode before after =
     (after.counts.blocks ≤ before.counts.blocks)
     ⊎ ((opcode ≡ STORE) × (after.counts.blocks ≡ before.counts.blocks + 1) × (after.open_block ≢ before.open_block))
 
--- so many pages are Erased in the open block
+-- this many pages are Erased in the open block
 abbrev pub HasOpenRoom : Shape → Flash → Sight → ℕ → Type 0
 HasOpenRoom shape flash drive count = (b : ℕ) × (drive.open_block ≡ Some b) × (count ≤ free_pages shape flash b)
 
--- The open block is the one that the command's value was written to, and the one before where the value had room in it.
+-- The open block is the one that the command's value was written to, and the one before if the value had room in it.
 pub record StoresIn (shape : Shape) (old new : Flash) (before after : Sight) (c : Command) : Type 0 where
   pub tree : Tree
   pub is_tree : IsTree shape new tree
@@ -53,7 +53,7 @@ pub record StoresIn (shape : Shape) (old new : Flash) (before after : Sight) (c 
   pub in_open : after.open_block ≡ Some (place.page / shape.block_pages)
   pub stays : HasOpenRoom shape old before (charge shape c.size) → after.open_block ≡ before.open_block
 
--- for every map that the drive may stand for
+-- for every map that the drive may represent
 abbrev pub Stores : BoardState → BoardState → Sight → Sight → Command → Type 0
 Stores old new before after c = (shape : Shape) (frames : ℕ) (m : Map) → HoldsMap shape frames old before m → StoresIn shape old.pages new.pages before after c
 
@@ -72,7 +72,7 @@ pub record IsQuiet (shape : Shape) (flash : Flash) (drive : Sight) (key : Key) :
 abbrev pub commits_for : Shape → Sight → ℕ
 commits_for shape drive = if length drive.pending + 1 == page_entries shape then commit_programs else 0
 
--- So many programs were made, the reads of a look-up, and no erase.
+-- This many programs were made, the reads of a lookup, and no erase.
 pub record Quietly (shape : Shape) (old new : BoardState) (frames reads programs : ℕ) : Type 0 where
   pub programs_are : new.programs ≡ counted_by programs old.programs
   pub no_erase : new.erases ≡ old.erases

@@ -7,7 +7,7 @@ use Rattle.pk_call.specs.declared.types.Counts.{Counts}
 use Rattle.pk_call.specs.declared.types.Ticked.{Ticked}
 use Rattle.pk_call.specs.declared.types.Ticked.TheVariants.{Worked, Idle, Fault}
 
--- the reply that an outcome tells, with its data in front of a buffer
+-- the reply that an outcome reports, with its data at the start of a buffer
 abbrev pub reply_of : Outcome → List ℕ → Reply
 reply_of o into = record { status = o.status; result = o.result; data_bytes = take o.data_len into }
 

@@ -1,4 +1,4 @@
--- How the background work changes that is left.
+-- How the remaining background work changes.
 use Rattle.std.specs.Prelude.{◌⊎◌, ℕ, ◌+◌, ◌≤◌, ◌==◌, ◌||◌, Bool}
 use Rattle.pk_nvme.specs.declared.opcode.TheConstants.{STORE, DELETE}
 use Rattle.pk_base.specs.Shape.{Shape}
@@ -11,12 +11,12 @@ use Rattle.pk_call.specs.Drive.{HoldsMap}
 abbrev pub may_raise : ℕ → Bool
 may_raise opcode = opcode == STORE || opcode == DELETE
 
--- So many steps leave as many less to do, or nothing at all.
+-- Each step leaves one less to do, or nothing at all.
 abbrev pub Settles : BoardState → BoardState → Sight → Sight → ℕ → Type 0
 Settles old new before after steps =
     (shape : Shape) (frames : ℕ) (m : Map) → HoldsMap shape frames old before m → (after.work + steps ≤ before.work) ⊎ IsIdle shape new.pages after
 
--- As many steps as may ever be left leave nothing to do.
+-- As many steps as may ever remain leave nothing to do.
 abbrev pub Rests : BoardState → BoardState → Sight → Sight → ℕ → Type 0
 Rests old new before after steps =
     (shape : Shape) (frames : ℕ) (m : Map) → HoldsMap shape frames old before m → most_work shape ≤ steps → IsIdle shape new.pages after

@@ -1,4 +1,4 @@
--- What holds of a drive that runs between any two calls, by what stands on its flash.
+-- What holds of a drive that runs between any two calls, by what is on its flash.
 use Rattle.std.specs.Prelude.{◌≡◌, ◌≢◌, ℕ, ◌-◌, ◌/◌, ◌<◌, ◌≤◌, List, [], ◌∷◌, ◌++◌, length, map, take, sum, true, Option, Some}
 use Rattle.std.specs.List.{AllByRecursion}
 use Rattle.pk_base.specs.Shape.{Shape, data_blocks, page_entries, pinned, run_pages}
@@ -16,7 +16,7 @@ use Rattle.pk_model.specs.Sight.{Sight, Counts, most_work}
 use Rattle.pk_call.specs.Drive.{HoldsMap}
 use Rattle.pk_call.specs.Exec.{IsNextMerge}
 
--- A block that may be taken as it is: behind the root blocks, named by no root, not the one that takes values, and wholly Erased.
+-- A block that may be taken as it is: after the root blocks, named by no root, not the one that takes values, and wholly Erased.
 pub record IsReadyBlock (shape : Shape) (flash : Flash) (root : Root) (taking : Option ℕ) (b : ℕ) : Type 0 where
   pub behind_roots : 2 ≤ b
   pub exists : b < shape.blocks
@@ -24,7 +24,7 @@ pub record IsReadyBlock (shape : Shape) (flash : Flash) (root : Root) (taking : 
   pub not_open : taking ≢ Some b
   pub all_erased : (k : ℕ) → k / shape.block_pages ≡ b → page_at flash k ≡ erased
 
--- there are at least so many of them
+-- there are at least n of them
 pub record HasReady (shape : Shape) (flash : Flash) (root : Root) (taking : Option ℕ) (least : ℕ) : Type 0 where
   pub blocks : List ℕ
   pub many : least ≤ length blocks
@@ -43,7 +43,7 @@ entries_of_runs c = c.run1 ∷ c.run2 ∷ c.run3 ∷ c.run4 ∷ []
 abbrev pub pages_of_runs : Shape → ℕ → List ℕ → ℕ
 pages_of_runs shape levels entries = sum (map (run_pages shape) (take levels entries))
 
--- Its numbers are those of the lists under the newest root, so many blocks are erased and in use as it says, and a bounded work is left.
+-- Its numbers are those of the lists under the newest root, as many blocks are erased and in use as it says, and bounded work remains.
 pub record IsSteady (shape : Shape) (flash : Flash) (drive : Sight) : Type 0 where
   pub tree : Tree
   pub is_tree : IsTree shape flash tree
@@ -52,16 +52,16 @@ pub record IsSteady (shape : Shape) (flash : Flash) (drive : Sight) : Type 0 whe
   pub frozen : drive.counts.frozen ≡ length (firsts tree.found.older)
   pub runs : entries_of_runs drive.counts ≡ map length tree.found.runs
   pub merge : IsNextMerge shape drive.counts
-  -- frames: where no merge runs, each page of the pinned levels has one, and nothing else has
+  -- frames: if no merge runs, each page of the pinned levels has one, and nothing else has
   pub leased : drive.counts.merge ≡ 0 → drive.counts.leased ≡ pages_of_runs shape (pinned shape drive.counts.frames) (entries_of_runs drive.counts)
   -- blocks
   pub ready : HasReady shape flash tree.root drive.open_block drive.counts.ready
   pub blocks_least : live_blocks shape tree.found drive.pending ≤ drive.counts.blocks
   pub blocks_most : drive.counts.blocks ≤ data_blocks shape - 1
-  -- entries that wait, and steps that are left
+  -- entries that wait, and steps that remain
   pub few_pending : length drive.pending < page_entries shape
   pub work_most : drive.work < most_work shape
 
--- after a call that begins where the drive stands for a map
+-- after a call that begins while the drive represents a map
 abbrev pub Steadies : BoardState → BoardState → Sight → Sight → Type 0
 Steadies old new before after = (shape : Shape) (frames : ℕ) (m : Map) → HoldsMap shape frames old before m → IsSteady shape new.pages after

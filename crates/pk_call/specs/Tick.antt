@@ -1,4 +1,4 @@
--- What a background step answers, for every map that the drive may stand for.
+-- What a background step answers, for every map that the drive may represent.
 use Rattle.std.specs.Prelude.{◌≡◌, ◌↔◌, ℕ, ◌<◌}
 use Rattle.pk_base.specs.Shape.{Shape}
 use Rattle.pk_base.specs.Map.{Map}
@@ -8,7 +8,7 @@ use Rattle.pk_call.specs.Drive.{HoldsMap}
 use Rattle.pk_call.specs.declared.types.Ticked.{Ticked}
 use Rattle.pk_call.specs.declared.types.Ticked.TheVariants.{Worked, Idle}
 
--- it answers that the drive is idle exactly where it is
+-- it answers that the drive is idle exactly if it is
 abbrev pub TellsIdle : BoardState → Sight → Ticked → Type 0
 TellsIdle board drive answer =
     (shape : Shape) (frames : ℕ) (m : Map) → HoldsMap shape frames board drive m → (answer ≡ Idle) ↔ IsIdle shape board.pages drive

@@ -1,6 +1,7 @@
 //! What a drive answers.
 
-/// What a command came to. The data are the first `data_len` bytes of the buffer that was handed in.
+/// The result of a command. The data are the first `data_len` bytes of the buffer that was passed
+/// in.
 #[derive(Clone, Copy, Debug)]
 pub struct Outcome {
     /// The status code.
@@ -15,14 +16,14 @@ pub struct Outcome {
     pub stopped: bool,
 }
 
-/// What a background step came to.
+/// The result of a background step.
 #[derive(Clone, Copy, Debug, PartialEq, Eq)]
 pub enum Ticked {
     /// A step was made.
     Worked,
-    /// Nothing is left to do.
+    /// Nothing remains to be done.
     Idle,
-    /// A call of the flash failed: a read, or a program or an erase, which stops the drive.
+    /// A flash operation failed: a read, or a program or an erase, which stops the drive.
     Fault { stopped: bool },
 }
 
@@ -59,6 +60,6 @@ pub struct Counts {
     pub blocks: u32,
     /// Free blocks that were erased since opening.
     pub ready: u32,
-    /// The level into which a merge runs; 0 where none does.
+    /// The level into which a merge runs; 0 if none does.
     pub merge: u32,
 }

@@ -59,7 +59,7 @@ module _ (shape : Shape) (is_shape : IsShape shape) (root : Root) (next : Next) 
     is_install : IsInstall shape start fits.possible.former page bytes top.1
     is_install = again_install shape old page top.0 top.1 is_shape fits
 
-    -- before the pair the map stood under the former root
+    -- before the pair the map was under the former root
     formerly : IsUnder shape start [] can.half.former can.half.former_found m
     formerly = subst (λ (p : ℕ). IsUnder shape (before_pair old.pages p) [] can.half.former can.half.former_found m) (ap again_page (sym can.half.again ∙ was)) can.half.was
 

@@ -1,4 +1,4 @@
--- Behind a merge no spare block is read.
+-- After a merge no spare block is read.
 use Rattle.std.proofs.Common.{◌≡◌, ◌⊎◌, inl, inr, ℕ, List, [], ◌++◌, Bool, true, false, ◌==◌, if◌then◌else◌, subst}
 use Rattle.std.specs.List.{concat}
 use Rattle.pk_rootfmt.specs.Root.{Root, named}

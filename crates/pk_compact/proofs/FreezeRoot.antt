@@ -214,7 +214,7 @@ module _ (pool : Blocks) (root : Held) (next : Next) (first second : ℕ) (has_e
         ];
   }
 
-  -- the same where the blocks are told one by one
+  -- the same if the blocks are given one by one
   apart_told : IsApart shape (given_back pool (if has_entries then [] else slice_index (two_of root.root.newest) 0 ∷ slice_index (two_of root.root.newest) 1 ∷ [])) then_root (frozen found)
   apart_told =
       let told : slice_index (two_of root.root.newest) 0 ∷ slice_index (two_of root.root.newest) 1 ∷ [] ≡ root.root.newest =
@@ -222,9 +222,9 @@ module _ (pool : Blocks) (root : Held) (next : Next) (first second : ℕ) (has_e
       let W : List ℕ → Type 0 = λ ns. IsApart shape (given_back pool (if has_entries then [] else ns)) then_root (frozen found) in
       subst W (sym told) (apart_after has_entries)
 
-  -- ---- a step that changes nothing behind the root blocks
+  -- ---- a step that changes nothing after the root blocks
 
-  -- a block that counts as erased lies there
+  -- a block that counts as erased is there
   pool_behind : (flash : Flash) → SameBehind shape old.pages flash → PoolOnFlash pool flash
   pool_behind flash behind = PoolOnFlash-same pool old.pages flash (λ b k ready_block inside.
       let least = spare_behind pool root next (HasTwo first second) has_entries old shared ready top found m is b (inr ready_block) in

@@ -35,7 +35,7 @@ use Rattle.pk_compact.proofs.FreezeRoot.{can_prepare, erase_goes_on, held_can, f
 abbrev pub Maps : Blocks → Held → Next → FreezeJob → BoardState → Bool → Type 0
 Maps pool root next job old has_entries = (top : ℕ × Root) × (found : Found) × (m : Map) × IsFreezing pool root next job old.pages has_entries top found m
 
--- what the pool tells of a block that was taken
+-- what the pool says of a block that was taken
 abbrev pub Took : Blocks → BoardState → ℕ → Blocks → BoardState → Type 0
 Took pool old b pool' new = (pool' ≡ with_state pool b (Owned Journal)) × AtMostErases b old new
 
@@ -116,7 +116,7 @@ module _ (pool : Blocks) (root : Held) (next : Next) (job : FreezeJob) (has_entr
     pub newest_two : length root.root.newest ≡ 2
     newest_two = two_newest pool root next first second has_entries old shared ready may.0 may.1 may.2 (at_two may.0 may.1 may.2 may.3)
 
-    -- the erase before it, by the shape that the root tells
+    -- the erase before it, by the shape that the root has
     module _ (s : Shape) (told : s ≡ root.shape) where
       can_at : (top : ℕ × Root) (found : Found) (m : Map) → IsFreezing pool root next job old.pages has_entries top found m → CanPrepare s next old.pages top found m
       can_at top found m is = let P : Shape → Type 0 = λ t. CanPrepare t next old.pages top found m in subst P (sym told) (can_prepare pool root next first second has_entries old shared ready top found m (at_two top found m is))

@@ -9,7 +9,7 @@ use Rattle.pk_steps.proofs.Places.{In, not_of}
 use Rattle.pk_compact.specs.Freezing.{AreTwo}
 use Rattle.pk_compact.specs.Steps.{next_root}
 
--- ---- tests in a row
+-- ---- tests one after another
 
 parts : (a b c d e f g h : Bool) → T (a && b && c && d && e && f && g && h) → T a × T b × T c × T d × T e × T f × T g × T h
 parts true true true true true true true true is = (tt, tt, tt, tt, tt, tt, tt, tt)
@@ -62,7 +62,7 @@ known shape root is =
       different = p.7;
     }
 
--- ---- two more blocks in front
+-- ---- two more blocks at the start
 
 any_in : (x : ℕ) (xs : List ℕ) → T (list_any (λ c. x == c) xs) → In x xs
 any_in x [] t = absurd t

@@ -30,7 +30,7 @@ use Rattle.pk_compact.proofs.Numbering.{install_number}
 front_grows : (shape : Shape) (old new : Flash) → SameFront shape old new → Grows shape old new
 front_grows shape old new same = inl (newest_root_same shape (page_at old) (page_at new) same)
 
--- a block behind the root blocks was erased, or nothing was done
+-- a block after the root blocks was erased, or nothing was done
 pub took_grows : (shape : Shape) → IsShape shape → (b : ℕ) (old new : BoardState) → AtMostErases b old new → IsReady old shape → 2 ≤ b → Grows shape old.pages new.pages
 took_grows shape is_shape b old new taken ready behind = front_grows shape old.pages new.pages (λ k low. leaves_others shape b old new taken ready k (not_behind shape b k is_shape behind low))
 

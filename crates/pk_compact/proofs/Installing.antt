@@ -1,4 +1,4 @@
--- The erase of the other root block, and what stays of others.
+-- The erase of the other root block, and what is unchanged of others.
 use Rattle.std.proofs.Common.{◌≡◌, inl, ℕ, zero, suc, ◌+◌, ◌*◌, ◌/◌, ◌%◌, ◌<◌, ◌≤◌, [], ◌∷◌, slice_index, Some, refl, sym, subst, ◌∙◌, arith, mod-lt, div-lt_iff_lt-mul, mul-le-mul_right}
 use Rattle.pk_base.specs.Shape.{Shape, IsShape, epoch_pages}
 use Rattle.pk_base.specs.Page.{Flash, page_at, page_in, erased, SameBehind}
@@ -29,7 +29,7 @@ use Rattle.pk_model.specs.Growth.{Grows, Reaches, Goes}
 use Rattle.pk_model.specs.Crashes.{CrashFinds, background}
 use Rattle.pk_model.proofs.Running.{Reaches-erase, Goes-erase}
 
--- where the newest root is the same, in whatever page, and nothing behind the root blocks differs
+-- if the newest root is the same, in whatever page, and nothing after the root blocks differs
 pub under_at : (shape : Shape) (flash cut : Flash) (top : ℕ × Root) (page : ℕ) (found : Found) (m : Map) → IsShape shape → IsUnder shape flash [] top found m
     → newest_root shape (page_at cut) ≡ Some (page, top.1) → SameBehind shape flash cut → IsUnder shape cut [] (page, top.1) found m
 under_at shape flash cut top page found m is_shape under newest same =
@@ -100,6 +100,6 @@ epoch_erased shape flash first second is_shape one other j low =
     let positive = block_pages_positive shape is_shape in
     new_erased flash shape.block_pages first second (j / shape.block_pages) (j % shape.block_pages) one other ((div-lt_iff_lt-mul positive).1 low) (mod-lt j positive)
 
--- pages of a block behind the root blocks stay erased
+-- pages of a block after the root blocks stay erased
 pub erased_behind : (shape : Shape) (b : ℕ) (old new : Flash) → 2 ≤ b → SameBehind shape old new → IsErasedBlock shape old b → IsErasedBlock shape new b
 erased_behind shape b old new least same is k low high = let twice : 2 * shape.block_pages ≤ b * shape.block_pages = mul-le-mul_right shape.block_pages least in same k (omega (arith, twice, low)) ∙ is k low high

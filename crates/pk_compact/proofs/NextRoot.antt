@@ -173,7 +173,7 @@ install_stops shape root next old new f = stops_program old new f.page (root_byt
 
 -- ---- what is next
 
--- an erase, or the first program of a root, where no pair is half made
+-- an erase, or the first program of a root, if no pair is half made
 pub programs_then : (next : Next) → repeats_next next ≡ false → erases_next next ≡ false → programs_next next ≡ true
 programs_then (Erase beside) is_whole no_erase = cc
 programs_then (Program page) is_whole no_erase = refl

@@ -1,4 +1,4 @@
--- The number of the newest root, where a freeze failed.
+-- The number of the newest root, if a freeze failed.
 use Rattle.std.proofs.Common.{◌≡◌, ◌⊎◌, inl, inr, ℕ, ◌+◌, ◌/◌, ◌≤◌, refl, ap, subst, arith, Some}
 use Rattle.pk_base.specs.Shape.{Shape, IsShape}
 use Rattle.pk_base.specs.Page.{Flash, page_at}
@@ -28,7 +28,7 @@ is_newest shape new page root is = rw is refl
 pub same_front : (shape : Shape) (old new : Flash) → SameFront shape old new → root_number shape new ≡ root_number shape old
 same_front shape old new same = same_newest shape old new (newest_root_same shape (page_at old) (page_at new) same)
 
--- ---- an erase of a block behind the root blocks
+-- ---- an erase of a block after the root blocks
 
 module _ (shape : Shape) (is_shape : IsShape shape) (block : ℕ) (behind : 2 ≤ block) (old new : BoardState) (ready : IsReady old shape) where
   pub failed_front : EraseFailed old new block → SameFront shape old.pages new.pages

@@ -39,7 +39,7 @@ works_at_most block old new (inr made) = works_erase old new block made
 
 -- ---- the pool
 
--- what is spare behind a take was spare, and is another block
+-- what is spare after a take was spare, and is another block
 other_state : (states : List BlockState) (a b : ℕ) (s : BlockState) → (Owned Journal ≡ s → ⊥) → slice_get (set states a (Owned Journal)) b ≡ Some s → (b ≢ a) × (slice_get states b ≡ Some s)
 other_state states a b s not_owned is =
     let other : b ≢ a = λ e. not_owned (sym (get-set_same states a (Owned Journal) s (subst (λ x. slice_get (set states a (Owned Journal)) x ≡ Some s) e is))) in
@@ -80,7 +80,7 @@ module _ (shape : Shape) (block : ℕ) (old new : BoardState) (taken : AtMostEra
         | inr made ↦ subst T (sym made) (IsReady-erase shape old block is_shape ready)
       ]
 
--- a page of the root blocks lies in no block behind them
+-- a page of the root blocks is in no block after them
 pub not_behind : (shape : Shape) (block k : ℕ) → IsShape shape → 2 ≤ block → k < 2 * shape.block_pages → k / shape.block_pages ≢ block
 not_behind shape block k is_shape behind low e = let small : k / shape.block_pages < 2 = (div-lt_iff_lt-mul (block_pages_positive shape is_shape)).1 low in omega (arith, small, e, behind)
 

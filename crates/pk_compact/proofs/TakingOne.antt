@@ -46,7 +46,7 @@ now_owned pool b (inr ready) = set_is pool.states b Ready (Owned Journal) ready
 
 -- ---- few blocks
 
--- one block behind at most one other
+-- one block that is added to at most one other
 one_differs : (xs : List ℕ) (b : ℕ) → length xs < 2 → (In b xs → ⊥) → differ (xs ++ b ∷ []) ≡ true
 one_differs [] b few new = refl
 one_differs (x ∷ []) b few new = elim (x == b) as (λ t. (x == b) ≡ t → (not (t || false) && true) ≡ true) [ true ↦ λ e. absurd (new (inl (sym (eqb→eq x b (subst T (sym e) tt))))) | false ↦ λ e. refl ] refl
@@ -134,7 +134,7 @@ module _ (pool : Blocks) (root : Held) (next : Next) (job : FreezeJob) (has_entr
     unnamed_top : In b (named top.1) → ⊥
     unnamed_top = apart_top.unnamed b spare
 
-    -- the freeze behind the step
+    -- the freeze after the step
     module _ (job' : FreezeJob) (job_is : taken_by job' ≡ taken_by job ++ b ∷ []) (fits : PoolOnFlash (with_state pool b (Owned Journal)) new.pages) (counted : used_by Journal (with_state pool b (Owned Journal)).states ≡ used_by Journal pool.states + 1) where
       size : length (taken_by job') ≡ length (taken_by job) + 1
       size = ap (λ (xs : List ℕ). length xs) job_is ∙ length-append (taken_by job) (b ∷ [])

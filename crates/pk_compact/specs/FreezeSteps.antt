@@ -1,4 +1,4 @@
--- A freeze in steps: what stands between them, and what each leaves.
+-- A freeze in steps: what holds between them, and what each leaves.
 use Rattle.std.specs.Prelude.{◌≡◌, ◌≢◌, ◌⊎◌, ℕ, ◌+◌, ◌/◌, ◌<◌, ◌≤◌, List, [], ◌∷◌, ◌++◌, length, Bool, true, false, not, ◌==◌, if◌then◌else◌, slice_get, slice_index, Some, MatchBool}
 use Rattle.std.specs.List.{AllByRecursion}
 use Rattle.pk_base.specs.Shape.{Shape, root_pages}
@@ -36,17 +36,17 @@ taken_by Idle = []
 taken_by (HasOne first) = first ∷ []
 taken_by (HasTwo first second) = first ∷ second ∷ []
 
--- the steps of an install that are left: an erase of a root block, where one is next, and the two programs
+-- the steps of an install that remain: an erase of a root block, if one is next, and the two programs
 abbrev pub install_steps : Next → ℕ
 install_steps (Erase beside) = 3
 install_steps (Program page) = 2
 install_steps (Again page) = 1
 
--- how many steps of a freeze are left, where a block that it takes counts twice
+-- how many steps of a freeze remain, if a block that it takes counts twice
 abbrev pub freeze_left : FreezeJob → Next → ℕ
 freeze_left job next = steps_of (freeze_rest (length (taken_by job)) (install_steps next))
 
--- a block of the journal behind the root blocks, which is Erased, and which the root does not name
+-- a block of the journal after the root blocks, which is Erased, and which the root does not name
 pub record IsTaken (shape : Shape) (pool : Blocks) (flash : Flash) (root : Root) (b : ℕ) : Type 0 where
   pub least : ROOT_BLOCKS ≤ b
   pub most : b < shape.blocks
@@ -73,7 +73,7 @@ pub record IsFreezing (pool : Blocks) (root : Held) (next : Next) (job : FreezeJ
   pub taken : AllByRecursion (IsTaken root.shape pool flash root.root) (taken_by job)
   pub different : differ (taken_by job) ≡ true
 
--- no page behind the root blocks differs but those of these blocks
+-- no page after the root blocks differs but those of these blocks
 abbrev pub SameBut : Shape → List ℕ → Flash → Flash → Type 0
 SameBut shape blocks old new =
     (k : ℕ) → root_pages shape ≤ k → (AnyByRecursion (λ b. k / shape.block_pages ≡ b) blocks → ⊥) → page_at new k ≡ page_at old k
@@ -99,8 +99,8 @@ pub record AreOwned (pool : Blocks) (blocks : List ℕ) : Type 0 where
   pub second : slice_get pool.states (slice_index blocks 1) ≡ Some (Owned Journal)
   pub different : slice_index blocks 1 ≢ slice_index blocks 0
 
--- The next root is the newest one, with its pair half made: it names an empty epoch in the two blocks, and the former epoch as the older one where that has entries. Else that
--- one's blocks may be given back behind the second program: no spare block is read then. The map is the same, wherever the step is cut.
+-- The next root is the newest one, with its pair half made: it names an empty epoch in the two blocks, and the former epoch as the older one if that has entries. Otherwise
+-- that one's blocks may be given back after the second program: no spare block is read then. The map is the same wherever the step is cut.
 pub record FreezeInstalled (pool : Blocks) (root : Held) (next : Next) (job : FreezeJob) (old : BoardState) (has_entries : Bool) (top : ℕ × Root) (found : Found) (m : Map) (pool' : Blocks) (root' : Root) (next' : Next) (job' : FreezeJob) (new : BoardState) : Type 0 where
   pub page : ℕ
   pub first : ℕ

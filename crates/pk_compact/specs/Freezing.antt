@@ -13,7 +13,7 @@ pub record IsApart (shape : Shape) (pool : Blocks) (root : Root) (found : Found)
   pub unnamed : (b : ℕ) → IsSpare pool b → AnyByRecursion (λ c. b ≡ c) (named root) → ⊥
   pub no_value : (b k : ℕ) → IsSpare pool b → k / shape.block_pages ≡ b → IsValuePage shape (places found []) k → ⊥
 
--- two different blocks behind the root blocks
+-- two different blocks after the root blocks
 pub record AreTwo (shape : Shape) (first second : ℕ) : Type 0 where
   pub first_least : ROOT_BLOCKS ≤ first
   pub first_most : first < shape.blocks

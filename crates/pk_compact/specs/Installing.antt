@@ -1,4 +1,4 @@
--- The install of a root that may follow the newest one, in three steps: the erase before it, where one is next, and its two programs.
+-- The install of a root that may follow the newest one, in three steps: the erase before it, if one is next, and its two programs.
 use Rattle.std.specs.Prelude.{◌≡◌, ℕ, ◌+◌, [], true, false}
 use Rattle.pk_base.specs.Shape.{Shape}
 use Rattle.pk_base.specs.Page.{Flash, SameBehind}
@@ -17,7 +17,7 @@ use Rattle.pk_steps.specs.Next.{IsNext}
 
 -- ---- the erase
 
--- the map stands under the newest root, and what the installer does next can be done
+-- the map is under the newest root, and what the installer does next can be done
 pub record CanPrepare (shape : Shape) (next : Next) (flash : Flash) (top : ℕ × Root) (found : Found) (m : Map) : Type 0 where
   pub installs : InstallerOnFlash shape next top flash
   pub under : IsUnder shape flash [] top found m
@@ -30,7 +30,7 @@ pub record IsPrepared (shape : Shape) (old : BoardState) (top : ℕ × Root) (fo
   pub behind : SameBehind shape old.pages new.pages
   pub cuts : Reaches shape old new (CrashFinds shape background old.pages m)
 
--- so for each of the maps that it might stand for
+-- so for each of the maps that it might have
 abbrev pub Prepares : Shape → Next → BoardState → Next → BoardState → Type 0
 Prepares shape next old next' new =
     (top : ℕ × Root) (found : Found) (m : Map) → CanPrepare shape next old.pages top found m → IsPrepared shape old top found m next' new
@@ -43,7 +43,7 @@ PrepareBreaks shape next old new =
 
 -- ---- the first program
 
--- The pair of the newest root is half made: its second program is next. Before its first program the map stood under a former root.
+-- The pair of the newest root is half made: its second program is next. Before its first program the map was under a former root.
 pub record IsHalf (shape : Shape) (next : Next) (flash : Flash) (m : Map) : Type 0 where
   pub page : ℕ
   pub again : next ≡ Again page
@@ -57,7 +57,7 @@ pub record CanInstall (shape : Shape) (root : Root) (next : Next) (flash : Flash
   pub under : IsUnder shape flash [] top found m
   pub follows : IsNext shape flash [] top found root then_found
 
--- The root is the newest one, and the same map stands under it, wherever the program is cut. Its second program is next.
+-- The root is the newest one, and the same map is under it, wherever the program is cut. Its second program is next.
 pub record IsInstalled (shape : Shape) (root : Root) (then_found : Found) (m : Map) (old : BoardState) (next' : Next) (new : BoardState) : Type 0 where
   pub page : ℕ
   pub under : IsUnder shape new.pages [] (page, root) then_found m
@@ -80,7 +80,7 @@ InstallBreaks shape root next old new =
 
 -- ---- the second program
 
--- The root is the newest one of the flash, with its pair half made, and the map stands under it, as it stood before its first program.
+-- The root is the newest one of the flash, with its pair half made, and the map is under it, as it was before its first program.
 pub record CanRepeat (shape : Shape) (root : Root) (next : Next) (flash : Flash) (top : ℕ × Root) (found : Found) (m : Map) : Type 0 where
   pub installs : InstallerOnFlash shape next top flash
   pub top_is : top.1 ≡ root

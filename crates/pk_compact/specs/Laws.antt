@@ -16,7 +16,7 @@ use Rattle.pk_steps.specs.Under.{IsUnder, IsValuePage, places}
 use Rattle.pk_steps.specs.Merging.{IsMerged, merged_root, merged_found, freed_by}
 use Rattle.pk_compact.specs.Freezing.{IsApart}
 
--- No spare block is read behind a merge, where blocks of its source and of its target's former run were given back.
+-- No spare block is read after a merge, if blocks of its source and of its target's former run were given back.
 abbrev pub ApartMerged : Type 0
 ApartMerged =
     (shape : Shape) (flash : Flash) (pool : Blocks) (top : ℕ × Root) (found : Found) (m : Map) (level count : ℕ) (taken gone : List ℕ) → IsShape shape
@@ -25,13 +25,13 @@ ApartMerged =
     → ((b : ℕ) → AnyByRecursion (λ c. b ≡ c) gone → AnyByRecursion (λ c. b ≡ c) (freed_by level top.1))
     → IsApart shape (given_back pool gone) (merged_root top.1 level count taken) (merged_found level found)
 
--- a block behind the root blocks that the root does not name, and in which no value that counts has a page
+-- a block after the root blocks that the root does not name, and in which no value that counts has a page
 pub record IsUnread (shape : Shape) (root : Root) (found : Found) (block : ℕ) : Type 0 where
   pub least : ROOT_BLOCKS ≤ block
   pub unnamed : AnyByRecursion (λ c. block ≡ c) (named root) → ⊥
   pub no_value : (k : ℕ) → k / shape.block_pages ≡ block → IsValuePage shape (places found []) k → ⊥
 
--- the map is the same at every cut of a call, and the lists stand behind it
+-- the map is the same at every cut of a call, and the lists match after it
 pub record Leaves (shape : Shape) (old : BoardState) (top : ℕ × Root) (found : Found) (m : Map) (new : BoardState) : Type 0 where
   pub under : IsUnder shape new.pages [] top found m
   pub cuts : Reaches shape old new (CrashFinds shape background old.pages m)

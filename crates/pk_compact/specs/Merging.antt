@@ -22,7 +22,7 @@ abbrev pub without_source : Root → ℕ → Root
 without_source root level =
     if level == 1 then record root { older = [] } else record root { counts = slice_set root.counts (level - 2) 0; runs = slice_set root.runs (level - 2) [] }
 
--- The root in memory is the newest one of the flash, and the output of the next merge, of so many entries, stands in these blocks.
+-- The root in memory is the newest one of the flash, and the output of the next merge, of n entries, is in these blocks.
 pub record CanMerge (root : Held) (next : Next) (flash : Flash) (top : ℕ × Root) (found : Found) (m : Map) (level count : ℕ) (taken : List ℕ) : Type 0 where
   pub installs : InstallerOnFlash root.shape next top flash
   pub top_is : top.1 ≡ root.root
@@ -43,7 +43,7 @@ pub record HasMerged (shape : Shape) (old : BoardState) (top : ℕ × Root) (fou
   pub behind : SameBehind shape old.pages new.pages
   pub cuts : Reaches shape old new (CrashFinds shape background old.pages m)
 
--- so for each of the maps that it might stand for
+-- so for each of the maps that it might have
 abbrev pub MergesRoot : Held → Next → BoardState → ℕ → ℕ → List ℕ → Root → Next → BoardState → Type 0
 MergesRoot root next old level count taken root' next' new =
     (top : ℕ × Root) (found : Found) (m : Map) → CanMerge root next old.pages top found m level count taken

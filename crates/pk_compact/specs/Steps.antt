@@ -9,7 +9,7 @@ use Rattle.pk_rootfmt.specs.Root.{Root}
 use Rattle.pk_model.specs.Growth.{Grows}
 use Rattle.pk_model.specs.Steps.{Step}
 
--- A step by at most one call of the board, whether it ended or the call failed. Where it ended, the tree of lists has grown.
+-- A step by at most one flash operation, whether it ended or the operation failed. If it ended, the tree of lists has grown.
 pub record StepByCall {T : Type 0} (Ended : T → Type 0) (Broken : Type 0) (shape : Shape) (most : ℕ) (old new : BoardState) (result : Result T Fault) : Type 0 where
   pub step : Step Ended Broken shape most old new result
   pub calls : AtMostOneCall old new
@@ -17,7 +17,7 @@ pub record StepByCall {T : Type 0} (Ended : T → Type 0) (Broken : Type 0) (sha
 
 -- ---- roots
 
--- the root that follows: the next number, an empty epoch in these blocks, and the former one as the older where it has entries
+-- the root that follows: the next number, an empty epoch in these blocks, and the former one as the older if it has entries
 abbrev pub next_root : Root → List ℕ → Bool → Root
 next_root root blocks has_entries = record root {
   number = root.number + 1;

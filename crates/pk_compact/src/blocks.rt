@@ -15,7 +15,7 @@ use pk_nand::{Fault, Nand};
 use pk_pool::{Owner, Pool};
 use std::alloc::Allocator;
 
-/// Takes a block for an epoch, by at most one erase. `Stopped` where it fails.
+/// Takes a block for an epoch, by at most one erase. `Stopped` if it fails.
 pub(crate) fn take_block<B: Nand, A: Allocator>(
     board: &mut B,
     pool: &mut Pool<A>,
@@ -46,7 +46,7 @@ pub(crate) fn take_block<B: Nand, A: Allocator>(
     }
 }
 
-/// Retires an epoch, which is named no more: where it has no entries, its blocks leave the journal.
+/// Retires an epoch, which is no longer named: if it has no entries, its blocks leave the journal.
 pub fn retire_epoch<A: Allocator>(pool: &mut Pool<A>, blocks: [u16; 2], has_entries: bool)
     requires first { slice_get pool.old.states (slice_index blocks 0) ≡ Some (Owned Journal) }
     requires second { slice_get pool.old.states (slice_index blocks 1) ≡ Some (Owned Journal) }

@@ -27,11 +27,13 @@ pub enum FreezeJob {
     HasTwo { first: u16, second: u16 },
 }
 
-/// One step of a freeze, by at most one call of the board: it takes the first block of an empty epoch, then the second one, and
-/// then installs the root that names them, after an erase if one is next. True exactly if this call made the root's first program:
-/// the root is the newest one then, its second program is next, and the blocks of a former epoch without entries are to be given
-/// back after that one. Until then root and lists are as they were, and commands may be served between the steps. `Stopped` if the
-/// call fails; pool, root, installer and freeze are not to be used any more then. `buf` has the bytes of a page, which are lost.
+/// One step of a freeze, by at most one flash operation: it takes the first block of an empty
+/// epoch, then the second one, and then installs the root that names them, after an erase if one is
+/// next. True exactly if this call made the root's first program: the root is the newest one then,
+/// its second program is next, and the blocks of a former epoch without entries are to be given
+/// back after that one. Until then root and lists are unchanged, and commands may be served between
+/// the steps. `Stopped` if the operation fails; pool, root, installer and freeze may not be used
+/// after that. `buf` has the size of a page and is overwritten.
 pub fn freeze_step<B: Nand, A: Allocator>(
     board: &mut B,
     pool: &mut Pool<A>,
@@ -56,7 +58,7 @@ pub fn freeze_step<B: Nand, A: Allocator>(
         (B.state board.new))
         root.old.shape 1 (B.state board.old) (B.state board.new) result }
 
-    // What stays in any case.
+    // What is unchanged in any case.
     ensures root_shape { root.new.shape ≡ root.old.shape }
     ensures buffer { length buf.new ≡ length buf.old }
 {

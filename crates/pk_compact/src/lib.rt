@@ -1,6 +1,7 @@
-//! Jobs that keep the lists of a flash short, in steps of at most one call of the board. A freeze makes the newest epoch the
-//! older one, and begins an empty one in two blocks of the pool; a merge empties the older epoch, or a run, into the next run.
-//! The map is the same, wherever a step is cut, and commands that are served between the steps see the former lists.
+//! Jobs that keep the lists of a flash short, in steps of at most one flash operation. A freeze
+//! makes the newest epoch the older one, and begins an empty one in two blocks of the pool; a merge
+//! empties the older epoch, or a run, into the next run. The map is the same wherever a step is
+//! cut, and commands that are served between the steps see the former lists.
 #![tactic(auto)]
 
 mod blocks;

@@ -33,7 +33,8 @@ fn empty_source<A: Allocator>(root: &mut Root<A>, level: u8)
     }
 }
 
-// Makes the root the one behind a merge into this level, whose output has so many entries, in these blocks.
+// Makes the root the one after a merge into this level, whose output has `count` entries, in these
+// blocks.
 fn follow<A: Allocator>(root: &mut Root<A>, level: u8, count: u32, taken: &[u16])
     requires level { 1 ≤ level × level ≤ 4 }
     requires number { root.old.root.number < last_number }
@@ -50,9 +51,10 @@ fn follow<A: Allocator>(root: &mut Root<A>, level: u8, count: u32, taken: &[u16]
     empty_source(root, level);
 }
 
-/// Installs the root after a merge into this level, whose output, of `count` entries, stands in these blocks: its first program is
-/// the one call of the board, and its second one is next. Wherever it is cut, the map is the same. `Stopped` where it fails; root
-/// and installer are not to be used any more then. `buf` has the bytes of a page, which are lost.
+/// Installs the root after a merge into this level, whose output, of `count` entries, is in these
+/// blocks: its first program is the one flash operation, and its second one is next. Wherever it is
+/// cut, the map is the same. `Stopped` if it fails; root and installer may not be used after that.
+/// `buf` has the size of a page and is overwritten.
 pub fn install_merge<B: Nand, A: Allocator>(
     board: &mut B,
     root: &mut Root<A>,
@@ -78,7 +80,7 @@ pub fn install_merge<B: Nand, A: Allocator>(
         (B.state board.new))
         root.old.shape 1 (B.state board.old) (B.state board.new) result }
 
-    // What stays in any case.
+    // What is unchanged in any case.
     ensures shape { root.new.shape ≡ root.old.shape }
     ensures buffer { length buf.new ≡ length buf.old }
 {

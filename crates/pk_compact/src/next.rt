@@ -7,7 +7,7 @@ ghost use Rattle.pk_compact.specs.Steps.{next_root};
 use pk_rootfmt::Root;
 use std::alloc::Allocator;
 
-// The blocks of the older epoch behind a freeze: those of the newest one, where it has entries.
+// The blocks of the older epoch after a freeze: those of the newest one, if it has entries.
 fn older<A: Allocator>(root: &Root<A>, has_entries: bool) -> Option<[u16; 2]>
     requires { length root.now.root.newest ≡ 2 }
     ensures { blocks_or_none result ≡ (if has_entries then root.now.root.newest else []) }
@@ -18,7 +18,8 @@ fn older<A: Allocator>(root: &Root<A>, has_entries: bool) -> Option<[u16; 2]>
     None
 }
 
-/// Makes the root the next one: an empty epoch in these blocks, and the former one as the older where it has entries.
+/// Makes the root the next one: an empty epoch in these blocks, and the former one as the older if
+/// it has entries.
 pub(crate) fn follow<A: Allocator>(root: &mut Root<A>, blocks: [u16; 2], has_entries: bool)
     requires number { root.old.root.number < last_number }
     requires epoch { root.old.root.epoch ≤ root.old.root.number }

@@ -1,5 +1,5 @@
-//! The install of the next root in three steps, by one call of the board each: the erase before it, where one is next, and its two
-//! programs.
+//! The install of the next root in three steps, by one flash operation each: the erase before it,
+//! if one is next, and its two programs.
 ghost use Rattle.std.specs.Prelude.{◌≡◌, ◌≤◌, ℕ, length, true, false};
 ghost use Rattle.pk_base.specs.Map.{Map};
 ghost use Rattle.pk_base.specs.Page.{SameBehind};
@@ -18,8 +18,9 @@ use pk_root::Installer;
 use pk_rootfmt::Root;
 use std::alloc::Allocator;
 
-/// Erases the root block that is next, behind which the next root is programmed: the one call of the board. The newest root and
-/// the map are the same, wherever it is cut. `Stopped` where it fails; the installer is as before then.
+/// Erases the root block that is next, after which the next root is programmed: the one flash
+/// operation. The newest root and the map are the same wherever it is cut. `Stopped` if it fails;
+/// the installer is as before then.
 pub fn prepare_root<B: Nand>(
     board: &mut B,
     shape: &Shape,
@@ -39,9 +40,10 @@ pub fn prepare_root<B: Nand>(
     installer.erase(board, shape)
 }
 
-/// Programs a root that may follow the newest one in the first page of the pair that is next: the one call of the board. The root is
-/// the newest one then, and its second program is next. Wherever it is cut, the map is the same. `Stopped` where it fails; the
-/// installer is as before then. `buf` has the bytes of a page, which are lost.
+/// Programs a root that may follow the newest one in the first page of the pair that is next: the
+/// one flash operation. The root is the newest one then, and its second program is next. Wherever
+/// it is cut, the map is the same. `Stopped` if it fails; the installer is as before then. `buf`
+/// has the size of a page and is overwritten.
 pub fn install_root<B: Nand, A: Allocator>(
     board: &mut B,
     root: &Root<A>,
@@ -64,15 +66,16 @@ pub fn install_root<B: Nand, A: Allocator>(
         (B.state board.new))
         root.now.shape 1 (B.state board.old) (B.state board.new) result }
 
-    // What stays in any case.
+    // What is unchanged in any case.
     ensures buffer { length buf.new ≡ length buf.old }
 {
     root.shape().known();
     installer.program(board, root, buf)
 }
 
-/// Programs the newest root once more, in the second page of its pair: the one call of the board. Wherever it is cut, the map is the
-/// same. `Stopped` where it fails; the installer is as before then. `buf` has the bytes of a page, which are lost.
+/// Programs the newest root once more, in the second page of its pair: the one flash operation.
+/// Wherever it is cut, the map is the same. `Stopped` if it fails; the installer is as before then.
+/// `buf` has the size of a page and is overwritten.
 pub fn repeat_root<B: Nand, A: Allocator>(
     board: &mut B,
     root: &Root<A>,
@@ -97,7 +100,7 @@ pub fn repeat_root<B: Nand, A: Allocator>(
     ensures program { OneProgram (B.state board.old) (B.state board.new) }
     ensures number { roots (B.state board.new) ≤ roots (B.state board.old) }
 
-    // What stays in any case.
+    // What is unchanged in any case.
     ensures buffer { length buf.new ≡ length buf.old }
 {
     root.shape().known();

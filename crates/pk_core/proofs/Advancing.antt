@@ -1,4 +1,4 @@
--- What a background step tells of what is left.
+-- What a background step reports of the remaining work.
 use Rattle.std.proofs.Common.{◌≡◌}
 use Rattle.std.specs.Prelude.{◌↔◌}
 use Rattle.pk_nand.specs.BoardState.{BoardState}

@@ -29,7 +29,7 @@ deepest_few shape is =
     let blocks = is.blocks_most in
     omega (arith, few, blocks)
 
--- making room takes fewer than 2^16 calls, with a look-up before it
+-- making room takes fewer than 2^16 calls, with a lookup before it
 pub room_few : (shape : Shape) → IsShape shape → room_calls shape + 4 ≤ 65535
 room_few shape is =
     let merges = emptying_most shape is in
@@ -42,7 +42,7 @@ dense_few shape is =
     let most = is.page_most in
     omega (arith, fit, most)
 
--- nor does a Store that waits for reclaims, with a look-up before it
+-- nor does a Store that waits for reclaims, with a lookup before it
 pub store_few : (shape : Shape) → IsShape shape → store_most shape + 4 ≤ 65535
 store_few shape is =
     let merges = emptying_most shape is in

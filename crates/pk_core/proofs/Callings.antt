@@ -1,4 +1,4 @@
--- How many calls of the flash a command makes.
+-- How many flash operations a command makes.
 use Rattle.std.proofs.Common.{◌≡◌, ℕ, ◌-◌, ◌≤◌, sym, ap, subst, ◌∙◌, arith, false}
 use Rattle.std.specs.Prelude.{if◌then◌else◌, ◌==◌}
 use Rattle.pk_base.specs.Shape.{Shape, IsShape, most_calls}
@@ -46,7 +46,7 @@ few_breaks old new most n less made = record {
 pub four_less : (n : ℕ) → 4 - n ≤ 68
 four_less n = omega arith
 
--- a look-up and the pages of a value are few
+-- a lookup and the pages of a value are few
 looks_few : (shape : Shape) → IsShape shape → 68 ≤ most_calls shape
 unfolding most_calls
 looks_few shape is = let some = block_pages_positive shape is in omega (arith, some)
@@ -68,7 +68,7 @@ spends_reads old new most n k less made = spends_still n k old new (few_reads ol
 pub spends_breaks : (old new : BoardState) (most n k : ℕ) → most ≤ n → ReadsFailing old new most → Spends n k old new
 spends_breaks old new most n k less made = spends_still n k old new (few_breaks old new most n less made) (ap (λ (b : BoardState). roots b) made.board)
 
--- a look-up failed
+-- a lookup failed
 pub spends_failed : (d : Parts) (old new : BoardState) → DriveOnFlash d old.shape old.pages → (most k : ℕ) → most ≤ 68 → ReadsFailing old new most → Spends (most_calls d.log.shape) k old new
 spends_failed d old new a most k less made = spends_still (most_calls d.log.shape) k old new (few_failed d old new a most less made) (ap (λ (b : BoardState). roots b) made.board)
 
@@ -87,6 +87,6 @@ few_for_looks shape opcode number size other old new is f =
 pub few_for_tick : (shape : Shape) (opcode size : ℕ) → opcode ≡ 0xC0 → (old new : BoardState) → FewCalls size old new → FewCalls (most_calls_of shape opcode size) old new
 few_for_tick shape opcode size is old new f = subst (λ o. FewCalls (most_calls_of shape o size) old new) (sym is) f
 
--- the board tells the shape of the log
+-- the board has the shape of the log
 pub few_told : (d : Parts) (old new : BoardState) → DriveOnFlash d old.shape old.pages → (opcode size : ℕ) → FewCalls (most_calls_of d.log.shape opcode size) old new → FewCalls (most_calls_of (shape_or_none old.shape) opcode size) old new
 few_told d old new a opcode size f = subst (λ s. FewCalls (most_calls_of s opcode size) old new) (a.with.shape_is ∙ sym (ap shape_or_none a.told_is)) f

@@ -15,7 +15,7 @@ use Rattle.pk_parts.specs.Moves.{StandsBetween, KeepsAll, BreaksAll}
 use Rattle.pk_parts.proofs.Halves.{not_made, stands, between, none_half}
 use Rattle.pk_parts.proofs.Standing.{agrees_between}
 
--- The drive stands for the map still, and the flash holds what it held, or the map, wherever the commit is cut.
+-- The drive still represents the map, and the flash holds what it held, or the map, wherever the commit is cut.
 pub record Committed (d' : Parts) (shape : Shape) (m : Map) (old new : BoardState) : Type 0 where
   pub stands : StandsBetween d' shape new.pages m
   pub cuts : Reaches shape old new (CrashFinds shape commit old.pages m)

@@ -82,7 +82,7 @@ worn_is d shape flash a =
     let same : a.shape ≡ shape = sym (told_same shape a.shape a.told_is) in
     subst (λ s. number_of (newest_root s (page_at flash)) ≡ d.log.root.number) same (ap number_of a.with.committed.is_top ∙ ap (λ r. r.number) (sym a.with.index.logs.root_is))
 
--- ---- commands without a call of the board
+-- ---- commands without a flash operation
 
 other_than : (k : Opcode) (x : ℕ) → op_of x ≡ Some k → (◌≡◌ {A = Option Opcode} (Some k) (Some Retrieve) → ⊥) → op_of x ≡ Some Retrieve → ⊥
 other_than k x is apart e = apart (sym is ∙ e)

@@ -1,4 +1,4 @@
--- Commands that came to an end.
+-- Commands that ended.
 use Rattle.std.proofs.Common.{◌≡◌, ℕ, sym, ap, subst, ◌∙◌, Bool, true, false, List, [], ◌<◌, length, Option}
 use Rattle.pk_base.specs.Shape.{Shape, page_entries}
 use Rattle.pk_base.specs.Page.{Flash}
@@ -14,7 +14,7 @@ use Rattle.pk_core.specs.Done.{Does, Executes}
 use Rattle.pk_core.specs.Serving.{IsServable}
 use Rattle.pk_parts.proofs.Rooming.{entries_some}
 
--- one that left the drive and the pages of its board
+-- one that did not change the drive and the pages of its board
 pub executes_quiet : (d e : Parts) (old new : BoardState) (r : Request) (c : Command) (o : Outcome) (into : List ℕ) (reads : ℕ) → IsServable d old r → e ≡ d → new.pages ≡ old.pages → o.stopped ≡ false
     → Does old new (sight_of d) (sight_of e) c (reply_of o into) reads o.stopped → Executes d e old new c o into reads
 executes_quiet d e old new r c o into reads servable same pages runs does = record {
@@ -31,7 +31,7 @@ executes_quiet d e old new r c o into reads servable same pages runs does = reco
 pub never : {b : Bool} → b ≡ true → b ≡ false → ⊥
 never is not = let e : true ≡ false = sym is ∙ not in cc
 
--- where nothing is pending, fewer entries are than a page of the journal takes
+-- if nothing is pending, fewer entries are than a page of the journal takes
 pub none_between : (d : Parts) (told : Option Shape) (flash : Flash) → DriveOnFlash d told flash → d.log.pending ≡ [] → DriveOnFlashBetween d told flash
 none_between d told flash agrees none = (
   agrees,

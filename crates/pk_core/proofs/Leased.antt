@@ -30,7 +30,7 @@ gt_false x y h = grind (arith, nat_tests)
 abbrev pub entries_of : List Kept → List ℕ
 entries_of rs = map (λ (r : Kept). r.count) rs
 
--- so many levels are pinned behind this one, itself with them
+-- this many levels are pinned after this one, itself included
 module _ (shape : Shape) (flash : Flash) (arena : Frames) (pins : ℕ) where
   many : (level left : ℕ) (rs : List Kept) (bss : List (List ℕ)) (ess : List (List Entry)) → left ≡ suc pins - level → HaveBlocks shape rs bss → RunsOnFlash flash arena rs ess → ArePinnedTo pins level rs
       → length (leases_of rs) ≡ sum (map (run_pages shape) (take left (entries_of rs)))
@@ -49,7 +49,7 @@ module _ (shape : Shape) (flash : Flash) (arena : Frames) (pins : ℕ) where
       let whole = sum_by-cons (λ (x : ℕ). x) (run_pages shape r.count) (map (run_pages shape) (take left (entries_of rs))) in
       both ∙ (let e : length r.leases + length (leases_of rs) ≡ run_pages shape r.count + sum (map (run_pages shape) (take left (entries_of rs))) = omega (arith, one, others) in e) ∙ sym whole
 
--- where no merge runs, the leased frames of a drive are the pages of its pinned runs
+-- if no merge runs, the leased frames of a drive are the pages of its pinned runs
 pub leased_are : (d : Parts) (shape : Shape) (flash : Flash) (top : ℕ × Root) (found : Found) (without all : Map) → DriveOnFlashWith d shape flash top found without all → merging d.schedule.phase ≡ 0
     → leased_frames d.arena ≡ sum (map (run_pages shape) (take (pinned shape (frames_of d)) (entries_of d.levels.runs)))
 leased_are d shape flash top found without all agrees idle =

@@ -1,4 +1,4 @@
--- A command behind the look-up of its key.
+-- A command after the lookup of its key.
 use Rattle.std.proofs.Common.{◌≡◌, ◌≢◌, ℕ, ◌-◌, ◌≤◌, refl, sym, ap, subst, arith, false, List, [], Option, Some, Result, Ok, Err}
 use Rattle.std.specs.Prelude.{OnOk}
 use Rattle.pk_base.specs.Entry.{Place}
@@ -28,7 +28,7 @@ use Rattle.pk_core.proofs.Served.{looks_behind, does_behind}
 use Rattle.pk_parts.proofs.Staying.{stays_opens, stays_same}
 use Rattle.pk_core.proofs.Unchanging.{unread_look}
 
--- the look-up left the drive as it was
+-- the lookup did not change the drive
 pub looked_up : (d e : Parts) (old mid : BoardState) (r : Request) (k : Key) (p : Option Place) (before : ℕ) → IsServable d old r → k ≡ key (command_of r []) → before ≡ old.reads
     → e ≡ d → Looks d old.pages k p → ReadsOnly old mid (4 - d.levels.pinned) → IsLookedUp e mid r k p before
 looked_up d e old mid r k p before s named is same looks made =
@@ -68,7 +68,7 @@ ok_of : (P : Type 0) (r : Result Unit Fault) → OnRunning P r → OnOk r P
 ok_of P (Ok u) is = is
 ok_of P (Err e) is = tt
 
--- one that came to this
+-- one with this result
 module _ (d e f : Parts) (old new : BoardState) (k : Key) (r : Result Unit Fault) (o : Outcome) (reads : ℕ) (told : o ≡ outcome_for r reads) (rest : f ≡ stopped_by e r) where
   -- no pair is half made
   half_none : OnRunning (is_half e ≡ false) r → o.stopped ≡ false → is_half f ≡ false
@@ -101,7 +101,7 @@ module _ (d e f : Parts) (old new : BoardState) (k : Key) (r : Result Unit Fault
 
 -- ---- the whole command
 
--- behind a look-up it comes to what it comes to from there
+-- after a lookup it comes to what it comes to from there
 pub executes_behind : (d e f : Parts) (old mid new : BoardState) (most : ℕ) (c : Command) (into : List ℕ) (o : Outcome) → e ≡ d → ReadsOnly old mid most → (op_of c.opcode ≡ Some Retrieve → ⊥) → IsCounted mid new
     → o.reads ≡ new.reads - old.reads → Executes e f mid new c o into (new.reads - mid.reads) → Executes d f old new c o into o.reads
 executes_behind d e f old mid new most c into o same made other count told did = record {
@@ -110,7 +110,7 @@ executes_behind d e f old mid new most c into o same made other count told did =
   does = does_behind d e f old mid new most c into o same made other count told did.does;
 }
 
--- a read of the look-up failed
+-- a read of the lookup failed
 pub executes_unread : (d e : Parts) (old new : BoardState) (r : Request) (v into : List ℕ) (o : Outcome) (reads : ℕ) → IsServable d old r → e ≡ d → o ≡ record { status = 0x88; result = 0; data_len = 0; reads = reads; stopped = false }
     → old.read_faults ≤ last_count → ReadsFailing old new (4 - d.levels.pinned) → reads ≡ new.reads - old.reads → Executes d e old new (command_of r v) o into o.reads
 executes_unread d e old new r v into o reads s same told faults made is =

@@ -28,7 +28,7 @@ use Rattle.pk_parts.proofs.Ticking.{count_free}
 
 -- ---- what is seen of it
 
--- the open block has room where so many of its pages are Erased
+-- the open block has room if this many of its pages are Erased
 pub left_is : (shape : Shape) (pool : Blocks) (flash : Flash) (o : Option OpenBlock) (b count : ℕ) → MatchOption o (Unit {0}) (λ x. IsOpenIn shape pool flash x) → block_if_open o ≡ Some b → count ≤ free_pages shape flash b → has_left shape o count ≡ true
 left_is shape pool flash None b count is e room = cc
 left_is shape pool flash (Some o) b count is e room =
@@ -46,7 +46,7 @@ no_yes : (b : Bool) → b ≡ true → b ≡ false → ⊥
 no_yes true e f = cc
 no_yes false e f = cc
 
--- an entry that a list has counts in front of others
+-- an entry that a list has counts before others
 found_front : (k : Key) (xs ys : List Entry) (place : Option Place) → find key_cmp k xs ≡ Some place → find key_cmp k (xs ++ ys) ≡ Some place
 found_front k [] ys place is = cc
 found_front k (x ∷ xs) ys place is =
@@ -70,7 +70,7 @@ module _ (d e : Parts) (old new : BoardState) (c : Command) (a : DriveOnFlash d 
       let left : fits_open a.shape d.space (charge a.shape c.size) ≡ true = left_is a.shape (freed d.pool) old.pages d.space.open_block room.0 (charge a.shape c.size) a.with.placed.open_is room.1 room.2 in
       no_yes (fits_open a.shape d.space (charge a.shape c.size)) left (subst (λ s. fits_open s d.space (charge s c.size) ≡ false) a.with.shape_is none)
 
-  -- where its value has room, the open block stays
+  -- if its value has room, the open block is unchanged
   open_stays : HasOpenRoom a.shape old.pages (sight_of d) (charge a.shape c.size) → block_if_open e.space.open_block ≡ block_if_open d.space.open_block
   open_stays room = elim blocks [
     | inl same ↦ same.open_same

@@ -1,4 +1,4 @@
--- A drive behind the reads of its opening.
+-- A drive after the reads of its opening.
 use Rattle.std.proofs.Common.{◌≡◌, ℕ, ◌<◌, ◌≤◌, Some, List, [], length, sym, ap, subst, ◌∙◌, arith}
 use Rattle.pk_base.specs.Shape.{Shape, IsShape, page_entries}
 use Rattle.pk_base.specs.Page.{Flash, page_at}
@@ -28,7 +28,7 @@ few_pending shape flash frames d is o =
     let some : 0 < page_entries shape = omega arith in
     subst (λ (s : Shape). length d.log.pending < page_entries s) (sym o.with.shape_is) (subst (λ (es : List Entry). length es < page_entries shape) (sym o.none_pending) some)
 
--- behind the reads of an opening
+-- after the reads of an opening
 module _ (shape : Shape) (frames reads : ℕ) (old new : BoardState) (d : Parts) (is_shape : IsShape shape) (ready : IsReady old shape) (done : new ≡ after_reads reads old) (o : OpenedOn shape old.pages frames d) where
   pub agrees_behind : DriveOnFlash d new.shape new.pages × (length d.log.pending < page_entries d.log.shape)
   agrees_behind =
@@ -43,7 +43,7 @@ module _ (shape : Shape) (frames reads : ℕ) (old new : BoardState) (d : Parts)
       let there : StandsFor d shape new.pages o.all = subst (λ (f : Flash). StandsFor d shape f o.all) (sym (ap (λ (s : BoardState). s.pages) done)) here in
       (o.all, still_stands d new shape frames o.all told o.frames_are (between d shape new.pages o.all there))
 
-  -- so many blocks are in use as have a page of a value
+  -- as many blocks are in use as have a page of a value
   pub blocks_behind : (tree : Tree) → IsTree shape new.pages tree → (sight_of d).counts.blocks ≡ live_blocks shape tree.found []
   blocks_behind tree is =
       let was : IsTree shape old.pages tree = subst (λ (f : Flash). IsTree shape f tree) (ap (λ (s : BoardState). s.pages) done) is in

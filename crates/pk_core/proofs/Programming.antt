@@ -1,4 +1,4 @@
--- When a Store and a Delete wait for nothing, and what they program behind their look-up.
+-- When a Store and a Delete wait for nothing, and what they program after their lookup.
 use Rattle.std.proofs.Common.{◌≡◌, ◌≢◌, inl, inr, ℕ, ◌+◌, ◌-◌, ◌*◌, ◌<◌, ◌≤◌, refl, sym, ap, subst, ◌∙◌, arith, Bool, true, false, not, ◌&&◌, ◌||◌, ◌==◌, List, [], ◌∷◌, ◌++◌, ◌⊎◌, length, reverse, Option, Some, None, Result, Ok, is_some, cond}
 use Rattle.std.specs.Prelude.{IsSome, if◌then◌else◌}
 use Rattle.std.specs.FinMap.Entries.{find}
@@ -141,7 +141,7 @@ module _ (d : Parts) (shape : Shape) (flash : Flash) (top : ℕ × Root) (found 
       both_false ((length d.log.active.entries == d.log.active.capacity) && not (is_some (find key_cmp k d.log.active.entries))) ((length d.log.pending == 0) && (left_of d.log.epoch == 0))
       (room_false (length d.log.active.entries == d.log.active.capacity) (is_some (find key_cmp k d.log.active.entries)) room_is) (commit_false (length d.log.pending == 0) (left_of d.log.epoch == 0) commit_is)
 
--- ---- behind the reads of a look-up
+-- ---- after the reads of a lookup
 
 behind_reads : (old mid new : BoardState) (most n : ℕ) → ReadsOnly old mid most → Programs n mid new → Programs n old new
 behind_reads old mid new most n made p = record { programs = p.programs ∙ ap (λ (b : BoardState). counted_by n b.programs) made.board; erases = p.erases ∙ ap (λ (b : BoardState). b.erases) made.board }

@@ -1,4 +1,4 @@
--- Behind its look-up a change of the map that waits for nothing reads nothing.
+-- After its lookup a change of the map that waits for nothing reads nothing.
 use Rattle.std.proofs.Common.{◌≡◌, ap, sym, subst, ◌∙◌, false}
 use Rattle.pk_base.specs.Key.{Key}
 use Rattle.pk_nand.specs.BoardState.{BoardState}
@@ -6,7 +6,7 @@ use Rattle.pk_log.specs.State.{needs_freeze}
 use Rattle.pk_parts.specs.Parts.{Parts, is_half}
 use Rattle.pk_parts.specs.Programming.{ReadsQuietly}
 
--- behind the reads of a look-up
+-- after the reads of a lookup
 pub reads_behind : (d e : Parts) (mid new : BoardState) (k k' : Key) → e ≡ d → k ≡ k' → ReadsQuietly e k mid new → needs_freeze d.log k' ≡ false → new.reads ≡ mid.reads
 reads_behind d e mid new k k' same named quiet none =
     let T : Parts → Type 0 = λ x. ReadsQuietly x k mid new in

@@ -19,7 +19,7 @@ use Rattle.pk_parts.specs.Agreeing.{DriveOnFlash}
 use Rattle.pk_parts.proofs.Halves.{counted_of}
 use Rattle.pk_parts.proofs.Ticking.{ready_freed}
 
--- by so many blocks for values, so many that are ready, so many that are not, and what is left of the merge
+-- by the numbers of blocks for values, of those that are ready and of those that are not, and what is left of the merge
 due_by : Parts → ℕ → Bool
 due_by d used = (used - length (outputs_of d) == data_blocks d.log.shape - 1) && not (fits_open d.log.shape d.space (most_pages d.log.shape))
 

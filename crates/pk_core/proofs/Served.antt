@@ -93,13 +93,13 @@ module _ (d : Parts) (old new : BoardState) (a : DriveOnFlash d old.shape old.pa
   counted : new.reads ≡ min (old.reads + made) last_count
   counted = let up = count.up in let few = count.few in omega (arith, up, few)
 
-  -- where the change is cut, the command is
+  -- if the change is cut, the command is
   exec_cut : (f : Flash) (q : List ℕ) → CrashFinds d.log.shape (change after) old.pages a.all f q → CrashFinds d.log.shape (command c) old.pages a.all f q
   exec_cut f q (quiet, inl same) = (quiet, inl same)
   exec_cut f q (quiet, inr (inl is)) = (quiet, inr (inl is))
   exec_cut f q (quiet, inr (inr is)) = (quiet, inr (inr (is ∙ ap (λ m. Ok m) (sym leaves))))
 
-  -- so is it where the map is kept
+  -- so is it if the map is kept
   kept_cut : (f : Flash) (q : List ℕ) → CrashFinds d.log.shape commit old.pages a.all f q → CrashFinds d.log.shape (command c) old.pages a.all f q
   kept_cut f q (quiet, inl same) = (quiet, inl same)
   kept_cut f q (quiet, inr is) = (quiet, inr (inl is))
@@ -174,7 +174,7 @@ module _ (d : Parts) (old new : BoardState) (a : DriveOnFlash d old.shape old.pa
 pub none_read : (n : ℕ) → 0 ≡ n - n
 none_read n = omega arith
 
--- the shape of a board stays
+-- the shape of a board is unchanged
 pub shape_stays : (old new : BoardState) → OnlyFlash old new → new.shape ≡ old.shape
 shape_stays old new only = ap (λ (b : BoardState). b.shape) only
 
@@ -225,7 +225,7 @@ not_unread options live most status there is = by_cases (not (options % 2 == 1) 
     by_cases true true false e = differs 0x81 (λ x. omega (arith, x)) e
     by_cases true true true e = cc
 
--- where none failed, the live pages are within their limit
+-- if none failed, the live pages are within their limit
 within : (options live most : ℕ) (there : Bool) → store_check options there live most ≡ None → live ≤ most
 within options live most there is = by_cases (not (options % 2 == 1) || there) (not (options / 2 % 2 == 1 && there)) (nat_le live most) refl is
   where
@@ -328,7 +328,7 @@ module _ (d : Parts) (old : BoardState) (r : Request) (value : List ℕ) (k : Ke
     one_root : most_installs r.opcode r.size ≡ most_roots
     one_root = ap (λ x. most_installs x r.size) op
 
-    -- what putting it came to
+    -- the result of putting it
     pub store_came : (answer : Result Unit Fault) (e : Parts) (new : BoardState) (most : ℕ) (into : List ℕ) (outcome : Outcome) (reads : ℕ) → StoresWhole d e most old new k value answer → roots new ≤ roots old + most_roots → IsCounted old new → OnRunning (StaysBetween d e) answer
         → outcome ≡ outcome_for answer reads → Executes d (stopped_by e answer) old new c outcome into (new.reads - old.reads)
     unfolding its_drive
@@ -405,7 +405,7 @@ module _ (d : Parts) (old : BoardState) (r : Request) (v : List ℕ) (k : Key) (
     gone_root : most_installs r.opcode r.size ≡ most_roots
     gone_root = ap (λ x. most_installs x r.size) op
 
-    -- what taking it out came to
+    -- the result of taking it out
     pub delete_came : (answer : Result Unit Fault) (e : Parts) (new : BoardState) (most : ℕ) (into : List ℕ) (outcome : Outcome) (reads : ℕ) → TakesWhole d e most old new k p answer → roots new ≤ roots old + most_roots → IsCounted old new → OnRunning (StaysBetween d e) answer
         → outcome ≡ outcome_for answer reads → Executes d (stopped_by e answer) old new dc outcome into (new.reads - old.reads)
     unfolding its_drive
@@ -431,7 +431,7 @@ module _ (d : Parts) (old : BoardState) (r : Request) (v : List ℕ) (k : Key) (
         let done = does_stop d old new s.agrees dc (remove its_map k) count few gone_root step.rest (delete_other r.opcode op) leaves_gone (sight_of (record e { stopped = true })) (step.came.0 d.log.shape its_map may_take) step.came.1 in
         subst (λ (x : Outcome). Executes d (record e { stopped = true }) old new dc x into (new.reads - old.reads)) (sym told_is) (record { stops = refl; agrees = λ is. absurd (no_yes is); does = done })
 
--- ---- behind the reads of a look-up
+-- ---- after the reads of a lookup
 
 pub looks_behind : (d e : Parts) (flash flash' : Flash) (k : Key) (o : Option Place) → e ≡ d → flash' ≡ flash → Looks d flash k o → Looks e flash' k o
 looks_behind d e flash flash' k o same pages looks = subst (λ (x : Parts). Looks x flash' k o) (sym same) (subst (λ (f : Flash). Looks d f k o) (sym pages) looks)

@@ -27,7 +27,7 @@ module _ (d e : Parts) (old new : BoardState) (steps : ℕ) (a : DriveOnFlash e 
   pub settles_there : Settles old new (sight_of d) (sight_of e) steps
   settles_there shape frames m stands = elim lessens [ inl less ↦ inl less | inr none ↦ inr (idle_there shape stands.shape_is none) ]
 
-  -- as many steps as may ever be left leave none
+  -- as many steps as may ever remain leave none
   pub rests_there : DriveOnFlash d old.shape old.pages → Rests old new (sight_of d) (sight_of e) steps
   rests_there agrees shape frames m stands most =
       let few = few_left d old.shape shape old.pages agrees stands.shape_is in

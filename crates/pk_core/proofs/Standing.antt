@@ -1,4 +1,4 @@
--- A drive that agrees with its board stands for the map that the board holds.
+-- A drive that agrees with its board represents the map that the board holds.
 use Rattle.std.proofs.Common.{◌≡◌, ℕ, refl, sym, ap, subst, ◌∙◌, Option, Some, Result, Ok, unwrap_or}
 use Rattle.pk_base.specs.Shape.{Shape}
 use Rattle.pk_base.specs.Page.{Flash}
@@ -17,7 +17,7 @@ same_shape x y e = ap (λ o. unwrap_or o x) e
 same_map : (x y : Map) → ◌≡◌ {A = Result Map Refusal} (Ok x) (Ok y) → x ≡ y
 same_map x y e = cc
 
--- the map of a drive that agrees with its board is the one that it stands for
+-- the map of a drive that agrees with its board is the one that it represents
 pub stands_for : (d : Parts) (board : BoardState) (shape : Shape) (frames : ℕ) (m : Map) → DriveOnFlash d board.shape board.pages → HoldsMap shape frames board (sight_of d) m → StandsBetween d shape board.pages m
 stands_for d board shape frames m agrees stands =
     let shapes : agrees.shape ≡ shape = same_shape agrees.shape shape (sym agrees.told_is ∙ stands.shape_is) in
@@ -31,6 +31,6 @@ stands_so d board shape m told is = record { shape_is = told; frames_is = refl; 
 pub stands_here : (d : Parts) (told : Option Shape) (flash : Flash) → DriveOnFlash d told flash → (m : Map) × StandsBetween d d.log.shape flash m
 stands_here d told flash agrees = (agrees.all, stands_between d told flash agrees)
 
--- where the map of the drive stays, it stands for it still
+-- if the map of the drive is unchanged, the drive still represents it
 pub still_stands : (d : Parts) (board : BoardState) (shape : Shape) (frames : ℕ) (m : Map) → board.shape ≡ Some shape → frames_of d ≡ frames → StandsBetween d shape board.pages m → HoldsMap shape frames board (sight_of d) m
 still_stands d board shape frames m told same is = record { shape_is = told; frames_is = same; map_is = reads_between d shape board.pages m is }

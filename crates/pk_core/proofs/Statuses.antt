@@ -57,7 +57,7 @@ module _ (P : ℕ → Type 0) (opcode : P 0x01) (namespace : P 0x0B) (key : P 0x
 pub early_refuses : (shape : Shape) (c : Command) (status : ℕ) → early shape c ≡ Some status → status ≢ 0
 early_refuses shape c status is = fault_says (λ x. x ≢ 0) (λ e. omega (arith, e)) (λ e. omega (arith, e)) (λ e. omega (arith, e)) (λ e. omega (arith, e)) (λ e. omega (arith, e)) shape c (op_of c.opcode) status is
 
--- nor does one of them tell of a read that failed
+-- nor does one of them report a read that failed
 pub early_sound : (shape : Shape) (c : Command) (status : ℕ) → early shape c ≡ Some status → status ≢ 0x88
 early_sound shape c status is = fault_says (λ x. x ≢ 0x88) (λ e. omega (arith, e)) (λ e. omega (arith, e)) (λ e. omega (arith, e)) (λ e. omega (arith, e)) (λ e. omega (arith, e)) shape c (op_of c.opcode) status is
 

@@ -1,4 +1,4 @@
--- What of a drive stays, as the contract of a drive sees it.
+-- What of a drive is unchanged, as the contract of a drive sees it.
 use Rattle.std.proofs.Common.{◌≡◌, ◌⊎◌, inl, inr, ℕ, sym, ap, subst, ◌∙◌, arith, Option, Some}
 use Rattle.pk_base.specs.Shape.{charge}
 use Rattle.pk_base.specs.Page.{page_at}

@@ -1,4 +1,4 @@
--- A drive that agrees with its flash is steady: its numbers are those of what stands there.
+-- A drive that agrees with its flash is steady: its numbers are those of what is on the flash.
 use Rattle.std.proofs.Common.{◌≡◌, ◌≢◌, inl, inr, ℕ, ◌+◌, ◌*◌, ◌/◌, ◌<◌, ◌≤◌, refl, sym, ap, subst, ◌∙◌, arith, Bool, true, false, T, List, [], ◌∷◌, ◌++◌, length, map, Option, Some, None}
 use Rattle.std.specs.Prelude.{slice_get, slice_index_or, count_by, MatchOption, IfSome, ◌%◌, ◌&&◌, not}
 use Rattle.std.specs.List.{concat}
@@ -94,7 +94,7 @@ for_values_told : (o : Option BlockState) → is_for_values o ≡ true → (s : 
 for_values_told None e = cc
 for_values_told (Some s) e = (s, refl, e)
 
--- the level that is due is told by the index
+-- the level that is due follows from the index
 due_of : (shape : Shape) (d : Parts) → due_level shape (backlog_of d) ≡ due_level shape (backlog_of_index (index_of d))
 unfolding due_level
 due_of shape d = refl
@@ -240,7 +240,7 @@ module _ (d : Parts) (shape : Shape) (flash : Flash) (top : ℕ × Root) (found 
 told_same : (a b : Shape) → ◌≡◌ {A = Option Shape} (Some a) (Some b) → a ≡ b
 told_same a b e = cc
 
--- a bounded work is left, whatever is pending
+-- bounded work remains, whatever is pending
 pub few_left : (d : Parts) (told : Option Shape) (shape : Shape) (flash : Flash) → DriveOnFlash d told flash → told ≡ Some shape → (sight_of d).work < most_work shape
 few_left d told shape flash a told_is =
     let there : (sight_of (settled_parts d)).work < most_work a.shape = work_is (settled_parts d) a.shape flash a.top a.found a.without a.all a.with in
@@ -256,11 +256,11 @@ between_steady d told shape flash is told_is shared =
     let here : IsSteady a.shape flash (sight_of d) = subst (IsSteady a.shape flash) (seen_same d told flash a) there in
     subst (λ s. IsSteady s flash (sight_of d)) same here
 
--- it is so behind a call that left no more than its flash
+-- it is so after a call that left no more than its flash
 pub steadies : (e : Parts) (old new : BoardState) (before : Sight) → DriveOnFlashBetween e new.shape new.pages → OnlyFlash old new → IsShared e.pool.shape e.pool.states → Steadies old new before (sight_of e)
 steadies e old new before is rest shared shape frames m stands = between_steady e new.shape shape new.pages is (ap (λ (b : BoardState). b.shape) rest ∙ stands.shape_is) shared
 
--- where nothing is pending, the drive stands as it does between two commands
+-- if nothing is pending, the drive is as it is between two commands
 pub between_none : (d : Parts) (told : Option Shape) (flash : Flash) → DriveOnFlash d told flash → d.log.pending ≡ [] → DriveOnFlashBetween d told flash
 between_none d told flash a none =
     let some : 0 < page_entries d.log.shape = entries_some d.log.shape (subst IsShape (sym a.with.shape_is) a.with.placed.is_shape) in

@@ -1,4 +1,4 @@
--- Background steps in a row.
+-- Background steps one after another.
 use Rattle.std.proofs.Common.{◌≡◌, ◌≢◌, inl, inr, ℕ, ◌+◌, ◌-◌, ◌<◌, ◌≤◌, refl, sym, ap, subst, ◌∙◌, arith, Bool, true, false, List, [], ◌++◌, Option, Some, None, Ok}
 use Rattle.pk_base.specs.Shape.{Shape, limit}
 use Rattle.std.proofs.lemmas.Bool.{leb-false}
@@ -46,7 +46,7 @@ use Rattle.pk_parts.proofs.Staying.{stays_same, stays_frees}
 use Rattle.pk_parts.proofs.Callings.{few_more, spends_same, spends_within}
 use Rattle.pk_parts.proofs.Ticking.{yes_no}
 
--- the drive agrees with its board after so many steps, of which none failed
+-- the drive agrees with its board after this many steps, of which none failed
 pub record Ongoing (first : Parts) (old : BoardState) (d : Parts) (board : BoardState) (made : ℕ) : Type 0 where
   pub agrees : DriveOnFlash d board.shape board.pages
   pub unstopped : d.stopped ≡ false
@@ -121,7 +121,7 @@ sound_step a b s t Idle ticks e = subst (λ x. NoFault a x) (sym (ticks.idle_res
 sound_step a b s t (Fault stopped) ticks e = absurd (yes_no true e refl)
 
 module _ (s0 s1 : BoardState) (e0 e1 : Sight) (n : ℕ) (first : Steps s0 s1 e0 e1 Worked n) where
-  -- a cut behind the steps so far is one behind the first
+  -- a cut after the steps so far is one after the first
   seen : (shape : Shape) (frames : ℕ) (m : Map) (st : HoldsMap shape frames s0 e0 m) (f : Flash) (q : List ℕ)
       → CrashFinds shape background s0.pages m f q → CrashFinds shape background s0.pages m f (all_posted (first.cuts refl shape frames m st).0 ++ q)
   seen shape frames m st f q cut =
@@ -161,7 +161,7 @@ no_more_step d e a b Idle step runs = let same = ap (λ (s : Sight). s.work) (st
 no_more_step d e a b (Fault true) step runs = absurd (yes_no true runs refl)
 no_more_step d e a b (Fault false) step runs = let same = ap (λ (s : Sight). s.work) (step.ticks.unmade refl).0 in omega (arith, same)
 
--- so many steps are within more
+-- this many steps are within more
 pub steps_within : (old new : BoardState) (s t : Sight) (answer : Ticked) (n k : ℕ) → n ≤ k → Steps old new s t answer n → Steps old new s t answer k
 steps_within old new s t answer n k less w = record {
   stands = w.stands;
@@ -273,7 +273,7 @@ module _ (first : Parts) (old : BoardState) (d : Parts) (board : BoardState) (ma
   ongoing_may most more numbers = record { agrees = o.agrees; unstopped = o.unstopped; none = o.none; number = (let e = o.number in omega (arith, e, more, numbers)); counted = o.counted }
 
   module _ (e : Parts) (next : BoardState) (answer : Ticked) (step : Advances d e board next answer) where
-    -- it ends behind any step
+    -- it ends after any step
     pub ongoing_last : (most : ℕ) → made < most → Steps old next (sight_of first) (sight_of e) answer most
     ongoing_last most less = steps_within old next (sight_of first) (sight_of e) answer (made + 1) most (omega (arith, less)) (steps_more old board (sight_of first) (sight_of d) made o.steps next (sight_of e) answer step.ticks)
 
@@ -283,7 +283,7 @@ module _ (first : Parts) (old : BoardState) (d : Parts) (board : BoardState) (ma
     pub ongoing_no_more : stopped_by answer ≡ false → (sight_of e).work ≤ (sight_of first).work
     ongoing_no_more runs = let was = o.less in let now = no_more_step d e board next answer step runs in omega (arith, was, now)
 
-  -- it goes on behind a step that worked
+  -- it goes on after a step that worked
   pub ongoing_more : (e : Parts) (next : BoardState) → Advances d e board next Worked → Ongoing first old e next (made + 1)
   ongoing_more e next step = record {
     agrees = step.agrees refl;
@@ -296,7 +296,7 @@ module _ (first : Parts) (old : BoardState) (d : Parts) (board : BoardState) (ma
     stays = frees_then first d e o.stays (step.moves refl);
   }
 
-  -- where no step is left, nothing is left but a reclaim
+  -- if no step remains, nothing remains but a reclaim
   pub ongoing_done : (e : Parts) (next : BoardState) → Advances d e board next Idle → HasNoStep e
   ongoing_done e next step = let idle = step.idle refl in subst HasNoStep (sym idle.1) idle.0
 

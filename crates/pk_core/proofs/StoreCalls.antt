@@ -1,4 +1,4 @@
--- How many calls of the flash a Store makes at most, by its parts.
+-- How many flash operations a Store makes at most, by its parts.
 use Rattle.std.proofs.Common.{ℕ, ◌+◌, ◌≤◌, arith}
 use Rattle.pk_base.specs.Shape.{Shape, IsShape, charge, greatest, most_pages}
 use Rattle.pk_base.proofs.ShapeLemmas.{charge_most}

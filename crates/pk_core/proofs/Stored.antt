@@ -50,7 +50,7 @@ use Rattle.pk_parts.proofs.Stored.{blocks_most, blocks_at}
 true_false : true ≡ false → ⊥
 true_false e = cc
 
--- ---- a look-up finds the former value
+-- ---- a lookup finds the former value
 
 reaches_behind : (shape : Shape) (old new : BoardState) (n : ℕ) (P : Flash → List ℕ → Type 0) → Reaches shape (record old { reads = n }) new P → Reaches shape old new P
 reaches_behind shape old new n P run = (run.0, record { trail = run.1.trail; posted = run.1.posted; same_shape = run.1.same_shape; cuts = run.1.cuts; stands = run.1.stands }, run.2)
@@ -81,7 +81,7 @@ module _ (d : Parts) (flash : Flash) (key : Key) (value : List ℕ) (p : Option 
       let put : Q flash = found_may d.log.shape can.may.0 (subst M was can.may.1) in
       subst T (sym same) (record { ready = ready; may = (can.may.0, subst Q (sym (pages ∙ was)) put); short = can.short; few = can.few })
 
--- the map changes behind the reads of a look-up
+-- the map changes after the reads of a lookup
 module _ (d c : Parts) (s0 s2 : BoardState) (n : ℕ) (key : Key) (value : List ℕ) (p : Option Place) (looks : Looks d s0.pages key p) (up : s0.reads ≤ n) (few : n ≤ s0.reads + 4) where
   abbrev mid : BoardState
   mid = record s0 { reads = n }
@@ -124,7 +124,7 @@ found_numbers d e s0 s1 same made few =
     let calls : room_calls e.log.shape ≡ room_calls d.log.shape = ap (λ (x : Parts). room_calls x.log.shape) same in
     omega (arith, roots_same, calls, few)
 
--- a read of the look-up failed
+-- a read of the lookup failed
 unread_parts : (d e : Parts) (s0 s1 : BoardState) (most : ℕ) → e ≡ d → ReadsFailing s0 s1 most → CannotRead d e s0 s1
 unread_parts d e s0 s1 most same made =
     let T : Parts → Type 0 = λ x. CannotRead d x s0 s1 in
@@ -155,7 +155,7 @@ between_from r d e c same is = subst (λ (x : Parts). OnRunning (StaysBetween x 
 pub opens_looked : (r : Result Unit Fault) (d e c : Parts) (size : ℕ) → e ≡ d → OnRunning (StaysOrOpens e c (charge e.log.shape size)) r → OnRunning (StaysOrOpens d c (charge d.log.shape size)) r
 opens_looked r d e c size same is = subst (λ (x : Parts). OnRunning (StaysOrOpens x c (charge x.log.shape size)) r) same is
 
--- ---- behind the reclaims
+-- ---- after the reclaims
 
 module _ (a b : Parts) (s0 s1 : BoardState) (n : ℕ) (key : Key) (value : List ℕ) (can : CanStore a s0 key value) (stays : StaysSame a b) (none : b.log.pending ≡ []) (step : MovesOrReads {T = Unit {0}} a b n s0 s1 (Ok tt)) where
   no_entries : length b.log.pending ≡ 0
@@ -211,7 +211,7 @@ stores_failed e a b s0 s1 n most key value can few step =
     reading_failed e (λ (x : Unit). SameMapAll a b s0 s1) (λ (x : Unit). StoresAll a b s0 s1 key value) (SameMapAll a b s0 s1) (SameMapAll a b s0 s1) (BreaksAll a s0 s1) (FailsToStore a s0 s1 key value)
     a.log.shape n most s0 s1 few (λ same. same) (λ breaks shape m may. kept_goes shape s0 s1 (board_has a s0 shape m can.ready may.stands) m (insert m key value) (breaks shape m may.stands)) step
 
--- ---- what stays
+-- ---- what is unchanged
 
 between_both : (a b c : Parts) → StaysSame a b → StaysBetween b c → StaysBetween a c
 between_both a b c first second = record {
@@ -224,7 +224,7 @@ between_both a b c first second = record {
 pub stays_behind : (r : Result Unit Fault) (a b c : Parts) → StaysSame a b → OnRunning (StaysBetween b c) r → OnRunning (StaysBetween a c) r
 stays_behind r a b c first second = running_says (StaysBetween b c) (StaysBetween a c) r (between_both a b c first) second
 
--- where the reclaims failed
+-- if the reclaims failed
 stays_none : (a b : Parts) → IsShape a.log.shape → StaysSame a b → b.log.pending ≡ [] → StaysBetween a b
 stays_none a b is same none =
     let some = entries_some a.log.shape is in
@@ -275,7 +275,7 @@ module _ (a : Parts) (s0 : BoardState) (key : Key) (value : List ℕ) (count : �
   no_reads (Ok x) s2 = λ fits. absurd (true_false (sym fits ∙ no_fit a count wanted))
   no_reads (Err e) s2 = tt
 
--- ---- where it has room
+-- ---- if it has room
 
 pub store_can : (d : Parts) (board : BoardState) (key : Key) (value : List ℕ) (p : Option Place) → CanPut d board key value p → CanStore d board key value
 store_can d board key value p can = record {
@@ -326,7 +326,7 @@ store_numbers d board key value can unworn = let few = room_most d board key val
 pub put_numbers : (d : Parts) (board : BoardState) (key : Key) (value : List ℕ) (p : Option Place) → CanPut d board key value p → is_worn board ≡ false → roots board + room_calls d.log.shape < 18446744073709551615
 put_numbers d board key value p can unworn = let few = room_most d board key value (store_can d board key value p can) unworn in omega (arith, few)
 
--- ---- by the size that a request tells
+-- ---- by the size that a request has
 
 pub room_looked : (d e : Parts) (size : ℕ) → e ≡ d → fits_open d.log.shape d.space (charge d.log.shape size) ≡ true → fits_open e.log.shape e.space (charge e.log.shape size) ≡ true
 room_looked d e size same room = subst (λ (x : Parts). fits_open x.log.shape x.space (charge x.log.shape size) ≡ true) (sym same) room

@@ -55,7 +55,7 @@ use Rattle.pk_parts.proofs.Unchanging.{reads_more, reads_break, own, for_its_map
 yes_no : false ≡ true → ⊥
 yes_no e = cc
 
--- it may answer this on every map that the drive stands for, and reads no more than it may
+-- it may answer this on every map that the drive represents, and reads no more than it may
 abbrev pub AnswersAll : BoardState → Sight → Command → Reply → ℕ → Type 0
 AnswersAll old s c reply reads =
     (shape : Shape) (frames : ℕ) (m : Map) → HoldsMap shape frames old s m → Step shape frames m c reply m × (op_of c.opcode ≡ Some Retrieve → reads ≤ most_reads shape frames m c)
@@ -216,7 +216,7 @@ missing_sound e = omega (arith, e)
 other_kind : (x : ℕ) → x ≡ 0x14 → op_of x ≡ Some Retrieve → ⊥
 other_kind x is e = let f : ◌≡◌ {A = Option Opcode} (Some Exist) (Some Retrieve) = sym (ap op_of is) ∙ e in cc
 
--- the value that a look-up found
+-- the value that a lookup found
 pub value_of : (d : Parts) (old : BoardState) (a : DriveOnFlash d old.shape old.pages) (k : Key) (p : Place) → IsKey k → Looks d old.pages k (Some p) → ValueThere d.log.shape old.pages a.all k p
 value_of d old a k p is_key looks = value_there (settled_parts d) old.pages a.top a.found a.without a.all k p is_key (own d old a) (looked d old a k (Some p) looks)
 
@@ -233,7 +233,7 @@ front_of d d' flash' old a k p n size is_key looks same pages is =
 pub room_of : (d : Parts) (old : BoardState) (a : DriveOnFlash d old.shape old.pages) (k : Key) (p : Place) (n size room : ℕ) → IsKey k → Looks d old.pages k (Some p) → n ≡ min p.len size → greatest d.log.shape ≤ room → n ≤ room
 room_of d old a k p n size room is_key looks is all = (let short = (value_of d old a k p is_key looks).short in omega (arith, is, short, all))
 
--- ---- the reads of a value behind those of a look-up
+-- ---- the reads of a value after those of a lookup
 
 pub value_reads : (d d' : Parts) (old mid new : BoardState) (n : ℕ) → d' ≡ d → ReadsOnly old mid (4 - d.levels.pinned) → new ≡ after_reads (fetched d'.log.shape n) mid → ReadsOnly old new (4 - d.levels.pinned + fetched d.log.shape n)
 value_reads d d' old mid new n same before made =
@@ -287,7 +287,7 @@ module _ (d d' : Parts) (old new : BoardState) (r : Request) (v into : List ℕ)
   by_unread most reads faults made is bound =
       same_sight (refusal 0x88) reads (does_unread old new (sight_of d) (command_of r v) most reads few few' faults made is (on_all (refusal 0x88) reads (unread_step d.log.shape (frames_of d) a.all (command_of r v) passes, bound)))
 
-  -- a look-up whose read failed
+  -- a lookup whose read failed
   pub unread_look : (o : Outcome) (reads : ℕ) → o ≡ record { status = 0x88; result = 0; data_len = 0; reads = reads; stopped = false } → old.read_faults ≤ last_count
       → ReadsFailing old new (4 - d.levels.pinned) → reads ≡ new.reads - old.reads → Done o
   unread_look o reads told faults made is =

@@ -45,7 +45,7 @@ use Rattle.pk_parts.proofs.Staying.{opens_behind, stays_same, stays_then}
 
 -- ---- the pair is whole
 
--- The drive stands for the map, by the same lists, and no pair is half made. The flash holds what it held, or the map; and so it does at every cut.
+-- The drive represents the map, by the same lists, and no pair is half made. The flash holds what it held, or the map; and so at every cut.
 pub record MadeWhole (b : Parts) (shape : Shape) (m : Map) (s0 s1 : BoardState) (found : Found) : Type 0 where
   pub stands : StandsFor b shape s1.pages m
   pub same_found : stands.found ≡ found
@@ -149,7 +149,7 @@ fails_half f a b s0 s1 finishes rests = by (is_half a) refl
 between_has : (a : Parts) (board : BoardState) (shape : Shape) (m : Map) → IsReady board a.log.shape → StandsBetween a shape board.pages m → board.shape ≡ Some shape
 between_has a board shape m ready is = ready.shape_is ∙ ap (λ s. Some s) is.with.shape_is
 
--- ---- what comes behind it
+-- ---- what comes after it
 
 module _ (a b : Parts) (s0 s1 : BoardState) (ready : IsReady s0 a.log.shape) (w : Wholes a b s0 s1) where
   ready_then : IsReady s1 b.log.shape
@@ -341,7 +341,7 @@ module _ (a : Parts) (s0 s1 : BoardState) (fails : FailsToFinish a s0 s1) where
         installs = omega (arith, few);
       }
 
--- ---- no pair is half made behind it
+-- ---- no pair is half made after it
 
 pub put_makes_whole : (r : Result Unit Fault) (a c : Parts) (s0 s2 : BoardState) (most : ℕ) (key : Key) (value : List ℕ) (p : Option Place) → CanPutBetween a s0 key value p → StoresWhole a c most s0 s2 key value r → OnRunning (is_half c ≡ false) r
 put_makes_whole (Ok u) a c s0 s2 most key value p can step =
@@ -354,7 +354,7 @@ take_makes_whole (Ok u) a c s0 s2 most key p can step = is_whole c (step.came.0 
 take_makes_whole (Err Reading) a c s0 s2 most key p can step = is_whole c (step.came.0 a.log.shape can.may.0 can.may.1.stands).stands.whole
 take_makes_whole (Err Stopped) a c s0 s2 most key p can step = tt
 
--- ---- where none was half made, nothing came before it
+-- ---- if none was half made, nothing came before it
 
 module _ (a b : Parts) (s0 s1 s2 : BoardState) (same_parts : b ≡ a) (same : s1 ≡ s0) where
   -- what holds of one holds of the other

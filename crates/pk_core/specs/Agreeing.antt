@@ -1,4 +1,4 @@
--- How a drive stands to its flash between two commands.
+-- How a drive matches its flash between two commands.
 use Rattle.std.specs.Prelude.{◌<◌, length, Option}
 use Rattle.pk_base.specs.Shape.{Shape, page_entries}
 use Rattle.pk_base.specs.Page.{Flash}

@@ -17,7 +17,7 @@ use Rattle.pk_call.specs.Exec.{ExecStands, most_installs}
 use Rattle.pk_parts.specs.Parts.{Parts, sight_of}
 use Rattle.pk_core.specs.Agreeing.{DriveOnFlashBetween}
 
--- A command gave this reply behind so many reads, or stopped the drive; drive and board are then what the contract of a drive wants.
+-- A command gave this reply after this many reads, or stopped the drive; drive and board are then what the contract of a drive requires.
 pub record Does (old new : BoardState) (before after : Sight) (c : Command) (reply : Reply) (reads : ℕ) (stopped : Bool) : Type 0 where
   pub stands : stopped ≡ false → ExecStands old new before after c reply reads
   pub cuts : stopped ≡ false → CallReaches old new before (command c)
@@ -33,8 +33,8 @@ pub record Does (old new : BoardState) (before after : Sight) (c : Command) (rep
   pub no_stop : stopped ≡ false → new.stop_faults ≡ old.stop_faults
   pub installs : roots new ≤ roots old + most_installs c.opcode c.size
 
--- A command came to this. The drive is stopped, or stands for its board with fewer entries pending than a journal page takes; it
--- answered as the contract of a drive wants, behind so many reads.
+-- The result of a command. The drive is stopped, or represents the map of its board with fewer entries pending than a journal
+-- page takes; it answered as the contract of a drive requires, after this many reads.
 pub record Executes (before after : Parts) (old new : BoardState) (c : Command) (o : Outcome) (into : List ℕ) (reads : ℕ) : Type 0 where
   pub stops : after.stopped ≡ o.stopped
   pub agrees : o.stopped ≡ false → DriveOnFlashBetween after new.shape new.pages

@@ -1,4 +1,4 @@
--- A Store or a Delete behind the look-up of its key.
+-- A Store or a Delete after the lookup of its key.
 use Rattle.std.specs.Prelude.{◌≡◌, ℕ, [], Option, false}
 use Rattle.pk_base.specs.Entry.{Place}
 use Rattle.pk_base.specs.Key.{Key}
@@ -22,7 +22,7 @@ pub record IsLookedUp (d : Parts) (board : BoardState) (r : Request) (k : Key) (
   pub looks : Looks d board.pages k p
   pub since : IsReadSince before board
 
--- What a Store of so many pages leaves of the blocks for values, and its calls where it waits for nothing.
+-- What a Store of n pages leaves of the blocks for values, and its calls if it waits for nothing.
 pub record StoresOver (before after : Parts) (old new : BoardState) (k : Key) (count : ℕ) (o : Outcome) : Type 0 where
   pub half : o.stopped ≡ false → is_half before ≡ false → is_half after ≡ false
   pub finishes : o.status ≡ SUCCESSFUL_COMPLETION → is_half after ≡ false

@@ -1,4 +1,4 @@
--- What a command leaves of epochs, blocks and background work, which pages it programs, and how many calls of the flash it makes.
+-- What a command leaves of epochs, blocks and background work, which pages it programs, and how many flash operations it makes.
 use Rattle.std.specs.Prelude.{◌≡◌, ◌≢◌, ◌≤◌, ℕ, List, take, true, false}
 use Rattle.pk_nvme.specs.declared.opcode.TheConstants.{STORE, DELETE, TICK}
 use Rattle.pk_nvme.specs.declared.status.TheConstants.{SUCCESSFUL_COMPLETION, UNRECOVERED_ERROR}

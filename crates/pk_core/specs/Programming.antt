@@ -14,12 +14,12 @@ use Rattle.pk_call.specs.declared.types.Outcome.{Outcome}
 use Rattle.pk_parts.specs.Parts.{Parts, sight_of, is_half}
 use Rattle.pk_parts.specs.Programming.{Programs, ReadsQuietly}
 
--- nor where besides a value of so many pages has room in the open block
+-- nor if besides a value of n pages has room in the open block
 abbrev pub ReadsNone : Parts → Key → ℕ → BoardState → BoardState → Type 0
 ReadsNone d k count old new = fits_open d.log.shape d.space count ≡ true → ReadsQuietly d k old new
 
--- A Store that was answered so, where no pair is half made, whose key needs no freeze and whose value has room in the open block, made the programs of its value
--- and of a commit, and the reads of a look-up.
+-- A Store that was answered so, with no pair half made, whose key needs no freeze and whose value has room in the open block, made the programs of its value and
+-- of a commit, and the reads of a lookup.
 abbrev pub QuietStore : Parts → BoardState → BoardState → Request → List ℕ → Outcome → Type 0
 QuietStore d old new r value o =
     o.status ≡ SUCCESSFUL_COMPLETION → is_half d ≡ false → needs_freeze d.log (key (command_of r value)) ≡ false → fits_open d.log.shape d.space (charge d.log.shape r.size) ≡ true

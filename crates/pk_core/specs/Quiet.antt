@@ -20,13 +20,13 @@ use Rattle.pk_parts.specs.Parts.{Parts, sight_of}
 use Rattle.pk_parts.specs.Agreeing.{DriveOnFlash}
 use Rattle.pk_core.specs.Done.{Does}
 
--- A command left the drive as it was, and made few calls, of which each was a read.
+-- A command did not change the drive, and made few calls, of which each was a read.
 pub record OnlyLooks (before after : Parts) (old new : BoardState) : Type 0 where
   pub same : after ≡ before
   pub rest : OnlyReading old new
   pub few : FewCalls (most_calls before.log.shape) old new
 
--- the map has a value of this key, whose pages stand at this place
+-- the map has a value of this key, whose pages are at this place
 pub record ValueThere (shape : Shape) (flash : Flash) (m : Map) (key : Key) (p : Place) : Type 0 where
   pub value : List ℕ
   pub is_there : get m key ≡ Some value
@@ -34,7 +34,7 @@ pub record ValueThere (shape : Shape) (flash : Flash) (m : Map) (key : Key) (p :
   pub short : p.len ≤ greatest shape
   pub front : (n : ℕ) → n ≤ p.len → IsFront shape flash p.page n key value
 
--- With no call of the board, a command of this opcode that passed the checks that read it alone comes to this.
+-- With no flash operation, a command of this opcode that passed the checks that read it alone has this result.
 abbrev pub DoneWithout : Parts → ℕ → Outcome → List ℕ → Type 0
 DoneWithout d opcode o into =
     (board : BoardState) (r : Request) (v : List ℕ) → DriveOnFlash d board.shape board.pages → board.reads ≤ last_count → r.opcode ≡ opcode → early d.log.shape (command_of r []) ≡ None

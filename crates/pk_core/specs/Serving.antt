@@ -15,7 +15,7 @@ use Rattle.pk_call.specs.declared.types.Outcome.{Outcome}
 use Rattle.pk_parts.specs.Parts.{Parts}
 use Rattle.pk_parts.specs.Agreeing.{DriveOnFlash}
 
--- The drive stands for its board, runs and is not worn out, and the request passed the checks that read it alone.
+-- The drive matches its board, runs and is not worn out, and the request passed the checks that read it alone.
 pub record IsServable (d : Parts) (board : BoardState) (r : Request) : Type 0 where
   pub agrees : DriveOnFlash d board.shape board.pages
   pub runs : d.stopped ≡ false
@@ -24,7 +24,7 @@ pub record IsServable (d : Parts) (board : BoardState) (r : Request) : Type 0 wh
   pub few : length d.log.pending < page_entries d.log.shape
   pub counted : board.reads ≤ last_count
 
--- the pages of a value at a place; none where there is none
+-- the pages of a value at a place; none if there is none
 abbrev pub pages_at : Shape → Option Place → ℕ
 pages_at shape None = 0
 pages_at shape (Some p) = charge shape p.len
@@ -41,9 +41,9 @@ pub record IsCounted (old new : BoardState) : Type 0 where
   pub up : old.reads ≤ new.reads
   pub few : new.reads ≤ last_count
 
--- ---- what a change of the map came to
+-- ---- the result of a change of the map
 
--- its outcome, behind so many reads
+-- its outcome, after this many reads
 abbrev pub outcome_for : Result Unit Fault → ℕ → Outcome
 outcome_for (Ok u) reads = record { status = SUCCESSFUL_COMPLETION; result = 0; data_len = 0; reads = reads; stopped = false }
 outcome_for (Err Reading) reads = record { status = UNRECOVERED_ERROR; result = 0; data_len = 0; reads = reads; stopped = false }

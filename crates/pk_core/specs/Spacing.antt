@@ -1,4 +1,4 @@
--- A value is stored, wherever the former one of its key stands.
+-- A value is stored, wherever the former one of its key is.
 use Rattle.std.specs.Prelude.{ℕ, ◌+◌, ◌≤◌, ◌<◌, List, length, Result}
 use Rattle.std.specs.FinMap.{insert}
 use Rattle.pk_base.specs.Fields.{AreBytes}
@@ -18,7 +18,7 @@ use Rattle.pk_parts.specs.Changes.{Changes}
 use Rattle.pk_parts.specs.Emptying.{StepOrRead}
 use Rattle.pk_parts.specs.Spacing.{SameMapAll}
 
--- ---- a value is stored, wherever the former one of its key stands
+-- ---- a value is stored, wherever the former one of its key is
 
 -- A key may get a value: the live pages are within their limit with it.
 pub record MayStore (d : Parts) (shape : Shape) (flash : Flash) (m : Map) (key : Key) (value : List ℕ) : Type 0 where
@@ -37,7 +37,7 @@ FailsToStore before old new key value =
     (shape : Shape) (m : Map) → MayStore before shape old.pages m key value
     → Goes shape old new (CrashFinds shape (change (insert m key value)) old.pages m)
 
--- Steps that give the key its value, or a read of them failed and the map is as it was.
+-- Steps that give the key its value, or a read of them failed and the map is unchanged.
 abbrev pub StoresOrReads : Parts → Parts → ℕ → BoardState → BoardState → Key → List ℕ → Result Unit Fault → Type 0
 StoresOrReads before after most old new key value result =
     StepOrRead (λ (u : Unit). StoresAll before after old new key value) (SameMapAll before after old new) (FailsToStore before old new key value) before.log.shape most old new result
@@ -49,6 +49,6 @@ pub record CanStore (d : Parts) (board : BoardState) (key : Key) (value : List �
   pub short : length value ≤ greatest d.log.shape
   pub few : length d.log.pending < page_entries d.log.shape
 
--- most reads and roots of them: a look-up behind the reclaims, and room for the entry
+-- most reads and roots of them: a lookup after the reclaims, and room for the entry
 abbrev pub store_most : Shape → ℕ
 store_most shape = space_calls shape + (4 + room_calls shape)

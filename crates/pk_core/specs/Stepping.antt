@@ -1,4 +1,4 @@
--- Background steps in a row, and the answer of the command that wants them.
+-- Background steps one after another, and the answer of the command that requests them.
 use Rattle.std.specs.Prelude.{◌≡◌, ℕ, ◌+◌, ◌≤◌, ◌⊎◌, Bool, true, false}
 use Rattle.pk_nvme.specs.declared.status.TheConstants.{SUCCESSFUL_COMPLETION, UNRECOVERED_ERROR}
 use Rattle.pk_nand.specs.BoardState.{BoardState}
@@ -15,13 +15,13 @@ use Rattle.pk_parts.specs.Costs.{Spends}
 use Rattle.pk_parts.specs.Parts.{Parts, sight_of}
 use Rattle.pk_parts.specs.Ticking.{HasNoStep}
 
--- a call of the flash failed
+-- a flash operation failed
 abbrev pub has_failed : Ticked → Bool
 has_failed Worked = false
 has_failed Idle = false
 has_failed (Fault stopped) = true
 
--- What at most so many steps did together to a drive and its board, where the last of them answered this.
+-- What at most n steps did together to a drive and its board, if the last of them answered this.
 pub record Steps (old new : BoardState) (before after : Sight) (answer : Ticked) (most : ℕ) : Type 0 where
   pub stands : stopped_by answer ≡ false → KeepsMap old new before after
   pub cuts : stopped_by answer ≡ false → CallReaches old new before background
@@ -38,12 +38,12 @@ pub record Steps (old new : BoardState) (before after : Sight) (answer : Ticked)
   pub stop : stopped_by answer ≡ true → Rose old.stop_faults new.stop_faults
   pub no_stop : stopped_by answer ≡ false → new.stop_faults ≡ old.stop_faults
 
--- a success without data, or the status of a call that failed, behind so many reads
+-- a success without data, or the status of a call that failed, after this many reads
 abbrev pub outcome_of : Ticked → ℕ → Outcome
 outcome_of Worked reads = record { status = SUCCESSFUL_COMPLETION; result = 0; data_len = 0; reads = reads; stopped = false }
 outcome_of Idle reads = record { status = SUCCESSFUL_COMPLETION; result = 0; data_len = 0; reads = reads; stopped = false }
 outcome_of (Fault stopped) reads = record { status = UNRECOVERED_ERROR; result = 0; data_len = 0; reads = reads; stopped = stopped }
 
--- so many steps less are left, or nothing is
+-- this many steps fewer remain, or nothing does
 abbrev pub Lessens : Parts → Parts → ℕ → Type 0
 Lessens before after steps = ((sight_of after).work + steps ≤ (sight_of before).work) ⊎ HasNoStep after

@@ -1,4 +1,4 @@
--- Changes of the map, where a pair may be half made before them.
+-- Changes of the map, before which a pair may be half made.
 use Rattle.std.specs.Prelude.{◌≡◌, ◌≤◌, ◌<◌, ℕ, List, length, Option, Some, Result}
 use Rattle.std.specs.FinMap.{insert, remove}
 use Rattle.std.specs.FinMap.Entries.{find}
@@ -39,7 +39,7 @@ pub record MayTakeBetween (d : Parts) (shape : Shape) (flash : Flash) (m : Map) 
   pub old_is : find key_cmp key (places stands.found d.log.pending) ≡ Some old
   pub bytes : AreBytes key
 
--- ---- for every map for which the drive may stand
+-- ---- for every map that the drive may represent
 
 abbrev pub SameMapBetween : Parts → Parts → BoardState → BoardState → Type 0
 SameMapBetween before after old new = (shape : Shape) (m : Map) → StandsBetween before shape old.pages m → SameMap after shape m old new

@@ -3,7 +3,8 @@ use pk_parts::Parts;
 use pk_region::Region;
 use std::marker::Model;
 
-/// A drive. Contracts see its parts, and how they stand to the flash by `DriveOnFlash`. No call but `open` takes memory.
+/// A drive. Contracts see its parts, and how they match the flash by `DriveOnFlash`. No call but
+/// `open` takes memory.
 #[derive(Drop)]
 pub struct Drive<A: Region> {
     pub(crate) parts: Parts<A>,

@@ -39,7 +39,7 @@ fn perform<B: Nand, A: Region>(
     requires servable { IsServable parts.old (B.state board.old) request.now }
     requires tick { request.now.opcode ≡ TICK → parts.old.log.pending ≡ [] }
 
-    // What is handed over, and the buffer for data.
+    // What is passed, and the buffer for data.
     requires sized { request.now.opcode ≡ STORE
         → request.now.size ≤ greatest parts.old.log.shape → length value.now ≡ request.now.size }
     requires empty { request.now.opcode ≢ STORE → value.now ≡ [] }

@@ -1,7 +1,8 @@
-//! The drive: formatting and opening, commands, commits and background steps over the parts of a drive.
+//! The drive: formatting and opening, commands, commits and background steps over the parts of a
+//! drive.
 //!
-//! Its map is the one that the flash holds with the pending entries. Wherever a command, a commit or a step is cut off, the
-//! flash holds what the contract of a drive says.
+//! Its map is the one that the flash holds with the pending entries. Wherever a command, a commit
+//! or a step is cut, the flash holds what the contract of a drive says.
 #![tactic(auto)]
 
 mod drive;

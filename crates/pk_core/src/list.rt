@@ -13,7 +13,8 @@ use pk_nvme::Request;
 use pk_parts::Parts;
 use pk_region::Region;
 
-/// Executes a List that passed the checks that read it alone: `UNRECOVERED_ERROR` without data where a read fails.
+/// Executes a List that passed the checks that read it alone: `UNRECOVERED_ERROR` without data if a
+/// read fails.
 pub(crate) fn list<B: Nand, A: Region>(
     parts: &mut Parts<A>,
     board: &mut B,

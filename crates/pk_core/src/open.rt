@@ -21,12 +21,14 @@ use pk_region::Region;
 use pk_scan::{OpenError, scan};
 
 impl<A: Region> Drive<A> {
-    /// Opens the flash of a board of this shape, with so many frames for the pages of runs. The drive's map is the one that the
-    /// flash holds, and nothing is pending. Nothing is written; all memory of the drive is taken here.
+    /// Opens the flash of a board of this shape, with this many frames for the pages of runs. The
+    /// drive's map is the one that the flash holds, and nothing is pending. Nothing is written; all
+    /// memory of the drive is taken here.
     ///
-    /// `NotFormatted` exactly where the flash has no root, `Damaged` exactly where it has one and holds no map, with the page at
-    /// which its reading fails; `Fault` where a read failed. `Memory` where the allocator has none, before a read or between two.
-    /// After every answer nothing but reads was done, of which one failed exactly at `Fault`.
+    /// `NotFormatted` exactly if the flash has no root, `Damaged` exactly if it has one and holds
+    /// no map, with the page at which its reading fails; `Fault` if a read failed. `Memory` if the
+    /// allocator has none, before a read or between two. Whatever is returned, nothing but reads
+    /// was done, of which one failed exactly at `Fault`.
     pub fn open<B: Nand>(
         alloc: A,
         board: &mut B,

@@ -15,7 +15,7 @@ use pk_nvme::status::{KEY_DOES_NOT_EXIST, SUCCESSFUL_COMPLETION, UNRECOVERED_ERR
 use pk_parts::Parts;
 use pk_region::Region;
 
-/// A success with this result and so many bytes of data, behind so many reads.
+/// A success with this result and this many bytes of data, after this many reads.
 pub(crate) fn served(answer: u32, data_len: u32, reads: u32) -> Outcome
     ensures { result ≡ record {
       status = SUCCESSFUL_COMPLETION;
@@ -34,7 +34,7 @@ pub(crate) fn served(answer: u32, data_len: u32, reads: u32) -> Outcome
     }
 }
 
-/// A status alone, behind so many reads.
+/// A status alone, after this many reads.
 pub(crate) fn refusal(status: u8, reads: u32) -> Outcome
     ensures { result ≡ record {
       status = status;
@@ -87,7 +87,7 @@ pub(crate) fn exist<B: Nand, A: Region>(
     }
 }
 
-/// The front of a key's value, as much of it as is wanted, and its length.
+/// The prefix of a key's value that is requested, and the value's length.
 pub(crate) fn retrieve<B: Nand, A: Region>(
     parts: &mut Parts<A>,
     board: &mut B,

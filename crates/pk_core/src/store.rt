@@ -29,7 +29,7 @@ use pk_nvme::status::{KEY_DOES_NOT_EXIST, UNRECOVERED_ERROR};
 use pk_parts::Parts;
 use pk_region::Region;
 
-// The pages of the value at a place; none where there is none.
+// The pages of the value at a place; none if there is none.
 fn pages_at(shape: &Shape, place: &Option<Place>) -> u32
     requires { MatchOption place.now (Unit {0}) (λ p. p.len ≤ spec.greatest shape.now) }
     ensures { result ≡ pages_at_by shape.now place.now }
@@ -40,14 +40,14 @@ fn pages_at(shape: &Shape, place: &Option<Place>) -> u32
     }
 }
 
-// Bytes are numbers below 256: it does nothing, and tells the proofs so.
+// Ghost: bytes are numbers below 256, a fact that this makes visible to the prover.
 fn are_bytes(bytes: &[u8])
     ensures { AreBytes bytes.now }
 {
     let _ = bytes.len();
 }
 
-// A key has 1 to 16 bytes: it does nothing, and tells the proofs so.
+// Ghost: a key has 1 to 16 bytes, a fact that this makes visible to the prover.
 fn known(key: &Key)
     ensures key { IsKey key.now }
     ensures bytes { AreBytes key.now }
@@ -55,7 +55,7 @@ fn known(key: &Key)
     are_bytes(key.bytes());
 }
 
-// An unrecovered error that stopped the drive, behind so many reads.
+// An unrecovered error that stopped the drive, after this many reads.
 fn stopping(reads: u32) -> Outcome
     ensures { result ≡ record {
       status = UNRECOVERED_ERROR;
@@ -74,7 +74,8 @@ fn stopping(reads: u32) -> Outcome
     }
 }
 
-// A change of the map came to this, behind so many reads. A call that failed for good stops the drive.
+// The result of a change of the map, after this many reads. A call that failed for good stops the
+// drive.
 fn changed<A: Region>(parts: &mut Parts<A>, answer: Result<(), Fault>, reads: u32) -> Outcome
     ensures told { result ≡ outcome_for answer reads }
     ensures rest { parts.new ≡ stopped_by parts.old answer }
@@ -89,7 +90,7 @@ fn changed<A: Region>(parts: &mut Parts<A>, answer: Result<(), Fault>, reads: u3
     }
 }
 
-// The check of a Store that fails on the map, where the key has its value at this place.
+// The check of a Store that fails on the map, if the key has its value at this place.
 fn fault_of_store<A: Region>(parts: &Parts<A>, request: &Request, old: &Option<Place>) -> Option<u8>
     requires old_short { MatchOption old.now (Unit {0})
         (λ p. p.len ≤ spec.greatest parts.now.log.shape) }

@@ -1,4 +1,4 @@
-//! A key gets a value, wherever that has room: behind reclaims where it has none.
+//! A key gets a value: after reclaims, if there is no room for it without them.
 ghost use Rattle.std.specs.Prelude.{◌≡◌, ◌≤◌, ◌+◌, true, false, OnOk};
 ghost use Rattle.pk_parts.specs.Parts.{pages_for, is_half};
 ghost use Rattle.pk_parts.specs.Costs.{NumbersLast, Spends, put_calls, space_and_put_calls};
@@ -19,7 +19,7 @@ use pk_nand::{Fault, Nand};
 use pk_parts::Parts;
 use pk_region::Region;
 
-// A key gets a value that has room, in place of the one that a look-up finds.
+// A key gets a value that has room, in place of the one that a lookup finds.
 fn put_found<B: Nand, A: Region>(
     parts: &mut Parts<A>,
     board: &mut B,
@@ -31,7 +31,7 @@ fn put_found<B: Nand, A: Region>(
     requires number { NumbersLast (room_calls parts.old.log.shape) (B.state board.old) }
     requires counted { (B.state board.old).reads ≤ last_count }
 
-    // The map, and then the drive beside it.
+    // The map, and then the drive itself.
     ensures step { StoresOrReads parts.old parts.new (4 + room_calls parts.old.log.shape)
         (B.state board.old) (B.state board.new) key value.now result }
     ensures stays { OnRunning (StaysBetween parts.old parts.new) result }
@@ -50,7 +50,8 @@ fn put_found<B: Nand, A: Region>(
     }
 }
 
-// A key gets a value that has no room, behind the reclaims that make it. They may have moved the one that the key has.
+// A key gets a value for which there is no room, after the reclaims that make it. They may have
+// moved the key's former value.
 fn put_behind_reclaims<B: Nand, A: Region>(
     parts: &mut Parts<A>,
     board: &mut B,
@@ -62,7 +63,7 @@ fn put_behind_reclaims<B: Nand, A: Region>(
         ≡ true }
     requires unworn { is_worn (B.state board.old) ≡ false }
 
-    // The map, and then the drive beside it.
+    // The map, and then the drive itself.
     ensures step { StoresOrReads parts.old parts.new (store_most parts.old.log.shape)
         (B.state board.old) (B.state board.new) key value.now result }
     ensures stays { OnRunning (StaysBetween parts.old parts.new) result }
@@ -86,8 +87,9 @@ fn put_behind_reclaims<B: Nand, A: Region>(
     }
 }
 
-/// A key gets a value, in place of the one at `old`. Where it has no room, reclaims make it. `Reading` where a read of a reclaim,
-/// of a merge or of a look-up fails: the map is as it was. `Stopped` where a program or an erase fails.
+/// A key gets a value, in place of the one at `old`. If it has no room, reclaims make it. `Reading`
+/// if a read of a reclaim, of a merge or of a lookup fails: the map is unchanged. `Stopped` if a
+/// program or an erase fails.
 pub(crate) fn put_with_space<B: Nand, A: Region>(
     parts: &mut Parts<A>,
     board: &mut B,
@@ -98,7 +100,7 @@ pub(crate) fn put_with_space<B: Nand, A: Region>(
     requires can { CanPut parts.old (B.state board.old) key value.now old }
     requires unworn { is_worn (B.state board.old) ≡ false }
 
-    // The map, and then the drive beside it.
+    // The map, and then the drive itself.
     ensures step { StoresOrReads parts.old parts.new (store_most parts.old.log.shape)
         (B.state board.old) (B.state board.new) key value.now result }
     ensures stays { OnRunning (StaysBetween parts.old parts.new) result }
@@ -126,9 +128,9 @@ pub(crate) fn put_with_space<B: Nand, A: Region>(
     }
 }
 
-/// A key gets a value, in place of the one at `old`, after the second program of a pair that is half made. Where the value has no room,
-/// reclaims make it. `Reading` where a read of a reclaim, of a merge or of a look-up fails: the map is as it was. `Stopped` where a
-/// program or an erase fails.
+/// A key gets a value, in place of the one at `old`, after the second program of a pair that is
+/// half made. If the value has no room, reclaims make it. `Reading` if a read of a reclaim, of a
+/// merge or of a lookup fails: the map is unchanged. `Stopped` if a program or an erase fails.
 pub(crate) fn put_whole<B: Nand, A: Region>(
     parts: &mut Parts<A>,
     board: &mut B,
@@ -165,8 +167,9 @@ pub(crate) fn put_whole<B: Nand, A: Region>(
     }
 }
 
-/// A key loses its value, the one at `old`, after the second program of a pair that is half made. `Reading` where a read of a merge
-/// fails, which had to make room: the map is as it was. `Stopped` where a program or an erase fails.
+/// A key loses its value, the one at `old`, after the second program of a pair that is half made.
+/// `Reading` if a read of a merge fails, which had to make room: the map is unchanged. `Stopped` if
+/// a program or an erase fails.
 pub(crate) fn take_whole<B: Nand, A: Region>(
     parts: &mut Parts<A>,
     board: &mut B,

@@ -1,4 +1,4 @@
-//! The command that wants background steps.
+//! The command that requests background steps.
 ghost use Rattle.std.specs.Prelude.{◌≡◌, ◌≤◌, ◌+◌, ℕ, List, [], false};
 ghost use Rattle.pk_nvme.specs.Seen.{command_of};
 ghost use Rattle.pk_nand.specs.Calls.{last_count};
@@ -22,7 +22,7 @@ use pk_nvme::status::UNRECOVERED_ERROR;
 use pk_parts::Parts;
 use pk_region::Region;
 
-// What the last step came to, behind so many reads.
+// The result of the last step, after this many reads.
 fn answer_of(last: Ticked, reads: u32) -> Outcome
     ensures { result ≡ outcome_of last reads }
 {
@@ -39,7 +39,8 @@ fn answer_of(last: Ticked, reads: u32) -> Outcome
     }
 }
 
-// Makes so many background steps, fewer where nothing is left to do, or a call fails. The last one answers.
+// Makes this many background steps, fewer if nothing remains to be done, or a call fails. The last
+// one answers.
 fn work<B: Nand, A: Region>(parts: &mut Parts<A>, board: &mut B, steps: u32) -> Ticked
     requires may { MayTick parts.old (B.state board.old) }
     requires count { (B.state board.old).reads ≤ last_count }
@@ -69,7 +70,7 @@ fn work<B: Nand, A: Region>(parts: &mut Parts<A>, board: &mut B, steps: u32) -> 
     Ticked::Worked
 }
 
-/// Makes as many background steps as the command wants, fewer where a further one would do nothing.
+/// Makes as many background steps as the command requests, fewer if a further one would do nothing.
 pub(crate) fn tick_command<B: Nand, A: Region>(
     parts: &mut Parts<A>,
     board: &mut B,

@@ -67,7 +67,7 @@ pub reserved_next : (shape : Shape) (d : DataState) (pool : Blocks) (outputs : L
     → ValuesOnFlash shape d pool outputs flash es → 1 ≤ count → fits_open shape d count ≡ true → page ≡ next_page shape d → IsReserved shape d pool flash page count
 reserved_next shape d pool outputs flash es page count p = reserved shape d.live d.open_block pool outputs flash es page count p
 
--- what a page that was found tells
+-- what a page that was found shows
 pub found_next : (b : Bool) (next page : ℕ) (answer : Option ℕ) → answer ≡ cond b (Some next) None → answer ≡ Some page → (b ≡ true) × (page ≡ next)
 found_next true next page answer e is = (refl, cc)
 found_next false next page answer e is = cc
@@ -238,7 +238,7 @@ pub wrote_as : (shape : Shape) (d : DataState) (count : ℕ) (d' : DataState) �
 wrote_as shape d count d' room is pool outputs old new es p w =
     subst (λ (v : DataState). ValuesOnFlash shape v pool outputs new es) (sym is) (wrote shape d.live d.open_block pool outputs old new es count p room w)
 
--- they lie in the part that is written now
+-- they are in the part that is written now
 in_written : (shape : Shape) (open_block : Option OpenBlock) (count : ℕ) → has_left shape open_block count ≡ true
     → MatchOption (more_used open_block count) ⊥ (λ o. (o.block * shape.block_pages ≤ page_behind shape open_block) × (page_behind shape open_block + count ≤ o.block * shape.block_pages + o.used))
 in_written shape None count room = cc
@@ -249,7 +249,7 @@ in_written_as shape d count d' room is = subst (λ (v : DataState). IsInOpen sha
 
 -- ---- the call that finds pages
 
--- where no page was found, the open block has no room
+-- if no page was found, the open block has no room
 pub found_none : (b : Bool) (next : ℕ) (answer : Option ℕ) → answer ≡ cond b (Some next) None → answer ≡ None → b ≡ false
 found_none true next answer e is = cc
 found_none false next answer e is = refl

@@ -1,4 +1,4 @@
--- The heads of values that lie apart: with a value less, with one more, and with one at another place.
+-- The heads of values that do not overlap: with a value less, with one more, and with one at another place.
 use Rattle.std.proofs.Common.{◌≡◌, ◌≢◌, ℕ, ◌+◌, true, false, T, List, Some, None, refl, sym, ap, subst, ◌∙◌, arith, map, ◌==◌}
 use Rattle.std.specs.List.{range_with_len, AllByRecursion}
 use Rattle.std.specs.FinMap.Entries.{put, find, is_sorted}
@@ -15,7 +15,7 @@ use Rattle.pk_live.proofs.Standing.{map_set}
 use Rattle.pk_data.specs.Placed.{AreApart, without}
 use Rattle.pk_data.proofs.Lists.{put_without, find_gone, page_without, apart_put, apart_without, places_put, places_without, found_place, first_page, head_put, head_without, head_none, head_found}
 
--- Values that lie apart, each within a block, and their heads.
+-- Values that do not overlap, each within a block, and their heads.
 pub record AreLive (shape : Shape) (heads : List ℕ) (es : List (Key × Place)) : Type 0 where
   pub places : AllByRecursion (λ e. IsPlace shape e.1) es
   pub apart : AreApart shape es

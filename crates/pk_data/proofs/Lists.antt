@@ -30,7 +30,7 @@ less Greater p = absurd p
 
 -- ---- keys
 
--- where all keys are greater, none is taken out
+-- if all keys are greater, none is taken out
 keep_all : (key : Key) (es : List (Key × Place)) → T (below_all key_cmp key es) → without key es ≡ es
 keep_all key [] below = refl
 keep_all key (e ∷ es) below =
@@ -38,13 +38,13 @@ keep_all key (e ∷ es) below =
     ap (λ r. cond (not (is_eq r)) (e ∷ without key es) (without key es)) is
     ∙ ap (λ (xs : List (Key × Place)). e ∷ xs) (keep_all key es (right_part (is_lt (key_cmp key e.0)) (below_all key_cmp key es) below))
 
--- and one is put in front
+-- and one is put first
 put_below : (key : Key) (place : Place) (es : List (Key × Place)) → T (below_all key_cmp key es) → put key_cmp key place es ≡ (key, place) ∷ es
 put_below key place [] below = refl
 put_below key place (e ∷ es) below =
     ap (λ r. by_order r ((key, place) ∷ e ∷ es) ((e.0, place) ∷ es) (e ∷ put key_cmp key place es)) (less (key_cmp key e.0) (left_part (is_lt (key_cmp key e.0)) (below_all key_cmp key es) below))
 
--- the keys behind one that is the key are greater
+-- the keys after one that is the key are greater
 tied_below : (key q : Key) (es : List (Key × Place)) → key_cmp key q ≡ Equal → T (below_all key_cmp q es) → T (below_all key_cmp key es)
 tied_below key q es tied below = subst (λ x. T (below_all key_cmp x es)) (sym (key_antisymm key q tied)) below
 
@@ -129,7 +129,7 @@ module _ (shape : Shape) where
   differ_back [] ys d = d
   differ_back (x ∷ xs) ys d = differ_back xs ys (rest_differs x (xs ++ ys) d)
 
-  -- where no page stands twice, no page belongs to two values
+  -- if no page occurs twice, no page belongs to two values
   pub apart_from : (es : List (Key × Place)) → T (differ (all_pages shape es)) → AreApart shape es
   apart_from [] d = tt
   apart_from (e ∷ es) d = (

@@ -14,13 +14,13 @@ use Rattle.pk_live.proofs.Nothing.{Lives-none}
 use Rattle.pk_data.specs.Placed.{HoldsValues}
 use Rattle.pk_data.specs.Laws.{StartsWithNone}
 
--- what stands in a list of one element
+-- what is in a list of one element
 only : {X : Type 0} (n k : ℕ) (x y : X) → slice_get (replicate n x) k ≡ Some y → x ≡ y
 only zero k x y h = cc
 only (suc n) zero x y h = same_Some x y h
 only (suc n) (suc k) x y h = only n k x y h
 
--- where one was written
+-- if one was written
 or_written : {X : Type 0} (xs : List X) (i k : ℕ) (x y : X) → slice_get (set xs i x) k ≡ Some y → (y ≡ x) ⊎ (slice_get xs k ≡ Some y)
 or_written xs i k x y h = elim (cases_eq k i) [
   | inl same ↦ inl (get-set_same xs i x y (subst (λ j. slice_get (set xs i x) j ≡ Some y) same h))

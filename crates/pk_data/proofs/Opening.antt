@@ -37,7 +37,7 @@ page_exists shape is_shape (e ∷ es) k places (inl here) =
     subst (λ p. p < page_count shape) same (value_exists shape e.1 (k - e.1.page) is_shape places.0 (omega (arith, here.0, here.1)))
 page_exists shape is_shape (e ∷ es) k places (inr there) = page_exists shape is_shape es k places.1 there
 
--- and lies behind the root blocks
+-- and is after the root blocks
 page_behind : (shape : Shape) (es : List (Key × Place)) (k : ℕ) → AllByRecursion (λ e. IsPlace shape e.1) es → IsValuePage shape es k → 2 * shape.block_pages ≤ k
 page_behind shape [] k places is = absurd is
 page_behind shape (e ∷ es) k places (inl here) =
@@ -63,7 +63,7 @@ any_block n k [] is = absurd is
 any_block n k (p ∷ pages) (inl e) = or_left (p / n == k / n) (list_any (λ q. q / n == k / n) pages) (eq-eqb (p / n) (k / n) (ap (λ q. q / n) (sym e)))
 any_block n k (p ∷ pages) (inr is) = or_right (p / n == k / n) (list_any (λ q. q / n == k / n) pages) (any_block n k pages is)
 
--- and where a block has one of these pages, this is one
+-- and if a block has one of these pages, this is one
 page_in : (n b : ℕ) (pages : List ℕ) → list_any (λ p. p / n == b) pages ≡ true → (k : ℕ) × AnyByRecursion (λ p. k ≡ p) pages × (k / n ≡ b)
 page_in n b [] is = absurd (false≢true is)
 page_in n b (p ∷ pages) is = elim (or_cases (p / n == b) (list_any (λ q. q / n == b) pages) is) [
@@ -88,7 +88,7 @@ module _ (shape : Shape) (named : List ℕ) (live : Values) (pool : Blocks) (fla
   size_is : length live.closed ≡ shape.blocks
   size_is = ap length closed_is ∙ length-map-range_with_len (is_used shape es) 0 shape.blocks
 
-  -- a block is closed exactly where a page of a value lies in it
+  -- a block is closed exactly if a page of a value is in it
   closed_at : (b : ℕ) → b < shape.blocks → slice_get live.closed b ≡ Some (is_used shape es b)
   closed_at b exists =
       slice_get-get_or live.closed b false (omega (arith, exists, size_is))
@@ -127,7 +127,7 @@ module _ (shape : Shape) (named : List ℕ) (live : Values) (pool : Blocks) (fla
       let page = page_in shape.block_pages b (all_pages shape es) (owned_used b exists held) in
       (page.0, in_value shape es page.0 page.1, page.2)
 
-  -- which lies behind the root blocks
+  -- which is after the root blocks
   behind_roots : (b : ℕ) → HoldsValues pool b → 2 ≤ b
   behind_roots b held =
       let page = page_of b held in

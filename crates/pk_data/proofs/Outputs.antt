@@ -64,7 +64,7 @@ freed_it (b ∷ bs) ss k is = elim (cases_Bool (has k bs)) [
   ]
 ]
 
--- a block is for values then where it was, and is none of these
+-- a block is for values then if it was, and is none of these
 pub freed_is : (bs : List ℕ) (ss : List BlockState) (k : ℕ) → is_for_values (slice_get (freed ss bs) k) ≡ (is_for_values (slice_get ss k) && not (has k bs))
 freed_is bs ss k = elim (cases_Bool (has k bs)) [
   | inl is ↦ freed_it bs ss k is ∙ sym (rw is (and_no (is_for_values (slice_get ss k))))
@@ -79,7 +79,7 @@ freed_is bs ss k = elim (cases_Bool (has k bs)) [
     and_yes true = refl
     and_yes false = refl
 
--- so many less are for values
+-- that many fewer are for values
 pub used_freed : (bs : List ℕ) (ss : List BlockState) → differ bs ≡ true → ((b : ℕ) → IsOutput bs b → slice_get ss b ≡ Some (Owned for_values))
     → used_by for_values (freed ss bs) + length bs ≡ used_by for_values ss
 unfolding freed

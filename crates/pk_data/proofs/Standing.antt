@@ -197,7 +197,7 @@ module _ (d : DataState) (old : Option Span) (new : Span) (m : Moves d old new) 
       (subst (λ es. ValuesOnFlash m.shape (with_head (before d old) m.place.page (charge m.shape m.place.len)) m.pool m.outputs m.flash es) (put_without m.key m.place m.es m.rising)
       (ValuesOnFlash-added m.shape (before d old) m.pool m.outputs m.flash (without m.key m.es) placed_before m.key m.place (find_gone m.key m.es) within free_before))
 
--- the same, where the state is known by an equation
+-- the same, if the state is known by an equation
 pub removed_as : (d : DataState) (span : Span) (d' : DataState) → d' ≡ with_head d span.page 0 → (h : Held d span) → ValuesOnFlash h.shape d' h.pool h.outputs h.flash (without h.key h.es)
 removed_as d span d' is h = subst (λ (v : DataState). ValuesOnFlash h.shape v h.pool h.outputs h.flash (without h.key h.es)) (sym is) (removed d span h)
 

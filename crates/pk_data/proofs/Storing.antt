@@ -21,12 +21,12 @@ use Rattle.pk_data.specs.Placed.{ValuesOnFlash}
 use Rattle.pk_data.specs.Reserving.{IsReserved, IsFreeOf, WritesNext}
 use Rattle.pk_data.specs.Entries.{Moves, IsInOpen, span_if_some}
 
--- where the whole call left no other page differing at any cut, it left none at its end
+-- if the whole call left no other page differing at any cut, it left none at its end
 pub same_at_end : (page count : ℕ) (old new : BoardState) → Reached old new (λ flash _. SameOutside page count old.pages flash) → SameOutside page count old.pages new.pages
 same_at_end page count old new reached =
     let went = Went-reached reached.0 old new (λ flash _. SameOutside page count old.pages flash) reached.1 in went.cuts new.pages (all_posted reached.0) went.stands
 
--- the pages of a value that stands where its pages were found are the next ones, and written
+-- the pages of a value that is where its pages were found are the next ones, and written
 pub writes_value : (shape : Shape) (d : DataState) (pool : Blocks) (old new : Flash) (key : Key) (value : List ℕ) (page count : ℕ) → IsReserved shape d pool old page count → count ≡ charge shape (length value)
     → SameOutside page (charge shape (length value)) old new → IsStored shape (page_at new) key page value → WritesNext shape d count old new
 writes_value shape d pool old new key value page count reserved count_is outside stored = record {

@@ -29,7 +29,7 @@ use Rattle.pk_data.proofs.Outputs.{freed, length-freed, freed_is, used_freed, no
 pub some_pages : (shape : Shape) → IsShape shape → 0 < shape.block_pages
 some_pages shape is_shape = let least : 8 ≤ shape.block_pages = is_shape.block_least in omega (arith, least)
 
--- the open block, where the pool has it still and its pages are the same
+-- the open block, if the pool has it still and its pages are the same
 pub open_same : (shape : Shape) (p q : Blocks) (outputs : List ℕ) (old new : Flash) (open_block : Option OpenBlock)
     → ((b : ℕ) → HoldsValues p b → HoldsValues q b) → SameValues shape p outputs old new → ((b : ℕ) → IsOutput outputs b → IsNotOpen open_block b)
     → MatchOption open_block (Unit {0}) (λ o. IsOpenIn shape p old o) → MatchOption open_block (Unit {0}) (λ o. IsOpenIn shape q new o)
@@ -48,7 +48,7 @@ open_same shape p q outputs old new (Some o) kept same not_open open_is =
       unwritten = λ k low high. page k (omega (arith, low)) high ∙ open_is.unwritten k low high;
     }
 
--- where the pool has the same blocks for values, and their pages are the same
+-- if the pool has the same blocks for values, and their pages are the same
 pub ValuesOnFlash-kept : (shape : Shape) (d : DataState) (p q : Blocks) (outputs : List ℕ) (old new : Flash) (es : List (Key × Place)) → ValuesOnFlash shape d p outputs old es
     → q.shape ≡ p.shape → length q.states ≡ length p.states → used_by for_values q.states ≡ used_by for_values p.states
     → ((b : ℕ) → HoldsValues p b → HoldsValues q b) → ((b : ℕ) → HoldsValues q b → HoldsValues p b)
@@ -118,7 +118,7 @@ at_first P a h = let e : a + 0 ≡ a = omega arith in subst P e h
 at_next : (P : ℕ → Type 0) (a i : ℕ) → P (a + suc i) → P ((a + 1) + i)
 at_next P a i h = let e : a + suc i ≡ (a + 1) + i = omega arith in subst P e h
 
--- as many numbers in a row pass a test as elements of a list pass the same one
+-- as many consecutive numbers pass a test as elements of a list pass the same one
 pub filter_row : {X : Type 0} (f : ℕ → Bool) (q : X → Bool) (xs : List X) (a : ℕ) → ((i : ℕ) (x : X) → slice_get xs i ≡ Some x → f (a + i) ≡ q x)
     → length (filter f (range_with_len a (length xs))) ≡ count_by q xs
 filter_row f q [] a same = refl

@@ -12,7 +12,7 @@ use Rattle.pk_data.specs.declared.span.Span.{Span}
 use Rattle.pk_data.specs.State.{DataState}
 use Rattle.pk_data.specs.Placed.{ValuesOnFlash}
 
--- these pages lie in the part of the open block that is written
+-- these pages are in the part of the open block that is written
 abbrev pub IsInOpen : Shape → DataState → ℕ → ℕ → Type 0
 IsInOpen shape d page count = MatchOption d.open_block ⊥ (λ o. (o.block * shape.block_pages ≤ page) × (page + count ≤ o.block * shape.block_pages + o.used))
 

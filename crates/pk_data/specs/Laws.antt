@@ -19,13 +19,13 @@ abbrev pub SameValues : Shape → Blocks → List ℕ → Flash → Flash → Ty
 SameValues shape pool outputs old new =
     (k : ℕ) → HoldsValues pool (k / shape.block_pages) → (IsOutput outputs (k / shape.block_pages) → ⊥) → page_at new k ≡ page_at old k
 
--- where nothing differs in blocks for values, and none that counts as erased is written, the values stay placed
+-- if nothing differs in blocks for values, and none that counts as erased is written, the values stay placed
 abbrev pub FlashElsewhere : Type 0
 FlashElsewhere =
     (shape : Shape) (d : DataState) (p : Blocks) (outputs : List ℕ) (old new : Flash) (es : List (Key × Place)) → ValuesOnFlash shape d p outputs old es
     → SameValues shape p outputs old new → PoolOnFlash p new → ValuesOnFlash shape d p outputs new es
 
--- the same where a block changes its state that neither was nor is one for values
+-- the same if a block changes its state that neither was nor is one for values
 abbrev pub BlockElsewhere : Type 0
 BlockElsewhere =
     (shape : Shape) (d : DataState) (p : Blocks) (outputs : List ℕ) (b : ℕ) (s t : BlockState) (old new : Flash) (es : List (Key × Place))
@@ -42,19 +42,19 @@ abbrev pub value_blocks : Blocks → List ℕ → List ℕ
 value_blocks pool outputs =
     filter (λ b. is_for_values (slice_get pool.states b) && not (list_any (λ c. b == c) outputs)) (range_with_len 0 (length pool.states))
 
--- ValuesOnFlash values lie in these blocks, which are at most one less than all data blocks.
+-- Placed values are in these blocks, which are at most one less than all data blocks.
 abbrev pub LieInFew : Type 0
 LieInFew =
     (shape : Shape) (d : DataState) (pool : Blocks) (outputs : List ℕ) (flash : Flash) (es : List (Key × Place)) → ValuesOnFlash shape d pool outputs flash es
     → (length (value_blocks pool outputs) ≤ data_blocks shape - 1)
     × ((k : ℕ) → IsValuePage shape es k → AnyByRecursion (λ b. k / shape.block_pages ≡ b) (value_blocks pool outputs))
 
--- No page of a placed value lies in a block without an owner.
+-- No page of a placed value is in a block without an owner.
 abbrev pub NoneInSpare : Type 0
 NoneInSpare =
     (shape : Shape) (d : DataState) (pool : Blocks) (outputs : List ℕ) (flash : Flash) (es : List (Key × Place)) (b : ℕ) → ValuesOnFlash shape d pool outputs flash es → IsSpare pool b
     → (k : ℕ) → k / shape.block_pages ≡ b → IsValuePage shape es k → ⊥
 
--- Where no block has an owner and no value is live, there are none.
+-- If no block has an owner and no value is live, there are none.
 abbrev pub StartsWithNone : Type 0
 StartsWithNone = (shape : Shape) (flash : Flash) → IsShape shape → FoundAtOpening shape [] (no_values shape) (unused shape) flash []

@@ -1,4 +1,4 @@
--- The values of a flash, as the live map, the pool and the open block tell them.
+-- The values of a flash, as the live map, the pool and the open block describe them.
 use Rattle.std.specs.Prelude.{◌≡◌, ◌≢◌, ℕ, ◌+◌, ◌-◌, ◌*◌, ◌/◌, ◌%◌, ◌<◌, ◌≤◌, List, [], ◌∷◌, length, map, filter, not, slice_get, true, Option, Some, MatchOption}
 use Rattle.std.specs.List.{range_with_len, AllByRecursion}
 use Rattle.std.specs.Ordering.{eq_by_cmp}
@@ -27,7 +27,7 @@ HoldsValues pool b = slice_get pool.states b ≡ Some (Owned for_values)
 abbrev pub IsOutput : List ℕ → ℕ → Type 0
 IsOutput outputs b = AnyByRecursion (λ c. b ≡ c) outputs
 
--- The open block is one for values. Its first pages are written, whole pairs of them, and those behind them are Erased.
+-- The open block is one for values. Its first pages are written, whole pairs of them, and those after them are Erased.
 pub record IsOpenIn (shape : Shape) (pool : Blocks) (flash : Flash) (o : OpenBlock) : Type 0 where
   pub owned : HoldsValues pool o.block
   pub behind_roots : ROOT_BLOCKS ≤ o.block
@@ -43,14 +43,14 @@ AreApart shape [] = Unit {0}
 AreApart shape (e ∷ es) = ((k : ℕ) → IsPageOf shape k e.1 → IsValuePage shape es k → ⊥) × AreApart shape es
 
 -- The blocks that a running reclaim holds are different ones, which the pool has for values; none is the open block, and no page of a
--- value lies in one.
+-- value is in one.
 pub record AreOutputs (shape : Shape) (open_block : Option OpenBlock) (pool : Blocks) (outputs : List ℕ) (es : List (Key × Place)) : Type 0 where
   pub different : differ outputs ≡ true
   pub owned : (b : ℕ) → IsOutput outputs b → HoldsValues pool b
   pub not_open : (b : ℕ) → IsOutput outputs b → IsNotOpen open_block b
   pub unread : (k : ℕ) → IsValuePage shape es k → IsOutput outputs (k / shape.block_pages) → ⊥
 
--- The values of these keys are live. Their pages are written, and lie in blocks that the pool has for values. These blocks are no root
+-- The values of these keys are live. Their pages are written, and are in blocks that the pool has for values. These blocks are no root
 -- blocks. But for the outputs of a running reclaim, all of them other than the open one are closed, and at most one less than all data
 -- blocks are in use.
 pub record ValuesOnFlash (shape : Shape) (d : DataState) (pool : Blocks) (outputs : List ℕ) (flash : Flash) (es : List (Key × Place)) : Type 0 where
@@ -70,7 +70,7 @@ pub record ValuesOnFlash (shape : Shape) (d : DataState) (pool : Blocks) (output
   pub closed_size : length d.live.closed ≡ shape.blocks
   pub closed_owned : (b : ℕ) → IsClosed d.live b → HoldsValues pool b × IsNotOpen d.open_block b × (IsOutput outputs b → ⊥)
   pub owned_closed : (b : ℕ) → HoldsValues pool b → IsNotOpen d.open_block b → (IsOutput outputs b → ⊥) → IsClosed d.live b
-  -- the blocks for values lie behind the root blocks
+  -- the blocks for values are after the root blocks
   pub behind_roots : (b : ℕ) → HoldsValues pool b → ROOT_BLOCKS ≤ b
   -- the open block
   pub open_is : MatchOption d.open_block (Unit {0}) (λ o. IsOpenIn shape pool flash o)

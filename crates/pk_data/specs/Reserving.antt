@@ -16,7 +16,7 @@ use Rattle.pk_steps.specs.Under.{IsValuePage}
 use Rattle.pk_data.specs.State.{DataState, fits_open, next_page, opened}
 use Rattle.pk_data.specs.Placed.{HoldsValues, ValuesOnFlash}
 
--- From this page on, which is even, so many are the next Erased ones of the open block, which is one for values.
+-- From this page on, which is even, the next n are Erased ones of the open block, which is one for values.
 pub record IsReserved (shape : Shape) (d : DataState) (pool : Blocks) (flash : Flash) (page count : ℕ) : Type 0 where
   pub next : page ≡ next_page shape d
   pub room : fits_open shape d count ≡ true
@@ -58,7 +58,7 @@ pub record OpensBlock (shape : Shape) (d : DataState) (p : Blocks) (old : BoardS
 abbrev pub TakesNextOrOpens : Shape → DataState → Blocks → BoardState → ℕ → DataState → Blocks → BoardState → Type 0
 TakesNextOrOpens shape d p old count d' q new = TakesNext shape d p old count d' q new ⊎ OpensBlock shape d p old count d' q new
 
--- nothing but the next so many pages differs, and these are written now, whole pairs of them
+-- nothing but the next n pages differs, and these are written now, whole pairs of them
 pub record WritesNext (shape : Shape) (d : DataState) (count : ℕ) (old new : Flash) : Type 0 where
   pub pairs : count % 2 ≡ 0
   pub outside : SameOutside (next_page shape d) count old new

@@ -8,7 +8,7 @@ use Rattle.pk_live.specs.Values.{Values}
 pub use Rattle.pk_live.specs.declared.open_block.OpenBlock.{OpenBlock}
 use Rattle.pk_live.specs.OpenBlocks.{closed_with}
 
--- the live values with the blocks that are closed, and the block that takes the next value, where there is one
+-- the live values with the blocks that are closed, and the block that takes the next value, if there is one
 pub record DataState : Type 0 where
   pub live : Values
   pub open_block : Option OpenBlock
@@ -17,7 +17,7 @@ pub record DataState : Type 0 where
 abbrev pub with_none_open : Values → DataState
 with_none_open live = record { live = live; open_block = None }
 
--- so many Erased pages are left of the block
+-- n Erased pages remain in the block
 abbrev pub has_left : Shape → Option OpenBlock → ℕ → Bool
 has_left shape None count = false
 has_left shape (Some o) count = nat_le (o.used + count) shape.block_pages
@@ -33,8 +33,8 @@ page_behind shape (Some o) = o.block * shape.block_pages + o.used
 abbrev pub next_page : Shape → DataState → ℕ
 next_page shape d = page_behind shape d.open_block
 
--- A value of so many pages has no room in the open block, and one more block would be the last one, which is kept for reclaims and which
--- a running one holds.
+-- A value of n pages has no room in the open block, and one more block would be the last one, which is kept for reclaims and which a
+-- running one holds.
 abbrev pub needs_reclaim : Shape → DataState → Blocks → ℕ → Bool
 needs_reclaim shape d pool count = not (fits_open shape d count) && nat_le (data_blocks shape - 1) (used_by for_values pool.states)
 
@@ -45,7 +45,7 @@ opened d b = record {
   open_block = Some (record { block = b; used = 0 });
 }
 
--- so many more pages of the block are written
+-- n more pages of the block are written
 abbrev pub more_used : Option OpenBlock → ℕ → Option OpenBlock
 more_used None count = None
 more_used (Some o) count = Some (record { block = o.block; used = o.used + count })
@@ -53,7 +53,7 @@ more_used (Some o) count = Some (record { block = o.block; used = o.used + count
 abbrev pub with_written : DataState → ℕ → DataState
 with_written d count = record d { open_block = more_used d.open_block count }
 
--- the value at this page has so many pages, none where it is live no more
+-- the value at this page has this many pages, none if it is no longer live
 abbrev pub with_head : DataState → ℕ → ℕ → DataState
 with_head d page count = record d { live = record d.live { heads = slice_set d.live.heads page count } }
 

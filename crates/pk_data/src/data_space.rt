@@ -30,7 +30,7 @@ use std::marker::Model;
 pub struct Data<A: Allocator> {
     /// The live values, with the blocks that are closed.
     pub live: Live<A>,
-    /// The block that takes the next value, where there is one.
+    /// The block that takes the next value, if there is one.
     pub open_block: Option<OpenBlock>,
 }
 
@@ -55,7 +55,7 @@ fn clear<A: Allocator>(live: &mut Live<A>, old: Option<Span>)
     }
 }
 
-// The block with so many more pages written, if there is one.
+// The block with `count` more pages written, if there is one.
 fn more(shape: &Shape, open_block: Option<OpenBlock>, count: u32) -> Option<OpenBlock>
     requires room { state.has_left shape.now open_block count ≡ true }
     requires small { IsSmall open_block }
@@ -103,14 +103,14 @@ impl<A: Allocator> Data<A> {
         &self.live
     }
 
-    /// The block that takes the next value, where there is one.
+    /// The block that takes the next value, if there is one.
     pub fn open_block(&self) -> Option<OpenBlock>
         ensures { result ≡ self.now.open_block }
     {
         self.open_block
     }
 
-    /// Whether a value of so many pages has room in the open block.
+    /// Whether a value of `count` pages has room in the open block.
     pub fn fits_open(&self, shape: &Shape, count: u32) -> bool
         requires { count ≤ spec.most_pages shape.now }
         ensures { result ≡ state.fits_open shape.now self.now count }
@@ -122,8 +122,8 @@ impl<A: Allocator> Data<A> {
         }
     }
 
-    /// Whether a block has to be reclaimed before a value of so many pages: it has no room in the open block, and the pool has
-    /// but one block left for values, which is kept for reclaims.
+    /// Whether a block has to be reclaimed before a value of `count` pages: it has no room in the
+    /// open block, and the pool has only one block left for values, which is kept for reclaims.
     pub fn needs_reclaim(&self, shape: &Shape, pool: &Pool<A>, count: u32) -> bool
         requires { count ≤ spec.most_pages shape.now }
         ensures { result ≡ state.needs_reclaim shape.now self.now pool.now count }
@@ -131,7 +131,7 @@ impl<A: Allocator> Data<A> {
         !self.fits_open(shape, count) && pool.used(Owner::Values) >= shape.data_blocks() - 1
     }
 
-    // The next page of the open block, where it has room for so many.
+    // The next page of the open block, if it has room for `count`.
     fn next_in_open(&self, shape: &Shape, count: u32) -> Option<u32>
         requires { count ≤ spec.most_pages shape.now }
         ensures { result ≡ (if state.fits_open shape.now self.now count
@@ -161,9 +161,10 @@ impl<A: Allocator> Data<A> {
         self.open_block = Some(OpenBlock { block, used: 0 });
     }
 
-    /// Finds the pages for a value of `count` pages, and answers the first: the next ones of the open block where it has room;
-    /// else the open block is closed, and another one is taken from the pool, by at most one erase. `Stopped` where this erase
-    /// fails; nothing changes then but the flash.
+    /// Finds the pages for a value of `count` pages, and returns the first: the next ones of the
+    /// open block if it has room; otherwise the open block is closed, and another one is taken from
+    /// the pool, by at most one erase. `Stopped` if this erase fails; nothing changes then but the
+    /// flash.
     pub fn reserve<B: Nand>(
         &mut self,
         board: &mut B,
@@ -210,7 +211,7 @@ impl<A: Allocator> Data<A> {
         }
     }
 
-    /// So many more pages of the open block are written, behind the others.
+    /// The next `count` pages of the open block are written.
     pub fn wrote(&mut self, shape: &Shape, count: u32)
         requires { state.fits_open shape.now self.old count ≡ true }
         ensures written { self.new ≡ with_written self.old count }

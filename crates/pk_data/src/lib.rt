@@ -1,7 +1,8 @@
 //! Where values go: the live map of a drive, and the data block that is being filled.
 //!
-//! A value's pages are the next Erased ones of the open block, or the first of a block that was handed out for it. The live map
-//! stands for the values of the keys that are there, whatever of them is written, replaced or removed.
+//! A value's pages are the next Erased ones of the open block, or the first of a block that was
+//! allocated for it. The live map represents the values of the keys that exist, whatever of them is
+//! written, replaced or removed.
 #![tactic(auto)]
 
 mod data_space;

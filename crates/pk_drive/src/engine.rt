@@ -42,7 +42,8 @@ pub trait Engine {
     /// The board has the shape and the pages with which opening, or the last call, ended.
     ghost agrees: { Self → Option Shape → Flash → Type 0 };
 
-    /// Executes one command. A Store's value is handed over where it is not too large, and no other bytes are.
+    /// Executes one command. A Store's value is passed if it is not too large, and no other bytes
+    /// are.
     fn exec<B: Nand>(
         &mut self,
         board: &mut B,
@@ -56,7 +57,7 @@ pub trait Engine {
         requires unworn { is_worn (B.state board.old) ≡ false }
         requires tick { request.now.opcode ≡ TICK → (sight self.old).pending ≡ [] }
 
-        // What is handed over, and the buffer for data.
+        // What is passed, and the buffer for data.
         requires sized { request.now.opcode ≡ STORE
             → request.now.size ≤ greatest (shape_of (B.state board.old))
             → length value.now ≡ request.now.size }
@@ -66,13 +67,14 @@ pub trait Engine {
         requires room { MOST_LIST_BYTES ≤ length into.old }
         requires room_value { greatest (shape_of (B.state board.old)) ≤ length into.old }
 
-        // The drive and the board behind it.
+        // The drive and the board after it.
         ensures stops { (sight self.new).stopped ≡ result.stopped }
         ensures agrees { result.stopped ≡ false
             → agrees self.new (B.state board.new).shape (B.state board.new).pages }
         ensures rest { OnlyFlash (B.state board.old) (B.state board.new) }
 
-        // The command, wherever it is cut, and the drive that what only reads leaves as it was.
+        // The command, wherever it is cut, and the drive, which a command that only reads does not
+        // change.
         ensures stands { result.stopped ≡ false → ExecStands (B.state board.old) (B.state board.new)
             (sight self.old) (sight self.new) (command_of request.now value.now)
             (reply_of result into.new) result.reads }
@@ -114,7 +116,8 @@ pub trait Engine {
             (most_calls_of (shape_of (B.state board.old)) request.now.opcode request.now.size)
             (B.state board.old) (B.state board.new) }
 
-        // What is left to do in the background: a Store or a Delete alone may raise it, a Tick lowers it.
+        // What remains to be done in the background: a Store or a Delete alone may raise it, a Tick
+        // lowers it.
         ensures no_more { result.stopped ≡ false → may_raise request.now.opcode ≡ false
             → (sight self.new).work ≤ (sight self.old).work }
         ensures settles { request.now.opcode ≡ TICK → result.status ≡ SUCCESSFUL_COMPLETION
@@ -163,13 +166,14 @@ pub trait Engine {
             (sight self.old).counts.frames result.reads (commits_for (shape_of (B.state board.old))
             (sight self.old)) };
 
-    /// Commits the pending entries by the two programs of a commit; where there are none it does nothing. A failure stops the drive.
+    /// Commits the pending entries by the two programs of a commit; if there are none it does
+    /// nothing. A failure stops the drive.
     fn commit<B: Nand>(&mut self, board: &mut B) -> Result<(), NandFault>
         // The drive and the board.
         requires agrees { agrees self.old (B.state board.old).shape (B.state board.old).pages }
         requires runs { (sight self.old).stopped ≡ false }
 
-        // The drive and the board behind it.
+        // The drive and the board after it.
         ensures runs { OnOk result ((sight self.new).stopped ≡ false) }
         ensures stops { OnErr result ((sight self.new).stopped ≡ true) }
         ensures agrees { OnOk result
@@ -208,7 +212,7 @@ pub trait Engine {
         ensures steady { OnOk result
             (Steadies (B.state board.old) (B.state board.new) (sight self.old) (sight self.new)) };
 
-    /// Makes one background step, with at most one call of the flash.
+    /// Makes one background step, with at most one flash operation.
     fn tick<B: Nand>(&mut self, board: &mut B) -> Ticked
         // The drive and the board.
         requires agrees { agrees self.old (B.state board.old).shape (B.state board.old).pages }
@@ -216,14 +220,14 @@ pub trait Engine {
         requires unworn { is_worn (B.state board.old) ≡ false }
         requires none { (sight self.old).pending ≡ [] }
 
-        // The drive and the board behind it.
+        // The drive and the board after it.
         ensures stops { (sight self.new).stopped ≡ stopped_by result }
         ensures none { (sight self.new).pending ≡ [] }
         ensures agrees { stopped_by result ≡ false
             → agrees self.new (B.state board.new).shape (B.state board.new).pages }
         ensures rest { OnlyFlash (B.state board.old) (B.state board.new) }
 
-        // The map, wherever it is cut, and the root that stands on the flash.
+        // The map, wherever it is cut, and the root that is on the flash.
         ensures stands { stopped_by result ≡ false
             → KeepsMap (B.state board.old) (B.state board.new) (sight self.old) (sight self.new) }
         ensures cuts { stopped_by result ≡ false
@@ -284,8 +288,9 @@ pub trait Engine {
             → (sight self.now).stopped ≡ false
             → result ≡ nat_le WORN_FROM (root_number shape flash) };
 
-    /// The numbers of a Report. On a drive that is not stopped the first five are those of its map and its frames, and the others
-    /// those of what stands on its flash.
+    /// The numbers of a Report. On a drive that is not stopped the first five are those of its map
+    /// and its frames; of the others those of the lists and of the journal are those of its flash,
+    /// and those of blocks are bounds.
     fn counts(&self) -> Counts
         ensures numbers { counts_of result ≡ (sight self.now).counts }
         ensures map { (shape : Shape) (flash : Flash) (m : Map) → agrees self.now (Some shape) flash

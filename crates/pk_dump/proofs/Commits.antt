@@ -6,7 +6,7 @@ use Rattle.pk_jrnfmt.specs.Page.{journal_entries}
 use Rattle.pk_jrnfmt.specs.declared.JrnHead.{JrnHead}
 use Rattle.pk_jrnfmt.specs.declared.BadJournal.{BadJournal}
 
--- there is none where none can be
+-- there is none if none can be
 pub none_unless : {A : Type 0} (o : Option A) → ((x : A) → o ≡ Some x → ⊥) → o ≡ None
 none_unless None never = refl
 none_unless (Some x) never = absurd (never x refl)

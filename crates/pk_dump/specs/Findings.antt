@@ -1,4 +1,4 @@
--- What is found on a flash, before it is told.
+-- What is found on a flash, before it is printed.
 use Rattle.std.specs.Prelude.{◌≡◌, None, Some, MatchOption}
 use Rattle.pk_base.specs.Shape.{Shape}
 use Rattle.pk_base.specs.Page.{Flash, page_at}

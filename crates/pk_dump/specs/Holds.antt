@@ -9,7 +9,7 @@ use Rattle.pk_dump.specs.declared.held.Held.{Held}
 use Rattle.pk_dump.specs.declared.held.Held.TheVariants.{Erased, Torn, Wrong, Entries}
 use Rattle.pk_dump.specs.declared.run.Wanted.{Wanted}
 
--- The page is told as what it is, by the entries that are read of its bytes where it is whole.
+-- The page is printed as what it is, by the entries that are read of its bytes if it is whole.
 abbrev pub Holds : (List ℕ → Option (List Entry)) → Page → Held → Type 0
 Holds entries page Erased = page ≡ erased
 Holds entries page Torn = page ≡ torn

@@ -7,7 +7,7 @@ use Rattle.pk_nand.specs.declared.types.PageRead.TheVariants.{Erased, Whole, Tor
 use Rattle.pk_nand.specs.declared.types.PageState.{PageState}
 use Rattle.pk_nand.specs.Seen.{state}
 
--- where the page is whole it has the bytes of a page
+-- if the page is whole it has the bytes of a page
 abbrev pub IsFull : Shape → Page → Type 0
 IsFull shape page = (bytes : List ℕ) → page ≡ whole bytes → length bytes ≡ shape.page_bytes
 
@@ -15,7 +15,7 @@ IsFull shape page = (bytes : List ℕ) → page ≡ whole bytes → length bytes
 abbrev pub AreFull : Shape → List PageState → Type 0
 AreFull shape pages = All (λ page. IsFull shape (state page)) pages
 
--- the page that a read found, whose bytes stand in the buffer where it is whole
+-- the page that a read found, whose bytes are in the buffer if it is whole
 abbrev pub read_as : PageRead → List ℕ → Page
 read_as Erased bytes = erased
 read_as Whole bytes = whole bytes

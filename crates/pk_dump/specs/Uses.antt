@@ -1,4 +1,4 @@
--- What a block behind the root blocks is for.
+-- What a block after the root blocks is for.
 use Rattle.std.specs.Prelude.{ℕ, ◌-◌, List, [], if◌then◌else◌, slice_index_or}
 use Rattle.pk_rootfmt.specs.Root.{Root}
 use Rattle.pk_rootfmt.specs.Held.{two_of, older_of, blocks_or_none}

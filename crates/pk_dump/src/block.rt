@@ -34,7 +34,7 @@ fn in_older<A: Allocator>(root: &Root<A>, block: u16) -> bool
     }
 }
 
-/// What a block behind the root blocks is for, as the root names it.
+/// What a block after the root blocks is for, as the root names it.
 fn named_use<A: Allocator>(root: &Root<A>, block: u16) -> BlockUse
     ensures { result ≡ use_of root.now.root block }
 {
@@ -111,7 +111,7 @@ fn name_of<A: Allocator>(used: BlockUse, live: Option<&Live<A>>, block: u32) -> 
     }
 }
 
-/// Tells what a block is for, and how many live pages it has.
+/// Prints what a block is for, and how many live pages it has.
 fn tell_use(
     out: &mut String,
     form: Form,
@@ -133,8 +133,8 @@ fn count_of<A: Allocator>(live: Option<&Live<A>>, block: u32) -> u32 {
     }
 }
 
-/// What blocks are told by: the pages of a flash of this shape, the newest root if there is one, and the live pages of its values if
-/// it holds a map.
+/// What the lines of blocks are made of: the pages of a flash of this shape, the newest root if
+/// there is one, and the live pages of its values if it holds a map.
 #[derive(Drop)]
 pub struct Ground<'a, A: Allocator> {
     pub shape: &'a Shape,
@@ -143,7 +143,7 @@ pub struct Ground<'a, A: Allocator> {
     pub pages: &'a [PageState],
 }
 
-/// Tells of the pages of a block, a letter for each.
+/// Prints the pages of a block, a letter for each.
 fn tell_letters<A: Allocator>(
     out: &mut String,
     on: &Ground<A>,
@@ -164,7 +164,7 @@ fn tell_letters<A: Allocator>(
     writeln!(out, "")
 }
 
-/// Tells of a block: its use, its live pages, and a letter for each page.
+/// Prints a block: its use, its live pages, and a letter for each page.
 fn tell_block<A: Allocator>(
     out: &mut String,
     form: Form,
@@ -180,7 +180,7 @@ fn tell_block<A: Allocator>(
     tell_letters(out, on, used, block)
 }
 
-/// Tells of all blocks.
+/// Prints all blocks.
 pub fn tell_blocks<A: Allocator>(
     out: &mut String,
     form: Form,

@@ -1,8 +1,8 @@
-//! What is answered where a flash is not told.
+//! What is answered if a flash is not printed.
 
 use std::alloc::AllocError;
 
-/// Why a flash is not told. Nothing but reads was done on it.
+/// Why a flash is not printed. Nothing but reads was done on it.
 #[derive(Clone, Copy, Debug, PartialEq, Eq)]
 pub enum DumpError {
     /// A read failed.

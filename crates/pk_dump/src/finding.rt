@@ -1,4 +1,4 @@
-//! What is found on a flash, before it is told.
+//! What is found on a flash, before it is printed.
 ghost use Rattle.pk_dump.specs.Pages.{AreFull};
 
 use crate::reading::Reading;
@@ -10,7 +10,7 @@ use std::alloc::Global;
 #[derive(Drop)]
 pub struct Finding {
     pub pages: Vec<PageState>,
-    /// The newest root, and its page where there is one.
+    /// The newest root, and its page if there is one.
     pub root: Root<Global>,
     pub newest: Option<u32>,
     pub reading: Reading,

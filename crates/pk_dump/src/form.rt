@@ -5,6 +5,6 @@
 pub enum Form {
     /// Sentences.
     People,
-    /// A name, and behind it `name=value` for each field.
+    /// A name, and after it `name=value` for each field.
     Programs,
 }

@@ -7,7 +7,7 @@ use pk_base::Shape;
 use std::alloc::AllocError;
 use std::fmt::Write;
 
-/// What stands where a page of an epoch or of a run has its place.
+/// What is at the place of a page of an epoch or of a run.
 #[derive(Clone, Copy)]
 pub enum Held {
     /// The page is Erased.
@@ -16,11 +16,11 @@ pub enum Held {
     Torn,
     /// The page is Whole and not the one that belongs there.
     Wrong,
-    /// The page that belongs there, with so many entries.
+    /// The page that belongs there, with n entries.
     Entries { count: u32 },
 }
 
-/// The page at a place of these blocks; `None` exactly behind their last page.
+/// The page at a place of these blocks; `None` exactly after their last page.
 pub fn page_in(shape: &Shape, blocks: &[u16], place: u32) -> Option<u32>
     ensures { MatchOption result (length blocks.now * shape.now.block_pages ≤ place)
         (λ page. page ≡ page_in_blocks shape.now blocks.now place) }
@@ -32,7 +32,7 @@ pub fn page_in(shape: &Shape, blocks: &[u16], place: u32) -> Option<u32>
     }
 }
 
-/// Tells of the page that belongs at a place, with so many entries, which are told behind it.
+/// Prints the page that belongs at a place, with `count` entries, which are printed after it.
 fn tell_count(
     out: &mut String,
     form: Form,
@@ -46,7 +46,7 @@ fn tell_count(
     }
 }
 
-/// Tells of a page without entries, by what it is called.
+/// Prints a page without entries, by what it is called.
 fn tell_name(
     out: &mut String,
     form: Form,
@@ -60,7 +60,7 @@ fn tell_name(
     }
 }
 
-/// Tells of a page at its place; its entries are told behind it.
+/// Prints a page at its place; its entries are printed after it.
 pub fn tell_held(
     out: &mut String,
     form: Form,

@@ -34,7 +34,7 @@ fn newest_of<A: Allocator>(root: &Root<A>) -> NamedEpoch
     }
 }
 
-/// The older epoch of a root, where it names one.
+/// The older epoch of a root, if it names one.
 fn older_of<A: Allocator>(root: &Root<A>) -> Option<NamedEpoch>
     ensures { result ≡ older_named root.now.root }
 {
@@ -86,7 +86,7 @@ fn commit_in(shape: &Shape, number: u64, index: u32, page: &PageState) -> Held
     }
 }
 
-/// Tells of the entries of a page that holds a commit.
+/// Prints the entries of a page that holds a commit.
 fn tell_entries(
     out: &mut String,
     form: Form,
@@ -107,7 +107,7 @@ fn tell_entries(
     Ok(())
 }
 
-/// Whether an epoch may go on behind such a page.
+/// Whether an epoch may go on after such a page.
 fn goes_on(held: Held) -> bool {
     match held {
         Held::Entries { .. } | Held::Wrong => true,
@@ -115,7 +115,7 @@ fn goes_on(held: Held) -> bool {
     }
 }
 
-/// Tells of a commit, and answers whether the epoch goes on behind it.
+/// Prints a commit, and returns whether the epoch goes on after it.
 fn tell_commit(
     out: &mut String,
     form: Form,
@@ -139,7 +139,7 @@ fn tell_commit(
     Ok(goes_on(held))
 }
 
-/// Tells of the number of an epoch.
+/// Prints the number of an epoch.
 fn tell_number(out: &mut String, form: Form, number: u64) -> Result<(), AllocError> {
     match form {
         Form::People => writeln!(out, "epoch {number}"),
@@ -166,7 +166,7 @@ fn page_of_pair(pages: &[PageState], first: u32, second: u32) -> u32
     }
 }
 
-/// Tells of the commits of an epoch.
+/// Prints the commits of an epoch.
 fn tell_epoch(
     out: &mut String,
     form: Form,
@@ -196,7 +196,7 @@ fn tell_epoch(
     Ok(())
 }
 
-/// Tells of the epochs that a root names, the newest one first.
+/// Prints the epochs that a root names, the newest one first.
 pub fn tell_epochs<A: Allocator>(
     out: &mut String,
     form: Form,

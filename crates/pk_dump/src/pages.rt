@@ -21,7 +21,7 @@ fn copied(alloc: Global, bytes: &[u8]) -> Result<PageBytes, AllocError>
     Ok(PageBytes::of(own))
 }
 
-/// A page that was read, with its bytes in the buffer where it is Whole.
+/// A page that was read, with its bytes in the buffer if it is Whole.
 fn page_of(alloc: Global, found: PageRead, bytes: &[u8]) -> Result<PageState, AllocError>
     ensures { IfOk result (λ p. state p ≡ read_as found bytes.now) }
 {
@@ -47,7 +47,7 @@ fn read_page<B: Nand>(
     requires exists { page < spec.page_count shape.now }
     requires room { length buf.old ≡ shape.now.page_bytes }
 
-    // The page as it stands.
+    // The page as it is.
     ensures found { IfOk result (λ p. state p ≡ page_at (B.state board.old).pages page) }
     ensures full { IfOk result (λ p. IsFull shape.now (state p)) }
 

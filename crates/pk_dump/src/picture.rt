@@ -45,8 +45,8 @@ fn letter_of_whole(used: BlockUse, life: Life) -> char {
     }
 }
 
-/// The letter of a page: `.` is Erased, `x` Torn; of a Whole page `R` a root, `J` the newest epoch, `j` the older one, `1` to `4` a
-/// run, `V` a live value, `v` a dead one, `?` where that is not known.
+/// The letter of a page: `.` is Erased, `x` Torn; of a Whole page `R` a root, `J` the newest epoch,
+/// `j` the older one, `1` to `4` a run, `V` a live value, `v` a dead one, `?` if that is not known.
 pub fn letter(used: BlockUse, life: Life, page: &PageState) -> char {
     match page {
         PageState::Erased => '.',

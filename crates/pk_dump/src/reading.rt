@@ -39,7 +39,7 @@ pub fn reading_of<B: Nand>(alloc: Global, board: &mut B, shape: Shape) -> Result
     }
 }
 
-/// Tells how reading the flash ends.
+/// Prints how reading the flash ends.
 pub fn tell_reading(out: &mut String, form: Form, reading: &Reading) -> Result<(), AllocError> {
     match (form, reading) {
         (Form::People, Reading::Map(found)) => {

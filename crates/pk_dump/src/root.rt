@@ -12,7 +12,7 @@ use pk_rootfmt::Root;
 use std::alloc::{AllocError, Allocator, Global};
 use std::fmt::Write;
 
-/// Takes the root of a page, and answers whether there is one; without one the root stays.
+/// Takes the root of a page, and returns whether there is one; without one the root is unchanged.
 fn root_in<A: Allocator>(root: &mut Root<A>, page: &PageState) -> bool
     requires { IsFull root.old.shape (state page.now) }
     ensures found { MatchBool result (root_of root.old.shape (state page.now) ≡ Some root.new.root)
@@ -29,7 +29,7 @@ fn root_in<A: Allocator>(root: &mut Root<A>, page: &PageState) -> bool
     }
 }
 
-/// Tells of the number of a root and of its newest epoch.
+/// Prints the number of a root and of its newest epoch.
 fn tell_epoch<A: Allocator>(
     out: &mut String,
     form: Form,
@@ -51,7 +51,7 @@ fn tell_epoch<A: Allocator>(
     tell_pair(out, root.newest())
 }
 
-/// Tells of the blocks of the older epoch, behind those of the newest one.
+/// Prints the blocks of the older epoch, after those of the newest one.
 fn tell_older(out: &mut String, form: Form, older: Option<[u16; 2]>) -> Result<(), AllocError> {
     match older {
         Some(blocks) => {
@@ -68,7 +68,7 @@ fn tell_older(out: &mut String, form: Form, older: Option<[u16; 2]>) -> Result<(
     }
 }
 
-/// Tells whether a root is the newest, at the end of its line.
+/// Prints whether a root is the newest, at the end of its line.
 fn tell_newest(out: &mut String, form: Form, is_newest: bool) -> Result<(), AllocError> {
     out.push_str(match (form, is_newest) {
         (Form::People, true) => "; the newest\n",
@@ -78,7 +78,7 @@ fn tell_newest(out: &mut String, form: Form, is_newest: bool) -> Result<(), Allo
     })
 }
 
-/// Tells of the root of a page.
+/// Prints the root of a page.
 fn tell_root<A: Allocator>(
     out: &mut String,
     form: Form,
@@ -94,7 +94,7 @@ fn tell_root<A: Allocator>(
     tell_newest(out, form, newest == Some(page))
 }
 
-/// Tells of the run of a level under a root.
+/// Prints the run of a level under a root.
 fn tell_level<A: Allocator>(
     out: &mut String,
     form: Form,
@@ -112,7 +112,7 @@ fn tell_level<A: Allocator>(
     tell_blocks(out, root.blocks(level))
 }
 
-/// Tells of every root of the root blocks.
+/// Prints every root of the root blocks.
 pub fn tell_roots(
     alloc: Global,
     out: &mut String,

@@ -24,7 +24,7 @@ pub struct Wanted {
     pub count: u32,
 }
 
-/// The page of this index in a run of so many entries: each but the last is full.
+/// The page of this index in a run of `entries` entries: each but the last is full.
 fn wanted_page(shape: &Shape, level: u8, entries: u32, index: u32) -> Wanted
     ensures { result ≡ wanted_of shape.now level entries index }
 {
@@ -72,7 +72,7 @@ fn run_page_in(shape: &Shape, wanted: Wanted, page: &PageState) -> Held
     }
 }
 
-/// Tells of the entries of a page of a run.
+/// Prints the entries of a page of a run.
 fn tell_entries(
     out: &mut String,
     form: Form,
@@ -93,7 +93,7 @@ fn tell_entries(
     Ok(())
 }
 
-/// Tells of a page of a run.
+/// Prints a page of a run.
 fn tell_page(
     out: &mut String,
     form: Form,
@@ -113,7 +113,7 @@ fn tell_page(
     }
 }
 
-/// Tells how many entries the run of a level has.
+/// Prints how many entries the run of a level has.
 fn tell_count(out: &mut String, form: Form, level: u8, entries: u32) -> Result<(), AllocError> {
     match form {
         Form::People => writeln!(out, "run {level}: {entries} entries"),
@@ -121,7 +121,7 @@ fn tell_count(out: &mut String, form: Form, level: u8, entries: u32) -> Result<(
     }
 }
 
-/// Tells of the pages of the run of a level, with so many entries in these blocks.
+/// Prints the pages of the run of a level, with `entries` entries in these blocks.
 fn tell_run(
     out: &mut String,
     form: Form,
@@ -148,7 +148,7 @@ fn tell_run(
     Ok(())
 }
 
-/// Tells of the runs that a root names, from the first level on.
+/// Prints the runs that a root names, from the first level on.
 pub fn tell_runs<A: Allocator>(
     out: &mut String,
     form: Form,

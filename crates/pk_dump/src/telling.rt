@@ -1,4 +1,4 @@
-//! All that stands on a flash.
+//! All that is on a flash.
 ghost use Rattle.std.specs.Prelude.{◌≡◌, length, None, Some, IfOk, MatchOption};
 ghost use Rattle.pk_base.specs.Page.{page_at};
 ghost use Rattle.pk_nand.specs.Calls.{IsReady};
@@ -23,7 +23,7 @@ use pk_rootfmt::Root;
 use std::alloc::{AllocError, Global};
 use std::fmt::Write;
 
-/// Tells of the shape of a flash.
+/// Prints the shape of a flash.
 fn tell_shape(out: &mut String, form: Form, shape: &Shape) -> Result<(), AllocError> {
     let bytes = shape.page_bytes();
     let pages = shape.block_pages();
@@ -39,8 +39,8 @@ fn tell_shape(out: &mut String, form: Form, shape: &Shape) -> Result<(), AllocEr
     }
 }
 
-/// The page of the newest root, which is taken into `root`; `None` exactly where there is none. `buf` has the bytes of a page, which
-/// are lost.
+/// The page of the newest root, which is taken into `root`; `None` exactly if there is none. `buf`
+/// has the size of a page and is overwritten.
 fn find_newest<B: Nand>(
     board: &mut B,
     root: &mut Root<Global>,
@@ -61,7 +61,7 @@ fn find_newest<B: Nand>(
     }
 }
 
-/// Finds what stands on a flash.
+/// Finds what is on a flash.
 fn find<B: Nand>(alloc: Global, board: &mut B, shape: Shape) -> Result<Finding, DumpError>
     requires ready { IsReady (B.state board.old) shape }
     ensures found { IfOk result (λ f. IsFindingOf shape (B.state board.old).pages f) }
@@ -84,7 +84,7 @@ fn find<B: Nand>(alloc: Global, board: &mut B, shape: Shape) -> Result<Finding, 
     })
 }
 
-/// Tells of what was found.
+/// Prints what was found.
 fn tell(alloc: Global, out: &mut String, form: Form, found: &Finding) -> Result<(), AllocError> {
     let shape = found.root.shape();
     tell_shape(out, form, shape)?;
@@ -111,9 +111,10 @@ fn tell(alloc: Global, out: &mut String, form: Form, found: &Finding) -> Result<
     tell_reading(out, form, &found.reading)
 }
 
-/// Tells what stands on the flash of a board of this shape: its shape, every root with the newest marked, the epochs and the runs of
-/// the newest root with their entries, the blocks, and how reading the flash ends. Nothing but reads is done. `Fault` where a
-/// read failed, `Memory` where the allocator has none.
+/// Prints what is on the flash of a board of this shape: its shape, every root with the newest
+/// marked, the epochs and the runs of the newest root with their entries, the blocks, and how
+/// reading the flash ends. Nothing but reads is done. `Fault` if a read failed, `Memory` if the
+/// allocator has none.
 pub fn dump<B: Nand>(
     alloc: Global,
     form: Form,

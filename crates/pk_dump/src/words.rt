@@ -5,12 +5,12 @@ use pk_base::{Entry, Key};
 use std::alloc::AllocError;
 use std::fmt::Write;
 
-/// Tells of two blocks.
+/// Prints two blocks.
 pub fn tell_pair(out: &mut String, blocks: [u16; 2]) -> Result<(), AllocError> {
     tell_blocks(out, &blocks)
 }
 
-/// Tells of blocks, with a comma between two; a dash where there are none.
+/// Prints blocks, with a comma between two; a dash if there are none.
 pub fn tell_blocks(out: &mut String, blocks: &[u16]) -> Result<(), AllocError> {
     if blocks.is_empty() {
         return write!(out, "-");
@@ -24,7 +24,7 @@ pub fn tell_blocks(out: &mut String, blocks: &[u16]) -> Result<(), AllocError> {
     Ok(())
 }
 
-/// Tells of a key: two hexadecimal digits a byte.
+/// Prints a key: two hexadecimal digits a byte.
 pub fn tell_key(out: &mut String, key: &Key) -> Result<(), AllocError> {
     for byte in key.bytes() {
         write!(out, "{byte:02x}")?;
@@ -32,7 +32,7 @@ pub fn tell_key(out: &mut String, key: &Key) -> Result<(), AllocError> {
     Ok(())
 }
 
-/// Tells of an entry.
+/// Prints an entry.
 pub fn tell_entry(out: &mut String, form: Form, entry: &Entry) -> Result<(), AllocError> {
     out.push_str(match form {
         Form::People => "  ",
@@ -45,7 +45,7 @@ pub fn tell_entry(out: &mut String, form: Form, entry: &Entry) -> Result<(), All
     }
 }
 
-/// Tells where a value stands, behind its key.
+/// Prints where a value is, after its key.
 fn tell_place(out: &mut String, form: Form, page: u32, len: u32) -> Result<(), AllocError> {
     match form {
         Form::People => writeln!(out, " in page {page}, {len} bytes"),
@@ -53,7 +53,7 @@ fn tell_place(out: &mut String, form: Form, page: u32, len: u32) -> Result<(), A
     }
 }
 
-/// Tells that a key was deleted, behind it.
+/// Prints that a key was deleted, after it.
 fn tell_deleted(out: &mut String, form: Form) -> Result<(), AllocError> {
     match form {
         Form::People => out.push_str(" deleted\n"),

@@ -1,4 +1,4 @@
--- A merge runs whatever reference its source is handed over by.
+-- A merge runs whatever reference its source is passed by.
 use Rattle.std.proofs.Common.{◌≡◌, List}
 use Rattle.std.specs.Borrow.{Bor}
 use Rattle.pk_base.specs.Entry.{Entry}

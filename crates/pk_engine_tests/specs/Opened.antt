@@ -15,7 +15,7 @@ use Rattle.pk_merge.specs.declared.source.Source.{Source}
 use Rattle.pk_merge.specs.declared.source.Source.TheVariants.{Run}
 use Rattle.pk_merge.specs.Jobs.{Job, output_of}
 
--- The run stands for entries that can be written, and its pages are in one block.
+-- The run represents entries that can be written, and its pages are in one block.
 pub record IsOpened (shape : Shape) (flash : Flash) (arena : Frames) (block : ℕ) (r : Kept) : Type 0 where
   pub entries : List Entry
   pub stands : RunOnFlash r flash arena entries
@@ -36,7 +36,7 @@ pub record HasRoom (shape : Shape) (pool : Blocks) (arena : Frames) : Type 0 whe
 abbrev pub from_run : Kept → Source (Unit {0})
 from_run r = Run (record { ref_ptr = (0, 0); now = r })
 
--- The output of the job, so far, stands.
+-- The output of the job, so far, matches.
 pub record HasOutput (shape : Shape) (j : Job) (flash : Flash) (arena : Frames) : Type 0 where
   pub is_there : j.output ≡ Some (output_of j)
   pub entries : List Entry

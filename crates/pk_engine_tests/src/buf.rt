@@ -6,7 +6,7 @@ use pk_buf::Buffer;
 use std::alloc::Global;
 use std::test::*;
 
-// Deletes a key where there is room.
+// Deletes a key if there is room.
 fn delete(table: &mut Buffer<&LocalHeap>, name: &[u8]) {
     if let Some(key) = Key::new(name) {
         if table.len() < table.room() {
@@ -15,7 +15,7 @@ fn delete(table: &mut Buffer<&LocalHeap>, name: &[u8]) {
     }
 }
 
-// Where the key stands in the table, if it does.
+// Where the key is in the table, if it is there.
 fn place_of(table: &Buffer<&LocalHeap>, name: &[u8]) -> Option<u32> {
     let key = Key::new(name)?;
     if table.get(&key).is_none() {
@@ -32,7 +32,7 @@ fn deleted(table: &mut Buffer<&LocalHeap>) -> (u32, Option<u32>) {
     (table.len(), place_of(table, b"b"))
 }
 
-// Entries stand by key, one for each, and no call takes memory.
+// Entries are ordered by key, one for each, and no call takes memory.
 fn holds_by_key(heap: &LocalHeap, table: &mut Buffer<&LocalHeap>) -> bool {
     let room = table.room();
     let used = heap.used();
@@ -51,7 +51,7 @@ fn cleared(heap: &LocalHeap, table: Buffer<&LocalHeap>) -> Option<u32> {
     }
 }
 
-// Whether a table is as it is to be; None where it finds no room.
+// Whether a table is as it has to be; None if it finds no room.
 fn found(heap: &LocalHeap, shape: Shape) -> Option<bool> {
     match Buffer::new(heap, shape) {
         Ok(mut table) => {
@@ -63,7 +63,7 @@ fn found(heap: &LocalHeap, shape: Shape) -> Option<bool> {
     }
 }
 
-// This is found of a table in a heap of so many bytes, and all of it is given back.
+// This is found of a table in a heap of `size` bytes, and all of it is given back.
 fn finds(alloc: Global, size: usize, shape: Shape, wanted: Option<bool>) -> bool {
     match LocalHeap::new(alloc, size) {
         Ok(heap) => found(&heap, shape) == wanted && heap.used() == 0,

@@ -127,8 +127,8 @@ fn new_file(rt: &HostRuntime, path: &str) -> io::Result<File> {
         .open(rt, path)
 }
 
-// What a load of the file answers behind a change of its length, where there is one, and of these
-// bytes of it.
+// What a load of the file answers after a change of its length, if there is one, and of these bytes
+// of it.
 fn changed(
     rt: &HostRuntime,
     path: &str,
@@ -144,13 +144,13 @@ fn changed(
     Ok(loaded(rt, path))
 }
 
-// The answer where the image leaves its grammar at this byte.
+// The answer if the image leaves its grammar at this byte.
 fn bad(at: u64) -> Result<Option<u32>, LoadFault> {
     Err(LoadFault::BadImage { at })
 }
 
 // An image of shape (512, 16, 64) written out by hand, then with a wrong state byte, a wrong header
-// and wrong lengths. The file has no byte at first. The first of these changes behind which another
+// and wrong lengths. The file has no byte at first. The first of these changes after which another
 // answer comes.
 fn first_wrong(rt: &HostRuntime, path: &str) -> io::Result<Option<u32>> {
     let file = new_file(rt, path)?;

@@ -112,7 +112,7 @@ fn five_calls(flash: &mut Flash) -> [bool; 5] {
     ]
 }
 
-// The board behind these calls, of which the one with this number alone fails.
+// The board after these calls, of which the one with this number alone fails.
 fn failed(alloc: Global, call: u8, way: u8) -> Result<Flash, Fail> {
     let mut flash = planned(alloc, u64::from(call), left(alloc, way)?)?;
     let done = five_calls(&mut flash);
@@ -124,7 +124,7 @@ fn failed(alloc: Global, call: u8, way: u8) -> Result<Flash, Fail> {
     Ok(flash)
 }
 
-// The first pages behind a program of page 0 that fails.
+// The first pages after a program of page 0 that fails.
 fn failed_program(alloc: Global, way: u8) -> Result<[u8; 8], Fail> {
     let mut flash = planned(alloc, 0, left(alloc, way)?)?;
     match program(&mut flash, 0) {
@@ -133,7 +133,7 @@ fn failed_program(alloc: Global, way: u8) -> Result<[u8; 8], Fail> {
     }
 }
 
-// The first pages behind programs of pages 0 and 1, of which the second fails.
+// The first pages after programs of pages 0 and 1, of which the second fails.
 fn failed_second(alloc: Global, way: u8) -> Result<[u8; 8], Fail> {
     let mut flash = planned(alloc, 1, left(alloc, way)?)?;
     match (program(&mut flash, 0), program(&mut flash, 1)) {
@@ -142,13 +142,13 @@ fn failed_second(alloc: Global, way: u8) -> Result<[u8; 8], Fail> {
     }
 }
 
-// The first pages behind five calls of which the erase fails.
+// The first pages after five calls of which the erase fails.
 fn failed_erase(alloc: Global, way: u8) -> Result<[u8; 8], Fail> {
     let flash = failed(alloc, 2, way)?;
     Ok(block(&flash))
 }
 
-// Whether these are the bytes that went out behind five calls of which the first post fails.
+// Whether these are the bytes that were sent after five calls of which the first post fails.
 fn failed_post(alloc: Global, way: u8, wanted: &[u8]) -> Result<bool, Fail> {
     let flash = failed(alloc, 3, way)?;
     Ok(flash.posted() == wanted)
@@ -182,7 +182,8 @@ fn failures(rt: HostRuntime) -> Result<(), Fail> {
     Ok(())
 }
 
-// The first pages behind five calls, where their trail is cut off at this mark, which is interrupted in this way.
+// The first pages after five calls, if their trail is cut at this mark, which is interrupted in
+// this way.
 fn front_of_cut(alloc: Global, k: usize, way: u8) -> Result<[u8; 8], Fail> {
     let flash = failed(alloc, 100, 0)?;
     if flash.marks() < k || flash.shape().is_none() {
@@ -191,7 +192,7 @@ fn front_of_cut(alloc: Global, k: usize, way: u8) -> Result<[u8; 8], Fail> {
     Ok(front(&flash.cut(alloc, k, &left(alloc, way)?)?))
 }
 
-// What stands where the trail is cut off at each mark, with each outcome.
+// The pages if the trail is cut at each mark, with each outcome.
 #[test]
 fn cuts(rt: HostRuntime) -> Result<(), Fail> {
     let alloc = rt.alloc();

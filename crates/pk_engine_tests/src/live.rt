@@ -9,7 +9,7 @@ use pk_live::Live;
 use std::alloc::{Allocator, Global};
 use std::test::*;
 
-// The map takes at most so many bytes of the heap, and its calls take none.
+// The map takes at most `most` bytes of the heap, and its calls take none.
 fn takes_once(heap: &LocalHeap, shape: Shape, most: usize) -> bool {
     match Live::new(heap, shape) {
         Ok(mut live) => {

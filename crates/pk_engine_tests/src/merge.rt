@@ -94,7 +94,7 @@ fn merge<A: Region, B: Counts>(
     outcome(steps, job.output(), pool.used(Owner::Meta))
 }
 
-// What is seen of a merge into a run of this level in a heap; None where it took memory behind its
+// What is seen of a merge into a run of this level in a heap; None if it took memory after its
 // beginning.
 fn merge_in(
     heap: &LocalHeap,

@@ -9,7 +9,7 @@ const PUT_B: &[u8; 32] = b"\x01\x01\0\0b\0\0\0\0\0\0\0\0\0\0\0\0\0\0\0\xa2\0\0\0
 
 const PUT_C: &[u8; 32] = b"\x01\x01\0\0c\0\0\0\0\0\0\0\0\0\0\0\0\0\0\0\xa4\0\0\0\x04\0\0\0\0\0\0\0";
 
-// The first page of a run of this level, with the head for so many entries and none of them.
+// The first page of a run of this level, with the head for `count` entries and none of them.
 fn head(level: u8, count: u8) -> [u8; 512] {
     let mut page = [0u8; 512];
     page[..8].copy_from_slice(b"PINKMETA");

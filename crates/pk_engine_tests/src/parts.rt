@@ -1,4 +1,4 @@
-//! Parts of an engine that take memory of their own when they are made, and none behind that.
+//! Parts of an engine that take memory of their own when they are made, and none afterwards.
 ghost use Rattle.pk_base.specs.Fields.{AreBytes};
 ghost use Rattle.pk_base.specs.Key.{IsKey};
 
@@ -33,7 +33,7 @@ pub enum Part {
 }
 
 /// Makes a part in this heap and uses it: how much of the heap is in use when it was made, and
-/// behind that.
+/// afterwards.
 pub fn made_in(heap: &LocalHeap, shape: Shape, part: Part) -> Result<[usize; 2], AllocError> {
     match part {
         Part::Pool => pool_in(heap, shape),

@@ -54,7 +54,7 @@ fn memory(alloc: Global) -> bool {
     }
 }
 
-// An arena that finds no room is an error, and leaves the heap as it was.
+// An arena that finds no room is an error, and does not change the heap.
 fn no_room(alloc: Global) -> bool {
     match LocalHeap::new(alloc, 16384) {
         Ok(heap) => PinArena::new(&heap, 36, 512).is_err() && heap.used() == 0,

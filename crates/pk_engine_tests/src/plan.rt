@@ -4,7 +4,7 @@ use pk_base::Shape;
 use pk_plan::{Owner, Plan};
 use std::test::*;
 
-// So many frames pin so many levels, and no fewer do.
+// This many frames pin this many levels, and no fewer do.
 fn pins(plan: &Plan, levels: u8, frames: u32) -> bool {
     if levels > 4 || plan.need(levels) != frames || plan.pinned(frames) != levels {
         return false;

@@ -14,7 +14,7 @@ use pk_run::Run;
 use pk_scan::load_run;
 use std::alloc::Allocator;
 
-// Whether runs of two entries in one block may stand at this level.
+// Whether runs of two entries in one block may be at this level.
 fn may_stand(shape: &Shape, level: u8) -> bool
     requires { 1 ≤ level × level ≤ 4 }
     ensures blocks { result ≡ true → run_blocks shape.now 2 ≡ 1 }
@@ -39,12 +39,12 @@ fn open<A: Allocator, B: Nand>(
     requires frames { arena.old.page_bytes ≡ run.old.shape.page_bytes }
     requires sized { length buf.old ≡ run.old.shape.page_bytes }
 
-    // The run stands, and so do the others.
+    // The run is as expected, and so are the others.
     ensures opened { OnOk result
         (IsOpened run.old.shape (B.state board.old).pages arena.new block run.new) }
     ensures others { OnOk result (RunsStand arena.old arena.new) }
 
-    // What stays of the sizes, and of the board.
+    // What is unchanged of the sizes, and of the board.
     ensures frames { OnOk result (arena.new.page_bytes ≡ arena.old.page_bytes) }
     ensures board { OnOk result
         (StaysReady run.old.shape (B.state board.old) (B.state board.new)) }
@@ -76,13 +76,13 @@ pub fn open_both<A: Allocator, B: Nand>(
     requires frames { arena.old.page_bytes ≡ target.old.shape.page_bytes }
     requires sized { length buf.old ≡ target.old.shape.page_bytes }
 
-    // Both runs stand.
+    // Both runs are as expected.
     ensures source { OnOk result
         (IsOpened target.old.shape (B.state board.new).pages arena.new 2 source.new) }
     ensures target { OnOk result
         (IsOpened target.old.shape (B.state board.new).pages arena.new 3 target.new) }
 
-    // The board may be called, and what stays of the sizes.
+    // The board may be called, and what is unchanged of the sizes.
     ensures frames { OnOk result (arena.new.page_bytes ≡ target.old.shape.page_bytes) }
     ensures ready { OnOk result (IsReady (B.state board.new) target.new.shape) }
     ensures shape { OnOk result (target.new.shape ≡ target.old.shape) }

@@ -25,8 +25,8 @@ impl Counts for Flash {
     }
 }
 
-// The next step, and whether it was the last one; None where its read failed. An error where the
-// flash stopped.
+// The next step, and whether it was the last one; None if its read failed. An error if the flash
+// stopped.
 fn make_step<A: Region, B: Nand>(
     job: &mut MergeJob<A>,
     board: &mut B,
@@ -103,8 +103,7 @@ pub fn finish<A: Region, B: Counts>(
     Ok(letters)
 }
 
-/// Reads the first page of a job's output, from its frame where it has one; false where there is
-/// none.
+/// Reads the first page of a job's output, from its frame if it has one; false if there is none.
 pub fn read_output<A: Region, B: Nand>(
     job: &MergeJob<A>,
     board: &mut B,

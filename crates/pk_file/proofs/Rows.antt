@@ -61,7 +61,7 @@ row_erases shape block old new some room row = same_pages (erased_from shape blo
       ]
     ]
 
--- an erase that was interrupted may leave a front of its block Erased
+-- an erase that was interrupted may leave a prefix of its block Erased
 pub row_left : (shape : Shape) (block done : ℕ) (old new : Flash) → done ≤ shape.block_pages → ErasedRow (block * shape.block_pages) done old new → Interrupted shape (erase block) old new []
 row_left shape block done old new few row = record { same_size = row.same_size; pages = at; posted = ([], refl) }
   where
@@ -82,7 +82,7 @@ torn_left shape at bytes old = record {
   posted = ([], refl);
 }
 
--- ---- the board's shape, where there is one
+-- ---- the board's shape, if there is one
 
 pub erase_left : (o : Option Shape) (s : Shape) → o ≡ Some s → (block n done : ℕ) (old new : Flash) → n ≡ s.block_pages → done ≤ n → ErasedRow (block * n) done old new
     → LeftBehind (shape_or_none o) (erase block) old new None None

@@ -1,4 +1,4 @@
--- Bytes at the end of which only zeros stand.
+-- Bytes that end in zeros alone.
 use Rattle.std.proofs.Common.{◌≡◌, ◌==◌, inl, inr, ℕ, ◌+◌, ◌-◌, ◌<◌, ◌≤◌, true, List, length, take, drop, get_or, sym, ap, ◌∙◌, arith, length-drop}
 use Rattle.std.specs.List.{list_all}
 use Rattle.std.proofs.lemmas.Bool.{cases_lt, eqb-true}
@@ -6,7 +6,7 @@ use Rattle.std.proofs.lemmas.List.{get_or-take, get_or-drop, length-take-le}
 use Rattle.std.proofs.lemmas.List.Sums.{AllPass-from_list_all}
 use Rattle.pk_file.specs.Trims.{ZerosFrom}
 
--- the zeros begin further in front
+-- the zeros begin earlier
 pub zeros_before : (bytes : List ℕ) (next end : ℕ) → next ≤ end → end ≤ length bytes
     → list_all (λ b. b == 0) (take (end - next) (drop next bytes)) ≡ true → ZerosFrom end bytes → ZerosFrom next bytes
 zeros_before bytes next end order room all behind k low high =

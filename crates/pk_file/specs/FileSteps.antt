@@ -5,7 +5,7 @@ use Rattle.pk_nand.specs.Calls.{longer}
 use Rattle.pk_file.specs.Extents.{Restores}
 
 pub data FileStep : Type 0 where
-  -- from a page on, so many state bytes become this one
+  -- from a page on, n state bytes become this one
   states_set : ℕ → ℕ → ℕ → FileStep
   -- bytes are written from the first of a page on
   prefix_written : ℕ → List ℕ → FileStep

@@ -1,4 +1,5 @@
-//! A board over a file, standard input and standard output. It tells neither input, posted bytes nor trail.
+//! A board over a file, standard input and standard output. It records neither input, posted bytes
+//! nor trail.
 ghost use Rattle.std.specs.Prelude.{◌≡◌, ◌≤◌, ◌<◌, ◌+◌, ◌*◌, ◌/◌, ℕ, length, Option, None, Some, OnOk, OnErr, slice_set};
 ghost use Rattle.pk_base.specs.Shape as spec;
 ghost use Rattle.pk_base.specs.Page.{whole};
@@ -19,7 +20,7 @@ use pk_nand::{Board, HostFault, LoadFault, Nand, NandFault, PageRead};
 use std::alloc::Global;
 use std::rt::{Stdin, Stdout};
 
-/// The image file of a drive, with its pages in memory, beside standard input and output.
+/// The image file of a drive, with its pages in memory, and standard input and output.
 #[derive(Drop)]
 pub struct FileBoard<'a> {
     rt: &'a HostRuntime,
@@ -187,8 +188,8 @@ impl<'a> FileBoard<'a> {
         }
     }
 
-    /// Sends what was posted and has not left: the end of a run, which is lost without this call. A write that failed, now or behind
-    /// the last post, is told here.
+    /// Sends what was posted and has not left: the end of a run, which is lost without this call. A
+    /// write that failed, now or after the last post, is reported here.
     pub fn finish(&mut self) -> Result<(), HostFault>
         ensures ok { OnOk result (self.new.out_faults ≡ self.old.out_faults) }
         ensures err { OnErr result (Rose self.old.out_faults self.new.out_faults) }
@@ -324,7 +325,7 @@ impl Nand for FileBoard<'_> {
 impl Board for FileBoard<'_> {
     fn fetch(&mut self, into: &mut [u8]) -> Result<usize, HostFault> {
         if self.input.may_wait() {
-            // A write that fails is told by the next post, or at the end.
+            // A write that fails is reported by the next post, or at the end.
             let _ = self.output.send();
         }
         match self.input.fetch(into) {

@@ -12,12 +12,13 @@ use std::fs::File;
 use std::io;
 use std::os::unix::fs::FileExt;
 
-/// A file with the pages of a board. Where it tells its steps, those that were made are in them.
+/// A file with the pages of a board. If it records its steps, those that were made are in them.
 pub trait PageFile {
     /// What was asked of it.
     ghost steps: { Self → Option (List FileStep) };
 
-    /// Fails where the file is not as long as its image any more. A write would make it so again, with zeros.
+    /// Fails if the file is not as long as its image any more. A write would make it so again, with
+    /// zeros.
     fn begin(&mut self) -> io::Result<()>
         ensures { steps self.new ≡ steps self.old };
 
@@ -89,7 +90,7 @@ impl PageFile for ImageFile {
     /// A write that a signal interrupted is made again.
     fn erase_states(&mut self, shape: &Shape, first: u32, count: u32) -> u32 {
         let states = [PageTag::Erased.byte(); MOST_BLOCK_PAGES as usize];
-        // A loop has an end: no process lives to see so many interrupted writes.
+        // A loop has an end: no process lives to see this many interrupted writes.
         for _ in 0..u64::MAX {
             match self
                 .file

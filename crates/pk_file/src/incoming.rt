@@ -12,13 +12,13 @@ use std::io::{BufReader, Read};
 /// EBADF, the system's number for a descriptor that is closed, or not open for this.
 const CLOSED: i32 = 9;
 
-/// A reader behind a buffer.
+/// A reader with its buffer.
 #[derive(Drop)]
 pub struct Incoming<R: Read + Drop> {
     from: BufReader<R>,
 }
 
-/// The reader with room for what is read ahead. Where there is no memory for it each fetch is a read.
+/// The reader with room for what is read ahead. If there is no memory for it each fetch is a read.
 fn buffered<R: Read + Drop + Copy>(alloc: Global, from: R) -> BufReader<R> {
     match BufReader::with_capacity(alloc, GATHERED, from) {
         Ok(reader) => reader,
@@ -49,7 +49,7 @@ impl<R: Read + Drop> Incoming<R> {
     pub fn fetch(&mut self, into: &mut [u8]) -> io::Result<usize>
         ensures { ReadsAtMost result into.new }
     {
-        // A loop has an end: no process lives to see so many interrupted reads.
+        // A loop has an end: no process lives to see this many interrupted reads.
         for _ in 0..u64::MAX {
             match self.from.read(into) {
                 Ok(count) => return Ok(count),

@@ -14,18 +14,20 @@ enum Stage {
     /// Nothing was posted. The first post goes out at once, so that an output that is closed is found by it.
     Untried,
     Open,
-    /// A write failed. Nothing follows it, so that what went out stays a front of what was posted.
+    /// A write failed. Nothing follows it, so that what was written remains a prefix of what was
+    /// posted.
     Lost,
 }
 
-/// A writer behind a buffer.
+/// A writer with its buffer.
 #[derive(Drop)]
 pub struct Outgoing<W: Write + Drop> {
     to: BufWriter<W>,
     stage: Stage,
 }
 
-/// The writer with room for what is gathered. Where there is no memory for it each post is written at once.
+/// The writer with room for what is gathered. If there is no memory for it each post is written at
+/// once.
 fn buffered<W: Write + Drop + Copy>(alloc: Global, to: W) -> BufWriter<W> {
     match BufWriter::with_capacity(alloc, GATHERED, to) {
         Ok(writer) => writer,
@@ -65,7 +67,7 @@ impl<W: Write + Drop> Outgoing<W> {
         }
     }
 
-    /// Adds bytes behind those that were posted.
+    /// Adds bytes after those that were posted.
     fn gather(&mut self, bytes: &[u8]) -> Result<(), HostFault>
         ensures { OnOk result (Appends (writer_contents W.contents self.old.to)
             (writer_contents W.contents self.new.to) bytes.now) }
@@ -82,7 +84,8 @@ impl<W: Write + Drop> Outgoing<W> {
         }
     }
 
-    /// Posts bytes: they stand behind all that was posted before, and go out with the next that is sent.
+    /// Posts bytes: they follow all that was posted before, and are written with the next that is
+    /// sent.
     pub fn post(&mut self, bytes: &[u8]) -> Result<(), HostFault>
         ensures { OnOk result (Appends (writer_contents W.contents self.old.to)
             (writer_contents W.contents self.new.to) bytes.now) }

@@ -28,7 +28,8 @@ pub struct PageReader {
     ghost short: { count ≤ RUN_PAGES },
 }
 
-/// How many pages from this one on are Whole in a row by their state bytes, which this one is, up to what one call reads.
+/// How many consecutive pages from this one on are Whole by their state bytes, which this one is,
+/// up to what one call reads.
 fn run_length(states: &[u8], first: usize) -> usize
     requires { first < length states.now }
     ensures some { 1 ≤ result }
@@ -56,7 +57,7 @@ fn copied(alloc: Global, shape: &Shape, bytes: &[u8]) -> Result<Trimmed, LoadFau
     }
 }
 
-/// Reads so many bytes of a file into the front of a buffer.
+/// Reads `len` bytes of a file into the start of a buffer.
 fn read_front(file: &File, buffer: &mut Vec<u8>, len: usize, at: u64) -> io::Result<()>
     requires { len ≤ length buffer.old.items }
     ensures { length buffer.new.items ≡ length buffer.old.items }

@@ -34,8 +34,8 @@ pub struct Image {
     ghost fit: { AllFit shape slots.items },
 }
 
-/// Opens the image file, with its length in bytes; None where it is missing or empty. An image that another board has open is a
-/// fault.
+/// Opens the image file, with its length in bytes; None if it is missing or empty. An image that
+/// another board has open is a fault.
 fn opened(rt: &HostRuntime, path: &str) -> Result<Option<(File, u64)>, LoadFault> {
     let file = match open_alone(rt, OpenOptions::new().read(true).write(true), path) {
         Ok(file) => file,
@@ -97,7 +97,8 @@ fn read_image(alloc: Global, file: File, len: u64, is_durable: bool) -> Result<I
     }
 }
 
-/// The image at this path; None where there is none. Where changes have to be on the disk, so has to be what an earlier run wrote.
+/// The image at this path; None if there is none. If changes have to be on the disk, so has to be
+/// what an earlier run wrote.
 pub fn find_image(
     rt: &HostRuntime,
     alloc: Global,
@@ -118,8 +119,9 @@ pub fn find_image(
     }
 }
 
-/// Makes an image file with all pages Erased of a missing or empty one that no other board has open. Its text is written last, so
-/// that a file that was not made to its end is no image. Where changes have to be on the disk, so are the file and its name.
+/// Makes an image file with all pages Erased of a missing or empty one that no other board has
+/// open. Its text is written last, so that a file that was not made to its end is no image. If
+/// changes have to be on the disk, so are the file and its name.
 pub fn create_image(
     rt: &HostRuntime,
     path: &str,
@@ -147,8 +149,8 @@ pub fn create_image(
     Ok(ImageFile::new(file, len, is_durable))
 }
 
-/// The bytes of a page that a file may lack at its place, where it has zeros from the extent on: no byte is written that it has.
-/// Only zeros follow the first `front` bytes of the page.
+/// The bytes of a page that a file may lack at its place, if it has zeros from the extent on: no
+/// byte is written that it has. Only zeros follow the first `front` bytes of the page.
 fn unlike(bytes: &[u8], front: usize, extent: usize) -> &[u8]
     requires { ZerosFrom front bytes.now }
     ensures { Restores result.now extent bytes.now }

@@ -7,8 +7,8 @@ ghost use Rattle.pk_file.specs.Extents.{extent_of, StaysWithin};
 
 use crate::trimmed::Trimmed;
 
-/// A page; only a Whole one keeps bytes. In the file bytes of an earlier program may stand at the place of another: from `extent` on,
-/// in bytes, these are zeros.
+/// A page; only a Whole one keeps bytes. In the file bytes of an earlier program may be at the
+/// place of another: from `extent` on, in bytes, these are zeros.
 #[derive(Drop)]
 pub enum Slot {
     Erased { extent: usize },

@@ -27,7 +27,8 @@ pub fn known(bytes: &[u8])
     let _ = bytes;
 }
 
-/// All pages of a shape, Erased, of a file that was just made: there only zeros stand at their places.
+/// All pages of a shape, Erased, of a file that was just made: there are only zeros at their
+/// places.
 pub fn erased_slots(alloc: Global, shape: &Shape) -> Result<Vec<Slot>, AllocError>
     ensures pages { IfOk result
         (λ v. pages_of v.items ≡ replicate (spec.page_count shape.now) erased) }
@@ -146,7 +147,8 @@ pub fn set_slot(slots: &mut Vec<Slot>, page: usize, slot: Slot)
     slots[page] = slot;
 }
 
-/// Pages become Erased, from one on, so many. What the file has at their places is unchanged.
+/// The next `count` pages from this one on become Erased. What the file has at their places is
+/// unchanged.
 pub fn erase_slots(slots: &mut Vec<Slot>, first: usize, count: usize)
     requires { first + count ≤ length slots.old.items }
     ensures pages { ErasedRow first count (pages_of slots.old.items) (pages_of slots.new.items) }

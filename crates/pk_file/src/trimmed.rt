@@ -1,4 +1,5 @@
-//! The bytes of a page without the zeros at its end: a page is filled up with zeros behind what it holds, and these take no memory.
+//! The bytes of a page without the zeros at its end: a page is filled up with zeros after what it
+//! holds, and these take no memory.
 ghost use Rattle.std.specs.Prelude.{◌≡◌, ◌≤◌, ◌<◌, ◌-◌, length, true, IfOk};
 ghost use Rattle.pk_file.specs.Trims.{bytes_in, ZerosFrom};
 
@@ -17,7 +18,7 @@ pub struct Trimmed {
     pub zeros: usize,
 }
 
-/// Whether the bytes up to a place end in so many zeros.
+/// Whether the bytes up to a place end in this many zeros.
 fn ends_in_zeros(bytes: &[u8], end: usize, count: usize) -> bool
     requires { end ≤ length bytes.now }
     ensures within { result ≡ true → count ≤ end }
@@ -26,7 +27,8 @@ fn ends_in_zeros(bytes: &[u8], end: usize, count: usize) -> bool
     count <= end && are_zeros(&bytes[end - count..end])
 }
 
-/// The place from which on bytes are zeros where they are so from `end` on, found in steps of so many bytes.
+/// The place from which on bytes are zeros if they are so from `end` on, found in steps of `step`
+/// bytes.
 fn zeros_from(bytes: &[u8], end: usize, step: usize) -> usize
     requires exists { end ≤ length bytes.now }
     requires some { 0 < step }

@@ -1,4 +1,4 @@
--- Spare buffers with room for more than is wanted.
+-- Spare buffers with room for more than is needed.
 use Rattle.std.proofs.Common.{◌≤◌, ℕ, List, arith}
 use Rattle.std.proofs.lemmas.List.Elements.{All-weaker}
 use Rattle.std.specs.Prelude.{Vec}

@@ -1,4 +1,4 @@
--- What a call of the board in memory does, by its plan.
+-- What an operation of the board in memory does, by its plan.
 use Rattle.std.specs.Prelude.{◌≡◌, ◌⊎◌, ◌<◌, ◌≤◌, ◌+◌, ℕ, List, [], ◌∷◌, ◌++◌, length, take, min, Option, Some, None, Result, IsErr}
 use Rattle.pk_base.specs.Shape.{Shape}
 use Rattle.pk_base.specs.Page.{Flash}
@@ -15,7 +15,7 @@ pub record ActsBy {X E : Type 0} (shape : Shape) (mark : Mark) (room : ℕ) (lef
   pub noted : length trail < room → trail' ≡ trail ++ mark ∷ []
   pub refused : room ≤ length trail → IsErr result × (new ≡ old) × (trail' ≡ trail)
 
--- how many bytes a post gives out, of so many
+-- how many bytes a post sends, of n
 abbrev pub part : ℕ → Option Left → ℕ
 part all None = all
 part all (Some Untouched) = 0
@@ -37,7 +37,7 @@ pub record GivesNothing {X E : Type 0} (posted posted' : List ℕ) (trail trail'
   pub same_posted : posted' ≡ posted
   pub same_trail : trail' ≡ trail
 
--- A post gives out what was planned, or nothing is done: with room it does for at most a page of bytes, and without it never.
+-- A post sends what was planned, or nothing is done: with room it does for at most a page of bytes, and without it never.
 pub record PostsBy {X E : Type 0} (page_bytes posted_room room : ℕ) (left : Option Left) (bytes posted posted' : List ℕ) (trail trail' : List Mark) (result : Result X E) : Type 0 where
   pub did : Gives left (take (part (length bytes) left) bytes) posted posted' trail trail' result ⊎ GivesNothing posted posted' trail trail' result
   pub free : part (length bytes) left ≤ page_bytes → length posted + part (length bytes) left ≤ posted_room → length trail < room → Gives left (take (part (length bytes) left) bytes) posted posted' trail trail' result

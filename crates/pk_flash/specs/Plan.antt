@@ -6,7 +6,7 @@ use Rattle.pk_flash.specs.declared.types.Left.{Left}
 use Rattle.pk_flash.specs.declared.types.Left.TheVariants.{Done}
 use Rattle.pk_flash.specs.declared.types.Planned.{Planned}
 
--- the second, or the first where there is none
+-- the second, or the first if there is none
 abbrev pub later : Option Left → Option Left → Option Left
 later first None = first
 later first (Some left) = Some left
@@ -25,14 +25,14 @@ abbrev pub left_of : Option Left → Left
 left_of None = Done
 left_of (Some left) = left
 
--- a call with room fails exactly where it is to
+-- a call with room fails exactly if it is to
 abbrev pub AnswersBy : {X E : Type 0} → Option Left → Result X E → Type 0
 AnswersBy None (Ok x) = ⊤
 AnswersBy None (Err e) = ⊥
 AnswersBy (Some left) (Ok x) = ⊥
 AnswersBy (Some left) (Err e) = ⊤
 
--- one call more was made; what is planned stays, and so do the pages as the board was handed in
+-- one call more was made; what is planned is unchanged, and so do the pages as the board was passed in
 pub record Turned (calls calls' : ℕ) (plan plan' : List Planned) (start start' : List PageState) : Type 0 where
   pub one_more : calls' ≡ counted calls
   pub same_plan : plan' ≡ plan

@@ -3,7 +3,7 @@ use Rattle.std.specs.Prelude.{◌≡◌, ◌≤◌, ℕ, List, [], Vec, vec_len,
 use Rattle.std.specs.List.{All}
 use Rattle.std.specs.declared.alloc.Global.{Global}
 
--- an empty buffer with room for so many bytes
+-- an empty buffer with room for n bytes
 abbrev pub IsSpare : ℕ → Vec ℕ Global → Type 0
 IsSpare room buffer = (buffer.items ≡ []) × (vec_len buffer ≡ 0) × (room ≤ vec_capacity buffer)
 

@@ -1,4 +1,4 @@
-//! What calls do to the pages, the trail and the bytes given out of a board in memory.
+//! What calls do to the pages, the trail and the posted bytes of a board in memory.
 ghost use Rattle.std.specs.Prelude.{◌≡◌, ◌≤◌, ◌<◌, ◌+◌, ◌++◌, ◌∷◌, [], ℕ, length, take, Some, OnOk, OnErr, IfOk, IsTrue, vec_capacity, ◌⊎◌, slice_set, option_copied, option_map};
 ghost use Rattle.pk_base.specs.Shape as spec;
 ghost use Rattle.pk_base.specs.Page.{whole, IsPage, IsFlash};
@@ -121,7 +121,7 @@ pub fn erase_block(
     }
 }
 
-// How many bytes a post gives out.
+// How many bytes a post sends.
 fn part(left: Option<&Left>, all: usize) -> usize
     ensures part { result ≡ part_of all (option_copied left.entry) }
     ensures within { result ≤ all }
@@ -133,8 +133,8 @@ fn part(left: Option<&Left>, all: usize) -> usize
     }
 }
 
-/// Gives bytes out, or fails and leaves what `left` says. More than a page of bytes take memory for their mark; without it
-/// the call fails with nothing done.
+/// Posts bytes, or fails and leaves what `left` says. More than a page of bytes take memory for
+/// their mark; without it the call fails with nothing done.
 pub fn post_bytes(
     alloc: Global,
     posted: &mut Vec<u8>,

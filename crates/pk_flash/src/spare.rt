@@ -5,7 +5,7 @@ ghost use Rattle.pk_flash.specs.Spare.{AreSpare};
 use pk_nand::PageBytes;
 use std::alloc::{AllocError, Global};
 
-/// Two empty buffers with room for a page for each of so many marks.
+/// Two empty buffers with room for a page for each of `marks` marks.
 pub fn spare_buffers(
     alloc: Global,
     marks: usize,

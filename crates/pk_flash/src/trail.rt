@@ -9,7 +9,8 @@ use crate::spare::{copy_into_spare, spare_buffers};
 use pk_nand::{Mark, PageBytes};
 use std::alloc::{AllocError, Global};
 
-/// The marks since the board was handed in. Each mark to come has two spare buffers, for its bytes and for those of its page.
+/// The marks since the board was passed in. Each mark to come has two spare buffers, for its bytes
+/// and for those of its page.
 pub struct Trail {
     pub marks: Vec<Mark>,
     pub room: usize,
@@ -34,7 +35,7 @@ impl Drop for Trail {
 }
 
 impl Trail {
-    /// No marks, and room for so many, each with a page of bytes.
+    /// No marks, and room for `room`, each with a page of bytes.
     pub fn new(alloc: Global, room: usize, page_bytes: u32) -> Result<Trail, AllocError>
         ensures marks { IfOk result (λ t. t.marks.items ≡ []) }
         ensures room { IfOk result (λ t. t.room ≡ room) }

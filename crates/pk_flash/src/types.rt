@@ -10,7 +10,7 @@ pub struct Room {
 /// What a failing program leaves of its page.
 #[derive(Clone, Copy, Debug, PartialEq, Eq)]
 pub enum PageLeft {
-    /// The page is as it was.
+    /// The page is unchanged.
     Untouched,
     /// The page is Torn.
     Torn,
@@ -21,7 +21,7 @@ pub enum PageLeft {
 /// What a failing erase leaves of one page.
 #[derive(Clone, Copy, Debug, PartialEq, Eq)]
 pub enum EraseLeft {
-    /// The page is as it was.
+    /// The page is unchanged.
     Kept,
     /// The page is Erased.
     Erased,
@@ -38,12 +38,12 @@ pub enum Left {
     Torn,
     /// The call was done.
     Done,
-    /// Of an erased block each page by itself: the first of these is what becomes of its first page, and the pages behind
-    /// the last of these are as they were.
+    /// Of an erased block each page by itself: the first of these is what becomes of its first
+    /// page, and the pages after the last of these are unchanged.
     Each(Vec<EraseLeft>),
-    /// The second page of a pair is left so, and the first one is Torn.
+    /// The second page of a pair becomes this, and the first one is Torn.
     WithEven(PageLeft),
-    /// So many bytes of a post were given out, or all where it has fewer.
+    /// This many bytes of a post were sent, or all if it has fewer.
     Part(u32),
 }
 

@@ -24,7 +24,7 @@ module _ (old new : Machine) (faults : ℕ) (c : Command) (a : Answer) (h : Answ
   shape_is : new.shape ≡ old.shape
   shape_is = ap (λ (x : Machine). x.shape) h.map_is
 
-  -- the machine that is left is good again
+  -- the machine afterwards is good again
   pub good_again : IsGood old → IsHanded c → IsGood new
   good_again good handed = subst IsGood (sym h.map_is) (good_left old.shape old.map c good handed)
 
@@ -61,7 +61,7 @@ pub good_by : {E : Type 0} (old new : Machine) (c : Command) (r : Result Answer 
 good_by old new c (Ok a) ok err good handed = good_again old new 0 c a ok good handed
 good_by old new c (Err e) ok err good handed = subst IsGood (sym err) good
 
--- the completion of an answer whose data stand in the front of the buffer
+-- the completion of an answer whose data are at the start of the buffer
 pub completes_so : (old new : PortState) (c : Command) (a : Answer) (cid taken : ℕ) (done : Completed) (bytes into into' : List ℕ)
     → done.entry ≡ completion cid taken a.status a.result → done.data_len ≡ length bytes → cid ≡ c.cid → bytes ≡ a.bytes.items → length a.bytes.items ≤ length into
     → take (length bytes) into' ≡ bytes → length into' ≡ length into → Replies old new c (replied a) → Completes old new c done into'

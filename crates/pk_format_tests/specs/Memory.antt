@@ -1,4 +1,4 @@
--- A map in memory as a port: it tells its map, and no read fails.
+-- A map in memory as a port: its map is known, and no read fails.
 use Rattle.std.specs.Prelude.{ℕ, Some}
 use Rattle.pk_base.specs.Shape.{limit}
 use Rattle.pk_model.specs.Machine.{Machine}

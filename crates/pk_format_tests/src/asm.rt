@@ -5,8 +5,8 @@ use pk_nvme::Bytes;
 use std::alloc::{AllocError, Global};
 use std::test::*;
 
-/// An entry in namespace 1 of this opcode and number, with a key of one byte, or of none where it
-/// is 0, a size and options.
+/// An entry in namespace 1 of this opcode and number, with a key of one byte, or of none if it is
+/// 0, a size and options.
 fn entry([opcode, cid, key, size, options]: [u8; 5]) -> [u8; 64] {
     let mut entry = [0u8; 64];
     entry[0] = opcode;
@@ -33,7 +33,7 @@ const FORMS: &[(&[u8], [u8; 5], &[u8])] = &[
     (b"flush", [0x00, 5, 0, 0, 0], b""),
     (b"report", [0xC2, 5, 0, 0, 0], b""),
     (b"tick 200", [0xC0, 5, 0, 200, 0], b""),
-    // Another number, namespace or option, or bytes behind another command, have no named line.
+    // Another number, namespace or option, or bytes after another command, have no named line.
     (
         b"raw 0200060001000000610000000000000000000000000000000000000000000000\
           0000000000000000030000000100000000000000000000000000000000000000 -",
@@ -211,7 +211,7 @@ fn are_numbers() -> bool {
         && number(b"") == None
 }
 
-/// So many bytes, these first and digits behind them.
+/// This many bytes, these first and digits after them.
 fn long_line(alloc: Global, size: usize, front: &[u8]) -> Result<Vec<u8>, AllocError> {
     let mut line = vec![in alloc; b'0'; size]?;
     for (i, byte) in front.iter().enumerate() {
@@ -222,7 +222,7 @@ fn long_line(alloc: Global, size: usize, front: &[u8]) -> Result<Vec<u8>, AllocE
     Ok(line)
 }
 
-/// How many bytes a line gives, where it is inside the grammar.
+/// How many bytes a line gives, if it is inside the grammar.
 fn given(value: &mut Bytes, line: &[u8]) -> Option<usize> {
     if value.room() < 1_100_000 {
         return None;
@@ -233,7 +233,8 @@ fn given(value: &mut Bytes, line: &[u8]) -> Option<usize> {
     }
 }
 
-/// A line of this length, which begins so and goes on with digits, gives so many bytes, or is refused.
+/// A line of this length, which begins so and goes on with digits, gives this many bytes, or is
+/// refused.
 fn long_gives(alloc: Global, size: usize, front: &[u8], bytes: Option<usize>) -> bool {
     let Ok(line) = long_line(alloc, size, front) else {
         return false;
@@ -253,7 +254,7 @@ fn are_longest(alloc: Global) -> bool {
         && long_gives(alloc, 2_200_001, store, None)
 }
 
-/// How many of two flushes are printed, where they leave this text.
+/// How many of two flushes are printed, if they leave this text.
 fn flushes(into: &mut Bytes, text: &[u8]) -> Option<u32> {
     let flush = entry([0x00, 1, 0, 0, 0]);
     let first = print(&flush, b"", 1, into);
@@ -264,7 +265,7 @@ fn flushes(into: &mut Bytes, text: &[u8]) -> Option<u32> {
     Some(first as u32 + second as u32)
 }
 
-/// So many of two flushes fit so much room, where they print this text.
+/// This many of two flushes fit this much room, if they print this text.
 fn fit(alloc: Global, room: usize, text: &[u8], count: u32) -> bool {
     match Bytes::with_room(alloc, room) {
         Ok(mut into) => flushes(&mut into, text) == Some(count),
@@ -272,7 +273,7 @@ fn fit(alloc: Global, room: usize, text: &[u8], count: u32) -> bool {
     }
 }
 
-// A line and its line feed are written where they fit, behind what stands there.
+// A line and its line feed are written if they fit, after what is there.
 fn have_room(alloc: Global) -> bool {
     fit(alloc, 11, b"flush\n", 1) && fit(alloc, 12, b"flush\nflush\n", 2)
 }

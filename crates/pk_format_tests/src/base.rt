@@ -31,7 +31,7 @@ fn has_large_numbers() -> bool {
     }
 }
 
-// Lengths of values, and the pages that each takes: whole pairs that hold it behind its head.
+// Lengths of values, and the pages that each takes: whole pairs that hold it after its head.
 const SMALL_CHARGES: &[(u32, u32)] = &[
     (0, 2),
     (100, 2),

@@ -16,7 +16,7 @@ fn key(bytes: &[u8]) -> Result<Key, Fail> {
     Ok(Key::new(bytes).ok_or("a key")?)
 }
 
-// The first bytes, so many of them.
+// The first `len` bytes.
 fn front(bytes: &[u8], len: usize) -> &[u8] {
     &bytes[..len.min(bytes.len())]
 }
@@ -130,7 +130,7 @@ fn stores_number(host: &mut Host, port: &mut MemoryPort, n: u32) -> bool {
     }
 }
 
-// Empty values are stored under so many numbers.
+// Empty values are stored under `count` numbers.
 fn stores_numbers(host: &mut Host, port: &mut MemoryPort, count: u32) -> bool {
     for n in 0..count {
         if !stores_number(host, port, n) {
@@ -140,7 +140,7 @@ fn stores_numbers(host: &mut Host, port: &mut MemoryPort, count: u32) -> bool {
     true
 }
 
-// How many keys are listed behind this number, 0 where there is none.
+// How many keys are listed after this number, 0 if there is none.
 fn keys_from(
     host: &mut Host,
     port: &mut MemoryPort,
@@ -158,7 +158,7 @@ fn keys_from(
     }
 }
 
-// How many keys are listed behind each of these numbers, all into one page.
+// How many keys are listed after each of these numbers, all into one page.
 fn keys_from_each(
     alloc: Global,
     host: &mut Host,

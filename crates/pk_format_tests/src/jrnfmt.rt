@@ -32,7 +32,7 @@ fn refused_at(shape: &Shape, place: usize, byte: u8) -> Option<u32> {
     }
 }
 
-// What stands before the entries of the page is read.
+// What precedes the entries of the page is read.
 fn is_read(shape: &Shape) -> bool {
     if shape.page_bytes() != 512 {
         return false;

@@ -38,7 +38,7 @@ impl Model for GoodMachine {
 }
 
 impl GoodMachine {
-    /// A machine of this shape with the empty map; an error where the memory for it is missing.
+    /// A machine of this shape with the empty map; an error if the memory for it is missing.
     pub fn new(alloc: Global, shape: Shape) -> Result<GoodMachine, AllocError>
         ensures { IfOk result (λ g. g ≡ record { shape = shape; map = empty }) }
     {
@@ -48,8 +48,8 @@ impl GoodMachine {
         }
     }
 
-    /// The answer to a command, with the value that follows its entry; an error where memory is missing, with the machine as it
-    /// was.
+    /// The answer to a command, with the value that follows its entry; an error if memory is
+    /// missing, with the machine unchanged.
     pub fn step(
         &mut self,
         alloc: Global,

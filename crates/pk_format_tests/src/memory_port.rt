@@ -22,7 +22,7 @@ pub struct MemoryPort {
     faults: u64,
 }
 
-/// Puts bytes into the front of a buffer.
+/// Puts bytes at the start of a buffer.
 fn put_front(into: &mut [u8], bytes: &[u8])
     requires { length bytes.now ≤ length into.old }
     ensures front { take (length bytes.now) into.new ≡ bytes.now }
@@ -31,7 +31,8 @@ fn put_front(into: &mut [u8], bytes: &[u8])
     into[..bytes.len()].copy_from_slice(bytes);
 }
 
-/// The completion of a command with this answer, behind so many entries; its data come into the front of a buffer.
+/// The completion of a command with this answer, after this many entries; its data are put at the
+/// start of a buffer.
 fn completed(entry: &[u8; 64], taken: u32, answer: &Answer, into: &mut [u8]) -> Completed
     requires room { length answer.now.bytes.items ≤ length into.old }
     requires short { length answer.now.bytes.items < 2 ^ 32 }
@@ -48,7 +49,7 @@ fn completed(entry: &[u8; 64], taken: u32, answer: &Answer, into: &mut [u8]) -> 
 }
 
 impl MemoryPort {
-    /// A drive of this shape with the empty map; an error where the memory for it is missing.
+    /// A drive of this shape with the empty map; an error if the memory for it is missing.
     pub fn new(alloc: Global, shape: Shape) -> Result<MemoryPort, AllocError> {
         Ok(MemoryPort {
             alloc,

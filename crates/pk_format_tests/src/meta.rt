@@ -32,7 +32,7 @@ fn refused_at(shape: &Shape, place: usize, byte: u8) -> Option<u32> {
     }
 }
 
-// What stands before the entries of the page is read.
+// What precedes the entries of the page is read.
 fn is_read(shape: &Shape) -> bool {
     if shape.page_bytes() != 512 {
         return false;
@@ -89,7 +89,7 @@ fn are_refused(shape: &Shape) -> bool {
     true
 }
 
-// The length of the value of a key, 0 where it was deleted.
+// The length of the value of a key, 0 if it was deleted.
 fn len_of(shape: &Shape, page: &[u8], key: &[u8]) -> Option<u32> {
     let key = Key::new(key)?;
     if page.len() != shape.page_bytes() as usize {

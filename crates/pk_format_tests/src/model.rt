@@ -152,7 +152,7 @@ const GREATEST_VALUE: &[Row] = &[
     (Ask::Other(EXIST, b"a", 0), SUCCESSFUL_COMPLETION, 0, b""),
 ];
 
-/// The front of a value.
+/// A prefix of a value.
 const FRONT: &[Row] = &[
     (Ask::Store(b"a", 0, b"hello"), SUCCESSFUL_COMPLETION, 0, b""),
     (
@@ -298,7 +298,7 @@ fn early_checks(rt: HostRuntime) {
     assert!(rt; all);
 }
 
-/// Whether a Store of so many bytes under a number has this status.
+/// Whether a Store of `len` bytes under a number has this status.
 fn stores(alloc: Global, machine: &mut MapMachine, number: u16, len: u16, status: u8) -> bool {
     let value = [7; 1024];
     let len = len.min(1024);
@@ -307,7 +307,7 @@ fn stores(alloc: Global, machine: &mut MapMachine, number: u16, len: u16, status
     answers(alloc, machine, &request, value, (status, 0, &[]))
 }
 
-/// Whether so many Stores of two pages each are done.
+/// Whether `count` Stores of two pages each succeed.
 fn fills(alloc: Global, machine: &mut MapMachine, count: u16) -> bool {
     for number in 0..count {
         if !stores(alloc, machine, number, 100, SUCCESSFUL_COMPLETION) {

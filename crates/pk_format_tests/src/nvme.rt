@@ -24,7 +24,7 @@ fn reads_store() -> bool {
     is_store(&request) && request.entry() == entry
 }
 
-// The bytes of an entry of a Retrieve whose key stands in the dwords 2, 3, 14 and 15.
+// The bytes of an entry of a Retrieve whose key is in the dwords 2, 3, 14 and 15.
 fn is_split(entry: &[u8; 64]) -> bool {
     &entry[0..8] == [2, 0, 1, 2, 7, 8, 9, 10].as_slice()
         && &entry[8..16] == b"hello, w".as_slice()
@@ -32,7 +32,7 @@ fn is_split(entry: &[u8; 64]) -> bool {
         && &entry[40..48] == [0x10, 0x20, 0x30, 0x40, 13, 0, 0, 0].as_slice()
 }
 
-// Bytes 0 to 15 of a key stand in the dwords 2, 3, 14 and 15; a Retrieve brings no value.
+// Bytes 0 to 15 of a key are in the dwords 2, 3, 14 and 15; a Retrieve brings no value.
 fn splits_key() -> bool {
     let request = Request {
         opcode: 2,
@@ -87,7 +87,7 @@ fn is_written(text: &mut Bytes) -> bool {
         && (text.len(), text.left(), text.room()) == (21, 11, 32)
 }
 
-// What stands there is cut to this text, and then emptied.
+// What is there is cut to this text, and then emptied.
 fn is_cut(text: &mut Bytes, cut: &[u8]) -> bool {
     text.truncate(3);
     let is_front = text.bytes() == cut;

@@ -38,7 +38,7 @@ fn changed(page: [u8; 512], place: usize, byte: u8) -> [u8; 512] {
     page
 }
 
-/// The first wrong field of a page of this shape; none where it is read as a root.
+/// The first wrong field of a page of this shape; none if it is read as a root.
 fn wrong_byte<A: Allocator + Clone>(alloc: A, shape: &Shape, page: &[u8]) -> Option<u32> {
     if page.len() != shape.page_bytes() as usize {
         return None;
@@ -88,7 +88,7 @@ fn is_later<A: Allocator>(root: &Root<A>) -> bool {
         && root.blocks(1) == [9u16].as_slice()
 }
 
-/// The later root is read, written, and kept where no root is read.
+/// The later root is read, written, and kept if no root is read.
 fn later_goes_both_ways<A: Allocator>(root: &mut Root<A>, shape: &Shape) -> bool
     requires { root.old.shape ≡ shape.now }
 {

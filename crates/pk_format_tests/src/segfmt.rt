@@ -4,7 +4,7 @@ use pk_base::{Key, Shape};
 use pk_segfmt::{BadHead, head, page};
 use std::test::*;
 
-// The page of this number of a value, where its shape has one.
+// The page of this number of a value, if its shape has one.
 fn written(shape: &Shape, key: &[u8], value: &[u8], number: u32) -> Option<[u8; 512]> {
     let key = Key::new(key)?;
     if shape.page_bytes() != 512 || value.len() > shape.greatest() as usize {
@@ -18,7 +18,7 @@ fn written(shape: &Shape, key: &[u8], value: &[u8], number: u32) -> Option<[u8; 
     Some(into)
 }
 
-// The page has these bytes, one part behind the other, and zeros behind them.
+// The page has these bytes, one part after the other, and zeros after them.
 fn is_made_of(page: &[u8; 512], parts: &[&[u8]]) -> bool {
     let mut rest = page.as_slice();
     for part in parts {
@@ -47,7 +47,7 @@ const SMALL: &[&[u8]] = &[
     b"hi",
 ];
 
-// The value's last ten bytes stand in front of its second page.
+// The value's last ten bytes are at the start of its second page.
 const FIRST: &[&[u8]] = &[
     b"\x10\x44\0\0",
     b"abcdefghijklmnop",

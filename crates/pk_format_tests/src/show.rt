@@ -38,7 +38,7 @@ fn shows_largest(alloc: Global) -> bool {
     shows(alloc, &head, b"\xfe", line)
 }
 
-// Whether the record's head is shown in so much room, whether a byte fits behind it, and how many
+// Whether the record's head is shown in this much room, whether a byte fits after it, and how many
 // bytes are there then.
 fn shown_in(alloc: Global, room: usize) -> Option<(bool, bool, usize)> {
     let head = record_head(&completion(1, 1, 0, 0), 0, 0);

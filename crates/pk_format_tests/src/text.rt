@@ -40,7 +40,7 @@ fn board(alloc: Global, input: &[u8]) -> Result<Flash, AllocError> {
     Flash::new(alloc, None, input.to_vec(alloc)?, ROOM)
 }
 
-// How a script that is assembled ends; None where memory was missing.
+// How a script that is assembled ends; None if memory was missing.
 fn end_of(alloc: Global, flash: &mut Flash) -> Option<TextEnd> {
     match Assembler::new(alloc) {
         Ok(mut assembler) => Some(assembler.assemble(flash)),
@@ -48,7 +48,7 @@ fn end_of(alloc: Global, flash: &mut Flash) -> Option<TextEnd> {
     }
 }
 
-// How records that are shown end; None where memory was missing.
+// How records that are shown end; None if memory was missing.
 fn end_of_show(alloc: Global, flash: &mut Flash) -> Option<TextEnd> {
     match Shower::new(alloc) {
         Ok(mut shower) => Some(shower.show(flash)),
@@ -56,7 +56,7 @@ fn end_of_show(alloc: Global, flash: &mut Flash) -> Option<TextEnd> {
     }
 }
 
-// The script gives these two parts, one behind the other.
+// The script gives these two parts, one after the other.
 fn assembles(alloc: Global, script: &[u8], end: TextEnd, first: &[u8], second: &[u8]) -> bool {
     match board(alloc, script) {
         Ok(mut flash) => {
@@ -66,7 +66,7 @@ fn assembles(alloc: Global, script: &[u8], end: TextEnd, first: &[u8], second: &
     }
 }
 
-// The bytes are these two parts, one behind the other.
+// The bytes are these two parts, one after the other.
 fn joins(bytes: &[u8], first: &[u8], second: &[u8]) -> bool {
     match bytes.strip_prefix(first) {
         Some(rest) => rest == second,
@@ -90,7 +90,7 @@ fn are_assembled(alloc: Global) -> bool {
 const SHOWN: &[u8] = b"cid=1 status=00 result=0 reads=0 data=-\n\
     cid=2 status=00 result=3 reads=1 data=616263\n";
 
-// So many bytes of the records give so many bytes of their lines.
+// This many bytes of the records give this many bytes of their lines.
 fn shows(alloc: Global, size: usize, end: TextEnd, shown: usize) -> bool {
     match board(alloc, &RECORDS[..size.min(RECORDS.len())]) {
         Ok(mut flash) => {
@@ -124,7 +124,7 @@ fn assembly_fails(alloc: Global, call: u64, left: Left, end: TextEnd, posted: &[
     }
 }
 
-// A show whose call of this number fails ends so, and these bytes are posted first, and so many
+// A show whose call of this number fails ends so, and these bytes are posted first, and this many
 // in all.
 fn show_fails(alloc: Global, call: u64, left: Left, end: TextEnd, len: usize) -> bool {
     match failing(alloc, RECORDS, call, left) {

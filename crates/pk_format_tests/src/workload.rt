@@ -22,7 +22,7 @@ fn is_command(request: &Request, opcode: u8, cid: u16, key: &[u8; 16], size: u32
 // The fields of a command: its opcode, CID, key and size, and how many bytes follow it.
 type Row = (u8, u16, &'static [u8; 16], u32, usize);
 
-// The workload's next command has these fields, and so many bytes.
+// The workload's next command has these fields, and this many bytes.
 fn follows(
     workload: &mut Workload,
     value: &mut Bytes,

@@ -20,7 +20,7 @@ use Rattle.pk_gc.specs.Buffering.{MovesBuffered, MovesFit}
 use Rattle.pk_gc.proofs.Ending.{InBlocks, lefts_same, fewer_new, in_blocks}
 
 module _ (n victim output : ℕ) (other : victim ≢ output) where
-  -- the entries of a buffer behind the moves are those behind the writes of their entries
+  -- the entries of a buffer after the moves are those after the writes of their entries
   entries_puts : (heads : List ℕ) (es : List Entry) (ms : List Move) → AllByRecursion (InBlocks n victim output) ms → AreInOrder ms → entries_all heads es ms ≡ puts (entries_left heads ms) es
   entries_puts heads es [] all order = refl
   entries_puts heads es (m ∷ ms) all order =

@@ -1,4 +1,4 @@
--- A reclaim that runs, behind a read and behind a program.
+-- A reclaim that runs, after a read and after a program.
 use Rattle.std.proofs.Common.{◌≡◌, ◌≢◌, ◌⊎◌, inl, inr, ℕ, ◌+◌, ◌-◌, ◌*◌, ◌/◌, ◌%◌, ◌<◌, ◌≤◌, refl, sym, ap, subst, ◌∙◌, arith, true, List, [], ◌∷◌, ◌++◌, length, length-append}
 use Rattle.std.specs.Prelude.{slice_set}
 use Rattle.std.specs.List.{AllByRecursion}
@@ -94,7 +94,7 @@ module _ (shape : Shape) (c : Course) (moves : List Move) (page : List ℕ) (fla
     in_output : (p < c.output * n + n)
     in_output = let room = runs.room in omega (arith, room, some)
 
-    -- the victim stays
+    -- the victim is unchanged
     victim_stays : (k : ℕ) → c.victim * n ≤ k → k < c.victim * n + n → page_at new k ≡ page_at flash k
     victim_stays k low high = others k (disjoint n c.victim c.output k p runs.other low high (omega arith) in_output)
 
@@ -296,7 +296,7 @@ module _ (shape : Shape) (c : Course) (flash : Flash) (es : List (Key × Place))
 
 -- ---- the start
 
--- A block of values is the victim, and an Erased one the output, in which no value lies.
+-- A block of values is the victim, and an Erased one the output, which has no value.
 pub start_runs : (shape : Shape) (victim output : ℕ) (page : List ℕ) (flash : Flash) (es : List (Key × Place)) → IsShape shape → victim ≢ output → 2 ≤ output → victim < shape.blocks → output < shape.blocks
     → ((k : ℕ) → output * shape.block_pages ≤ k → k < output * shape.block_pages + shape.block_pages → page_at flash k ≡ erased)
     → ((k : ℕ) → k / shape.block_pages ≡ output → IsValuePage shape es k → ⊥) → IsRunning shape (started victim output) [] page flash es

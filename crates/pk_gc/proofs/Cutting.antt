@@ -64,7 +64,7 @@ module _ (shape : Shape) (former : Flash) (top : ℕ × Root) (was : Found) (m :
   stands : (now : Flash) → IsPairCut p bytes former now → page_at now p ≡ whole bytes → IsUnder shape now [] top now_found m
   stands now is_cut here = moves_committed shape former now top was m moves blocks index bytes is_shape stood can commit is_cut here
 
-  -- one of the two programs, behind which the first page holds the bytes
+  -- one of the two programs, after which the first page holds the bytes
   module _ (old : BoardState) (ready : IsReady old shape) (at : ℕ) (low : p ≤ at) (high : at < p + 2) (so_far : IsPairCut p bytes former old.pages)
       (is_top : newest_root shape (page_at old.pages) ≡ Some top) (here : page_at (after shape (program at bytes) old.pages) p ≡ whole bytes) where
     then_under : IsUnder shape (after shape (program at bytes) old.pages) [] top now_found m
@@ -191,7 +191,7 @@ module _ (shape : Shape) (old : BoardState) (former : Flash) (top : ℕ × Root)
   held : page_at old.pages first ≡ whole written
   held = ap (page_at old.pages) (sym first_is) ∙ is.half.here
 
-  -- the moves stand already
+  -- the moves are already there
   pub stands_now : IsUnder shape old.pages [] top (committed was (entries_of moves)) m
   stands_now = moves_committed shape former old.pages top was m moves blocks (e.used - 1) written is.is_shape is.stood is.can is.commit so_far held
 

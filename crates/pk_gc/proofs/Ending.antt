@@ -1,4 +1,4 @@
--- The moves that are left can be made, and leave no head in the victim.
+-- The moves that remain can be made, and leave no head in the victim.
 use Rattle.std.proofs.Common.{◌≡◌, ◌≢◌, ◌⊎◌, inl, inr, ℕ, zero, suc, ◌+◌, ◌*◌, ◌/◌, ◌%◌, ◌<◌, ◌≤◌, refl, sym, ap, subst, ◌∙◌, arith, Bool, true, false, cond, T, List, [], ◌∷◌, length, take, drop, sum, get_or, count_by, ◌==◌, Option, Some, None}
 use Rattle.std.specs.Prelude.{slice_get, slice_set, slice_index, IsSome, is_some, is_none, nat_lt}
 use Rattle.std.specs.List.{AllByRecursion}
@@ -34,7 +34,7 @@ use Rattle.std.proofs.lemmas.List.{get_or-drop}
 use Rattle.pk_live.specs.Values.{block_sum}
 use Rattle.pk_plan.specs.declared.owner.Owner.TheVariants.{Values as for_values}
 
--- a head other than those of a move stays
+-- a head other than those of a move is unchanged
 stays : (heads : List ℕ) (m : Move) (k : ℕ) → k ≢ m.from → k ≢ m.to → slice_get (heads_behind heads m) k ≡ slice_get heads k
 stays heads m k not_from not_to =
     elim (is_left heads m) as (λ b. slice_get (cond b (slice_set (slice_set heads m.from 0) m.to m.count) heads) k ≡ slice_get heads k) [
@@ -45,7 +45,7 @@ stays heads m k not_from not_to =
 index_of : (xs ys : List ℕ) (k : ℕ) → slice_get xs k ≡ slice_get ys k → slice_index xs k ≡ slice_index ys k
 index_of xs ys k same = sym (unwrap_or-slice_get xs k 0) ∙ ap (λ o. unwrap_or o 0) same ∙ unwrap_or-slice_get ys k 0
 
--- where no move is left, no head changes
+-- if no move remains, no head changes
 pub none_changes : (heads : List ℕ) (ms : List Move) → entries_left heads ms ≡ [] → heads_all heads ms ≡ heads
 none_changes heads [] none = refl
 none_changes heads (m ∷ ms) none =
@@ -106,7 +106,7 @@ module _ (shape : Shape) (is_shape : IsShape shape) where
             rw other (omega (arith, rest))
       ] found
 
--- ---- the victim, behind the moves
+-- ---- the victim, after the moves
 
 -- The moves of a reclaim that has copied its victim: their pages, within the two blocks.
 pub record InBlocks (n victim output : ℕ) (m : Move) : Type 0 where
@@ -121,7 +121,7 @@ set_zero [] i = refl
 set_zero (x ∷ xs) zero = refl
 set_zero (x ∷ xs) (suc i) = set_zero xs i
 
--- behind a move no head stands where it came from
+-- after a move no head is where it came from
 cleared : (heads : List ℕ) (m : Move) → m.from ≢ m.to → slice_index (heads_behind heads m) m.from ≡ 0
 cleared heads m apart =
     elim (is_left heads m) as (λ b. is_left heads m ≡ b → slice_index (cond b (slice_set (slice_set heads m.from 0) m.to m.count) heads) m.from ≡ 0) [
@@ -137,7 +137,7 @@ module _ (n victim output : ℕ) (other : victim ≢ output) where
   from_not_to : (m : Move) → InBlocks n victim output m → m.from ≢ m.to
   from_not_to m is = no_output m m.from is is.from_low (omega (arith, is.from_high, is.some))
 
-  -- where no head stood, none stands
+  -- where no head was, none is
   stays_none : (heads : List ℕ) (ms : List Move) (k : ℕ) → AllByRecursion (InBlocks n victim output) ms → victim * n ≤ k → k < victim * n + n → slice_index heads k ≡ 0 → slice_index (heads_all heads ms) k ≡ 0
   stays_none heads [] k all low high none = none
   stays_none heads (m ∷ ms) k all low high none = stays_none (heads_behind heads m) ms k all.1 low high (elim (cases_eq k m.from) [
@@ -145,7 +145,7 @@ module _ (n victim output : ℕ) (other : victim ≢ output) where
     | inr not_from ↦ index_of (heads_behind heads m) heads k (stays heads m k not_from (no_output m k all.0 low high)) ∙ none
   ])
 
-  -- where the head of a move stood, none stands
+  -- where the head of a move was, none is
   pub clears : (heads : List ℕ) (ms : List Move) (k : ℕ) → AllByRecursion (InBlocks n victim output) ms → victim * n ≤ k → k < victim * n + n → AnyByRecursion (λ m. m.from ≡ k) ms → slice_index (heads_all heads ms) k ≡ 0
   clears heads [] k all low high is = absurd is
   clears heads (m ∷ ms) k all low high (inl here) = stays_none (heads_behind heads m) ms k all.1 low high (subst (λ x. slice_index (heads_behind heads m) x ≡ 0) here (cleared heads m (from_not_to m all.0)))
@@ -153,7 +153,7 @@ module _ (n victim output : ℕ) (other : victim ≢ output) where
 
   -- ---- the moves can be made
 
-  -- the head of a move that is left is its own, and there is room for it at the new place
+  -- the head of a move that remains is its own, and there is room for it at the new place
   pub record IsSet (heads : List ℕ) (m : Move) : Type 0 where
     pub from_is : is_left heads m ≡ true → slice_get heads m.from ≡ Some m.count
     pub to_is : slice_get heads m.to ≡ Some 0
@@ -209,7 +209,7 @@ module _ (n victim output : ℕ) (other : victim ≢ output) where
   abbrev needs : List ℕ → List Entry → List Move → ℕ
   needs heads es ms = length es + count_by (is_new es) (entries_left heads ms)
 
-  -- with one that is left there is room for it, and for the others behind it
+  -- with one that remains there is room for it, and for the others after it
   record OneGoes (cap : ℕ) (heads : List ℕ) (es : List Entry) (m : Move) (ms : List Move) : Type 0 where
     room : (length es < cap) ⊎ IsSome (find key_cmp m.key es)
     others : length (put key_cmp m.key (Some (new_place m)) es) + count_by (is_new (put key_cmp m.key (Some (new_place m)) es)) (entries_left heads ms) ≤ cap
@@ -327,7 +327,7 @@ module _ (shape : Shape) (c : Course) (job : JobState) (h : Hands) (flash : Flas
         are_set ms all.1,
       )
 
-  -- behind the moves no head stands in the victim
+  -- after the moves no head is in the victim
   from_any : (key : Key) (page k : ℕ) (ms : List Move) → page ≡ k → AnyByRecursion (λ m. (key ≡ m.key) × (m.from ≡ page)) ms → AnyByRecursion (λ m. m.from ≡ k) ms
   from_any key page k [] same is = is
   from_any key page k (m ∷ ms) same (inl here) = inl (here.1 ∙ same)

@@ -42,7 +42,7 @@ nowhere : (a b : Key) (xs : List (Key × Place)) (place : Place) → b ≡ a →
 nowhere a b xs place same none found = let here : find key_cmp a xs ≡ Some place = ap (λ x. find key_cmp x xs) (sym same) ∙ found in cc
 
 module _ (shape : Shape) where
-  -- where a head stands a value begins
+  -- where a head is, a value begins
   pub begins : (es : List (Key × Place)) (k : ℕ) → T (is_sorted key_cmp es) → 0 < head_of shape es k → Begins es k
   begins [] k rising some = absurd (omega (arith, some))
   begins (e ∷ es) k rising some =
@@ -74,10 +74,10 @@ module _ (shape : Shape) where
         | false ↦ λ f. let rest = begun is_shape key place es f in omega (arith, rest)
       ] found
 
--- ---- the moves that are left
+-- ---- the moves that remain
 
 module _ (heads : List ℕ) where
-  -- what holds of all moves holds of those that are left
+  -- what holds of all moves holds of those that remain
   all_left : (P : Move → Type 0) (Q : Key × Place → Type 0) → ((m : Move) → is_left heads m ≡ true → P m → Q (m.key, new_place m)) → (ms : List Move) → AllByRecursion P ms → AllByRecursion Q (placed_at (left_of heads ms))
   all_left P Q f [] all = tt
   all_left P Q f (m ∷ ms) all =
@@ -183,7 +183,7 @@ may_move shape c moves page heads flash root found blocks is unnamed among lie f
       room = room;
     }
 
--- each of their entries may stand in a journal page
+-- each of their entries may be in a journal page
 pub entries_are : (shape : Shape) (c : Course) (flash : Flash) (es : List (Key × Place)) (heads : List ℕ) (ms : List Move) → AllByRecursion (IsMove shape c flash es) ms → AllByRecursion (IsEntry shape) (entries_of (placed_at (left_of heads ms)))
 entries_are shape c flash es heads [] all = tt
 entries_are shape c flash es heads (m ∷ ms) all =

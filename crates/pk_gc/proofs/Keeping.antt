@@ -69,7 +69,7 @@ runs_elsewhere shape c moves page old new es runs same = record {
       owner = move.owner;
     }
 
--- with other values, of which those in the victim were there, and none lies in the output
+-- with other values, of which those in the victim existed, and none is in the output
 with_values : (shape : Shape) (c : Course) (moves : List Move) (page : List ℕ) (flash : Flash) (es es' : List (Key × Place)) → IsRunning shape c moves page flash es
     → ((k : ℕ) → k / shape.block_pages ≡ c.output → IsValuePage shape es' k → ⊥)
     → ((q : Key) (p : Place) → find key_cmp q es' ≡ Some p → p.page / shape.block_pages ≡ c.victim → find key_cmp q es ≡ Some p)

@@ -1,4 +1,4 @@
--- Each step of a reclaim lowers what is left of it.
+-- Each step of a reclaim lowers what remains of it.
 use Rattle.std.proofs.Common.{◌≡◌, ◌≢◌, inl, inr, ℕ, zero, suc, ◌+◌, ◌-◌, ◌*◌, ◌<◌, ◌≤◌, refl, sym, ap, subst, ◌∙◌, arith, true, false, List, [], ◌∷◌, take, sum, Option, Some, None}
 use Rattle.std.specs.Prelude.{slice_get, slice_index, unwrap_or, MatchOption}
 use Rattle.std.proofs.lemmas.Bool.{cases_eq}
@@ -89,7 +89,7 @@ victim_held shape live front pool live' front' b full is = elim is.1 [
       | inr other ↦ full.closed_owned b (sym (get-set_other live.closed o.block b true other) ∙ there)
     ]
 
--- ---- what is left
+-- ---- what remains
 
 lowers_by : (left before left' behind a u : ℕ) → left' ≡ a → behind ≡ u → before ≤ u → a + u < left + before → Lowers left before left' behind
 lowers_by left before left' behind a u same_left same_unready none less = record { none_ready = omega (arith, same_unready, none); less = omega (arith, same_left, same_unready, less) }
@@ -101,7 +101,7 @@ module _ (job : JobState) (h : Hands) (old : BoardState) (job' : JobState) (h' :
   abbrev LowersFrom : ℕ → Type 0
   LowersFrom left = Lowers left (unready h.pool.states) (left_behind job' h') (unready h'.pool.states)
 
-  -- where the job and the hands are these
+  -- if the job and the hands are these
   become : (left : ℕ) (next : JobState) (hands : Hands) → job' ≡ next → h' ≡ hands → unready h.pool.states ≤ unready hands.pool.states
       → left_behind next hands + unready hands.pool.states < left + unready h.pool.states → LowersFrom left
   become left next hands job_is hands_are none less =

@@ -28,7 +28,7 @@ module _ (shape : Shape) (c : Course) (n m : ℕ)
   end_is : c.victim * n + m ≡ c.victim * shape.block_pages + shape.block_pages
   end_is = λ i. c.victim * n_is i + m_is i
 
-  -- no head is left
+  -- no head remains
   pub dead_to_end : (heads : List ℕ) → AreDead heads (c.victim * n + c.seen) (c.victim * n + m)
       → AreDead heads (source shape c) (c.victim * shape.block_pages + shape.block_pages)
   dead_to_end heads dead =
@@ -57,12 +57,12 @@ module _ (shape : Shape) (c : Course) (n m : ℕ)
 
 module _ (c : Course) (job : JobState) (h : Hands) (old : BoardState) (epoch : JournalEpoch)
     (new : BoardState) where
-  -- what became of the moves that are left
+  -- what became of the moves that remain
   abbrev CommitsIn : Committed → Type 0
   CommitsIn committed =
       BecameOf (entries_left h.live.heads job.moves) h.active h.epoch old epoch new committed
 
-  -- Where the output may take the victim's place, the end can be tried.
+  -- If the output may take the victim's place, the end can be tried.
   pub can_finish : (committed : Committed) (kept : JobState) → CommitsIn committed
       → kept.moves ≡ job.moves → CanEnd c job h
       → CanFinish committed c kept h.live h.front h.pool h.active
@@ -94,7 +94,7 @@ module _ (c : Course) (job : JobState) (h : Hands) (old : BoardState) (epoch : J
     abbrev FinishesIn : Reclaimed → Type 0
     FinishesIn x = Finishes c job h old job' h' new x
 
-    -- commit and end together finish the reclaim, where the commit left this job
+    -- commit and end together finish the reclaim, if the commit left this job
     pub finishes : (committed : Committed) (kept : JobState) → CommitsIn committed
         → IsBehindCommit committed c.victim (entries_left h.live.heads job.moves) job kept
         → Finished committed c kept (record h { epoch = epoch }) job' h' r → FinishesIn r

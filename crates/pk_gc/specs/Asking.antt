@@ -47,7 +47,7 @@ pub record MayCopy (c : Course) (job : JobState) (flash : Flash) : Type 0 where
   pub es : List (Key × Place)
   pub runs : IsRunning job.shape c job.moves job.page flash es
 
--- a copy that runs does so with this course and page, too, behind what was done to the flash
+-- a copy that runs does so with this course and page, too, after what was done to the flash
 abbrev pub RunsOn : Course → JobState → Flash → Course → List ℕ → Flash → Type 0
 RunsOn c job flash c' page' flash' =
     (es : List (Key × Place)) → IsRunning job.shape c job.moves job.page flash es
@@ -64,7 +64,7 @@ pub record MayBegin (c : Course) (job : JobState) (flash : Flash) (page : ℕ) :
   pub runs : IsRunning job.shape c job.moves job.page flash es
   pub next : IsNextValue job.shape c flash es page key place
 
--- the copy where the value that begins at this page, of this length, is noted
+-- the copy if the value that begins at this page, of this length, is noted
 abbrev pub begun_course : Course → Shape → ℕ → ℕ → Course
 begun_course c shape page len =
     begun_at c (page - c.victim * shape.block_pages) (charge shape len)
@@ -95,20 +95,20 @@ pub record CannotRead (page : ℕ) (old new : BoardState) (e : Fault) : Type 0 w
   pub fault : e ≡ Reading
   pub failed : ReadFailed old new page
 
--- an epoch of this shape stands on the flash
+-- an epoch of this shape is on the flash
 pub record IsEpoch (shape : Shape) (e : JournalEpoch) (flash : Flash) : Type 0 where
   pub shape_is : e.shape ≡ shape
   pub fits : EpochOnFlash e flash
   pub blocks : AreBlocks e.shape e.blocks
 
--- The first program of a commit of these entries failed, and the epoch stays.
+-- The first program of a commit of these entries failed, and the epoch is unchanged.
 pub record CannotAdd (es : List Entry) (active : Table) (epoch : JournalEpoch) (old : BoardState)
     (epoch' : JournalEpoch) (new : BoardState) (e : Fault) : Type 0 where
   pub fault : e ≡ Stopped
   pub kept : epoch' ≡ epoch
   pub adds : FailsToAdd es active epoch old new
 
--- the job as before; where the commit of its moves is half made, with these entries and in its page
+-- the job as before; if the commit of its moves is half made, with these entries and in its page
 abbrev pub IsBehindCommit : Committed → ℕ → List Entry → JobState → JobState → Type 0
 IsBehindCommit All victim es job job' = job' ≡ record job { phase = Commits victim; entries = es; page = job'.page }
 IsBehindCommit _ victim es job job' = job' ≡ job

@@ -1,4 +1,4 @@
--- A step of a reclaim whose call of the board failed.
+-- A step of a reclaim whose flash operation failed.
 use Rattle.std.specs.Prelude.{◌≡◌, ◌⊎◌, ℕ, ◌+◌, ◌*◌, true, false}
 use Rattle.pk_nand.specs.BoardState.{BoardState}
 use Rattle.pk_nand.specs.Calls.{ReadFailed, ProgramFailed}
@@ -27,7 +27,7 @@ pub record FailsToCopy (c : Course) (job : JobState) (old new : BoardState) (e :
   pub held : c.held ≡ true
   pub failed : ProgramFailed old new (target job.shape c) job.page
 
--- no value was left to be copied, the moves had room, and the first program of their commit failed
+-- no value remained to be copied, the moves had room, and the first program of their commit failed
 pub record FailsToCommit (c : Course) (job : JobState) (h : Hands) (old new : BoardState) (e : Fault) : Type 0 where
   pub fault : e ≡ Stopped
   pub whole : c.left ≡ 0

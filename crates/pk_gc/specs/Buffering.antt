@@ -1,4 +1,4 @@
--- The active buffer behind the moves of a reclaim: the statements.
+-- The active buffer after the moves of a reclaim: the statements.
 use Rattle.std.specs.Prelude.{◌≡◌, ◌≤◌, List, ◌++◌, length}
 use Rattle.pk_base.specs.Key.{Key}
 use Rattle.pk_base.specs.Shape.{Shape, buffer}
@@ -12,13 +12,13 @@ use Rattle.pk_gc.specs.Committing.{HasRoom, entries_left}
 use Rattle.pk_gc.specs.Stepping.{Hands, moved_in}
 use Rattle.pk_gc.specs.Ending.{CanGive}
 
--- the active buffer mirrors the newest epoch with the entries of the moves that are left behind it
+-- the active buffer mirrors the newest epoch with the entries of the remaining moves after it
 abbrev pub MovesBuffered : Type 0
 MovesBuffered =
     (shape : Shape) (c : Course) (job : JobState) (h : Hands) (flash : Flash) (es : List (Key × Place)) (newest : List Entry) → CanGive shape c job h flash es
     → h.active ≡ buffer_of shape newest → (moved_in job h).active ≡ buffer_of shape (newest ++ entries_left h.live.heads job.moves)
 
--- where the buffer has room for them, the epoch has no more keys with them than a buffer takes
+-- if the buffer has room for them, the epoch has no more keys with them than a buffer takes
 abbrev pub MovesFit : Type 0
 MovesFit =
     (shape : Shape) (c : Course) (job : JobState) (h : Hands) (flash : Flash) (es : List (Key × Place)) (newest : List Entry) → CanGive shape c job h flash es

@@ -1,4 +1,4 @@
--- The commit of the moves that are left.
+-- The commit of the moves that remain.
 use Rattle.std.specs.Prelude.{◌≡◌, ◌≢◌, ℕ, ◌+◌, ◌<◌, ◌≤◌, List, [], length, count_by}
 use Rattle.pk_base.specs.Entry.{Entry}
 use Rattle.pk_nand.specs.BoardState.{BoardState}

@@ -29,13 +29,13 @@ pub record IsCopied (shape : Shape) (c : Course) (moves : List Move) (page heads
   pub heads_are : (k : ℕ) → slice_index heads k ≡ head_of shape es k
   pub none_unseen : (k : ℕ) → source shape c ≤ k → k < c.victim * shape.block_pages + shape.block_pages → slice_index heads k ≡ 0
 
--- the moves that are left take all values out of the victim
+-- the moves that remain take all values out of the victim
 abbrev pub Empties : Type 0
 Empties =
     (shape : Shape) (c : Course) (moves : List Move) (page heads : List ℕ) (flash : Flash) (es : List (Key × Place)) → IsCopied shape c moves page heads flash es
     → AreMoved shape c.victim c.output es (placed_at (left_of heads moves))
 
--- and may be made: the values lie in few blocks among which is the victim, the root does not name the output, and the buffer has room
+-- and may be made: the values are in few blocks among which is the victim, the root does not name the output, and the buffer has room
 abbrev pub MayMove : Type 0
 MayMove =
     (shape : Shape) (c : Course) (moves : List Move) (page heads : List ℕ) (flash : Flash) (root : Root) (found : Found) (blocks : List ℕ)

@@ -28,8 +28,8 @@ pub record Journals (shape : Shape) (e : JournalEpoch) (flash : Flash) (top : �
   pub epoch_blocks : e.blocks ≡ top.1.newest
   pub epoch_fits : EpochOnFlash e flash
 
--- The commit of these moves is half made: the map stood on a former flash, on which the values could be moved, and of the commit's two programs
--- the first was made since.
+-- The commit of these moves is half made: the map was on a former flash, on which the values could be moved, and since then the first of the
+-- commit's two programs was made.
 pub record IsHalfMoved (shape : Shape) (e : JournalEpoch) (former flash : Flash) (top : ℕ × Root) (was : Found) (m : Map) (moves : List (Key × Place)) (blocks : List ℕ) : Type 0 where
   pub is_shape : IsShape shape
   pub epoch_shape : e.shape ≡ shape

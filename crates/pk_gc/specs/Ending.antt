@@ -13,7 +13,7 @@ use Rattle.pk_gc.specs.Copied.{IsCopied}
 use Rattle.pk_gc.specs.Victims.{HoldsValues}
 use Rattle.pk_gc.specs.Stepping.{Hands, CanEnd}
 
--- The victim is copied, its values lie apart from each other, and the parts are those of the flash.
+-- The victim is copied, its values are apart from each other, and the parts are those of the flash.
 pub record CanGive (shape : Shape) (c : Course) (job : JobState) (h : Hands) (flash : Flash) (es : List (Key × Place)) : Type 0 where
   pub copied : IsCopied shape c job.moves job.page h.live.heads flash es
   pub values_apart : AreApart shape es

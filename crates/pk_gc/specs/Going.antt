@@ -26,7 +26,7 @@ pub record AreHeld (shape : Shape) (flash : Flash) (es : List (Key × Place)) (h
   pub heads_are : (k : ℕ) → slice_index heads k ≡ head_of shape es k
   pub read : (key : Key) (place : Place) → find key_cmp key es ≡ Some place → (v : List ℕ) × (value_at shape (page_at flash) key place ≡ Ok v)
 
--- Where no value is being copied, the first head that was not seen is that of the next value, and there is room for its move.
+-- If no value is being copied, the first head that was not seen is that of the next value, and there is room for its move.
 abbrev pub NextIsValue : Type 0
 NextIsValue =
     (shape : Shape) (c : Course) (moves : List Move) (held heads : List ℕ) (flash : Flash) (es : List (Key × Place)) (page : ℕ)

@@ -1,4 +1,4 @@
--- Each step of a reclaim lowers what is left of it: the statements.
+-- Each step of a reclaim lowers what remains of it: the statements.
 use Rattle.std.specs.Prelude.{◌≡◌, ◌≢◌, ℕ, ◌-◌, List, sum, take, drop, unwrap_or}
 use Rattle.pk_work.specs.Rest.{left_of, whole_reclaim, Lowers}
 use Rattle.pk_nand.specs.BoardState.{BoardState}
@@ -8,15 +8,15 @@ use Rattle.pk_gc.specs.declared.reclaimed.Reclaimed.TheVariants.{NeedsFreeze}
 use Rattle.pk_gc.specs.State.{JobState, live_from, left_in}
 use Rattle.pk_gc.specs.Stepping.{Hands, CanStep, Steps}
 
--- What is left before a step, and behind it. Where one is due it is a whole reclaim, but for two steps: so much less than that is left once a
--- block may be taken.
+-- What remains before a step, and after it. If one is due it is a whole reclaim, but for two steps: that much less remains once a block may
+-- be taken.
 abbrev pub left_before : JobState → Hands → ℕ
 left_before job h = left_of (whole_reclaim job.shape - 2) (left_in job.shape h.live.heads job.phase)
 
 abbrev pub left_behind : JobState → Hands → ℕ
 left_behind job h = unwrap_or (left_in job.shape h.live.heads job.phase) 0
 
--- a step that wants no freeze lowers what is left, where a block that is taken counts twice
+-- a step that needs no freeze lowers what remains, if a block that is taken counts twice
 abbrev pub StepLowers : Type 0
 StepLowers =
     (job : JobState) (h : Hands) (old : BoardState) (job' : JobState) (h' : Hands) (new : BoardState) (r : Reclaimed) → CanStep job h old.pages

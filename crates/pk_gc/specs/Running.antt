@@ -1,4 +1,4 @@
--- A reclaim that runs: how it stands to the flash and to the values.
+-- A reclaim that runs: how it matches the flash and the values.
 use Rattle.std.specs.Prelude.{◌≡◌, ◌≢◌, ℕ, ◌+◌, ◌*◌, ◌/◌, ◌%◌, ◌<◌, ◌≤◌, List, [], ◌∷◌, length, true, Some}
 use Rattle.std.specs.List.{AllByRecursion}
 use Rattle.std.specs.FinMap.Entries.{find}
@@ -34,12 +34,12 @@ pub record IsMove (shape : Shape) (c : Course) (flash : Flash) (es : List (Key �
 abbrev pub IsWholeAt : Flash → ℕ → Type 0
 IsWholeAt flash k = (bytes : List ℕ) × (page_at flash k ≡ whole bytes)
 
--- each of them begins in the victim behind those before it
+-- each of them begins in the victim after those before it
 abbrev pub AreInOrder : List Move → Type 0
 AreInOrder [] = Unit {0}
 AreInOrder (m ∷ ms) = AllByRecursion (λ x. m.from + m.count ≤ x.from) ms × AreInOrder ms
 
--- The victim and the output are two blocks behind the root blocks. Of the output the first pages are written, and the others Erased;
+-- The victim and the output are two blocks after the root blocks. Of the output the first pages are written, and the others Erased;
 -- no value has a page in it. Each value of the victim that was seen is one of the moves.
 pub record IsRunning (shape : Shape) (c : Course) (moves : List Move) (page : List ℕ) (flash : Flash) (es : List (Key × Place)) : Type 0 where
   pub is_shape : IsShape shape

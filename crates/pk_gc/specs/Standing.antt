@@ -1,4 +1,4 @@
--- A reclaim, as it stands to a flash: which blocks it holds, and what their pages and the values are.
+-- A reclaim, as it matches a flash: which blocks it holds, and what their pages and the values are.
 use Rattle.std.specs.Prelude.{◌≡◌, ℕ, List, [], ◌∷◌, true}
 use Rattle.pk_base.specs.Key.{Key}
 use Rattle.pk_base.specs.Shape.{Shape, data_blocks}
@@ -33,7 +33,7 @@ ReclaimStands (Copies c) shape job live flash es = IsCopying shape c job live fl
 ReclaimStands (Commits victim) shape job live flash es = Unit {0}
 ReclaimStands (GivesBack victim) shape job live flash es = Unit {0}
 
--- A reclaim stands to a flash on which keys have these places. While it runs, all data blocks are in use.
+-- A reclaim matches a flash on which keys have these places. While it runs, all data blocks are in use.
 pub record ReclaimOnFlash (shape : Shape) (job : JobState) (live : Values) (pool : Blocks) (flash : Flash) (es : List (Key × Place)) : Type 0 where
   pub shape_is : job.shape ≡ shape
   pub stands : ReclaimStands job.phase shape job live flash es

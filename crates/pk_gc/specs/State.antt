@@ -48,7 +48,7 @@ is_left heads m = nat_lt 0 (slice_index heads m.from)
 abbrev pub left_of : List ℕ → List Move → List Move
 left_of heads ms = filter (is_left heads) ms
 
--- the heads where such a value goes to its new place
+-- the heads if such a value goes to its new place
 abbrev pub heads_behind : List ℕ → Move → List ℕ
 heads_behind heads m = if is_left heads m then slice_set (slice_set heads m.from 0) m.to m.count else heads
 
@@ -60,7 +60,7 @@ entries_behind heads es m = if is_left heads m then put key_cmp m.key (Some (new
 abbrev pub is_new : List Entry → Entry → Bool
 is_new es e = is_none (find key_cmp e.0 es)
 
--- the heads and the entries where all of these values that are left go to their new places
+-- the heads and the entries if all of these values that remain go to their new places
 abbrev pub heads_all : List ℕ → List Move → List ℕ
 heads_all heads [] = heads
 heads_all heads (m ∷ ms) = heads_all (heads_behind heads m) ms
@@ -69,14 +69,14 @@ abbrev pub entries_all : List ℕ → List Entry → List Move → List Entry
 entries_all heads es [] = es
 entries_all heads es (m ∷ ms) = entries_all (heads_behind heads m) (entries_behind heads es m) ms
 
--- a value that is left may go to its new place: there is room for it in the live map and in the buffer
+-- a value that remains may go to its new place: there is room for it in the live map and in the buffer
 abbrev pub CanGo : ℕ → ℕ → List ℕ → List Entry → Move → Type 0
 CanGo block_pages capacity heads es m =
     is_left heads m ≡ true
     → (slice_get heads m.from ≡ Some m.count) × (slice_get (slice_set heads m.from 0) m.to ≡ Some 0) × (m.to % block_pages + m.count ≤ block_pages)
     × ((length es < capacity) ⊎ IsSome (find key_cmp m.key es))
 
--- and so each of them, behind those before it
+-- and so each of them, after those before it
 abbrev pub CanGoAll : ℕ → ℕ → List ℕ → List Entry → List Move → Type 0
 CanGoAll block_pages capacity heads es ms =
     (i : ℕ) (m : Move) → slice_get ms i ≡ Some m → CanGo block_pages capacity (heads_all heads (take i ms)) (entries_all heads es (take i ms)) m
@@ -93,7 +93,7 @@ target shape c = c.output * shape.block_pages + c.used
 abbrev pub unseen : Shape → Course → ℕ
 unseen shape c = source shape c + c.left
 
--- the pages of the values that begin at this page and at those behind it, so many
+-- the pages of the values that begin at this page and at the n - 1 after it
 abbrev pub live_from : List ℕ → ℕ → ℕ → ℕ
 live_from heads page zero = 0
 live_from heads page (suc n) = slice_index heads page + live_from heads (page + 1) n
@@ -109,7 +109,7 @@ read_next c = record c { held = true }
 abbrev pub programmed : Course → Course
 programmed c = record c { seen = c.seen + 1; used = c.used + 1; left = c.left - 1; held = false }
 
--- the next value begins at this page of the victim, and has so many
+-- the next value begins at this page of the victim, and has this many
 abbrev pub begun_at : Course → ℕ → ℕ → Course
 begun_at c seen count = record c { seen = seen; left = count; held = true }
 
@@ -117,12 +117,12 @@ begun_at c seen count = record c { seen = seen; left = count; held = true }
 abbrev pub started : ℕ → ℕ → Course
 started victim output = record { victim = victim; output = output; seen = 0; used = 0; left = 0; held = false }
 
--- what is left of the copy: a read and a program for each page that is still to be copied, the two programs of the moves' commit, and the giving
+-- what remains of the copy: a read and a program for each page that is still to be copied, the two programs of the moves' commit, and the giving
 -- back
 abbrev pub steps_left : Shape → List ℕ → Course → ℕ
 steps_left shape heads c = steps_of (reclaim_rest (c.left + live_unseen shape heads c) c.held 3)
 
--- and of a reclaim, where one runs
+-- and of a reclaim, if one runs
 abbrev pub left_in : Shape → List ℕ → Phase → Option ℕ
 left_in shape heads Idle = None
 left_in shape heads (Copies c) = Some (steps_left shape heads c)

@@ -35,7 +35,7 @@ pub record Hands : Type 0 where
   pub active : Table
   pub epoch : JournalEpoch
 
--- The output may take the victim's place once the moves that are left are made: the victim is closed, and no live page is left in it then.
+-- The output may replace the victim once the remaining moves are made: the victim is closed, and no live page remains in it then.
 pub record CanEnd (c : Course) (job : JobState) (h : Hands) : Type 0 where
   pub goes : HasRoom h.active h.epoch (entries_left h.live.heads job.moves) → CanGoAll h.live.block_pages h.active.capacity h.live.heads h.active.entries job.moves
   pub closed : IsClosed h.live c.victim
@@ -44,31 +44,31 @@ pub record CanEnd (c : Course) (job : JobState) (h : Hands) : Type 0 where
   pub owned : IsOwned h.pool c.victim
   pub open_exists : MatchOption h.front (Unit {0}) (λ o. o.block < length h.live.closed)
 
--- the hands where the moves that are left are made
+-- the hands if the moves that remain are made
 abbrev pub moved_in : JobState → Hands → Hands
 moved_in job h = record h {
   live = record h.live { heads = heads_all h.live.heads job.moves };
   active = record h.active { entries = entries_all h.live.heads h.active.entries job.moves };
 }
 
--- the hands where the victim is closed no more, and the output is the open block
+-- the hands if the victim is closed no more, and the output is the open block
 abbrev pub handed_over : Course → Hands → Hands
 handed_over c h = record h {
   live = record h.live { closed = closed_with h.front (slice_set h.live.closed c.victim false) };
   front = Some (record { block = c.output; used = c.used });
 }
 
--- the hands where the victim is given back
+-- the hands if the victim is given back
 abbrev pub victim_given : ℕ → Hands → Hands
 victim_given victim h = record h { pool = with_state h.pool victim Free }
 
--- The moves that were left are in the epoch from the first program of its next commit on, and the output is the open block.
+-- The remaining moves are in the epoch from the first program of its next commit on, and the output is the open block.
 pub record CommitsMoves (c : Course) (job : JobState) (h : Hands) (old : BoardState) (job' : JobState) (h' : Hands) (new : BoardState) : Type 0 where
   pub job_is : job' ≡ record job { phase = Commits c.victim; entries = entries_left h.live.heads job.moves; page = job'.page }
   pub adds : Adds (entries_left h.live.heads job.moves) h.active h.epoch old h'.epoch new
   pub hands : h' ≡ record (handed_over c (moved_in job h)) { epoch = h'.epoch }
 
--- No move was left, and the victim was given back without a call of the board.
+-- No move remained, and the victim was given back without a flash operation.
 pub record EndsWithout (c : Course) (job : JobState) (h : Hands) (old : BoardState) (job' : JobState) (h' : Hands) (new : BoardState) : Type 0 where
   pub job_is : job' ≡ record job { phase = Idle; entries = [] }
   pub none : entries_left h.live.heads job.moves ≡ []
@@ -83,7 +83,7 @@ Finishes c job h old job' h' new Ended = EndsWithout c job h old job' h' new
 
 -- ---- steps
 
--- A value begins at the first head that was not seen, and is to be copied next; where there is no head, the moves can be made.
+-- A value begins at the first head that was not seen, and is to be copied next; if there is no head, the moves can be made.
 pub record CanGoOn (c : Course) (job : JobState) (h : Hands) (flash : Flash) : Type 0 where
   pub es : List (Key × Place)
   pub runs : IsRunning job.shape c job.moves job.page flash es
@@ -137,7 +137,7 @@ pub record BeginsValue (c : Course) (job : JobState) (h : Hands) (old : BoardSta
   pub runs : (es : List (Key × Place)) (key : Key) (place : Place) → IsRunning job.shape c job.moves job.page old.pages es → IsNextValue job.shape c old.pages es page key place
       → IsRunning job.shape (begun_at c (page - c.victim * job.shape.block_pages) (charge job.shape place.len)) (job.moves ++ begun_move job.shape c page key place.len ∷ []) job'.page new.pages es
 
--- no value is left to be copied, and the end is tried
+-- no value remains to be copied, and the end is tried
 pub record Tries (c : Course) (job : JobState) (h : Hands) (old : BoardState) (job' : JobState) (h' : Hands) (new : BoardState) (r : Reclaimed) : Type 0 where
   pub free : c.held ≡ false
   pub whole : c.left ≡ 0

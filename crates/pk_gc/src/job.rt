@@ -143,8 +143,8 @@ impl<A: Region> ReclaimJob<A> {
         self.phase
     }
 
-    /// A step of a reclaim, which is begun where none runs; at most one call of the board.
-    /// `Reading` and `Stopped` where this call fails.
+    /// A step of a reclaim, which is begun if none runs; at most one flash operation. `Reading` and
+    /// `Stopped` if this operation fails.
     pub fn step<B: Nand>(
         &mut self,
         board: &mut B,
@@ -211,8 +211,8 @@ impl<A: Region> ReclaimJob<A> {
         }
     }
 
-    // Chooses the victim. One without live pages is given back at once, else a block is taken for
-    // the copies.
+    // Chooses the victim. One without live pages is given back at once, otherwise a block is taken
+    // for the copies.
     fn begin<B: Nand>(
         &mut self,
         board: &mut B,
@@ -410,7 +410,7 @@ impl<A: Region> ReclaimJob<A> {
         }
     }
 
-    // Adds the moves that are left to the newest epoch, by the first program of a commit. Its page is
+    // Adds the moves that remain to the newest epoch, by the first program of a commit. Its page is
     // made in the job's own, since all that was read is programmed.
     fn commit<B: Nand>(
         &mut self,
@@ -431,7 +431,7 @@ impl<A: Region> ReclaimJob<A> {
         ensures failed { IfErr result (λ e. CannotAdd (entries_left live.now.heads self.old.moves)
             active.now epoch.old (B.state board.old) epoch.new (B.state board.new) e) }
 
-        // Of the job phase, entries and page may differ, and these where the program was made.
+        // Of the job phase, entries and page may differ, and these if the program was made.
         ensures job { IfOk result (λ r. IsBehindCommit r victim
             (entries_left live.now.heads self.old.moves) self.old self.new) }
         ensures kept { OnErr result (self.new ≡ record self.old { page = self.new.page }) }
@@ -510,8 +510,8 @@ impl<A: Region> ReclaimJob<A> {
         self.phase = Phase::Idle;
     }
 
-    // The moves that were left are made, and the output takes the next values. Where none was
-    // left, the victim is given back at once.
+    // The remaining moves were made, and the output takes the next values. If none remained, the
+    // victim is given back at once.
     fn finish(
         &mut self,
         committed: Committed,

@@ -8,13 +8,15 @@ ghost use Rattle.pk_gc.specs.Buffering.{MovesBuffered, MovesFit};
 ghost use Rattle.pk_gc.specs.Lowering.{StepLowers, LiveOfBlock};
 ghost use Rattle.pk_gc.specs.Keeping.{RunsElsewhere, RunsStored, RunsDeleted};
 
-/// Where a victim is copied, the moves that are left take all values out of it, and their commit leaves the map.
+/// If a victim is copied, the moves that remain take all values out of it, and their commit does
+/// not change the map.
 pub fn copied()
     ensures empties { Empties }
     ensures may_move { MayMove }
 {}
 
-/// A reclaim runs on as it stands, whatever is written in other blocks, and whichever keys get a value there or lose theirs.
+/// A reclaim runs on as it is, whatever is written in other blocks, and whichever keys get a value
+/// there or lose theirs.
 pub fn in_mid_copy()
     ensures elsewhere { RunsElsewhere }
     ensures stored { RunsStored }
@@ -29,15 +31,16 @@ pub fn cuts()
     ensures end_fails { CommitEndFails }
 {}
 
-/// A reclaim runs on behind each step of its copy, with fewer steps left and at most three quarters of a block to copy.
+/// A reclaim runs on after each step of its copy, with fewer steps remaining and at most three
+/// quarters of a block to copy.
 pub fn steps()
-    // It runs behind each of them.
+    // It runs after each of them.
     ensures start { StartRuns }
     ensures read { ReadRuns }
     ensures program { ProgramRuns }
     ensures begin { BeginRuns }
 
-    // Fewer steps are left then.
+    // Fewer steps remain then.
     ensures read_falls { ReadFalls }
     ensures program_falls { ProgramFalls }
     ensures begin_falls { BeginFalls }
@@ -58,13 +61,14 @@ pub fn next_value()
     ensures { NextIsValue }
 {}
 
-/// Each step that wants no freeze lowers what is left, where a block that is taken counts twice.
+/// Each step that needs no freeze lowers what remains, if a block that is taken counts twice.
 pub fn lowers()
     ensures steps { StepLowers }
     ensures live { LiveOfBlock }
 {}
 
-/// Behind the moves the active buffer mirrors the newest epoch with their entries, which has no more keys than a buffer takes.
+/// After the moves the active buffer mirrors the newest epoch with their entries, which has no more
+/// keys than a buffer takes.
 pub fn buffered()
     ensures moves { MovesBuffered }
     ensures fit { MovesFit }

@@ -86,7 +86,7 @@ after g = record {
 abbrev pub begin : ℕ → Generator
 begin start = record { state = start % 2 ^ 31; cid = 1 }
 
--- the generator after so many turns
+-- the generator after n turns
 abbrev pub generator : ℕ → ℕ → Generator
 generator start zero = begin start
 generator start (suc turns) = after (generator start turns)

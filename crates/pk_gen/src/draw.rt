@@ -2,7 +2,7 @@
 ghost use Rattle.std.specs.Prelude.{◌≡◌, ◌+◌, ◌*◌, ◌/◌, ◌%◌, ◌^◌, ◌<◌, ◌≤◌};
 ghost use Rattle.pk_gen.specs.Workload.{step, drawn};
 
-/// The state behind a state of 31 bits.
+/// The state after a state of 31 bits.
 pub fn step(state: u32) -> u32
     requires { state < 2 ^ 31 }
     ensures next { result ≡ step state }

@@ -3,7 +3,7 @@ use pk_base::KEY_BYTES;
 
 /// How many keys the commands name, each by its number from 0 on.
 pub const KEYS: u32 = 5000;
-/// The decimal digits of a key's number: all of the key behind `key:`.
+/// The decimal digits of a key's number: all of the key after `key:`.
 pub const KEY_DIGITS: usize = KEY_BYTES - 4;
 /// The fewest bytes of a value.
 pub const LEAST_VALUE_BYTES: u32 = 200;

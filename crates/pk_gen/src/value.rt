@@ -7,7 +7,7 @@ ghost use Rattle.pk_gen.specs.declared.numbers.TheConstants.{MOST_VALUE_BYTES};
 use crate::numbers::{KEYS, LEAST_VALUE_BYTES, LETTERS, VALUE_LENGTHS};
 use pk_nvme::Bytes;
 
-/// Writes the value of a Store over what stood there.
+/// Writes the value of a Store over what was there.
 pub fn write_value(b: u32, c: u32, value: &mut Bytes)
     requires room { MOST_VALUE_BYTES ≤ value.old.room }
     requires drawn { c < 2 ^ 15 }
@@ -23,7 +23,7 @@ pub fn write_value(b: u32, c: u32, value: &mut Bytes)
     value.extend(b"\"}");
 }
 
-// So many letters, from that of the number on.
+// `count` letters, from that of the number on.
 fn push_letters(c: u32, count: usize, value: &mut Bytes)
     requires room { length value.old.items + count ≤ value.old.room }
     requires drawn { c < 2 ^ 15 }

@@ -40,7 +40,7 @@ impl Workload {
         }
     }
 
-    /// The next command; its value, which is empty where it is no Store, replaces what stood there.
+    /// The next command; its value, which is empty if it is no Store, replaces what was there.
     pub fn next_request(&mut self, value: &mut Bytes) -> Request
         requires { MOST_VALUE_BYTES ≤ value.old.room }
         ensures request { result ≡ request_of self.old }
@@ -63,7 +63,8 @@ impl Workload {
         command(cid, a, b, c)
     }
 
-    /// The entry of the next command; its value, which is empty where it is no Store, replaces what stood there.
+    /// The entry of the next command; its value, which is empty if it is no Store, replaces what
+    /// was there.
     pub fn next(&mut self, value: &mut Bytes) -> [u8; SUBMISSION_BYTES]
         requires { MOST_VALUE_BYTES ≤ value.old.room }
         ensures entry { result ≡ entry_of (request_of self.old) }

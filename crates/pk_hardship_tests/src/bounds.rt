@@ -1,4 +1,5 @@
-//! How much work a command makes at most, and how much is left behind it, beside the bounds of both.
+//! How much work a command makes at most, and how much remains after it, next to the bounds of
+//! both.
 
 use crate::tests::Pink;
 use pk_base::Shape;

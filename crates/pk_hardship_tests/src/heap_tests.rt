@@ -35,7 +35,7 @@ fn no_memory(rt: HostRuntime) -> Result<(), Fail> {
     Ok(())
 }
 
-// Opens the drive of a board in a heap of so many bytes: how many of them are in use then.
+// Opens the drive of a board in a heap of `bytes` bytes: how many of them are in use then.
 fn opened_in(alloc: Global, flash: &mut Flash, bytes: usize) -> Result<Option<usize>, Fail> {
     let shape = flash.shape().ok_or("a shape")?;
     let heap = LocalHeap::new(alloc, bytes)?;
@@ -50,8 +50,9 @@ fn opened_in(alloc: Global, flash: &mut Flash, bytes: usize) -> Result<Option<us
     Ok(used)
 }
 
-// Heaps larger by 16 bytes each, the least block that a heap gives out: so each allocation of an opening is the first that is refused in
-// some of them. All answer for want of memory, up to the first that has enough, and leave the heap empty and the flash as it was.
+// Heaps larger by 16 bytes each, the least block that a heap allocates: so each allocation of an
+// opening is the first that is refused in some of them. All answer that memory is missing, up to
+// the first that has enough, and leave the heap empty and the flash unchanged.
 #[test]
 fn each_allocation_fails(rt: HostRuntime) -> Result<(), Fail> {
     let alloc = rt.alloc();

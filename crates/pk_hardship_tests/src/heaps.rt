@@ -1,4 +1,4 @@
-//! Programs whose drives have a heap of so many bytes.
+//! Programs whose drives have a heap of n bytes.
 ghost use Rattle.std.specs.Prelude.{◌≤◌};
 
 use linked_list_allocator::LocalHeap;
@@ -10,7 +10,7 @@ use pk_sessions::exits::{DONE, FLASH, INPUT, MEMORY, NO_DRIVE, OUTPUT, TRUNCATED
 use pk_top::run;
 use std::alloc::Global;
 
-// The status of a run in which a call behind the opening kept memory.
+// The status of a run in which a call after the opening kept memory.
 const MORE_MEMORY: u8 = 70;
 
 fn of_end(end: End) -> u8 {
@@ -32,8 +32,8 @@ fn of_open_error(error: OpenError) -> u8 {
     }
 }
 
-// Opens the drive over a heap of so many bytes, in which it stands itself, and serves the input, by
-// which no more of the heap may be in use. What serving needs beside the drive is taken elsewhere.
+// Opens the drive over a heap of `bytes` bytes, in which it is itself, and serves the input, by
+// which no more of the heap may be in use. What serving needs in addition is taken elsewhere.
 fn serve_in(alloc: Global, frames: u32, bytes: usize, flash: &mut Flash) -> u8
     requires { frames ≤ 16384 }
 {
@@ -64,7 +64,7 @@ fn serve_in(alloc: Global, frames: u32, bytes: usize, flash: &mut Flash) -> u8
     }
 }
 
-// Serves with 36 frames or none, in a heap of so many bytes; other words are the program's own.
+// Serves with 36 frames or none, in a heap of `bytes` bytes; other words are the program's own.
 fn run_in(alloc: Global, words: &[&str], bytes: usize, flash: &mut Flash) -> u8 {
     if flash.shape().is_none() {
         return run(alloc, words, flash).0;

@@ -1,6 +1,6 @@
-//! The trials of hard cases, run on the program, what they do stands in `pk_hardships`; and whole drives in regions of fixed size:
-//! trials run on drives that have all their memory in a heap of their own, and each of the allocations of an opening refused. The
-//! crate has nothing but these tests.
+//! The trials of hard cases of `pk_hardships`, run on the program; and whole drives in regions of
+//! fixed size: trials run on drives that have all their memory in a heap of their own, and each of
+//! the allocations of an opening refused. The crate has nothing but these tests.
 #![tactic(auto)]
 
 #[cfg(test)]

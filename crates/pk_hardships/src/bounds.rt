@@ -1,7 +1,9 @@
-//! How many calls of the flash a command makes at most, and how many background steps bring a drive to rest, on the smallest drives.
+//! How many flash operations a command makes at most, and how many background steps bring a drive
+//! to rest, on the smallest drives.
 //!
-//! A command's record tells its reads, and the board's trail has its programs and erases before the post of that record. With the two
-//! programs of its commit they are counted together: a Flush follows each command, so that its record is not held.
+//! A command's record has its reads, and the board's trail has its programs and erases before the
+//! post of that record. With the two programs of its commit they are counted together: a Flush
+//! follows each command, so that its record is not held.
 
 use pk_base::Shape;
 use pk_flash::{Flash, Room};
@@ -24,7 +26,7 @@ const FEW: u32 = 16;
 
 const SESSIONS: u32 = 100;
 
-// Background steps behind the commands of a session, one command each.
+// Background steps after the commands of a session, one command each.
 const STEPS: u32 = 600;
 
 const LONG: Room = Room {
@@ -37,8 +39,8 @@ const SHORT: Room = Room {
     marks: 6_000,
 };
 
-/// What is seen of a drive: the most calls of the flash that a command made, the most background steps to rest, how many Stores found no
-/// room; and the bounds of the first two.
+/// What was measured of a drive: the most flash operations that a command made, the most background
+/// steps to rest, how many Stores found no room; and the bounds of the first two.
 #[derive(Clone, Copy)]
 pub struct Most {
     pub calls: u32,
@@ -48,7 +50,8 @@ pub struct Most {
     pub steps_bound: u32,
 }
 
-// A workload: a value of fewer bytes than these is stored under each next key, and so many Stores later it is deleted.
+// A workload: a value of fewer bytes than these is stored under each next key, and this many Stores
+// later it is deleted.
 #[derive(Clone, Copy)]
 struct Load {
     bytes: u32,
@@ -134,8 +137,8 @@ fn script(alloc: Global, load: &Load, seen: &mut Seen, count: u32) -> Result<Vec
     Ok(script)
 }
 
-// Notes what the command or the step with this number made, so many calls: false where a step behind the first one with this number is
-// not as it is to be.
+// Notes how many operations the command or the step with this number made: false if a step after
+// the first one with this number is not as it has to be.
 fn note_record(most: &mut Most, record: &Record, calls: u32, number: u32, first_step: u32) -> bool {
     if number < first_step {
         let is_full = record.status == u32::from(CAPACITY_EXCEEDED);
@@ -151,7 +154,7 @@ fn note_record(most: &mut Most, record: &Record, calls: u32, number: u32, first_
     record.status == u32::from(SUCCESSFUL_COMPLETION) && (step < STEPS || calls == 0)
 }
 
-// Notes what a session of so many commands came to: false where that is not as it is to be.
+// Notes the result of a session of `commands` commands: false if it is not as it has to be.
 fn note(most: &mut Most, flash: &Flash, commands: u32) -> bool {
     let first_step = commands.saturating_mul(2);
     let mut at = 0usize;
@@ -176,7 +179,7 @@ fn note(most: &mut Most, flash: &Flash, commands: u32) -> bool {
     number == first_step.saturating_add(STEPS).saturating_add(1)
 }
 
-// A session of the workload on these pages, and the pages behind it.
+// A session of the workload on these pages, and the pages after it.
 fn session<P: Program>(
     alloc: Global,
     shape: Shape,
@@ -215,7 +218,7 @@ fn bounds(shape: &Shape) -> Most {
     }
 }
 
-// The sessions of one workload on these pages, and the pages behind them.
+// The sessions of one workload on these pages, and the pages after them.
 fn sessions<P: Program>(
     alloc: Global,
     shape: Shape,

@@ -16,11 +16,11 @@ enum Way {
     Untouched,
     Torn,
     Done,
-    // The second page of a pair is left so, and the first one is Torn.
+    // The second page of a pair becomes this, and the first one is Torn.
     WithEven(PageLeft),
     // The pages of a block as they were, Erased or Torn by turns.
     ByTurns,
-    // So many bytes of a post.
+    // This many bytes of a post.
     Part(u32),
 }
 
@@ -35,10 +35,10 @@ fn left(alloc: Global, way: Way) -> Result<Left, AllocError> {
     }
 }
 
-// What is to be posted where a call of the worked session fails.
+// What is to be posted if a call of the worked session fails.
 #[derive(Clone, Copy)]
 enum Posted {
-    /// So many bytes of the records of the whole session.
+    /// This many bytes of the records of the whole session.
     Front(usize),
     /// The record of the Store, and that of the Retrieve with 88h after one read.
     Unread,
@@ -51,7 +51,8 @@ fn bytes_posted(alloc: Global, what: Posted) -> Result<Vec<u8>, AllocError> {
     }
 }
 
-// A call of the worked session that fails, and what it leaves: the status, what is posted, and the keys behind the session.
+// A call of the worked session that fails, and what it leaves: the status, what is posted, and the
+// keys after the session.
 #[derive(Clone, Copy)]
 struct Failure {
     call: u64,
@@ -390,7 +391,7 @@ fn served_with_fault<P: Program>(alloc: Global, call: u64, left: Left) -> Result
     Ok(serve_board::<P>(alloc, flash))
 }
 
-// The keys behind a session.
+// The keys after a session.
 fn check_keys<P: Program>(
     alloc: Global,
     flash: &Flash,

@@ -1,8 +1,9 @@
-//! Drives of the smallest shapes cut off three sessions deep, where each session begins with a freeze.
+//! Drives of the smallest shapes cut three sessions deep, if each session begins with a freeze.
 //!
-//! An epoch that was found at opening takes no entries, so the first entry of a session wants a freeze. Each session retrieves all keys
-//! and overwrites one of them: on a full drive it begins with a reclaim, whose moves want the freeze; `merged` has drives that freeze
-//! alone, or behind a merge into each level.
+//! An epoch that was found at opening takes no entries, so the first entry of a session needs a
+//! freeze. Each session retrieves all keys and overwrites one of them: on a full drive it begins
+//! with a reclaim, whose moves need the freeze; `merged` has drives that freeze alone, or after a
+//! merge into each level.
 
 use pk_base::Shape;
 use pk_flash::{Flash, Room};
@@ -59,7 +60,8 @@ pub struct Few {
     pub gone: u32,
 }
 
-/// The three smallest shapes, with as many keys as there is room for, and so many Stores as fill the two blocks that values may have.
+/// The three smallest shapes, with as many keys as there is room for, and as many Stores as fill
+/// the two blocks that values may have.
 pub const SHAPES: [Few; 3] = [
     Few {
         smallest: SMALL,
@@ -81,8 +83,9 @@ pub const SHAPES: [Few; 3] = [
     },
 ];
 
-/// Which cuts are made of three sessions, one behind the other: of the marks of the second and of the third one of every so many, which go
-/// on from cut to cut, and of each session in all ways, or in one by turns.
+/// Which cuts are made of three consecutive sessions: of the marks of the second and of the third
+/// one of every n, which go on from cut to cut, and of each session in all ways, or in one by
+/// turns.
 #[derive(Clone, Copy)]
 pub struct Part {
     pub every: usize,
@@ -91,7 +94,7 @@ pub struct Part {
     pub all_of_third: bool,
 }
 
-/// All ways, of one of every so many marks.
+/// All ways, of one mark in `every`.
 pub fn in_all_ways(every: usize) -> Part {
     Part {
         every,
@@ -129,8 +132,8 @@ pub struct Trial<'a> {
     pub part: &'a Part,
 }
 
-/// What a session is to find: these first bytes of the values of all keys, or the same but for one key, which has this one, and surely
-/// where that was told.
+/// What a session has to find: these first bytes of the values of all keys, or the same but for one
+/// key, which has this one, and surely if that was answered.
 #[derive(Drop)]
 pub struct Before {
     pub held: Vec<u8>,
@@ -139,7 +142,7 @@ pub struct Before {
     pub is_told: bool,
 }
 
-/// A session behind its end: what it found, and its board.
+/// A session after its end: what it found, and its board.
 #[derive(Drop)]
 pub struct Behind {
     pub found: Vec<u8>,
@@ -158,7 +161,7 @@ pub fn stored(number: u32) -> u8 {
     value_of(OTHER.saturating_add(number)).first
 }
 
-// The board behind the session of its input, which is to end well.
+// The board after the session of its input, which has to end well.
 fn served<P: Program>(alloc: Global, mut flash: Flash) -> Result<Flash, Fail> {
     if serve::<P>(alloc, &mut flash) != 0 {
         return Err(Fail::from("the status of a session on few blocks"));
@@ -231,7 +234,7 @@ pub fn session<P: Program>(
     }
 }
 
-// What is known of the flash behind a cut of a session at this mark.
+// What is known of the flash after a cut of a session at this mark.
 fn known(trial: &Trial, behind: &Behind, number: u32, mark: usize) -> Result<Before, AllocError> {
     let retrieved = u64::from(trial.few.keys).saturating_mul(124);
     Ok(Before {
@@ -269,7 +272,7 @@ fn ways_at(alloc: Global, flash: &Flash, mark: usize) -> Result<usize, AllocErro
     Ok(few_ways(alloc, flash, mark)?.len())
 }
 
-// The cuts of a session, at one of every so many marks.
+// The cuts of a session, at one mark in `every`.
 fn cuts(
     alloc: Global,
     flash: &Flash,
@@ -299,7 +302,7 @@ fn pages_at(alloc: Global, flash: &Flash, at: &Interrupted) -> Result<Vec<PageSt
     }
 }
 
-// The session behind a cut of the one with this number, and what it finds.
+// The session after a cut of the one with this number, and what it finds.
 fn session_behind<P: Program>(
     trial: &Trial,
     behind: &Behind,
@@ -311,7 +314,7 @@ fn session_behind<P: Program>(
     session::<P>(trial, pages, &known, number.saturating_add(1))
 }
 
-// Cuts the third session off, and looks at what is left. How many cuts.
+// Cuts the third session, and looks at what remains. How many cuts.
 fn check_third<P: Program>(trial: &Trial, third: &Behind, turn: usize) -> Result<usize, Fail> {
     let part = trial.part;
     let cuts = cuts(
@@ -337,7 +340,7 @@ fn check_behind_second<P: Program>(
     check_third::<P>(trial, &third, turn)
 }
 
-// The same of the second session, and of the third one behind each cut.
+// The same of the second session, and of the third one after each cut.
 fn check_second<P: Program>(trial: &Trial, second: &Behind, turn: usize) -> Result<usize, Fail> {
     let part = trial.part;
     let cuts = cuts(
@@ -366,7 +369,8 @@ fn check_behind_first<P: Program>(
     check_second::<P>(trial, &second, turn)
 }
 
-/// Cuts three sessions off, one behind the other, of which this is the first: it at every mark. How many cuts of the third one.
+/// Cuts three consecutive sessions, of which this is the first: it at every mark. How many cuts of
+/// the third one.
 pub fn check<P: Program>(trial: &Trial, first: &Behind) -> Result<usize, Fail> {
     let cuts = cuts(trial.alloc, &first.flash, 1, 0, trial.part.all_of_first)?;
     let mut turn = 0usize;
@@ -386,7 +390,7 @@ fn push_delete(into: &mut Vec<u8>, key: u32) -> Result<(), AllocError> {
     into.extend_from_slice(&entry(4, DELETE, [high, low], 2, 0))
 }
 
-// Adds Stores of so many keys, each with its Delete.
+// Adds Stores of `count` keys, each with its Delete.
 fn push_gone(into: &mut Vec<u8>, count: u32) -> Result<(), AllocError> {
     for i in 0..count {
         let key = FIRST_GONE.saturating_add(i);
@@ -462,7 +466,7 @@ fn check_full<P: Program>(trial: &Trial) -> Result<usize, Fail> {
     check::<P>(trial, &first)
 }
 
-/// The first two sessions are cut off in one way by turns.
+/// The first two sessions are cut in one way by turns.
 pub fn three_deep<P: Program>(alloc: Global, few: &Few) -> Result<(), Fail> {
     let trial = Trial {
         alloc,
@@ -474,7 +478,7 @@ pub fn three_deep<P: Program>(alloc: Global, few: &Few) -> Result<(), Fail> {
     holds(cuts >= 3_000, "3,000 cuts")
 }
 
-/// All sessions are cut off in all ways, the later two at one of every so many marks. This takes long.
+/// All sessions are cut in all ways, the later two at one mark in `every`. This takes long.
 pub fn three_deep_in_all_ways<P: Program>(
     alloc: Global,
     few: &Few,

@@ -13,7 +13,8 @@ use std::test::*;
 // More calls than the session makes.
 const MOST: u64 = 400;
 
-// What came of a session in which a call failed, by its status and what else tells the kind of that call.
+// The result of a session in which a call failed, by its status and what else shows the kind of
+// that call.
 #[derive(Clone, Copy)]
 enum Kind {
     // Status 0 with all records 00h: there is no such call.
@@ -60,7 +61,8 @@ impl Kinds {
     }
 }
 
-// The records that are posted whole: how many are of an unrecovered error; None where one is neither that nor a success.
+// The records that are posted whole: how many are of an unrecovered error; None if one is neither
+// that nor a success.
 fn unread(posted: &[u8], records: u32) -> Option<u32> {
     let mut at = 0usize;
     let mut unread = 0u32;
@@ -105,7 +107,7 @@ fn is_whole(flash: &Flash, keys: u32) -> bool {
     record_of(flash.posted(), keys.saturating_add(1)).is_some()
 }
 
-// What came of this session on so many keys; None where nothing may come so.
+// The kind of call that failed in this session on `keys` keys; None if its result fits none.
 fn kind_of(done: &Session, keys: u32) -> Option<Kind> {
     let flash = &done.flash;
     let unread = unread(flash.posted(), keys.saturating_add(2))?;
@@ -134,7 +136,7 @@ fn behind(trial: &Trial, held: &[u8], posted: &[u8]) -> Result<Before, AllocErro
     })
 }
 
-// The session behind one in which a call failed.
+// The session after one in which a call failed.
 fn check_next<P: Program>(trial: &Trial, held: &[u8], flash: &Flash) -> Result<(), Fail> {
     let known = behind(trial, held, flash.posted())?;
     let pages = pages_left(trial.alloc, flash)?;
@@ -183,7 +185,7 @@ const ERASED: EraseLeft = EraseLeft::Erased;
 
 const TORN: EraseLeft = EraseLeft::Torn;
 
-// Each of 16 pages Torn, as it was or Erased by turns.
+// Each of 16 pages Torn, unchanged or Erased by turns.
 const FROM_TORN: [EraseLeft; 16] = [
     TORN, KEPT, ERASED, TORN, KEPT, ERASED, TORN, KEPT, ERASED, TORN, KEPT, ERASED, TORN, KEPT,
     ERASED, TORN,
@@ -229,7 +231,7 @@ fn are_same(one: &Kinds, other: &Kinds) -> bool {
         && one.stops == other.stops
 }
 
-// The kinds of calls that the whole session makes, with so many fetches.
+// The kinds of calls that the whole session makes, with this many fetches.
 fn wanted_kinds(flash: &Flash, fetches: u64) -> Kinds {
     Kinds {
         reads: flash.read_count(),
@@ -239,7 +241,8 @@ fn wanted_kinds(flash: &Flash, fetches: u64) -> Kinds {
     }
 }
 
-// Each call fails in each way, where this is the board of the whole session: as many of each kind as that makes.
+// Each call fails in each way, if this is the board of the whole session: as many of each kind as
+// that makes.
 fn check_ways<P: Program>(
     trial: &Trial,
     drive: &Flash,
@@ -264,9 +267,10 @@ fn check_drive<P: Program>(trial: &Trial, drive: &Flash) -> Result<(), Fail> {
     check_ways::<P>(trial, drive, &before.held, &whole.flash)
 }
 
-/// Each call fails and leaves all as it was, a page or a block Torn, its work done, a block page by page, the first page of a pair Torn with
-/// the second one as it was, Torn or done, or a part of a post. A read
-/// fails its command, or the opening; a fetch, a post, a program and an erase end the run; and the next session finds what was told.
+/// Each call fails and leaves everything unchanged, a page or a block Torn, its work done, a block
+/// page by page, the first page of a pair Torn with the second one unchanged, Torn or done, or a
+/// part of a post. A read fails its command, or the opening; a fetch, a post, a program and an
+/// erase end the run; and the next session finds what was answered.
 pub fn each_call<P: Program>(alloc: Global, few: &Few) -> Result<(), Fail> {
     let part = in_all_ways(1);
     let trial = Trial {

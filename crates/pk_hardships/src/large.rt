@@ -16,7 +16,7 @@ const MAKE: [&str; 4] = ["make", "4096", "64", "1024"];
 
 const KEYS: u32 = 24_000;
 
-// So many keys stand in runs, and the others in the buffers or in runs.
+// The first n keys are in runs, and the others in the buffers or in runs.
 const IN_RUNS: u32 = 23_400;
 
 const ROOM: Room = Room {
@@ -73,7 +73,8 @@ fn is_value(alloc: Global, data: Option<&[u8]>, key: u32) -> bool {
     }
 }
 
-// The record has the value of this key, and tells the pages of its look-up and the first one of the value.
+// The record has the value of this key, and reports the pages of its lookup and the first one of
+// the value.
 fn is_record(alloc: Global, posted: &[u8], record: &Record, key: u32) -> bool {
     let least = if key < IN_RUNS { 2 } else { 1 };
     let is_read = least <= record.reads && record.reads <= 5;
@@ -82,7 +83,8 @@ fn is_record(alloc: Global, posted: &[u8], record: &Record, key: u32) -> bool {
         && is_value(alloc, posted.get(record.data..record.end()), key)
 }
 
-// The records of the Retrieves, from this byte on, are as they are to be, and nothing is behind them.
+// The records of the Retrieves, from this byte on, are as they have to be, and nothing follows
+// them.
 fn are_records(alloc: Global, posted: &[u8], from: usize) -> bool {
     let mut at = from;
     for key in 0..KEYS {

@@ -1,7 +1,9 @@
-//! Trials of hard cases: each call of a session failing, flashes that are damaged byte by byte and page by page, drives that are cut off
-//! three sessions deep, and one with more keys than memory has room for.
+//! Trials of hard cases: each call of a session failing, flashes that are damaged byte by byte and
+//! page by page, drives that are cut three sessions deep, and one with more keys than memory has
+//! room for.
 //!
-//! As in `pk_sessions` the program is a parameter. What a damaged flash holds is read plainly, by no part of the program.
+//! As in `pk_sessions` the program is a parameter. What a damaged flash holds is read plainly, by
+//! no part of the program.
 #![tactic(auto)]
 
 pub mod bounds;

@@ -1,4 +1,5 @@
-//! A list of more keys than one command tells: the word `list` asks again, and a later read fails.
+//! A list of more keys than one command returns: the word `list` asks again, and a later read
+//! fails.
 
 use pk_base::Shape;
 use pk_flash::{Flash, Left, Room};
@@ -11,12 +12,13 @@ use pk_sessions::{Program, holds, serve};
 use std::alloc::{AllocError, Global};
 use std::test::*;
 
-// The words that make a drive with room for so many keys.
+// The words that make a drive with room for n keys.
 const MAKE: [&str; 4] = ["make", "512", "16", "650"];
 
 const KEYS: u32 = 3_300;
 
-// How many of them one command tells: 65,536 bytes have four for the count, and twenty for each key of sixteen.
+// How many of them one command returns: 65,536 bytes have four for the count, and twenty for each
+// key of sixteen.
 const TOLD: u32 = 3_276;
 
 const ROOM: Room = Room {
@@ -37,7 +39,7 @@ fn key_of(number: u32) -> [u8; 16] {
     key
 }
 
-// Stores of no byte, of the last key first, so that the last keys stand in the runs.
+// Stores of no byte, of the last key first, so that the last keys are in the runs.
 fn script(alloc: Global) -> Result<Vec<u8>, AllocError> {
     let mut script = Vec::new(alloc);
     for i in 0..KEYS {
@@ -94,7 +96,7 @@ fn filled<P: Program>(alloc: Global) -> Result<Flash, Fail> {
     Ok(flash)
 }
 
-// The list of all keys on these pages, in which the call with this number fails, where there is one.
+// The list of all keys on these pages, in which the call with this number fails, if there is one.
 fn listed<P: Program>(
     alloc: Global,
     pages: Vec<PageState>,
@@ -108,13 +110,13 @@ fn listed<P: Program>(
     Ok(Session { status, flash })
 }
 
-// The lines of the first keys, so many.
+// The lines of the first `count` keys.
 fn front(all: &[u8], count: u32) -> &[u8] {
     let end = (count as usize).saturating_mul(LINE);
     &all[..end.min(all.len())]
 }
 
-// These are the lines of the first keys, so many, and that a command failed behind them.
+// These are the lines of the first `count` keys, and the line that a command failed after them.
 fn is_failure(posted: &[u8], all: &[u8], count: u32) -> bool {
     match posted.strip_prefix(front(all, count)) {
         Some(rest) => rest == b"refused 88\n".as_slice(),
@@ -122,8 +124,8 @@ fn is_failure(posted: &[u8], all: &[u8], count: u32) -> bool {
     }
 }
 
-// Which end a list with this status and text has, where these are the lines of all keys: a read failed in the first, the second or the
-// third command, or one of the three posts failed.
+// Which end a list with this status and text has, if these are the lines of all keys: a read failed
+// in the first, the second or the third command, or one of the three posts failed.
 fn end_of(status: u8, posted: &[u8], all: &[u8]) -> Option<usize> {
     match status {
         0 if is_failure(posted, all, 0) => Some(0),
@@ -136,7 +138,7 @@ fn end_of(status: u8, posted: &[u8], all: &[u8]) -> Option<usize> {
     }
 }
 
-// The whole list, which posts three times: how many calls it makes behind the first one.
+// The whole list, which posts three times: how many calls it makes after the first one.
 fn calls_of_list<P: Program>(alloc: Global, filled: &Flash, all: &[u8]) -> Result<u64, Fail> {
     let whole = listed::<P>(alloc, pages_left(alloc, filled)?, None)?;
     let is_so = whole.status == DONE && whole.flash.posted() == all && whole.flash.marks() == 3;
@@ -171,9 +173,10 @@ fn ends_seen<P: Program>(alloc: Global, filled: &Flash, all: &[u8]) -> Result<[u
     Ok(seen)
 }
 
-/// A list asks three times: for the first keys, for the others, and whether one is behind them; and it tells what it finds each time. Each
-/// of its last calls fails in turn. Behind a read of the second command that fails the keys of the first one are told, and that a command
-/// failed; and behind a post that fails nothing is told any more.
+/// A list asks three times: for the first keys, for the others, and whether one follows them; and
+/// it posts what it finds each time. Each of its last calls fails in turn. After a read of the
+/// second command that fails the keys of the first one are posted, and that a command failed; and
+/// after a post that fails nothing more is posted.
 pub fn later_commands_fail<P: Program>(alloc: Global) -> Result<(), Fail> {
     let all = lines(alloc)?;
     let filled = filled::<P>(alloc)?;

@@ -1,8 +1,9 @@
-//! Drives of the smallest shapes whose next session freezes, alone or behind a merge into each of the four levels, cut off three sessions
-//! deep.
+//! Drives of the smallest shapes whose next session freezes, alone or after a merge into each of
+//! the four levels, cut three sessions deep.
 //!
-//! Where there are merges, so many keys were stored and deleted that the frozen buffer is more than run 1 has room for, run 1 more than
-//! run 2 has, and run 2 more than run 3. The merge into run 4 leaves the deleted keys out, so that the session has few marks.
+//! If there are merges, enough keys were stored and deleted that the frozen buffer is more than run
+//! 1 has room for, run 1 more than run 2 has, and run 2 more than run 3. The merge into run 4
+//! leaves the deleted keys out, so that the session has few marks.
 
 use crate::deep::{Few, LONG, Part, SMALL, Trial, WIDE, check, first, in_all_ways};
 use pk_flash::Flash;
@@ -55,7 +56,7 @@ pub const MERGES: [Few; 3] = [
     },
 ];
 
-// All ways of the first session, and of one of every so many marks of the later ones one way by turns.
+// All ways of the first session, and of one mark in `every` of the later ones one way by turns.
 fn first_in_all_ways(every: usize) -> Part {
     Part {
         every,
@@ -80,7 +81,7 @@ fn roots(flash: &Flash, few: &Few) -> u32 {
     roots
 }
 
-// From this drive on, whose first session is to program so many roots.
+// From this drive on, whose first session has to program this many roots.
 fn check_roots<P: Program>(
     alloc: Global,
     few: &Few,
@@ -109,14 +110,15 @@ pub fn freezes<P: Program>(alloc: Global) -> Result<(), Fail> {
     Ok(())
 }
 
-/// Merges into levels 4, 3, 2 and 1 and the freeze behind them, cut off at every mark in all ways, and the sessions behind it at one of
-/// every five.
+/// Merges into levels 4, 3, 2 and 1 and the freeze after them, cut at every mark in all ways, and
+/// the sessions after it at one of every five.
 pub fn merges<P: Program>(alloc: Global, few: &Few) -> Result<(), Fail> {
     let cuts = check_roots::<P>(alloc, few, 5, &first_in_all_ways(5))?;
     holds(cuts >= 500, "500 cuts")
 }
 
-/// A freeze in all ways of all three sessions, the later two at one of every so many marks. This takes long where that is each.
+/// A freeze in all ways of all three sessions, the later two at one mark in `every`. This takes
+/// long if that is each.
 pub fn freeze_in_all_ways<P: Program>(
     alloc: Global,
     few: &Few,
@@ -125,7 +127,7 @@ pub fn freeze_in_all_ways<P: Program>(
     check_roots::<P>(alloc, few, 1, &in_all_ways(every))
 }
 
-/// So are merges into levels 4, 3, 2 and 1 and the freeze behind them.
+/// So are merges into levels 4, 3, 2 and 1 and the freeze after them.
 pub fn merges_in_all_ways<P: Program>(
     alloc: Global,
     few: &Few,

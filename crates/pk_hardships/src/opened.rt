@@ -1,4 +1,4 @@
-//! What opening is asked, beside a session.
+//! What opening is asked, apart from a session.
 
 use pk_flash::Flash;
 use pk_sessions::Program;

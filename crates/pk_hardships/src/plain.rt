@@ -4,7 +4,8 @@ use pk_base::Shape;
 use pk_nand::PageState;
 use std::alloc::{AllocError, Global};
 
-/// An entry: a key, and where its value begins and how many bytes it has, unless the key was deleted. Behind the key's bytes are zeros.
+/// An entry: a key, and where its value begins and how many bytes it has, unless the key was
+/// deleted. After the key's bytes are zeros.
 #[derive(Clone, Copy)]
 pub struct Item {
     pub key: [u8; 16],
@@ -34,7 +35,7 @@ fn byte(page: &[u8], at: usize) -> u8 {
     page.get(at).copied().unwrap_or(0)
 }
 
-// The number of so many bytes that begins here, the least byte first.
+// The number of `size` bytes that begins here, the least byte first.
 fn number(page: &[u8], at: usize, size: usize) -> u64 {
     let mut sum = 0u64;
     for i in 0..size {
@@ -71,7 +72,7 @@ fn key_at(page: &[u8], at: usize) -> [u8; 16] {
     key
 }
 
-// Whether a value of so many bytes may begin at this page.
+// Whether a value of `len` bytes may begin at this page.
 fn may_be(shape: &Shape, first: u32, len: u32) -> bool {
     let count = shape.block_pages();
     count > 0
@@ -82,7 +83,7 @@ fn may_be(shape: &Shape, first: u32, len: u32) -> bool {
         && pages_of(shape, len).saturating_add(u64::from(first % count)) <= u64::from(count)
 }
 
-/// How many pages a value of so many bytes has: those of as many pairs as take it with its head.
+/// How many pages a value of `len` bytes has: those of as many pairs as take it with its head.
 pub fn pages_of(shape: &Shape, len: u32) -> u64 {
     let pair = u64::from(shape.page_bytes().max(1)) * 2;
     (u64::from(len) + 32).div_ceil(pair) * 2
@@ -116,7 +117,8 @@ fn item_at(shape: &Shape, page: &[u8], at: usize) -> Option<Item> {
     })
 }
 
-// Adds the entries of a page that has so many, from 1 to those of a full one, and zeros behind them: whether these are entries.
+// Adds the entries of a page that has `count` of them, from 1 to those of a full one, and zeros
+// after them: whether these are entries.
 fn push_items(
     shape: &Shape,
     page: &[u8],
@@ -154,7 +156,7 @@ pub fn push_commit(
     push_items(shape, page, small(page, 20, 2), into)
 }
 
-/// Adds the entries of a page of a run, if it is the one with this index and has so many.
+/// Adds the entries of a page of a run, if it is the one with this index and has `count` of them.
 pub fn push_meta(
     shape: &Shape,
     page: &[u8],
@@ -175,7 +177,7 @@ pub fn push_meta(
     push_items(shape, page, count, into)
 }
 
-/// Whether this page begins the value of an entry of so many bytes.
+/// Whether this page begins the value of an entry of `len` bytes.
 pub fn is_head(page: &[u8], item: &Item, len: u32) -> bool {
     byte(page, 0) == item.key_len
         && byte(page, 1) == 0x44
@@ -190,7 +192,7 @@ pub fn is_empty_from(page: &[u8], from: usize) -> bool {
     zeros(page, from, page.len())
 }
 
-// How many blocks a run of so many entries has.
+// How many blocks a run of `entries` entries has.
 fn blocks_of(shape: &Shape, entries: u32) -> u32 {
     let pages = entries.div_ceil(shape.entries().max(1));
     pages.div_ceil(shape.block_pages().max(1))
@@ -243,7 +245,7 @@ fn counts_at(page: &[u8]) -> [u32; 4] {
     ]
 }
 
-// Whether the fields of a root in front of its blocks are those of one on a flash of this shape.
+// Whether the fields of a root before its blocks are those of one on a flash of this shape.
 fn is_top(shape: &Shape, page: &[u8]) -> bool {
     let journal = small(page, 18, 2);
     let root = number(page, 24, 8);

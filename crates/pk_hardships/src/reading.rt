@@ -81,7 +81,7 @@ fn place_of(sorted: &[Item], item: &Item) -> usize {
     sorted.len()
 }
 
-// Puts an entry into a rising list, in place of that of its key, if that is wanted.
+// Puts an entry into a rising list, in place of that of its key, if that is requested.
 fn put(sorted: &mut Vec<Item>, item: Item, replaces: bool) -> Result<(), AllocError> {
     let at = place_of(sorted, &item);
     match sorted.get_mut(at) {
@@ -107,7 +107,8 @@ fn rising(alloc: Global, items: &[Item]) -> Result<Vec<Item>, AllocError> {
     Ok(sorted)
 }
 
-// The page of the commit with this index: its first one, where that is Whole, else its second one.
+// The page of the commit with this index: its first one, if that is Whole, otherwise its second
+// one.
 fn page_of_commit<'a>(
     shape: &Shape,
     pages: &'a [PageState],
@@ -147,7 +148,8 @@ fn epoch(
     Ok(List::Entries(rising(alloc, &items)?))
 }
 
-// Whether a page of a run went on well: its entries from this one on rise behind the one before, and none is deleted in run 4.
+// Whether a page of a run went on well: its entries from this one on rise after the one before, and
+// none is deleted in run 4.
 fn goes_on(items: &[Item], from: usize, level: u8) -> bool {
     for i in from..items.len() {
         let Some(item) = items.get(i) else {
@@ -164,7 +166,7 @@ fn goes_on(items: &[Item], from: usize, level: u8) -> bool {
     true
 }
 
-// The entries of a run of so many in these blocks.
+// The entries of a run of `entries` in these blocks.
 fn run(
     alloc: Global,
     shape: &Shape,
@@ -190,7 +192,7 @@ fn run(
     Ok(List::Entries(items))
 }
 
-// Puts the entries of a list behind those that count more.
+// Puts the entries of a list after those that count more.
 fn cover(into: &mut Vec<Item>, items: &[Item]) -> Result<(), AllocError> {
     for item in items {
         put(into, *item, false)?;
@@ -316,7 +318,7 @@ fn wrong_page(
     None
 }
 
-// The entries of the keys that are there, whose values stand where these say.
+// The entries of the keys that exist, whose values are where these say.
 fn with_values(
     alloc: Global,
     shape: &Shape,

@@ -87,7 +87,7 @@ fn listed(alloc: Global, items: &[Item]) -> Result<Vec<u8>, AllocError> {
     Ok(data)
 }
 
-// The value that these pages have at a place, behind its head.
+// The value that these pages have at a place, after its head.
 fn value_at(
     alloc: Global,
     pages: &[PageState],
@@ -138,7 +138,7 @@ fn value_end(
     Ok(record_with(posted, at, &value))
 }
 
-// The records of Retrieves of these keys have the values of these pages, and nothing is behind them.
+// The records of Retrieves of these keys have the values of these pages, and nothing follows them.
 fn have_values(
     alloc: Global,
     pages: &[PageState],
@@ -286,7 +286,7 @@ fn with_byte(
     }
 }
 
-// Opening answers as the reading does behind a change of one byte.
+// Opening answers as the reading does after a change of one byte.
 fn check_byte<O: Opens>(
     alloc: Global,
     pages: &[PageState],
@@ -298,8 +298,9 @@ fn check_byte<O: Opens>(
     check::<O>(alloc, &spoiled, "byte", at)
 }
 
-// Where opening a drive with one key refuses it behind a change of this byte of its journal page: at the journal page, or, where that is
-// one of the grammar still, at the page at which no value of the entry stands. No value begins at an odd page.
+// Where opening a drive with one key refuses it after a change of this byte of its journal page: at
+// the journal page, or, if that is still one of the grammar, at the page at which no value of the
+// entry is. No value begins at an odd page.
 fn refused_at(byte: usize) -> u32 {
     match byte {
         32 | 36 | 56 | 57 => 32,
@@ -372,7 +373,7 @@ fn other(alloc: Global, way: u32) -> Result<PageState, AllocError> {
     }
 }
 
-// Opening answers as the reading does where this page is made another.
+// Opening answers as the reading does if this page is made another.
 fn check_page<O: Opens>(
     alloc: Global,
     pages: &[PageState],
@@ -404,7 +405,7 @@ fn exchange(pages: &mut Vec<PageState>, one: usize, other: usize) {
     }
 }
 
-// Opening answers as the reading does where the two blocks of this pair are exchanged.
+// Opening answers as the reading does if the two blocks of this pair are exchanged.
 fn check_exchanged<O: Opens>(alloc: Global, pages: &[PageState], pair: usize) -> Result<(), Fail> {
     let mut spoiled = copies(alloc, pages)?;
     exchange(&mut spoiled, pair / 32, pair % 32);
@@ -428,7 +429,7 @@ pub fn exchanged<O: Opens>(alloc: Global) -> Result<(), Fail> {
 // The first pages of the pairs of the root and of the three commits, and of the first pair after the newest epoch.
 const PAIRS: [u32; 5] = [0, 32, 34, 36, 64];
 
-// Opening answers as the reading does where both pages of this pair are as they were or others.
+// Opening answers as the reading does if both pages of this pair are unchanged or others.
 fn check_pair<O: Opens>(
     alloc: Global,
     pages: &[PageState],
@@ -492,7 +493,7 @@ const FRONT: [Note; 2] = [Note::Gone(30), Note::Gone(31)];
 
 const GONE: [Note; 2] = [Note::Gone(10), Note::Gone(20)];
 
-// Roots beside the newest one, which has the number 7 and stands in page 0. An empty drive has no key.
+// Roots next to the newest one, which has the number 7 and is in page 0. An empty drive has no key.
 const ROOTS: [Over; 6] = [
     Over {
         name: "another root of the same number in the other page of its pair",
@@ -621,7 +622,7 @@ fn check_over<O: Opens>(alloc: Global, row: &Over) -> Result<(), Fail> {
     holds(opened == row.opened, row.name)
 }
 
-/// Pages of roots, epochs and runs that are of the grammar, and not those that stood there.
+/// Pages of roots, epochs and runs that are of the grammar, and not those that were there.
 pub fn others<O: Opens>(alloc: Global) -> Result<(), Fail> {
     for row in &ROOTS {
         check_over::<O>(alloc, row)?;

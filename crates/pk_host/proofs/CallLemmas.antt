@@ -30,7 +30,7 @@ found_cases hit miss a r P e at_hit at_miss = subst (λ x. IfOk x P) (sym e) (
       ] refl
     ] refl)
 
--- the command's key is the one that was handed over
+-- the command's key is the one that was passed
 module _ (old new : PortState) (k k' : Key) (same : k' ≡ k) (h : IsKey k) (a : Reply) where
   for_key : (of : Key → Command) → Replies old new (of k') a → Replies old new (of k) a
   for_key of x = subst (λ (q : Key). Replies old new (of q) a) same x
@@ -56,7 +56,7 @@ module _ (old new : PortState) (k k' : Key) (same : k' ≡ k) (h : IsKey k) (a :
       let served = success_served old.shape old.limit s.frames m (of_key STORE k (length value) options value) Store a s.left refl (store_by old.shape old.limit m k h options value) zero s.stepped in
       s.told ∙ ap (λ (n : Map). Some n) (served.leaves ∙ ap (λ (q : Key). insert m q value) (key-of_key STORE k (length value) options value))
 
-  -- the front of a value that is there
+  -- a prefix of a value that exists
   front_there : (m : Map) (value : Option (List ℕ)) (into : List ℕ) (len size status : ℕ) → is_some value ≡ true → length into ≡ size → len ≤ length into
       → a ≡ success (length (unwrap_or value [])) (take size (unwrap_or value [])) → a.data_bytes ≡ take len into → IsFront value (Some a.result) into
   front_there m None into len size status there sized fits e front_is = cc

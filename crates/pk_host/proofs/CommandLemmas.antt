@@ -42,7 +42,7 @@ module _ (shape : Shape) (most frames : ℕ) (m : Map) (c : Command) (k : Opcode
   unfolding reply map_after
   refuses a left status e x = (x.replied ∙ rw e refl, x.leaves ∙ rw e refl)
 
-  -- a success is served, where no refusal has status 0
+  -- a success is served, if no refusal has status 0
   pub success_served : (a : Reply) (left : Map) → op_of c.opcode ≡ Some k → (refused shape most m c ≡ Some 0 → ⊥) → a.status ≡ 0 → StepIn shape most frames m c a left → ServedAs a left
   success_served a left is none zero (inl x) =
       elim (refused shape most m c) as (λ r. refused shape most m c ≡ r → ServedAs a left) [
@@ -51,7 +51,7 @@ module _ (shape : Shape) (most frames : ℕ) (m : Map) (c : Command) (k : Opcode
       ] refl
   success_served a left is none zero (inr u) = absurd (let clash : UNRECOVERED_ERROR ≡ 0 = sym (ap (λ (r : Reply). r.status) u.replied) ∙ zero in cc)
 
-  -- ---- a command that is refused exactly where its key is missing
+  -- ---- a command that is refused exactly if its key is missing
 
   pub there : (a : Reply) (left : Map) → op_of c.opcode ≡ Some k → refused shape most m c ≡ check (contains_key m (key c)) KEY_DOES_NOT_EXIST → a.status ≡ 0 → StepIn shape most frames m c a left
       → (contains_key m (key c) ≡ true) × ServedAs a left

@@ -74,7 +74,7 @@ module _ (shape : Shape) (most frames : ℕ) (m : Map) (own : List ℕ) (eleven 
 
 -- ---- no read error
 
--- it is none of these checks that tells of a read error
+-- none of these checks reports a read error
 abbrev IsOther : Option ℕ → Type 0
 IsOther None = Unit {0}
 IsOther (Some status) = status ≢ UNRECOVERED_ERROR

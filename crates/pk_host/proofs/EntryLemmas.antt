@@ -1,4 +1,4 @@
--- What holds of every entry of a map, behind one that is put in or taken away.
+-- What holds of every entry of a map, after one is put in or removed.
 use Rattle.std.proofs.Common.{◌≡◌, ℕ, ◌≤◌, refl, sym, ap, subst, ◌∙◌, true, false, cond, T, List, [], ◌∷◌, length, Option, Some, None}
 use Rattle.std.proofs.lemmas.List.{nil_from_length}
 use Rattle.std.specs.declared.cmp.Ordering.{Ordering}

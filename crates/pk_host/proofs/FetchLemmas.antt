@@ -9,7 +9,7 @@ use Rattle.pk_host.specs.Port.{PortState}
 use Rattle.pk_host.specs.declared.sizes.TheConstants.{FIRST_BYTES}
 use Rattle.pk_host.specs.Calls.{retrieve_of, AtMostOne, AreRetrieves, TookSome, Cuts, Gets}
 
--- a front that is no shorter than the value is the value
+-- a prefix that is no shorter than the value is the value
 front_whole : (value bytes : Option (List ℕ)) (whole most : ℕ) → bytes ≡ option_map (take most) value → Some whole ≡ option_map length value → whole ≤ most → bytes ≡ value
 front_whole None bytes whole most e w short = cc
 front_whole (Some value) bytes whole most e w short =

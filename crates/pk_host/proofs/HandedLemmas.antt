@@ -1,4 +1,4 @@
--- What a command is handed over with, and the room that it needs.
+-- What is passed with a command, and the room that it needs.
 use Rattle.std.proofs.Common.{◌≡◌, ℕ, ◌<◌, ◌^◌, sym, ap, subst, ◌∙◌, arith, List, length, Option, Some, None}
 use Rattle.pk_base.specs.Fields.{AreBytes}
 use Rattle.pk_base.specs.declared.sizes.TheConstants.{KEY_BYTES}

@@ -28,7 +28,7 @@ check_none : (b : Bool) (s : ℕ) → check b s ≡ None → b ≡ true
 check_none true s h = refl
 check_none false s h = cc
 
--- no other number stands for a Store
+-- no other number is that of a Store
 store_alone : (n : ℕ) → op_of n ≡ Some Store → (n == STORE) ≡ true
 store_alone n =
     elim (n == FLUSH) as (λ b. (if b then Some Flush else if n == STORE then Some Store else if n == RETRIEVE then Some Retrieve else if n == LIST then Some ListKeys else if n == DELETE then Some Delete else if n == EXIST then Some Exist else if n == TICK then Some Tick else if n == REPORT then Some Report else None) ≡ Some Store → (n == STORE) ≡ true) [
@@ -54,7 +54,7 @@ store_alone n =
       ]
     ]
 
--- ---- the map that is left
+-- ---- the map afterwards
 
 pub good_empty : (shape : Shape) → IsGood (holding shape empty)
 good_empty shape = let none = live-empty shape in record { sized = map_empty shape; few = omega (arith, none) }

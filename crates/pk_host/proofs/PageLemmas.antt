@@ -81,7 +81,7 @@ ok_only r e P is = subst (λ x. OnOk x P) (sym is) tt
 pub ok_never : {X E : Type 0} (r : Result X E) (e : E) (P : X → Type 0) → r ≡ Err e → IfOk r P
 ok_never r e P is = subst (λ x. IfOk x P) (sym is) tt
 
--- ---- a page and the keys behind it
+-- ---- a page and the keys after it
 
 fitting_rest : (room : ℕ) (ks : List Key) → (rest : List Key) × (ks ≡ fitting room ks ++ rest)
 fitting_rest room [] = ([], refl)
@@ -98,7 +98,7 @@ page_rest from m =
     let split = fitting_rest list_room (keys_from from m) in
     (above from split.0, sym (above_from from (keys m)) ∙ ap (above from) split.1 ∙ above-append from (fitting list_room (keys_from from m)) split.0)
 
--- ---- where a page is empty no key follows
+-- ---- if a page is empty no key follows
 
 room_for : (k : Key) → IsKey k → (room : ℕ) (ks : List Key) → 20 ≤ room → fitting room (k ∷ ks) ≡ k ∷ fitting (room - length (listed k)) ks
 room_for k h room ks wide =
@@ -147,7 +147,7 @@ follows_read old new from a each r short x zero read is = subst (λ y. IfOk y (�
     let split = page_rest from m in
     ap (λ (ks : List Key). nat_lt 0 (length ks)) page ∙ same_some (page_after from m) split.0 (above from (keys m)) (none_follows from m (knows_keys old new (list_of from) a x m told)) split.1)
 
--- behind a page are the keys above its last
+-- after a page come the keys above its last
 pub next_page : (from : Key) (m : Map) (front : List Key) (p : Key) → page_after from m ≡ front ++ p ∷ [] → above from (keys m) ≡ page_after from m ++ above p (keys m)
 next_page from m front p e =
     let split = page_rest from m in
@@ -159,7 +159,7 @@ next_page from m front p e =
 
 -- ---- all pages
 
--- the keys so far and those above the last of them are all keys, and the map is as it was
+-- the keys so far and those above the last of them are all keys, and the map is unchanged
 pub record IsListing (start now : PortState) (all : List Key) : Type 0 where
   pub leaves : Leaves start now (λ m. m)
   pub listed_keys : (m : Map) → start.map ≡ Some m → all ++ above (key_or_none (slice_get all (length all - 1))) (keys m) ≡ above [] (keys m)

@@ -84,7 +84,7 @@ abbrev pub Gives : {X : Type 0} → PortState → PortState → Command → (Rep
 Gives old new c of result =
     ((a : Reply) × Replies old new c a × (result ≡ of a)) ⊎ ((result ≡ Err Port) × Rose old.port_faults new.port_faults)
 
--- A call that only asks was refused with this status, that of a reply of which it makes no answer; where the map is told, a read failed.
+-- A call that only asks was refused with this status, that of a reply of which it makes no answer; if the map is known, a read failed.
 pub record IsRefusal {X : Type 0} (old new : PortState) (of : Reply → Result X HostError) (status : ℕ) : Type 0 where
   pub reply : Reply
   pub refused : of reply ≡ Err (Refused status)
@@ -99,11 +99,11 @@ IsCause old new of Memory = Unit {0}
 
 -- ---- what an answer says of the map
 
--- the map, where it is told, is left by f
+-- the map, if it is known, is changed by f
 abbrev pub Leaves : PortState → PortState → (Map → Map) → Type 0
 Leaves old new f = (m : Map) → old.map ≡ Some m → new.map ≡ Some (f m)
 
--- the key's value has this length, and its front stands in the buffer
+-- the key's value has this length, and a prefix of it is in the buffer
 abbrev pub IsFront : Option (List ℕ) → Option ℕ → List ℕ → Type 0
 IsFront None len into = len ≡ None
 IsFront (Some value) len into = (len ≡ Some (length value)) × (take (min (length value) (length into)) into ≡ take (length into) value)
@@ -123,7 +123,7 @@ Tests p key there = (m : Map) → p.map ≡ Some m → there ≡ contains_key m 
 abbrev pub Gets : PortState → Key → Option (List ℕ) → Type 0
 Gets p key value = (m : Map) → p.map ≡ Some m → value ≡ get m key
 
--- the first bytes of the value, so many at most, and its whole length
+-- the first bytes of the value, at most n, and its whole length
 abbrev pub Cuts : PortState → Key → ℕ → Option (List ℕ) → Option ℕ → Type 0
 Cuts p key most bytes whole = (m : Map) → p.map ≡ Some m → (bytes ≡ option_map (take most) (get m key)) × (whole ≡ option_map length (get m key))
 

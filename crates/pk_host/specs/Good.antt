@@ -1,4 +1,4 @@
--- What commands are handed over, and which maps they keep.
+-- What commands are passed, and which maps they keep.
 use Rattle.std.specs.Prelude.{◌≡◌, ◌≤◌, length}
 use Rattle.pk_base.specs.Fields.{AreBytes}
 use Rattle.pk_base.specs.Shape.{Shape, limit}

@@ -18,7 +18,7 @@ use Rattle.pk_host.specs.Port.{PortState}
 
 -- ---- reading
 
--- two bytes of length and as many of a key stand there
+-- two bytes of length and as many of a key are there
 abbrev pub has_key : List ℕ → Bool
 has_key bytes = nat_le 1 (u16_at bytes 0) && nat_le (u16_at bytes 0) KEY_BYTES && nat_le (2 + u16_at bytes 0) (length bytes)
 
@@ -26,12 +26,12 @@ has_key bytes = nat_le 1 (u16_at bytes 0) && nat_le (u16_at bytes 0) KEY_BYTES &
 abbrev pub first_key : List ℕ → Option Key
 first_key bytes = if has_key bytes then Some (take (u16_at bytes 0) (drop 2 bytes)) else None
 
--- a key, if there is one, and the keys behind it
+-- a key, if there is one, and the keys after it
 abbrev pub and_then : Option Key → (Key → List Key) → List Key
 and_then None rest = []
 and_then (Some key) rest = key ∷ rest key
 
--- so many keys, one after another, up to the first that is none
+-- n keys, one after another, up to the first that is none
 abbrev pub keys_in : ℕ → List ℕ → List Key
 keys_in zero bytes = []
 keys_in (suc n) bytes = and_then (first_key bytes) (λ key. keys_in n (drop (length (listed key)) bytes))
@@ -53,19 +53,19 @@ list_room = MOST_LIST_BYTES - COUNT_BYTES
 abbrev pub page_after : Key → Map → List Key
 page_after from m = above from (fitting list_room (keys_from from m))
 
--- the page, where the map is told
+-- the page, if the map is known
 abbrev pub Pages : PortState → Key → List Key → Type 0
 Pages p from page = (m : Map) → p.map ≡ Some m → page ≡ page_after from m
 
--- whether a key follows, where the map is told
+-- whether a key follows, if the map is known
 abbrev pub Follows : PortState → Key → Bool → Type 0
 Follows p from more = (m : Map) → p.map ≡ Some m → more ≡ nat_lt 0 (length (above from (keys m)))
 
--- the keys of a map that is told have 1 to 16 bytes
+-- the keys of a map that is known have 1 to 16 bytes
 abbrev pub TellsKeys : PortState → Type 0
 TellsKeys p = (m : Map) → p.map ≡ Some m → AllByRecursion IsKey (keys m)
 
--- all keys, where the map is told
+-- all keys, if the map is known
 abbrev pub ListsAll : PortState → List Key → Type 0
 ListsAll p all = (m : Map) → p.map ≡ Some m → all ≡ keys m
 

@@ -14,7 +14,7 @@ use Rattle.pk_model.specs.Answer.{map_after}
 use Rattle.pk_model.specs.Run.{StepIn}
 use Rattle.pk_host.specs.declared.types.Completed.{Completed}
 
--- the map of the drive, where it is told; its shape and its limit of live pages; and the counts of failed calls and failed reads
+-- the map of the drive, if it is known; its shape and its limit of live pages; and the counts of failed calls and failed reads
 pub record PortState : Type 0 where
   pub map : Option Map
   pub shape : Shape
@@ -22,14 +22,14 @@ pub record PortState : Type 0 where
   pub port_faults : ℕ
   pub read_faults : ℕ
 
--- a map of the drive's shape, and its values lie within the limit
+-- a map of the drive's shape, and its values are within the limit
 pub record IsWithin (p : PortState) (m : Map) : Type 0 where
   pub sized : IsMap p.shape m
   pub few : live p.shape m ≤ p.limit
 
 -- ---- one command
 
--- the bytes of the buffer that a command needs: for a front, for keys, for sixteen numbers
+-- the bytes of the buffer that a command needs: for a prefix, for keys, for sixteen numbers
 abbrev pub room_for : ℕ → Option Opcode → ℕ
 room_for size (Some Retrieve) = size
 room_for size (Some ListKeys) = size
@@ -39,7 +39,7 @@ room_for size _ = 0
 abbrev pub room_of : Command → ℕ
 room_of c = room_for c.size (op_of c.opcode)
 
--- from this map on: the reply is that of the definition, and so is the map that is left
+-- from this map on: the reply is that of the definition, and so is the map afterwards
 pub record Steps (old new : PortState) (c : Command) (a : Reply) (m : Map) : Type 0 where
   pub within : IsWithin old m
   pub frames : ℕ
@@ -54,7 +54,7 @@ pub record Replies (old new : PortState) (c : Command) (a : Reply) : Type 0 wher
   pub answers : (m : Map) → old.map ≡ Some m → Steps old new c a m
   pub unread : a.status ≡ UNRECOVERED_ERROR → Rose old.read_faults new.read_faults
 
--- the completion entry of that answer behind some number of entries, and its data in the front of the buffer
+-- the completion entry of that answer after some number of entries, and its data at the start of the buffer
 pub record Completes (old new : PortState) (c : Command) (done : Completed) (into : List ℕ) : Type 0 where
   pub head : ℕ
   pub reply : Reply
@@ -70,7 +70,7 @@ abbrev pub LeftBySome : Shape → ℕ → Map → List Command → Map → Type 
 LeftBySome shape most m [] m' = m' ≡ m
 LeftBySome shape most m (c ∷ cs) m' = LeftBySome shape most m cs m' ⊎ LeftBySome shape most (map_after shape most m c) cs m'
 
--- what stays, and what may have changed, where these commands took a port to another
+-- what is unchanged, and what may have changed, if these commands took a port to another
 pub record Took (old new : PortState) (cs : List Command) : Type 0 where
   pub shape : new.shape ≡ old.shape
   pub limit : new.limit ≡ old.limit

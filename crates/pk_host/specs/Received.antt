@@ -1,8 +1,8 @@
--- The reply that a completion tells.
+-- The reply that a completion reports.
 use Rattle.std.specs.Prelude.{ℕ, List, take}
 use Rattle.pk_nvme.specs.Reply.{Reply}
 use Rattle.pk_host.specs.declared.ask.Received.{Received}
 
--- with the data in the front of a buffer
+-- with the data at the start of a buffer
 abbrev pub replied : Received → List ℕ → Reply
 replied r into = record { status = r.status; result = r.result; data_bytes = take r.len into }

@@ -1,4 +1,4 @@
-//! One command, and the reply that its completion tells.
+//! One command, and the reply that its completion reports.
 ghost use Rattle.std.specs.Prelude.{◌≡◌, ◌≤◌, ℕ, List, [], ◌∷◌, length, take, IfOk, IfErr};
 ghost use Rattle.pk_nvme.specs.Command.{value_size};
 ghost use Rattle.pk_nvme.specs.Seen.{command_of};
@@ -21,7 +21,8 @@ pub struct Asked {
     pub options: u8,
 }
 
-/// What a completion tells: the status, the result, and how many bytes of data stand in the front of the buffer.
+/// What a completion reports: the status, the result, and how many bytes of data are at the start
+/// of the buffer.
 #[derive(Clone, Copy)]
 pub struct Received {
     pub status: u8,
@@ -48,7 +49,7 @@ fn request_of(asked: Asked, key: &[u8]) -> Request
     }
 }
 
-/// Hands over a command for these bytes of key, and tells the reply.
+/// Passes on a command for these bytes of key, and returns the reply.
 pub fn ask<P: Port>(
     port: &mut P,
     asked: Asked,

@@ -41,7 +41,7 @@ pub fn is_handed(entry: &[u8; SUBMISSION_BYTES], value: &[u8])
     are_bytes(value);
 }
 
-/// A status has 8 bits, and the number beside it 32. This computes nothing.
+/// A status has 8 bits, and the number next to it 32. This computes nothing.
 pub fn are_fields(status: u8, number: u32)
     ensures status { status < 256 }
     ensures number { number < 2 ^ 32 }

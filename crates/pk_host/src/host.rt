@@ -59,14 +59,16 @@ fn existed_by(status: u8) -> Result<bool, HostError>
 }
 
 impl Host {
-    /// A host with a buffer for the keys of one List, of 65,536 bytes; an error where the memory for it is missing.
+    /// A host with a buffer for the keys of one List, of 65,536 bytes; an error if the memory for
+    /// it is missing.
     pub fn new(alloc: Global) -> Result<Host, AllocError> {
         Ok(Host {
             buffer: Vec::from_elem(alloc, 0, MOST_LIST_BYTES as usize)?,
         })
     }
 
-    /// Stores a value under a key, by a rule. `Refused` with what the drive answers, `Port` where the port failed.
+    /// Stores a value under a key, by a rule. `Refused` with what the drive answers, `Port` if the
+    /// port failed.
     pub fn store<P: Port>(
         &mut self,
         port: &mut P,
@@ -95,8 +97,8 @@ impl Host {
         }
     }
 
-    /// The whole length of the value of a key in bytes, with its front in the buffer; `None` where the key is missing. `Refused`
-    /// where a read failed, `Port` where the port did.
+    /// The whole length of the value of a key in bytes, with its first bytes in the buffer; `None`
+    /// if the key is missing. `Refused` if a read failed, `Port` if the port did.
     pub fn retrieve<P: Port>(
         &mut self,
         port: &mut P,
@@ -125,7 +127,7 @@ impl Host {
         }
     }
 
-    /// Takes a key away; false where it is missing. `Refused` where a read failed, `Port` where the port did.
+    /// Deletes a key; false if it is missing. `Refused` if a read failed, `Port` if the port did.
     pub fn delete<P: Port>(&mut self, port: &mut P, key: &Key) -> Result<bool, HostError>
         ensures gives { Gives (P.state port.old) (P.state port.new) (delete_of key.now)
             existed result }
@@ -145,7 +147,7 @@ impl Host {
         }
     }
 
-    /// Whether a key is there. `Refused` where a read failed, `Port` where the port did.
+    /// Whether a key exists. `Refused` if a read failed, `Port` if the port did.
     pub fn exist<P: Port>(&mut self, port: &mut P, key: &Key) -> Result<bool, HostError>
         ensures gives { Gives (P.state port.old) (P.state port.new) (exist_of key.now)
             existed result }
@@ -173,18 +175,18 @@ impl Host {
     ) -> Result<bool, HostError>
         requires { length from.now ≤ KEY_BYTES }
 
-        // The page of keys, and what it tells of the drive's.
+        // The page of keys, and what it says of the drive's.
         ensures gives { Gives (P.state port.old) (P.state port.new) (list_of from.now)
             (listed_by page.new) result }
         ensures pages { OnOk result (Pages (P.state port.old) from.now page.new) }
         ensures follows { IfOk result (λ more. Follows (P.state port.old) from.now more) }
         ensures known { OnOk result (TellsKeys (P.state port.old)) }
 
-        // What the page has in any case: keys above these bytes, and none where the call failed.
+        // What the page has in any case: keys above these bytes, and none if the call failed.
         ensures above { AllByRecursion (IsBelow from.now) page.new }
         ensures empty { OnErr result (page.new ≡ []) }
 
-        // The map stays, and the port took this one command.
+        // The map is unchanged, and the port took this one command.
         ensures leaves { Leaves (P.state port.old) (P.state port.new) (λ m. m) }
         ensures took { P.took port.old (list_of from.now ∷ []) port.new }
     {

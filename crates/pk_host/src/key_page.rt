@@ -27,7 +27,8 @@ impl Model for KeyPage {
 }
 
 impl KeyPage {
-    /// No key, and room for 16,384, more than a List gives; an error where the memory for them is missing.
+    /// No key, and room for 16,384, more than a List gives; an error if the memory for them is
+    /// missing.
     pub fn new(alloc: Global) -> Result<KeyPage, AllocError>
         ensures { IfOk result (λ p. p ≡ []) }
     {

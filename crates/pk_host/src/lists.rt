@@ -14,7 +14,7 @@ use crate::types::HostError;
 use pk_base::{KEY_BYTES, Key};
 use std::alloc::Global;
 
-/// The bytes of a key; none where there is no key.
+/// The bytes of a key; none if there is no key.
 fn start_bytes(from: Option<&Key>) -> &[u8]
     ensures bytes { result.now ≡ key_or_none (option_copied from.entry) }
     ensures short { length result.now ≤ KEY_BYTES }
@@ -25,7 +25,8 @@ fn start_bytes(from: Option<&Key>) -> &[u8]
     }
 }
 
-/// Adds the keys of a page to a list and answers true; false where memory is missing, and then only some were added.
+/// Adds the keys of a page to a list and returns true; false if memory is missing, and then only
+/// some were added.
 fn add(all: &mut Vec<Key>, page: &KeyPage) -> bool
     ensures { result ≡ true → all.new.items ≡ all.old.items ++ page.now }
 {
@@ -39,8 +40,9 @@ fn add(all: &mut Vec<Key>, page: &KeyPage) -> bool
 }
 
 impl Host {
-    /// Fills a page with the keys after this one, from the first where there is none, as many as one List of 65,536 bytes gives;
-    /// false exactly where no key follows, with an empty page. `Refused` where a read failed, `Port` where the port did.
+    /// Fills a page with the keys after this one, from the first if there is none, as many as one
+    /// List of 65,536 bytes gives; false exactly if no key follows, with an empty page. `Refused`
+    /// if a read failed, `Port` if the port did.
     pub fn list_page<P: Port>(
         &mut self,
         port: &mut P,
@@ -70,7 +72,8 @@ impl Host {
         self.page_from(port, start_bytes(from), page)
     }
 
-    /// Every key, rising. `Refused` where a read failed, `Port` where the port did, `Memory` where it is missing for the keys.
+    /// Every key, rising. `Refused` if a read failed, `Port` if the port did, `Memory` if it is
+    /// missing for the keys.
     pub fn list_all<P: Port>(&mut self, alloc: Global, port: &mut P) -> Result<Vec<Key>, HostError>
         ensures lists { IfOk result (λ all. ListsAll (P.state port.old) all.items) }
         ensures causes { IfErr result (λ e. IsCause (P.state port.old) (P.state port.new)
@@ -83,7 +86,8 @@ impl Host {
             Err(_) => return Err(HostError::Memory),
         };
         let mut all = Vec::new(alloc);
-        // It ends with the first page that is empty; the count stands for a measure, and no map has so many pages.
+        // It ends with the first page that is empty; the count serves as a measure, and no map has
+        // that many pages.
         for _ in 0..u64::MAX {
             match self.list_page(port, all.last(), &mut page) {
                 Err(error) => return Err(error),

@@ -8,7 +8,7 @@ ghost use Rattle.pk_host.specs.Port.{PortState, Completes, Took, room_of};
 use crate::types::{Completed, PortFault};
 use pk_nvme::SUBMISSION_BYTES;
 
-/// A drive that answers each command before the next is handed over.
+/// A drive that answers each command before the next is passed.
 pub trait Port {
     /// What a host sees of it.
     ghost state: { Self → PortState };
@@ -16,8 +16,9 @@ pub trait Port {
     /// These commands took the port before to the port after.
     ghost took: { Self → List Command → Self → Type 0 };
 
-    /// Hands over a submission entry in the drive's namespace, with the value of a Store; the data of the answer come into the
-    /// front of the buffer, which has the bytes that the entry names (`REPORT_BYTES` for a Report). An error only where `port_faults` rose.
+    /// Passes on a submission entry in the drive's namespace, with the value of a Store; the data
+    /// of the answer are put at the start of the buffer, which has the bytes that the entry names
+    /// (`REPORT_BYTES` for a Report). An error only if `port_faults` rose.
     fn submit(
         &mut self,
         entry: &[u8; SUBMISSION_BYTES],
@@ -33,7 +34,7 @@ pub trait Port {
             (Rose (state self.old).port_faults (state self.new).port_faults) }
         ensures took { took self.old (command entry.now value.now ∷ []) self.new };
 
-    /// What stays and what may have changed.
+    /// What is unchanged and what may have changed.
     ghost took_state: { (p : Self) (cs : List Command) (q : Self)
         → took p cs q → Took (state p) (state q) cs };
 

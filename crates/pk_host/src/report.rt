@@ -11,7 +11,8 @@ use pk_nvme::opcode::REPORT;
 use pk_nvme::status::SUCCESSFUL_COMPLETION;
 
 impl Host {
-    /// The numbers of a Report, each in four bytes, the lowest first. `Refused` where a read failed, `Port` where the port did.
+    /// The numbers of a Report, each in four bytes, the lowest first. `Refused` if a read failed,
+    /// `Port` if the port did.
     pub fn report<P: Port>(
         &mut self,
         port: &mut P,

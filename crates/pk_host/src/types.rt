@@ -8,11 +8,11 @@ use thiserror::Error;
 pub struct Completed {
     /// The completion entry.
     pub entry: [u8; COMPLETION_BYTES],
-    /// How many bytes of data stand in the front of the buffer.
+    /// How many bytes of data are at the start of the buffer.
     pub data_len: u32,
 }
 
-/// The port failed. Its count of faults tells.
+/// The port failed. Its count of faults shows it.
 #[derive(Clone, Copy, Debug, PartialEq, Eq)]
 pub struct PortFault;
 
@@ -21,9 +21,9 @@ pub struct PortFault;
 pub enum StoreRule {
     /// Always.
     Any,
-    /// Only where the key exists.
+    /// Only if the key exists.
     IfExists,
-    /// Only where the key is missing.
+    /// Only if the key is missing.
     IfAbsent,
 }
 

@@ -10,7 +10,7 @@ use crate::types::HostError;
 use pk_base::Key;
 use std::alloc::Global;
 
-/// The front of a value, and the length of the value.
+/// A prefix of a value, and the length of the value.
 #[derive(Drop)]
 struct Front {
     bytes: Vec<u8>,
@@ -18,8 +18,8 @@ struct Front {
 }
 
 impl Host {
-    /// The whole value of a key; `None` where the key is missing. `Refused` where a read failed, `Port` where the port did, `Memory`
-    /// where it is missing for the value.
+    /// The whole value of a key; `None` if the key is missing. `Refused` if a read failed, `Port`
+    /// if the port did, `Memory` if it is missing for the value.
     pub fn retrieve_whole<P: Port>(
         &mut self,
         alloc: Global,
@@ -45,7 +45,7 @@ impl Host {
         }
     }
 
-    /// The first bytes of the value of a key, so many at most.
+    /// The first bytes of the value of a key, at most this many.
     fn again<P: Port>(
         &mut self,
         alloc: Global,
@@ -67,7 +67,7 @@ impl Host {
         }
     }
 
-    /// The front of the value of a key, at most so many bytes, and the whole length.
+    /// The first bytes of the value of a key, at most this many, and the whole length.
     fn front<P: Port>(
         &mut self,
         alloc: Global,

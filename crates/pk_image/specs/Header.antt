@@ -26,7 +26,7 @@ named_shape bytes = record { page_bytes = u32_at bytes 8; block_pages = u32_at b
 abbrev pub is_shape : Shape → Bool
 is_shape shape = is_ok (checked shape)
 
--- a file of so many bytes has this shape
+-- a file of n bytes has this shape
 abbrev pub has_size : Shape → ℕ → Bool
 has_size shape size = is_shape shape && (size == file_size shape)
 

@@ -11,11 +11,11 @@ use Rattle.pk_image.specs.Header.{named_shape, header_fault, IsHeader}
 
 -- ---- places
 
--- the state bytes stand behind the header, one for each page
+-- the state bytes follow the header, one for each page
 abbrev pub state_place : ℕ → ℕ
 state_place page = HEADER_BYTES + page
 
--- the pages stand behind the state bytes
+-- the pages follow the state bytes
 abbrev pub page_place : Shape → ℕ → ℕ
 page_place shape page = HEADER_BYTES + page_count shape + page * shape.page_bytes
 
@@ -32,7 +32,7 @@ state_byte erased = ERASED
 state_byte (whole bytes) = WHOLE
 state_byte torn = TORN
 
--- These bytes stand where a page has its place: its own where it is whole, else any.
+-- These bytes are at the place of a page: its own if it is whole, otherwise any.
 abbrev pub StandsFor : Page → List ℕ → Type 0
 StandsFor erased bytes = Unit {0}
 StandsFor (whole own) bytes = own ≡ bytes
@@ -55,7 +55,7 @@ page_by byte bytes = if byte == ERASED then erased else if byte == WHOLE then wh
 abbrev pub page_in_file : Shape → List ℕ → ℕ → Page
 page_in_file shape file k = page_by (slice_index file (state_place k)) (take shape.page_bytes (drop (page_place shape k) file))
 
--- so many pages of a file from this one on
+-- n pages of a file from this one on
 abbrev pub pages_in_file : Shape → List ℕ → ℕ → ℕ → Flash
 pages_in_file shape file k zero = []
 pages_in_file shape file k (suc n) = page_in_file shape file k ∷ pages_in_file shape file (k + 1) n
@@ -66,7 +66,7 @@ flash_in_file shape file = pages_in_file shape file 0 (page_count shape)
 
 -- ---- the first wrong field
 
--- the first of these state bytes that is none, where they begin at a place
+-- the first of these state bytes that is none, if they begin at a place
 abbrev pub bad_state : ℕ → List ℕ → Option ℕ
 bad_state at [] = None
 bad_state at (byte ∷ bytes) = if nat_le byte TORN then bad_state (at + 1) bytes else Some at

@@ -9,7 +9,7 @@ use pk_base::{
 };
 use thiserror::Error;
 
-/// The bytes of a header; the state bytes stand behind it.
+/// The bytes of a header; the state bytes follow it.
 pub const HEADER_BYTES: usize = 32;
 
 const MAGIC: [u8; 8] = *b"PINKIMG1";

@@ -1,6 +1,6 @@
-//! Image files: their header, the state byte of each page, and the places of both.
-//! A header is read exactly where it is one, and else refused at its first wrong field.
-//! Two laws say that a file without a wrong byte is the image of the pages that are read of it, and of no others.
+//! Image files: their header, the state byte of each page, and the places of both. A header is read
+//! exactly if it is one, and otherwise refused at its first wrong field. Two laws say that a file
+//! without a wrong byte is the image of the pages that are read of it, and of no others.
 #![tactic(auto)]
 
 mod head;

@@ -1,4 +1,4 @@
--- How many calls of the flash a List makes.
+-- How many flash operations a List makes.
 use Rattle.std.proofs.Common.{◌≡◌, ℕ, suc, ◌<◌, ◌≤◌, ap, subst, arith, List, [], ◌∷◌, length}
 use Rattle.std.specs.Prelude.{slice_index_or}
 use Rattle.pk_base.specs.Shape.{Shape, cap, most_calls}

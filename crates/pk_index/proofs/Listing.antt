@@ -126,7 +126,7 @@ pub lists_last : (all : List Key) (room : ℕ) (into new : List ℕ) (at : Fille
 lists_last all room into new at [] later l o = subst (λ (ys : List ℕ). ListsAll all room ys at) (sym o.1) (lists_stop all room into at [] refl l)
 lists_last all room into new at (x ∷ rest) later l o = subst (λ (ys : List ℕ). ListsAll all room ys at) (sym o.0.1) (lists_stop all room into at (x.0 ∷ keys_of rest) (fits_none (room - at.end) x.0 (keys_of rest) o.0.0) l)
 
--- ---- the number of keys in front
+-- ---- the number of keys at the start
 
 pub list_done : (all : List Key) (room : ℕ) (into new : List ℕ) (at : Filled) → ListsAll all room into at → take 4 new ≡ u32 at.count → drop 4 new ≡ drop 4 into → take at.end new ≡ list_bytes (fitting (room - 4) all)
 list_done all room into new at l front back =
@@ -137,7 +137,7 @@ list_done all room into new at l front back =
     ∙ (λ i. u32 (l.count_is i) ++ sym (drop-take 4 rest into) i)
     ∙ ap (λ (xs : List ℕ). u32 (length (fitting (room - 4) all)) ++ xs) (ap (λ (n : ℕ). drop 4 (take n into)) (sym l.end_is) ∙ l.bytes)
 
--- ---- what is left of a walk
+-- ---- what remains of a walk
 
 pub left_once : (w : Walk) (flash : Flash) (arena : Frames) (rs : List Kept) (active frozen : List Entry) (a b : List (Key × Place)) → IsLeft w flash arena rs active frozen a → IsLeft w flash arena rs active frozen b → a ≡ b
 left_once w flash arena rs active frozen a b one other =
@@ -199,7 +199,7 @@ gives_none into at room (x ∷ rest) later gives = absurd gives
 
 -- ---- the loop
 
--- A front of the keys that were left first is listed, and those behind it are left.
+-- A prefix of the keys that remained at first is listed, and those after it remain.
 pub record Fills (rs : List Kept) (arena : Frames) (active frozen : List Entry) (shape : Shape) (old now : BoardState) (first w : Walk) (room : ℕ) (start into : List ℕ) (at : Filled) : Type 0 where
   pub all : List (Key × Place)
   pub all_left : IsLeft first old.pages arena rs active frozen all

@@ -36,7 +36,7 @@ counted_is : (k n : ℕ) → n ≤ last_count → counted_by k n ≡ min (n + k)
 counted_is zero n few = omega (arith, few)
 counted_is (suc k) n few = ap counted (counted_is k n few) ∙ omega (arith, few)
 
--- the count of a board, before and behind reads
+-- the count of a board, before and after reads
 pub reads_between : (most : ℕ) (old new : BoardState) → old.reads ≤ last_count → most ≤ 4000000 → Reads 0 most old new → (old.reads ≤ new.reads) × (new.reads < old.reads + 4294967296)
 reads_between most old new few bound reads =
     let count : new.reads ≡ min (old.reads + reads.0) last_count = ap (λ (b : BoardState). b.reads) reads.2 ∙ counted_is reads.0 old.reads few in

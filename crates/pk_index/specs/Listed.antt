@@ -1,4 +1,4 @@
--- The data of a List: keys that stand behind their number in a buffer.
+-- The data of a List: keys that follow their number in a buffer.
 use Rattle.std.specs.Prelude.{◌≡◌, ◌⊎◌, false, ℕ, ◌+◌, ◌-◌, ◌<◌, ◌≤◌, List, [], ◌∷◌, ◌++◌, length, take, drop, map, flat_map, not, filter, Option, Some, None}
 use Rattle.std.specs.Ordering.{is_lt}
 use Rattle.pk_nvme.specs.declared.limits.TheConstants.{COUNT_BYTES, MOST_LIST_BYTES}
@@ -36,12 +36,12 @@ OffersKey old at room key None new = (room - at.end < length (listed key)) × (n
 OffersKey old at room key (Some next) new =
     (next ≡ record at { end = at.end + length (listed key); count = at.count + 1 }) × (next.end ≤ room) × (take next.end new ≡ take at.end old ++ listed key)
 
--- so it was of the first key that is left, if there is one; and these are left
+-- the same of the first key that remains, if there is one; and these remain
 abbrev pub OffersFirst : List ℕ → Filled → ℕ → List (Key × Place) → Option Filled → List ℕ → List (Key × Place) → Type 0
 OffersFirst old at room [] next new later = (next ≡ None) × (new ≡ old)
 OffersFirst old at room (x ∷ rest) next new later = OffersKey old at room x.0 next new × (later ≡ rest)
 
--- there is room for so many bytes as it says, in a buffer of this size
+-- there is room for as many bytes as it says, in a buffer of this size
 pub record IsFilled (at : Filled) (size : ℕ) : Type 0 where
   pub within : at.end ≤ at.room
   pub few : at.count ≤ at.end
@@ -67,14 +67,14 @@ pub record Walked (before after : Walk) (old new : BoardState) (levels : Levels)
   pub ready : IsReady new levels.shape
   pub few_read : pages_read levels.runs after.cursors ≤ most_read levels.runs
 
--- whatever was left: the first key of it was written, or there is no room for it
+-- whatever remained: the first key of it was written, or there is no room for it
 abbrev pub OffersNext : Walk → Walk → BoardState → BoardState → Levels → Frames → LogState → Filled → Option Filled → List ℕ → List ℕ → Type 0
 OffersNext before after old new levels arena log at next into into' =
     (rest : List (Key × Place)) → IsLeft before old.pages arena levels.runs log.active.entries log.frozen.entries rest
     → (later : List (Key × Place)) × OffersFirst into at at.room rest next into' later
     × IsLeft after new.pages arena levels.runs log.active.entries log.frozen.entries later
 
--- A front of all the keys stands behind the bytes of their count, and the others are left.
+-- A prefix of all the keys is in the buffer after the bytes of their count, and the others remain.
 pub record Lists (all : List Key) (room : ℕ) (into : List ℕ) (at : Filled) (left : List Key) : Type 0 where
   pub done : List Key
   pub count_is : at.count ≡ length done
@@ -82,7 +82,7 @@ pub record Lists (all : List Key) (room : ℕ) (into : List ℕ) (at : Filled) (
   pub bytes : drop COUNT_BYTES (take at.end into) ≡ flat_map listed done
   pub fits : fitting (room - COUNT_BYTES) all ≡ done ++ fitting (room - at.end) left
 
--- the keys that fit stand there
+-- the keys that fit are there
 pub record ListsAll (all : List Key) (room : ℕ) (into : List ℕ) (at : Filled) : Type 0 where
   pub count_is : at.count ≡ length (fitting (room - COUNT_BYTES) all)
   pub end_is : at.end ≡ COUNT_BYTES + length (flat_map listed (fitting (room - COUNT_BYTES) all))

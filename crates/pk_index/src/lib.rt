@@ -1,7 +1,7 @@
-//! What the index of a drive tells: the entry that counts of a key, and the keys from one on.
+//! What the index of a drive answers: the entry that counts of a key, and the keys from one on.
 //!
-//! The index is the buffers of the log and the runs of the levels. Nothing is changed: only pages of runs are read, and a call
-//! that fails can be made again.
+//! The index is the buffers of the log and the runs of the levels. Nothing is changed: only pages
+//! of runs are read, and a call that fails can be made again.
 #![tactic(auto)]
 
 mod counts;

@@ -68,7 +68,7 @@ fn put_bytes(into: &mut [u8], at: usize, key: &[u8])
     }
 }
 
-// Writes so many zeros; two of them, as behind a key of 16 bytes, at once.
+// Writes `count` zeros; two of them, as after a key of 16 bytes, at once.
 fn put_padding(into: &mut [u8], at: usize, count: usize)
     requires { at + count ≤ length into.old }
     ensures front { take (at + count) into.new ≡ take at into.old ++ replicate count 0 }
@@ -81,8 +81,8 @@ fn put_padding(into: &mut [u8], at: usize, count: usize)
     }
 }
 
-// Writes one more key, where it fits into the room; a whole one by itself, whose sizes are all
-// numbers then, which is faster.
+// Writes one more key, if it fits into the room; a whole one by itself, whose sizes are all numbers
+// then, which is faster.
 fn put_key(into: &mut [u8], at: Filled, key: &Key) -> Option<Filled>
     requires filled { IsFilled at (length into.old) }
     ensures offers { OffersKey into.old at at.room key.now result into.new }
@@ -96,7 +96,7 @@ fn put_key(into: &mut [u8], at: Filled, key: &Key) -> Option<Filled>
     }
 }
 
-// Writes the bytes of one more key, where they fit into the room.
+// Writes the bytes of one more key, if they fit into the room.
 #[inline(always)]
 fn put_one(into: &mut [u8], at: Filled, key: &[u8]) -> Option<Filled>
     requires key { IsKey key.now }
@@ -116,7 +116,7 @@ fn put_one(into: &mut [u8], at: Filled, key: &[u8]) -> Option<Filled>
     })
 }
 
-// Writes the key to which the walk comes next, where there is one and it fits into the room.
+// Writes the next key of the walk, if there is one and it fits into the room.
 fn put_next<B: Nand, A: Region>(
     walk: &mut Walk<A>,
     board: &mut B,
@@ -148,7 +148,7 @@ fn put_next<B: Nand, A: Region>(
     }
 }
 
-// Writes the keys that are left, behind the bytes of their count, as many as fit into the room.
+// Writes the keys that remain, after the bytes of their count, as many as fit into the room.
 fn put_left<B: Nand, A: Region>(
     walk: &mut Walk<A>,
     board: &mut B,
@@ -192,7 +192,7 @@ fn put_left<B: Nand, A: Region>(
     }
 }
 
-// Begins a walk at a key; at the first key of all where this one is empty.
+// Begins a walk at a key; at the first key of all if this one is empty.
 fn start_walk<A: Region>(walk: &mut Walk<A>, from: &[u8])
     requires key { length from.now ≤ KEY_BYTES }
     ensures shape { walk.new.shape ≡ walk.old.shape }
@@ -210,7 +210,7 @@ fn start_walk<A: Region>(walk: &mut Walk<A>, from: &[u8])
     }
 }
 
-// The pages of all runs are few: it does nothing, and tells the proof of a List so.
+// Ghost: the pages of all runs are few, a fact that this makes visible to the proof of a List.
 fn few_pages<A: Region>(levels: &Levels<A>)
     ensures few { most_read levels.now.runs ≤ 4000000 }
     ensures within { most_read levels.now.runs < most_calls levels.now.shape }
@@ -222,8 +222,9 @@ fn few_pages<A: Region>(levels: &Levels<A>)
     levels.run(4).known();
 }
 
-/// Answers a List that passed the checks that read it alone: the number of keys that are there from the one that it names on, and
-/// as many of them as fit into its size, of which no more than `MOST_LIST_BYTES` count; `UNRECOVERED_ERROR` without data where a read fails.
+/// Returns a List that passed the checks that read it alone: the number of keys that exist from the
+/// one that it names on, and as many of them as fit into its size, of which no more than
+/// `MOST_LIST_BYTES` count; `UNRECOVERED_ERROR` without data if a read fails.
 pub fn answer_list<B: Nand, A: Region>(
     walk: &mut Walk<A>,
     board: &mut B,
@@ -249,7 +250,7 @@ pub fn answer_list<B: Nand, A: Region>(
     ensures few { FewCalls (most_calls levels.now.shape) (B.state board.old) (B.state board.new) }
     ensures fits { result.data_len ≤ length into.new }
 
-    // What stays.
+    // What is unchanged.
     ensures walked { Walked walk.old walk.new (B.state board.old) (B.state board.new) levels.now }
     ensures len { length into.new ≡ length into.old }
 {

@@ -14,8 +14,9 @@ use pk_nand::{Fault, Nand};
 use pk_pin::PinArena;
 use pk_region::Region;
 
-/// The entry that counts of a key: that of the active buffer, else of the frozen one, else of the first run that has one. `Reading`
-/// where a read fails. `buf` has a page's bytes, which are lost.
+/// The entry that counts of a key: that of the active buffer, otherwise of the frozen one,
+/// otherwise of the first run that has one. `Reading` if a read fails. `buf` has the size of a page
+/// and is overwritten.
 pub fn find_entry<B: Nand, A: Region>(
     log: &Log<A>,
     levels: &Levels<A>,

@@ -154,7 +154,7 @@ module _ (e : JournalEpoch) (flash : Flash) (es : List Entry) (bytes : List ℕ)
         let below : (j : ℕ) → j < e.used → HasCommit e.shape cut e.blocks j = λ j less. let w = fits.before j less in (w.0, ap (λ (p : ℕ × Page). p.1) (same_commit j (omega (arith, less, inside)) (inl less)) ∙ w.1) in
         below_more (λ (j : ℕ). HasCommit e.shape cut e.blocks j) e.used below (bytes, read_here here) j (omega (arith, small))
 
-    -- behind the first program
+    -- after the first program
     EpochOnFlash-half : page_at cut (next_page e) ≡ whole bytes → page_at cut (next_page e + 1) ≡ erased → EpochOnFlash (record e { used = e.used + 1; half = true }) cut
     EpochOnFlash-half here there = record {
       two = fits.two;
@@ -179,7 +179,7 @@ module _ (e : JournalEpoch) (flash : Flash) (es : List Entry) (bytes : List ℕ)
       elim_low (inl less) low = less
       elim_low (inr past) low = absurd (omega (arith, past, low))
 
-    -- behind both
+    -- after both
     EpochOnFlash-both : page_at cut (next_page e) ≡ whole bytes → page_at cut (next_page e + 1) ≡ whole bytes → EpochOnFlash (record e { used = e.used + 1; half = false }) cut
     EpochOnFlash-both here there = record {
       two = fits.two;

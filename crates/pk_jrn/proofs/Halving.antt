@@ -63,11 +63,11 @@ module _ (e : JournalEpoch) (board : BoardState) (es : List Entry) (bytes : List
 
 -- ---- the second program
 
--- the last commit may be made where it is begun
+-- the last commit may be made if it is begun
 pub before_left : (e : JournalEpoch) → 1 ≤ e.used → e.used ≤ epoch_commits e.shape → e.takes_more ≡ true → 0 < left_of (before_half e)
 before_left e some within more = rw more (omega (arith, some, within))
 
--- it is the epoch behind the commit
+-- it is the epoch after the commit
 same_epoch : (e : JournalEpoch) → 1 ≤ e.used → record (before_half e) { used = (before_half e).used + 1; half = false } ≡ record e { half = false }
 same_epoch e some = let back : e.used - 1 + 1 ≡ e.used = omega (arith, some) in λ i. record e { used = back i; half = false }
 
@@ -79,7 +79,7 @@ module _ (e : JournalEpoch) (board : BoardState) (es : List Entry) (former : Fla
   left : 0 < left_of b
   left = before_left e half.some half.fits.within half.more
 
-  -- the page that is left is the next of its block
+  -- the page that remains is the next of its block
   pub again_in_order : InOrder e.shape board.pages (next_page b + 1)
   again_in_order =
       let within = half.fits.within in

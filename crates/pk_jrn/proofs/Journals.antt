@@ -79,7 +79,7 @@ module _ (shape : Shape) (number : ℕ) where
               let test : nat_le (length (firsts (before ++ es))) (buffer shape) ≡ false = grind (arith, nat_tests) in
               rw test refl
 
-      -- where all is read, its entries are there
+      -- if all is read, its entries are there
       went_on : (all : List Entry) → journal shape number index before (commits_of shape at blocks index (suc n)) ≡ Ok all
           → (es : List Entry) × (journal_entries shape number index bytes ≡ Some es) × (nat_le (length (firsts (before ++ es))) (buffer shape) ≡ true)
           × (journal shape number (index + 1) (before ++ es) (commits_of shape at blocks (index + 1) n) ≡ Ok all)
@@ -96,7 +96,7 @@ module _ (shape : Shape) (number : ℕ) where
           passed true u e = refl
           passed false u e = cc
 
-    -- Where so many commits have a page that is Whole and the next has none, another flash with the same commits is read on behind the same entries.
+    -- If n commits have a page that is Whole and the next has none, another flash with the same commits is read on after the same entries.
     pub reads_on : (at at' : ℕ → Page) (n rest index : ℕ) (before all : List Entry)
         → ((j : ℕ) → index ≤ j → j < index + n → (bytes : List ℕ) × ((commit_at shape at blocks j).1 ≡ whole bytes))
         → ((j : ℕ) → index ≤ j → j < index + n → commit_at shape at' blocks j ≡ commit_at shape at blocks j)
@@ -136,7 +136,7 @@ commits_from_same : (shape : Shape) (at at' : ℕ → Page) (blocks : List ℕ) 
 commits_from_same shape at at' blocks i zero same = refl
 commits_from_same shape at at' blocks i (suc n) same = λ k. same i (le_refl i) (omega arith) k ∷ commits_from_same shape at at' blocks (i + 1) n (λ j low high. same j (omega arith) (omega arith)) k
 
--- where the blocks are the same, what is read is the same
+-- if the blocks are the same, what is read is the same
 pub reads_same : (shape : Shape) (number : ℕ) (blocks : List ℕ) (old new : Flash) → IsShape shape → length blocks ≡ 2 → SameBlocks shape blocks old new → epoch shape (page_at new) number blocks ≡ epoch shape (page_at old) number blocks
 reads_same shape number blocks old new is two same =
     epoch_is shape (page_at new) number blocks (epoch_commits shape) is two refl

@@ -13,7 +13,7 @@ use Rattle.pk_nand.specs.Crash.{SameOutside}
 use Rattle.pk_jrn.specs.Epochs.{JournalEpoch, EpochOnFlash, AllExist, AreErased, next_page, pages_of}
 use Rattle.pk_jrn.specs.Laws.{SameBlocks}
 
--- the rows of block a end where those of a later block begin, or before
+-- the rows of block a end if those of a later block begin, or before
 pub apart : (a b n : ℕ) → a < b → a * n + n ≤ b * n
 apart a b n h = omega (arith, mul-le-mul_right {m = suc a} {n = b} n (omega arith), suc-mul a n)
 
@@ -29,7 +29,7 @@ module _ (shape : Shape) (blocks : List ℕ) where
         let r = rest shape blocks index inside in
         omega (arith, end, r)
 
--- the page at a place of an epoch is the next of its block where those before it are programmed, and it and those behind it are Erased
+-- the page at a place of an epoch is the next of its block if those before it are programmed, and it and those after it are Erased
 pub InOrder-place : (shape : Shape) (blocks : List ℕ) (flash : Flash) (u : ℕ) → u < epoch_pages shape → ((j : ℕ) → j < u → page_at flash (page_in shape blocks j) ≢ erased)
     → ((j : ℕ) → u ≤ j → j < epoch_pages shape → page_at flash (page_in shape blocks j) ≡ erased) → InOrder shape flash (page_in shape blocks u)
 InOrder-place shape blocks flash u inside filled free =
@@ -60,11 +60,11 @@ InOrder-next_page e flash more whole_made inside fits =
 
 -- ---- pages of the two blocks
 
--- where the blocks are Erased, each page of the epoch is
+-- if the blocks are Erased, each page of the epoch is
 pub pages_erased : (shape : Shape) (flash : Flash) (blocks : List ℕ) (j : ℕ) → AreErased shape flash blocks → j < epoch_pages shape → page_at flash (page_in shape blocks j) ≡ erased
 pages_erased shape flash blocks j all small = all (j / shape.block_pages) (half shape blocks j small) (page_in shape blocks j) (low shape blocks j small) (high shape blocks j small)
 
--- where the blocks are the same, each page of the epoch is
+-- if the blocks are the same, each page of the epoch is
 pub pages_same : (shape : Shape) (blocks : List ℕ) (old new : Flash) (j : ℕ) → SameBlocks shape blocks old new → j < epoch_pages shape → page_at new (page_in shape blocks j) ≡ page_at old (page_in shape blocks j)
 pages_same shape blocks old new j same small = same (j / shape.block_pages) (half shape blocks j small) (page_in shape blocks j) (low shape blocks j small) (high shape blocks j small)
 

@@ -25,7 +25,7 @@ pub puts-append : (es fs table : List Entry) → puts (es ++ fs) table ≡ puts 
 puts-append [] fs table = refl
 puts-append (x ∷ es) fs table = puts-append es fs (put key_cmp x.0 x.1 table)
 
--- behind writes of earlier entries, the table is that of all of them
+-- after writes of earlier entries, the table is that of all of them
 pub puts_are_firsts : (before es : List Entry) → puts es (firsts (reverse before)) ≡ firsts (reverse (before ++ es))
 puts_are_firsts before [] = ap (λ x. firsts (reverse x)) (sym (append-nil before))
 puts_are_firsts before (e ∷ es) =
@@ -60,7 +60,7 @@ puts_grow (e ∷ es) table up =
 pub put_new : (k : Key) (v : Option Place) (table : List Entry) → T (is_sorted key_cmp table) → find key_cmp k table ≡ None → length (put key_cmp k v table) ≡ length table + 1
 put_new k v table up none = length-put key_cmp nat_list_cmp_total k v table up ∙ ap (λ (o : Option (Option Place)). cond (is_some o) (length table) (length table + 1)) none
 
--- where the first of the writes are too many, all are
+-- if the first of the writes are too many, all are
 pub puts_too_many : (n : ℕ) (es fs table : List Entry) → T (is_sorted key_cmp table) → n < length (puts es table) → n < length (puts (es ++ fs) table)
 puts_too_many n es fs table up many =
     let grows = puts_grow fs (puts es table) (puts_sorted es table up) in
@@ -136,7 +136,7 @@ firsts-reverse es = same_length (firsts (reverse es)) (firsts es) (firsts_sorted
     sym (find-has q (firsts (reverse es))) ∙ ap is_some (find-firsts q (reverse es)) ∙ find-has q (reverse es) ∙ has-reverse q es
     ∙ sym (find-has q es) ∙ ap is_some (sym (find-firsts q es)) ∙ find-has q (firsts es))
 
--- where there is no room and the key is not there, the entry makes it too long
+-- if there is no room and the key is not there, the entry makes it too long
 pub full : (n room : ℕ) (k : Key) (v : Option Place) (table : List Entry) → T (is_sorted key_cmp table) → room + length table ≡ n → room ≡ 0 → find key_cmp k table ≡ None → n < length (put key_cmp k v table)
 full n room k v table up is none absent = let more = put_new k v table up absent in omega (arith, is, none, more)
 

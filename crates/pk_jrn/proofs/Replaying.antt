@@ -37,7 +37,7 @@ take_next [] i e h = cc
 take_next (x ∷ es) zero e h = let same : x ≡ e = cc in ap (λ y. y ∷ []) same
 take_next (x ∷ es) (suc i) e h = ap (λ ys. x ∷ ys) (take_next es i e h)
 
--- one more entry behind the first i
+-- one more entry after the first i
 next_puts : (es table : List Entry) (i : ℕ) (e : Entry) → slice_get es i ≡ Some e → puts (take (i + 1) es) table ≡ put key_cmp (key_of e) e.1 (puts (take i es) table)
 next_puts es table i e h =
     let k : i + 1 ≡ suc i = omega arith in
@@ -90,7 +90,7 @@ page_taken shape number index count page old false new fits within reads all =
     some_same : {x y : List Entry} → Some x ≡ Some y → x ≡ y
     some_same e = cc
 
--- what a page is read as, where it is that of an epoch and index
+-- what a page is read as, if it is that of an epoch and index
 abbrev pub Decoded : Shape → List ℕ → Result JrnHead BadJournal → Type 0
 Decoded shape page r = (epoch index : ℕ) (entries : List Entry) → epoch < 2 ^ 64 → index < epoch_commits shape → journal_entries shape epoch index page ≡ Some entries → r ≡ Ok (record { epoch = epoch; index = index; count = length entries })
 
@@ -132,7 +132,7 @@ found_none (q, whole bytes) is = cc
 found_none (q, erased) is = λ bytes e. cc
 found_none (q, torn) is = λ bytes e. cc
 
--- ---- pages in a row
+-- ---- consecutive pages
 
 all_append : (P : Entry → Type 0) (xs ys : List Entry) → AllByRecursion P xs → AllByRecursion P ys → AllByRecursion P (xs ++ ys)
 all_append P [] ys front back = back
@@ -144,7 +144,7 @@ ends_here erased more not_whole = refl
 ends_here torn more not_whole = refl
 ends_here (whole bytes) more not_whole = absurd (not_whole bytes refl)
 
--- behind a page that is Whole the reads go on
+-- after a page that is Whole the reads go on
 goes_here : (page : Page) (bytes : List ℕ) (more : ℕ) → page ≡ whole bytes → if_whole page more ≡ more
 goes_here page bytes more is = ap (λ (q : Page). if_whole q more) is
 
@@ -154,7 +154,7 @@ reads_are shape at blocks rest is two all =
     let pairs : 2 * (shape.block_pages / 2) ≡ shape.block_pages = omega (arith, eights) in
     ap (λ (n : ℕ). reads_to_end shape at blocks 0 (n * (shape.block_pages / 2))) two ∙ ap (λ (n : ℕ). reads_to_end shape at blocks 0 n) (pairs ∙ all)
 
--- reads behind others
+-- reads after others
 more_reads : (k n : ℕ) (b : BoardState) → after_reads k (after_reads n b) ≡ after_reads (n + k) b
 more_reads zero n b = ap (λ (m : ℕ). after_reads m b) (sym (add-zero n))
 more_reads (suc k) n b =
@@ -162,7 +162,7 @@ more_reads (suc k) n b =
     ap after_read (more_reads k n b) ∙ ap (λ (m : ℕ). after_reads m b) e
 
 module _ (shape : Shape) (number : ℕ) (blocks : List ℕ) (old : BoardState) where
-  -- i commits were read and their entries written, and what is left to be read is the rest of the epoch
+  -- i commits were read and their entries written, and what remains to be read is the rest of the epoch
   pub record Replaying (now : BoardState) (i : ℕ) (into : Table) : Type 0 where
     pub entries : List Entry
     pub board : now ≡ after_reads (reads_before shape (page_at old.pages) blocks i) old
@@ -194,14 +194,14 @@ module _ (shape : Shape) (number : ℕ) (blocks : List ℕ) (old : BoardState) w
     pub pages_stay : now.pages ≡ old.pages
     pages_stay = ap (λ b. b.pages) r.board
 
-    -- the reads of the next commit, counted by the board as it stands
+    -- the reads of the next commit, counted by the board as it is
     pub reads_moved : (new : BoardState) (p : ℕ) → p ≡ commit_page shape blocks i → new ≡ after_reads (reads_of_pair (page_at now.pages p)) now → new ≡ after_reads (reads_of_pair (at (commit_page shape blocks i))) now
     reads_moved new p is read = read ∙ (λ k. after_reads (reads_of_pair (page_at (pages_stay k) (is k))) now)
 
     room : into.capacity ≡ buffer shape
     room = ap (λ t. t.capacity) r.held
 
-    -- as many keys as the buffer has entries behind writes
+    -- as many keys as the buffer has entries after writes
     keys : (es : List Entry) → length (puts es into.entries) ≡ length (firsts (r.entries ++ es))
     keys es = ap (λ (t : Table). length (puts es t.entries)) r.held ∙ ap length (puts_are_firsts r.entries es) ∙ firsts-reverse (r.entries ++ es)
 
@@ -211,7 +211,7 @@ module _ (shape : Shape) (number : ℕ) (blocks : List ℕ) (old : BoardState) w
     left_here : (rest : ℕ) → epoch_commits shape - i ≡ rest → epoch shape at number blocks ≡ journal shape number i r.entries (commits_of shape at blocks i rest)
     left_here rest e = r.left ∙ ap (λ k. journal shape number i r.entries (commits_of shape at blocks i k)) e
 
-    -- the board behind the reads of the next commit
+    -- the board after the reads of the next commit
     read_more : (new : BoardState) → new ≡ after_reads (reads_of_pair (at (commit_page shape blocks i))) now → new ≡ after_reads (reads_before shape at blocks (i + 1)) old
     read_more new read =
         let one : suc i ≡ i + 1 = omega arith in

@@ -19,15 +19,15 @@ next_bytes e new = journal_bytes e.shape e.number e.used new
 abbrev pub programs_of_commit : JournalEpoch → List Entry → List (ℕ × List ℕ)
 programs_of_commit e new = programs_of_pair (next_page e) (next_bytes e new)
 
--- The entries of the epoch, and behind them the new ones, have no more keys than a write buffer.
+-- The entries of the epoch, and after them the new ones, have no more keys than a write buffer.
 abbrev pub HaveRoom : JournalEpoch → List Entry → List Entry → Type 0
 HaveRoom e before new = length (firsts (before ++ new)) ≤ buffer e.shape
 
--- whatever the entries of the epoch were: the new ones stand behind them now
+-- whatever the entries of the epoch were: the new ones follow them now
 abbrev pub AddsAll : JournalEpoch → List Entry → Flash → Flash → Type 0
 AddsAll e new old flash = (before : List Entry) → Reads e old before → HaveRoom e before new → Reads e flash (before ++ new)
 
--- whatever the entries of the epoch were: they are these still, or the new ones stand behind them, all of them
+-- whatever the entries of the epoch were: they are these still, or the new ones follow them, all of them
 abbrev pub AddsAllOrNone : JournalEpoch → List Entry → Flash → Flash → Type 0
 AddsAllOrNone e new old flash = (before : List Entry) → Reads e old before → HaveRoom e before new → Reads e flash before ⊎ Reads e flash (before ++ new)
 
@@ -40,7 +40,7 @@ pub record IsCommitCut (e : JournalEpoch) (new : List Entry) (old flash : Flash)
 abbrev pub CommitReached : JournalEpoch → List Entry → BoardState → BoardState → Type 0
 CommitReached e new old now = Reached old now (λ flash _. IsCommitCut e new old.pages flash)
 
--- the same where the call may have stopped
+-- the same if the call may have stopped
 abbrev pub CommitWent : JournalEpoch → List Entry → BoardState → BoardState → Type 0
 CommitWent e new old now = Went old now (λ flash _. IsCommitCut e new old.pages flash)
 
@@ -50,8 +50,8 @@ CommitWent e new old now = Went old now (λ flash _. IsCommitCut e new old.pages
 abbrev pub last_bytes : JournalEpoch → List Entry → List ℕ
 last_bytes e new = next_bytes (before_half e) new
 
--- The epoch's last commit is half made, of these entries: they are added already, and only its second page is left to be programmed. Before its
--- first page was, the epoch stood on this flash.
+-- The epoch's last commit is half made, of these entries: they are added already, and only its second page remains to be programmed. Before its
+-- first page was, the epoch was on this flash.
 pub record IsHalfMade (e : JournalEpoch) (new : List Entry) (former flash : Flash) : Type 0 where
   pub is_half : e.half ≡ true
   pub some : 1 ≤ e.used

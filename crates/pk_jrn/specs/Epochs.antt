@@ -1,4 +1,4 @@
--- An epoch of the journal: its commits, how many it has, and how it stands to a flash.
+-- An epoch of the journal: its commits, how many it has, and how it matches a flash.
 use Rattle.std.specs.Prelude.{◌≡◌, ◌≢◌, ℕ, ◌-◌, ◌*◌, ◌<◌, ◌≤◌, Bool, true, false, if◌then◌else◌, List, length, slice_index, Ok}
 use Rattle.pk_base.specs.Shape.{Shape, epoch_pages, epoch_commits}
 use Rattle.pk_base.specs.Page.{Flash, page_at, erased, whole, page_in, commit_page, commit_at}
@@ -57,7 +57,7 @@ HasCommit shape flash blocks j = (bytes : List ℕ) × ((commit_at shape (page_a
 abbrev pub AreErased : Shape → Flash → List ℕ → Type 0
 AreErased shape flash blocks = (n : ℕ) → n < 2 → IsErasedBlock shape flash (slice_index blocks n)
 
--- The epoch's commits can be read; where it takes more, their pages are programmed, and all pages behind them are Erased.
+-- The epoch's commits can be read; if it takes more, their pages are programmed, and all pages after them are Erased.
 pub record EpochOnFlash (e : JournalEpoch) (flash : Flash) : Type 0 where
   pub two : length e.blocks ≡ 2
   pub within : e.used ≤ epoch_commits e.shape

@@ -14,7 +14,7 @@ SameInBlock shape b old new = (k : ℕ) → b * shape.block_pages ≤ k → k < 
 abbrev pub SameBlocks : Shape → List ℕ → Flash → Flash → Type 0
 SameBlocks shape blocks old new = (n : ℕ) → n < 2 → SameInBlock shape (slice_index blocks n) old new
 
--- where no page of its blocks differs, the epoch fits as before
+-- if no page of its blocks differs, the epoch fits as before
 abbrev pub FitsElsewhere : Type 0
 FitsElsewhere = (e : JournalEpoch) (old new : Flash) → IsShape e.shape → SameBlocks e.shape e.blocks old new → EpochOnFlash e old → EpochOnFlash e new
 
@@ -24,7 +24,7 @@ ReadsElsewhere =
     (shape : Shape) (number : ℕ) (blocks : List ℕ) (old new : Flash) → IsShape shape → length blocks ≡ 2 → SameBlocks shape blocks old new
     → epoch shape (page_at new) number blocks ≡ epoch shape (page_at old) number blocks
 
--- where nothing differs outside some pages of another block, no page of the two blocks differs
+-- if nothing differs outside some pages of another block, no page of the two blocks differs
 abbrev pub ChangesElsewhere : Type 0
 ChangesElsewhere =
     (shape : Shape) (blocks : List ℕ) (old new : Flash) (b first count : ℕ) → ((n : ℕ) → n < 2 → slice_index blocks n ≢ b)

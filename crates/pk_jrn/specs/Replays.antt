@@ -24,13 +24,13 @@ use Rattle.pk_jrn.specs.Epochs.{HasCommit}
 abbrev pub buffer_of : Shape → List Entry → Table
 buffer_of shape es = record { capacity = buffer shape; entries = firsts (reverse es) }
 
--- the reads go on behind a commit where it has a page that is Whole
+-- the reads go on after a commit if it has a page that is Whole
 abbrev pub if_whole : Page → ℕ → ℕ
 if_whole erased more = 0
 if_whole (whole bytes) more = more
 if_whole torn more = 0
 
--- the reads of so many commits from an index on, up to the first that has no page that is Whole, and that one
+-- the reads of n commits from an index on, up to the first that has no page that is Whole, and that one
 abbrev pub reads_to_end : Shape → (ℕ → Page) → List ℕ → ℕ → ℕ → ℕ
 reads_to_end shape at blocks i zero = 0
 reads_to_end shape at blocks i (suc n) =
@@ -46,7 +46,7 @@ reads_before shape at blocks zero = 0
 reads_before shape at blocks (suc i) = reads_before shape at blocks i + reads_of_pair (at (commit_page shape blocks i))
 
 module _ (shape : Shape) (number : ℕ) (blocks : List ℕ) where
-  -- so many commits were replayed: they are those before the first that has no page that is Whole, and the buffer holds the epoch's entries
+  -- n commits were replayed: they are those before the first that has no page that is Whole, and the buffer holds the epoch's entries
   pub record Replayed (flash : Flash) (used : ℕ) (into : Table) : Type 0 where
     pub entries : List Entry
     pub read : epoch shape (page_at flash) number blocks ≡ Ok entries
@@ -56,7 +56,7 @@ module _ (shape : Shape) (number : ℕ) (blocks : List ℕ) where
     pub before : (j : ℕ) → j < used → HasCommit shape flash blocks j
     pub ends : used < epoch_commits shape → HasCommit shape flash blocks used → ⊥
 
-  -- the reading of the epoch refuses with this page, behind which nothing was read
+  -- the reading of the epoch refuses with this page, after which nothing was read
   pub record ReplayRefused (old new : BoardState) (page : ℕ) : Type 0 where
     pub index : ℕ
     pub within : index < epoch_commits shape
@@ -64,7 +64,7 @@ module _ (shape : Shape) (number : ℕ) (blocks : List ℕ) where
     pub read : epoch shape (page_at old.pages) number blocks ≡ Err (damaged page)
     pub board : new ≡ after_reads (reads_before shape (page_at old.pages) blocks (index + 1)) old
 
-  -- a read failed, behind others that did not
+  -- a read failed, after others that did not
   pub record ReplayFailed (old new : BoardState) : Type 0 where
     pub made : ℕ
     pub within : made < epoch_commits shape
@@ -80,7 +80,7 @@ module _ (shape : Shape) (number : ℕ) (blocks : List ℕ) where
 
 -- ---- inside
 
--- a table of entries behind writes, one after another
+-- a table of entries after writes, one after another
 abbrev pub puts : List Entry → List Entry → List Entry
 puts [] table = table
 puts (e ∷ es) table = puts es (put key_cmp (key_of e) e.1 table)

@@ -26,7 +26,7 @@ fn put_one<A: Region>(into: &mut Buffer<A>, new: Entry) -> bool
     true
 }
 
-// Writes the entries of a page of so many, up to the first for whose key there is no room.
+// Writes the entries of a page of `count`, up to the first for whose key there is no room.
 fn put_all<A: Region>(shape: &Shape, page: &[u8], count: u32, into: &mut Buffer<A>) -> bool
     requires sized { length page.now ≡ shape.now.page_bytes }
     requires decodes { Decodes shape.now page.now }

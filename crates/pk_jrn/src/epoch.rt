@@ -66,7 +66,7 @@ impl Epoch {
         }
     }
 
-    /// An epoch as it is found at opening, with so many commits. It takes no more.
+    /// An epoch as it is found at opening, with this many commits. It takes no more.
     pub fn found(shape: Shape, number: u64, blocks: [u16; 2], used: u32) -> Epoch
         requires { used ≤ epoch_commits shape }
         ensures { result ≡ found_at_opening shape number blocks used }
@@ -116,9 +116,9 @@ impl Epoch {
         self.blocks
     }
 
-    /// Adds entries, 1 to those of a page, behind those of the epoch, by the programs of its next commit. `Stopped` where one
-    /// fails; the epoch is as before then. Wherever it is cut, all of the entries were added or none. `buf` has the bytes of a
-    /// page, which are lost.
+    /// Adds entries, 1 to those of a page, after those of the epoch, by the programs of its next
+    /// commit. `Stopped` if one fails; the epoch is as before then. Wherever it is cut, all of the
+    /// entries were added or none. `buf` has the size of a page and is overwritten.
     pub fn append<B: Nand>(
         &mut self,
         board: &mut B,
@@ -141,7 +141,7 @@ impl Epoch {
         ensures taken { OnOk result (self.new ≡ record self.old { used = self.old.used + 1 }) }
         ensures fits { OnOk result (EpochOnFlash self.new (B.state board.new).pages) }
 
-        // What the pages say, and what a reader of the epoch finds behind it.
+        // What the pages say, and what a reader of the epoch finds afterwards.
         ensures spells { journal_entries self.old.shape self.old.number self.old.used
             (next_bytes self.old (seen_all entries.now)) ≡ Some (seen_all entries.now) }
         ensures list { OnOk result (AddsAll self.old (seen_all entries.now)
@@ -149,7 +149,7 @@ impl Epoch {
         ensures cuts { OnOk result (CommitReached self.old (seen_all entries.now)
             (B.state board.old) (B.state board.new)) }
 
-        // Or one of them failed, and the epoch stays.
+        // Or one of them failed, and the epoch is unchanged.
         ensures stopped { IfErr result (λ e. e ≡ Stopped) }
         ensures err { OnErr result (ProgramsFailed (B.state board.old) (B.state board.new)
             (programs_of_commit self.old (seen_all entries.now))) }
@@ -252,10 +252,11 @@ impl Epoch {
         }
     }
 
-    /// Adds entries, as `append` does, in two calls of one program each: the first call programs the first page of the epoch's next
-    /// commit and answers false, the second, with the same entries, its second page and answers true. The entries stand behind those
-    /// of the epoch from the first call on; wherever either call is cut, all of them were added or none. `Stopped` where the program
-    /// fails; the epoch is as before then. `buf` has the bytes of a page, which are lost.
+    /// Adds entries, as `append` does, in two calls of one program each: the first call programs
+    /// the first page of the epoch's next commit and returns false, the second, with the same
+    /// entries, its second page and returns true. The entries follow those of the epoch from the
+    /// first call on; wherever either call is cut, all of them were added or none. `Stopped` if the
+    /// program fails; the epoch is as before then. `buf` has the size of a page and is overwritten.
     pub fn append_step<B: Nand>(
         &mut self,
         board: &mut B,
@@ -281,7 +282,7 @@ impl Epoch {
             (BeginsCommit self.old (seen_all entries.now) (B.state board.old) self.new
             (B.state board.new))) }
 
-        // Or it failed, and the epoch stays.
+        // Or it failed, and the epoch is unchanged.
         ensures stopped { IfErr result (λ e. e ≡ Stopped) }
         ensures failed { OnErr result (MatchBool self.old.half
             (FailsToEnd self.old (seen_all entries.now) (B.state board.old) (B.state board.new))

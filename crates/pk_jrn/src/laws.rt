@@ -1,17 +1,17 @@
 //! What calls of other crates leave of an epoch.
 ghost use Rattle.pk_jrn.specs.Laws.{ChangesElsewhere, FitsElsewhere, ReadsElsewhere};
 
-/// Where no page of its blocks differs, the epoch fits the flash as before.
+/// If no page of its blocks differs, the epoch fits the flash as before.
 pub fn fits_elsewhere()
     ensures { FitsElsewhere }
 {}
 
-/// Where no page of its blocks differs, the entries of the epoch are the same.
+/// If no page of its blocks differs, the entries of the epoch are the same.
 pub fn reads_elsewhere()
     ensures { ReadsElsewhere }
 {}
 
-/// Where nothing differs outside some pages of another block, no page of the blocks differs.
+/// If nothing differs outside some pages of another block, no page of the blocks differs.
 pub fn changes_elsewhere()
     ensures { ChangesElsewhere }
 {}

@@ -15,10 +15,12 @@ use pk_nand::Nand;
 use pk_pair::{commit_page, read_pair};
 use pk_region::Region;
 
-/// Reads the commits of an epoch up to the first that has no page that is Whole, by one read each where the first page is Whole and
-/// else by two, and writes their entries into an empty write buffer, where the later entry of a key counts. Answers how many commits
-/// have a page. `Damaged` with the first such page that is not the epoch's at its place, or whose entries bring the keys above those
-/// of a write buffer; `Fault` where a read failed. After a refusal the buffer is empty. `buf` has the bytes of a page, which are lost.
+/// Reads the commits of an epoch up to the first that has no page that is Whole, by one read each
+/// if the first page is Whole and otherwise by two, and writes their entries into an empty write
+/// buffer, if the later entry of a key counts. Returns how many commits have a page. `Damaged` with
+/// the first such page that is not the epoch's at its place, or whose entries bring the keys above
+/// those of a write buffer; `Fault` if a read failed. After a refusal the buffer is empty. `buf`
+/// has the size of a page and is overwritten.
 pub fn replay<B: Nand, A: Region>(
     board: &mut B,
     shape: &Shape,
@@ -32,7 +34,7 @@ pub fn replay<B: Nand, A: Region>(
     requires empty { into.old ≡ no_entries shape.now }
     requires room { length buf.old ≡ shape.now.page_bytes }
 
-    // The commits that were read, and so many reads.
+    // The commits that were read, and the number of reads.
     ensures replayed { IfOk result (λ used.
         Replayed shape.now number blocks (B.state board.old).pages used into.new) }
     ensures fits { IfOk result (λ used. EpochOnFlash (found_at_opening shape.now number blocks used)
@@ -41,7 +43,7 @@ pub fn replay<B: Nand, A: Region>(
         ≡ after_reads (epoch_reads shape.now (page_at (B.state board.old).pages) blocks)
         (B.state board.old)) }
 
-    // Why they were not, and that no entry is left.
+    // Why they were not, and that no entry remains.
     ensures refused { IfErr result (λ e. Refused shape.now number blocks (B.state board.old)
         (B.state board.new) e) }
     ensures cleared { OnErr result (into.new ≡ into.old) }

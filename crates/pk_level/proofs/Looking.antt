@@ -1,4 +1,4 @@
--- A look-up through the runs, from the first on.
+-- A lookup through the runs, from the first on.
 use Rattle.std.proofs.Common.{◌≡◌, ◌⊎◌, inl, inr, ℕ, zero, suc, ◌+◌, ◌-◌, ◌<◌, ◌≤◌, Bool, true, false, cond, List, [], ◌∷◌, ◌++◌, length, slice_get, drop, refl, ap, sym, subst, ◌∙◌, arith, Option, Some, None, MatchOption, append_assoc}
 use Rattle.std.specs.Ordering.{eq_by_cmp}
 use Rattle.std.specs.FinMap.Entries.{find}
@@ -40,7 +40,7 @@ entries_at [] i es got = cc
 entries_at (xs ∷ ess) zero es got = let same : xs ≡ es = cc in ap (λ (ys : List Entry). ys ++ all_entries ess) same
 entries_at (xs ∷ ess) (suc i) es got = entries_at ess i es got
 
--- ---- runs that stand
+-- ---- runs that match the flash
 
 pub stands_at : (flash : Flash) (arena : Frames) (rs : List Kept) (ess : List (List Entry)) (i : ℕ) (r : Kept) → RunsOnFlash flash arena rs ess → slice_get rs i ≡ Some r
     → (es : List Entry) × (slice_get ess i ≡ Some es) × RunOnFlash r flash arena es
@@ -101,7 +101,7 @@ look_by leases zero p now next h e = absurd (omega arith)
 look_by [] (suc n) p now next h e = (suc zero, omega arith, e)
 look_by (l ∷ leases) (suc n) p now next h e = (zero, omega arith, e)
 
--- how often a look-up in one run reads
+-- how often a lookup in one run reads
 look_reads : (r : Kept) (key : Key) (now next : BoardState) → Looks r key now next → (k : ℕ) × (k ≤ most_reads r) × (next ≡ after_reads k now)
 look_reads r key now next (inl none) = (zero, omega arith, none.1)
 look_reads r key now next (inr some) = look_by r.leases (length r.firsts) some.0 now next some.1.exists some.2
@@ -124,7 +124,7 @@ few_from shape pinned level (r ∷ rs) are most =
 pub few_reads : (levels : Levels) → IsLevels levels → reads_through levels.runs + levels.pinned ≤ 4
 few_reads levels is = let few = few_from levels.shape levels.pinned 1 levels.runs is.each (omega (arith, is.most, is.four)) in omega (arith, few, is.four)
 
--- ---- a look-up
+-- ---- a lookup
 
 -- the first i runs have nothing of the key, and no more than their share of reads was made
 pub record Looking (rs : List Kept) (arena : Frames) (key : Key) (old now : BoardState) (i : ℕ) : Type 0 where
@@ -140,7 +140,7 @@ Looking-start rs arena key old = record { made = 0; few = omega arith; board = r
 same_pages : (rs : List Kept) (arena : Frames) (key : Key) (old now : BoardState) (i : ℕ) → Looking rs arena key old now i → now.pages ≡ old.pages
 same_pages rs arena key old now i at = ap (λ (b : BoardState). b.pages) at.board
 
--- the next run stands on the board now
+-- the next run matches the board now
 pub next_stands : (rs : List Kept) (arena : Frames) (key : Key) (old now : BoardState) (i : ℕ) (r : Kept) (ess : List (List Entry)) → Looking rs arena key old now i → slice_get rs i ≡ Some r
     → RunsOnFlash old.pages arena rs ess → (es : List Entry) × (slice_get ess i ≡ Some es) × RunOnFlash r now.pages arena es
 next_stands rs arena key old now i r ess at got each =
@@ -158,7 +158,7 @@ drop_all [] (suc i) h = refl
 drop_all (x ∷ xs) zero h = absurd (omega arith)
 drop_all (x ∷ xs) (suc i) h = drop_all xs i (omega arith)
 
--- a run is looked into, and what comes behind it is known by whether it has the key
+-- a run is looked into, and what comes after it is known by whether it has the key
 looks_at : (rs : List Kept) (ess : List (List Entry)) (key : Key) (now next last : BoardState) (i : ℕ) (r : Kept) (es : List Entry) (found : Option (Option Place)) → slice_get rs i ≡ Some r → slice_get ess i ≡ Some es
     → Looks r key now next → find key_cmp key es ≡ found → MatchOption found (LooksFor key (drop (suc i) rs) (drop (suc i) ess) next last) (λ place. last ≡ next) → LooksFor key (drop i rs) (drop i ess) now last
 looks_at rs ess key now next last i r es found got own looks is rest =

@@ -20,8 +20,8 @@ abbrev pub ArePinnedTo : ℕ → ℕ → List Kept → Type 0
 ArePinnedTo pinned level [] = ⊤
 ArePinnedTo pinned level (r ∷ rs) = IsPinnedIf (nat_le level pinned) r × ArePinnedTo pinned (suc level) rs
 
--- The arena has so many frames, each of a page. The runs of the pinned levels have frames for all their pages, and besides them
--- there are these other leases; no frame has two leases, and every other frame is free.
+-- The arena has n frames, each of a page. The runs of the pinned levels have frames for all their pages, and besides them there
+-- are these other leases; no frame has two leases, and every other frame is free.
 pub record HasArena (shape : Shape) (frames : ℕ) (levels : Levels) (arena : Frames) (others : List ℕ) : Type 0 where
   pub page_bytes_is : arena.page_bytes ≡ shape.page_bytes
   pub size : length arena.used ≡ frames

@@ -1,4 +1,4 @@
--- The four runs of a drive, and a look-up through them.
+-- The four runs of a drive, and a lookup through them.
 use Rattle.std.specs.Prelude.{◌≡◌, ⊤, ℕ, zero, suc, ◌+◌, ◌-◌, ◌<◌, ◌≤◌, List, [], ◌∷◌, length, slice_get, slice_index_or, slice_set, Some, MatchOption}
 use Rattle.std.specs.List.{flat_map}
 use Rattle.std.specs.FinMap.Entries.{find}
@@ -31,7 +31,7 @@ run_of levels level = slice_index_or levels.runs (level - 1) (empty levels.shape
 abbrev pub with_run : Levels → ℕ → Kept → Levels
 with_run levels level r = record levels { runs = slice_set levels.runs (level - 1) r }
 
--- a run may stand at this level: it is one of it, and all its pages have frames where those of the level have
+-- a run may be at this level: it is one of it, and all its pages have frames if those of the level have
 pub record IsOfLevel (shape : Shape) (pinned level : ℕ) (r : Kept) : Type 0 where
   pub same_shape : r.shape ≡ shape
   pub same_level : r.level ≡ level
@@ -55,7 +55,7 @@ RunsOnFlash flash arena [] (es ∷ ess) = ⊥
 RunsOnFlash flash arena (r ∷ rs) [] = ⊥
 RunsOnFlash flash arena (r ∷ rs) (es ∷ ess) = RunOnFlash r flash arena es × RunsOnFlash flash arena rs ess
 
--- the runs have this shape, and their pages stand in these blocks
+-- the runs have this shape, and their pages are in these blocks
 abbrev pub HaveBlocks : Shape → List Kept → List (List ℕ) → Type 0
 HaveBlocks shape [] [] = ⊤
 HaveBlocks shape [] (bs ∷ bss) = ⊥
@@ -66,7 +66,7 @@ HaveBlocks shape (r ∷ rs) (bs ∷ bss) = (r.shape ≡ shape) × (r.blocks ≡ 
 abbrev pub all_entries : List (List Entry) → List Entry
 all_entries ess = flat_map (λ es. es) ess
 
--- most reads of a look-up in a run, by its pages and their frames: none where it has no pages, or where they have frames
+-- most reads of a lookup in a run, by its pages and their frames: none if it has no pages, or if they have frames
 abbrev pub reads_by : ℕ → ℕ → ℕ
 reads_by zero leases = 0
 reads_by (suc pages) zero = 1
@@ -79,7 +79,7 @@ abbrev pub reads_through : List Kept → ℕ
 reads_through [] = 0
 reads_through (r ∷ rs) = most_reads r + reads_through rs
 
--- Runs are looked into from the first on, down to the one with an entry of the key: by at most one read each, and by none where the pages have frames.
+-- Runs are looked into from the first on, down to the one with an entry of the key: by at most one read each, and by none if the pages have frames.
 abbrev pub LooksFor : Key → List Kept → List (List Entry) → BoardState → BoardState → Type 0
 LooksFor key [] ess old new = new ≡ old
 LooksFor key (r ∷ rs) [] old new = new ≡ old
@@ -90,6 +90,6 @@ LooksFor key (r ∷ rs) (es ∷ ess) old new =
 abbrev pub ReadsUpTo : ℕ → BoardState → BoardState → Type 0
 ReadsUpTo n old new = (k : ℕ) × (k ≤ n) × (new ≡ after_reads k old)
 
--- a read failed, behind fewer than n others that did not
+-- a read failed, after fewer than n others that did not
 abbrev pub ReadFailsWithin : ℕ → BoardState → BoardState → Type 0
 ReadFailsWithin n old new = (k page : ℕ) × (k < n) × ReadFailed (after_reads k old) new page

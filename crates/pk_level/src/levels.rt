@@ -67,7 +67,8 @@ impl<A: Allocator> Model for Levels<A> {
 }
 
 impl<A: Allocator + Clone> Levels<A> {
-    /// Four runs without entries, for an arena of so many frames. All memory of the runs is taken here.
+    /// Four runs without entries, for an arena of `frames` frames. All memory of the runs is taken
+    /// here.
     pub fn new(alloc: A, plan: Plan, frames: u32) -> Result<Levels<A>, AllocError>
         ensures empty { IfOk result (λ l. l ≡ no_runs plan (pinned_by plan frames)) }
         ensures stands { IfOk result (λ l. (flash : Flash) (arena : Frames)
@@ -90,7 +91,8 @@ impl<A: Allocator + Clone> Levels<A> {
 }
 
 impl<A: Allocator> Levels<A> {
-    /// All levels keep this, and each run keeps within its level. No look-up reads more often than there are levels without frames.
+    /// All levels keep this, and each run keeps within its level. No lookup reads more often than
+    /// there are levels without frames.
     pub fn known(&self)
         ensures levels { IsLevels self.now }
         ensures runs { AllByRecursion IsKept self.now.runs }
@@ -140,7 +142,8 @@ impl<A: Allocator> Levels<A> {
         self.run(level).entries()
     }
 
-    /// The level into which the next merge goes, for so many frozen keys. None exactly where no key is frozen.
+    /// The level into which the next merge goes, for this many frozen keys. None exactly if no key
+    /// is frozen.
     pub fn next_merge(&self, frozen: u32) -> Option<u8>
         ensures target { result
             ≡ next_merge self.now.shape frozen (map (λ r. r.count) self.now.runs) }
@@ -156,7 +159,8 @@ impl<A: Allocator> Levels<A> {
         self.plan.next_merge(frozen, &counts)
     }
 
-    /// Puts a run in place of the one of its level, which is handed back. All its pages have frames where those of the level have.
+    /// Puts a run in place of the one of its level, which is returned. All its pages have frames if
+    /// those of the level have.
     pub fn install_run(&mut self, level: u8, run: Run<A>) -> Run<A>
         requires level { 1 ≤ level × level ≤ LEVELS }
         requires of_level { IsOfLevel self.old.shape self.old.pinned level run }
@@ -171,8 +175,9 @@ impl<A: Allocator> Levels<A> {
         }
     }
 
-    /// The entry of the key in the first run that has one. Each run is read at most once, and not at all where it has no pages or
-    /// they have frames. `Reading` where a read fails; else nothing fails. `buf` has a page's bytes, which are lost.
+    /// The entry of the key in the first run that has one. Each run is read at most once, and not
+    /// at all if it has no pages or they have frames. `Reading` if a read fails; otherwise nothing
+    /// fails. `buf` has the size of a page and is overwritten.
     pub fn lookup<B: Nand>(
         &self,
         board: &mut B,
@@ -185,7 +190,7 @@ impl<A: Allocator> Levels<A> {
             × RunsOnFlash (B.state board.old).pages arena.now self.now.runs ess }
         requires room { length buf.old ≡ self.now.shape.page_bytes }
 
-        // The entry of the first run that has the key, by at most so many reads.
+        // The entry of the first run that has the key, by at most this many reads.
         ensures found { IfOk result (λ found. (ess : List (List EntrySpec))
             → RunsOnFlash (B.state board.old).pages arena.now self.now.runs ess
             → IsFound key.now (all_entries ess) found) }

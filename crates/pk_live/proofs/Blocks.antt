@@ -11,7 +11,7 @@ use Rattle.pk_base.specs.Shape.{Shape, IsShape, page_count, charge}
 pub block_exists : (n m page : ℕ) → 0 < n → page < n * m → page / n < m
 block_exists n m page some less = (div-lt_iff_lt-mul {x = page} {y = m} some).1 (omega (arith, less, mul_comm n m))
 
--- a page that lies behind another one in its block
+-- a page that is after another one in its block
 pub page_exists : (n m page i c : ℕ) → 0 < n → page < n * m → page % n + c ≤ n → i < c → page + i < n * m
 page_exists n m page i c some less room within =
     let block : page / n < m = block_exists n m page some less in

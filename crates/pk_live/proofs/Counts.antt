@@ -13,7 +13,7 @@ use Rattle.std.proofs.lemmas.Nat.{mul-le}
 use Rattle.std.proofs.lemmas.Bool.{cases_lt, cases_eq}
 use Rattle.pk_live.specs.Values.{block_sum, IsCounted}
 
--- a page of n pages a block stands in one of m blocks
+-- a page of n pages a block is in one of m blocks
 pub in_block : (n m page : ℕ) → 0 < n → page < n * m → page / n < m
 in_block n m page pos h = (div-lt_iff_lt-mul {x = page} {y = m} pos).1 (omega (arith, h, mul_comm n m))
 

@@ -1,11 +1,11 @@
--- Tests over numbers in a row, and lists in which no number stands twice.
+-- Tests over consecutive numbers, and lists in which no number occurs twice.
 use Rattle.std.proofs.Common.{◌≡◌, inl, inr, ℕ, zero, suc, ◌+◌, ◌<◌, ◌≤◌, Bool, true, false, not, ◌&&◌, ◌||◌, List, [], ◌∷◌, ◌++◌, refl, subst, ◌∙◌, arith, ◌==◌}
 use Rattle.std.specs.List.{list_any, list_all, range_with_len}
 use Rattle.std.proofs.lemmas.Bool.{false≢true, or_from, or_cases, or_left, or_right, and_from, and_left, not_from_false, eqb-true, eq-eqb, cases_lt, cases_eq, false_from_ne_true}
 use Rattle.std.proofs.lemmas.List.Folds.{list_any-append}
 use Rattle.pk_rootfmt.specs.Root.{differ}
 
--- ---- numbers in a row
+-- ---- consecutive numbers
 
 here_is : (P : ℕ → Type 0) (a : ℕ) → P (a + 0) → P a
 here_is P a h = let e : a + 0 ≡ a = omega arith in subst P e h
@@ -64,7 +64,7 @@ range_has x a (suc n) e = elim (or_cases (x == a) (has x (range_with_len (a + 1)
   | inr rest ↦ (let r = range_has x (a + 1) n rest in (omega (arith, r.0), omega (arith, r.1)))
 ]
 
--- a number of the first list stands in the second
+-- a number of the first list is in the second
 abbrev pub meets : List ℕ → List ℕ → Bool
 meets xs ys = list_any (λ x. has x ys) xs
 
@@ -82,7 +82,7 @@ meets_from x (y ∷ xs) ys is there = elim (or_cases (x == y) (has x xs) is) [
   | inr rest ↦ or_right (has y ys) (meets xs ys) (meets_from x xs ys rest there)
 ]
 
--- ---- lists in which no number stands twice
+-- ---- lists in which no number occurs twice
 
 five : (a b c d e : Bool) → (not (a || b) && (c && d && not e)) ≡ ((not a && c) && d && not (b || e))
 five true b c d e = refl

@@ -140,7 +140,7 @@ module _ (shape : Shape) (is_shape : IsShape shape) where
 
   -- ---- the sums of the heads
 
-  -- a value more, in front
+  -- one more value, at the start
   head_first : (e : Key × Place) (es : List (Key × Place)) → IsPlace shape e.1
       → set (map (head_of shape es) (range_with_len 0 (page_count shape))) e.1.page (charge shape e.1.len + head_of shape es e.1.page) ≡ map (head_of shape (e ∷ es)) (range_with_len 0 (page_count shape))
   head_first e es is =
@@ -165,7 +165,7 @@ module _ (shape : Shape) (is_shape : IsShape shape) where
       let own = length-range_with_len e.1.page (charge shape e.1.len) in
       ap sum (sym (head_first e es placed.0)) ∙ omega (arith, changed, before, read, pages, own)
 
-  -- a block has live pages exactly where a page of a value lies in it
+  -- a block has live pages exactly if a page of a value is in it
   pub block_is : (es : List (Key × Place)) (b : ℕ) → Placed shape es → b < shape.blocks
       → (block_sum (map (head_of shape es) (range_with_len 0 (page_count shape))) shape.block_pages b == 0) ≡ not (is_used shape es b)
   block_is [] b placed less =

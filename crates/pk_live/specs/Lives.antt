@@ -14,7 +14,7 @@ module _ (shape : Shape) where
   head_of [] page = 0
   head_of (e ∷ es) page = (if e.1.page == page then charge shape e.1.len else 0) + head_of es page
 
-  -- a page of these values lies in the block
+  -- a page of these values is in the block
   abbrev pub is_used : List (Key × Place) → ℕ → Bool
   is_used es block = list_any (λ p. p / shape.block_pages == block) (all_pages shape es)
 
@@ -26,12 +26,12 @@ module _ (shape : Shape) where
     closed = map (is_used es) (range_with_len 0 shape.blocks);
   }
 
--- The live map stands for these values, which lie within blocks and together pass the reading's test of their pages.
+-- The live map represents these values, which are within blocks and together pass the reading's test of their pages.
 pub record Lives (shape : Shape) (named : List ℕ) (live : Values) (taken : List (Key × Place)) : Type 0 where
   pub map_is : live ≡ live_of shape taken
   pub places : AllByRecursion (λ e. IsPlace shape e.1) taken
   pub placed_well : fits shape named (all_pages shape taken) ≡ true
 
--- A live map without values stands for none.
+-- A live map without values represents none.
 abbrev pub StartsWithNone : Type 0
 StartsWithNone = (shape : Shape) (named : List ℕ) → IsShape shape → Lives shape named (no_values shape) []

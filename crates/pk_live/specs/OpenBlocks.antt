@@ -1,4 +1,4 @@
--- The block that takes the next values, where there is one.
+-- The block that takes the next values, if there is one.
 use Rattle.std.specs.Prelude.{◌≢◌, ℕ, List, Bool, slice_set, true, Option, Some, None}
 use Rattle.pk_live.specs.declared.open_block.OpenBlock.{OpenBlock}
 

@@ -3,7 +3,7 @@ use Rattle.std.specs.Prelude.{◌≡◌, ℕ, Bool, true, false, ◌+◌, ◌*�
 use Rattle.pk_base.specs.declared.sizes.TheConstants.{MOST_BLOCK_PAGES, MOST_BLOCKS}
 use Rattle.pk_base.specs.Shape.{Shape, page_count}
 
--- the pages of a block, the pages of the value that begins at each page, 0 where none does, and which blocks are closed
+-- the pages of a block, the pages of the value that begins at each page, 0 if none does, and which blocks are closed
 pub record Values : Type 0 where
   pub block_pages : ℕ
   pub heads : List ℕ
@@ -63,6 +63,6 @@ pub record IsBestBelow (counts : List ℕ) (flags : List Bool) (i b : ℕ) : Typ
   pub least : (k : ℕ) → k < i → slice_get flags k ≡ Some true → slice_index counts b ≤ slice_index counts k
   pub lowest : (k : ℕ) → k < b → slice_get flags k ≡ Some true → slice_index counts b < slice_index counts k
 
--- the best of the closed blocks below i, or none where none is closed
+-- the best of the closed blocks below i, or none if none is closed
 abbrev pub IsBestOf : List ℕ → List Bool → ℕ → Option ℕ → Type 0
 IsBestOf counts closed i best = MatchOption best ((k : ℕ) → k < i → slice_get closed k ≡ Some true → ⊥) (λ b. IsBestBelow counts closed i b)

@@ -16,7 +16,7 @@ use std::alloc::{AllocError, Allocator};
 use std::marker::Model;
 
 /// The live values. Contracts see how many pages the value has that begins at each page, which is 0
-/// where none begins, and which blocks are closed.
+/// if none begins, and which blocks are closed.
 pub struct Live<A: Allocator> {
     block_pages: u32,
     total: u32,
@@ -73,7 +73,7 @@ impl<A: Allocator + Clone> Live<A> {
 }
 
 impl<A: Allocator> Live<A> {
-    /// A value of so many pages begins at the page, where none began, and ends in the page's block.
+    /// A value of `count` pages begins at the page, where none began, and ends in the page's block.
     pub fn set(&mut self, page: u32, count: u32)
         requires free { slice_get self.old.heads page ≡ Some 0 }
         requires inside { page % self.old.block_pages + count ≤ self.old.block_pages }
@@ -85,7 +85,7 @@ impl<A: Allocator> Live<A> {
         self.total += count;
     }
 
-    /// The value that begins at the page, of so many pages, is live no more.
+    /// The value that begins at the page, of `count` pages, is no longer live.
     pub fn clear(&mut self, page: u32, count: u32)
         requires { slice_get self.old.heads page ≡ Some count }
         ensures { self.new ≡ record self.old { heads = slice_set self.old.heads page 0 } }
@@ -195,7 +195,7 @@ fn least(counts: &[u32], closed: &[bool]) -> Option<usize>
     best
 }
 
-// The best of the blocks up to `i`, where `best` is that of the blocks below.
+// The best of the blocks up to `i`, if `best` is that of the blocks below.
 fn better(counts: &[u32], closed: &[bool], i: usize, best: Option<usize>) -> Option<usize>
     requires lengths { length counts.now ≡ length closed.now }
     requires i { i < length closed.now }

@@ -25,7 +25,7 @@ pub none_of_firsts : (es : List Entry) → length (firsts es) ≡ 0 → es ≡ [
 none_of_firsts [] none = refl
 none_of_firsts (e ∷ es) none = let some = firsts_some e es in absurd (omega (arith, none, some))
 
--- a buffer is empty exactly where its epoch is
+-- a buffer is empty exactly if its epoch is
 pub tells_some : (es : List Entry) (n : ℕ) → n ≡ length (firsts es) → (length es == 0) ≡ not (nat_lt 0 n)
 tells_some [] n is = rw is refl
 tells_some (e ∷ es) n is = both_some (length (e ∷ es)) n (omega arith) (let some = firsts_some e es in omega (arith, is, some))

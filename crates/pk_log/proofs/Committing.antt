@@ -54,7 +54,7 @@ module _ (log : LogState) (board : BoardState) (top : ℕ × Root) (found : Foun
   abbrev old : ℕ → Page
   old = page_at board.pages
 
-  -- the first page of the commit, as the root tells it
+  -- the first page of the commit, as the root names it
   abbrev page : ℕ
   page = commit_page shape top.1.newest e.used
 

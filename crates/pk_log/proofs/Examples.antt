@@ -1,4 +1,4 @@
--- A log stands on a flash that was just formatted.
+-- A log matches a flash that was just formatted.
 use Rattle.std.proofs.Common.{◌≡◌, ℕ, zero, suc, ◌<◌, ◌≤◌, [], ◌∷◌, replicate, Ok, refl, ◌∙◌, arith}
 use Rattle.pk_base.specs.Shape.{IsShape}
 use Rattle.pk_base.specs.Page.{Flash, page_at, erased, whole}
@@ -38,7 +38,7 @@ epoch_erased (suc (suc n)) small_n k low high = absurd (omega (arith, small_n))
 abbrev first_epoch : JournalEpoch
 first_epoch = started small 1 (2 ∷ 3 ∷ [])
 
--- what `Log::new` and the calls behind it ask for is there
+-- what `Log::new` and the calls after it require exists
 pub made_opens : ((flash : Flash) → AreErased small flash (2 ∷ 3 ∷ []) → EpochOnFlash first_epoch flash)
     → Opens (record { shape = small; root = first }) 0 first_epoch (no_entries small) (no_entries small) made nothing
 made_opens fits = record {

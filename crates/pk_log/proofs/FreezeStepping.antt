@@ -50,7 +50,7 @@ module _ (pool : Blocks) (held : Held) (next : Next) (job : FreezeJob) (old : Bo
   pub goes_on_by : answer ≡ false → FreezeGoesOn pool held next job old has_entries top found m pool' root' next' job' new
   goes_on_by e = let P : Bool → Type 0 = λ b. FreezeSteps pool held next job old has_entries b pool' root' next' job' new in subst P e steps top found m is
 
--- the blocks of an epoch leave, or stay: as many blocks are not ready
+-- the blocks of an epoch leave, or are unchanged: as many blocks are not ready
 same_unready : (h : Bool) (pool : Blocks) (blocks : List ℕ) → AreOwned pool blocks → unready (left_by Journal pool (if h then [] else slice_index blocks 0 ∷ slice_index blocks 1 ∷ [])).states ≡ unready pool.states
 same_unready true pool blocks are = refl
 same_unready false pool blocks are =

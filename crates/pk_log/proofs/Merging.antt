@@ -22,7 +22,7 @@ use Rattle.pk_log.specs.Logs.{LogOnFlash}
 use Rattle.pk_log.specs.MergeSteps.{MayPrepare, LogPrepared, MayMerge, LogMerged, frozen_after}
 use Rattle.pk_log.specs.Finishing.{MayFinish, LogFinished}
 
--- the epoch that a log writes does not lie in the root blocks
+-- the epoch that a log writes is not in the root blocks
 epoch_behind : (log : LogState) (old new : Flash) (top : ℕ × Root) (found : Found) → LogOnFlash log old top found → SameBehind log.shape old new → EpochOnFlash log.epoch new
 epoch_behind log old new top found logs behind =
     let blocks = blocks_of_root log.shape top.1 (valid_root log.shape (page_at old) top logs.is_top) in
@@ -77,7 +77,7 @@ can_merge log flash top found m level count taken may = record {
   number = may.number;
 }
 
--- the frozen buffer holds what is left of the older epoch
+-- the frozen buffer holds what remains of the older epoch
 emptied : (one : Bool) (shape : Shape) (frozen : Table) (older : List Entry) → frozen ≡ buffer_of shape older
     → (if one then record frozen { entries = [] } else frozen) ≡ buffer_of shape (if one then [] else older)
 emptied true shape frozen older is = ap (λ (t : Table). record t { entries = [] }) is

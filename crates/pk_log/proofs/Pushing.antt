@@ -18,9 +18,9 @@ use Rattle.pk_model.specs.Laws.{IsStorable}
 use Rattle.pk_log.specs.State.{LogState, is_full_for, needs_freeze, pushed}
 use Rattle.pk_log.specs.Logs.{LogOnFlash}
 
--- ---- what is left
+-- ---- what remains
 
--- where no freeze is wanted and nothing is pending, the epoch has a page left
+-- if no freeze is needed and nothing is pending, the epoch has a page left
 left_some : (left : ℕ) (full : Bool) → (full || ((0 == 0) && (left == 0))) ≡ false → 0 < left
 left_some zero true e = cc
 left_some zero false e = cc

@@ -1,4 +1,4 @@
--- A log and the flash that it stands on.
+-- A log and the flash that it matches.
 use Rattle.std.proofs.Common.{◌≡◌, inl, inr, ℕ, ◌+◌, ◌-◌, ◌*◌, ◌/◌, ◌<◌, ◌≤◌, refl, sym, ap, subst, ◌∙◌, arith, T, List, ◌++◌, length, slice_index, append-nil}
 use Rattle.std.specs.List.{concat}
 use Rattle.std.proofs.lemmas.Nat.{div-mul-add}

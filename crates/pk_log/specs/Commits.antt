@@ -51,12 +51,12 @@ abbrev pub CommitHolds : LogState → BoardState → BoardState → Type 0
 CommitHolds log old new =
     (top : ℕ × Root) (found : Found) (m0 m1 : Map) → Maps log old top found m0 m1 → IsUnder log.shape new.pages [] top (committed found log.pending) m1
 
--- every cut between the two boards is one of the commit, and the tree of lists stays
+-- every cut between the two boards is one of the commit, and the tree of lists is unchanged
 abbrev pub CommitReaches : LogState → BoardState → BoardState → Type 0
 CommitReaches log old new =
     (top : ℕ × Root) (found : Found) (m0 m1 : Map) → Maps log old top found m0 m1 → Reaches log.shape old new (CommitCut log.shape top found log.pending m0 m1)
 
--- the same where the call may have stopped
+-- the same if the call may have stopped
 abbrev pub CommitGoes : LogState → BoardState → BoardState → Type 0
 CommitGoes log old new =
     (top : ℕ × Root) (found : Found) (m0 m1 : Map) → Maps log old top found m0 m1 → Goes log.shape old new (CommitCut log.shape top found log.pending m0 m1)

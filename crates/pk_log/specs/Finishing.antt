@@ -14,13 +14,13 @@ use Rattle.pk_compact.specs.Installing.{IsHalf}
 use Rattle.pk_log.specs.State.{LogState}
 use Rattle.pk_log.specs.Logs.{LogOnFlash}
 
--- The log stands on the flash, whose map this is, and the pair of its root is half made.
+-- The log matches the flash, whose map this is, and the pair of its root is half made.
 pub record MayFinish (log : LogState) (flash : Flash) (top : ℕ × Root) (found : Found) (m : Map) : Type 0 where
   pub logs : LogOnFlash log flash top found
   pub under : IsUnder log.shape flash [] top found m
   pub half : IsHalf log.shape log.next flash m
 
--- The pair is whole, and the log stands as before, but for what its installer does next. The map is the same, wherever the program is cut.
+-- The pair is whole, and the log is as before, but for what its installer does next. The map is the same wherever the program is cut.
 pub record LogFinished (log : LogState) (old : BoardState) (top : ℕ × Root) (found : Found) (m : Map) (log' : LogState) (new : BoardState) : Type 0 where
   pub same_log : log' ≡ record log { next = log'.next }
   pub whole : repeats_next log'.next ≡ false
@@ -30,7 +30,7 @@ pub record LogFinished (log : LogState) (old : BoardState) (top : ℕ × Root) (
   pub behind : SameBehind log.shape old.pages new.pages
   pub cuts : Reaches log.shape old new (CrashFinds log.shape background old.pages m)
 
--- so for each of the maps that it might stand for
+-- so for each of the maps that it might have
 abbrev pub LogFinishes : LogState → BoardState → LogState → BoardState → Type 0
 LogFinishes log old log' new =
     (top : ℕ × Root) (found : Found) (m : Map) → MayFinish log old.pages top found m → LogFinished log old top found m log' new

@@ -46,7 +46,7 @@ pub record CanStep (log : LogState) (pool : Blocks) (job : FreezeJob) (flash : F
   pub taken : AllByRecursion (IsTaken log.shape pool flash log.root) (taken_by job)
   pub different : differ (taken_by job) ≡ true
 
--- The freeze is one step further, and the log stands as before, but for what its installer does next.
+-- The freeze is one step further, and the log is as before, but for what its installer does next.
 pub record LogGoesOn (log : LogState) (pool : Blocks) (job : FreezeJob) (old : BoardState) (top : ℕ × Root) (found : Found) (m : Map) (log' : LogState) (pool' : Blocks) (job' : FreezeJob) (new : BoardState) : Type 0 where
   pub still : CanStep log' pool' job' new.pages top found m
   pub same_log : log' ≡ record log { next = log'.next }
@@ -60,7 +60,7 @@ pub record LogGoesOn (log : LogState) (pool : Blocks) (job : FreezeJob) (old : B
 abbrev pub begun : LogState → Root → Next → List ℕ → LogState
 begun log root next blocks = record log { root = root; next = next; epoch = started log.shape root.epoch blocks; active = log.frozen; frozen = log.active }
 
--- The freeze's root was programmed in the first page of its pair, and the log stands on the flash: an empty epoch is the newest one, the buffers
+-- The freeze's root was programmed in the first page of its pair, and the log matches the flash: an empty epoch is the newest one, the buffers
 -- are exchanged, and the blocks of a former epoch without entries leave. They may be given back after the second program: no spare block is read
 -- then.
 pub record LogFrozen (log : LogState) (pool : Blocks) (job : FreezeJob) (old : BoardState) (top : ℕ × Root) (found : Found) (m : Map) (log' : LogState) (pool' : Blocks) (job' : FreezeJob) (new : BoardState) : Type 0 where

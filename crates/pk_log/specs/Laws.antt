@@ -12,6 +12,6 @@ use Rattle.pk_log.specs.Logs.{LogOnFlash}
 abbrev pub SameNamed : Shape → Root → Flash → Flash → Type 0
 SameNamed shape root old new = (k : ℕ) → (k < root_pages shape) ⊎ IsNamed shape root k → page_at new k ≡ page_at old k
 
--- then a log stands as before
+-- then a log is as before
 abbrev pub LogsElsewhere : Type 0
 LogsElsewhere = (log : LogState) (old new : Flash) (top : ℕ × Root) (found : Found) → SameNamed log.shape top.1 old new → LogOnFlash log old top found → LogOnFlash log new top found

@@ -1,4 +1,4 @@
--- How a log stands to a flash.
+-- How a log matches a flash.
 use Rattle.std.specs.Prelude.{◌≡◌, ◌≢◌, ℕ, ◌<◌, ◌≤◌, [], ◌++◌, length, false, Some, Ok}
 use Rattle.std.specs.List.{AllByRecursion}
 use Rattle.pk_base.specs.Shape.{IsShape, page_entries}
@@ -15,7 +15,7 @@ use Rattle.pk_model.specs.Laws.{IsStorable}
 use Rattle.pk_log.specs.State.{LogState}
 
 -- The newest root with its page, and what is found under it, are what the log keeps: the epoch is the root's newest one, the
--- active buffer has its entries and behind them the pending ones, and the frozen one those of the older epoch.
+-- active buffer has its entries and after them the pending ones, and the frozen one those of the older epoch.
 pub record LogOnFlash (log : LogState) (flash : Flash) (top : ℕ × Root) (found : Found) : Type 0 where
   pub is_shape : IsShape log.shape
   pub is_top : newest_root log.shape (page_at flash) ≡ Some top
@@ -34,7 +34,7 @@ pub record LogOnFlash (log : LogState) (flash : Flash) (top : ℕ × Root) (foun
   pub pending_room : log.pending ≢ [] → 0 < left_of log.epoch
   pub pending_whole : log.pending ≢ [] → log.epoch.half ≡ false
 
--- the same of what was found at opening, where nothing is pending
+-- the same of what was found at opening, if nothing is pending
 pub record Opens (held : Held) (page : ℕ) (epoch : JournalEpoch) (active frozen : Table) (flash : Flash) (found : Found) : Type 0 where
   pub is_top : newest_root held.shape (page_at flash) ≡ Some (page, held.root)
   pub is_found : found_under held.shape (page_at flash) held.root ≡ Ok found

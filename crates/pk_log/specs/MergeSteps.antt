@@ -1,4 +1,4 @@
--- The install of a merge over a log, in two steps: the erase before its root, where one is next, and its first program.
+-- The install of a merge over a log, in two steps: the erase before its root, if one is next, and its first program.
 use Rattle.std.specs.Prelude.{◌≡◌, ℕ, ◌+◌, ◌<◌, ◌≤◌, List, [], ◌==◌, if◌then◌else◌, true}
 use Rattle.pk_base.specs.Page.{Flash, SameBehind}
 use Rattle.pk_base.specs.Map.{Map}
@@ -19,12 +19,12 @@ use Rattle.pk_log.specs.Logs.{LogOnFlash}
 
 -- ---- the erase
 
--- The log stands on the flash, whose map this is.
+-- The log matches the flash, whose map this is.
 pub record MayPrepare (log : LogState) (flash : Flash) (top : ℕ × Root) (found : Found) (m : Map) : Type 0 where
   pub logs : LogOnFlash log flash top found
   pub under : IsUnder log.shape flash [] top found m
 
--- The log stands as before, but that the first program of the next root is next; the map is the same, wherever the erase is cut.
+-- The log is as before, but that the first program of the next root is next; the map is the same wherever the erase is cut.
 pub record LogPrepared (log : LogState) (old : BoardState) (top : ℕ × Root) (found : Found) (m : Map) (log' : LogState) (new : BoardState) : Type 0 where
   pub same_log : log' ≡ record log { next = log'.next }
   pub programs : programs_next log'.next ≡ true
@@ -33,7 +33,7 @@ pub record LogPrepared (log : LogState) (old : BoardState) (top : ℕ × Root) (
   pub behind : SameBehind log.shape old.pages new.pages
   pub cuts : Reaches log.shape old new (CrashFinds log.shape background old.pages m)
 
--- so for each of the maps that it might stand for
+-- so for each of the maps that it might have
 abbrev pub LogPrepares : LogState → BoardState → LogState → BoardState → Type 0
 LogPrepares log old log' new =
     (top : ℕ × Root) (found : Found) (m : Map) → MayPrepare log old.pages top found m → LogPrepared log old top found m log' new
@@ -46,7 +46,7 @@ LogPrepareBreaks log old new =
 
 -- ---- the first program
 
--- The log stands on the flash, and the output of the next merge, of so many entries, stands in these blocks.
+-- The log matches the flash, and the output of the next merge, of n entries, is in these blocks.
 pub record MayMerge (log : LogState) (flash : Flash) (top : ℕ × Root) (found : Found) (m : Map) (level count : ℕ) (taken : List ℕ) : Type 0 where
   pub logs : LogOnFlash log flash top found
   pub under : IsUnder log.shape flash [] top found m
@@ -62,8 +62,8 @@ KeepsActive log log' = log' ≡ record log { root = log'.root; next = log'.next;
 abbrev pub frozen_after : ℕ → Table → Table
 frozen_after level frozen = if level == 1 then record frozen { entries = [] } else frozen
 
--- The log stands under the root of the merge, which is the newest one, with its pair half made; of the log only this, what its installer does next, and the frozen buffer differ.
--- The map is the same, wherever the program is cut.
+-- The log is under the root of the merge, which is the newest one, with its pair half made; of the log only this, what its installer does next, and the frozen buffer differ. The
+-- map is the same wherever the program is cut.
 pub record LogMerged (log : LogState) (old : BoardState) (top : ℕ × Root) (found : Found) (m : Map) (level count : ℕ) (taken : List ℕ) (log' : LogState) (new : BoardState) : Type 0 where
   pub page : ℕ
   pub merged_is : log' ≡ record log { root = merged_root top.1 level count taken; next = log'.next; frozen = frozen_after level log.frozen }
@@ -74,7 +74,7 @@ pub record LogMerged (log : LogState) (old : BoardState) (top : ℕ × Root) (fo
   pub behind : SameBehind log.shape old.pages new.pages
   pub cuts : Reaches log.shape old new (CrashFinds log.shape background old.pages m)
 
--- so for each of the maps that it might stand for
+-- so for each of the maps that it might have
 abbrev pub LogMerges : LogState → BoardState → ℕ → ℕ → List ℕ → LogState → BoardState → Type 0
 LogMerges log old level count taken log' new =
     (top : ℕ × Root) (found : Found) (m : Map) → MayMerge log old.pages top found m level count taken

@@ -35,7 +35,7 @@ entry_of log key = or_else (find key_cmp key log.active.entries) (find key_cmp k
 abbrev pub is_full_for : Table → Key → Bool
 is_full_for table key = (length table.entries == table.capacity) && not (is_some (find key_cmp key table.entries))
 
--- A further entry of this key wants a freeze before it: the active buffer is full for it, or the entry would be the first one
+-- A further entry of this key needs a freeze before it: the active buffer is full for it, or the entry would be the first one
 -- pending and the epoch takes no more commits.
 abbrev pub needs_freeze : LogState → Key → Bool
 needs_freeze log key = is_full_for log.active key || ((length log.pending == 0) && (left_of log.epoch == 0))

@@ -26,9 +26,10 @@ impl<A: Region> Log<A> {
         self.installer.repeats()
     }
 
-    /// Programs the newest root once more, in the second page of its pair: the one call of the board. Then the blocks that leave are
-    /// free. The map is the same, wherever it is cut. `Stopped` if it fails; log and pool are not to be used any more then. `buf` has
-    /// the bytes of a page, which are lost.
+    /// Programs the newest root once more, in the second page of its pair: the one flash operation.
+    /// Then the blocks that leave are free. The map is the same wherever it is cut. `Stopped` if it
+    /// fails; log and pool may not be used after that. `buf` has the size of a page and is
+    /// overwritten.
     pub fn finish_pair<B: Nand>(
         &mut self,
         board: &mut B,
@@ -55,7 +56,7 @@ impl<A: Region> Log<A> {
         ensures none { OnOk result (NoneLeaves pool.new) }
         ensures fits { (flash : Flash) → PoolOnFlash pool.old flash → PoolOnFlash pool.new flash }
 
-        // What stays in any case.
+        // What is unchanged in any case.
         ensures same_log { self.new ≡ record self.old { next = self.new.next } }
         ensures buffer { length buf.new ≡ length buf.old }
     {

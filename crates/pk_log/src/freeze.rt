@@ -15,11 +15,13 @@ use pk_pool::Pool;
 use pk_region::Region;
 
 impl<A: Region> Log<A> {
-    /// One step of a freeze up to the first program of its root, by at most one call of the board: a block of the empty epoch, the
-    /// other one, the erase before the root, its first program. True exactly if this call made that program: the empty epoch is the
-    /// newest one then, the buffers are exchanged, the blocks of a former epoch without entries leave, and the second program is next.
-    /// Until then log and lists are as they were. Nothing may be pending, nothing frozen, and no pair half made. `Stopped` if the call
-    /// fails; log, pool and freeze are not to be used any more then. `buf` has the bytes of a page, which are lost.
+    /// One step of a freeze up to the first program of its root, by at most one flash operation: a
+    /// block of the empty epoch, the other one, the erase before the root, its first program. True
+    /// exactly if this call made that program: the empty epoch is the newest one then, the buffers
+    /// are exchanged, the blocks of a former epoch without entries leave, and the second program is
+    /// next. Until then log and lists are unchanged. Nothing may be pending, nothing frozen, and no
+    /// pair half made. `Stopped` if the operation fails; log, pool and freeze may not be used after
+    /// that. `buf` has the size of a page and is overwritten.
     pub fn freeze_step<B: Nand>(
         &mut self,
         board: &mut B,
@@ -40,7 +42,7 @@ impl<A: Region> Log<A> {
             (LogStepBreaks self.old pool.old job.old (B.state board.old) (B.state board.new))
             self.old.shape 1 (B.state board.old) (B.state board.new) result }
 
-        // What stays in any case.
+        // What is unchanged in any case.
         ensures same_shape { self.new.shape ≡ self.old.shape }
         ensures pending { self.new.pending ≡ self.old.pending }
         ensures buffer { length buf.new ≡ length buf.old }

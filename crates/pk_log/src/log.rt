@@ -26,7 +26,8 @@ use pk_rootfmt::Root;
 use std::alloc::AllocError;
 use std::marker::Model;
 
-/// What a drive keeps of its journal. Contracts see it as a value, and `LogOnFlash` says how it stands to a flash.
+/// What a drive keeps of its journal. Contracts see it as a value, and `LogOnFlash` says how it
+/// matches a flash.
 pub struct Log<A: Region> {
     pub(crate) root: Root<A>,
     pub(crate) installer: Installer,
@@ -219,7 +220,7 @@ impl<A: Region> Log<A> {
         ensures cuts { OnOk result (CommitReaches self.old (B.state board.old)
             (B.state board.new)) }
 
-        // Or one of them failed, and the log stays.
+        // Or one of them failed, and the log is unchanged.
         ensures stopped { IfErr result (λ e. e ≡ Stopped) }
         ensures err { OnErr result (CommitFailed self.old (B.state board.old) (B.state board.new)) }
         ensures cuts_err { OnErr result (CommitGoes self.old (B.state board.old)

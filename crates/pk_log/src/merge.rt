@@ -14,7 +14,7 @@ use pk_compact::{install_merge, prepare_root};
 use pk_nand::{Fault, Nand};
 use pk_region::Region;
 
-// Empties the frozen buffer behind a merge of it, which is one into level 1.
+// Empties the frozen buffer after a merge of it, which is one into level 1.
 fn empty_merged<A: Region>(frozen: &mut Buffer<A>, level: u8)
     ensures { frozen.new ≡ frozen_after level frozen.old }
 {
@@ -31,8 +31,9 @@ impl<A: Region> Log<A> {
         self.installer.erases()
     }
 
-    /// Erases the root block that is next, behind which the next root is programmed: the one call of the board. The log stands as
-    /// before, and the map is the same, wherever it is cut. `Stopped` where it fails; the log is not to be used any more then.
+    /// Erases the root block that is next, after which the next root is programmed: the one flash
+    /// operation. The log is as before, and the map is the same wherever it is cut. `Stopped` if it
+    /// fails; the log may not be used after that.
     pub fn prepare_root<B: Nand>(&mut self, board: &mut B) -> Result<(), Fault>
         // The board, and an erase that is next.
         requires ready { IsReady (B.state board.old) self.old.shape }
@@ -46,16 +47,17 @@ impl<A: Region> Log<A> {
             (LogPrepareBreaks self.old (B.state board.old) (B.state board.new))
             self.old.shape 0 (B.state board.old) (B.state board.new) result }
 
-        // What stays in any case.
+        // What is unchanged in any case.
         ensures same_log { self.new ≡ record self.old { next = self.new.next } }
     {
         prepare_root(board, self.root.shape(), &mut self.installer)
     }
 
-    /// Installs the root after a merge into this level, whose output, of `count` entries, stands in these blocks: its first program is
-    /// the one call of the board, and its second one is next. A merge into level 1 empties the frozen buffer. The map is the same,
-    /// wherever it is cut. `Stopped` if it fails; the log is not to be used any more then. `buf` has the bytes of a page, which are
-    /// lost.
+    /// Installs the root after a merge into this level, whose output, of `count` entries, is in
+    /// these blocks: its first program is the one flash operation, and its second one is next. A
+    /// merge into level 1 empties the frozen buffer. The map is the same wherever it is cut.
+    /// `Stopped` if it fails; the log may not be used after that. `buf` has the size of a page and
+    /// is overwritten.
     pub fn install_merge<B: Nand>(
         &mut self,
         board: &mut B,
@@ -64,7 +66,7 @@ impl<A: Region> Log<A> {
         taken: &[u16],
         buf: &mut [u8],
     ) -> Result<(), Fault>
-        // The board, an output that stands, a first program that is next, and a page's bytes.
+        // The board, an output that is complete, a first program that is next, and a page's bytes.
         requires ready { IsReady (B.state board.old) self.old.shape }
         requires programs { programs_next self.old.next ≡ true }
         requires may { (top : ℕ × RootValue) × (found : Found) × (m : Map)
@@ -78,7 +80,7 @@ impl<A: Region> Log<A> {
             (LogMergeBreaks self.old (B.state board.old) level count taken.now (B.state board.new))
             self.old.shape 1 (B.state board.old) (B.state board.new) result }
 
-        // What stays in any case.
+        // What is unchanged in any case.
         ensures keeps { KeepsActive self.old self.new }
         ensures buffer { length buf.new ≡ length buf.old }
     {

@@ -1,4 +1,4 @@
--- What a step does to a board beside its pages.
+-- What a step does to a board apart from its pages.
 use Rattle.std.proofs.Common.{◌≡◌, ◌⊎◌, inl, inr, ℕ, List, [], ◌∷◌, refl, sym, subst, Bool}
 use Rattle.pk_base.specs.Entry.{Entry}
 use Rattle.pk_nand.specs.BoardState.{BoardState}

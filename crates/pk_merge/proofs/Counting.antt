@@ -1,4 +1,4 @@
--- How many steps are left of a merge.
+-- How many steps remain of a merge.
 use Rattle.std.proofs.Common.{◌≡◌, inl, inr, ℕ, suc, ◌+◌, ◌-◌, ◌*◌, ◌<◌, ◌≤◌, ap, ◌∙◌, arith, Bool, true, false, if◌then◌else◌, List, [], ◌∷◌, ◌++◌, length, length-append}
 use Rattle.pk_base.specs.Shape.{IsShape, run_pages, run_blocks}
 use Rattle.pk_base.specs.Entry.{Entry}
@@ -27,7 +27,7 @@ use Rattle.pk_merge.proofs.Needing.{page_to_come, block_to_come, pages_fit, bloc
 
 -- ---- blocks that are taken
 
--- where no block changes its state, less left is less
+-- if no block changes its state, less left is less
 same_blocks : (left left' : ℕ) (pool pool' : Blocks) → pool' ≡ pool → left' < left → Lowers left (unready pool.states) left' (unready pool'.states)
 same_blocks left left' pool pool' same less =
     let e : unready pool'.states ≡ unready pool.states = ap (λ (p : Blocks). unready p.states) same in
@@ -44,7 +44,7 @@ take_pays pool pool' b left left' (inr ready) is less =
 
 -- ---- steps
 
--- the steps that are left, by their parts: pages of the source and of the target, pages and blocks of the output, and whether entries can be taken
+-- the steps that remain, by their parts: pages of the source and of the target, pages and blocks of the output, and whether entries can be taken
 abbrev sum : ℕ → ℕ → ℕ → ℕ → ℕ → ℕ
 sum a b c d e = (a + b) + c + 2 * d + e
 
@@ -72,7 +72,7 @@ bit_none x e = ap bit e
 bit_one : (x : Bool) → x ≡ true → bit x ≡ 1
 bit_one x e = ap bit e
 
--- a page that the source's cursor wanted and has come to
+-- a page that the source's cursor wanted and has reached
 source_nearer : {X : Type 0} (source : Source X) (flash : Flash) (c d : Cursor) → wants_page_in source c ≡ true → FollowsIn source flash d → d.loaded ≡ suc (own_page c) → pages_in source - d.loaded < pages_in source - c.loaded
 source_nearer (Frozen x) flash c d wants f loaded = absurd (clash wants)
   where

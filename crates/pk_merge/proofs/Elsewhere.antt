@@ -1,4 +1,4 @@
--- A merge runs as before where others change pages and owners that are none of its own.
+-- A merge runs as before if others change pages and owners that are none of its own.
 use Rattle.std.proofs.Common.{◌≡◌, ℕ, ◌*◌, ◌/◌, ◌<◌, ◌≤◌, refl, sym, ap, subst, ◌∙◌, arith, Bool, List, length}
 use Rattle.std.specs.Prelude.{slice_index}
 use Rattle.pk_base.specs.Shape.{Shape, IsShape}

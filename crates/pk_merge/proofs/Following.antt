@@ -79,7 +79,7 @@ has_come c h = grind (arith, nat_tests)
 pub has_not_come : (c : Cursor) → wants_page c ≡ true → c.loaded ≤ own_page c
 has_not_come c h = grind (arith, nat_tests)
 
--- the bytes of the page that it has come to
+-- the bytes of the page that it has reached
 pub page_here : (flash : Flash) (r : Kept) (c : Cursor) → Follows flash r c → wants_page c ≡ false → page_at flash (page_of r (page r c.place)) ≡ whole c.bytes
 page_here flash r c f here =
     let come = has_come c here in
@@ -106,7 +106,7 @@ head_is flash arena r es c e is kept inside here read s f =
     entry_there r flash arena es is kept c.place inside e (subst (λ (shape : Shape). slice_get (take (page_entries r.shape) (drop (page r c.place * page_entries r.shape) es)) (c.place % page_entries shape) ≡ Some e) f.same_shape own)
 
 module _ (flash : Flash) (r : Kept) (c : Cursor) (is : IsShape r.shape) (f : Follows flash r c) where
-  -- it has come to the page of its place
+  -- it has reached the page of its place
   pub Follows-loaded : IsKept r → c.place < r.count → (bytes : List ℕ) → page_at flash (page_of r (own_page c)) ≡ whole bytes → Follows flash r (record c { loaded = suc (own_page c); bytes = bytes })
   Follows-loaded kept inside bytes here = record {
     same_shape = f.same_shape;
@@ -120,7 +120,7 @@ module _ (flash : Flash) (r : Kept) (c : Cursor) (is : IsShape r.shape) (f : Fol
   pub Follows-kept : (bytes : List ℕ) → wants_page c ≡ true → Follows flash r (record c { bytes = bytes })
   Follows-kept bytes wants = record { same_shape = f.same_shape; within = f.within; pages = f.pages; behind = f.behind; holds = λ e. absurd (let before = has_not_come c wants in omega (arith, before, e)) }
 
-  -- it goes behind an entry
+  -- it moves past an entry
   pub Follows-passed : c.place < r.count → Follows flash r (passed c)
   Follows-passed inside =
       let later = later_page c.place (page_entries c.shape) (subst (λ (s : Shape). 0 < page_entries s) (sym f.same_shape) (entries_some r.shape is)) in

@@ -61,7 +61,7 @@ itself l = elim (eqb_tells l l) [
   | inr ne ↦ absurd (ne.1 refl)
 ]
 
--- a lease that stands in a list stands there once at least
+-- a lease that is in a list is there at least once
 among : (ls : List ℕ) (j l : ℕ) → slice_get ls j ≡ Some l → times l ls ≡ 0 → ⊥
 among [] j l got none = cc
 among (x ∷ ls) zero l got none =
@@ -114,7 +114,7 @@ are_apart a leases others all i l got =
 
 -- ---- giving back
 
--- a run that has none of the frames stands as before
+-- a run that has none of the frames is as before
 pub stands_back : (a : Frames) (ls : List ℕ) → LeavesOthers ls a (given_all a ls)
 stands_back a [] r flash es none s = s
 stands_back a (l ∷ ls) r flash es none s = RunOnFlash-given r flash (given_all a ls) es l (none 0 l refl) (stands_back a ls r flash es (λ i x got. none (suc i) x got) s)

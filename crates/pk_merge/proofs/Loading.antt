@@ -13,7 +13,7 @@ use Rattle.pk_merge.specs.Sources.{count_of, Has, FollowsIn, IsOf, wants_page_in
 use Rattle.pk_merge.specs.Merging.{Merger}
 use Rattle.pk_merge.specs.Steps.{LoadsSource, LoadsTarget}
 
--- the page at a cursor in the source may be loaded, where it wants one
+-- the page at a cursor in the source may be loaded, if it wants one
 pub may_load_in : {X : Type 0} (source : Source X) (c : Cursor) (shape : Shape) (board : BoardState)
     (arena : Frames) (es : List Entry) → IsReady board shape → IsOf shape source
     → Has source board.pages arena es → FollowsIn source board.pages c → c.place < count_of source
@@ -31,7 +31,7 @@ may_load_in (Run r) c shape board arena es ready of has follows exists wants = r
   wants = wants;
 }
 
--- where it is loaded, the merge has loaded the page of its source
+-- if it is loaded, the merge has loaded the page of its source
 pub loads_in : {X : Type 0} (source : Source X) (m : Merger) (old : BoardState) (c : Cursor)
     (new : BoardState) → LoadsIn source m.source old c new
     → LoadsSource source m old (record m { source = c }) new

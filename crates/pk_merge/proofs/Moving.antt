@@ -28,7 +28,7 @@ use Rattle.pk_merge.specs.Merging.{Merger, StandsIn}
 use Rattle.pk_merge.specs.Outputs.{AreMeta, AreApart, IsOutput, OthersStand, next_bytes}
 use Rattle.pk_merge.proofs.Places.{apart, rest, block_there, page_of_place, other_page}
 
--- a run's pages are the same, and it stands as before
+-- a run's pages are the same, and it is as before
 abbrev pub Moves : Kept → Flash → Flash → Frames → Frames → Type 0
 Moves r old new before after = SamePages r old new × ((es : List Entry) → RunOnFlash r old before es → RunOnFlash r new after es)
 

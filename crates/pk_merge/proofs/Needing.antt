@@ -130,7 +130,7 @@ module _ {X : Type 0} (source : Source X) (target out : Kept) (m : Merger) (flas
         (sorted_right g.entries (m.gathered ++ left out.level es fs m) (subst (λ (xs : List Entry). T (is_sorted key_cmp xs)) g.makes (output_sorted out.level es fs))));
   }
 
-  -- its entries go on behind those of the pages before
+  -- its entries follow those of the pages before
   pub next_rises : T (is_sorted key_cmp (g.entries ++ m.gathered))
   next_rises =
       sorted_left (g.entries ++ m.gathered) (left out.level es fs m)
@@ -142,7 +142,7 @@ module _ {X : Type 0} (source : Source X) (target out : Kept) (m : Merger) (flas
       (deep_right (out.level == 4) g.entries (m.gathered ++ left out.level es fs m)
       (subst (λ (xs : List Entry). T (not (out.level == 4) || list_all (λ e. is_some e.1) xs)) g.makes (output_deepest out.level es fs)))
 
-  -- where all pages of its blocks are used, there is a block to come
+  -- if all pages of its blocks are used, there is a block to come
   module _ (used : length out.firsts ≡ length out.blocks * out.shape.block_pages) where
     pub block_to_come : length out.blocks < run_blocks out.shape (length all)
     block_to_come =

@@ -1,4 +1,4 @@
--- What is left of a merge of two sorted lists, behind the entry that comes next.
+-- What remains of a merge of two sorted lists, after the entry that comes next.
 use Rattle.std.proofs.Common.{◌≡◌, ℕ, refl, sym, ap, subst, ◌∙◌, Bool, true, false, ◌&&◌, T, List, [], ◌∷◌, ◌++◌, filter, not, ◌||◌, ◌==◌, is_some, if◌then◌else◌}
 use Rattle.std.specs.declared.cmp.Ordering.{Ordering}
 use Rattle.std.specs.declared.cmp.Ordering.TheVariants.{Less, Equal, Greater}

@@ -13,7 +13,7 @@ use Rattle.pk_run.specs.Kept.{Kept, IsKept, RunOnFlash, page_of}
 use Rattle.pk_run.proofs.Lookups.{page_stands}
 use Rattle.pk_merge.specs.Outputs.{IsOutput, AreApart}
 
--- the rows of block a end where those of a later block begin, or before
+-- the rows of block a end if those of a later block begin, or before
 pub apart : (a b n : ℕ) → a < b → a * n + n ≤ b * n
 apart a b n h = omega (arith, mul-le-mul_right {m = suc a} {n = b} n (omega arith), suc-mul a n)
 

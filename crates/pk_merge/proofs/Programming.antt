@@ -57,7 +57,7 @@ alike pins r flash old new bytes None k pinned here = subst (λ (b : Bool). IsPi
 alike pins r flash old new bytes (Some l) k pinned here =
     (subst (λ (b : Bool). IsPinnedIf b r) k.0 pinned, record { leased = k.3; bytes = here ∙ ap (λ (xs : List ℕ). whole xs) (sym k.4) })
 
--- every page has a frame, or none has, behind it too
+-- every page has a frame, or none has, after it too
 pub pinned_page : (pins : Bool) (r : Kept) (old new : Frames) (bytes : List ℕ) (first : Key) (lease : Option ℕ) (n : ℕ) → KeepsPage pins old new bytes lease → IsPinnedIf pins r → IsPinnedIf pins (with_page r first lease n)
 pinned_page true r old new bytes first None n k pinned = absurd (clash k.0)
   where
@@ -97,7 +97,7 @@ module _ (r : Kept) (flash : Flash) (is : IsShape r.shape) (inside : length r.fi
       (subst (λ (shape : Shape). j < length other.blocks * shape.block_pages) same (let within = s.within in omega (arith, h, within)))
       (ap (λ (shape : Shape). page_in shape other.blocks j) (sym same) ∙ e))) s
 
-  -- the output itself, which has come to the pages before
+  -- the output itself, which has reached the pages before
   pub output_stands : (arena : Frames) (es : List Entry) → IsOutput r flash → RunOnFlash r flash arena es → RunOnFlash r flash' arena es
   output_stands arena es out s =
       RunOnFlash-outside r flash flash' arena es next 1 (nothing_else flash next bytes)
@@ -116,7 +116,7 @@ module _ (r : Kept) (flash : Flash) (is : IsShape r.shape) (inside : length r.fi
         ∙ out.unused j (omega (arith, past, more)) small;
   }
 
--- the next page with these entries goes on behind the others
+-- the next page with these entries follows the others
 pub next_page : (pins : Bool) (r : Kept) (flash : Flash) (old new : Frames) (more es : List Entry) (first : Key) (lease : Option ℕ) → IsShape r.shape → IsContent r.shape r.level (length r.firsts) more
     → page_of r (length r.firsts) < length flash → KeepsPage pins old new (next_bytes r more) lease → IsPinnedIf pins r → option_map key_of (slice_get more 0) ≡ Some first
     → T (is_sorted key_cmp (es ++ more)) → T (not (r.level == 4) || list_all (λ e. is_some e.1) more)

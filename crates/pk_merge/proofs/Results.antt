@@ -28,7 +28,7 @@ pub either : {X E : Type 0} (r : Result X E) (P : Type 0) (Q : E → Type 0) (R 
 either (Ok x) P Q R h g f k = f h
 either (Err e) P Q R h g f k = k e g
 
--- what holds of a refusal, where it is this one
+-- what holds of a refusal, if it is this one
 pub of_err : {X E : Type 0} (r : Result X E) (e : E) (Q : E → Type 0) → r ≡ Err e → IfErr r Q → Q e
 of_err r e Q is h = subst (λ (x : Result _ _). IfErr x Q) is h
 

@@ -1,4 +1,4 @@
--- What a whole step leaves: its action, and the entries that were taken behind it.
+-- What a whole step leaves: its action, and the entries that were taken after it.
 use Rattle.std.proofs.Common.{◌≡◌, ℕ, ◌≤◌, sym, subst, ◌∙◌, Bool, List, length}
 use Rattle.pk_base.specs.Shape.{IsShape, run_pages, run_blocks}
 use Rattle.pk_base.specs.Entry.{Entry}

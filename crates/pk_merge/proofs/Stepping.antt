@@ -50,7 +50,7 @@ kept_none false = refl
 nothing : (level : ℕ) → kept_at level [] ≡ []
 nothing level = kept_none (level == 4)
 
--- nothing is left behind the end
+-- nothing remains after the end
 pub left_end : {X : Type 0} (source : Source X) (target : Kept) (flash : Flash) (arena : Frames) (es fs : List Entry) (m : Merger) (level : ℕ) → StandsIn source target flash arena es fs m → IsAtEnd source target m → left level es fs m ≡ []
 left_end source target flash arena es fs m level s end =
     let many = many_in source flash arena es s.has in
@@ -58,7 +58,7 @@ left_end source target flash arena es fs m level s end =
     let none : left level es fs m ≡ kept_at level [] = λ i. kept_at level (over (drop_end es m.source.place (omega (arith, many, end.0)) i) (drop_end fs m.target.place (omega (arith, more, end.1)) i)) in
     none ∙ nothing level
 
--- one frame fewer is free where one was taken
+-- one frame fewer is free if one was taken
 free_after : (pins : Bool) (old new : Frames) (bytes : List ℕ) (lease : Option ℕ) → KeepsPage pins old new bytes lease → pins ≡ true → free_frames new + 1 ≡ free_frames old
 free_after pins old new bytes None k e = absurd (clash (sym e ∙ k.0))
   where
@@ -300,7 +300,7 @@ acts_level source target pins out m pool old before End out' m' pool' new after 
 acts_level source target pins out m pool old before TakeBlock out' m' pool' new after (k, e, a, fits) = ap (λ (r : Kept). r.level) k.run_is
 acts_level source target pins out m pool old before Program out' m' pool' new after (k, e, p) = ap (λ (r : Kept). r.level) k.run_is
 
--- at the end the output stands for the whole merge, in as many blocks as it needs
+-- at the end the output represents the whole merge, in as many blocks as it needs
 pub stands_done : {X : Type 0} (source : Source X) (target : Kept) (pins : Bool) (out : Kept) (m : Merger) (pool : Blocks) (flash : Flash) (arena : Frames) (es fs : List Entry) → IsShape out.shape → IsDone source target m
     → Running source target pins out m pool flash arena es fs → IsWhole pins out flash arena (merged out.level es fs)
 stands_done source target pins out m pool flash arena es fs is done r =

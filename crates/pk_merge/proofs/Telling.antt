@@ -45,7 +45,7 @@ tells false false false u v e = cc
 clash : true ≡ false → ⊥
 clash e = cc
 
--- no entry can be taken, though there is room and one is left: a page is wanted
+-- no entry can be taken, though there is room and one remains: a page is needed
 wants : (f a b u v : Bool) → can f a b u v ≡ false → f ≡ false → (a ≡ true → u ≡ false) → ((a ≡ false) → (b ≡ false) → ⊥) → (b ≡ true) × (v ≡ true)
 wants true a b u v e room first some = absurd (clash room)
 wants false true b true v e room first some = absurd (clash (first refl))
@@ -102,7 +102,7 @@ module _ {X : Type 0} (source : Source X) (target : Kept) (m : Merger) where
       (λ a. first (below_is _ _ a)) (λ a b. some (not_below_is _ _ a, not_below_is _ _ b)) in
       (below_is _ _ w.0, w.1)
 
--- ---- what is left behind an entry
+-- ---- what remains after an entry
 
 pub drop_end : (es : List Entry) (n : ℕ) → length es ≤ n → drop n es ≡ []
 drop_end [] zero h = refl

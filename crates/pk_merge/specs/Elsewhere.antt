@@ -27,12 +27,12 @@ StepReaches pool out old new = IsLook old new ⊎ ((b : ℕ) × IsForOutput pool
 abbrev pub StepWent : Blocks → Kept → BoardState → BoardState → Type 0
 StepWent pool out old new = (b : ℕ) × IsForOutput pool out b × WentIn out.shape b old new
 
--- A run of the same shape, whose blocks are owned for meta pages and none of the output's, stands as before.
+-- A run of the same shape, whose blocks are owned for meta pages and none of the output's, is as before.
 abbrev pub LeavesRuns : Blocks → Kept → Flash → Frames → Flash → Frames → Type 0
 LeavesRuns pool out old before new after =
     (other : Kept) (es : List Entry) → other.shape ≡ out.shape → AreMeta pool other.blocks → AreApart other.blocks out.blocks → RunOnFlash other old before es → RunOnFlash other new after es
 
--- The leases of the arena are those of the output and others, which stay.
+-- The leases of the arena are those of the output and others, which are unchanged.
 abbrev pub LeavesLeases : Kept → Frames → Kept → Frames → Type 0
 LeavesLeases out before out' after = (others : List ℕ) → AreLeases before (others ++ out.leases) → AreLeases after (others ++ out'.leases)
 

@@ -12,7 +12,8 @@ use Rattle.pk_merge.specs.Outputs.{AreMeta}
 use Rattle.pk_merge.specs.Running.{Running, IsWhole, merged}
 use Rattle.pk_merge.specs.Remaining.{LowersTo}
 
--- how many levels have frames for their pages, the level of the target or 0, the output, where the merge stands, and a run for each level but those that were taken
+-- how many levels have frames for their pages, the level of the target or 0, the output, the state of the merge, and a run for each level but those
+-- that were taken
 pub record Job : Type 0 where
   pub pinned : ℕ
   pub target : ℕ
@@ -68,12 +69,12 @@ module _ {X : Type 0} (source : Source X) (target : Kept) where
   abbrev pub RunsOn : Job → Blocks → Flash → Frames → Job → Blocks → Flash → Frames → Type 0
   RunsOn j pool old before j' pool' new after = (es fs : List Entry) → JobRuns source target j pool old before es fs → JobRuns source target j' pool' new after es fs
 
-  -- and where it is done its output stands whole
+  -- and if it is done its output is complete
   abbrev pub Completes : Job → Blocks → Flash → Frames → Job → Flash → Frames → Bool → Type 0
   Completes j pool old before j' new after done =
       IsTrue done → (es fs : List Entry) → JobRuns source target j pool old before es fs → IsWhole (pins j) (output_of j') new after (merged (output_of j').level es fs)
 
-  -- a step lowers what is left for the pages and blocks of the whole output, or for more
+  -- a step lowers what remains for the pages and blocks of the whole output, or for more
   abbrev pub LowersRest : Job → Blocks → Flash → Frames → Job → Blocks → Type 0
   LowersRest j pool old before j' pool' =
       (es fs : List Entry) (pages blocks : ℕ) → JobRuns source target j pool old before es fs
@@ -103,12 +104,12 @@ given_to j r = record j { spares = with_spare j.spares r.level (empty r.shape r.
 abbrev pub ended : Job → Job
 ended j = record j { target = 0 }
 
--- each of these frames is leased, and none stands there twice
+-- each of these frames is leased, and none occurs twice
 pub record AreLeased (arena : Frames) (leases : List ℕ) : Type 0 where
   pub leased : (i l : ℕ) → slice_get leases i ≡ Some l → IsLeased arena l
   pub different : (i j l : ℕ) → slice_get leases i ≡ Some l → slice_get leases j ≡ Some l → i ≡ j
 
--- each of these blocks is owned for meta pages, and none stands there twice
+-- each of these blocks is owned for meta pages, and none occurs twice
 pub record AreOwned (pool : Blocks) (blocks : List ℕ) : Type 0 where
   pub meta : AreMeta pool blocks
   pub different : (i j b : ℕ) → slice_get blocks i ≡ Some b → slice_get blocks j ≡ Some b → i ≡ j
@@ -117,7 +118,7 @@ pub record AreOwned (pool : Blocks) (blocks : List ℕ) : Type 0 where
 abbrev pub HasNone : List ℕ → Kept → Type 0
 HasNone leases r = (i l : ℕ) → slice_get leases i ≡ Some l → times l r.leases ≡ 0
 
--- a run that has none of these frames stands as before
+-- a run that has none of these frames is as before
 abbrev pub LeavesOthers : List ℕ → Frames → Frames → Type 0
 LeavesOthers leases before after = (other : Kept) (flash : Flash) (es : List Entry) → HasNone leases other → RunOnFlash other flash before es → RunOnFlash other flash after es
 

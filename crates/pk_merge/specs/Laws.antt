@@ -22,7 +22,7 @@ IdleBehindOne =
     (shape : Shape) (j : Job) (level : ℕ) (out former : Kept) (m : Merger) → IsIdle shape j → m.shape ≡ shape → 1 ≤ level → level ≤ LEVELS → IsFormer shape level former
     → (held_at (done_with shape j level out m) level ≡ Some out) × IsIdle shape (ended (given_to (taken_from (done_with shape j level out m) level) former))
 
--- So it is where besides a run was taken for the level above, the source's, and the former one of that level given back.
+-- So it is if, besides, a run was taken for the level above, the source's, and the former one of that level given back.
 abbrev pub IdleBehindTwo : Type 0
 IdleBehindTwo =
     (shape : Shape) (j : Job) (level : ℕ) (out former source : Kept) (m : Merger) → IsIdle shape j → m.shape ≡ shape → 2 ≤ level → level ≤ LEVELS → IsFormer shape level former → IsFormer shape (level - 1) source

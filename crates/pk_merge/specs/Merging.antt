@@ -1,4 +1,4 @@
--- A merge that runs: where it stands, what it does next, and what is left of it.
+-- A merge that runs: where it is, what it does next, and what remains of it.
 use Rattle.std.specs.Prelude.{◌≡◌, ◌≢◌, ◌⊎◌, ℕ, ◌+◌, ◌*◌, ◌<◌, ◌≤◌, Bool, true, T, not, ◌&&◌, ◌||◌, ◌==◌, nat_lt, List, [], ◌∷◌, ◌++◌, length, drop}
 use Rattle.std.specs.FinMap.Entries.{is_sorted}
 use Rattle.pk_base.specs.Key.{key_cmp}
@@ -25,7 +25,7 @@ pub record Merger : Type 0 where
 abbrev pub restarted : Merger → Merger
 restarted m = record m { source = at_start m.source; target = at_start m.target; gathered = [] }
 
--- what is left of the merge of two lists into a run of this level, behind so many entries of each
+-- what remains of the merge of two lists into a run of this level, after this many entries of each
 abbrev pub left_of : ℕ → List Entry → List Entry → ℕ → ℕ → List Entry
 left_of level es fs i j = kept_at level (over (drop i es) (drop j fs))
 
@@ -34,7 +34,7 @@ left level es fs m = left_of level es fs m.source.place m.target.place
 
 -- ---- entries that are taken
 
--- behind an entry of the source alone, of the target alone, and of both: of one key that of the source is taken
+-- after an entry of the source alone, of the target alone, and of both: of one key that of the source is taken
 abbrev pub takes_source : ℕ → Entry → Merger → Merger
 takes_source level e m = record m { source = passed m.source; gathered = m.gathered ++ kept_at level (e ∷ []) }
 
@@ -51,7 +51,7 @@ taken m = m.source.place + m.target.place
 -- ---- what it does next
 
 module _ {X : Type 0} (source : Source X) (target : Kept) where
-  -- no entry is left of either
+  -- no entry remains of either
   abbrev pub IsAtEnd : Merger → Type 0
   IsAtEnd m = (count_of source ≤ m.source.place) × (target.count ≤ m.target.place)
 
@@ -70,7 +70,7 @@ module _ {X : Type 0} (source : Source X) (target : Kept) where
   abbrev pub is_left_of_target : Merger → Bool
   is_left_of_target m = nat_lt m.target.place target.count
 
-  -- the next entry can be told, and there is room for it in its page
+  -- the next entry is known, and there is room for it in its page
   unfoldable pub can_gather : Merger → Bool
   can_gather m =
       not (length m.gathered == page_entries m.shape) && (is_left_of_source m || is_left_of_target m)
@@ -85,7 +85,7 @@ module _ {X : Type 0} (source : Source X) (target : Kept) where
   Tells out m Program = HasNextPage m × (length out.firsts ≢ length out.blocks * out.shape.block_pages)
   Tells out m End = IsDone m
 
-  -- The cursors stand among the sorted entries of source and target.
+  -- The cursors are among the sorted entries of source and target.
   pub record StandsIn (flash : Flash) (arena : Frames) (es fs : List Entry) (m : Merger) : Type 0 where
     pub has : Has source flash arena es
     pub stands : RunOnFlash target flash arena fs
@@ -93,7 +93,7 @@ module _ {X : Type 0} (source : Source X) (target : Kept) where
     pub source_at : FollowsIn source flash m.source
     pub target_at : Follows flash target m.target
 
-  -- It stands as before, and with the entries that were taken since the same is left.
+  -- It is as before, and with the entries that were taken since the same remains.
   pub record GoesOn (level : ℕ) (old new : Merger) : Type 0 where
     pub stands : (flash : Flash) (arena : Frames) (es fs : List Entry) → StandsIn flash arena es fs old → StandsIn flash arena es fs new
     pub same : (flash : Flash) (arena : Frames) (es fs : List Entry) → StandsIn flash arena es fs old → old.gathered ++ left level es fs old ≡ new.gathered ++ left level es fs new

@@ -29,7 +29,7 @@ AreMeta pool blocks = (i b : ℕ) → slice_get blocks i ≡ Some b → slice_ge
 abbrev pub AreApart : List ℕ → List ℕ → Type 0
 AreApart blocks others = (i j b : ℕ) → slice_get blocks i ≡ Some b → slice_get others j ≡ Some b → ⊥
 
--- Its blocks are different, and exist; the pages of them that it has not come to are Erased.
+-- Its blocks are different, and exist; the pages of them that it has not reached are Erased.
 pub record IsOutput (r : Kept) (flash : Flash) : Type 0 where
   pub different : (i j b : ℕ) → slice_get r.blocks i ≡ Some b → slice_get r.blocks j ≡ Some b → i ≡ j
   pub exist : (i b : ℕ) → slice_get r.blocks i ≡ Some b → b < r.shape.blocks
@@ -62,7 +62,7 @@ pub record TakesBlock (pool : Blocks) (r : Kept) (old : BoardState) (pool' : Blo
 abbrev pub next_bytes : Kept → List Entry → List ℕ
 next_bytes r more = meta_bytes r.shape r.level (length r.firsts) more
 
--- a run whose blocks are none of the output's stands as before
+-- a run whose blocks are none of the output's is as before
 abbrev pub OthersStand : Kept → Flash → Frames → Flash → Frames → Type 0
 OthersStand r old before new after = (other : Kept) (es : List Entry) → AreApart other.blocks r.blocks → other.shape ≡ r.shape → RunOnFlash other old before es → RunOnFlash other new after es
 
@@ -70,7 +70,7 @@ OthersStand r old before new after = (other : Kept) (es : List Entry) → AreApa
 abbrev pub SameButNext : Kept → Flash → Flash → Type 0
 SameButNext r old new = SameOutsidePair r.shape (page_of r (length r.firsts)) old new
 
--- The next page may be programmed with these entries, and kept in a frame where one is wanted.
+-- The next page may be programmed with these entries, and kept in a frame if one is needed.
 pub record MayProgram (pins : Bool) (r : Kept) (more : List Entry) (flash : Flash)
     (arena : Frames) : Type 0 where
   pub entries : List Entry
@@ -81,12 +81,12 @@ pub record MayProgram (pins : Bool) (r : Kept) (more : List Entry) (flash : Flas
   pub room : length r.firsts < most_pages r
   pub full : r.count ≡ length r.firsts * page_entries r.shape
   pub content : IsContent r.shape r.level (length r.firsts) more
-  -- a frame is free where one is wanted
+  -- a frame is free if one is needed
   pub pinned : IsPinnedIf pins r
   pub free : pins ≡ true → 0 < free_frames arena
   pub frames : arena.page_bytes ≡ r.shape.page_bytes
 
--- The next page has these entries now, and so has a frame where one is wanted.
+-- The next page has these entries now, and so has a frame if one is needed.
 pub record ProgramsPage (pins : Bool) (r : Kept) (more : List Entry) (old : BoardState) (before : Frames) (r' : Kept) (new : BoardState) (after : Frames) : Type 0 where
   pub first : Key
   pub lease : Option ℕ

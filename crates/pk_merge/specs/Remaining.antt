@@ -1,4 +1,4 @@
--- What is left of a merge, as the settling of a drive counts it.
+-- What remains of a merge, as the settling of a drive counts it.
 use Rattle.std.specs.Prelude.{◌⊎◌, ℕ, ◌+◌, ◌-◌, ◌≤◌, if◌then◌else◌, length}
 use Rattle.pk_base.specs.Shape.{cap}
 use Rattle.pk_pool.specs.Blocks.{Blocks}
@@ -10,8 +10,8 @@ use Rattle.pk_merge.specs.Sources.{pages_in}
 use Rattle.pk_merge.specs.Merging.{Merger, can_gather, IsDone}
 
 module _ {X : Type 0} (source : Source X) (target : Kept) where
-  -- Of a merge with an output of at most so many pages in so many blocks: the pages of source and target that are to be loaded, those of the
-  -- output that are to be programmed, its blocks that are to be taken, and a step for entries that can be taken at once.
+  -- Of a merge with an output of at most this many pages in this many blocks: the pages of source and target that are to be loaded, those of
+  -- the output that are to be programmed, its blocks that are to be taken, and a step for entries that can be taken at once.
   abbrev pub rest_of : Kept → Merger → ℕ → ℕ → Rest
   rest_of out m pages blocks = record {
     reads = (pages_in source - m.source.loaded) + (length target.firsts - m.target.loaded);
@@ -20,16 +20,16 @@ module _ {X : Type 0} (source : Source X) (target : Kept) where
     others = if can_gather source target m then 1 else 0;
   }
 
-  -- the steps that are left at most, where a block counts twice
+  -- the steps that remain at most, if a block counts twice
   abbrev pub steps_left : Kept → Merger → ℕ → ℕ → ℕ
   steps_left out m pages blocks = steps_of (rest_of out m pages blocks)
 
-  -- The merge was at its end, or the step lowers what is left, and pays for the block that it took.
+  -- The merge was at its end, or the step lowers what remains, and pays for the block that it took.
   abbrev pub LowersTo : Kept → Merger → Blocks → Kept → Merger → Blocks → ℕ → ℕ → Type 0
   LowersTo out m pool out' m' pool' pages blocks =
       IsDone source target m ⊎ Lowers (steps_left out m pages blocks) (unready pool.states) (steps_left out' m' pages blocks) (unready pool'.states)
 
-  -- Where source and target are within their levels, less is left than a whole merge into the output's level, with seven steps for its begin and its install.
+  -- If source and target are within their levels, less remains than a whole merge into the output's level, with seven steps for its begin and its install.
   abbrev pub IsWithin : Kept → Merger → Type 0
   IsWithin out m =
       pages_in source ≤ cap out.shape (out.level - 1) → length target.firsts ≤ most_pages out

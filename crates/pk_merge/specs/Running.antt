@@ -39,14 +39,14 @@ pub record IsMergerOf (shape : Shape) (m : Merger) : Type 0 where
 abbrev pub HasNoSpare : Kept → Merger → Type 0
 HasNoSpare out m = length out.blocks * out.shape.block_pages < length out.firsts + out.shape.block_pages + min 1 (length m.gathered)
 
--- The output stands, with all its entries, in as many blocks as these need, and in frames where it is pinned.
+-- The output is complete, with all its entries, in as many blocks as these need, and in frames if it is pinned.
 pub record IsWhole (pins : Bool) (out : Kept) (flash : Flash) (arena : Frames) (all : List Entry) : Type 0 where
   pub stands : RunOnFlash out flash arena all
   pub blocks : length out.blocks ≡ run_blocks out.shape out.count
   pub pinned : IsPinnedIf pins out
 
 module _ {X : Type 0} (source : Source X) (target : Kept) where
-  -- The output stands for the first entries of the merge, cut into full pages; behind them follow those that were taken, and what is left.
+  -- The output represents the first entries of the merge, cut into full pages; after them follow those that were taken, and what remains.
   pub record Merging (out : Kept) (m : Merger) (flash : Flash) (arena : Frames) (es fs : List Entry) : Type 0 where
     pub cursors : StandsIn source target flash arena es fs m
     pub entries : List Entry
@@ -74,7 +74,7 @@ module _ {X : Type 0} (source : Source X) (target : Kept) where
     pub of_pool : pool.shape ≡ out.shape
     pub of_frames : arena.page_bytes ≡ out.shape.page_bytes
 
-  -- each page of the output has a frame, where the level is pinned, and for those to come there are free ones; else none has
+  -- each page of the output has a frame, if the level is pinned, and for those to come there are free ones; otherwise none has
   pub record HasFrames (pins : Bool) (out : Kept) (arena : Frames) (count : ℕ) : Type 0 where
     pub pinned : IsPinnedIf pins out
     pub free : pins ≡ true → run_pages out.shape count ≤ free_frames arena + length out.firsts
@@ -87,7 +87,7 @@ module _ {X : Type 0} (source : Source X) (target : Kept) where
     pub blocks : HasBlocks out pool flash (length (merged out.level es fs))
     pub frames : HasFrames pins out arena (length (merged out.level es fs))
 
--- A merge of these lists into a run of this level can be begun: source and target stand, there are blocks for its output, and frames where it is pinned.
+-- A merge of these lists into a run of this level can be begun: source and target match the flash, there are blocks for its output, and frames if it is pinned.
 pub record CanBegin {X : Type 0} (source : Source X) (target : Kept) (pins : Bool) (shape : Shape) (level : ℕ) (pool : Blocks) (flash : Flash) (arena : Frames) (es fs : List Entry) : Type 0 where
   pub has : Has source flash arena es
   pub stands : RunOnFlash target flash arena fs

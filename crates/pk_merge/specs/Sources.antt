@@ -31,12 +31,12 @@ abbrev pub Has : {X : Type 0} → Source X → Flash → Frames → List Entry �
 Has (Frozen b) flash arena es = es ≡ b.now.entries
 Has (Run r) flash arena es = RunOnFlash r.now flash arena es
 
--- a cursor stands among them
+-- a cursor is among them
 abbrev pub FollowsIn : {X : Type 0} → Source X → Flash → Cursor → Type 0
 FollowsIn (Frozen b) flash c = (c.place ≤ length b.now.entries) × (c.loaded ≡ 0)
 FollowsIn (Run r) flash c = Follows flash r.now c
 
--- the entry at its place is on a page that it has not come to
+-- the entry at its place is on a page that it has not reached
 abbrev pub wants_page_in : {X : Type 0} → Source X → Cursor → Bool
 wants_page_in (Frozen b) c = false
 wants_page_in (Run r) c = wants_page c
@@ -46,7 +46,7 @@ abbrev pub IsOf : {X : Type 0} → Shape → Source X → Type 0
 IsOf shape (Frozen b) = ⊤
 IsOf shape (Run r) = r.now.shape ≡ shape
 
--- the board behind a look at a page: one read, and none where the page has a frame
+-- the board after a look at a page: one read, and none if the page has a frame
 abbrev pub after_look_at : {X : Type 0} → Source X → BoardState → BoardState
 after_look_at (Frozen b) board = board
 after_look_at (Run r) board = after_look r.now.leases board

@@ -33,7 +33,7 @@ pub record LoadsTarget (target : Kept) (m : Merger) (old : BoardState) (m' : Mer
 module _ {X : Type 0} (source : Source X) (target : Kept) where
   -- ---- a step that is done
 
-  -- the action that comes next was done, with at most one call of the board
+  -- the action that comes next was done, with at most one flash operation
   abbrev pub Acts : Bool → Kept → Merger → Blocks → BoardState → Frames → Next → Kept → Merger → Blocks → BoardState → Frames → Type 0
   Acts pins out m pool old arena LoadSource out' m' pool' new arena' = LoadsSource source m old m' new × (out' ≡ out) × (pool' ≡ pool) × (arena' ≡ arena)
   Acts pins out m pool old arena LoadTarget out' m' pool' new arena' = LoadsTarget target m old m' new × (out' ≡ out) × (pool' ≡ pool) × (arena' ≡ arena)
@@ -42,7 +42,7 @@ module _ {X : Type 0} (source : Source X) (target : Kept) where
   Acts pins out m pool old arena Program out' m' pool' new arena' = ProgramsPage pins out m.gathered old arena out' new arena' × (m' ≡ record m { gathered = [] }) × (pool' ≡ pool)
   Acts pins out m pool old arena End out' m' pool' new arena' = (new ≡ old) × (m' ≡ m) × (out' ≡ out) × (pool' ≡ pool) × (arena' ≡ arena)
 
-  -- One action, and then entries are taken until a page is wanted for the next one, those of a page are there, or none is left.
+  -- One action, and then entries are taken until a page is needed for the next one, those of a page are there, or none remains.
   pub record Steps (pins : Bool) (out : Kept) (m : Merger) (pool : Blocks) (old : BoardState) (arena : Frames) (out' : Kept) (m' : Merger) (pool' : Blocks) (new : BoardState) (arena' : Frames) : Type 0 where
     pub next : Next
     pub between : Merger

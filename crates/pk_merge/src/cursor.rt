@@ -18,7 +18,8 @@ use pk_run::Run;
 use std::alloc::{AllocError, Allocator};
 use std::marker::Model;
 
-/// How many entries stand before the place, how many pages of the run were come to, and the bytes of the last of them.
+/// How many entries are before the place, how many pages of the run were reached, and the bytes of
+/// the last of them.
 #[derive(Drop)]
 pub struct Cursor<A: Allocator> {
     shape: Shape,
@@ -73,14 +74,14 @@ impl<A: Allocator> Cursor<A> {
         self.shape.known();
     }
 
-    /// How many entries stand before the place.
+    /// How many entries are before the place.
     pub fn place(&self) -> u32
         ensures { result ≡ self.now.place }
     {
         self.place
     }
 
-    /// Goes behind the entry at the place.
+    /// Moves past the entry at the place.
     pub fn pass(&mut self)
         requires { suc self.old.place < 2 ^ 32 }
         ensures { self.new ≡ passed self.old }
@@ -96,7 +97,8 @@ impl<A: Allocator> Cursor<A> {
         self.loaded <= self.place / self.shape.entries()
     }
 
-    /// Loads the page of the place, by at most one read. `Reading` where it fails; else nothing fails.
+    /// Loads the page of the place, by at most one read. `Reading` if it fails; otherwise nothing
+    /// fails.
     pub fn load<B: Nand>(
         &mut self,
         board: &mut B,

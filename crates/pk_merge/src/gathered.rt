@@ -69,7 +69,7 @@ impl<A: Allocator> Gathered<A> {
         self.entries.is_empty()
     }
 
-    /// Adds an entry behind the others, but for a deleted key where the output is the deepest run.
+    /// Adds an entry after the others, but for a deleted key if the output is the deepest run.
     pub fn keep(&mut self, level: u8, entry: Entry)
         requires { length self.old.entries < page_entries self.old.shape }
         ensures { self.new ≡ record self.old

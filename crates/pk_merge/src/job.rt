@@ -36,7 +36,7 @@ use std::marker::Model;
 /// A merge, or none; and the runs for the outputs of the next ones.
 pub struct MergeJob<A: Region> {
     pinned: u8,
-    /// The level of the output, 1 to 4; 0 where no merge runs.
+    /// The level of the output, 1 to 4; 0 if no merge runs.
     target: u8,
     output: Option<Run<A>>,
     merger: Merger<A>,
@@ -71,8 +71,8 @@ impl<A: Region> Model for MergeJob<A> {
 }
 
 impl<A: Region> MergeJob<A> {
-    /// No merge, for an arena of so many frames. All memory of merges is taken here: three page buffers, the entries of a
-    /// page, and one run of each level.
+    /// No merge, for an arena of this many frames. All memory of merges is taken here: three page
+    /// buffers, the entries of a page, and one run of each level.
     pub fn new(alloc: A, plan: Plan, frames: u32) -> Result<MergeJob<A>, AllocError>
         ensures idle { IfOk result (λ j. IsIdle plan j) }
         ensures pinned { IfOk result (λ j. j.pinned ≡ shapes.pinned plan frames) }
@@ -88,7 +88,7 @@ impl<A: Region> MergeJob<A> {
         })
     }
 
-    /// Begins a merge into the run of a level, 1 to 4, where none runs.
+    /// Begins a merge into the run of a level, 1 to 4, if none runs.
     pub fn begin(&mut self, target: u8)
         requires level { 1 ≤ target × target ≤ LEVELS }
         requires idle { IsIdle self.old.merger.shape self.old }
@@ -116,8 +116,8 @@ impl<A: Region> MergeJob<A> {
         self.merger.restart();
     }
 
-    /// Does nothing: brings into a proof that a merge runs as before where others change no page of a block that is owned for
-    /// meta pages, and that no more of it is left than of a whole one.
+    /// Ghost: brings into a proof that a merge runs as before if others change no page of a block
+    /// that is owned for meta pages, and that no more of it remains than of a whole one.
     pub fn known(&self)
         ensures elsewhere { (source : SourceSpec A) (target : Kept) (pool later : Blocks)
             (old new : Flash) (arena : Frames) (es fs : List EntrySpec)
@@ -130,19 +130,20 @@ impl<A: Region> MergeJob<A> {
         self.merger.known();
     }
 
-    /// The level of the target; 0 where no merge runs.
+    /// The level of the target; 0 if no merge runs.
     pub fn target(&self) -> u8
         ensures { result ≡ self.now.target }
     {
         self.target
     }
 
-    /// The next step, with at most one call of the flash. True where every entry of source and target was taken and programmed.
+    /// The next step, with at most one flash operation. True if every entry of source and target
+    /// was taken and programmed.
     ///
-    /// Then every page of the output is programmed. Into run 4 the last entries may all be of deleted keys: then these pages are
-    /// programmed before, but this is known only once those entries were read.
-    /// `Reading` where a read fails; the merge runs as before, and the step can be made again. `Stopped` where a program or an
-    /// erase fails.
+    /// Then every page of the output is programmed. Into run 4 the last entries may all be of
+    /// deleted keys: then these pages are programmed before, but this is known only once those
+    /// entries were read. `Reading` if a read fails; the merge runs as before, and the step can be
+    /// made again. `Stopped` if a program or an erase fails.
     pub fn step<B: Nand>(
         &mut self,
         board: &mut B,
@@ -166,7 +167,7 @@ impl<A: Region> MergeJob<A> {
             (B.state board.old).pages arena.old self.new (B.state board.new).pages arena.new
             done) }
 
-        // What was done, exactly, and that less is left.
+        // What was done, exactly, and that less remains.
         ensures steps { OnOk result (Steps source.entry target.now (pins self.old)
             (output_of self.old) self.old.merger pool.old (B.state board.old) arena.old
             (output_of self.new) self.new.merger pool.new (B.state board.new) arena.new) }
@@ -178,7 +179,8 @@ impl<A: Region> MergeJob<A> {
         ensures rest { OnOk result (LowersRest source.entry target.now self.old pool.old
             (B.state board.old).pages arena.old self.new pool.new) }
 
-        // Other runs and leases stay, and wherever it is cut no page differs that another may read.
+        // Other runs and leases are unchanged, and wherever it is cut no page differs that another
+        // may read.
         ensures others { OnOk result (LeavesRuns pool.old (output_of self.old)
             (B.state board.old).pages arena.old (B.state board.new).pages arena.new) }
         ensures leases { OnOk result (LeavesLeases (output_of self.old) arena.old

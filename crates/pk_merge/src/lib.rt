@@ -1,7 +1,8 @@
-//! A merge of two sorted lists of entries into a new run, the frozen write buffer or a run over the run of the next level, made
-//! in steps of at most one call of the flash.
+//! A merge of two sorted lists of entries into a new run, the frozen write buffer or a run over the
+//! run of the next level, made in steps of at most one flash operation.
 //!
-//! The output is the target overridden by the source, cut into full pages; deleted keys are left out into run 4 alone.
+//! The output is the target overridden by the source, cut into full pages; deleted keys are left
+//! out into run 4 alone.
 #![tactic(auto)]
 
 mod cursor;

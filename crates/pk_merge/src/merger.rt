@@ -1,4 +1,4 @@
-//! A merge that runs: where it stands in its source and its target, and the entries of its next page.
+//! A merge that runs: where it is in its source and its target, and the entries of its next page.
 ghost use Rattle.std.specs.Prelude.{◌≡◌, ◌<◌, ◌≤◌, ◌^◌, suc, List, [], ◌≢◌, true, false, length, IfOk, IfErr, OnOk, OnErr, IsTrue, ◌↔◌};
 ghost use Rattle.pk_base.specs.Shape as shapes;
 ghost use Rattle.pk_base.specs.Shape.{IsShape, page_entries};
@@ -106,7 +106,7 @@ impl<A: Region> Merger<A> {
         self.gathered.clear();
     }
 
-    // Whether no entry is left of source and target.
+    // Whether no entry remains of source and target.
     fn is_at_end(&self, source: &Source<A>, target: &Run<A>) -> bool
         ensures { IsTrue result ↔ IsAtEnd source.now target.now self.now }
     {
@@ -120,7 +120,7 @@ impl<A: Region> Merger<A> {
         self.is_at_end(source, target) && self.gathered.is_empty()
     }
 
-    // Whether the next entry can be told, and there is room for it in its page.
+    // Whether the next entry is known, and there is room for it in its page.
     #[tactic(auto, unfolding(crate::specs::Merging::can_gather))]
     fn can_gather(&self, source: &Source<A>, target: &Run<A>) -> bool
         ensures can { result ≡ spec.can_gather source.now target.now self.now }
@@ -236,7 +236,8 @@ impl<A: Region> Merger<A> {
         }
     }
 
-    // Takes entries until a page is wanted for the next one, those of a page are taken, or none is left.
+    // Takes entries until a page is needed for the next one, those of a page are taken, or none
+    // remains.
     fn gather(&mut self, level: u8, source: &Source<A>, target: &Run<A>)
         requires { (flash : Flash) × (arena : Frames) × (es : List EntrySpec)
             × (fs : List EntrySpec)
@@ -249,7 +250,7 @@ impl<A: Region> Merger<A> {
         }
     }
 
-    // Does what comes next, with at most one call of the board.
+    // Does what comes next, with at most one flash operation.
     fn act<B: Nand>(
         &mut self,
         next: Next,
@@ -289,7 +290,7 @@ impl<A: Region> Merger<A> {
         }
     }
 
-    // Loads the page at the source's cursor. `Reading` where its read fails; else nothing fails.
+    // Loads the page at the source's cursor. `Reading` if its read fails; otherwise nothing fails.
     fn load_source<B: Nand>(
         &mut self,
         board: &mut B,
@@ -309,7 +310,7 @@ impl<A: Region> Merger<A> {
         source.load(&mut self.source, board, arena)
     }
 
-    // Loads the page at the target's cursor. `Reading` where its read fails; else nothing fails.
+    // Loads the page at the target's cursor. `Reading` if its read fails; otherwise nothing fails.
     fn load_target<B: Nand>(
         &mut self,
         board: &mut B,
@@ -328,7 +329,7 @@ impl<A: Region> Merger<A> {
         self.target.load(board, arena, target)
     }
 
-    // Programs the next page of the output. `Stopped` where the program fails, and all is as before.
+    // Programs the next page of the output. `Stopped` if the program fails, and all is as before.
     fn program<B: Nand>(
         &mut self,
         out: &mut Run<A>,
@@ -341,7 +342,7 @@ impl<A: Region> Merger<A> {
             arena.old }
         requires shape { self.old.shape ≡ out.old.shape }
 
-        // The page stands.
+        // The page is there.
         ensures programmed { OnOk result (ProgramsPage pins out.old self.old.gathered
             (B.state board.old) arena.old out.new (B.state board.new) arena.new) }
         ensures taken { OnOk result (self.new ≡ record self.old { gathered = [] }) }
@@ -372,9 +373,11 @@ impl<A: Region> Merger<A> {
         }
     }
 
-    /// The next step, with at most one call of the board; true where every entry was taken, and none waits for its page.
+    /// The next step, with at most one flash operation; true if every entry was taken, and none
+    /// waits for its page.
     ///
-    /// It acts first and takes entries afterwards, so a read that failed leaves all but a cursor's bytes.
+    /// It acts first and takes entries afterwards, so a read that failed changes only a cursor's
+    /// bytes.
     pub fn step<B: Nand>(
         &mut self,
         out: &mut Run<A>,
@@ -416,7 +419,7 @@ impl<A: Region> Merger<A> {
     }
 }
 
-// How the keys of two entries stand to each other.
+// How the keys of two entries compare.
 fn order_of(a: &Entry, b: &Entry) -> Ordering
     ensures { result ≡ key_cmp (key_of (seen a.now)) (key_of (seen b.now)) }
 {

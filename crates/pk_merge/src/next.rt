@@ -7,12 +7,12 @@ pub enum Next {
     LoadSource,
     /// Loads the page at the target's cursor.
     LoadTarget,
-    /// Takes the entries that can be told, with no call of the flash.
+    /// Takes the entries that are known, with no flash operation.
     Gather,
     /// Takes a block for the next page.
     TakeBlock,
     /// Programs the next page.
     Program,
-    /// Nothing is left.
+    /// Nothing remains.
     End,
 }

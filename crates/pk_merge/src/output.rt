@@ -25,7 +25,8 @@ pub fn wants_block<A: Allocator>(out: &Run<A>) -> bool
     out.pages() == out.blocks().len() as u32 * out.shape().block_pages()
 }
 
-/// Takes a block for the next page, by at most one erase. `Stopped` where it fails, and all is as before.
+/// Takes a block for the next page, by at most one erase. `Stopped` if it fails, and all is as
+/// before.
 pub fn take_block<B: Nand, A: Allocator>(
     out: &mut Run<A>,
     board: &mut B,
@@ -59,8 +60,8 @@ pub fn take_block<B: Nand, A: Allocator>(
     }
 }
 
-/// Programs the next page with these entries, and keeps it in a frame where one is wanted. `Stopped` where the program fails, and
-/// all is as before. `buf` has a page's bytes, which are lost.
+/// Programs the next page with these entries, and keeps it in a frame if one is needed. `Stopped`
+/// if the program fails, and all is as before. `buf` has the size of a page and is overwritten.
 pub fn program_page<B: Nand, A: Allocator>(
     out: &mut Run<A>,
     entries: &[Entry],
@@ -74,7 +75,7 @@ pub fn program_page<B: Nand, A: Allocator>(
         arena.old }
     requires sized { length buf.old ≡ out.old.shape.page_bytes }
 
-    // The page stands.
+    // The page is there.
     ensures programmed { OnOk result (ProgramsPage pins out.old (seen_all entries.now)
         (B.state board.old) arena.old out.new (B.state board.new) arena.new) }
 

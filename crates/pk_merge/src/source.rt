@@ -53,7 +53,8 @@ impl<'a, A: Region> Source<'a, A> {
         }
     }
 
-    /// Loads the page of the cursor's place, by at most one read. `Reading` where the read fails; else nothing fails.
+    /// Loads the page of the cursor's place, by at most one read. `Reading` if the read fails;
+    /// otherwise nothing fails.
     pub(crate) fn load<B: Nand>(
         &self,
         cursor: &mut Cursor<A>,

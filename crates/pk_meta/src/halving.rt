@@ -12,14 +12,14 @@ use crate::entry;
 use pk_base::{Entry, Key, Shape, cell_of, compare_cell, get_u16};
 use std::cmp::Ordering;
 
-/// Where a key stands among the entries of a page, and how many keys it was compared with.
+/// Where a key is among the entries of a page, and how many keys it was compared with.
 #[derive(Clone, Copy, Debug)]
 struct Search {
     place: Option<u32>,
     probes: u32,
 }
 
-/// How the key of an entry stands to this one.
+/// How the key of an entry compares with this one.
 fn compare_at(shape: &Shape, page: &[u8], i: usize, key: &Key) -> Ordering
     requires sized { length page.now ≡ shape.now.page_bytes }
     requires decodes { Decodes shape.now page.now }
@@ -63,7 +63,7 @@ fn place_of(shape: &Shape, page: &[u8], key: &Key) -> Search
     }
 }
 
-/// The entry of a key; None exactly where the page has none of it.
+/// The entry of a key; None exactly if the page has none of it.
 pub fn find(shape: &Shape, page: &[u8], key: &Key) -> Option<Entry>
     requires sized { length page.now ≡ shape.now.page_bytes }
     requires decodes { Decodes shape.now page.now }

@@ -45,9 +45,9 @@ one_keeps old new c k cs is stays one t = by_map old.map (new.map ≡ old.map)
       | inr after ↦ after ∙ ap (λ (n : Map). Some n) (same_after old.shape old.limit m c k is (stays m)) ∙ sym told
     ])
 
--- ---- a refusal tells of a failed read
+-- ---- a refusal reports a failed read
 
--- where the map is told
+-- if the map is known
 abbrev pub OnlyUnread : {X : Type 0} → Command → (Reply → Result X HostError) → Type 0
 OnlyUnread {X} c of = (old new : PortState) (a : Reply) (e : HostError) → Replies old new c a → of a ≡ Err e → (m : Map) → old.map ≡ Some m → a.status ≡ UNRECOVERED_ERROR
 
@@ -201,7 +201,7 @@ module _ {X : Type 0} (old new : Mirrored) (p p' q q' : PortState) (c : Command)
 
 -- ---- two failures
 
--- the first's failure and then the second's: the pair is split where a port failed
+-- the first's failure and then the second's: the pair is split if a port failed
 pub splits_both : (old seen mid later new : Mirrored) (first second : Bool) → old.split ≡ false → seen ≡ old → mid ≡ record seen { split = seen.split || first } → later ≡ mid → new ≡ record later { split = later.split || second }
     → new ≡ record old { split = first || second }
 splits_both old seen mid later new first second step view one same two =

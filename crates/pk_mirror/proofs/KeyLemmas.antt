@@ -54,7 +54,7 @@ pub fits_told : {X : Type 0} (old new : PortState) (c : Command) (of : Reply →
 fits_told {X} old new c of x room k (inr fault) wide m told v e = absurd (let clash : ◌≡◌ {A = Result X HostError} (Ok x) (Err HostPort) = fault.0 in cc)
 fits_told old new c of x room k (inl (a, r, is)) wide m told v e = let most = value_fits old.shape m (r.answers m told).within.sized k v e in omega (arith, most, wide)
 
--- a drive whose map lies within its limit
+-- a drive whose map is within its limit
 pub within_limit : {X : Type 0} (old new : PortState) (c : Command) (of : Reply → Result X HostError) (x : X) → Gives old new c of (Ok x) → (m : Map) → old.map ≡ Some m → live old.shape m ≤ old.limit
 within_limit {X} old new c of x (inr fault) m told = absurd (let clash : ◌≡◌ {A = Result X HostError} (Ok x) (Err HostPort) = fault.0 in cc)
 within_limit old new c of x (inl (a, r, is)) m told = (r.answers m told).within.few
@@ -157,7 +157,7 @@ module _ {X : Type 0} (of : Reply → Result X HostError) (tells : Tells of) (c 
       (λ a r err same fails. subst (IsCause p p' q q') (sym (on_refused Second error a.status e same on)) (refused_by of tells q q' c a r fails))
       (λ same rose. subst (IsCause p p' q q') (sym (on_port Second error e same on)) rose)
 
--- where the map of the side is told, its drive could not read
+-- if the map of the side is known, its drive could not read
 pub side_unread : {X : Type 0} (of : Reply → Result X HostError) (tells : Tells of) (c : Command) (side : Side) (old new : PortState) (error : HostError) (e : MirrorError) → OnlyUnread c of
     → Gives old new c of (Err error) → IsOn side error e → (m : Map) → old.map ≡ Some m → IsReadError e
 side_unread of tells c side old new error e unread g on m told = refused_or_port of tells old new c error (IsReadError e) g
@@ -230,7 +230,7 @@ store_unread p p1 q q' k into value len size x error e is alike found wide f fro
     fits : refused q.shape q.limit b (store_of k value Any) ≡ None
     fits = store_fits q.shape q.limit b k value is small few
 
--- ---- the same from states that tell the same map
+-- ---- the same from states that have the same map
 
 pub fetched_as : (p : PortState) (k : Key) (into : List ℕ) (o o' : Option ℕ) → o ≡ o' → Fetches p k o into → Fetches p k o' into
 fetched_as p k into o o' e h = subst (λ (x : Option ℕ). Fetches p k x into) e h

@@ -174,7 +174,7 @@ module _ (Keeps : Map → Map → Type 0) (Done : Map → Map → Key → Type 0
     text = λ k e. absurd (let clash : ◌≡◌ {A = Option Key} None (Some k) = e in cc);
   }
 
-  -- what the pages so far came to on the second
+  -- the result of the pages so far on the second
   pub turning_keeps : (first first' : P) (second second' : Q) (last : Option Key) → IsTurning first first' second second' last
       → (a b : Map) → (stateP first).map ≡ Some a → (stateQ second).map ≡ Some b → Keeps a b → (b' : Map) × ((stateQ second').map ≡ Some b') × Keeps a b'
   turning_keeps first first' second second' last h a b ea eb keeps = let (b', e, k, up) = h.visits a b ea eb keeps in (b', e, k)
@@ -191,7 +191,7 @@ module _ (Keeps : Map → Map → Type 0) (Done : Map → Map → Key → Type 0
     text = λ k e. subst IsText (let is : next ≡ k = cc in is) text;
   }
 
-  -- a failure behind the pages
+  -- a failure after the pages
   pub turning_fails : (first mid : P) (second halfway : Q) (last : Option Key) (e : MirrorError) → IsTurning first mid second halfway last → OnlyReadsFail Keeps (stateP mid) (stateQ halfway) e → OnlyReadsFail Keeps (stateP first) (stateQ second) e
   turning_fails first mid second halfway last e h fails a b ea eb keeps = let (b1, e1, k1, up) = h.visits a b ea eb keeps in fails a b1 (h.same ∙ ea) e1 k1
 
@@ -213,7 +213,7 @@ smaller_as o last f next e g h =
 
 -- ---- both phases of a resync
 
--- behind the first phase the second's map is a part of the first's; behind the second both have the same of every key
+-- after the first phase the second's map is a part of the first's; after the second both have the same of every key
 pub both_phases : (p p1 q q1 q' : PortState) → p1.map ≡ p.map → VisitsAll AreAny NoOther p q q1 → VisitsAll IsPart HaveSame p1 q1 q' → VisitsAll AreAny HaveSame p q q'
 both_phases p p1 q q1 q' same h g a b ea eb any =
     let (b1, e1, k1, part) = h a b ea eb tt in
@@ -237,7 +237,7 @@ module _ (old new : Mirrored) (p p' q q' : PortState) (cs ds : List Command) (pa
   pub unresynced : new.split ≡ true → IsPair new p' q'
   unresynced split = still_pair p p' q q' cs ds t u old new pair same (λ off. absurd (let clash : true ≡ false = sym split ∙ off in cc))
 
--- where the first's map is told, a resync is refused on a failed read alone
+-- if the first's map is known, a resync is refused on a failed read alone
 pub resync_unread : (mirror : Mirrored) (p q : PortState) (r : Result (Unit {0}) MirrorError) → IsPair mirror p q → IfErr r (λ e. OnlyReadsFail AreAny p q e) → (m : Map) → p.map ≡ Some m → IfErr r IsReadError
 resync_unread mirror p q (Ok x) pair h m told = tt
 resync_unread mirror p q (Err e) pair h m told = let (b, eb) = other_tells p.map q.map m pair.both_tell told in h m b told eb tt

@@ -44,11 +44,11 @@ module _ (Keeps : Map → Map → Type 0) (Done : Map → Map → Key → Type 0
         },
       )
 
-  -- a failure behind visits
+  -- a failure after visits
   pub fails_later : (first first1 second second1 : PortState) (ks : List Key) (e : MirrorError) → first1.map ≡ first.map → Visits Keeps Done first second second1 ks → OnlyReadsFail Keeps first1 second1 e → OnlyReadsFail Keeps first second e
   fails_later first first1 second second1 ks e same h g a b ea eb keeps = let v = h a b ea eb keeps in g a v.0 (same ∙ ea) v.1 v.2.keeps
 
--- a failure where nothing was done to the maps before
+-- a failure if nothing was done to the maps before
 pub fails_kept : (Keeps : Map → Map → Type 0) (first first1 second second1 : PortState) (e : MirrorError) → first1.map ≡ first.map → second1.map ≡ second.map → OnlyReadsFail Keeps first1 second1 e → OnlyReadsFail Keeps first second e
 fails_kept Keeps first first1 second second1 e same too g a b ea eb keeps = g a b (same ∙ ea) (too ∙ eb) keeps
 
@@ -147,7 +147,7 @@ module _ (Keeps : Map → Map → Type 0) (Done : Map → Map → Key → Type 0
         (visits_more Keeps Done (stateP first) (stateP mid) (stateQ second) (stateQ halfway) (stateQ second') keys (k ∷ []) h.same h.visits visits);
   }
 
-  -- what the keys so far came to on the second
+  -- the result of the keys so far on the second
   pub visiting_keeps : (first first' : P) (second second' : Q) (keys : List Key) → IsVisiting first first' second second' keys
       → (a b : Map) → (stateP first).map ≡ Some a → (stateQ second).map ≡ Some b → Keeps a b → (b' : Map) × ((stateQ second').map ≡ Some b') × Keeps a b'
   visiting_keeps first first' second second' keys h = goes_visits Keeps Done (stateP first) (stateQ second) (stateQ second') keys h.visits

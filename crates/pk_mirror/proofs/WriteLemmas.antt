@@ -43,7 +43,7 @@ module _ {X : Type 0} (of : Reply → Result X HostError) (tells : Tells of) (ol
   pub refused_by : (a : Reply) → Replies old new c a → (a.status == 0) ≡ false → RefusedBy old new a.status
   refused_by a r off = record { before = []; asked = old; took = took_none old; command = c; reply = a; replies = r; status_is = refl; no_success = off; unread = r.unread }
 
--- what the error of a side is, where it is a refusal, and where its port failed
+-- what the error of a side is, if it is a refusal, and if its port failed
 pub on_refused : (side : Side) (error : HostError) (status : ℕ) (e : MirrorError) → error ≡ HostRefused status → IsOn side error e → e ≡ Refused side status
 on_refused side error status e is on = subst (λ (x : HostError). IsOn side x e) is on
 

@@ -21,7 +21,7 @@ IsOn side (HostRefused status) error = error ≡ Refused side status
 IsOn side HostPort error = error ≡ Port side
 IsOn side Memory error = ⊥
 
--- what the pair answers where this side decides it
+-- what the pair answers if this side decides it
 abbrev pub Decides : {X : Type 0} → Side → Result X HostError → Result X MirrorError → Type 0
 Decides side (Ok x) result = result ≡ Ok x
 Decides side (Err error) result = (e : MirrorError) × (result ≡ Err e) × IsOn side error e
@@ -48,8 +48,8 @@ unanswered (Err error) = is_unanswered error
 
 -- ---- causes
 
--- A completion of this drive decided: behind some commands of the call, one more was refused with this status, and nothing was asked behind it.
--- That a read failed is answered only where one did.
+-- A completion of this drive decided: after some commands of the call, one more was refused with this status, and nothing was asked after it.
+-- That a read failed is answered only if one did.
 pub record RefusedBy (old new : PortState) (status : ℕ) : Type 0 where
   pub before : List Command
   pub asked : PortState
@@ -69,7 +69,7 @@ IsCause first first' second second' (Port First) = Rose first.port_faults first'
 IsCause first first' second second' (Port Second) = Rose second.port_faults second'.port_faults
 IsCause first first' second second' Split = ⊥
 
--- where a completion decided, a read failed
+-- if a completion decided, a read failed
 abbrev pub IsReadError : MirrorError → Type 0
 IsReadError (Refused side status) = status ≡ UNRECOVERED_ERROR
 IsReadError (Port side) = Unit {0}

@@ -24,7 +24,7 @@ abbrev pub count_of : ℕ → List Command → ℕ
 count_of opcode [] = 0
 count_of opcode (c ∷ cs) = (if c.opcode == opcode then 1 else 0) + count_of opcode cs
 
--- What a resync asks of the second drive: it looks, deletes and stores. Where the maps are told, it deletes at most as many keys as the second has,
+-- What a resync asks of the second drive: it looks, deletes and stores. If the maps are known, it deletes at most as many keys as the second has,
 -- and stores at most as many as the first has.
 pub record AreOfResync (first second : PortState) (cs : List Command) : Type 0 where
   pub only : AllByRecursion (λ c. LooksOr DELETE c ⊎ (c.opcode ≡ STORE)) cs
@@ -48,7 +48,7 @@ module _ (Keeps : Map → Map → Type 0) (room : Map → Map → ℕ) (opcode :
 abbrev pub to_delete : Map → Map → ℕ
 to_delete first second = len second
 
--- the keys that the second lacks, where it has no others
+-- the keys that the second lacks, if it has no others
 abbrev pub to_store : Map → Map → ℕ
 to_store first second = len first - len second
 

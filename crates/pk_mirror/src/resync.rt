@@ -20,9 +20,9 @@ use pk_base::Key;
 use pk_host::{Host, KeyPage, Port};
 
 impl Mirror {
-    /// Deletes from the second each key that the first lacks or has with another value, then stores on it each key that it lacks. The
-    /// pair is in step then. `Refused` where a read failed, `Port` where a port failed: the pair is split then, and never in step
-    /// in between.
+    /// Deletes from the second each key that the first lacks or has with another value, then stores
+    /// on it each key that it lacks. The pair is in step then. `Refused` if a read failed, `Port`
+    /// if a port failed: the pair is split then, and never in step in between.
     pub fn resync<P: Port, Q: Port>(
         &mut self,
         first: &mut P,
@@ -35,7 +35,7 @@ impl Mirror {
         ensures in_step { OnOk result (self.new.split ≡ false) }
         ensures splits { OnErr result (self.new.split ≡ true) }
 
-        // The maps: both are the first's, which stays in any case.
+        // The maps: both are the first's, which is unchanged in any case.
         ensures mirrored { OnOk result ((Q.state second.new).map ≡ (P.state first.old).map) }
         ensures keeps { (P.state first.new).map ≡ (P.state first.old).map }
 
@@ -132,8 +132,8 @@ fn copy_map<P: Port, Q: Port>(
     }
 }
 
-/// Visits the next page of the second's keys, of those behind this one, and deletes what is not the first's. Its last key; nothing
-/// where no key follows.
+/// Visits the next page of the second's keys, of those after this one, and deletes what is not the
+/// first's. Its last key; nothing if no key follows.
 fn drop_page<P: Port, Q: Port>(
     host: &mut Host,
     first: &mut P,
@@ -213,8 +213,8 @@ fn drop_all<P: Port, Q: Port>(
     }
 }
 
-/// Visits the next page of the first's keys, of those behind this one, and stores what the second lacks. Its last key; nothing
-/// where no key follows.
+/// Visits the next page of the first's keys, of those after this one, and stores what the second
+/// lacks. Its last key; nothing if no key follows.
 fn copy_page<P: Port, Q: Port>(
     host: &mut Host,
     first: &mut P,

@@ -60,7 +60,7 @@ fn has_other<P: Port, Q: Port>(
     }
 }
 
-/// Deletes this key from the second, where it has a value of it that is not the first's.
+/// Deletes this key from the second, if it has a value of it that is not the first's.
 fn drop_other<P: Port, Q: Port>(
     host: &mut Host,
     first: &mut P,
@@ -175,7 +175,7 @@ fn copy<P: Port, Q: Port>(
     }
 }
 
-/// Stores the first's value of this key on the second, where that lacks it.
+/// Stores the first's value of this key on the second, if that lacks it.
 fn copy_missing<P: Port, Q: Port>(
     host: &mut Host,
     first: &mut P,

@@ -40,7 +40,7 @@ some_same x y e = cc
 -- ---- one drive
 
 module _ (shape : Shape) (start : Map) (cs : List Command) (p q : Standing) where
-  -- where the board was cut off, the commands were kept
+  -- if the board was cut, the commands were kept
   kept_by : Chained shape start cs p q → Goes shape p.on.board q.on.board (KeptSilently shape p.on.frames start cs (rise p.on.board.read_faults q.on.board.read_faults))
   kept_by (inl w) = Goes-reaches shape p.on.board q.on.board (KeptSilently shape p.on.frames start cs (rise p.on.board.read_faults q.on.board.read_faults)) w.asked.reached
   kept_by (inr h) = h.kept
@@ -147,7 +147,7 @@ module _ (task : PairTask) (shape : Shape) (m other : Map) (cs ds : List Command
       let (h, same) = halted_at shape m cs p p' halt first is walk in
       ended end (subst (λ (e : WordEnd). PairEnds task shape m a b c d e) (some_same (end_of halt) end by) (first_halted h halt same))
 
-  -- where neither did, no port failed
+  -- if neither did, no port failed
   pub no_fault : p.halt ≡ None → q.halt ≡ None → p'.halt ≡ None → q'.halt ≡ None → p.faults ≡ 0 → q.faults ≡ 0
       → PairFault (seen shape a p.faults) (seen shape b p'.faults) (seen shape c q.faults) (seen shape d q'.faults) → ⊥
   no_fault first second none nor zero too_zero (inl rose) =

@@ -55,7 +55,7 @@ pub record IsServing (shape : Shape) (board : BoardState) (drive : Sight) : Type
 
 -- ---- at every cut
 
--- The first drive holds its map or the one after the word. What was posted begins the text of the word, and the drive holds the map after it where a
+-- The first drive holds its map or the one after the word. What was posted begins the text of the word, and the drive holds the map after it if a
 -- byte was posted; or it begins the line that says that a read failed, and one did.
 pub record KeptFirst (task : PairTask) (failed : Type 0) (shape : Shape) (m : Map) (flash : Flash) (posted : List ℕ) : Type 0 where
   pub held : Holds shape flash m ⊎ Holds shape flash (left_by shape task m)
@@ -101,11 +101,11 @@ PairEnds task shape m a b c d Worn = (is_worn b ≡ true) ⊎ (is_worn d ≡ tru
 abbrev pub most_roots : Map → Map → ℕ
 most_roots m other = 10 * (len m + len other + 1)
 
--- Where the numbers of roots are used up, the word installed no more than these, or a program or an erase had failed.
+-- If the numbers of roots are used up, the word installed no more than these, or a program or an erase had failed.
 abbrev pub UsedRoots : Map → Map → BoardState → BoardState → Type 0
 UsedRoots m other a b = Rose a.stop_faults b.stop_faults ⊎ (roots b ≤ roots a + most_roots m other)
 
--- A word on two drives of this shape, of which the first held this map and the second that one. Wherever either was cut off it was kept, and the word
+-- A word on two drives of this shape, of which the first held this map and the second that one. Wherever either was cut it was kept, and the word
 -- ended so.
 pub record PairTold (task : PairTask) (shape : Shape) (m other : Map) (a b c d : BoardState) (end : WordEnd) : Type 0 where
   pub first_kept : Goes shape a b (KeptFirst task (EitherUnread a b c d) shape m)

@@ -83,7 +83,7 @@ impl PairSpeaker {
         second: &mut C,
         task: PairTask,
     ) -> WordEnd
-        // The first drive on its board, with nothing pending, and the map for which it stands.
+        // The first drive on its board, with nothing pending, and the map that it represents.
         requires first_agrees { D.agrees first_drive.old (B.state first.old).shape
             (B.state first.old).pages }
         requires first_runs { (D.sight first_drive.old).stopped ≡ false }

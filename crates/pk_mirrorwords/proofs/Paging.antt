@@ -36,7 +36,7 @@ use Rattle.pk_mirrorwords.specs.PairPages.{keys_after, IsListed, GoesOn, PageFai
 
 -- ---- lines of a page
 
--- what stands in a text when so many keys of a page were added
+-- what is in a text when n keys of a page were added
 pub record AreAdded (page : List Key) (text initial : RoomyList) (i : ℕ) : Type 0 where
   pub lines : text ≡ record initial { items = initial.items ++ key_lines (take i page) }
   pub most : length text.items ≤ length initial.items + 33 * i
@@ -247,7 +247,7 @@ module _ {P Q : Type 0} (stateP : P → PortState) (tookP : P → List Command �
 
 -- ---- in the form of calls
 
--- a pair that told its maps tells them still
+-- the maps of a pair that were known are known still
 pub told_after : (old new : Mirrored) (p p' q q' : PortState) (cs : List Command) → IsToldPair old p q → Took p p' cs → IsPair new p' q' → p'.map ≡ p.map → IsToldPair new p' q'
 told_after old new p p' q q' cs told t pair keeps = record {
   pair = pair;

@@ -75,7 +75,7 @@ existed_line a there e =
 module _ {X : Type 0} (old new : Mirrored) (p p' q q' : PortState) (c : Command) (k : Opcode) (of : Reply → Result X HostError) (tells : Tells of) (is : op_of c.opcode ≡ Some k)
     (plain : (shape : Shape) (most frames : ℕ) (m : Map) (own : List ℕ) → (reply_of shape most frames m own c (Some k)).status ≡ 0) (step : old.split ≡ false) (pair : IsPair old p q) (m : Map) (told : p.map ≡ Some m)
     (task : PairTask) (text_is : text_of p.shape p.limit task m ≡ answered_line p.shape p.limit m c) (left_is : map_left p.shape p.limit task m ≡ map_after p.shape p.limit m c) where
-  -- the first's answer, where both did it
+  -- the first's answer, if both did it
   done_reply : (x : X) → Writes old new p p' q q' c of (Ok x) → (a : Reply) × (of a ≡ Ok x) × (a.status ≡ status_by (refused p.shape p.limit m c))
   done_reply x w = elim w [
     | inl s ↦ true_false old.split s.split step
@@ -158,7 +158,7 @@ false_line a there is ok = ap there_line (sym is) ∙ deleted_line there a ok
 
 -- ---- a command that only asks
 
--- where a read failed, or a port
+-- if a read failed, or a port
 pub asked_fails : (task : PairTask) (p p' q q' : PortState) (m : Map) (e : MirrorError) → (e ≡ Split → ⊥) → (e ≢ Split → IsCause p p' q q' e) → IsReadError e → PairFails task p p' q q' m e
 asked_fails task p p' q q' m (Refused First status) off causes unread = let h = causes (λ e. cc) in inr (inl (h.unread unread), unread)
 asked_fails task p p' q q' m (Refused Second status) off causes unread = let h = causes (λ e. cc) in inr (inr (h.unread unread), unread)
@@ -188,7 +188,7 @@ asks_within {X} old new p p' q q' c of x w pair m told = elim w [
 pub both_kept : (old : Mirrored) (p p' q q' : PortState) → IsPair old p q → old.split ≡ false → KeepsMaps p p' q q' → (m : Map) → p.map ≡ Some m → (p'.map ≡ Some m) × (q'.map ≡ Some m)
 both_kept old p p' q q' pair step keeps m told = (keeps.first_keeps ∙ told, keeps.second_keeps ∙ pair.in_step step ∙ told)
 
--- the value of a key, from its front in a buffer of the greatest value
+-- the value of a key, from its first bytes in a buffer of the greatest value
 pub value_found : (p : PortState) (key : Key) (o : Option ℕ) (len : ℕ) (into text : List ℕ) (m : Map) → o ≡ Some len → Fetches p key o into → length into ≡ greatest p.shape → IsMap p.shape m → p.map ≡ Some m → text ≡ value_line (Some (take len into))
     → text ≡ value_line (get m key)
 value_found p key o len into text m is fetches wide sized told spelled =

@@ -19,7 +19,7 @@ abbrev pub keys_after : Option Key → Map → List Key
 keys_after None m = keys m
 keys_after (Some key) m = above key (keys m)
 
--- The text has a line for each key up to this one, and no more bytes than so many lines have.
+-- The text has a line for each key up to this one, and no more bytes than that many lines have.
 pub record IsListed (first : PortState) (last : Option Key) (text : List ℕ) : Type 0 where
   pub lines : (m : Map) → first.map ≡ Some m → (front : List Key) × (keys m ≡ front ++ keys_after last m) × (text ≡ key_lines front) × (length text ≤ LINE_BYTES * length front)
 

@@ -59,7 +59,7 @@ status_by (Some status) = status
 abbrev pub answered_line : Shape → ℕ → Map → Command → List ℕ
 answered_line shape most m c = status_line (status_by (refused shape most m c))
 
--- what a word says where no read fails
+-- what a word says if no read fails
 abbrev pub text_of : Shape → ℕ → PairTask → Map → List ℕ
 text_of shape most (put key value) m = answered_line shape most m (store_of key value Any)
 text_of shape most (get key) m = value_line (value_at m key)

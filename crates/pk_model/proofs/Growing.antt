@@ -1,4 +1,4 @@
--- Runs in a row along which the tree grows.
+-- Consecutive runs along which the tree grows.
 use Rattle.std.proofs.Common.{◌≡◌, ℕ, List, [], ◌∷◌, ◌++◌, Some, refl, sym, ◌∙◌, ap, subst, inl, inr, append_assoc, append-nil}
 use Rattle.pk_base.specs.Shape.{Shape}
 use Rattle.pk_base.specs.Page.{Flash}
@@ -26,7 +26,7 @@ weaken marks a b P Q f run = record { trail = run.trail; posted = run.posted; sa
 pub weaken_went : (marks : List Mark) (a b : BoardState) (P Q : Flash → List ℕ → Type 0) → ((f : Flash) (q : List ℕ) → P f q → Q f q) → WentBy marks a b P → WentBy marks a b Q
 weaken_went marks a b P Q f run = record { trail = run.trail; posted = run.posted; same_shape = run.same_shape; cuts = λ g q cut. f g q (run.cuts g q cut); stands = run.stands }
 
--- what holds at every cut holds where the marks end
+-- what holds at every cut holds if the marks end
 pub at_end : (marks : List Mark) (a b : BoardState) (P : Flash → List ℕ → Type 0) → ReachedBy marks a b P → P b.pages (all_posted marks)
 at_end marks a b P run = let T : Flash → Type 0 = λ f. P f (all_posted marks) in subst T (sym run.stands) (run.cuts _ _ (cut_end (shape_of a) a.pages marks))
 

@@ -31,11 +31,11 @@ offered_all-full from bytes count left (k ∷ ks) =
       | false ↦ offered_all-full from bytes count left ks
     ]
 
--- the keys of a list, behind these bytes and so many keys
+-- the keys of a list, after these bytes and this many keys
 abbrev Lists : List ℕ → ℕ → List Key → Listing → Type 0
 Lists bytes count ks l = (l.bytes ≡ bytes ++ flat_map listed ks) × (l.count ≡ count + length ks)
 
--- the keys that are listed are the longest front of those wanted that fits
+-- the keys that are listed are the longest prefix of those wanted that fits
 pub lists : (from : Key) (bytes : List ℕ) (count left : ℕ) (ks : List Key) → Lists bytes count (fitting left (wanted from ks)) (offered_all from (room_left bytes count left) ks)
 lists from bytes count left [] = (sym (append-nil bytes), omega arith)
 lists from bytes count left (k ∷ ks) =

@@ -74,7 +74,7 @@ equal Less e = cc
 equal Equal e = refl
 equal Greater e = cc
 
--- a key that is put back where it was taken away
+-- a key that is put back if it was taken away
 put_back : (m : Map) (k : Key) (v : List ℕ) → get m k ≡ Some v → insert (remove m k) k v ≡ m
 put_back m k v there = same_map key_total key_antisymm _ _ (λ q.
     get-insert key_total (remove m k) k v q ∙ ap (cond (eq_by_cmp key_cmp q k) (Some v)) (get-remove key_total m k q) ∙ by_tie q)

@@ -1,4 +1,4 @@
--- Single calls of the flash that give nothing out, along which the tree of lists grows, and what follows them.
+-- Single flash operations that post nothing, along which the tree of lists grows, and what follows them.
 use Rattle.std.proofs.Common.{◌≡◌, inl, inr, ℕ, List, [], ◌∷◌, ◌++◌, Some, refl, sym, ap, subst, ◌∙◌}
 use Rattle.pk_base.specs.Shape.{Shape}
 use Rattle.pk_base.specs.Page.{Flash}

@@ -1,4 +1,4 @@
--- Steps in a row, and steps that were broken off.
+-- Steps one after another, and steps that were interrupted.
 use Rattle.std.proofs.Common.{◌≡◌, ℕ, zero, suc, ◌+◌, ◌≤◌, ap, ◌∙◌, arith, Result, Ok, Err}
 use Rattle.pk_base.specs.Shape.{Shape}
 use Rattle.pk_nand.specs.declared.types.Fault.{Fault}
@@ -90,7 +90,7 @@ Step-broken e E E' B B' shape n most old new few g step = record {
   ready = step.ready;
 }
 
--- a second part behind one that ended
+-- a second part after one that ended
 pub Step-then : {T : Type 0} (r : Result T Fault) (E E' : T → Type 0) (B B' : Type 0) (shape : Shape) (n k most : ℕ) (a b c : BoardState) → n + k ≤ most → Works a b → RootsUpTo n a b
     → ((x : T) → E x → E' x) → (B → B') → Step E B shape k b c r → Step E' B' shape most a c r
 Step-then (Ok x) E E' B B' shape n k most a b c few works up f g second = record {

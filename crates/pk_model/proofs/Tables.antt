@@ -21,7 +21,7 @@ get-tree es q = get-from_entries key_total es q ∙ find-lookup q es
 turned : (k q : Key) → eq_by_cmp key_cmp k q ≡ eq_by_cmp key_cmp q k
 turned k q = (eq_by_cmp_equiv key_total).symm k q
 
--- a tree in which a key has this value, and all else stays
+-- a tree in which a key has this value, and everything else is unchanged
 pub insert-tree : (es new : List (Key × List ℕ)) (k : Key) (v : List ℕ)
     → ((q : Key) → lookup (λ x. is_eq (key_cmp q x)) new ≡ cond (is_eq (key_cmp k q)) (Some v) (lookup (λ x. is_eq (key_cmp q x)) es))
     → from_entries {R = key_cmp} new ≡ insert (from_entries {R = key_cmp} es) k v
@@ -29,7 +29,7 @@ insert-tree es new k v h = same_map key_total key_antisymm _ _ (λ q.
     get-tree new q ∙ h q ∙ ap (λ b. cond b (Some v) (lookup (λ x. is_eq (key_cmp q x)) es)) (turned k q)
     ∙ ap (cond (eq_by_cmp key_cmp q k) (Some v)) (sym (get-tree es q)) ∙ sym (get-insert key_total (from_entries es) k v q))
 
--- a tree that a key has left
+-- a tree from which a key was removed
 pub remove-tree : (es new : List (Key × List ℕ)) (k : Key)
     → ((q : Key) → lookup (λ x. is_eq (key_cmp q x)) new ≡ cond (is_eq (key_cmp k q)) None (lookup (λ x. is_eq (key_cmp q x)) es))
     → from_entries {R = key_cmp} new ≡ remove (from_entries {R = key_cmp} es) k

@@ -1,4 +1,4 @@
--- What a crash finds: the map that a flash holds where power is lost.
+-- What a crash finds: the map that a flash holds when power is lost.
 use Rattle.std.specs.Prelude.{◌≡◌, ◌⊎◌, ℕ, List, [], Result, Ok}
 use Rattle.pk_base.specs.Shape.{Shape, limit}
 use Rattle.pk_base.specs.Page.{Flash}
@@ -19,13 +19,13 @@ pub data Moment : Type 0 where
   -- the map becomes the one after this command
   command : Command → Moment
 
--- What reading the flash of a crash may give, where it gave this before and the drive has the map m.
+-- What reading the flash of a crash may give, if it gave this before and the drive has the map m.
 abbrev pub MayFind : Shape → Moment → Result Map Refusal → Map → Result Map Refusal → Type 0
 MayFind shape background before m now = now ≡ Ok m
 MayFind shape commit before m now = (now ≡ before) ⊎ (now ≡ Ok m)
 MayFind shape (change after) before m now = (now ≡ before) ⊎ ((now ≡ Ok m) ⊎ (now ≡ Ok after))
 MayFind shape (command c) before m now = (now ≡ before) ⊎ ((now ≡ Ok m) ⊎ (now ≡ Ok (map_after shape (limit shape) m c)))
 
--- A crash finds what the moment allows, and no byte was given out.
+-- A crash finds what the moment allows, and no byte was posted.
 abbrev pub CrashFinds : Shape → Moment → Flash → Map → Flash → List ℕ → Type 0
 CrashFinds shape moment start m flash posted = (posted ≡ []) × MayFind shape moment (reading shape start []) m (reading shape flash [])

@@ -4,7 +4,7 @@ use Rattle.std.specs.Ordering.{is_lt}
 use Rattle.pk_base.specs.Key.{Key, key_cmp}
 use Rattle.pk_model.specs.Answer.{listed}
 
--- the bytes of the keys so far, how many they are, the room that is left, and whether a key did not fit
+-- the bytes of the keys so far, how many they are, the room that remains, and whether a key did not fit
 pub record Listing : Type 0 where
   pub bytes : List ℕ
   pub count : ℕ

@@ -8,14 +8,14 @@ use Rattle.pk_nand.specs.Calls.{IsReady}
 use Rattle.pk_nand.specs.Effects.{Works, Stops}
 use Rattle.pk_model.specs.Wear.{roots}
 
--- at most so many roots were installed
+-- at most n roots were installed
 abbrev pub RootsUpTo : ℕ → BoardState → BoardState → Type 0
 RootsUpTo zero old new = roots new ≡ roots old
 RootsUpTo (suc n) old new = roots new ≤ roots old + suc n
 
 -- What a step leaves, whether it ended or a call of it failed that stops the drive.
 pub record Step {T : Type 0} (Ended : T → Type 0) (Broken : Type 0) (shape : Shape) (most : ℕ) (old new : BoardState) (result : Result T Fault) : Type 0 where
-  -- what it is made for, where it ended
+  -- what it is made for, if it ended
   pub ended : IfOk result Ended
   -- what is known of the cuts of a step that was broken off
   pub broken : OnErr result Broken

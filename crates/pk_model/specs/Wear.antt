@@ -11,7 +11,7 @@ abbrev pub number_of : Option (ℕ × Root) → ℕ
 number_of None = 0
 number_of (Some top) = top.1.number
 
--- the number of the newest root; 0 where there is none
+-- the number of the newest root; 0 if there is none
 unfoldable pub root_number : Shape → Flash → ℕ
 root_number shape flash = number_of (newest_root shape (page_at flash))
 

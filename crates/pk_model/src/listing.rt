@@ -13,7 +13,7 @@ use pk_nvme::{Bytes, fill_behind};
 use std::alloc::{AllocError, Global};
 use std::marker::Model;
 
-/// The keys so far and the room that is left, in bytes.
+/// The keys so far and the room that remains, in bytes.
 #[derive(Drop)]
 pub struct Page {
     bytes: Bytes,
@@ -40,7 +40,7 @@ impl Model for Page {
 }
 
 impl Page {
-    /// No keys, and room for so many bytes; an error where the memory for them is missing.
+    /// No keys, and room for this many bytes; an error if the memory for them is missing.
     pub fn with_room(alloc: Global, room: usize) -> Result<Page, AllocError>
         requires { room < 2 ^ 31 }
         ensures { IfOk result
@@ -68,7 +68,7 @@ impl Page {
         self.bytes.bytes()
     }
 
-    /// One more key, where it fits and all before it did.
+    /// One more key, if it fits and all before it did.
     fn offer(&mut self, key: &[u8])
         requires { IsKey key.now }
         ensures { self.new ≡ offered self.old key.now }
@@ -96,7 +96,7 @@ impl Page {
     }
 }
 
-/// The key is below the first that is wanted: none is where there is no such key.
+/// The key is below the first that is wanted: none is if there is no such key.
 fn is_before(key: &Key, from: Option<&Key>) -> bool
     ensures { result ≡ is_lt (key_cmp key.now (key_or_none (option_copied from.entry))) }
 {

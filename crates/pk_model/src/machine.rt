@@ -86,7 +86,7 @@ fn answer_of(alloc: Global, page: &Page) -> Result<Answer, AllocError>
     Answer::of_parts(alloc, 0, &page.count().to_le_bytes(), page.bytes())
 }
 
-/// Whether a value stands under a key, and its pages; none where no value does.
+/// Whether a key has a value, and its pages; none if it has none.
 #[derive(Clone, Copy)]
 struct Held {
     is_there: bool,
@@ -94,7 +94,7 @@ struct Held {
 }
 
 impl MapMachine {
-    /// A machine of this shape with the empty map; an error where the memory for it is missing.
+    /// A machine of this shape with the empty map; an error if the memory for it is missing.
     pub fn new(alloc: Global, shape: Shape) -> Result<MapMachine, AllocError>
         ensures { IfOk result (λ m. m ≡ record { shape = shape; map = empty }) }
     {
@@ -105,8 +105,8 @@ impl MapMachine {
         })
     }
 
-    /// The answer to a command, with the value that follows its entry; an error where the memory for the answer or for the
-    /// value is missing, with the machine as it was.
+    /// The answer to a command, with the value that follows its entry; an error if the memory for
+    /// the answer or for the value is missing, with the machine unchanged.
     pub fn step(
         &mut self,
         alloc: Global,
@@ -149,7 +149,7 @@ impl MapMachine {
         }
     }
 
-    /// What stands under a key.
+    /// The value of a key.
     fn held(&self, key: &Key) -> Held
         ensures there { result.is_there ≡ contains_key self.now.map key.now }
         ensures pages { result.pages ≡ pages_if_some self.now.shape (get self.now.map key.now) }
@@ -191,7 +191,7 @@ impl MapMachine {
         }
     }
 
-    /// Puts a key and a value into the map, which then has so many live pages.
+    /// Puts a key and a value into the map, which then has this many live pages.
     fn put(
         &mut self,
         alloc: Global,
@@ -240,7 +240,7 @@ impl MapMachine {
         }
     }
 
-    /// The front of the value of a key.
+    /// A prefix of the value of a key.
     fn retrieve(&self, alloc: Global, request: &Request) -> Result<Answer, AllocError>
         requires opcode { request.now.opcode ≡ RETRIEVE }
         requires passed { (v : List ℕ) → early self.now.shape (command_of request.now v) ≡ None }
@@ -269,7 +269,7 @@ impl MapMachine {
         }
     }
 
-    /// Lists the keys from the one that a request names on, from the first where it names none.
+    /// Lists the keys from the one that a request names on, from the first if it names none.
     fn list_into(&self, request: &Request, page: &mut Page)
         requires { request.now.key_len ≤ KEY_BYTES }
         ensures { page.new ≡ offered_all (key (command_of request.now [])) page.old

@@ -21,7 +21,7 @@ impl Model for Value {
 }
 
 impl Value {
-    /// A copy of these bytes; an error where the memory for it is missing.
+    /// A copy of these bytes; an error if the memory for it is missing.
     pub fn of(alloc: Global, bytes: &[u8]) -> Result<Value, AllocError>
         requires { length bytes.now < 2 ^ 32 }
         ensures { IfOk result (λ v. v ≡ bytes.now) }

@@ -102,7 +102,7 @@ goes_page shape key place [] k goes is = goes
 goes_page shape key place (m ∷ moves) k (inl here) is = inl (subst (λ p. IsPageOf shape k p) (sym here.1) is)
 goes_page shape key place (m ∷ moves) k (inr there) is = inr (goes_page shape key place moves k there is)
 
--- the pages of a value lie in the block in which it begins
+-- the pages of a value are in the block in which it begins
 one_block : (shape : Shape) (place : Place) (k : ℕ) → IsShape shape → IsPlace shape place → IsPageOf shape k place → k / shape.block_pages ≡ place.page / shape.block_pages
 one_block shape place k is_shape is here =
     let n : ℕ = shape.block_pages in
@@ -113,7 +113,7 @@ one_block shape place k is_shape is here =
 
 -- ---- where the values lie
 
--- a page of a moved value lies in the output, or in another block than the victim, in which it lay before
+-- a page of a moved value is in the output, or in another block than the victim, in which it was before
 record WasThere (shape : Shape) (victim : ℕ) (es : List (Key × Place)) (k : ℕ) : Type 0 where
   before : IsValuePage shape es k
   not_in_victim : k / shape.block_pages ≡ victim → ⊥
@@ -162,7 +162,7 @@ lie_in_others shape victim output es moves blocks are among lie = (
 
 -- ---- numbers
 
--- all of these blocks have more than so many, or one has not
+-- all of these blocks have more than n, or one has not
 sparse_or_full : (most : ℕ) (count : ℕ → ℕ) (blocks : List ℕ) → AnyByRecursion (λ b. count b ≤ most) blocks ⊎ (length blocks * suc most ≤ sum_by count blocks)
 sparse_or_full most count [] = inr (omega arith)
 sparse_or_full most count (b ∷ blocks) = elim (sparse_or_full most count blocks) [

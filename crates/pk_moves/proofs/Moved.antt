@@ -30,7 +30,7 @@ put_same {X} k x (e ∷ es) rising found =
     ] refl found
 
 module _ (shape : Shape) where
-  -- a page of a value, where one was put
+  -- a page of a value, if one was put
   pub page_put : (key : Key) (place : Place) (es : List (Key × Place)) (k : ℕ) → IsValuePage shape (put key_cmp key place es) k → IsPageOf shape k place ⊎ IsValuePage shape es k
   page_put key place [] k is = is
   page_put key place (e ∷ es) k is =
@@ -80,7 +80,7 @@ module _ (shape : Shape) where
         | inr old ↦ free k (inr here) old
       ]) are_apart.1
 
-  -- as many pages, where a value goes to another place
+  -- as many pages, if a value goes to another place
   pub length_put : (k : Key) (old new : Place) (es : List (Key × Place)) → T (is_sorted key_cmp es) → find key_cmp k es ≡ Some old → new.len ≡ old.len → length (all_pages shape (put key_cmp k new es)) ≡ length (all_pages shape es)
   length_put k old new [] rising found same = cc
   length_put k old new (e ∷ es) rising found same =

@@ -102,7 +102,7 @@ rising found extra = placed_sorted (counting found extra) (firsts_sorted (entrie
 
 -- ---- the map
 
--- the values lie well, with the copies in their stead
+-- the values are well placed, with the copies in their stead
 fits_moved : (shape : Shape) (flash : Flash) (extra : List Entry) (root : Root) (found : Found) (moves : List (Key × Place)) (blocks : List ℕ) → CanMove shape flash extra root found moves blocks
     → T (fits shape (named root) (all_pages shape (places found extra))) → T (fits shape (named root) (all_pages shape (moved moves (places found extra))))
 fits_moved shape flash extra root found moves blocks can is =
@@ -157,7 +157,7 @@ moves_committed shape flash now top found m moves blocks index bytes is_shape un
 
 -- ---- a page that is copied
 
--- the pair of a page lies in its block
+-- the pair of a page is in its block
 pair_in_block : (shape : Shape) (at k : ℕ) → IsShape shape → first_of_pair shape at ≤ k → k < first_of_pair shape at + 2 → k / shape.block_pages ≡ at / shape.block_pages
 pair_in_block shape at k is low high =
     let n : ℕ = shape.block_pages in

@@ -31,7 +31,7 @@ pub record IsCopy (shape : Shape) (flash : Flash) (old new : Place) : Type 0 whe
   pub same_len : new.len ≡ old.len
   pub same_pages : (i : ℕ) → i < charge shape old.len → page_at flash (new.page + i) ≡ page_at flash (old.page + i)
 
--- each of these keys has a value, and a copy of it stands at this place
+-- each of these keys has a value, and a copy of it is at this place
 abbrev pub AreCopies : Shape → Flash → List (Key × Place) → List (Key × Place) → Type 0
 AreCopies shape flash es moves = AllByRecursion (λ m. (old : Place) × (find key_cmp m.0 es ≡ Some old) × IsCopy shape flash old m.1) moves
 
@@ -40,12 +40,12 @@ abbrev pub AreApart : Shape → List (Key × Place) → Type 0
 AreApart shape [] = Unit {0}
 AreApart shape (m ∷ moves) = ((k : ℕ) → IsPageOf shape k m.1 → IsValuePage shape moves k → ⊥) × AreApart shape moves
 
--- all pages of these values lie in these blocks
+-- all pages of these values are in these blocks
 abbrev pub LieIn : Shape → List (Key × Place) → List ℕ → Type 0
 LieIn shape es blocks = (k : ℕ) → IsValuePage shape es k → AnyByRecursion (λ b. k / shape.block_pages ≡ b) blocks
 
--- Copies of values stand apart from all values and from each other, in no block that the root names. With the copies in their
--- stead all values lie in few blocks, and the newest buffer has room for the keys.
+-- Copies of values are apart from all values and from each other, in no block that the root names. With the copies in their
+-- stead all values are in few blocks, and the newest buffer has room for the keys.
 pub record CanMove (shape : Shape) (flash : Flash) (extra : List Entry) (root : Root) (found : Found) (moves : List (Key × Place)) (blocks : List ℕ) : Type 0 where
   pub copies : AreCopies shape flash (places found extra) moves
   pub unnamed : (k : ℕ) → IsValuePage shape moves k → IsNamed shape root k → ⊥
@@ -86,7 +86,7 @@ MovesPair =
     → IsPairCut (commit_page shape top.1.newest index) bytes flash cut
     → IsUnder shape cut [] top found m ⊎ IsUnder shape cut [] top (committed found (entries_of moves)) m
 
--- with all of them once the first program was made, and behind both
+-- with all of them once the first program was made, and after both
 abbrev pub MovesCommitted : Type 0
 MovesCommitted =
     (shape : Shape) (flash now : Flash) (top : ℕ × Root) (found : Found) (m : Map) (moves : List (Key × Place)) (blocks : List ℕ) (index : ℕ) (bytes : List ℕ) → IsShape shape
@@ -96,7 +96,7 @@ MovesCommitted =
 
 -- ---- the copy
 
--- a page of a block behind the root blocks that the root does not name and in which no value that counts has a page, whatever became of its pair
+-- a page of a block after the root blocks that the root does not name and in which no value that counts has a page, whatever became of its pair
 abbrev pub Copies : Type 0
 Copies =
     (shape : Shape) (flash cut : Flash) (extra : List Entry) (top : ℕ × Root) (found : Found) (m : Map) (at : ℕ) → IsShape shape → IsUnder shape flash extra top found m

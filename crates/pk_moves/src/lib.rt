@@ -20,13 +20,15 @@ pub fn moves()
     ensures committed { MovesCommitted }
 {}
 
-/// Before the moves and behind them all values lie in as many blocks, and behind them none in the block that was reclaimed.
+/// Before the moves and after them all values are in as many blocks, and after them none is in the
+/// block that was reclaimed.
 pub fn blocks()
     ensures others { LieInOthers }
     ensures none_left { NoneLeft }
 {}
 
-/// A block is there whose values can be moved by one page of the journal, and every value has room behind their copies.
+/// There is a block whose values can be moved by one page of the journal, and every value has room
+/// after their copies.
 pub fn victims()
     ensures one_is_sparse { OneIsSparse }
     ensures one_page { FitOnePage }

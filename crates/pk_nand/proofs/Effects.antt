@@ -1,4 +1,4 @@
--- What calls of the flash do to a board beside its pages: single calls, and two parts of a run.
+-- What flash operations do to a board apart from its pages: single ones, and two parts of a run.
 use Rattle.std.proofs.Common.{◌≡◌, ℕ, List, refl, sym, ap, subst, ◌∙◌}
 use Rattle.pk_nand.specs.BoardState.{BoardState}
 use Rattle.pk_nand.specs.Calls.{Rose, after_program, after_erase, ProgramFailed, EraseFailed}

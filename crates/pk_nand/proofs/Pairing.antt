@@ -103,7 +103,7 @@ pair_read page bytes (whole b) second (inr (inr is)) other = inr (inr is)
 pair_read page bytes erased second holds other = other
 pair_read page bytes torn second holds other = other
 
--- it is read by its first page where that is whole
+-- it is read by its first page if that is whole
 pub read_first : (page : ℕ) (bytes : List ℕ) (first second : Page) → first ≡ whole bytes → page_of_pair page first second ≡ (page, whole bytes)
 read_first page bytes (whole b) second is = ap (λ (p : Page). (page, p)) is
 read_first page bytes erased second is = cc

@@ -1,4 +1,4 @@
--- A flash rests while nothing is done, or bytes are given out.
+-- A flash rests while nothing is done, or bytes are posted.
 use Rattle.std.proofs.Common.{◌≡◌, inl, inr, ℕ, List, [], ◌∷◌, ◌++◌, refl, sym, ◌∙◌, ap, subst}
 use Rattle.pk_base.specs.Page.{Flash}
 use Rattle.pk_base.specs.Mark.{post}
@@ -26,13 +26,13 @@ Rests-then a b c pages p q =
       reached = Reached-then p.marks q.marks a b c (Standing a.pages) p.reached (subst T pages q.reached);
     }
 
--- bytes were given out
+-- bytes were posted
 pub Rests-post : (a b : BoardState) (bytes : List ℕ) → b ≡ after_post a bytes → RestsFlash a b
 Rests-post a b bytes is =
     let T : BoardState → Type 0 = λ s. RestsFlash a s in
     subst T (sym is) (record { marks = post bytes ∷ []; reached = Reached-post a bytes (Standing a.pages) (λ out rest front. refl) })
 
--- a front of them was
+-- a prefix of them was
 pub Rests-post_failed : (a b : BoardState) (bytes : List ℕ) → PostFailed a b bytes → RestsFlash a b
 Rests-post_failed a b bytes failed =
     let shape : b.shape ≡ a.shape = ap (λ s. s.shape) failed.rest in

@@ -1,4 +1,4 @@
--- A mark that does not touch a page leaves it as it was, done or interrupted.
+-- A mark that does not touch a page does not change it, done or interrupted.
 use Rattle.std.proofs.Common.{◌≡◌, ◌≢◌, ◌<◌, ◌≤◌, inl, inr, ℕ, zero, suc, ◌+◌, ◌-◌, ◌*◌, ◌/◌, ◌%◌, refl, sym, ap, ◌∙◌, arith, List, [], ◌∷◌, Some, zero-add, mod-lt, div-add-mod'}
 use Rattle.std.proofs.Math.Nat.{div-zero}
 use Rattle.std.proofs.lemmas.Nat.{div-mul-add}
@@ -9,7 +9,7 @@ use Rattle.pk_base.specs.Mark.{Mark, program, erase, post, after}
 use Rattle.pk_nand.specs.Cut.{Cut, MayLeave, Touches, IsPartner, touched_block}
 use Rattle.pk_nand.proofs.Leaving.{page_at-slice_set, page_at-erased_from}
 
--- the first page of a pair lies in the block of the second
+-- the first page of a pair is in the block of the second
 pub partner_block : (shape : Shape) (at k : ℕ) → IsPartner shape at k → at / shape.block_pages ≡ k / shape.block_pages
 partner_block shape at k is = in_block shape.block_pages is.1
   where

@@ -1,4 +1,4 @@
--- A board behind several reads.
+-- A board after several reads.
 use Rattle.std.specs.Prelude.{ℕ, zero, suc}
 use Rattle.pk_nand.specs.BoardState.{BoardState}
 use Rattle.pk_nand.specs.Calls.{counted}
@@ -8,6 +8,6 @@ abbrev pub counted_by : ℕ → ℕ → ℕ
 counted_by zero n = n
 counted_by (suc k) n = counted (counted_by k n)
 
--- the board behind so many reads
+-- the board after n reads
 abbrev pub after_reads : ℕ → BoardState → BoardState
 after_reads k old = record old { reads = counted_by k old.reads }

@@ -21,12 +21,12 @@ OnlyFlash old new = new ≡ record old {
 abbrev pub OnlyReading : BoardState → BoardState → Type 0
 OnlyReading old new = new ≡ record old { reads = new.reads; flash_faults = new.flash_faults; read_faults = new.read_faults; failed_at = new.failed_at }
 
--- no call of the flash failed
+-- no flash operation failed
 abbrev pub NoFault : BoardState → BoardState → Type 0
 NoFault old new =
     (new.flash_faults ≡ old.flash_faults) × (new.read_faults ≡ old.read_faults) × (new.stop_faults ≡ old.stop_faults) × (new.failed_at ≡ old.failed_at)
 
--- at most one call of the flash was made
+-- at most one flash operation was made
 abbrev pub AtMostOneCall : BoardState → BoardState → Type 0
 AtMostOneCall old new =
     ((new.reads ≡ old.reads) × (new.programs ≡ old.programs) × (new.erases ≡ old.erases))

@@ -21,7 +21,7 @@ marks_of_pair page bytes = program page bytes ∷ program (page + 1) bytes ∷ [
 abbrev pub HoldsAtMost : List ℕ → Page → Type 0
 HoldsAtMost bytes page = (page ≡ whole bytes) ⊎ ((page ≡ erased) ⊎ (page ≡ torn))
 
--- What may stand where the programs of a pair were cut: each of its pages holds the bytes or nothing, and no other page differs.
+-- What may be left if the programs of a pair were cut: each of its pages holds the bytes or nothing, and no other page differs.
 pub record IsPairCut (page : ℕ) (bytes : List ℕ) (old cut : Flash) : Type 0 where
   pub outside : SameOutside page 2 old cut
   pub first : HoldsAtMost bytes (page_at cut page)

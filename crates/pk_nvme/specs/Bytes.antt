@@ -1,4 +1,4 @@
--- Bytes in memory that is taken once: the bytes that stand there, and how many there is room for.
+-- Bytes in memory that is taken once: the bytes that are in it, and how many there is room for.
 use Rattle.std.specs.Prelude.{ℕ, List}
 
 pub record RoomyList : Type 0 where

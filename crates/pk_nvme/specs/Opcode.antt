@@ -1,4 +1,4 @@
--- Opcodes: which command a number stands for.
+-- Opcodes: which command a number means.
 use Rattle.std.specs.Prelude.{ℕ, ◌==◌, if◌then◌else◌, Option, Some, None}
 use Rattle.pk_nvme.specs.declared.opcode.TheConstants.{FLUSH, STORE, RETRIEVE, LIST, DELETE, EXIST, TICK, REPORT}
 use Rattle.pk_nvme.specs.declared.opcode.Opcode.{Opcode}

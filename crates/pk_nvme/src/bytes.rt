@@ -24,7 +24,7 @@ impl Model for Bytes {
 }
 
 impl Bytes {
-    /// No bytes, and room for so many; an error where the memory for them is missing.
+    /// No bytes, and room for this many; an error if the memory for them is missing.
     pub fn with_room(alloc: Global, room: usize) -> Result<Bytes, AllocError>
         ensures { IfOk result (λ b. b ≡ record { items = []; room = room }) }
     {
@@ -39,21 +39,21 @@ impl Bytes {
         self.items.as_slice()
     }
 
-    /// How many bytes stand there.
+    /// How many bytes there are.
     pub fn len(&self) -> usize
         ensures { result ≡ length self.now.items }
     {
         self.items.len()
     }
 
-    /// Whether no byte stands there.
+    /// Whether there is no byte.
     pub fn is_empty(&self) -> bool
         ensures { IsTrue result ↔ (self.now.items ≡ []) }
     {
         self.items.is_empty()
     }
 
-    /// How many bytes there is room for, those that stand there included.
+    /// How many bytes there is room for, those that are there included.
     pub fn room(&self) -> usize
         ensures { result ≡ self.now.room }
     {
@@ -93,7 +93,7 @@ impl Bytes {
         self.items.clear();
     }
 
-    /// The first bytes alone, so many of them; all where there are no more.
+    /// The first `len` bytes alone; all if there are no more.
     pub fn truncate(&mut self, len: usize)
         ensures { self.new ≡ record self.old { items = take len self.old.items } }
     {

@@ -4,7 +4,7 @@
 pub const NAMESPACE: u32 = 1;
 /// All namespaces: a Flush may name them.
 pub const ALL_NAMESPACES: u32 = 0xFFFF_FFFF;
-/// The bytes of the count in front of the keys that a List tells.
+/// The bytes of the count before the keys that a List returns.
 pub const COUNT_BYTES: u32 = 4;
-/// The most bytes that a List tells.
+/// The most bytes that a List returns.
 pub const MOST_LIST_BYTES: u32 = 65536;

@@ -2,7 +2,8 @@
 ghost use Rattle.std.specs.Prelude.{◌≡◌, ◌<◌};
 ghost use Rattle.pk_nvme.specs.Reply.{fill_behind as fill};
 
-/// The zeros behind a key of so many bytes: with the two bytes of its length in front of it they make a multiple of four bytes.
+/// The zeros after a key of `len` bytes: with the two bytes of its length before it they make a
+/// multiple of four bytes.
 #[inline(always)]
 pub fn fill_behind(len: usize) -> usize
     ensures fill { result ≡ fill len }

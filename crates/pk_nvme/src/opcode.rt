@@ -1,4 +1,5 @@
-//! Opcodes: the commands and their numbers. The numbers stand here alone: code, contracts and definitions name them.
+//! Opcodes: the commands and their numbers. The numbers are written here alone: code, contracts and
+//! definitions use the names.
 ghost use Rattle.std.specs.Prelude.{◌≡◌};
 ghost use Rattle.pk_nvme.specs.Opcode.{op_of};
 
@@ -6,9 +7,9 @@ ghost use Rattle.pk_nvme.specs.Opcode.{op_of};
 pub const FLUSH: u8 = 0x00;
 /// The opcode of a Store: a value is put under a key.
 pub const STORE: u8 = 0x01;
-/// The opcode of a Retrieve: the front of a key's value is read.
+/// The opcode of a Retrieve: a prefix of a key's value is read.
 pub const RETRIEVE: u8 = 0x02;
-/// The opcode of a List: keys are told in their order.
+/// The opcode of a List: keys are returned in their order.
 pub const LIST: u8 = 0x06;
 /// The opcode of a Delete: a key and its value are taken away.
 pub const DELETE: u8 = 0x10;
@@ -33,7 +34,7 @@ pub enum Opcode {
 }
 
 impl Opcode {
-    /// The command with this number, or `None` where no command has it.
+    /// The command with this number, or `None` if no command has it.
     pub fn of(number: u8) -> Option<Opcode>
         ensures { result ≡ op_of number }
     {

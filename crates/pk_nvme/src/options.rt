@@ -1,5 +1,5 @@
-//! The options of a Store (NVMe Key Value Command Set 1.0, Store Option), each the weight of its bit. They stand here alone:
-//! code, contracts and definitions name them.
+//! The options of a Store (NVMe Key Value Command Set 1.0, Store Option), each the weight of its
+//! bit. They are written here alone: code, contracts and definitions use the names.
 
 /// Bit 0: the controller shall not store the KV value if the KV key does not exist.
 pub const IF_EXISTS: u8 = 1;

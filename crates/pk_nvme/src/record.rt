@@ -6,7 +6,8 @@ ghost use Rattle.pk_nvme.specs.Reply.{completion as completion_bytes, cid_at, st
 use crate::sizes::{COMPLETION_BYTES, RECORD_HEAD_BYTES};
 use pk_base::{get_u16, get_u32, put_text, put_u16, put_u32, put_zeros};
 
-/// The completion entry of the command with this CID, behind so many entries taken, this one included.
+/// The completion entry of the command with this CID, after `taken` entries were taken, this one
+/// included.
 pub fn completion(cid: u16, taken: u32, status: u8, result_field: u32) -> [u8; COMPLETION_BYTES]
     ensures { result ≡ completion_bytes cid taken status result_field }
 {
@@ -35,7 +36,7 @@ pub fn record_head(
     head
 }
 
-/// The command identifier of a completion entry, which may be the front of a record.
+/// The command identifier of a completion entry, which may be the start of a record.
 pub fn cid_in(entry: &[u8]) -> u16
     requires { COMPLETION_BYTES ≤ length entry.now }
     ensures { result ≡ cid_at entry.now }
@@ -43,7 +44,7 @@ pub fn cid_in(entry: &[u8]) -> u16
     get_u16(entry, 12)
 }
 
-/// The status code of a completion entry, which may be the front of a record.
+/// The status code of a completion entry, which may be the start of a record.
 pub fn status_in(entry: &[u8]) -> u8
     requires { COMPLETION_BYTES ≤ length entry.now }
     ensures field { result ≡ status_at entry.now }
@@ -53,7 +54,7 @@ pub fn status_in(entry: &[u8]) -> u8
     (get_u16(entry, 14) / 2 % 256) as u8
 }
 
-/// The result of a completion entry, which may be the front of a record.
+/// The result of a completion entry, which may be the start of a record.
 pub fn result_in(entry: &[u8]) -> u32
     requires { COMPLETION_BYTES ≤ length entry.now }
     ensures field { result ≡ result_at entry.now }

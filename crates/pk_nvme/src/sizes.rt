@@ -4,7 +4,8 @@
 pub const SUBMISSION_BYTES: usize = 64;
 /// A completion entry (NVMe Base Specification 2.0, Completion Queue Entry).
 pub const COMPLETION_BYTES: usize = 16;
-/// What stands before the data of a record: the completion entry, the pages read and the bytes of the data.
+/// What precedes the data of a record: the completion entry, the pages read and the bytes of the
+/// data.
 pub const RECORD_HEAD_BYTES: usize = 24;
 /// The numbers of a Report.
 pub const REPORT_NUMBERS: usize = 16;

@@ -1,5 +1,6 @@
-//! Status codes with the names of the standard (NVMe Base Specification 2.0, Key Value Command Set 1.0), all of the
-//! generic type. They stand here alone: code, contracts and definitions name them.
+//! Status codes with the names of the standard (NVMe Base Specification 2.0, Key Value Command Set
+//! 1.0), all of the generic type. They are written here alone: code, contracts and definitions use
+//! the names.
 
 /// The command was done.
 pub const SUCCESSFUL_COMPLETION: u8 = 0x00;
@@ -13,11 +14,11 @@ pub const INVALID_NAMESPACE_OR_FORMAT: u8 = 0x0B;
 pub const CAPACITY_EXCEEDED: u8 = 0x81;
 /// The value is longer than the greatest one.
 pub const INVALID_VALUE_SIZE: u8 = 0x85;
-/// The key is longer than 16 bytes, or empty where a key is named.
+/// The key is longer than 16 bytes, or empty if a key is named.
 pub const INVALID_KEY_SIZE: u8 = 0x86;
 /// The key is not there.
 pub const KEY_DOES_NOT_EXIST: u8 = 0x87;
-/// A call of the flash failed.
+/// A flash operation failed.
 pub const UNRECOVERED_ERROR: u8 = 0x88;
 /// The key is there, and the Store asked for a new one.
 pub const KEY_EXISTS: u8 = 0x89;

@@ -56,7 +56,7 @@ went_both a b c P first second = (first.0 ++ second.0, Went-then first.0 second.
 abbrev pub pages_of : BoardState → Flash
 pages_of board = board.pages
 
--- the rows of block a end where those of a later block begin, or before
+-- the rows of block a end if those of a later block begin, or before
 apart : (a b n : ℕ) → a < b → a * n + n ≤ b * n
 apart a b n h = omega (arith, mul-le-mul_right {m = suc a} {n = b} n (omega arith), suc-mul a n)
 

@@ -9,7 +9,7 @@ use Rattle.pk_nand.specs.Calls.{after_read, ReadFailed}
 abbrev pub AllExist : Shape → List ℕ → Type 0
 AllExist shape blocks = (n : ℕ) → n < 2 → slice_index blocks n < shape.blocks
 
--- a pair is read by one read where its first page is whole, and else by two
+-- a pair is read by one read if its first page is whole, and otherwise by two
 abbrev pub reads_of_pair : Page → ℕ
 reads_of_pair (whole bytes) = 1
 reads_of_pair erased = 2
@@ -25,7 +25,7 @@ whole_number (page, torn) = None
 abbrev pub IsNotWhole : Page → Type 0
 IsNotWhole page = (bytes : List ℕ) → page ≡ whole bytes → ⊥
 
--- a read of the first page failed, or one of the second, behind one of a first page that is not whole
+-- a read of the first page failed, or one of the second, after one of a first page that is not whole
 abbrev pub PairReadFailed : BoardState → BoardState → ℕ → Type 0
 PairReadFailed old new page =
     ReadFailed old new page ⊎ (IsNotWhole (page_at old.pages page) × ReadFailed (after_read old) new (page + 1))

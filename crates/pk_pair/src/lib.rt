@@ -1,5 +1,6 @@
-//! Pairs of pages, of which both get the same bytes, the first one first. Wherever the programs of a pair are cut, each of its pages
-//! holds these bytes or nothing. A pair is read by its first page where that is Whole, and else by its second.
+//! Pairs of pages, of which both get the same bytes, the first one first. Wherever the programs of
+//! a pair are cut, each of its pages holds these bytes or nothing. A pair is read by its first page
+//! if that is Whole, and otherwise by its second.
 #![tactic(auto)]
 
 mod pages;

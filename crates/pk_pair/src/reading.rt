@@ -16,14 +16,15 @@ fn is_whole(found: PageRead) -> bool
     found == PageRead::Whole
 }
 
-/// Reads a pair from its first page on into the buffer, by one read where that page is Whole, and else by two. Answers the page whose
-/// bytes these are, None where neither is Whole. `Reading` where a read fails.
+/// Reads a pair from its first page on into the buffer, by one read if that page is Whole, and
+/// otherwise by two. Returns the page whose bytes these are, None if neither is Whole. `Reading` if
+/// a read fails.
 pub fn read_pair<B: Nand>(board: &mut B, page: u32, buf: &mut [u8]) -> Result<Option<u32>, Fault>
     requires number { page + 1 < 2 ^ 32 }
     requires exists { page + 1 < length (B.state board.old).pages }
     requires room { length buf.old ≡ (shape_of (B.state board.old)).page_bytes }
 
-    // The page and its bytes, by so many reads.
+    // The page and its bytes, and the number of reads.
     ensures found { IfOk result (λ found. found ≡ whole_number (page_of_pair page
         (page_at (B.state board.old).pages page) (page_at (B.state board.old).pages (page + 1)))) }
     ensures bytes { OnOk result ((bytes : List ℕ) → (page_of_pair page

@@ -10,8 +10,9 @@ ghost use Rattle.pk_nand.specs.declared.types.Fault.TheVariants.{Stopped};
 
 use pk_nand::{Fault, Nand};
 
-/// Programs the first page of a pair whose pages are the next Erased ones of their block. `Stopped` where this fails. Wherever it is
-/// cut, each page of the pair holds these bytes or nothing, and no other page differs.
+/// Programs the first page of a pair whose pages are the next Erased ones of their block. `Stopped`
+/// if this fails. Wherever it is cut, each page of the pair holds these bytes or nothing, and no
+/// other page differs.
 pub fn write_first<B: Nand>(board: &mut B, page: u32, bytes: &[u8]) -> Result<(), Fault>
     requires exists { page + 1 < length (B.state board.old).pages }
     requires full { length bytes.now ≡ (shape_of (B.state board.old)).page_bytes }
@@ -20,7 +21,7 @@ pub fn write_first<B: Nand>(board: &mut B, page: u32, bytes: &[u8]) -> Result<()
         < (shape_of (B.state board.old)).block_pages }
     requires order { InOrder (shape_of (B.state board.old)) (B.state board.old).pages page }
 
-    // One program, behind which the second page is next.
+    // One program, after which the second page is next.
     ensures ok { OnOk result (B.state board.new ≡ after_program (B.state board.old) page bytes.now) }
     ensures written { OnOk result (page_at (B.state board.new).pages page ≡ whole bytes.now) }
     ensures order { OnOk result (InOrder (shape_of (B.state board.old)) (B.state board.new).pages
@@ -47,8 +48,9 @@ pub fn write_first<B: Nand>(board: &mut B, page: u32, bytes: &[u8]) -> Result<()
     }
 }
 
-/// Programs the second page of a pair whose first page holds these bytes. `Stopped` where this fails. Wherever it is cut, each page of
-/// the pair holds these bytes or nothing, and no other page differs.
+/// Programs the second page of a pair whose first page holds these bytes. `Stopped` if this fails.
+/// Wherever it is cut, each page of the pair holds these bytes or nothing, and no other page
+/// differs.
 pub fn write_second<B: Nand>(board: &mut B, page: u32, bytes: &[u8]) -> Result<(), Fault>
     requires number { page + 1 < 2 ^ 32 }
     requires exists { page + 1 < length (B.state board.old).pages }
@@ -88,8 +90,9 @@ pub fn write_second<B: Nand>(board: &mut B, page: u32, bytes: &[u8]) -> Result<(
     }
 }
 
-/// Programs both pages of a pair, the next Erased ones of their block, the first one first. `Stopped` where a program fails. Wherever
-/// it is cut, each page of the pair holds these bytes or nothing, and no other page differs.
+/// Programs both pages of a pair, the next Erased ones of their block, the first one first.
+/// `Stopped` if a program fails. Wherever it is cut, each page of the pair holds these bytes or
+/// nothing, and no other page differs.
 pub fn write_pair<B: Nand>(board: &mut B, page: u32, bytes: &[u8]) -> Result<(), Fault>
     requires number { page + 1 < 2 ^ 32 }
     requires exists { page + 1 < length (B.state board.old).pages }

@@ -37,7 +37,7 @@ true_false e = cc
 false_true : false ≡ true → ⊥
 false_true e = cc
 
--- ---- where a merge runs, or something is frozen
+-- ---- if a merge runs, or something is frozen
 
 level_some : (shape : Shape) (frozen : ℕ) (runs : List ℕ) (level : ℕ) → next_merge shape frozen runs ≡ Some level → level ≡ 0 → ⊥
 level_some shape frozen runs level due none = elim (next_told shape frozen runs level due).1 [
@@ -83,7 +83,7 @@ module _ (d : Parts) (old new : BoardState) (m : MayTick d old) (none_half : is_
   no_pair : {X : Type 0} → is_half d ≡ true → X
   no_pair half = absurd (not_both (is_half d) half none_half)
 
-  -- it is not idle where a merge runs, or something is frozen
+  -- it is not idle if a merge runs, or something is frozen
   pub busy_merge : has_no_merge (index_of d) ≡ false → IsIdle d.log.shape old.pages (sight_of d) → ⊥
   busy_merge busy idle = merge_busy d.schedule.phase (index_of d) old.pages m.agrees.top.1 m.agrees.found with.index.merge busy idle.no_merge idle.none_frozen
 

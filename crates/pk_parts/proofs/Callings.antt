@@ -1,4 +1,4 @@
--- How many calls of the flash are made by calls in a row, and how many roots are installed.
+-- How many flash operations consecutive calls make, and how many roots they install.
 use Rattle.std.proofs.Common.{◌≡◌, ◌≢◌, inl, inr, ℕ, suc, ◌+◌, ◌≤◌, refl, sym, ap, subst, ◌∙◌, arith, List, [], ◌∷◌}
 use Rattle.pk_nand.specs.BoardState.{BoardState}
 use Rattle.pk_nand.specs.Calls.{counted}
@@ -56,7 +56,7 @@ few_more n a b c f (inr (inr (inr erase))) = record {
   erases = erase.2 ∙ ap counted f.erases;
 }
 
--- ---- calls behind calls
+-- ---- calls after calls
 
 raised_then : (j k a b c : ℕ) → b ≡ counted_by j a → c ≡ counted_by k b → c ≡ counted_by (j + k) a
 raised_then j k a b c first second = second ∙ ap (counted_by k) first ∙ counted_more k j a
@@ -85,7 +85,7 @@ few_program a b one = record { reads_made = 0; programs_made = 1; erases_made = 
 few_programs : (n : ℕ) (a b : BoardState) → ProgramsOfCommit n a b → FewCalls commit_calls a b
 few_programs n a b p = record { reads_made = 0; programs_made = p.made; erases_made = 0; few = (let most = p.most in omega (arith, most)); reads = p.reads; programs = p.programs; erases = p.erases }
 
--- a commit makes its programs where entries are pending, and nothing is done where none is
+-- a commit makes its programs if entries are pending, and nothing is done if none is
 pub few_commit : {X P Q : Type 0} (es : List X) (a b : BoardState) → (es ≢ [] → ProgramsOfCommit 1 a b) → (es ≡ [] → P × Q × (b ≡ a)) → FewCalls commit_calls a b
 few_commit [] a b programs idle = few_same commit_calls a b (idle refl).2
 few_commit (e ∷ es) a b programs idle = few_programs 1 a b (programs (λ none. cc))
@@ -103,7 +103,7 @@ spends_still n k a b calls still = record { calls = calls; installs = omega (ari
 pub spends_within : (m n p q : ℕ) (a b : BoardState) → m ≤ n → p ≤ q → Spends m p a b → Spends n q a b
 spends_within m n p q a b less fewer s = record { calls = few_within m n a b less s.calls; installs = (let most = s.installs in omega (arith, most, fewer)) }
 
--- one behind the other
+-- one after the other
 pub spends_then : (m n most p q all : ℕ) (a b c : BoardState) → m + n ≤ most → p + q ≤ all → Spends m p a b → Spends n q b c → Spends most all a c
 spends_then m n most p q all a b c less fewer first second = record {
   calls = few_within (m + n) most a c less (few_then m n a b c first.calls second.calls);

@@ -30,7 +30,7 @@ module _ (shape : Shape) (a b : BoardState) (has : a.shape ≡ Some shape) (m m'
     silent : all_posted first.0 ≡ []
     silent = (at_end first.0 a b (CrashFinds shape commit a.pages m) first.1).0
 
-    -- behind them the map is the one after the command
+    -- after them the map is the one after the command
     changed_cut : (f : Flash) (q : List ℕ) → CrashFinds shape commit b.pages m' f q → CrashFinds shape (change m') a.pages m f (all_posted first.0 ++ q)
     changed_cut f q (quiet, inl same) =
         (ap (λ p. p ++ q) silent ∙ quiet, elim still [ inl as_before ↦ inl (same ∙ as_before) | inr is ↦ inr (inl (same ∙ is)) ])

@@ -71,7 +71,7 @@ module _ (d : Parts) (old new : BoardState) (top : ℕ × Root) (found : Found) 
   abbrev its : Shape
   its = d.log.shape
 
-  -- the first of them, as the root tells it, and its block
+  -- the first of them, as the root names it, and its block
   abbrev at : ℕ
   at = commit_page its top.1.newest d.log.epoch.used
 
@@ -84,7 +84,7 @@ module _ (d : Parts) (old new : BoardState) (top : ℕ × Root) (found : Found) 
   at_is : at ≡ next_page d.log.epoch
   at_is i = commit_page (sym agrees.index.logs.epoch_shape i) (sym agrees.index.logs.epoch_blocks i) d.log.epoch.used
 
-  -- both lie in that block
+  -- both are in that block
   in_block : (k : ℕ) → at ≤ k → k < at + 2 → k / its.block_pages ≡ block
   in_block k least less =
       let is = agrees.index.logs.is_shape in
@@ -294,20 +294,20 @@ failed_programs log old new f = elim f.failed [
   }
 ]
 
--- where entries were pending, one program was made at least, whether or not it failed
+-- if entries were pending, one program was made at least, whether or not it failed
 pub some_programs : (r : Result Unit Fault) (log log' : LogState) (old new : BoardState) → OnOk r (CommitsNone log old log' new ⊎ CommitsAll log old log' new) → OnErr r (CommitFailed log old new)
     → log.pending ≢ [] → ProgramsOfCommit 1 old new
 some_programs (Ok x) log log' old new (inl none) failed some = absurd (some none.none)
 some_programs (Ok x) log log' old new (inr all) failed some = both_programs 1 log log' old new (omega arith) all
 some_programs (Err e) log log' old new made failed some = failed_programs log old new failed
 
--- and both of them where none failed
+-- and both of them if none failed
 pub all_programs : (r : Result Unit Fault) (log log' : LogState) (old new : BoardState) → OnOk r (CommitsNone log old log' new ⊎ CommitsAll log old log' new) → OnOk r (log.pending ≢ [] → ProgramsOfCommit commit_programs old new)
 all_programs (Ok x) log log' old new (inl none) = λ some. absurd (some none.none)
 all_programs (Ok x) log log' old new (inr all) = λ some. both_programs commit_programs log log' old new (omega arith) all
 all_programs (Err e) log log' old new made = tt
 
--- where none were, nothing was done
+-- if none were, nothing was done
 pub nothing_done : (r : Result Unit Fault) (d : Parts) (log' : LogState) (old new : BoardState) → OnOk r (CommitsNone d.log old log' new ⊎ CommitsAll d.log old log' new) → OnErr r (CommitFailed d.log old new)
     → d.log.pending ≡ [] → IsOk r × (with_log d log' ≡ d) × (new ≡ old)
 nothing_done (Ok x) d log' old new (inl none) failed is = (refl, ap (λ (l : LogState). with_log d l) none.kept, none.board)

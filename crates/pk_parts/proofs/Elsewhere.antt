@@ -1,4 +1,4 @@
--- What stays of a drive where no page differs that it needs.
+-- What is unchanged of a drive if no page differs that it needs.
 use Rattle.std.proofs.Common.{◌≡◌, ℕ, ◌/◌, List, Some, sym, subst}
 use Rattle.std.specs.Prelude.{slice_get}
 use Rattle.pk_base.specs.Shape.{Shape}

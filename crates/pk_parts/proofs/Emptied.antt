@@ -1,4 +1,4 @@
--- Merges in a row, and the steps of a freeze, inside a command.
+-- Merges one after another, and the steps of a freeze, inside a command.
 use Rattle.std.proofs.Common.{◌≡◌, ℕ, ◌+◌, ◌-◌, ◌<◌, ◌≤◌, refl, sym, ap, subst, ◌∙◌, arith, Bool, true, false, ◌&&◌, ◌==◌, if◌then◌else◌, T, List, [], ◌∷◌, length, eqb→eq, Result, Ok, Err}
 use Rattle.pk_base.specs.Entry.{Entry}
 use Rattle.pk_base.specs.Key.{Key}
@@ -41,9 +41,9 @@ use Rattle.pk_schedule.proofs.Backlogs.{index_backlog}
 use Rattle.pk_parts.proofs.Callings.{few_none, few_within, few_then, spends_within, spends_then}
 use Rattle.pk_parts.proofs.ReadSteps.{Passes, passes_none, step_passes, reading_passes, reads_nothing, reading_failed, reading_then, reading_end}
 
--- ---- steps in a row
+-- ---- steps one after another
 
--- a further one behind those of which no call failed
+-- one more after those of which no call failed
 pub reads_later : (r : Result Unit Fault) (a b c : Parts) (n k most : ℕ) (s0 s1 s2 : BoardState) → IsReady s0 a.log.shape → b.log.shape ≡ a.log.shape → n + k ≤ most
     → KeepsAll a b s0 s1 → Passes n s0 s1 → KeepsOrReads b c k s1 s2 r → KeepsOrReads a c most s0 s2 r
 reads_later r a b c n k most s0 s1 s2 ready same few keeps passes second =
@@ -79,7 +79,7 @@ may_behind a b n s0 s1 may same step = record {
 
 -- ---- merges
 
--- So many were made, they kept the map, and each lowered what is left; each root lowered the level that is due.
+-- This many were made, they kept the map, and each lowered the remaining work; each root lowered the level that is due.
 pub record Emptying (a : Parts) (s0 : BoardState) (b : Parts) (s : BoardState) : Type 0 where
   pub made : ℕ
   pub step : KeepsOrReads {T = Unit {0}} a b made s0 s (Ok tt)
@@ -143,7 +143,7 @@ module _ (a : Parts) (s0 : BoardState) (b : Parts) (s : BoardState) (ready : IsR
         ready = step.ready;
       }
 
-  -- where nothing was left to do
+  -- if nothing was left to do
   pub emptying_idle : (c : Parts) (s1 : BoardState) (x : Stepped) → x ≡ Idle → MergesWhole b c s s1 (Ok x) → KeepsOrReads {T = Unit {0}} a c (merges_left a + 1) s0 s1 (Ok tt)
   emptying_idle c s1 x is once =
       let idle = once.idle (ap (λ y. Ok y) is) in
@@ -183,7 +183,7 @@ module _ (a : Parts) (s0 : BoardState) (b : Parts) (s : BoardState) (ready : IsR
 
 -- ---- a freeze
 
--- So many steps of it were made, they kept the map, and each lowered what is left; none installed a root.
+-- This many steps of it were made, they kept the map, and each lowered the remaining work; none installed a root.
 pub record Ongoing (a : Parts) (s0 : BoardState) (b : Parts) (s : BoardState) : Type 0 where
   pub made : ℕ
   pub step : StepKeeps {T = Unit {0}} a b made s0 s (Ok tt)
@@ -293,7 +293,7 @@ module _ (a : Parts) (s0 : BoardState) (b : Parts) (s : BoardState) (ready : IsR
       keeps_later (Err e) a b c on.made 1 whole_freeze s0 s s1 tt ready on.leaves.same_shape (room_left 1 (omega arith)) on.step
       (Step-broken e (λ (x : Bool). KeepsAll b c s s1) (λ (x : Unit). KeepsAll b c s s1) (BreaksAll b s s1) (BreaksAll b s s1) b.log.shape 1 1 s s1 (omega arith) (λ broken. broken) once.step)
 
-  -- ---- behind it any key has room
+  -- ---- after it any key has room
 
   -- the active buffer is empty, and the newest epoch has all its commits
   module _ (c : Parts) (s1 : BoardState) (x : Bool) (ended : x ≡ true) (once : FreezesWhole b c s s1 (Ok x)) where
@@ -326,7 +326,7 @@ module _ (a : Parts) (s0 : BoardState) (b : Parts) (s : BoardState) (ready : IsR
 
 -- ---- both
 
--- how much is left to empty the frozen buffer
+-- how much remains to empty the frozen buffer
 pub left_most : (d : Parts) (board : BoardState) → MayStep d board → merges_left d ≤ emptying d.log.shape 4
 left_most d board may =
     let there = may.stands.1 in
@@ -365,7 +365,7 @@ module _ (a b : Parts) (s0 s1 : BoardState) (may : MayStep a s0) where
   pub no_room_made : (e : Fault) → KeepsOrReads {T = Unit {0}} a b (merges_left a + 1) s0 s1 (Err e) → KeepsOrReads {T = Unit {0}} a b (room_calls a.log.shape) s0 s1 (Err e)
   no_room_made e step = let left = left_most a s0 may in reads_failed e a b (merges_left a + 1) (room_calls a.log.shape) s0 s1 (omega (arith, left)) step
 
--- ---- behind a commit
+-- ---- after a commit
 
 pub none_reads : (d : Parts) (most : ℕ) (board : BoardState) → IsReady board d.log.shape → KeepsOrReads {T = Unit {0}} d d most board board (Ok tt)
 none_reads d most board ready = keeps_reads (Ok tt) d d most board board (none_step d most board tt ready)

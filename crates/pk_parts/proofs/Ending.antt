@@ -1,4 +1,4 @@
--- The second program of the commit of a reclaim's moves, told of the drive.
+-- The second program of the commit of a reclaim's moves, stated for the drive.
 use Rattle.std.proofs.Common.{◌≡◌, inl, inr, ℕ, ◌-◌, ◌<◌, refl, sym, ap, subst, ◌∙◌, arith, true, length, Result, Ok, Err}
 use Rattle.pk_base.specs.Shape.{Shape}
 use Rattle.pk_base.specs.Page.{Flash}
@@ -39,7 +39,7 @@ use Rattle.pk_parts.proofs.Reclaimed.{over_space, space_stands, drive_moved, set
 use Rattle.pk_parts.proofs.ReclaimWork.{worked_less}
 use Rattle.pk_parts.proofs.Standing.{found_between}
 
--- The commit is half made: the drive stands on its own shape, for the map of the flash.
+-- The commit is half made: the drive matches on its own shape, for the map of the flash.
 pub record CommitHere (d : Parts) (flash : Flash) (m : Map) : Type 0 where
   pub top : ℕ × Root
   pub found : Found

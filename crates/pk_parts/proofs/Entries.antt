@@ -1,4 +1,4 @@
--- Entries that wait for a commit: what the drive stands for behind them.
+-- Entries that wait for a commit: what the drive represents after them.
 use Rattle.std.proofs.Common.{◌≡◌, inl, inr, ℕ, ◌+◌, ◌-◌, ◌*◌, ◌/◌, ◌<◌, ◌≤◌, refl, sym, ap, subst, ◌∙◌, arith, true, cond, T, List, [], ◌∷◌, ◌++◌, length, Option, Some, None, Ok, length-append, is_some}
 use Rattle.std.proofs.lemmas.List.FromFn.{length-range_with_len}
 use Rattle.std.proofs.Math.Nat.{mul-le-mul_right}
@@ -251,7 +251,7 @@ put_stands d shape flash m key value page len old is_len p log space keys o n no
     subst (λ (s : Shape). StandsFor (record d { log = log; space = space; keys = keys }) s flash (insert m key value)) is
     (put_stands_at d flash m key value page old own log space keys o n noted' o_is n_is' space_is moved keys_are)
 
--- what the calls want
+-- what the calls need
 pub put_moves : (d : Parts) (flash : Flash) (m : Map) (key : Key) (value : List ℕ) (page len : ℕ) (old : Option Place) → length value ≡ len → Puts d d.log.shape flash m key value page old
     → (o : Option Span) (n : Span) → o ≡ span_if_some d.log.shape old → n ≡ span_of d.log.shape (placed_at page len) → Moves d.space o n
 put_moves d flash m key value page len old is_len p o n o_is n_is =

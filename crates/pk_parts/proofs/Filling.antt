@@ -27,7 +27,7 @@ use Rattle.pk_parts.proofs.Programming.{written_programs}
 not_whole : (bytes : List ℕ) → whole bytes ≡ erased → ⊥
 not_whole bytes e = cc
 
--- a page of a value that stands is written
+-- a page of a stored value is written
 stored_page : (shape : Shape) (flash : Flash) (key : Key) (page : ℕ) (value : List ℕ) → IsStored shape (page_at flash) key page value
     → (k : ℕ) → page ≤ k → k < page + charge shape (length value) → page_at flash k ≢ erased
 stored_page shape flash key page value stored k low high is =

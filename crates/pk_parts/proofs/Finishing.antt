@@ -1,4 +1,4 @@
--- The second program of the newest root, told of the drive.
+-- The second program of the newest root, stated for the drive.
 use Rattle.std.proofs.Common.{◌≡◌, inl, inr, ℕ, ◌-◌, ◌/◌, ◌≤◌, refl, sym, ap, subst, ◌∙◌, true, List, [], length, Result, Ok, Err}
 use Rattle.std.specs.Prelude.{OnOk, OnErr, IfErr}
 use Rattle.pk_base.specs.Shape.{Shape}
@@ -50,7 +50,7 @@ maps_same d shape flash m s none =
 
 -- ---- the step
 
--- The pair of the root is half made: the drive stands on its own shape, for the map of the flash.
+-- The pair of the root is half made: the drive matches on its own shape, for the map of the flash.
 pub record HalfHere (d : Parts) (flash : Flash) (m : Map) : Type 0 where
   pub top : ℕ × Root
   pub found : Found
@@ -156,7 +156,7 @@ module _ (d : Parts) (log' : LogState) (pool' : Blocks) (old new : BoardState) (
     same_roots before =
         ap (λ (s : Shape). root_number s new.pages) (shape_is new d.log.shape ready) ∙ its.number ∙ ap (λ (s : Shape). root_number s old.pages) (sym (shape_is old d.log.shape before))
 
-  -- so for every map, on every shape, for which it stands
+  -- so for every map, on every shape, that it represents
   finished_all : repeats_next d.log.next ≡ true → (shape : Shape) (m : Map) → StandsBetween d shape old.pages m → Finished d then_drive shape m old new
   finished_all repeats shape m s =
       let P : Shape → Type 0 = λ t. StandsBetween d t old.pages m → Finished d then_drive t m old new in

@@ -27,7 +27,7 @@ true_false e = cc
 pub not_made : (f : Fault) → IsOk {T = Unit {0}} (Err f) → ⊥
 not_made f e = cc
 
--- ---- where no block leaves, nothing differs
+-- ---- if no block leaves, nothing differs
 
 pub pool_same : (d : Parts) → IsSettled (index_of d) → freed d.pool ≡ d.pool
 pool_same d settles = freed_same d.pool settles.none_leaves
@@ -64,7 +64,7 @@ root_whole d whole = or_left (repeats_next d.log.next) (commits_in d.reclaim.pha
 pub moves_whole : (d : Parts) → is_half d ≡ false → commits_in d.reclaim.phase ≡ false
 moves_whole d whole = or_right (repeats_next d.log.next) (commits_in d.reclaim.phase) whole
 
--- where the root's is not, the commit is
+-- if the root's is not, the commit is
 pub commit_half : (d : Parts) → is_half d ≡ true → repeats_next d.log.next ≡ false → commits_in d.reclaim.phase ≡ true
 commit_half d half whole = or_then (repeats_next d.log.next) (commits_in d.reclaim.phase) half whole
 
@@ -113,7 +113,7 @@ pub counted_index : (x : Index) (flash : Flash) (m : Map) → IsSettled x ⊎ Ha
 counted_index x flash m (inl settles) = ap (λ (p : Blocks). used_by Values p.states) (sym (freed_same x.pool settles.none_leaves))
 counted_index x flash m (inr half) = half.counted
 
--- a drive stays whole where its installer, its blocks, its reclaim and its epoch are as far
+-- a drive remains whole if its installer, its blocks, its reclaim and its epoch are as far
 pub whole_like : (d e : Parts) → repeats_next e.log.next ≡ repeats_next d.log.next → (NoneLeaves d.pool → NoneLeaves e.pool) → e.reclaim.phase ≡ d.reclaim.phase → e.log.epoch.half ≡ d.log.epoch.half → IsWhole d → IsWhole e
 whole_like d e next pool phase epoch whole = record {
   settles = record { whole = next ∙ whole.settles.whole; none_leaves = pool whole.settles.none_leaves };

@@ -34,7 +34,7 @@ module _ (d : Parts) (flash : Flash) (top : ℕ × Root) (found : Found) (withou
     number = number;
   }
 
-  -- with nothing pending the values lie where the flash has them, and the reclaim stands to these
+  -- with nothing pending the values are where the flash has them, and the reclaim matches them
   pub committed_placed : ValuesOnFlash d.log.shape d.space d.pool (outputs_of d) flash (places found [])
   committed_placed = subst (λ (es : List Entry). ValuesOnFlash d.log.shape d.space d.pool (outputs_of d) flash (places found es)) none a.placed
 

@@ -56,7 +56,7 @@ number_top : (shape : Shape) (flash : Flash) (top : ℕ × Root) → newest_root
 unfolding root_number
 number_top shape flash top is = rw is refl
 
--- so many roots were installed as the index has in its own
+-- as many roots were installed as the index counts for itself
 pub number_is : (x : Index) (frames : ℕ) (board : BoardState) (top : ℕ × Root) (found : Found) → IsReady board x.log.shape → IndexOnFlash x frames board.pages top found
     → roots board ≡ x.log.root.number
 number_is x frames board top found ready stands =
@@ -87,13 +87,13 @@ module _ (d : Parts) (old : BoardState) (may : MayEmpty d old) where
   commit_cut : (m : Map) (flash : Flash) (posted : List ℕ) → CrashFinds d.log.shape background old.pages m flash posted → CrashFinds d.log.shape commit old.pages m flash posted
   commit_cut m flash posted cut = (cut.0, inr cut.1)
 
-  -- what holds on the drive's own shape holds on every one for which it stands
+  -- what holds on the drive's own shape holds on each one that it has
   on_own_shape : (e : Parts) (new : BoardState) → ((m : Map) → Here m → Keeps d e d.log.shape m old new) → KeepsAll d e old new
   on_own_shape e new keeps shape m stands =
       let P : Shape → Type 0 = λ s. StandsFor d s old.pages m → Keeps d e s m old new in
       subst P stands.with.shape_is (keeps m) stands
 
-  -- the same where a pair may be half made
+  -- the same if a pair may be half made
   on_own_between : (e : Parts) (new : BoardState) → ((m : Map) → Here m → KeepsBetween d e d.log.shape m old new) → KeepsAllBetween d e old new
   on_own_between e new keeps shape m stands =
       let P : Shape → Type 0 = λ s. StandsFor d s old.pages m → KeepsBetween d e s m old new in
@@ -248,14 +248,14 @@ module _ (d : Parts) (old : BoardState) (may : MayEmpty d old) (x : Index) (new 
   pub whole_epoch : KeepsActive d.log x.log → x.log.epoch.half ≡ false
   whole_epoch active = ap (λ (e : JournalEpoch). e.half) (same_epoch active) ∙ may.may.stands.1.whole.epoch
 
-  -- the map for which it stands
+  -- the map that it represents
   abbrev some : (m : Map) × StandsFor d d.log.shape old.pages m
   some = may.may.stands
 
   moved : Moves (index_of d) old x new → IndexMoves (index_of d) (frames_of d) old some.1.found some.0 x new
   moved moves = moves (frames_of d) some.1.top some.1.found some.0 (may_work d old may some.0 some.1)
 
-  -- as many blocks have values, also where some leave
+  -- as many blocks have values, also if some leave
   pub moved_many : Moves (index_of d) old x new → used_by Values x.pool.states ≡ used_by Values d.pool.states
   moved_many moves = let is = moved moves in counted_index x new.pages some.0 is.ends ∙ is.values.as_many
 
@@ -328,7 +328,7 @@ module _ (d : Parts) (old : BoardState) (may : MayEmpty d old) (x : Index) (new 
   merge_stays (Err Reading) step = still_stays (step.unmoved refl).0
   merge_stays (Err Stopped) step = tt
 
-  -- ---- what was left where a call failed
+  -- ---- what remained if a call failed
 
   merge_some : (r : Result Stepped Fault) → MergeStep (index_of d) old x new r → OnErr r (1 ≤ merges_left d)
   merge_some (Ok s) step = tt

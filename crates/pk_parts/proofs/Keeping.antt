@@ -1,4 +1,4 @@
--- Steps in a row, each of which keeps the map.
+-- Steps one after another, each of which keeps the map.
 use Rattle.std.proofs.Common.{◌≡◌, ◌⊎◌, inl, inr, ℕ, List, [], ◌++◌, Some, Ok, false, refl, sym, ap, subst, ◌∙◌}
 use Rattle.pk_base.specs.Shape.{Shape}
 use Rattle.pk_base.specs.Page.{Flash}
@@ -20,7 +20,7 @@ use Rattle.pk_parts.specs.Pairing.{Finished, FinishesHalf, FailsToFinish}
 use Rattle.pk_parts.proofs.Halves.{with_settled, with_whole, whole_of}
 use Rattle.pk_parts.proofs.Standing.{reads_as, same_found}
 
--- where the second flash holds what the first held, or the map, a cut behind it is one behind the first
+-- if the second flash holds what the first held, or the map, a cut after it is one after the first
 pub cut_of_both : (shape : Shape) (m : Map) (first second flash : Flash) (front posted : List ℕ) → front ≡ []
     → (reading shape second [] ≡ reading shape first []) ⊎ (reading shape second [] ≡ Ok m)
     → CrashFinds shape commit second m flash posted → CrashFinds shape commit first m flash (front ++ posted)
@@ -52,7 +52,7 @@ module _ (a b : Parts) (shape : Shape) (m : Map) (s0 s1 : BoardState) (has : s0.
   pub Breaks-then : (s2 : BoardState) → Goes shape s1 s2 (CrashFinds shape commit s1.pages m) → Goes shape s0 s2 (CrashFinds shape commit s0.pages m)
   Breaks-then s2 second = Goes-then shape first.cuts.0 s0 s1 (CrashFinds shape commit s0.pages m) has first.cuts.1 first.cuts.2 s2 (CrashFinds shape commit s1.pages m) seen second
 
--- the board has the shape that the drive stands for
+-- the board has the shape of the drive
 pub board_has : (a : Parts) (board : BoardState) (shape : Shape) (m : Map) → IsReady board a.log.shape → StandsFor a shape board.pages m → board.shape ≡ Some shape
 board_has a board shape m ready stands = ready.shape_is ∙ ap (λ s. Some s) stands.with.shape_is
 

@@ -26,7 +26,7 @@ use Rattle.pk_parts.specs.Staying.{IsNoted}
 
 -- ---- the entry
 
--- the block of pages that lie in the written part of the open one
+-- the block of pages that are in the written part of the open one
 pub open_is : (shape : Shape) (pool : Blocks) (flash : Flash) (o : Option OpenBlock) (page count : ℕ) → MatchOption o (Unit {0}) (λ x. IsOpenIn shape pool flash x)
     → MatchOption o ⊥ (λ x. (x.block * shape.block_pages ≤ page) × (page + count ≤ x.block * shape.block_pages + x.used)) → 0 < count → block_if_open o ≡ Some (page / shape.block_pages)
 open_is shape pool flash None page count is inside some = absurd inside
@@ -50,7 +50,7 @@ put_noted d flash m k value page len old log' space' keys' is_len p is same =
     found_in : (k : Key) (place : Place) (es : List Entry) → find key_cmp k (put key_cmp k (Some place) es) ≡ Some (Some place)
     found_in k place es = find-put key_cmp key_total k k (Some place) es ∙ ap (λ b. cond b (Some (Some place)) (find key_cmp k es)) (ap is_eq (tied_itself key_total k))
 
--- it stays where buffer and open block stay
+-- it is unchanged if buffer and open block are
 pub noted_after : (a b : Parts) (k : Key) → IsNoted a k → b.log.active ≡ a.log.active → b.space ≡ a.space → b.log.shape ≡ a.log.shape → IsNoted b k
 noted_after a b k n active space shape = record {
   place = n.place;

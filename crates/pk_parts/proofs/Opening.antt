@@ -64,7 +64,7 @@ values_found shape flash f found is has = record {
   none_leaves = has.owners.none_leaves;
 }
 
--- the parts of a drive behind what was found
+-- the parts of a drive made of what was found
 module _ {A : Type 0} (shape : Shape) (flash : Flash) (frames : ℕ) (f : Opened A) (log : LogState) (space : DataState) (s : Schedule) (job : JobState) where
   abbrev parts : Parts
   parts = record { log = log; levels = f.levels; arena = f.arena; schedule = s; space = space; reclaim = job; pool = f.pool; keys = f.keys; stopped = false }

@@ -86,7 +86,7 @@ commits_one n m same = ap {B = ℕ} (λ b. if b then commit_programs else 0) (eq
 commits_none : (n m : ℕ) → (n ≡ m → ⊥) → ◌≡◌ {A = ℕ} (if n == m then commit_programs else 0) 0
 commits_none n m other = ap {B = ℕ} (λ b. if b then commit_programs else 0) (ne_eqb n m other)
 
--- a commit behind one entry more
+-- a commit after one more entry
 commit_part : (r : Result Unit Fault) (a n c : Parts) (s1 s2 : BoardState) → length a.log.pending < page_entries a.log.shape → length n.log.pending ≡ length a.log.pending + 1 → n.log.shape ≡ a.log.shape
     → OnOk r (length n.log.pending < page_entries n.log.shape → (c ≡ n) × (s2 ≡ s1)) → OnOk r (page_entries n.log.shape ≤ length n.log.pending → Programs commit_programs s1 s2) → OnOk r (Programs (commits_for a.log.shape (sight_of a)) s1 s2)
 commit_part (Err e) a n c s1 s2 few more shapes idle full = tt
@@ -114,7 +114,7 @@ pub take_programs : (r : Result Unit Fault) (a n c : Parts) (s1 s2 : BoardState)
     → OnOk r (length n.log.pending < page_entries n.log.shape → (c ≡ n) × (s2 ≡ s1)) → OnOk r (page_entries n.log.shape ≤ length n.log.pending → Programs commit_programs s1 s2) → OnOk r (Programs (commits_for a.log.shape (sight_of a)) s1 s2)
 take_programs r a n c s1 s2 few more shapes idle full = commit_part r a n c s1 s2 few more shapes idle full
 
--- where no freeze is wanted, what makes room does nothing
+-- if no freeze is needed, what makes room does nothing
 pub put_idle : (r : Result Unit Fault) (a b : Parts) (s0 s1 s2 : BoardState) (k : Key) (size : ℕ) → (needs_freeze a.log k ≡ false → (b ≡ a) × (s1 ≡ s0))
     → OnOk r (fits_open b.log.shape b.space (charge b.log.shape size) ≡ true → Programs (charge b.log.shape size + commits_for b.log.shape (sight_of b)) s1 s2)
     → OnOk r (needs_freeze a.log k ≡ false → fits_open a.log.shape a.space (charge a.log.shape size) ≡ true → Programs (charge a.log.shape size + commits_for a.log.shape (sight_of a)) s0 s2)

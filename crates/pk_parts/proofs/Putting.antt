@@ -1,4 +1,4 @@
--- A key gets a value, or loses its own: the steps of that in a row.
+-- A key gets a value, or loses its own: the steps of that, one after another.
 use Rattle.std.proofs.Common.{◌≡◌, inl, inr, ℕ, refl, sym, ap, subst, ◌∙◌, List, [], ◌++◌, length, Bool, Option, Some, Result, Ok, Err}
 use Rattle.std.specs.Prelude.{OnOk, OnErr}
 use Rattle.std.specs.FinMap.{insert, remove}
@@ -28,7 +28,7 @@ use Rattle.pk_parts.specs.Changes.{MayPut, MayTake, PutsAll, FailsToPut, TakesAl
 use Rattle.pk_parts.proofs.Keeping.{board_has}
 use Rattle.pk_parts.proofs.Changing.{IsStill, kept_goes, changes, change_goes}
 
--- ---- a step that keeps the map leaves what a change wants
+-- ---- a step that keeps the map leaves what a change requires
 
 pub may_put_after : (a b : Parts) (shape : Shape) (m : Map) (old new : BoardState) (key : Key) (value : List ℕ) (place : Option Place) → MayPut a shape old.pages m key value place → Keeps a b shape m old new
     → MayPut b shape new.pages m key value place
@@ -50,7 +50,7 @@ pub reclaim_same : (a b : Parts) (count : ℕ) (is : Bool) → b.log.shape ≡ a
     → needs_reclaim a.log.shape a.space a.pool (charge a.log.shape count) ≡ is → needs_reclaim b.log.shape b.space b.pool (charge b.log.shape count) ≡ is
 reclaim_same a b count is shapes spaces used needs = rw (shapes, spaces, used) needs
 
--- ---- a step that keeps the map, and a change behind it
+-- ---- a step that keeps the map, and a change after it
 
 module _ (shape : Shape) (s0 s1 : BoardState) (has : s0.shape ≡ Some shape) (m m' : Map) (first : Reaches shape s0 s1 (CrashFinds shape commit s0.pages m)) (still : IsStill shape s1.pages s0.pages m) where
   silent : all_posted first.0 ≡ []
@@ -111,7 +111,7 @@ put_broken a s0 s1 key value place ready breaks shape m may = kept_goes shape s0
 pub take_broken : (a : Parts) (s0 s1 : BoardState) (key : Key) (place : Place) → IsReady s0 a.log.shape → BreaksAll a s0 s1 → FailsToTake a s0 s1 key place
 take_broken a s0 s1 key place ready breaks shape m may = kept_goes shape s0 s1 (board_has a s0 shape m ready may.stands) m (remove m key) (breaks shape m may.stands)
 
--- ---- a value was written, its entry noted, and a commit made where the page is full
+-- ---- a value was written, its entry noted, and a commit made if the page is full
 
 pub puts_of : (b : Parts) (its shape : Shape) (flash : Flash) (m : Map) (key : Key) (value : List ℕ) (page : ℕ) (old : Option Place) → its ≡ shape → MayPut b shape flash m key value old
     → IsWritten b its flash key value page → IsPlace its (record { page = page; len = length value }) → IsInOpen its b.space page (charge its (length value)) → Puts b shape flash m key value page old
@@ -141,7 +141,7 @@ some_puts a b s0 s1 key value page old may keeps same written place in_open =
     let mid = may_put_after a b a.log.shape may.0 s0 s1 key value old may.1 (keeps a.log.shape may.0 may.1.stands) in
     (s1.pages, may.0, value, refl, subst (λ (s : Shape). Puts b s s1.pages may.0 key value page old) (sym same) (puts_of b a.log.shape a.log.shape s1.pages may.0 key value page old refl mid written place in_open))
 
--- what a change wants, for some map behind a step that keeps it
+-- what a change requires, for some map, after a step that keeps it
 pub some_may_put : (a b : Parts) (s0 s1 : BoardState) (key : Key) (value : List ℕ) (place : Option Place) → (m : Map) × MayPut a a.log.shape s0.pages m key value place → KeepsAll a b s0 s1 → b.log.shape ≡ a.log.shape
     → (m : Map) × MayPut b b.log.shape s1.pages m key value place
 some_may_put a b s0 s1 key value place may keeps same =
@@ -155,7 +155,7 @@ some_may_take a b s0 s1 key place may keeps same =
 pub some_drops : (a : Parts) (s0 : BoardState) (key : Key) (old : Place) → (m : Map) × MayTake a a.log.shape s0.pages m key old → (flash : Flash) × (m : Map) × Drops a a.log.shape flash m key old
 some_drops a s0 key old may = (s0.pages, may.0, drops_of a a.log.shape s0.pages may.0 key old may.1)
 
--- a drive stands for some map behind the entry
+-- a drive represents some map after the entry
 pub some_put : (a b c : Parts) (s0 s1 : BoardState) (key : Key) (value : List ℕ) (page : ℕ) (old : Option Place)
     → (m : Map) × MayPut a a.log.shape s0.pages m key value old → KeepsAll a b s0 s1 → b.log.shape ≡ a.log.shape → c.log.shape ≡ b.log.shape
     → IsWritten b a.log.shape s1.pages key value page → IsPlace a.log.shape (record { page = page; len = length value }) → IsInOpen a.log.shape b.space page (charge a.log.shape (length value))
@@ -190,7 +190,7 @@ module _ (a b c : Parts) (s0 s1 : BoardState) (key : Key) (value : List ℕ) (pa
       let one = keeps shape m may.stands in
       change_goes shape s0 s1 (board_has a s0 shape m ready may.stands) m (insert m key value) one.cuts one.still s2 (breaks shape (insert m key value) (there shape m may))
 
--- ---- a key lost its value: only in memory, and a commit where the page is full
+-- ---- a key lost its value: only in memory, and a commit if the page is full
 
 module _ (a c : Parts) (s0 : BoardState) (key : Key) (old : Place) (ready : IsReady s0 a.log.shape)
     (noted : (shape : Shape) (flash : Flash) (m : Map) → Drops a shape flash m key old → StandsFor c shape flash (remove m key)) where
@@ -198,7 +198,7 @@ module _ (a c : Parts) (s0 : BoardState) (key : Key) (old : Place) (ready : IsRe
   some_taken may same =
       (remove may.0 key, subst (λ (s : Shape). StandsFor c s s0.pages (remove may.0 key)) (sym same) (noted a.log.shape s0.pages may.0 (drops_of a a.log.shape s0.pages may.0 key old may.1)))
 
-  -- what is cut behind a change in memory
+  -- the cuts after a change in memory
   taken_cut : (shape : Shape) (m : Map) (f : Flash) (q : List ℕ) → CrashFinds shape commit s0.pages (remove m key) f q → CrashFinds shape (change (remove m key)) s0.pages m f q
   taken_cut shape m f q (quiet, inl same) = (quiet, inl same)
   taken_cut shape m f q (quiet, inr is) = (quiet, inr (inr is))

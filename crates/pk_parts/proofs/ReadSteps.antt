@@ -1,4 +1,4 @@
--- Steps of which one may fail by a read: in a row, and what is said of them otherwise.
+-- Steps of which one may fail by a read: one after another, and what else is said of them.
 use Rattle.std.proofs.Common.{◌≡◌, ℕ, ◌+◌, ◌≤◌, refl, subst, ◌∙◌, arith, Result, Ok, Err}
 use Rattle.std.specs.Prelude.{IfErr, OnOk}
 use Rattle.pk_base.specs.Shape.{Shape}
@@ -58,7 +58,7 @@ came_failed : {T U : Type 0} (e : Fault) (E : T → Type 0) (E' : U → Type 0) 
 came_failed Reading E E' K K' B B' old new g h came = (g came.0, came.1)
 came_failed Stopped E E' K K' B B' old new g h came = (h came.0, came.1)
 
--- behind calls of which none failed
+-- after calls of which none failed
 came_behind : {T : Type 0} (r : Result T Fault) (E : T → Type 0) (K B : Type 0) (a b c : BoardState) → NoFault a b → Came E K B b c r → Came E K B a c r
 came_behind (Ok x) E K B a b c first came = (came.0, no_fault_then a b c first came.1)
 came_behind (Err Reading) E K B a b c first came = (came.0, unread_behind a b c first came.1)
@@ -123,7 +123,7 @@ reading_failed e E E' K K' B B' shape n most old new few g h step = record {
   ready = step.ready;
 }
 
--- a second part behind one of which no call failed
+-- a second part after one in which no call failed
 pub reading_then : {T : Type 0} (r : Result T Fault) (E E' : T → Type 0) (K K' B B' : Type 0) (shape : Shape) (n k most : ℕ) (a b c : BoardState) → n + k ≤ most → Passes n a b
     → ((x : T) → E x → E' x) → (K → K') → (B → B') → StepOrRead E K B shape k b c r → StepOrRead E' K' B' shape most a c r
 reading_then r E E' K K' B B' shape n k most a b c few first f g h second = record {
@@ -139,7 +139,7 @@ reading_then r E E' K K' B B' shape n k most a b c few first f g h second = reco
   ready = second.ready;
 }
 
--- ---- where the drive runs on
+-- ---- if the drive runs on
 
 pub running_says : {T : Type 0} (P Q : Type 0) (r : Result T Fault) → (P → Q) → OnRunning P r → OnRunning Q r
 running_says P Q (Ok x) f p = f p

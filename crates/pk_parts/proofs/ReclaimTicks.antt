@@ -118,7 +118,7 @@ module _ (d : Parts) (old : BoardState) (m : MayTick d old) (none_half : is_half
     pub stops_so : (d' : Parts) → d'.stopped ≡ true → d'.log.pending ≡ [] → FailsAll d old new → Stops old new → IsShared d.pool.shape d.pool.states → Advances d d' old new (Fault true)
     stops_so d' stopped none fails stops shared = stop_advances d old m d' new ready calls rest installs no_pair (busy shared) none stopped (whole_fails d old m d' new none_half fails) stops
 
-  -- ---- one that wants a freeze
+  -- ---- one that needs a freeze
 
   pub waits_may : (d' : Parts) (new : BoardState) → Waits d d' old new → MayTick d' new
   waits_may d' new waits = subst (λ (e : Parts). MayTick e new) (sym waits.same) (subst (λ (b : BoardState). MayTick d b) (sym waits.board) m)

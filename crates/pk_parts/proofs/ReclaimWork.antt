@@ -1,4 +1,4 @@
--- A step of a reclaim lowers the work that is left.
+-- A step of a reclaim lowers the remaining work.
 use Rattle.std.proofs.Common.{◌≡◌, ◌⊎◌, inl, inr, ℕ, ◌+◌, ◌-◌, ◌<◌, Bool, true, false, List, length, refl, sym, ap, subst, ◌∙◌, arith, nat_le}
 use Rattle.std.specs.Prelude.{◌&&◌, ◌==◌, not}
 use Rattle.std.proofs.lemmas.Bool.{le-leb, eqb-true}
@@ -35,7 +35,7 @@ both : (x : Bool) → (x && true) ≡ x
 both true = refl
 both false = refl
 
--- where every value has room, none is
+-- if every value has room, none is
 not_due_at : (d : Parts) (b : Bool) → ((counts_of d).blocks == data_blocks d.log.shape - 1) ≡ b → HasSpace (space_of d) → (b && not (fits_open d.log.shape d.space (most_pages d.log.shape))) ≡ false
 not_due_at d false e space = refl
 not_due_at d true e space =
@@ -46,7 +46,7 @@ not_due_at d true e space =
 space_not_due : (d : Parts) → HasSpace (space_of d) → is_reclaim_due d ≡ false
 space_not_due d space = not_due_at d ((counts_of d).blocks == data_blocks d.log.shape - 1) refl space
 
--- behind one whose moves were committed before, one is due as it was
+-- after one whose moves were committed before, one is due as before
 due_same : (b c : Parts) (p : Phase) → (runs_in p ≡ true) → length (held_blocks b.reclaim.phase) ≡ 1 → c.reclaim.phase ≡ Idle → c.log ≡ b.log → c.space ≡ b.space
     → used_by Values c.pool.states + 1 ≡ used_by Values b.pool.states → is_reclaim_due c ≡ is_reclaim_due b
 due_same b c p runs one idle log space given =
@@ -54,7 +54,7 @@ due_same b c p runs one idle log space given =
     let blocks : (counts_of c).blocks ≡ (counts_of b).blocks = omega (arith, one, none, given) in
     λ i. (blocks i == data_blocks (log i).shape - 1) && not (fits_open (log i).shape (space i) (most_pages (log i).shape))
 
--- ---- what is left of the reclaim
+-- ---- what remains of the reclaim
 
 -- in the backlog
 abbrev rest_at : Phase → Bool → Parts → ℕ
@@ -63,7 +63,7 @@ rest_at p due d = reclaiming_from d.log.shape (reclaim_left d.log.shape d.space.
 abbrev Less : Phase → Bool → Parts → Phase → Bool → Parts → Type 0
 Less p due b q due' c = Lowers (rest_at p due b) (unready b.pool.states) (rest_at q due' c) (unready c.pool.states)
 
--- its moves may want a freeze
+-- its moves may need a freeze
 abbrev may_at : Phase → Bool → Parts → Bool
 may_at p due d = has_moves due p && is_tight_for d
 
@@ -137,7 +137,7 @@ module _ (b c : Parts) (due due' : Bool) where
 
 -- ---- the work
 
--- what is left of a merge does not depend on what a reclaim changes
+-- what remains of a merge does not depend on what a reclaim changes
 merge_beside : (p : MergePhase) (x : Index) (es : List Entry) (used : ℕ) (half : Bool) (q : Blocks)
     → merge_left p (record x { log = record x.log { active = record x.log.active { entries = es }; epoch = record x.log.epoch { used = used; half = half } }; pool = q }) ≡ merge_left p x
 merge_beside NoMerge x es used half q = refl

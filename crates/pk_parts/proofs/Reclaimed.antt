@@ -1,4 +1,4 @@
--- A step of a reclaim, told of the drive.
+-- A step of a reclaim, stated for the drive.
 use Rattle.std.proofs.Common.{◌≡◌, inl, inr, ℕ, ◌/◌, [], List, length, refl, sym, ◌∙◌, ap, subst, true, false, Some, Result, Ok, Err}
 use Rattle.std.specs.Prelude.{slice_get, IfOk, IfErr, ◌++◌, ◌∷◌}
 use Rattle.std.specs.List.{concat, AllByRecursion}
@@ -80,11 +80,11 @@ may_reclaim d board may =
     let s = may.may.stands.1 in
     (s.top, s.found, may.may.stands.0, record { stands = space_stands d d.log.shape board.pages s.top s.found s.without may.may.stands.0 may.none_pending s.with (whole_in d board.pages s.top s.found may.may.stands.0 s.whole) s.whole.settles.none_leaves; turn = may.turn })
 
--- for each map for which it stands
+-- for each map that it represents
 pub may_for : (d : Parts) (board : BoardState) (shape : Shape) (m : Map) → MayReclaim d board → (s : StandsFor d shape board.pages m) → spaces.MayReclaim (space_of d) board.pages s.top s.found m
 may_for d board shape m may s = record { stands = space_stands d shape board.pages s.top s.found s.without m may.none_pending s.with (whole_in d board.pages s.top s.found m s.whole) s.whole.settles.none_leaves; turn = may.turn }
 
--- ---- the index behind a step
+-- ---- the index after a step
 
 -- what holds of each of a list
 of_each : (P : ℕ → Type 0) (xs : List ℕ) (x : ℕ) → AllByRecursion P xs → AnyByRecursion (λ c. x ≡ c) xs → P x
@@ -128,7 +128,7 @@ module _ (x : Index) (frames : ℕ) (old new : Flash) (top : ℕ × Root) (found
       subst I (sym keeps)
       (index_then x frames old new top found stands pool' (runs_apart fits) taken_apart (record x.log.epoch { used = log'.epoch.used; half = log'.epoch.half }) (record x.log.active { entries = log'.active.entries }) x.log.pending newest (subst L keeps logs))
 
--- ---- the drive behind a step
+-- ---- the drive after a step
 
 module _ (d : Parts) (x' : Space) (keeps : KeepsLog (space_of d) x') where
   same_shape : x'.log.shape ≡ d.log.shape
@@ -179,7 +179,7 @@ module _ (d : Parts) (x' : Space) (keeps : KeepsLog (space_of d) x') (flash : Fl
   pub course_then : IsHalfAtMost (over_space d x') flash top found m
   course_then = course_at x'.job.phase refl stands.half
 
--- every map for which it stood
+-- every map that it represented
 pub holds_all : (d : Parts) (x' : Space) (old new : BoardState) → MayReclaim d old → KeepsLog (space_of d) x' → IsReady new d.log.shape → steps.Moves (space_of d) old x' new → HoldsAll d (over_space d x') old new
 holds_all d x' old new may keeps ready moves shape m was =
     let now = moves was.top was.found m (may_for d old shape m may was) in

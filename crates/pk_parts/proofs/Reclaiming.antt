@@ -1,4 +1,4 @@
--- The reclaim of a drive stands as it did, whatever others do.
+-- The reclaim of a drive is unchanged, whatever others do.
 use Rattle.std.proofs.Common.{◌≡◌, ◌⊎◌, inl, inr, ℕ, zero, suc, ◌+◌, ◌-◌, ◌*◌, ◌/◌, ◌<◌, ◌≤◌, sym, subst, ◌∙◌, refl, arith, true, false, List, [], ◌∷◌, Option, Some, None}
 use Rattle.std.specs.Prelude.{Bool, slice_index, slice_set, MatchOption, IfSome}
 use Rattle.std.specs.FinMap.Entries.{put}
@@ -104,7 +104,7 @@ live_fewer heads fewer page (suc n) less =
     let rest = live_fewer heads fewer (page + 1) n (λ k low high. less k (omega (arith, low)) (omega (arith, high))) in
     omega (arith, here, rest)
 
--- it is as sparse where no more is live in the victim
+-- it is as sparse if no more is live in the victim
 fewer_in_victim : (shape : Shape) (c : Course) (heads fewer : List ℕ) → ((k : ℕ) → k / shape.block_pages ≡ c.victim → slice_index fewer k ≤ slice_index heads k) → IsSparse shape c heads → IsSparse shape c fewer
 fewer_in_victim shape c heads fewer less sparse =
     let live = live_fewer heads fewer (unseen shape c) (c.victim * shape.block_pages + shape.block_pages - unseen shape c)
@@ -187,14 +187,14 @@ without_fewer : (o : Option Span) (heads : List ℕ) (k : ℕ) → slice_index (
 without_fewer None heads k = omega arith
 without_fewer (Some span) heads k = zero_fewer heads span.page k
 
--- behind a change of one value all but its own head are no more
+-- after a change of one value all heads but its own are gone
 pub replaced_fewer : (o : Option Span) (heads : List ℕ) (page count k : ℕ) → (k ≡ page → ⊥) → slice_index (slice_set (heads_without o heads) page count) k ≤ slice_index heads k
 replaced_fewer o heads page count k other =
     let same = set_other (heads_without o heads) page k count other in
     let less = without_fewer o heads k in
     omega (arith, same, less)
 
--- ---- what is left of it
+-- ---- what remains of it
 
 reclaim_most : (pages most : ℕ) (held : Bool) → pages ≤ most → steps_of (reclaim_rest pages held 3) ≤ most + most + 2 * 1 + 8
 reclaim_most pages most true few = omega (arith, few)

@@ -34,7 +34,7 @@ some_none left e = cc
 
 -- ---- what a reclaim adds to the work of the index
 
--- the freeze that it may need, where none runs
+-- the freeze that it may need, if none runs
 abbrev freeze_more : Shape → Option ℕ → Bool → ℕ
 freeze_more shape freeze may = if is_none freeze && may then whole_freeze + emptying shape 4 else 0
 
@@ -58,7 +58,7 @@ work_beside shape b rest may =
     let freezes = freezing_more shape b.freeze may in
     omega (arith, merges, freezes)
 
--- whether a freeze runs is told by the blocks that it has
+-- whether a freeze runs follows from the blocks that it has
 rest_none : (job : FreezeJob) (next : Next) → is_none (freeze_rest_of job next) ≡ (length (taken_by job) == 0)
 rest_none job next = by (length (taken_by job) == 0)
   where
@@ -66,7 +66,7 @@ rest_none job next = by (length (taken_by job) == 0)
     by true = refl
     by false = refl
 
--- less is left with the reclaim where less is left of the index, and a freeze runs where it ran
+-- less remains with the reclaim if less remains of the index, and a freeze runs as before
 less_beside : (shape : Shape) (b b' : Backlog) (rest : Option ℕ) (may : Bool) → is_none b'.freeze ≡ is_none b.freeze → work shape (with_reclaim b' None false) < work shape (with_reclaim b None false)
     → work shape (with_reclaim b' rest may) < work shape (with_reclaim b rest may)
 less_beside shape b b' rest may same less =
@@ -81,11 +81,11 @@ module _ (d : Parts) (x' : Index) (many : used_by for_values x'.pool.states ≡ 
   due_same : is_reclaim_due (with_index d x') ≡ is_reclaim_due d
   due_same = due_so d x'.log.shape (used_by for_values x'.pool.states) shape many
 
-  -- a reclaim may need a freeze as before where the active buffer and the epoch are the same
+  -- a reclaim may need a freeze as before if the active buffer and the epoch are the same
   may_same : length x'.log.active.entries ≡ length d.log.active.entries → pages_left x'.log.epoch ≡ pages_left d.log.epoch → may_freeze (with_index d x') ≡ may_freeze d
   may_same active left = λ i. has_moves (due_same i) d.reclaim.phase && is_tight (shape i) (active i) (left i)
 
-  -- as much is left of the reclaim
+  -- the same amount of the reclaim remains
   left_same : reclaim_left x'.log.shape d.space.live.heads (is_reclaim_due (with_index d x')) d.reclaim.phase ≡ reclaim_left d.log.shape d.space.live.heads (is_reclaim_due d) d.reclaim.phase
   left_same = λ i. reclaim_left (shape i) d.space.live.heads (due_same i) d.reclaim.phase
 
@@ -101,7 +101,7 @@ module _ (d : Parts) (x' : Index) (many : used_by for_values x'.pool.states ≡ 
 
 -- ---- a step of a freeze
 
--- no merge has steps left where none runs
+-- no merge has steps left if none runs
 none_left : (p : Phase) (x : Index) → is_between p ≡ true → merge_left p x ≡ None
 none_left Idle x e = refl
 none_left (Running level) x e = absurd (false_true e)
@@ -117,7 +117,7 @@ install_few (Erase beside) = (omega arith, omega arith)
 install_few (Program page) = (omega arith, omega arith)
 install_few (Again page) = (omega arith, omega arith)
 
--- no more is left than of a whole freeze, which is left where none has begun
+-- no more remains than of a whole freeze, which remains if none has begun
 left_least : (job : FreezeJob) (next : Next) → freeze_left job next ≤ left_of whole_freeze (freeze_rest_of job next)
 left_least job next = by (length (taken_by job) == 0)
   where
@@ -125,7 +125,7 @@ left_least job next = by (length (taken_by job) == 0)
     by true = let few = (install_few next).1 in omega (arith, few)
     by false = omega arith
 
--- behind a freeze there is room for the moves of a reclaim
+-- after a freeze there is room for the moves of a reclaim
 not_tight : (most moves active left : ℕ) → active + moves ≤ most → 0 < left → (nat_lt most (active + moves) || left == 0) ≡ false
 not_tight most moves active left few some = grind (arith, nat_tests)
 
@@ -147,11 +147,11 @@ module _ (d : Parts) (x' : Index) (merged : has_no_merge (index_of d) ≡ true) 
   none_frozen : length d.log.frozen.entries ≡ 0
   none_frozen = (no_merge_is (index_of d) merged).1
 
-  -- no merge runs before it and behind it
+  -- no merge runs before it and after it
   merge_same : x'.schedule.phase ≡ d.schedule.phase → merge_left x'.schedule.phase x' ≡ merge_left d.schedule.phase (index_of d)
   merge_same phase = none_left x'.schedule.phase x' (ap is_between phase ∙ between) ∙ sym (none_left d.schedule.phase (index_of d) between)
 
-  -- as much is left of the reclaim
+  -- the same amount of the reclaim remains
   reclaim_same : reclaiming d.log.shape (backlog_of later) ≡ reclaiming d.log.shape (backlog_of d)
   reclaim_same = ap (λ o. reclaiming_from d.log.shape o false) (left_same d x' many shape)
 
@@ -217,7 +217,7 @@ module _ (d : Parts) (x' : Index) (merged : has_no_merge (index_of d) ≡ true) 
       fresh_left true n used takes unused some = omega (arith, unused, some)
       fresh_left false n used takes unused some = absurd (false_true takes)
 
--- a freeze that is wanted runs, or may be needed
+-- a required freeze runs, or may be needed
 pub freeze_wanted : (d : Parts) → WantsFreeze d → freeze_rest_of d.schedule.freeze d.log.next ≡ None → may_freeze d ≡ true
 freeze_wanted d (inl some) none = absurd (some_none (freeze_left d.schedule.freeze d.log.next) (sym (freeze_some_left d.schedule.freeze d.log.next some) ∙ none))
 freeze_wanted d (inr (runs, may)) none = may

@@ -1,4 +1,4 @@
--- Steps in a row, each of which keeps the map, but not where its values stand.
+-- Steps one after another, each of which keeps the map, but not the places of its values.
 use Rattle.std.proofs.Common.{◌≡◌, inl, inr, ℕ, ◌+◌, ◌≤◌, List, [], ◌++◌, Some, Result, Ok, Err, false, refl, sym, ap, subst, ◌∙◌, arith}
 use Rattle.pk_base.specs.Shape.{Shape}
 use Rattle.pk_base.specs.Page.{Flash}
@@ -32,7 +32,7 @@ same_kept a b shape m s0 s1 kept = record { stands = kept.stands; still = kept.s
 pub same_of : (a b : Parts) (s0 s1 : BoardState) → KeepsAll a b s0 s1 → SameMapAll a b s0 s1
 same_of a b s0 s1 keeps shape m stands = same_kept a b shape m s0 s1 (keeps shape m stands)
 
--- ---- one behind another
+-- ---- one after another
 
 module _ (b : Parts) (shape : Shape) (m : Map) (s0 s1 : BoardState) (has : s0.shape ≡ Some shape) (first : SameMap b shape m s0 s1) where
   seen : (flash : Flash) (posted : List ℕ) → CrashFinds shape commit s1.pages m flash posted → CrashFinds shape commit s0.pages m flash (all_posted first.cuts.0 ++ posted)
@@ -180,7 +180,7 @@ may_moved a b n s0 s1 may same step = record {
   stands = (may.stands.0, subst (λ (s : Shape). StandsFor b s s1.pages may.stands.0) (sym same) (step.came.0 a.log.shape may.stands.0 may.stands.1).stands);
 }
 
--- ---- what stays
+-- ---- what is unchanged
 
 pub stays_none : (d : Parts) → StaysSame d d
 stays_none d = record { frames = refl; stopped = refl; same_shape = refl; fresh = record { stays = λ e. e; begun = inl refl } }

@@ -1,4 +1,4 @@
--- What a look-up says of the map.
+-- What a lookup says of the map.
 use Rattle.std.proofs.Common.{◌≡◌, ℕ, ap, subst, ◌∙◌, List, Option, Some, None, Result, Ok, Err}
 use Rattle.std.specs.Prelude.{IfOk, OnOk, OnErr}
 use Rattle.std.specs.FinMap.{get}
@@ -46,7 +46,7 @@ place_in_map shape flash top found pending m key (Some (Gone k)) under is = reco
   there = subst (λ o. IsValueOf shape flash key o (get m key)) is.1 (finds shape flash pending top found m key under);
 }
 
--- ---- a look-up
+-- ---- a lookup
 
 -- what a search says of entries, the place says of the map
 pub looks_found : (d : Parts) (flash : Flash) (key : Key) (r : Result (Option RustEntry) Fault) → IfOk r (λ e. (top : ℕ × Root) (found : Found)
@@ -55,7 +55,7 @@ pub looks_found : (d : Parts) (flash : Flash) (key : Key) (r : Result (Option Ru
 looks_found d flash key (Ok e) is = λ top found m logs stand under. place_in_map d.log.shape flash top found d.log.pending m key e under (is top found logs stand)
 looks_found d flash key (Err f) is = tt
 
--- it is answered where the search was
+-- it is answered if the search was
 pub named_ok : (X : Type 0) (r : Result (Option RustEntry) Fault) → OnOk r X → OnOk (named_by_found r) X
 named_ok X (Ok e) x = x
 named_ok X (Err f) x = tt

@@ -75,7 +75,7 @@ commits_run (GivesBack victim) e = refl
 reads_more : (n k : ℕ) (a b c : BoardState) → n ≤ k → ReadsUpTo n a b → c.reads ≡ b.reads → ReadsUpTo k a c
 reads_more n k a b c less r same = record { up = (let up = r.up in omega (arith, up, same)); few = (let few = r.few in omega (arith, few, same, less)) }
 
--- ---- what stays in a step
+-- ---- what is unchanged in a step
 
 pub leaves_stay : (b c : Parts) → LeavesIndex b c → StaysSame b c
 leaves_stay b c leaves = record {
@@ -321,7 +321,7 @@ module _ (count : ℕ) (b : Parts) (s0 : BoardState) (may : MaySpace count b s0)
         let calls = calls_left course tight in
         omega (arith, before, calls)
 
-    -- the roots of that room are those that were left
+    -- the roots of that room are those that remained
     roots_before : space_roots count b ≡ room_roots
     roots_before = ap (λ p. roots_at p count b) copies ∙ ap (λ x. where_so x room_roots) tight
 
@@ -380,7 +380,7 @@ module _ (count : ℕ) (b : Parts) (s0 : BoardState) (may : MaySpace count b s0)
       frozen_once waits.course waits.copies waits.tight d s2 r kept (spends_within (emptying b.log.shape 4 + whole_freeze) (room_calls b.log.shape) room_roots room_roots s0 s2 (omega arith) (omega arith) spent) room none
       (subst (λ (x : Parts). OnRunning (LeavesValues x d) r) waits.same leaves) (subst (λ (x : Parts). OnRunning (Stays x d) r) waits.same stays)
 
--- where the moves wanted a freeze
+-- if the moves needed a freeze
 pub waits_is : (b c : Parts) (s0 s1 : BoardState) (x : Reclaimed) → x ≡ NeedsFreeze → DoesReclaim b c s0 s1 x → Waits b c s0 s1
 waits_is b c s0 s1 x is made = subst (λ y. DoesReclaim b c s0 s1 y) is made
 
@@ -390,7 +390,7 @@ where_most : (b : Bool) (n : ℕ) → where_so b n ≤ n
 where_most true n = omega arith
 where_most false n = omega arith
 
--- So many calls were made, the map is kept, and less is left, of roots too.
+-- This many calls were made, the map is kept, and less remains, of roots too.
 pub record Spacing (count : ℕ) (a : Parts) (s0 : BoardState) (b : Parts) (s : BoardState) : Type 0 where
   pub made : ℕ
   pub step : MovesOrReads {T = Unit {0}} a b made s0 s (Ok tt)

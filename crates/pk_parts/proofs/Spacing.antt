@@ -1,4 +1,4 @@
--- What is left of the reclaims inside a Store, and how a step of them lowers it.
+-- What remains of the reclaims inside a Store, and how one of their steps lowers it.
 use Rattle.std.proofs.Common.{◌≡◌, ◌⊎◌, inl, inr, ℕ, ◌+◌, ◌-◌, ◌≤◌, Bool, true, false, refl, sym, ap, subst, ◌∙◌, arith, nat_le}
 use Rattle.std.specs.Prelude.{◌&&◌, not}
 use Rattle.std.proofs.lemmas.Bool.{le-leb}
@@ -24,7 +24,7 @@ use Rattle.pk_parts.specs.Spacing.{where_so, needs, steps_for, has_moves}
 no_yes : false ≡ true → ⊥
 no_yes e = cc
 
--- what is left where the reclaim has come so far
+-- what remains when the reclaim has come this far
 abbrev pub left_at : Phase → ℕ → Parts → ℕ
 left_at p count d = steps_for p count d + where_so (has_moves p count d && is_tight_for d) (room_calls d.log.shape)
 
@@ -32,7 +32,7 @@ left_at p count d = steps_for p count d + where_so (has_moves p count d && is_ti
 abbrev pub roots_at : Phase → ℕ → Parts → ℕ
 roots_at p count d = where_so (has_moves p count d && is_tight_for d) room_roots
 
--- from so far to so far less is left
+-- from one point to a later one less remains
 abbrev pub FallsTo : Phase → Parts → Phase → Parts → Type 0
 FallsTo p b q c =
     Lowers (left_of (whole_reclaim b.log.shape - 2) (left_in b.log.shape b.space.live.heads p)) (unready b.pool.states) (unwrap_or (left_in c.log.shape c.space.live.heads q) 0) (unready c.pool.states)
@@ -138,7 +138,7 @@ module _ (count : ℕ) (b c : Parts) (same_shape : c.log.shape ≡ b.log.shape) 
       both true = refl
       both false = refl
 
-  -- a value needs a reclaim as before, where a block is given back
+  -- a value needs a reclaim as before, if a block is given back
   needs_same : (victim : ℕ) → (runs_in (GivesBack victim) ≡ true → used_by Values b.pool.states ≡ data_blocks b.log.shape) → used_by Values c.pool.states + 1 ≡ used_by Values b.pool.states → RoomBehind (GivesBack victim) (space_of b) (space_of c) → needs count c ≡ needs count b
   needs_same victim full given from =
       let all = full refl in

@@ -1,4 +1,4 @@
--- A drive that agrees with its board stands for one map.
+-- A drive that agrees with its board represents one map.
 use Rattle.std.proofs.Common.{◌≡◌, ℕ, sym, ap, subst, ◌∙◌, Option, Some, Result, Ok}
 use Rattle.pk_base.specs.Shape.{Shape}
 use Rattle.pk_base.specs.Page.{Flash, page_at}
@@ -26,7 +26,7 @@ agrees_between d told shape flash m is stands = record { shape = shape; top = st
 pub agrees_so : (d : Parts) (told : Option Shape) (shape : Shape) (flash : Flash) (m : Map) → told ≡ Some shape → StandsFor d shape flash m → DriveOnFlash d told flash
 agrees_so d told shape flash m is stands = agrees_between d told shape flash m is (between d shape flash m stands)
 
--- for its map the drive stands
+-- the drive represents its map
 pub stands_between : (d : Parts) (told : Option Shape) (flash : Flash) (a : DriveOnFlash d told flash) → StandsBetween d d.log.shape flash a.all
 stands_between d told flash a =
     subst (λ (s : Shape). StandsBetween d s flash a.all) (sym a.with.shape_is) (record { top = a.top; found = a.found; without = a.without; with = a.with; course = a.course })
@@ -44,7 +44,7 @@ found_once a b shape flash top top' found found' w m w' m' one other =
     ok_found : (x y : Found) → ◌≡◌ {A = Result Found Refusal} (Ok x) (Ok y) → x ≡ y
     ok_found x y e = cc
 
--- so what it stands for was found once
+-- so the map that it represents was found once
 pub same_found : (d : Parts) (shape : Shape) (flash : Flash) (m : Map) (one other : StandsFor d shape flash m) → other.found ≡ one.found
 same_found d shape flash m one other = found_once d d shape flash one.top other.top one.found other.found one.without m other.without m one.with other.with
 

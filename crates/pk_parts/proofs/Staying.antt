@@ -1,4 +1,4 @@
--- What of a drive stays in steps in a row.
+-- What of a drive is unchanged by steps, one after another.
 use Rattle.std.proofs.Common.{◌≡◌, ◌⊎◌, inl, inr, ℕ, ◌+◌, ◌-◌, ◌≤◌, refl, sym, ap, subst, ◌∙◌, arith, true, List, length, Option, Some, None, Result, Ok, Err}
 use Rattle.std.specs.Prelude.{OnOk, MatchOption}
 use Rattle.pk_base.specs.Shape.{Shape, IsShape, charge, data_blocks}

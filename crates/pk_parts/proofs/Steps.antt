@@ -1,4 +1,4 @@
--- Steps inside a command: in a row, and what one that was broken off leaves.
+-- Steps inside a command: one after another, and what one that was interrupted leaves.
 use Rattle.std.proofs.Common.{◌≡◌, ℕ, ◌+◌, ◌<◌, ◌≤◌, refl, sym, ap, subst, ◌∙◌, arith, false, List, length, Option, Result, Ok, Err}
 use Rattle.std.specs.Prelude.{IfErr, OnOk}
 use Rattle.pk_base.specs.Entry.{Place}
@@ -51,7 +51,7 @@ may_after a b n s0 s1 u may same step = record {
   stands = stands_after a b s0 s1 may.stands same step.ended;
 }
 
--- a second step behind one that ended, of a drive with the same shape
+-- a second step after one that ended, of a drive with the same shape
 pub later : {T : Type 0} (r : Result T Fault) (E E' : T → Type 0) (B B' : Type 0) (shape shape' : Shape) (n k most : ℕ) (a b c : BoardState) → shape' ≡ shape → n + k ≤ most
     → Works a b → RootsUpTo n a b → ((x : T) → E x → E' x) → (B → B') → Step E B shape' k b c r → Step E' B' shape most a c r
 later r E E' B B' shape shape' n k most a b c same few works up f g second =
@@ -73,11 +73,11 @@ stays_by a b c first second = record {
   few = subst (λ (s : Shape). length c.log.pending < page_entries s) first.same_shape second.few;
 }
 
--- behind a step that keeps the map, one that reads nothing
+-- after a step that keeps the map, one that reads nothing
 pub stays_then : (r : Result Unit Fault) (a b c : Parts) → LeavesValues a b → IfErr r (λ e. e ≡ Stopped) → OnOk r (StaysBetween b c) → OnRunning (StaysBetween a c) r
 stays_then r a b c first stopped second = running_ok (StaysBetween b c) (StaysBetween a c) r (stays_by a b c first) stopped second
 
--- behind a change in memory, and a commit
+-- after a change in memory, and a commit
 pub stays_committed : (r : Result Unit Fault) (a c e : Parts) → frames_of c ≡ frames_of a → c.stopped ≡ a.stopped → c.log.shape ≡ a.log.shape
     → OnOk r (OnlyCommits c e) → OnOk r (length e.log.pending < page_entries c.log.shape) → OnOk r (StaysBetween a e)
 stays_committed (Ok x) a c e frames stopped shapes rest few = record {
@@ -88,14 +88,14 @@ stays_committed (Ok x) a c e frames stopped shapes rest few = record {
 }
 stays_committed (Err f) a c e frames stopped shapes rest few = tt
 
--- ---- a change behind a step that keeps the map
+-- ---- a change after a step that keeps the map
 
 few_after : (a b : Parts) → b.log.shape ≡ a.log.shape → length b.log.pending ≤ length a.log.pending → length a.log.pending < page_entries a.log.shape → length b.log.pending < page_entries b.log.shape
 few_after a b same less few =
     let here : length a.log.pending < page_entries b.log.shape = subst (λ (s : Shape). length a.log.pending < page_entries s) (sym same) few in
     omega (arith, less, here)
 
--- what a drive keeps to, where a read failed before the change
+-- what a drive keeps to, if a read failed before the change
 pub stays_kept : (a b : Parts) → LeavesValues a b → length b.log.pending ≤ length a.log.pending → length a.log.pending < page_entries a.log.shape → StaysBetween a b
 stays_kept a b leaves less few = record {
   frames = leaves.frames;

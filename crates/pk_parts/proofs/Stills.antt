@@ -31,7 +31,7 @@ module _ (shape : Shape) (root : Root) (found : Found) (pending : List Entry) (k
   abbrev pub SameStill : Flash → Type 0
   SameStill flash = (k : ℕ) → IsStill shape root found pending kept k → page_at flash k ≡ page_at start k
 
-  -- nothing was given out, and no such page differs
+  -- nothing was posted, and no such page differs
   abbrev pub StillCut : Flash → List ℕ → Type 0
   StillCut flash posted = (posted ≡ []) × SameStill flash
 

@@ -1,4 +1,4 @@
--- How many calls of the flash a Store and a Delete make, and how many roots, by their parts.
+-- How many flash operations a Store and a Delete make, and how many roots they install, by their parts.
 use Rattle.std.proofs.Common.{◌≡◌, ℕ, ◌+◌, ◌≤◌, arith, subst}
 use Rattle.pk_base.specs.Shape.{Shape, IsShape, charge, most_pages, most_calls}
 use Rattle.pk_work.specs.Calls.{commit_calls, lookup_calls, pair_calls, room_calls, room_roots, store_roots}
@@ -7,7 +7,7 @@ use Rattle.pk_nand.specs.BoardState.{BoardState}
 use Rattle.pk_parts.specs.Costs.{Spends, place_calls, reclaim_calls, put_calls, space_and_put_calls}
 use Rattle.pk_parts.proofs.Callings.{spends_then}
 
--- a Store looks its key up, makes a pair whole that was half made, and looks up once more behind the reclaims that make room for its value
+-- a Store looks its key up, makes a pair whole that was half made, and looks up once more after the reclaims that make room for its value
 store_least : (shape : Shape) → IsShape shape → lookup_calls + (pair_calls + space_and_put_calls shape (most_pages shape)) ≤ most_calls shape
 unfolding most_calls
 store_least shape is =

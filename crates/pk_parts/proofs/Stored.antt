@@ -1,4 +1,4 @@
--- How much the reclaims before a value take, and what stays behind their commit.
+-- How much the reclaims before a value take, and what is unchanged after their commit.
 use Rattle.std.proofs.Common.{◌≡◌, ℕ, ◌+◌, ◌-◌, ◌≤◌, ◌<◌, Bool, true, false, List, [], length, refl, sym, ap, subst, arith, Result, Ok, Err}
 use Rattle.std.specs.Prelude.{◌&&◌}
 use Rattle.pk_base.specs.Entry.{Place}
@@ -54,7 +54,7 @@ space_within count d board may =
 space_most : (count : ℕ) (d : Parts) (board : BoardState) → MayStep d board → space_left count d + 1 ≤ space_calls d.log.shape
 space_most count d board may = let within = space_within count d board may in omega (arith, within)
 
--- ---- behind a commit
+-- ---- after a commit
 
 module _ (count : ℕ) (a b : Parts) (s0 s1 : BoardState) (may : MayStep a s0) (same : b.log.shape ≡ a.log.shape) (step : StepKeeps {T = Unit {0}} a b 0 s0 s1 (Ok tt)) where
   may_committed : MayStep b s1
@@ -101,7 +101,7 @@ most_committed count a b same most = subst (λ (s : Shape). count ≤ most_pages
 pub blocks_most : (d : Parts) (shape : Shape) (flash : Flash) (m : Map) → StandsFor d shape flash m → (counts_of d).blocks ≤ data_blocks shape - 1
 blocks_most d shape flash m stands = let few = stands.with.placed.few in omega (arith, few)
 
--- the same where a pair may be half made
+-- the same if a pair may be half made
 pub blocks_between : (d : Parts) (shape : Shape) (flash : Flash) (m : Map) → StandsBetween d shape flash m → (counts_of d).blocks ≤ data_blocks shape - 1
 blocks_between d shape flash m s =
     let few = s.with.placed.few in

@@ -81,12 +81,12 @@ erase_lowers shape b left less =
     let merges : merging_left shape (record b { unready = left }) ≡ merging_left shape b = ap (λ l. merging_from shape l b.merge) same in
     omega (arith, merges, less)
 
--- whether a reclaim is due is told by the shape and by how many blocks have values
+-- whether a reclaim is due follows from the shape and from the number of blocks with values
 pub due_so : (d : Parts) (shape : Shape) (used : ℕ) → shape ≡ d.log.shape → used ≡ used_by Values d.pool.states
     → (used - length (outputs_of d) == data_blocks shape - 1) && not (fits_open shape d.space (most_pages shape)) ≡ is_reclaim_due d
 due_so d shape used same many = λ i. (many i - length (outputs_of d) == data_blocks (same i) - 1) && not (fits_open (same i) d.space (most_pages (same i)))
 
--- what is left of a merge does not depend on the pool
+-- what remains of a merge does not depend on the pool
 merge_beside : (p : Phase) (x : Index) (q : Blocks) → merge_left p (record x { pool = q }) ≡ merge_left p x
 merge_beside NoMerge x q = refl
 merge_beside (Running level) x q = refl
@@ -155,7 +155,7 @@ module _ (d : Parts) (old new : BoardState) (a : DriveOnFlash d old.shape old.pa
   has : old.shape ≡ Some d.log.shape
   has = a.told_is ∙ ap (λ s. Some s) (sym a.with.shape_is)
 
-  -- the tree is as it was
+  -- the tree is unchanged
   grown : (new : BoardState) → newest_root d.log.shape (page_at new.pages) ≡ newest_root d.log.shape (page_at old.pages) → Grows (shape_or_none old.shape) old.pages new.pages
   grown new same = inl (subst (λ o. newest_root (shape_or_none o) (page_at new.pages) ≡ newest_root (shape_or_none o) (page_at old.pages)) (sym has) same)
 
@@ -376,7 +376,7 @@ room_is shape pool flash (Some o) is =
     let n = shape.block_pages in
     ap (λ k. nat_le (most_pages shape) k) (count_free flash (o.block * n) n o.used is.within is.written is.unwritten) ∙ le_same (most_pages shape) n o.used is.within
 
--- ---- when nothing is left to do
+-- ---- when nothing remains to be done
 
 both_true : (a b : Bool) → a && b ≡ true → (a ≡ true) × (b ≡ true)
 both_true true true e = (refl, refl)
@@ -388,13 +388,13 @@ between_merges NoMerge e = refl
 between_merges (Running level) e = absurd (yes_no (is_between (Running level)) refl e)
 between_merges (ReadyOutput level) e = absurd (yes_no (is_between (ReadyOutput level)) refl e)
 
--- no run is taken where no merge runs
+-- no run is taken if no merge runs
 none_taken : (p : Phase) (x : Index) (flash : Flash) (root : Root) (found : Found) → MergeStands p x flash root found → is_between p ≡ true → length (output x.schedule).blocks ≡ 0
 none_taken NoMerge x flash root found stands e = ap (λ (o : Option KeptRun). length (unwrap_or o (empty x.schedule.job.merger.shape x.schedule.job.target)).blocks) stands.output
 none_taken (Running level) x flash root found stands e = absurd (yes_no (is_between (Running level)) refl e)
 none_taken (ReadyOutput level) x flash root found stands e = absurd (yes_no (is_between (ReadyOutput level)) refl e)
 
--- where no merge is due, none runs, and nothing is frozen
+-- if no merge is due, none runs, and nothing is frozen
 pub no_merge_is : (x : Index) → has_no_merge x ≡ true → (is_between x.schedule.phase ≡ true) × (length x.log.frozen.entries ≡ 0)
 no_merge_is x e =
     let parts = both_true (is_between x.schedule.phase) (length x.log.frozen.entries == 0) e in
@@ -427,7 +427,7 @@ module _ (d : Parts) (old : BoardState) (a : DriveOnFlash d old.shape old.pages)
   open_room : has_open_room d.log.shape old.pages (block_if_open d.space.open_block) ≡ fits_open d.log.shape d.space (most_pages d.log.shape)
   open_room = room_is d.log.shape (freed d.pool) old.pages d.space.open_block with.placed.open_is
 
-  -- every block without an owner is erased where no step is left
+  -- every block without an owner is erased if no step remains
   none_unready : HasNoStep d → 2 + length (named a.top.1) + used_by Values d.pool.states + count_by is_ready d.pool.states ≡ d.log.shape.blocks
   none_unready no_step =
       let all = all_blocks in
@@ -439,7 +439,7 @@ module _ (d : Parts) (old : BoardState) (a : DriveOnFlash d old.shape old.pages)
       let ready = ready_are in
       omega (arith, all, no_free, taken, output, values, ready)
 
-  -- where no reclaim runs, all blocks with values are in use
+  -- if no reclaim runs, all blocks with values are in use
   blocks_are : runs_in d.reclaim.phase ≡ false → (counts_of d).blocks ≡ used_by Values d.pool.states
   blocks_are rests = ap (λ (os : List ℕ). used_by Values d.pool.states - length os) (holds_none d.reclaim.phase rests) ∙ omega arith
 
@@ -450,7 +450,7 @@ module _ (d : Parts) (old : BoardState) (a : DriveOnFlash d old.shape old.pages)
   all_unready : HasNoStep d → runs_in d.reclaim.phase ≡ false → 2 + length (named a.top.1) + (counts_of d).blocks + count_by is_ready d.pool.states ≡ d.log.shape.blocks
   all_unready no_step rests = let all = none_unready no_step in let same = blocks_are rests in omega (arith, all, same)
 
-  -- nothing is left to do where no step is
+  -- nothing remains to be done if no step does
   pub none_idle : HasNoStep d → IsIdle d.log.shape old.pages (sight_of d)
   none_idle no_step =
       let merged = no_merge_is (index_of d) no_step.no_merge in
@@ -477,7 +477,7 @@ module _ (d : Parts) (old : BoardState) (a : DriveOnFlash d old.shape old.pages)
       let same = blocks_are idle.no_reclaim in
       omega (arith, seen, same)
 
-  -- it is not idle where a freeze runs, or a free block was not erased
+  -- it is not idle if a freeze runs, or a free block was not erased
   pub busy_freeze : (length (taken_by d.schedule.freeze) == 0) ≡ false → IsIdle d.log.shape old.pages (sight_of d) → ⊥
   busy_freeze some idle =
       let all = all_blocks in
@@ -499,7 +499,7 @@ module _ (d : Parts) (old : BoardState) (a : DriveOnFlash d old.shape old.pages)
   pub busy_spare : (block : ℕ) → slice_get d.pool.states block ≡ Some Free → IsIdle d.log.shape old.pages (sight_of d) → ⊥
   busy_spare block free idle = busy_free block (state_after d.pool.states block Free free) idle
 
-  -- nor where a pair is half made
+  -- nor if a pair is half made
   pub busy_half : is_half d ≡ true → IsIdle d.log.shape old.pages (sight_of d) → ⊥
   busy_half half idle = elim a.course [
     | inl w ↦ not_both (is_half d) half (is_whole d w)
@@ -510,7 +510,7 @@ module _ (d : Parts) (old : BoardState) (a : DriveOnFlash d old.shape old.pages)
     | inr (inr commit) ↦ yes_no (runs_in d.reclaim.phase) idle.no_reclaim (ap runs_in commit.phase)
   ]
 
-  -- nor where a reclaim runs or is due, or a freeze is wanted
+  -- nor if a reclaim runs or is due, or a freeze is needed
   pub busy_reclaim : WantsReclaim d → IsIdle d.log.shape old.pages (sight_of d) → ⊥
   busy_reclaim (inl runs) idle = yes_no (runs_in d.reclaim.phase) idle.no_reclaim runs
   busy_reclaim (inr due) idle = yes_no (is_reclaim_due d) (idle_rests idle) due
@@ -530,7 +530,7 @@ one_erased d d' old new r is e = subst (Erases d d' old new) e is
 pub none_erased : (d d' : Parts) (old new : BoardState) (r : Bool) → Erases d d' old new r → r ≡ false → ErasesNone d.pool old d'.pool new
 none_erased d d' old new r is e = subst (Erases d d' old new) e is
 
--- where none is found the drive is the same
+-- if none is found the drive is the same
 pub kept_drive : (d d' : Parts) (old new : BoardState) → ErasesNone d.pool old d'.pool new → d' ≡ record d { pool = d'.pool } → d' ≡ d
 kept_drive d d' old new is rest = rest ∙ ap (λ p. record d { pool = p }) is.kept
 

@@ -1,4 +1,4 @@
--- What a look-up reads.
+-- What a lookup reads.
 use Rattle.std.proofs.Common.{◌≡◌, ℕ, zero, suc, ◌+◌, ◌-◌, ◌<◌, ◌≤◌, refl, sym, ap, subst, ◌∙◌, arith, min, Option, Some, Ok, Result}
 use Rattle.std.specs.Prelude.{OnOk, OnErr, Err}
 use Rattle.pk_base.specs.Key.{Key}
@@ -41,7 +41,7 @@ reads_more old mid new most k before made =
     let within = before.within in
     record { board = whole ∙ same; few = omega (arith, count); up = omega (arith, count, up, few'); within = omega (arith, count, within) }
 
--- a read behind some more fails
+-- a read after some more fails
 pub reads_break : (old mid new : BoardState) (most k n at : ℕ) → ReadsOnly old mid most → k < n → ReadFailed (after_reads k mid) new at → ReadsFailing old new (most + n)
 reads_break old mid new most k n at before less failed =
     let few' = before.few in
@@ -80,11 +80,11 @@ module _ (d : Parts) (board : BoardState) (a : DriveOnFlash d board.shape board.
   pub own : DriveOnFlashWith (settled_parts d) d.log.shape board.pages a.top a.found a.without a.all
   own = subst (λ s. DriveOnFlashWith (settled_parts d) s board.pages a.top a.found a.without a.all) (sym a.with.shape_is) a.with
 
-  -- as it is, where no pair is half made
+  -- as it is, if no pair is half made
   pub own_whole : IsWhole d → DriveOnFlashWith d d.log.shape board.pages a.top a.found a.without a.all
   own_whole whole = with_whole d d.log.shape board.pages a.top a.found a.without a.all whole.settles own
 
-  -- what holds of its one map holds of every map that it stands for
+  -- what holds of its one map holds of every map that it represents
   pub for_its_map : (P : Shape → ℕ → Map → Type 0) → P d.log.shape (frames_of d) a.all → (shape : Shape) (frames : ℕ) (m : Map) → HoldsMap shape frames board (sight_of d) m → P shape frames m
   for_its_map P here shape frames m st =
       let same_shape : d.log.shape ≡ shape = a.with.shape_is ∙ same_some a.shape shape (sym a.told_is ∙ st.shape_is) in
@@ -96,11 +96,11 @@ module _ (d : Parts) (board : BoardState) (a : DriveOnFlash d board.shape board.
       let same_map : a.all ≡ m = same_ok a.all m (sym read ∙ subst U (sym same_shape) st.map_is) in
       subst Q same_shape (subst R st.frames_is (subst S same_map here))
 
-  -- what a look-up says of this map
+  -- what a lookup says of this map
   pub looked : (k : Key) (p : Option Place) → Looks d board.pages k p → IsPlaceIn d.log.shape board.pages a.found d.log.pending a.all k p
   looked k p looks = looks a.top a.found a.all own.index.logs own.index.stand own.pending
 
--- ---- what a look-up read
+-- ---- what a lookup read
 
 less_reads : (old new : BoardState) (n k : ℕ) → n ≤ k → ReadsOnly old new n → ReadsOnly old new k
 less_reads old new n k less r = record { board = r.board; few = r.few; up = r.up; within = (let w = r.within in omega (arith, less, w)) }

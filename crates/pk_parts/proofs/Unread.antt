@@ -1,4 +1,4 @@
--- A drive agrees with a flash as before where no page differs that is read.
+-- A drive agrees with a flash as before if no page differs that is read.
 use Rattle.std.proofs.Common.{◌≡◌, ◌⊎◌, inl, inr, ℕ, ◌/◌, Some, List, [], subst}
 use Rattle.std.specs.Prelude.{slice_get}
 use Rattle.pk_base.specs.Shape.{Shape, IsShape}

@@ -1,4 +1,4 @@
--- A value that was written into a block for values: what the drive stands for, at every cut and behind it.
+-- A value that was written into a block for values: what the drive represents, at every cut and afterwards.
 use Rattle.std.proofs.Common.{◌≡◌, ◌⊎◌, inl, inr, ℕ, zero, suc, ◌+◌, ◌*◌, ◌/◌, ◌%◌, ◌<◌, ◌≤◌, refl, sym, ap, subst, ◌∙◌, arith, true, false, List, [], ◌∷◌, ◌++◌, length, Option, Some, None, Result, Ok, Err, slice_get, div-lt_iff_lt-mul}
 use Rattle.std.specs.List.{concat}
 use Rattle.std.proofs.lemmas.Bool.{cases_eq, le-leb}
@@ -95,19 +95,19 @@ behind_roots shape states zero shared free = let first = shared.first in cc
 behind_roots shape states (suc zero) shared free = let second = shared.second in cc
 behind_roots shape states (suc (suc b)) shared free = omega arith
 
--- the pages of a value lie in the block of the first
+-- the pages of a value are in the block of the first
 same_block : (n page count k : ℕ) → page % n + count ≤ n → page ≤ k → k < page + count → k / n ≡ page / n
 same_block n page count k inside low high =
     let whole = div-add-mod' page n in
     block_of n k (page / n) (omega (arith, whole, low)) (omega (arith, whole, high, inside))
 
--- the page lies behind the root blocks
+-- the page is after the root blocks
 not_low : (n page k : ℕ) → 0 < n → 2 ≤ page / n → page ≤ k → k < 2 * n → ⊥
 not_low n page k positive behind low small =
     let less : page / n < 2 = (div-lt_iff_lt-mul positive).1 (omega (arith, low, small)) in
     omega (arith, less, behind)
 
--- the page lies in a block of the journal or of a run
+-- the page is in a block of the journal or of a run
 abbrev pub IsIndexed : Blocks → Shape → ℕ → Type 0
 IsIndexed pool shape k = (slice_get pool.states (k / shape.block_pages) ≡ Some (Owned Journal)) ⊎ (slice_get pool.states (k / shape.block_pages) ≡ Some (Owned Meta))
 
@@ -148,7 +148,7 @@ module _ (d : Parts) (shape : Shape) (old : Flash) (top : ℕ × Root) (found : 
       by_value : IsValuePage shape (places found []) k ⊎ IsValuePage shape (places found d.log.pending) k → ⊥
       by_value value = spare_or_owned d.pool block Values spare (subst (λ (x : ℕ). HoldsValues d.pool x) here (value_owner k value))
 
-  -- no page is read that is Erased, and stands in a block for values
+  -- no page is read that is Erased and is in a block for values
   pub erased_unread : (q : Blocks) (now : Flash) → KeepsOwners d.pool q → SameRead shape top.1 found d.log.pending old now
       → (k : ℕ) → 2 * shape.block_pages ≤ k → HoldsValues q (k / shape.block_pages) → page_at now k ≡ erased → IsReadBy shape top.1 found d.log.pending k → ⊥
   erased_unread q now owners same k high held none is = elim is [
@@ -173,7 +173,7 @@ module _ (d : Parts) (shape : Shape) (old : Flash) (top : ℕ × Root) (found : 
   spare_still block spare behind k here (inr (inl journal)) = spare_or_owned d.pool block Journal spare (subst (λ (b : ℕ). slice_get d.pool.states b ≡ Some (Owned Journal)) here journal)
   spare_still block spare behind k here (inr (inr meta)) = spare_or_owned d.pool block Meta spare (subst (λ (b : ℕ). slice_get d.pool.states b ≡ Some (Owned Meta)) here meta)
 
-  -- nor is one that is Erased, and stands in a block for values
+  -- nor is one that is Erased and is in a block for values
   pub erased_still : (q : Blocks) (now : Flash) → KeepsOwners d.pool q → SameRead shape top.1 found d.log.pending old now
       → (k : ℕ) → 2 * shape.block_pages ≤ k → HoldsValues q (k / shape.block_pages) → page_at now k ≡ erased → IsStill shape top.1 found d.log.pending (IsIndexed d.pool shape) k → ⊥
   erased_still q now owners same k high held none (inl is) = erased_unread q now owners same k high held none is
@@ -292,7 +292,7 @@ still_commits d shape old top found without all with f q is =
 
 -- ---- the value is written
 
--- no block is opened where all of them are in use
+-- no block is opened if all of them are in use
 never_opens : (shape : Shape) (space : DataState) (pool : Blocks) (count : ℕ) → fits_open shape space count ≡ false → needs_reclaim shape space pool count ≡ false → used_by Values pool.states ≡ data_blocks shape → ⊥
 never_opens shape space pool count none room full =
     let few : nat_le (data_blocks shape - 1) (used_by Values pool.states) ≡ false = ap (λ b. not b && nat_le (data_blocks shape - 1) (used_by Values pool.states)) (sym none) ∙ room in
@@ -306,7 +306,7 @@ still_open : (o : Option OpenBlock) (count b : ℕ) → IsNotOpen o b → IsNotO
 still_open None count b other = other
 still_open (Some o) count b other = other
 
--- no other page differs behind the programs of a value
+-- no other page differs after the programs of a value
 written_outside : (shape : Shape) (key : Key) (page : ℕ) (value : List ℕ) (n : ℕ) (old : BoardState) (k : ℕ) → (page ≤ k → k < page + n → ⊥) → page_at (written shape key page value n old).pages k ≡ page_at old.pages k
 written_outside shape key page value zero old k out = refl
 written_outside shape key page value (suc n) old k out =
@@ -428,7 +428,7 @@ unfolding root_number
 same_roots has_shape old new has has_new same =
     ap (λ s. root_number (shape_or_none s) new.pages) has_new ∙ ap number_of same ∙ ap (λ s. root_number (shape_or_none s) old.pages) (sym has)
 
--- ---- where the value stands
+-- ---- where the value is
 
 pub value_written : (d : Parts) (key : Key) (value : List ℕ) (old : BoardState) (page : ℕ) (space : DataState) (q : Blocks) (new : BoardState)
     → PlacesValue d.log.shape key value d.space d.pool old page space q new → IsReady old d.log.shape → IsReady new d.log.shape

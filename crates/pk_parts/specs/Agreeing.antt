@@ -1,4 +1,4 @@
--- How a drive stands to its flash.
+-- How a drive matches its flash.
 use Rattle.std.specs.Prelude.{◌≡◌, ℕ, ◌/◌, List, [], length, Option, Some, ◌⊎◌, false}
 use Rattle.pk_base.specs.Shape.{Shape}
 use Rattle.pk_base.specs.Page.{Flash, IsFlash}
@@ -13,23 +13,23 @@ use Rattle.pk_schedule.specs.Index.{IndexOnFlash, IsSettled, HalfStands}
 use Rattle.pk_reclaim.specs.Space.{HalfMoves, space}
 use Rattle.pk_parts.specs.Parts.{Parts, frames_of, index_of, outputs_of, settled_parts, commits_in}
 
--- The parts are those of what stands under the newest root, beside a reclaim that holds these blocks for values: without is the map of the
--- flash, all the one with the pending entries.
+-- The parts are those of what is under the newest root, next to a reclaim that holds these blocks for values: `without` is the map of the
+-- flash, `all` the one with the pending entries.
 pub record DriveOnFlashBeside (d : Parts) (outputs : List ℕ) (shape : Shape) (flash : Flash) (top : ℕ × Root) (found : Found) (without all : Map) : Type 0 where
   pub shape_is : d.log.shape ≡ shape
   pub is_flash : IsFlash shape flash
   pub index : IndexOnFlash (index_of d) (frames_of d) flash top found
   pub committed : IsUnder shape flash [] top found without
   pub pending : IsUnder shape flash d.log.pending top found all
-  -- the values of the map with the pending entries, and where those without them lie
+  -- the values of the map with the pending entries, and where those without them are
   pub placed : ValuesOnFlash shape d.space d.pool outputs flash (places found d.log.pending)
   pub former : (k : ℕ) → IsValuePage shape (places found []) k → HoldsValues d.pool (k / shape.block_pages)
   pub former_read : (k : ℕ) → IsValuePage shape (places found []) k → IsOutput outputs (k / shape.block_pages) → ⊥
-  -- the reclaim stands to them
+  -- the reclaim matches them
   pub reclaim : ReclaimOnFlash shape d.reclaim d.space.live d.pool flash (places found d.log.pending)
   pub keys_are : d.keys ≡ length (places found d.log.pending)
 
--- the same beside what runs in the drive
+-- the same next to what runs in the drive
 abbrev pub DriveOnFlashWith : Parts → Shape → Flash → ℕ × Root → Found → Map → Map → Type 0
 DriveOnFlashWith d shape flash top found without all = DriveOnFlashBeside d (outputs_of d) shape flash top found without all
 

@@ -19,7 +19,7 @@ use Rattle.pk_model.specs.Crashes.{CrashFinds, change}
 use Rattle.pk_parts.specs.Moves.{StandsFor, KeepsAll}
 use Rattle.pk_parts.specs.Emptying.{StepOrRead}
 
--- A key may get a value: its value stood at this place until now, or there was none, and the live pages are within their limit with the new one.
+-- A key may get a value: its value was at this place until now, or there was none, and the live pages are within their limit with the new one.
 pub record MayPut (d : Parts) (shape : Shape) (flash : Flash) (m : Map) (key : Key) (value : List ℕ) (old : Option Place) : Type 0 where
   pub stands : StandsFor d shape flash m
   pub old_is : find key_cmp key (places stands.found d.log.pending) ≡ old
@@ -32,7 +32,7 @@ pub record MayTake (d : Parts) (shape : Shape) (flash : Flash) (m : Map) (key : 
   pub old_is : find key_cmp key (places stands.found d.log.pending) ≡ Some old
   pub bytes : AreBytes key
 
--- The drive stands for the map after the change. At every cut the flash holds what it held, or the map before it, or the one after it.
+-- The drive represents the map after the change. At every cut the flash holds what it held, or the map before it, or the one after it.
 pub record Changes (after : Parts) (shape : Shape) (m m' : Map) (old new : BoardState) : Type 0 where
   pub stands : StandsFor after shape new.pages m'
   pub cuts : Reaches shape old new (CrashFinds shape (change m') old.pages m)
@@ -80,7 +80,7 @@ abbrev pub StepTakes : Parts → Parts → ℕ → BoardState → BoardState →
 StepTakes before after most old new key place result =
     Step (λ (u : Unit). TakesAll before after old new key place) (FailsToTake before old new key place) before.log.shape most old new result
 
--- Steps that give the key its value, or a read of them failed and the map is as it was.
+-- Steps that give the key its value, or a read of them failed and the map is unchanged.
 abbrev pub PutsOrReads : Parts → Parts → ℕ → BoardState → BoardState → Key → List ℕ → Option Place → Result Unit Fault → Type 0
 PutsOrReads before after most old new key value place result =
     StepOrRead (λ (u : Unit). PutsAll before after old new key value place) (KeepsAll before after old new) (FailsToPut before old new key value place) before.log.shape most old new result

@@ -1,4 +1,4 @@
--- Most calls of the flash that the parts of a Store make, and most roots that they install.
+-- The most flash operations that the parts of a Store make, and the most roots that they install.
 use Rattle.std.specs.Prelude.{ℕ, ◌+◌, ◌<◌, ◌≤◌}
 use Rattle.pk_base.specs.Shape.{Shape}
 use Rattle.pk_work.specs.Rest.{whole_reclaim}
@@ -8,16 +8,16 @@ use Rattle.pk_nand.specs.Calls.{last_count}
 use Rattle.pk_model.specs.Wear.{roots}
 use Rattle.pk_call.specs.Calling.{FewCalls}
 
--- At most so many calls of the flash were made, failed ones included, and at most so many roots installed.
+-- At most this many flash operations were made, failed ones included, and at most this many roots installed.
 pub record Spends (most_calls most_roots : ℕ) (old new : BoardState) : Type 0 where
   pub calls : FewCalls most_calls old new
   pub installs : roots new ≤ roots old + most_roots
 
--- the numbers of roots last for so many further ones
+-- the numbers of roots suffice for this many more
 abbrev pub NumbersLast : ℕ → BoardState → Type 0
 NumbersLast more board = roots board + more < last_count
 
--- a block is taken, and so many pages of a value are programmed
+-- a block is taken, and this many pages of a value are programmed
 abbrev pub place_calls : ℕ → ℕ
 place_calls count = 1 + count
 
@@ -26,10 +26,10 @@ module _ (shape : Shape) where
   abbrev pub reclaim_calls : ℕ
   reclaim_calls = commit_calls + whole_reclaim shape + room_calls shape
 
-  -- room for an entry, its value of so many pages, and a commit where the journal page is full
+  -- room for an entry, its value of n pages, and a commit if the journal page is full
   abbrev pub put_calls : ℕ → ℕ
   put_calls count = room_calls shape + place_calls count + commit_calls
 
-  -- reclaims before that, and a look-up behind them
+  -- reclaims before that, and a lookup after them
   abbrev pub space_and_put_calls : ℕ → ℕ
   space_and_put_calls count = reclaim_calls + lookup_calls + put_calls count

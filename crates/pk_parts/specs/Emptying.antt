@@ -44,12 +44,12 @@ Came Ended Kept Broken old new (Ok x) = Ended x × NoFault old new
 Came Ended Kept Broken old new (Err Reading) = Kept × Unread old new
 Came Ended Kept Broken old new (Err Stopped) = Broken × Halts old new
 
--- At most so many pages were read.
+-- At most this many pages were read.
 pub record ReadsUpTo (most : ℕ) (old new : BoardState) : Type 0 where
   pub up : old.reads ≤ new.reads
   pub few : new.reads ≤ old.reads + most
 
--- What steps leave of which one may fail by a read, with at most so many reads and so many roots.
+-- The result of steps of which one may fail by a read, with at most this many reads and roots.
 pub record StepOrRead {T : Type 0} (Ended : T → Type 0) (Kept Broken : Type 0) (shape : Shape) (most : ℕ) (old new : BoardState) (result : Result T Fault) : Type 0 where
   pub came : Came Ended Kept Broken old new result
   pub rest : OnlyFlash old new
@@ -57,28 +57,28 @@ pub record StepOrRead {T : Type 0} (Ended : T → Type 0) (Kept Broken : Type 0)
   pub roots_few : roots new ≤ roots old + most
   pub ready : IsReady new shape
 
--- steps that keep the map, also where a read failed
+-- steps that keep the map, also if a read failed
 abbrev pub KeepsOrReads : {T : Type 0} → Parts → Parts → ℕ → BoardState → BoardState → Result T Fault → Type 0
 KeepsOrReads {T} before after most old new result =
     StepOrRead (λ (x : T). KeepsAll before after old new) (KeepsAll before after old new) (BreaksAll before old new) before.log.shape most old new result
 
--- where the drive was not stopped
+-- if the drive was not stopped
 abbrev pub OnRunning : {T : Type 0} → Type 0 → Result T Fault → Type 0
 OnRunning P (Ok x) = P
 OnRunning P (Err Reading) = P
 OnRunning P (Err Stopped) = Unit {0}
 
--- ---- what is left
+-- ---- what remains
 
--- how many steps are left at most until nothing is frozen, no merge runs, and no pair of a root is half made
+-- how many steps remain at most until nothing is frozen, no merge runs, and no pair of a root is half made
 abbrev pub merges_left : Parts → ℕ
 merges_left d = merging_left d.log.shape (backlog_of (index_of d))
 
--- how many merges are left at most until then, each of which installs a root: the level of the one that is due
+-- how many merges remain at most until then, each of which installs a root: the level of the one that is due
 abbrev pub merges_due : Parts → ℕ
 merges_due d = due_level d.log.shape (backlog_of (index_of d))
 
--- What such a step asks: the drive stands for a map with nothing pending, and the numbers of roots last for it.
+-- What such a step requires: the drive represents a map with nothing pending, and the numbers of roots suffice for it.
 pub record MayEmpty (d : Parts) (board : BoardState) : Type 0 where
   pub may : MayStep d board
   pub none_pending : d.log.pending ≡ []
@@ -97,7 +97,7 @@ pub record MergesOnce (before after : Parts) (old new : BoardState) (result : Re
   pub leaves : OnRunning (LeavesValues before after) result
   pub stays : OnRunning (Stays before after) result
 
--- The same with the second program of a root whose first one it made, by so many flash operations: no pair is half made.
+-- The same with the second program of a root whose first one it made, by this many flash operations: no pair is half made.
 pub record MergesWhole (before after : Parts) (old new : BoardState) (result : Result Stepped Fault) : Type 0 where
   pub made : ℕ
   pub some : 1 ≤ made
@@ -112,7 +112,7 @@ pub record MergesWhole (before after : Parts) (old new : BoardState) (result : R
   pub leaves : OnRunning (LeavesValues before after) result
   pub stays : OnRunning (Stays before after) result
 
--- how many steps of a freeze are left
+-- how many steps of a freeze remain
 abbrev pub freeze_left_of : Parts → ℕ
 freeze_left_of d = freeze_left d.schedule.freeze d.log.next
 
@@ -132,7 +132,7 @@ pub record BeginsEpoch (before after : Parts) : Type 0 where
   pub unused : after.log.epoch.used ≡ 0
   pub takes_more : after.log.epoch.takes_more ≡ true
 
--- A step of a freeze was made, with the second program of its root if it made the first, by so many flash operations; then it is over.
+-- A step of a freeze was made, with the second program of its root if it made the first, by this many flash operations; then it is over.
 pub record FreezesWhole (before after : Parts) (old new : BoardState) (result : Result Bool Fault) : Type 0 where
   pub made : ℕ
   pub step : StepKeeps before after 1 old new result

@@ -1,4 +1,4 @@
--- Where the value of a key stands.
+-- Where the value of a key is.
 use Rattle.std.specs.Prelude.{◌≡◌, ℕ, List, Option, Some, None, Result, Ok, Err}
 use Rattle.std.specs.FinMap.{get}
 use Rattle.std.specs.FinMap.Entries.{find}
@@ -25,7 +25,7 @@ abbrev pub named_by_found : Result (Option RustEntry) Fault → Result (Option P
 named_by_found (Ok e) = Ok (named_by e)
 named_by_found (Err f) = Err f
 
--- the map has no value of the key, or the one that stands at this place
+-- the map has no value of the key, or the one that is at this place
 abbrev pub IsThere : Shape → Flash → Map → Key → Option Place → Type 0
 IsThere shape flash m key None = get m key ≡ None
 IsThere shape flash m key (Some p) = (v : List ℕ) × (value_at shape (page_at flash) key p ≡ Ok v) × (get m key ≡ Some v)

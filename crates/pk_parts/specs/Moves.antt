@@ -52,7 +52,7 @@ pub record KeepsBetween (before after : Parts) (shape : Shape) (m : Map) (old ne
   pub still : (reading shape new.pages [] ≡ reading shape old.pages []) ⊎ (reading shape new.pages [] ≡ Ok m)
   pub cuts : Reaches shape old new (CrashFinds shape commit old.pages m)
 
--- for every map for which the drive stood
+-- for every map that the drive represented
 abbrev pub KeepsAll : Parts → Parts → BoardState → BoardState → Type 0
 KeepsAll before after old new = (shape : Shape) (m : Map) → StandsFor before shape old.pages m → Keeps before after shape m old new
 
@@ -65,12 +65,12 @@ BreaksAll before old new = (shape : Shape) (m : Map) → StandsFor before shape 
 
 -- ---- steps
 
--- what a step inside a command asks: a board that is ready, and on it the drive stands for some map
+-- what a step inside a command requires: a board that is ready, and on it the drive represents some map
 pub record MayStep (d : Parts) (board : BoardState) : Type 0 where
   pub ready : IsReady board d.log.shape
   pub stands : (m : Map) × StandsFor d d.log.shape board.pages m
 
--- what a commit asks: the same, where a pair may be half made
+-- what a commit requires: the same, if a pair may be half made
 pub record MayCommit (d : Parts) (board : BoardState) : Type 0 where
   pub ready : IsReady board d.log.shape
   pub stands : (m : Map) × StandsBetween d d.log.shape board.pages m
@@ -93,7 +93,7 @@ pub record LeavesValues (before after : Parts) : Type 0 where
 
 -- ---- values
 
--- From this page on stands a value of this key that is not in the map yet: in a block for values, at pages of no other value.
+-- From this page on there is a value of this key that is not in the map yet: in a block for values, in pages of no other value.
 pub record IsWritten (d : Parts) (shape : Shape) (flash : Flash) (key : Key) (value : List ℕ) (page : ℕ) : Type 0 where
   pub there : value_at shape (page_at flash) key (record { page = page; len = length value }) ≡ Ok value
   pub apart : (top : ℕ × Root) (found : Found) (without all : Map) → DriveOnFlashWith d shape flash top found without all

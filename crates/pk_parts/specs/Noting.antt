@@ -1,4 +1,4 @@
--- An entry in memory: what must hold before it, so that the drive stands for the map with it behind it.
+-- An entry in memory: what must hold before it, so that the drive represents the map with it afterwards.
 use Rattle.std.specs.Prelude.{◌≡◌, ℕ, ◌+◌, ◌/◌, ◌≤◌, List, length, Option, Some, None, Result}
 use Rattle.std.specs.FinMap.{insert}
 use Rattle.std.specs.FinMap.Entries.{find}
@@ -35,7 +35,7 @@ pub record Puts (d : Parts) (shape : Shape) (flash : Flash) (m : Map) (key : Key
   pub bytes : AreBytes key
   pub room : live shape (insert m key value) ≤ limit shape
 
--- The value of a key stands at this place, and the key is to be removed.
+-- The value of a key is at this place, and the key is to be removed.
 pub record Drops (d : Parts) (shape : Shape) (flash : Flash) (m : Map) (key : Key) (old : Place) : Type 0 where
   pub top : ℕ × Root
   pub found : Found
@@ -45,12 +45,12 @@ pub record Drops (d : Parts) (shape : Shape) (flash : Flash) (m : Map) (key : Ke
   pub old_is : find key_cmp key (places found d.log.pending) ≡ Some old
   pub bytes : AreBytes key
 
--- one more key where there was none
+-- one more key if there was none
 abbrev pub more_keys : ℕ → Option Place → ℕ
 more_keys keys None = keys + 1
 more_keys keys (Some p) = keys
 
--- whatever stood under the root stands there, with the same places of values
+-- whatever was under the root is still there, with the same places of values
 abbrev pub KeepsFound : Parts → Parts → BoardState → BoardState → Type 0
 KeepsFound before after old new =
     (shape : Shape) (top : ℕ × Root) (found : Found) (without all : Map) → DriveOnFlashWith before shape old.pages top found without all → DriveOnFlashWith after shape new.pages top found without all

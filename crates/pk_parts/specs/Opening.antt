@@ -1,4 +1,4 @@
--- A drive as it is behind its opening.
+-- A drive as it is after its opening.
 use Rattle.std.specs.Prelude.{◌≡◌, ℕ, [], false, None}
 use Rattle.pk_base.specs.Shape.{Shape}
 use Rattle.pk_base.specs.Page.{Flash}
@@ -10,7 +10,7 @@ use Rattle.pk_gc.specs.Stepping.{runs_in}
 use Rattle.pk_parts.specs.Parts.{Parts, counts_of, frames_of}
 use Rattle.pk_parts.specs.Agreeing.{DriveOnFlashWith, IsWhole}
 
--- The drive agrees with the flash and runs, with these frames. Nothing is pending, the epoch takes no more commits, no block is open, so
+-- The drive agrees with the flash and runs, with these frames. Nothing is pending, the epoch takes no more commits, no block is open, as
 -- many blocks are in use as have a page of a value, and no reclaim runs.
 pub record OpenedOn (shape : Shape) (flash : Flash) (frames : ℕ) (d : Parts) : Type 0 where
   pub top : ℕ × Root

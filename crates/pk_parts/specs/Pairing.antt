@@ -21,13 +21,13 @@ use Rattle.pk_parts.specs.Moves.{StandsFor, StandsBetween}
 use Rattle.pk_parts.specs.Reclaiming.{LeavesIndex, space_of}
 use Rattle.pk_parts.specs.Staying.{Stays}
 
--- The drive stands for some map on its board, and a pair is half made.
+-- The drive represents some map on its board, and a pair is half made.
 pub record MayFinishHalf (d : Parts) (board : BoardState) : Type 0 where
   pub ready : IsReady board d.log.shape
   pub stands : (m : Map) × StandsBetween d d.log.shape board.pages m
   pub half : is_half d ≡ true
 
--- The drive stands for the same map, by the same lists, and no pair is half made; the map is the same wherever the program is cut.
+-- The drive represents the same map, by the same lists, and no pair is half made; the map is the same wherever the program is cut.
 pub record Finished (before after : Parts) (shape : Shape) (m : Map) (old new : BoardState) : Type 0 where
   pub stands : StandsFor after shape new.pages m
   pub same_found : (was : StandsBetween before shape old.pages m) → stands.found ≡ was.found
@@ -63,7 +63,7 @@ FinishesOr before after old new (Err e) = (e ≡ Stopped) × (after.log.pending 
 
 -- ---- of a root
 
--- The second program of the newest root was made: less is left to empty the frozen buffer.
+-- The second program of the newest root was made: less remains to empty the frozen buffer.
 pub record FinishesRoot (before after : Parts) (old new : BoardState) : Type 0 where
   pub finishes : FinishesHalf before after old new
   pub less : LessIsLeft (index_of before) (index_of after)
@@ -81,7 +81,7 @@ pub record SettlesOr (before after : Parts) (old new : BoardState) (result : Res
 
 -- ---- of the commit of a reclaim's moves
 
--- The second program of the commit was made: the victim can be given back, and less of the reclaim is left.
+-- The second program of the commit was made: the victim can be given back, and less of the reclaim remains.
 pub record FinishesCommit (before after : Parts) (old new : BoardState) : Type 0 where
   pub finishes : FinishesHalf before after old new
   pub victim : ℕ

@@ -40,7 +40,7 @@ pub record Parts : Type 0 where
 abbrev pub frames_of : Parts → ℕ
 frames_of d = length d.arena.used
 
--- where it keeps which key has its value where
+-- the part that records where the value of each key is
 abbrev pub index_of : Parts → Index
 index_of d = index d.log d.levels d.arena d.pool d.schedule
 
@@ -102,20 +102,20 @@ counts_of d = record {
 abbrev pub pages_for : Parts → List ℕ → ℕ
 pages_for d value = charge d.log.shape (length value)
 
--- the number of the block that takes values, where there is one
+-- the number of the block that takes values, if there is one
 abbrev pub block_if_open : Option OpenBlock → Option ℕ
 block_if_open None = None
 block_if_open (Some o) = Some o.block
 
--- ---- what is left to do in the background
+-- ---- what remains to be done in the background
 
--- As many blocks are in use as may be, beside that which a reclaim holds, and the open one does not take every value: a reclaim is due, or
--- will be.
+-- As many blocks are in use as may be, in addition to the one that a reclaim holds, and the open one does not take every value: a reclaim
+-- is due, or will be.
 abbrev pub is_reclaim_due : Parts → Bool
 is_reclaim_due d = ((counts_of d).blocks == data_blocks d.log.shape - 1) && not (fits_open d.log.shape d.space (most_pages d.log.shape))
 
--- What is left of the reclaim that runs or is due. Behind the commit of its moves Stores may fill the open block, so that a further one is
--- due behind it.
+-- What remains of the reclaim that runs or is due. After the commit of its moves Stores may fill the open block, so that another one is
+-- due after it.
 abbrev pub reclaim_left : Shape → List ℕ → Bool → Phase → Option ℕ
 reclaim_left shape heads due Idle = if due then Some (whole_reclaim shape - 2) else None
 reclaim_left shape heads due (Copies c) = Some (steps_left shape heads c)
@@ -133,7 +133,7 @@ has_moves due (GivesBack victim) = due
 abbrev pub may_freeze : Parts → Bool
 may_freeze d = has_moves (is_reclaim_due d) d.reclaim.phase && is_tight d.log.shape (length d.log.active.entries) (pages_left d.log.epoch)
 
--- That of the index, with the reclaim. One that is due is told by what is left of it.
+-- What remains of the index, with the reclaim. One that is due is known by what remains of it.
 abbrev pub backlog_of : Parts → Backlog
 backlog_of d = record (backlog_of_index (index_of d)) {
   reclaim = reclaim_left d.log.shape d.space.live.heads (is_reclaim_due d) d.reclaim.phase;

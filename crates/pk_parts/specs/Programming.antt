@@ -8,20 +8,20 @@ use Rattle.pk_data.specs.State.{fits_open}
 use Rattle.pk_call.specs.Moving.{commits_for}
 use Rattle.pk_parts.specs.Parts.{Parts, sight_of}
 
--- So many programs were made, and no erase.
+-- This many programs were made, and no erase.
 pub record Programs (count : ℕ) (old new : BoardState) : Type 0 where
   pub programs : new.programs ≡ counted_by count old.programs
   pub erases : new.erases ≡ old.erases
 
--- Where a value of so many pages has room in the open block, it was written there, and a commit was made where the journal page is full.
+-- If a value of n pages has room in the open block, it was written there, and a commit was made if the journal page is full.
 abbrev pub FillsQuietly : Parts → ℕ → BoardState → BoardState → Type 0
 FillsQuietly d count old new = fits_open d.log.shape d.space count ≡ true → Programs (count + commits_for d.log.shape (sight_of d)) old new
 
--- so it was where the key needs no freeze
+-- so it was if the key needs no freeze
 abbrev pub PutsQuietly : Parts → Key → ℕ → BoardState → BoardState → Type 0
 PutsQuietly d k count old new = needs_freeze d.log k ≡ false → FillsQuietly d count old new
 
--- where the key needs no freeze, nothing but a commit programs a page
+-- if the key needs no freeze, nothing but a commit programs a page
 abbrev pub TakesQuietly : Parts → Key → BoardState → BoardState → Type 0
 TakesQuietly d k old new = needs_freeze d.log k ≡ false → Programs (commits_for d.log.shape (sight_of d)) old new
 

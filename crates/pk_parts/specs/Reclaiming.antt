@@ -1,4 +1,4 @@
--- A step of a reclaim: it keeps the map, but not where the values stand.
+-- A step of a reclaim: it keeps the map, but not the places of the values.
 use Rattle.std.specs.Prelude.{◌≡◌, ◌+◌, [], length, Bool, true}
 use Rattle.pk_base.specs.Shape.{Shape}
 use Rattle.pk_base.specs.Map.{Map}
@@ -35,12 +35,12 @@ pub record MayReclaim (d : Parts) (board : BoardState) : Type 0 where
 
 -- ---- the map
 
--- The drive stands for the map on the flash that is left, where a pair may be half made, and wherever the step is cut, the flash holds it.
+-- The drive represents the map on the flash afterwards, with a pair half made or not, and wherever the step is cut, the flash holds it.
 pub record Holds (after : Parts) (shape : Shape) (m : Map) (old new : BoardState) : Type 0 where
   pub stands : StandsBetween after shape new.pages m
   pub cuts : Reaches shape old new (CrashFinds shape background old.pages m)
 
--- for every map for which it stood
+-- for every map that it represented
 abbrev pub HoldsAll : Parts → Parts → BoardState → BoardState → Type 0
 HoldsAll before after old new = (shape : Shape) (m : Map) → StandsFor before shape old.pages m → Holds after shape m old new
 
@@ -48,9 +48,9 @@ HoldsAll before after old new = (shape : Shape) (m : Map) → StandsFor before s
 abbrev pub FailsAll : Parts → BoardState → BoardState → Type 0
 FailsAll before old new = (shape : Shape) (m : Map) → StandsFor before shape old.pages m → Goes shape old new (CrashFinds shape background old.pages m)
 
--- ---- what differs, and what is left
+-- ---- what differs, and what remains
 
--- Nothing differs but where values stand, the blocks, the reclaim, and the entries of the active buffer with the commits of the newest epoch.
+-- Nothing differs but the places of values, the blocks, the reclaim, and the entries of the active buffer with the commits of the newest epoch.
 abbrev pub LeavesIndex : Parts → Parts → Type 0
 LeavesIndex before after =
     after
@@ -67,7 +67,7 @@ is_tight_for d = is_tight d.log.shape (length d.log.active.entries) (pages_left 
 
 -- ---- by its answer
 
--- It kept the map, and less is left.
+-- It kept the map, and less remains.
 pub record Lessens (before after : Parts) (old new : BoardState) : Type 0 where
   pub holds : HoldsAll before after old new
   pub leaves : LeavesIndex before after

@@ -25,41 +25,41 @@ use Rattle.pk_parts.specs.Reclaiming.{is_tight_for}
 
 -- ---- steps that keep the map
 
--- The map with the pending entries is the same, though its values may stand elsewhere. The flash holds what it held, or that map; and so
--- it does at every cut.
+-- The map with the pending entries is the same, though its values may be elsewhere. The flash holds what it held, or that map; and so at
+-- every cut.
 pub record SameMap (after : Parts) (shape : Shape) (m : Map) (old new : BoardState) : Type 0 where
   pub stands : StandsFor after shape new.pages m
   pub still : (reading shape new.pages [] ≡ reading shape old.pages []) ⊎ (reading shape new.pages [] ≡ Ok m)
   pub cuts : Reaches shape old new (CrashFinds shape commit old.pages m)
 
--- for every map for which the drive stood
+-- for every map that the drive represented
 abbrev pub SameMapAll : Parts → Parts → BoardState → BoardState → Type 0
 SameMapAll before after old new = (shape : Shape) (m : Map) → StandsFor before shape old.pages m → SameMap after shape m old new
 
--- steps that keep it, also where a read failed
+-- steps that keep it, also if a read failed
 abbrev pub MovesOrReads : {T : Type 0} → Parts → Parts → ℕ → BoardState → BoardState → Result T Fault → Type 0
 MovesOrReads {T} before after most old new result =
     StepOrRead (λ (x : T). SameMapAll before after old new) (SameMapAll before after old new) (BreaksAll before old new) before.log.shape most old new result
 
--- What stays of a drive beside the map and where its values stand.
+-- What of a drive is unchanged apart from the map and the places of its values.
 pub record StaysSame (before after : Parts) : Type 0 where
   pub frames : frames_of after ≡ frames_of before
   pub stopped : after.stopped ≡ before.stopped
   pub same_shape : after.log.shape ≡ before.log.shape
   pub fresh : StaysFresh before after
 
--- ---- what is left
+-- ---- what remains
 
--- so much where it is so
+-- this much if it is so
 abbrev pub where_so : Bool → ℕ → ℕ
 where_so true n = n
 where_so false n = 0
 
--- a value of so many pages has no room without a reclaim
+-- a value of n pages has no room without a reclaim
 abbrev pub needs : ℕ → Parts → Bool
 needs count d = needs_reclaim d.log.shape d.space d.pool count
 
--- how many steps of reclaims are left at most until none runs and such a value has room; one that is to begin takes fewer than the whole
+-- how many steps of reclaims remain at most until none runs and such a value has room; one that is to begin takes fewer than the whole
 abbrev pub steps_for : Phase → ℕ → Parts → ℕ
 steps_for Idle count d = where_so (needs count d) (whole_reclaim d.log.shape - 1)
 steps_for (Copies c) count d = steps_left d.log.shape d.space.live.heads c
@@ -73,7 +73,7 @@ has_moves (Copies c) count d = true
 has_moves (Commits victim) count d = false
 has_moves (GivesBack victim) count d = needs count d
 
--- how many calls may be left at most: these steps, and where the moves may find no room, merges and a freeze
+-- how many calls may remain at most: these steps, and if the moves may find no room, merges and a freeze
 abbrev pub space_left : ℕ → Parts → ℕ
 space_left count d =
     steps_for d.reclaim.phase count d + where_so (has_moves d.reclaim.phase count d && is_tight_for d) (room_calls d.log.shape)
@@ -92,7 +92,7 @@ pub record MaySpace (count : ℕ) (d : Parts) (board : BoardState) : Type 0 wher
   pub none_pending : d.log.pending ≡ []
   pub number : roots board + space_left count d < last_count
 
--- One was made by so many calls of the board, and less is left; or a call of it failed.
+-- One was made by this many flash operations, and less remains; or one of them failed.
 pub record SpacesOnce (count : ℕ) (before after : Parts) (old new : BoardState) (result : Result Unit Fault) : Type 0 where
   pub made : ℕ
   pub some : 1 ≤ made

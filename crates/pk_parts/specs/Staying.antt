@@ -1,4 +1,4 @@
--- What of a drive stays in a step inside a command, beside its map.
+-- What of a drive is unchanged by a step inside a command, apart from its map.
 use Rattle.std.specs.Prelude.{◌≡◌, ◌≢◌, ◌⊎◌, ℕ, ◌+◌, ◌/◌, ◌≤◌, true, false, Some}
 use Rattle.std.specs.FinMap.Entries.{find}
 use Rattle.pk_base.specs.Key.{Key, key_cmp}
@@ -16,7 +16,7 @@ pub record SameBlocks (before after : Parts) : Type 0 where
   pub used : (counts_of after).blocks ≡ (counts_of before).blocks
   pub open_same : block_if_open after.space.open_block ≡ block_if_open before.space.open_block
 
--- The open block had no room for so many pages, and another one takes the next values.
+-- The open block had no room for n pages, and another one takes the next values.
 pub record OpensOne (before after : Parts) (count : ℕ) : Type 0 where
   pub no_room : fits_open before.log.shape before.space count ≡ false
   pub used : (counts_of after).blocks ≡ (counts_of before).blocks + 1
@@ -27,12 +27,12 @@ pub record Stays (before after : Parts) : Type 0 where
   pub fresh : StaysFresh before after
   pub blocks : SameBlocks before after
 
--- The open block had no room for so many pages, and reclaims made it: no more blocks are in use.
+-- The open block had no room for n pages, and reclaims made it: no more blocks are in use.
 pub record MakesRoom (before after : Parts) (count : ℕ) : Type 0 where
   pub no_room : fits_open before.log.shape before.space count ≡ false
   pub no_more : (counts_of after).blocks ≤ (counts_of before).blocks
 
--- a step that may place a value of so many pages
+-- a step that may place a value of n pages
 pub record StaysOrOpens (before after : Parts) (count : ℕ) : Type 0 where
   pub fresh : StaysFresh before after
   pub blocks : SameBlocks before after ⊎ (OpensOne before after count ⊎ MakesRoom before after count)

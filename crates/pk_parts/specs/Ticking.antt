@@ -47,8 +47,8 @@ pub record Ticks (old new : BoardState) (before after : Sight) (answer : Ticked)
   pub no_stop : stopped_by answer ≡ false → new.stop_faults ≡ old.stop_faults
   pub installs : roots new ≤ roots old + 1
 
--- Nothing is left to do: no pair is half made, no merge and no freeze runs, nothing is frozen, no reclaim runs or is due, and every free
--- block was erased in this session.
+-- Nothing remains to be done: no pair is half made, no merge and no freeze runs, nothing is frozen, no reclaim runs or is due, and every
+-- free block was erased in this session.
 pub record HasNoStep (d : Parts) : Type 0 where
   pub whole : is_half d ≡ false
   pub no_merge : has_no_merge (index_of d) ≡ true
@@ -68,7 +68,7 @@ wants_reclaim d = runs_in d.reclaim.phase || is_reclaim_due d
 abbrev pub WantsFreeze : Parts → Type 0
 WantsFreeze d = ((length (taken_by d.schedule.freeze) == 0) ≡ false) ⊎ ((runs_in d.reclaim.phase ≡ true) × (may_freeze d ≡ true))
 
--- What a step did to a drive that might make one: it worked, so that less is left, or failed, or nothing is left to do.
+-- What a step did to a drive that might make one: it worked, so that less remains, or failed, or nothing remains to be done.
 pub record Advances (d d' : Parts) (old new : BoardState) (answer : Ticked) : Type 0 where
   pub ticks : Ticks old new (sight_of d) (sight_of d') answer
   pub stops : d'.stopped ≡ stopped_by answer

@@ -18,7 +18,8 @@ use pk_nand::{Fault, Nand};
 use pk_region::Region;
 
 impl<A: Region> Parts<A> {
-    // Writes a value for a key that has room, notes its place, and commits where the journal page is full.
+    // Writes a value for a key that has room, notes its place, and commits if the journal page is
+    // full.
     fn put_with_room<B: Nand>(
         &mut self,
         board: &mut B,
@@ -30,7 +31,7 @@ impl<A: Region> Parts<A> {
         requires no_freeze { needs_freeze_for self.old.log key ≡ false }
         requires room { needs (pages_for self.old value.now) self.old ≡ false }
 
-        // The map, and then the drive beside it.
+        // The map, and then the drive itself.
         ensures step { StepPuts self.old self.new 0 (B.state board.old) (B.state board.new)
             key value.now old result }
         ensures stays { OnOk result (StaysBetween self.old self.new) }
@@ -55,8 +56,8 @@ impl<A: Region> Parts<A> {
         }
     }
 
-    /// A key gets this value, in place of the one at `old`. `Reading` where a read of a merge fails, which had to make room: the map
-    /// is as it was. `Stopped` where a program or an erase fails.
+    /// A key gets this value, in place of the one at `old`. `Reading` if a read of a merge fails,
+    /// which had to make room: the map is unchanged. `Stopped` if a program or an erase fails.
     pub fn put<B: Nand>(
         &mut self,
         board: &mut B,
@@ -68,7 +69,7 @@ impl<A: Region> Parts<A> {
         requires room { needs (pages_for self.old value.now) self.old ≡ false }
         requires number { NumbersLast (room_calls self.old.log.shape) (B.state board.old) }
 
-        // The map, and then the drive beside it.
+        // The map, and then the drive itself.
         ensures step { PutsOrReads self.old self.new (room_calls self.old.log.shape)
             (B.state board.old) (B.state board.new) key value.now old result }
         ensures stays { OnRunning (StaysBetween self.old self.new) result }
@@ -90,12 +91,12 @@ impl<A: Region> Parts<A> {
         }
     }
 
-    // Notes that a key with room has no value, and commits where the journal page is full.
+    // Notes that a key with room has no value, and commits if the journal page is full.
     fn take_with_room<B: Nand>(&mut self, board: &mut B, key: Key, old: Place) -> Result<(), Fault>
         requires can { CanTake self.old (B.state board.old) key old }
         requires no_freeze { needs_freeze_for self.old.log key ≡ false }
 
-        // The map, and then the drive beside it.
+        // The map, and then the drive itself.
         ensures step { StepTakes self.old self.new 0 (B.state board.old) (B.state board.new)
             key old result }
         ensures stays { OnOk result (StaysBetween self.old self.new) }
@@ -109,13 +110,13 @@ impl<A: Region> Parts<A> {
         self.commit_if_full(board)
     }
 
-    /// A key loses its value, the one at `old`. `Reading` where a read of a merge fails, which had to make room: the map is as it was.
-    /// `Stopped` where a program or an erase fails.
+    /// A key loses its value, the one at `old`. `Reading` if a read of a merge fails, which had to
+    /// make room: the map is unchanged. `Stopped` if a program or an erase fails.
     pub fn take_out<B: Nand>(&mut self, board: &mut B, key: Key, old: Place) -> Result<(), Fault>
         requires can { CanTake self.old (B.state board.old) key old }
         requires number { NumbersLast (room_calls self.old.log.shape) (B.state board.old) }
 
-        // The map, and then the drive beside it.
+        // The map, and then the drive itself.
         ensures step { TakesOrReads self.old self.new (room_calls self.old.log.shape)
             (B.state board.old) (B.state board.new) key old result }
         ensures stays { OnRunning (StaysBetween self.old self.new) result }

@@ -62,20 +62,21 @@ impl<A: Region> Parts<A> {
         }
     }
 
-    // Makes steps of the merges until none runs and nothing is frozen. `Reading` where a read fails: what was merged stays so.
+    // Makes steps of the merges until none runs and nothing is frozen. `Reading` if a read fails:
+    // what was merged stays so.
     fn empty_frozen<B: Nand>(&mut self, board: &mut B) -> Result<(), Fault>
         // Nothing is pending, and the numbers of roots last.
         requires may { MayStep self.old (B.state board.old) }
         requires none_pending { self.old.log.pending ≡ [] }
         requires number { NumbersLast (merges_left self.old) (B.state board.old) }
 
-        // The map, and nothing is left.
+        // The map, and nothing remains.
         ensures step { KeepsOrReads self.old self.new (merges_left self.old + 1)
             (B.state board.old) (B.state board.new) result }
         ensures done { OnOk result (has_no_merge (index_of self.new) ≡ true) }
         ensures spends { Spends (merges_left self.old) 4 (B.state board.old) (B.state board.new) }
 
-        // What else stays.
+        // What else is unchanged.
         ensures none { OnRunning (self.new.log.pending ≡ []) result }
         ensures leaves { OnRunning (LeavesValues self.old self.new) result }
         ensures moves { OnRunning (Stays self.old self.new) result }
@@ -149,7 +150,7 @@ impl<A: Region> Parts<A> {
         ensures room { OnOk result (HasRoom self.new) }
         ensures spends { Spends whole_freeze 1 (B.state board.old) (B.state board.new) }
 
-        // What else stays.
+        // What else is unchanged.
         ensures none { OnOk result (self.new.log.pending ≡ []) }
         ensures leaves { OnOk result (LeavesValues self.old self.new) }
         ensures moves { OnOk result (Stays self.old self.new) }
@@ -164,8 +165,8 @@ impl<A: Region> Parts<A> {
         }
     }
 
-    /// Empties the frozen buffer by merges, and freezes the active one, so that any key has room. Nothing may be pending. `Reading`
-    /// where a read of a merge fails: the map is as it was.
+    /// Empties the frozen buffer by merges, and freezes the active one, so that any key has room.
+    /// Nothing may be pending. `Reading` if a read of a merge fails: the map is unchanged.
     pub(crate) fn empty_active<B: Nand>(&mut self, board: &mut B) -> Result<(), Fault>
         requires may { MayStep self.old (B.state board.old) }
         requires none_pending { self.old.log.pending ≡ [] }
@@ -178,7 +179,7 @@ impl<A: Region> Parts<A> {
         ensures spends { Spends (emptying self.old.log.shape 4 + whole_freeze) room_roots
             (B.state board.old) (B.state board.new) }
 
-        // What else stays.
+        // What else is unchanged.
         ensures none { OnRunning (self.new.log.pending ≡ []) result }
         ensures leaves { OnRunning (LeavesValues self.old self.new) result }
         ensures moves { OnRunning (Stays self.old self.new) result }

@@ -20,7 +20,7 @@ pub struct Jobs<A: Region> {
     pub reclaim: ReclaimJob<A>,
 }
 
-/// None of them runs, for an arena of so many frames. All their memory is taken here.
+/// None of them runs, for an arena of this many frames. All their memory is taken here.
 pub fn no_jobs<A: Region>(alloc: A, shape: Shape, frames: u32) -> Result<Jobs<A>, AllocError>
     ensures merges { IfOk result (λ j. (j.schedule.phase ≡ NoMerge)
         × (j.schedule.freeze ≡ NoFreeze) × IsIdle shape j.schedule.job) }

@@ -1,7 +1,9 @@
-//! The parts of a drive, and how the map changes over them: a key gets a value or loses its own, the pending entries are
-//! committed, merges, freezes and reclaims make room, and a background step is made.
+//! The parts of a drive, and how the map changes over them: a key gets a value or loses its own,
+//! the pending entries are committed, merges, freezes and reclaims make room, and a background step
+//! is made.
 //!
-//! Each call tells what it does to every map for which the parts stood, and what the flash holds wherever it is cut off.
+//! Each call says what it does to every map that the parts represent, and what the flash holds
+//! wherever it is cut.
 #![tactic(auto)]
 
 mod change;

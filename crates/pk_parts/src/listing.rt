@@ -20,8 +20,9 @@ use pk_nvme::Request;
 use pk_region::Region;
 
 impl<A: Region> Parts<A> {
-    /// Answers a List that passed the checks that read it alone: the number of keys that are there from the one that it names on,
-    /// and as many of them as fit; `UNRECOVERED_ERROR` without data where a read fails.
+    /// Returns a List that passed the checks that read it alone: the number of keys that exist from
+    /// the one that it names on, and as many of them as fit; `UNRECOVERED_ERROR` without data if a
+    /// read fails.
     pub fn list_keys<B: Nand>(
         &mut self,
         board: &mut B,
@@ -46,7 +47,7 @@ impl<A: Region> Parts<A> {
             (B.state board.new) }
         ensures fits { result.data_len ≤ length into.new }
 
-        // What stays.
+        // What is unchanged.
         ensures same { self.new ≡ self.old }
         ensures len { length into.new ≡ length into.old }
     {

@@ -13,8 +13,8 @@ use pk_nand::{Fault, Nand};
 use pk_region::Region;
 
 impl<A: Region> Parts<A> {
-    /// Commits the pending entries; nothing is done where there are none. A step inside commands too, which are told more of it than
-    /// `commit` tells.
+    /// Commits the pending entries; does nothing if there are none. Commands use it as a step too,
+    /// and its contract says more for them than that of `commit`.
     pub fn commit_pending<B: Nand>(&mut self, board: &mut B) -> Result<(), Fault>
         requires may { MayCommit self.old (B.state board.old) }
 
@@ -29,7 +29,7 @@ impl<A: Region> Parts<A> {
         ensures idle { self.old.log.pending ≡ []
             → IsOk result × (self.new ≡ self.old) × (B.state board.new ≡ B.state board.old) }
 
-        // What else stays.
+        // What else is unchanged.
         ensures rest { OnOk result (OnlyCommits self.old self.new) }
         ensures pages_left { OnOk result (left_of self.new.log.epoch ≤ left_of self.old.log.epoch) }
         ensures kept { OnErr result (self.new ≡ self.old) }

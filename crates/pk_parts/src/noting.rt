@@ -26,7 +26,7 @@ fn span_at(shape: &Shape, place: &Place) -> Span
     }
 }
 
-// The same, where there is one.
+// The same, if there is one.
 fn span_if_there(shape: &Shape, place: &Option<Place>) -> Option<Span>
     requires { MatchOption place.now (Unit {0}) (λ p. p.len ≤ spec.greatest shape.now) }
     ensures { result ≡ span_if_some shape.now place.now }
@@ -37,7 +37,7 @@ fn span_if_there(shape: &Shape, place: &Option<Place>) -> Option<Span>
     }
 }
 
-// One more key where there was none.
+// One more key if there was none.
 fn more_keys(keys: u32, old: &Option<Place>) -> u32
     requires { keys ≤ 1048576 }
     ensures { result ≡ more_keys_by keys old.now }
@@ -56,7 +56,7 @@ impl<A: Region> Parts<A> {
         requires puts { (flash : Flash) × (m : Map) × (value : List ℕ) × (length value ≡ len)
             × Puts self.old self.old.log.shape flash m key value page old }
 
-        // The parts, and the map for which they stand.
+        // The parts, and the map that they represent.
         ensures rest { self.new ≡ record self.old {
           log = pushed self.old.log (key, Some (record { page = page; len = len }));
           space = self.new.space;
@@ -85,7 +85,7 @@ impl<A: Region> Parts<A> {
         requires drops { (flash : Flash) × (m : Map)
             × Drops self.old self.old.log.shape flash m key old }
 
-        // The parts, and the map for which they stand.
+        // The parts, and the map that they represent.
         ensures rest { self.new ≡ record self.old {
           log = pushed self.old.log (key, None);
           space = self.new.space;

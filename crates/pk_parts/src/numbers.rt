@@ -1,4 +1,4 @@
-//! The numbers that a drive tells of itself.
+//! The numbers that a drive reports of itself.
 ghost use Rattle.std.specs.Prelude.{◌≡◌, length};
 ghost use Rattle.pk_call.specs.Seen.{counts_of};
 ghost use Rattle.pk_gc.specs.Standing.{held_blocks};

@@ -14,8 +14,8 @@ use pk_schedule::Schedule;
 use pk_walk::Walk;
 use std::marker::Model;
 
-/// The parts of a drive. Contracts see them as a record, and `DriveOnFlash` says how they stand to a flash. No call but `over` takes
-/// memory.
+/// The parts of a drive. Contracts see them as a record, and `DriveOnFlash` says how they match a
+/// flash. No call but `over` takes memory.
 pub struct Parts<A: Region> {
     pub(crate) log: Log<A>,
     pub(crate) levels: Levels<A>,
@@ -25,7 +25,8 @@ pub struct Parts<A: Region> {
     pub(crate) reclaim: ReclaimJob<A>,
     pub(crate) pool: Pool<A>,
     pub(crate) keys: u32,
-    /// A program or an erase failed: set by a step that answers how it went, and by `set_stopped` where a call hands its fault on.
+    /// A program or an erase failed: set by a step that reports its outcome, and by `set_stopped`
+    /// if a call passes its fault on.
     pub(crate) stopped: bool,
     /// The bytes of a page.
     pub(crate) page: Vec<u8, A>,

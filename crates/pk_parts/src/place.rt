@@ -5,7 +5,7 @@ ghost use Rattle.pk_parts.specs.Finding.{named_by, named_by_found};
 use pk_base::{Entry, Place};
 use pk_nand::Fault;
 
-/// The place that an entry names; None for a deleted key, and where there is no entry.
+/// The place that an entry names; None for a deleted key, and if there is no entry.
 pub fn place_in(entry: &Option<Entry>) -> Option<Place>
     ensures { result ≡ named_by entry.now }
 {

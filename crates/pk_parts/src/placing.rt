@@ -22,8 +22,9 @@ use pk_pool::Pool;
 use pk_region::Region;
 use pk_seg::write_value;
 
-/// Writes a value into the next pages of the open block, and answers the first; the block is closed and another one opened
-/// before, where it has no room. `Stopped` where a call of the board fails. `buf` has a page's bytes, which are lost.
+/// Writes a value into the next pages of the open block, and returns the first one; if it has no
+/// room, the block is closed and another one opened first. `Stopped` if a flash operation fails.
+/// `buf` has the size of a page and is overwritten.
 pub fn write_next<B: Nand, A: Region>(
     space: &mut Data<A>,
     pool: &mut Pool<A>,
@@ -48,7 +49,7 @@ pub fn write_next<B: Nand, A: Region>(
     ensures fails { OnErr result (FailsToPlace shape.now key.now value.now
         space.old pool.old (B.state board.old) (B.state board.new)) }
 
-    // What stays.
+    // What is unchanged.
     ensures ready { IsReady (B.state board.new) shape.now }
     ensures buffer { length buf.new ≡ length buf.old }
 {
@@ -68,8 +69,8 @@ pub fn write_next<B: Nand, A: Region>(
 }
 
 impl<A: Region> Parts<A> {
-    /// Writes a value of a key, whose map does not have it yet, and answers its first page. `Stopped` where a call of the board
-    /// fails.
+    /// Writes a value of a key, whose map does not have it yet, and returns its first page.
+    /// `Stopped` if a flash operation fails.
     pub(crate) fn place_value<B: Nand>(
         &mut self,
         board: &mut B,

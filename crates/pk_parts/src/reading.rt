@@ -1,4 +1,4 @@
-//! Reads: where the value of a key stands, and its front.
+//! Reads: where the value of a key is, and a prefix of it.
 ghost use Rattle.std.specs.Prelude.{◌≡◌, ◌≤◌, ◌-◌, ℕ, List, length, take, Option, IfOk, OnOk, OnErr};
 ghost use Rattle.pk_base.specs.Shape.{fetched};
 ghost use Rattle.pk_nand.specs.Calls.{IsReady, last_count};
@@ -17,7 +17,7 @@ use pk_region::Region;
 use pk_seg::read_value;
 
 impl<A: Region> Parts<A> {
-    /// Where the value of a key stands, by at most four reads.
+    /// Where the value of a key is, by at most four reads.
     pub fn look<B: Nand>(&mut self, board: &mut B, key: &Key) -> Result<Option<Place>, Fault>
         // The drive and the board.
         requires agrees { DriveOnFlash self.old (B.state board.old).shape
@@ -32,7 +32,7 @@ impl<A: Region> Parts<A> {
         ensures failing { OnErr result (ReadsFailing (B.state board.old) (B.state board.new)
             (4 - self.old.levels.pinned)) }
 
-        // What stays.
+        // What is unchanged.
         ensures same { self.new ≡ self.old }
         ensures pages { (B.state board.new).pages ≡ (B.state board.old).pages }
         ensures ready { IsReady (B.state board.new) self.old.log.shape }
@@ -48,7 +48,8 @@ impl<A: Region> Parts<A> {
         ))
     }
 
-    /// Fills the front of `into` with so many bytes of the value from this page on, by as many reads as they have pages.
+    /// Fills the start of `into` with the first `count` bytes of the value that begins at this
+    /// page, by as many reads as they have pages.
     pub fn hand_over<B: Nand>(
         &mut self,
         board: &mut B,
@@ -62,7 +63,7 @@ impl<A: Region> Parts<A> {
             × IsFront self.old.log.shape (B.state board.old).pages page count key value }
         requires room { count ≤ length into.old }
 
-        // Its front, and the pages that were read for it.
+        // Its first bytes, and the pages that were read for them.
         ensures front { OnOk result ((key value : List ℕ)
             → IsFront self.old.log.shape (B.state board.old).pages page count key value
             → take count into.new ≡ take count value) }
@@ -71,7 +72,7 @@ impl<A: Region> Parts<A> {
         ensures err { OnErr result (ReadsFailed (B.state board.old) (B.state board.new) page
             (fetched self.old.log.shape count)) }
 
-        // What stays.
+        // What is unchanged.
         ensures same { self.new ≡ self.old }
         ensures pages { (B.state board.new).pages ≡ (B.state board.old).pages }
         ensures len { length into.new ≡ length into.old }

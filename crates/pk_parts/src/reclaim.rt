@@ -13,12 +13,13 @@ use pk_reclaim::reclaim_step;
 use pk_region::Region;
 
 impl<A: Region> Parts<A> {
-    /// One step of a reclaim, by at most one flash operation, which may leave the commit of its moves half made; one is begun where none
-    /// runs. `NeedsFreeze` where its moves find no room: nothing was done. `Reading` where a read fails: the step can be made again.
+    /// One step of a reclaim, by at most one flash operation, which may leave the commit of its
+    /// moves half made; one is begun if none runs. `NeedsFreeze` if its moves find no room: nothing
+    /// was done. `Reading` if a read fails: the step can be made again.
     pub(crate) fn reclaim_once<B: Nand>(&mut self, board: &mut B) -> Result<Reclaimed, Fault>
         requires may { MayReclaim self.old (B.state board.old) }
 
-        // A step was made, or wants a freeze before it.
+        // A step was made, or needs a freeze before it.
         ensures does { IfOk result (λ r. DoesReclaim self.old self.new (B.state board.old)
             (B.state board.new) r) }
 

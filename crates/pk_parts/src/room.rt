@@ -1,4 +1,5 @@
-//! Room for one more entry: merges and a freeze where the buffer or the journal is full, and a commit where the journal page is.
+//! Room for one more entry: merges and a freeze if the buffer or the journal is full, and a commit
+//! if the journal page is.
 ghost use Rattle.std.specs.Prelude.{◌≡◌, ◌≤◌, ◌<◌, length, false, OnOk};
 ghost use Rattle.pk_parts.specs.Costs.{NumbersLast, Spends};
 ghost use Rattle.pk_base.specs.Shape.{commit_programs, page_entries};
@@ -16,8 +17,9 @@ use pk_nand::{Fault, Nand};
 use pk_region::Region;
 
 impl<A: Region> Parts<A> {
-    /// Makes room for a further entry of the key: where that wants a freeze, the pending entries are committed, merges empty the
-    /// frozen buffer, and the active one is frozen. `Reading` where a read of a merge fails: the map is as it was.
+    /// Makes room for a further entry of the key: if that needs a freeze, the pending entries are
+    /// committed, merges empty the frozen buffer, and the active one is frozen. `Reading` if a read
+    /// of a merge fails: the map is unchanged.
     pub(crate) fn make_room<B: Nand>(&mut self, board: &mut B, key: &Key) -> Result<(), Fault>
         requires may { MayStep self.old (B.state board.old) }
         requires number { NumbersLast (room_calls self.old.log.shape) (B.state board.old) }
@@ -29,7 +31,7 @@ impl<A: Region> Parts<A> {
         ensures spends { Spends (room_calls self.old.log.shape) room_roots (B.state board.old)
             (B.state board.new) }
 
-        // What else stays; all of it where nothing is to be done.
+        // What else is unchanged; all of it if nothing is to be done.
         ensures pending { OnRunning (length self.new.log.pending ≤ length self.old.log.pending)
             result }
         ensures leaves { OnRunning (LeavesValues self.old self.new) result }
@@ -46,7 +48,7 @@ impl<A: Region> Parts<A> {
         }
     }
 
-    /// Commits the pending entries where there are as many as a journal page has.
+    /// Commits the pending entries if there are as many as a journal page has.
     pub(crate) fn commit_if_full<B: Nand>(&mut self, board: &mut B) -> Result<(), Fault>
         requires may { MayStep self.old (B.state board.old) }
 

@@ -14,7 +14,7 @@ use pk_nand::{Fault, Nand};
 use pk_region::Region;
 
 impl<A: Region> Parts<A> {
-    /// Whether a value of so many pages has no room without a reclaim.
+    /// Whether a value of `count` pages has no room without a reclaim.
     pub fn needs_space(&self, count: u32) -> bool
         requires { count ≤ spec.most_pages self.now.log.shape }
         ensures { result ≡ needs count self.now }
@@ -23,7 +23,7 @@ impl<A: Region> Parts<A> {
         self.space.needs_reclaim(&shape, &self.pool, count)
     }
 
-    // Whether a reclaim runs, or has to before a value of so many pages.
+    // Whether a reclaim runs, or has to before a value of `count` pages.
     fn awaits_space(&self, count: u32) -> bool
         requires { count ≤ spec.most_pages self.now.log.shape }
         ensures { result ≡ runs_in self.now.reclaim.phase || needs count self.now }
@@ -31,8 +31,8 @@ impl<A: Region> Parts<A> {
         self.reclaim.runs() || self.needs_space(count)
     }
 
-    // One step of a reclaim, with the second program of its moves' commit if it makes the first; where its moves find no room, merges and a
-    // freeze make it.
+    // One step of a reclaim, with the second program of its moves' commit if it makes the first; if
+    // its moves find no room, merges and a freeze make it.
     fn make_space_once<B: Nand>(&mut self, board: &mut B, count: u32) -> Result<(), Fault>
         requires may { MaySpace count self.old (B.state board.old) }
         requires some { count ≤ spec.most_pages self.old.log.shape }
@@ -49,7 +49,7 @@ impl<A: Region> Parts<A> {
         }
     }
 
-    // Makes steps of reclaims until none runs, and a value of so many pages has room.
+    // Makes steps of reclaims until none runs, and a value of `count` pages has room.
     fn reclaim_for<B: Nand>(&mut self, board: &mut B, count: u32) -> Result<(), Fault>
         requires may { MaySpace count self.old (B.state board.old) }
         requires some { count ≤ spec.most_pages self.old.log.shape }
@@ -61,7 +61,7 @@ impl<A: Region> Parts<A> {
         ensures spends { Spends (space_left count self.old) room_roots (B.state board.old)
             (B.state board.new) }
 
-        // What else stays.
+        // What else is unchanged.
         ensures none { OnRunning (self.new.log.pending ≡ []) result }
         ensures stays { OnRunning (StaysSame self.old self.new) result }
     {
@@ -77,8 +77,9 @@ impl<A: Region> Parts<A> {
         }
     }
 
-    /// Makes room for a value of so many pages by reclaims, one of which may run already. The pending entries are committed before.
-    /// The values that are there may stand elsewhere then. `Reading` where a read fails: the map is as it was.
+    /// Makes room for a value of `count` pages by reclaims, one of which may already be running.
+    /// The pending entries are committed first. Existing values may be elsewhere afterwards.
+    /// `Reading` if a read fails: the map is unchanged.
     pub fn make_space<B: Nand>(&mut self, board: &mut B, count: u32) -> Result<(), Fault>
         requires may { MayStep self.old (B.state board.old) }
         requires some { count ≤ spec.most_pages self.old.log.shape }
@@ -91,7 +92,7 @@ impl<A: Region> Parts<A> {
         ensures spends { Spends (reclaim_calls self.old.log.shape) room_roots (B.state board.old)
             (B.state board.new) }
 
-        // What else stays.
+        // What else is unchanged.
         ensures none { OnRunning (self.new.log.pending ≡ []) result }
         ensures stays { OnRunning (StaysSame self.old self.new) result }
     {

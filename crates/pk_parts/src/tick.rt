@@ -18,7 +18,8 @@ use pk_region::Region;
 use pk_schedule::Stepped;
 
 impl<A: Region> Parts<A> {
-    // Erases the lowest free block that was not erased in this session; false where there is none. A failure stops the drive.
+    // Erases the lowest free block that was not erased in this session; false if there is none. A
+    // failure stops the drive.
     fn erase_spare<B: Nand>(&mut self, board: &mut B) -> Result<bool, Fault>
         requires ready { IsReady (B.state board.old) self.old.pool.shape }
         requires fits { PoolOnFlash self.old.pool (B.state board.old).pages }
@@ -104,7 +105,8 @@ impl<A: Region> Parts<A> {
         }
     }
 
-    // One step of the reclaim that runs or is due; where its moves find no room, one of the freeze that makes it.
+    // One step of the reclaim that runs or is due; if its moves find no room, one of the freeze
+    // that makes it.
     fn reclaim_step<B: Nand>(&mut self, board: &mut B) -> Ticked
         requires may { MayTick self.old (B.state board.old) }
         requires whole { is_half self.old ≡ false }
@@ -122,7 +124,7 @@ impl<A: Region> Parts<A> {
         }
     }
 
-    // The lowest free block that was not erased in this session is erased; idle where there is none.
+    // The lowest free block that was not erased in this session is erased; idle if there is none.
     fn erase_step<B: Nand>(&mut self, board: &mut B) -> Ticked
         requires may { MayTick self.old (B.state board.old) }
         requires whole { is_half self.old ≡ false }
@@ -139,7 +141,8 @@ impl<A: Region> Parts<A> {
         }
     }
 
-    // As many blocks are in use as may be, beside that which a reclaim holds, and the open one does not take every value.
+    // As many blocks are in use as may be, in addition to the one that a reclaim holds, and the
+    // open one does not take every value.
     fn is_reclaim_due(&self) -> bool
         ensures { result ≡ spec.is_reclaim_due self.now }
     {

@@ -25,7 +25,7 @@ get_or-chunks p (suc n) xs (suc i) d h =
     get_or-chunks p n (drop p xs) i d (omega arith)
     ∙ ap (take p) (drop-drop (i * p) p xs ∙ ap (λ k. drop k xs) (let e : p + i * p ≡ suc i * p = omega (arith, suc-mul i p) in e))
 
--- a write beyond the first p elements, seen behind these
+-- a write beyond the first p elements, seen after these
 pub drop-put_mid_above : (p b k : ℕ) (xs ys : List ℕ) → p + b ≤ length xs → drop p (put_mid (p + b) k xs ys) ≡ put_mid b k (drop p xs) ys
 drop-put_mid_above p b k xs ys h =
     let len : p ≤ length (take (p + b) xs) = simp length-take (omega arith) in

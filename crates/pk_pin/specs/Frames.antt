@@ -40,17 +40,17 @@ given a i = record a { used = slice_set a.used i false }
 abbrev pub filled : Frames → ℕ → List ℕ → Frames
 filled a i bytes = record a { frames = slice_set a.frames i bytes }
 
--- where a frame is wanted, a free one was leased and filled with these bytes; else nothing was done
+-- if a frame is needed, a free one was leased and filled with these bytes; otherwise nothing was done
 abbrev pub KeepsPage : Bool → Frames → Frames → List ℕ → Option ℕ → Type 0
 KeepsPage wanted old new bytes None = (wanted ≡ false) × (new ≡ old)
 KeepsPage wanted old new bytes (Some lease) =
     (wanted ≡ true) × (slice_get old.used lease ≡ Some false) × (new ≡ filled (leased old lease) lease bytes) × IsLeased new lease × (frame_of new lease ≡ bytes)
 
--- how often frame i stands among leases
+-- how often frame i occurs among leases
 abbrev pub times : ℕ → List ℕ → ℕ
 times i [] = 0
 times i (l ∷ ls) = if l == i then suc (times i ls) else times i ls
 
--- these are all the leases of the arena: a leased frame stands among them once, and a free one never
+-- these are all the leases of the arena: a leased frame is among them once, and a free one never
 abbrev pub AreLeases : Frames → List ℕ → Type 0
 AreLeases a ls = (i : ℕ) → times i ls ≡ (if slice_index_or a.used i false then 1 else 0)

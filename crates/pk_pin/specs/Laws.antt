@@ -6,15 +6,15 @@ use Rattle.pk_pin.specs.Frames.{Frames, AreLeases, free_frames, leased_frames, l
 abbrev pub NoneLeased : Type 0
 NoneLeased = (page frames : ℕ) (bytes : List (List ℕ)) → AreLeases (record { page_bytes = page; used = replicate frames false; frames = bytes }) []
 
--- where a free frame is taken, it is one lease more
+-- if a free frame is taken, it is one lease more
 abbrev pub LeaseTaken : Type 0
 LeaseTaken = (a : Frames) (ls : List ℕ) (l : ℕ) → AreLeases a ls → slice_get a.used l ≡ Some false → AreLeases (leased a l) (l ∷ ls)
 
--- where a frame is given back, its lease is gone and all others stay
+-- if a frame is given back, its lease is gone and all others are unchanged
 abbrev pub LeaseGiven : Type 0
 LeaseGiven = (a : Frames) (before behind : List ℕ) (l : ℕ) → AreLeases a (before ++ l ∷ behind) → AreLeases (given a l) (before ++ behind)
 
--- where a frame is filled, the leases stay
+-- if a frame is filled, the leases are unchanged
 abbrev pub LeasesFilled : Type 0
 LeasesFilled = (a : Frames) (ls : List ℕ) (l : ℕ) (bytes : List ℕ) → AreLeases a ls → AreLeases (filled a l bytes) ls
 

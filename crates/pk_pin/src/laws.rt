@@ -6,17 +6,17 @@ pub fn none_leased()
     ensures { NoneLeased }
 {}
 
-/// Where a free frame is taken, it is one lease more.
+/// If a free frame is taken, it is one lease more.
 pub fn lease_taken()
     ensures { LeaseTaken }
 {}
 
-/// Where a frame is given back, its lease is gone and all others stay.
+/// If a frame is given back, its lease is gone and all others are unchanged.
 pub fn lease_given()
     ensures { LeaseGiven }
 {}
 
-/// Where a frame is filled, the leases stay.
+/// If a frame is filled, the leases are unchanged.
 pub fn leases_filled()
     ensures { LeasesFilled }
 {}

@@ -116,8 +116,8 @@ fn put_piece(bytes: &mut [u8], page: usize, n: usize, i: usize, from: &[u8])
 }
 
 impl<A: Allocator + Clone> PinArena<A> {
-    /// An arena of so many frames of so many bytes, all free. All its memory is taken here: the bytes
-    /// of the frames, and one byte for each frame.
+    /// An arena of `frames` frames of this many bytes, all free. All its memory is taken here: the
+    /// bytes of the frames, and one byte for each frame.
     pub fn new(alloc: A, frames: u32, page_bytes: u32) -> Result<PinArena<A>, AllocError>
         ensures page { IfOk result (λ a. a.page_bytes ≡ page_bytes) }
         ensures free { IfOk result (λ a. a.used ≡ replicate frames false) }
@@ -135,8 +135,7 @@ impl<A: Allocator + Clone> PinArena<A> {
 }
 
 impl<A: Allocator> PinArena<A> {
-    /// Leases the first free frame, which contains what it contained before; None where every frame
-    /// is leased.
+    /// Leases the first free frame, whose content is unchanged; None if every frame is leased.
     pub fn take(&mut self) -> Option<Lease>
         ensures none { IsNone result ↔ (free_frames self.old ≡ 0) }
         ensures kept { IfNone result (self.new ≡ self.old) }
@@ -175,7 +174,7 @@ impl<A: Allocator> PinArena<A> {
         );
     }
 
-    /// Keeps a page of bytes in the first free frame, where a frame is wanted; None where none is.
+    /// Keeps a page of bytes in the first free frame, if a frame is needed; None if none is.
     pub fn keep(&mut self, wanted: bool, bytes: &[u8]) -> Option<Lease>
         requires free { wanted ≡ true → 0 < free_frames self.old }
         requires page { length bytes.now ≡ self.old.page_bytes }

@@ -61,7 +61,8 @@ impl Plan {
         }
     }
 
-    /// Frames that pin so many levels: all their pages, and those of a merge's output into one of them.
+    /// Frames that pin `levels` levels: all their pages, and those of a merge's output into one of
+    /// them.
     pub fn need(&self, levels: u8) -> u32
         requires { levels ≤ 4 }
         ensures { result ≡ spec.need self.now levels }
@@ -79,7 +80,7 @@ impl Plan {
         }
     }
 
-    /// The most levels that so many frames pin.
+    /// The most levels that `frames` frames pin.
     pub fn pinned(&self, frames: u32) -> u8
         ensures value { result ≡ spec.pinned self.now frames }
         ensures most { result ≤ 4 }
@@ -107,13 +108,14 @@ impl Plan {
     {
         let upper = self.shape.cap(1) + self.shape.cap(2) + self.shape.cap(3);
         let pages = (upper + self.shape.cap(4)) as u64;
-        // A Store empties the buffers at most twice, by merges that read a page of a run at most twice, program it once, and take
-        // blocks; it copies at most one block, and programs its value; look-ups, commits, freezes and roots take the rest.
+        // A Store empties the buffers at most twice, by merges that read a page of a run at most
+        // twice, program it once, and take blocks; it copies at most one block, and programs its
+        // value; lookups, commits, freezes and roots take the rest.
         8 * pages + 4 * self.shape.block_pages() as u64 + 64
     }
 
-    /// The level into which the next merge goes, for so many frozen keys and so many entries of each run. None exactly where
-    /// no key is frozen.
+    /// The level into which the next merge goes, for these numbers of frozen keys and of entries of
+    /// each run. None exactly if no key is frozen.
     pub fn next_merge(&self, frozen: u32, runs: &[u32; 4]) -> Option<u8>
         ensures target { result ≡ merge.next_merge self.now frozen runs.now }
         ensures none { IsNone result ↔ (frozen ≡ 0) }

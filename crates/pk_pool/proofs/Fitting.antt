@@ -26,7 +26,7 @@ use Rattle.pk_pool.proofs.States.{get-set_other, get-set_same, free_is_not_ready
 
 -- ---- pages of a block
 
--- a page whose number divides so stands in this block, and the other way round
+-- a page whose number divides so is in this block, and the other way round
 pub in_block : (n k b : ℕ) → 0 < n → k / n ≡ b → (b * n ≤ k) × (k < b * n + n)
 in_block n k b some is =
     let whole : k / n * n + k % n ≡ k = div-add-mod' k n in
@@ -39,7 +39,7 @@ block_of n k b low high =
     let P : ℕ → Type 0 = λ x. x / n ≡ b in
     subst P e (div-mul-add b n (k - b * n) (omega arith))
 
--- a block ends where a later one begins, or before
+-- a block ends if a later one begins, or before
 pub apart : (a b n : ℕ) → a < b → a * n + n ≤ b * n
 apart a b n h = omega (arith, mul-le-mul_right {m = suc a} {n = b} n (omega arith), suc-mul a n)
 
@@ -59,7 +59,7 @@ outside n b c k ne low high = elim (cases_lt c b) [
 
 -- ---- the pool and the flash
 
--- where the pages of the erased blocks are the same
+-- if the pages of the erased blocks are the same
 pub PoolOnFlash-same : (p : Blocks) (f g : Flash) → ((b k : ℕ) → slice_get p.states b ≡ Some Ready → IsInBlock p.shape b k → page_at g k ≡ page_at f k) → PoolOnFlash p f → PoolOnFlash p g
 PoolOnFlash-same p f g same fits = record { erased = λ b is k low high. same b k is (low, high) ∙ fits.erased b is k low high }
 
@@ -203,7 +203,7 @@ module _ (p : Blocks) (board : BoardState) (b : ℕ) (is_shape : IsShape p.shape
   pub PoolOnFlash-after_erase : PoolOnFlash p (after_erase board b).pages
   PoolOnFlash-after_erase = rw (shape_is board p.shape ready) (PoolOnFlash-erased p board.pages b fits)
 
-  -- where the erase failed
+  -- if the erase failed
   pub PoolOnFlash-erase_failed : (new : BoardState) → IsNotReady p b → EraseFailed board new b → PoolOnFlash p new.pages
   PoolOnFlash-erase_failed new not_ready failed = elim failed.left [
     | inl marked ↦ PoolOnFlash-but_block p board.pages new.pages b not_ready (within p.shape board b is_shape ready new.pages marked.0) fits

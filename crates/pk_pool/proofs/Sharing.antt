@@ -55,7 +55,7 @@ one_is_left shape states Journal i h r f = omega (arith, all_counted states, non
 one_is_left shape states Meta i h r f = omega (arith, all_counted states, none_ready states r, none_free states f, i.roots, i.plan.shared, i.size, i.within Journal, i.within Meta, i.within Values)
 one_is_left shape states Values i h r f = omega (arith, all_counted states, none_ready states r, none_free states f, i.roots, i.plan.shared, i.size, i.within Journal, i.within Meta, i.within Values)
 
--- a block that is no root block is behind them
+-- a block that is no root block comes after them
 pub behind_roots : (shape : Shape) (states : List BlockState) (b : ℕ) (s : BlockState) → (Root ≡ s → ⊥) → slice_get states b ≡ Some s → IsShared shape states → 2 ≤ b
 behind_roots shape states zero s not_root h i = absurd (not_root (same_Some Root s (sym i.first ∙ h)))
 behind_roots shape states (suc zero) s not_root h i = absurd (not_root (same_Some Root s (sym i.second ∙ h)))

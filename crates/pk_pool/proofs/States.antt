@@ -17,7 +17,7 @@ get-set_other (x ∷ xs) zero (suc k) y ne = refl
 get-set_other (x ∷ xs) (suc i) zero y ne = refl
 get-set_other (x ∷ xs) (suc i) (suc k) y ne = get-set_other xs i k y (λ e. ne (ap suc e))
 
--- what is read where a state was written
+-- what is read if a state was written
 pub get-set_same : {X : Type 0} (xs : List X) (i : ℕ) (y z : X) → slice_get (set xs i y) i ≡ Some z → z ≡ y
 get-set_same [] i y z h = absurd (omega (arith, slice_get_within [] i z h))
 get-set_same (x ∷ xs) zero y z h = same_Some z y (sym h)
@@ -55,7 +55,7 @@ leaving_is_not_free e = cc
 pub leaving_is_not_ready : {o : Owner} → Leaving o ≡ Ready → ⊥
 leaving_is_not_ready e = cc
 
--- what stands in a list of one element, and where one was written
+-- what is in a list of one element, and in one that was written to
 nowhere_replicate : {X : Type 0} (n k : ℕ) (x y : X) → slice_get (replicate n x) k ≡ Some y → x ≡ y
 nowhere_replicate zero k x y h = cc
 nowhere_replicate (suc n) zero x y h = same_Some x y h

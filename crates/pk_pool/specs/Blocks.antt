@@ -86,7 +86,7 @@ abbrev pub left_by : Owner → Blocks → List ℕ → Blocks
 left_by o p [] = p
 left_by o p (b ∷ bs) = left_by o (with_state p b (Leaving o)) bs
 
--- what a block is where those that leave are freed: such a one is free, and counts as not erased
+-- what a block is if those that leave are freed: such a one is free, and counts as not erased
 abbrev pub freed_state : BlockState → BlockState
 freed_state Root = Root
 freed_state Free = Free
@@ -94,7 +94,7 @@ freed_state Ready = Ready
 freed_state (Owned o) = Owned o
 freed_state (Leaving o) = Free
 
--- the pool where every block that leaves is freed
+-- the pool if every block that leaves is freed
 abbrev pub freed : Blocks → Blocks
 freed p = record p { states = map freed_state p.states }
 

@@ -13,11 +13,11 @@ use Rattle.pk_pool.specs.Blocks.{Blocks, PoolOnFlash}
 abbrev pub IsNotReady : Blocks → ℕ → Type 0
 IsNotReady p b = slice_get p.states b ≡ Some Ready → ⊥
 
--- the page stands in this block
+-- the page is in this block
 abbrev pub IsInBlock : Shape → ℕ → ℕ → Type 0
 IsInBlock shape b k = (b * shape.block_pages ≤ k) × (k < b * shape.block_pages + shape.block_pages)
 
--- where nothing differs outside some pages of a block that does not count as erased, the pool fits as before
+-- if nothing differs outside some pages of a block that does not count as erased, the pool fits as before
 abbrev pub ChangesElsewhere : Type 0
 ChangesElsewhere =
     (p : Blocks) (old new : Flash) (b first count : ℕ) → IsNotReady p b

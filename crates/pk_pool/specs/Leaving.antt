@@ -1,4 +1,4 @@
--- Blocks that leave their owner: what becomes of them where they are freed.
+-- Blocks that leave their owner: what becomes of them if they are freed.
 use Rattle.std.specs.Prelude.{◌≡◌, ◌⊎◌, ℕ, List, slice_get, slice_set, Some}
 use Rattle.pk_plan.specs.declared.owner.Owner.{Owner}
 use Rattle.pk_pool.specs.declared.state.BlockState.{BlockState}
@@ -10,11 +10,11 @@ use Rattle.pk_pool.specs.Unready.{unready}
 abbrev pub LeftAndFreed : Type 0
 LeftAndFreed = (o : Owner) (p : Blocks) (bs : List ℕ) → freed (left_by o p bs) ≡ given_back (freed p) bs
 
--- a change of one block, seen where those that leave are freed
+-- a change of one block, seen if those that leave are freed
 abbrev pub FreedWith : Type 0
 FreedWith = (p : Blocks) (b : ℕ) (s : BlockState) → freed (with_state p b s) ≡ with_state (freed p) b (freed_state s)
 
--- where none leaves, nothing is freed
+-- if none leaves, nothing is freed
 abbrev pub FreedSame : Type 0
 FreedSame = (p : Blocks) → NoneLeaves p → freed p ≡ p
 
@@ -32,7 +32,7 @@ OwnedFreed =
     (p : Blocks) (b : ℕ) (o : Owner) → (slice_get p.states b ≡ Some (Owned o) → slice_get (freed p).states b ≡ Some (Owned o))
     × (slice_get (freed p).states b ≡ Some (Owned o) → slice_get p.states b ≡ Some (Owned o))
 
--- as many blocks are not ready, where one leaves, and where those that leave are freed
+-- as many blocks are not ready, if one leaves, and if those that leave are freed
 abbrev pub LeftUnready : Type 0
 LeftUnready = (states : List BlockState) (b : ℕ) (o p : Owner) → slice_get states b ≡ Some (Owned o) → unready (slice_set states b (Leaving p)) ≡ unready states
 

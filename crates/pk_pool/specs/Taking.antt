@@ -19,7 +19,7 @@ ReachesIn shape b old new = Reached old new (λ flash _. SameButBlock shape b ol
 abbrev pub WentIn : Shape → ℕ → BoardState → BoardState → Type 0
 WentIn shape b old new = Went old new (λ flash _. SameButBlock shape b old.pages flash)
 
--- the lowest-numbered block that was erased in this session, with no call of the board
+-- the lowest-numbered block that was erased in this session, with no flash operation
 pub record TakesReady (p : Blocks) (old : BoardState) (b : ℕ) (new : BoardState) : Type 0 where
   pub lowest : IsLowest Ready p.states b
   pub same : new ≡ old

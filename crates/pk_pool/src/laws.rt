@@ -33,7 +33,7 @@ pub fn blocks_not_ready()
     ensures pays { TakePays }
 {}
 
-/// What becomes of blocks that leave, where they are freed.
+/// What becomes of blocks that leave, if they are freed.
 pub fn blocks_that_leave()
     ensures left { LeftAndFreed }
     ensures with { FreedWith }

@@ -1,5 +1,5 @@
-//! The pool of blocks: three owners with quotas. A block that is owned is never handed out, and each block is erased in this
-//! session before it is handed out, so that all its pages are Erased.
+//! The pool of blocks: three owners with quotas. A block that is owned is never allocated, and each
+//! block is erased in this session before it is allocated, so that all its pages are Erased.
 #![tactic(auto)]
 
 mod laws;

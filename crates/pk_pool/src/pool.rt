@@ -85,7 +85,7 @@ fn count_ready(states: &[BlockState]) -> u32
     count
 }
 
-// What a block is where those that leave are freed.
+// What a block is if those that leave are freed.
 fn freed_state(state: BlockState) -> BlockState
     ensures { result ≡ spec.freed_state state }
 {
@@ -105,7 +105,8 @@ fn release<A: Allocator>(states: &mut Vec<BlockState, A>)
 }
 
 impl<A: Allocator> Pool<A> {
-    /// All blocks behind the root blocks are free, and none is erased. All memory of the pool is taken here.
+    /// All blocks after the root blocks are free, and none is erased. All memory of the pool is
+    /// taken here.
     pub fn new(alloc: A, plan: Plan) -> Result<Pool<A>, AllocError>
         ensures unused { IfOk result (λ p. p ≡ unused plan) }
         ensures whole { IfOk result (λ p. NoneLeaves p) }
@@ -137,9 +138,9 @@ impl<A: Allocator> Pool<A> {
         self.states[block as usize] = BlockState::Owned(owner);
     }
 
-    /// Hands out a block whose pages are all Erased: the lowest-numbered one that was erased in this session, else the
-    /// lowest-numbered free one, which is erased now by the one call of the board. `Stopped` where this call fails; the pool
-    /// is as before then.
+    /// Allocates a block whose pages are all Erased: the lowest-numbered one that was erased in
+    /// this session, otherwise the lowest-numbered free one, which is erased now by the one flash
+    /// operation. `Stopped` if this operation fails; the pool is as before then.
     pub fn take<B: Nand>(&mut self, board: &mut B, owner: Owner) -> Result<u32, Fault>
         requires below { used_by owner self.old.states < quota_of self.old.shape owner }
         requires ready { IsReady (B.state board.old) self.old.shape }
@@ -200,7 +201,8 @@ impl<A: Allocator> Pool<A> {
         self.states[block as usize] = BlockState::Free;
     }
 
-    /// Makes a block leave its owner: it still counts as the owner's, and is not handed out until `free_left`.
+    /// Makes a block leave its owner: it still counts as the owner's, and is not allocated until
+    /// `free_left`.
     pub fn leave(&mut self, block: u32)
         requires { IsOwned self.old block }
         ensures left { (o : Owner) → slice_get self.old.states block ≡ Some (Owned o)
@@ -226,8 +228,9 @@ impl<A: Allocator> Pool<A> {
         release(&mut self.states);
     }
 
-    /// Erases the lowest-numbered free block that was not erased in this session, by one call of the board; false exactly where
-    /// there is none. `Stopped` where this call fails; the pool is as before then.
+    /// Erases the lowest-numbered free block that was not erased in this session, by one flash
+    /// operation; false exactly if there is none. `Stopped` if this operation fails; the pool is as
+    /// before then.
     pub fn erase_one<B: Nand>(&mut self, board: &mut B) -> Result<bool, Fault>
         requires ready { IsReady (B.state board.old) self.old.shape }
         requires fits { PoolOnFlash self.old (B.state board.old).pages }

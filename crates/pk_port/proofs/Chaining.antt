@@ -101,7 +101,7 @@ module _ (shape : Shape) (start : Map) (p : Standing) where
     rest = h.rest;
   }
 
-  -- a drive that was left alone from then on
+  -- a drive that was not touched from then on
   halted_still : (done : List Command) (next q : Standing) → q.on ≡ next.on → IsHalted q → HaltedAt shape start done p next → HaltedAt shape start done p q
   unfolding IsHalted
   halted_still done next q same (halt, is, cause) h = record {

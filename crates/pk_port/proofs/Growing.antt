@@ -1,4 +1,4 @@
--- Commands one after another through a port, and a text behind them.
+-- Commands one after another through a port, and a text after them.
 use Rattle.std.proofs.Common.{◌≡◌, inl, inr, ℕ, ◌+◌, ◌≤◌, List, [], ◌∷◌, ◌++◌, Option, Some, Result, Ok, refl, sym, ap, subst, ◌∙◌, arith, append-nil, append_assoc, replicate}
 use Rattle.std.proofs.lemmas.Fn.{FoldsTo-push}
 use Rattle.pk_base.specs.Shape.{Shape, limit}
@@ -96,7 +96,7 @@ flash-then a b c first second = second ∙ ap (λ (s : BoardState). record s {
 }) first
 
 module _ (shape : Shape) (frames : ℕ) (start : Map) (a b : BoardState) (cs : List Command) (w : Asked shape frames start a b cs) where
-  -- the bound on faults behind one more command
+  -- the bound on faults after one more command
   few_more : (n : Option ℕ) (x : Exchange) (k : ℕ) → faults (x ∷ []) ≡ k → AtMost n (faults w.answered.all + k) → AtMost n (faults (w.answered.all ++ x ∷ []))
   few_more n x k e h = let T : ℕ → Type 0 = λ f. AtMost n f in subst T (sym (faults-push w.answered.all x ∙ ap (λ f. faults w.answered.all + f) e)) h
 
@@ -202,10 +202,10 @@ module _ (shape : Shape) (start : Map) (a : BoardState) (cs : List Command) (old
       Goes-then shape more.0 a old.board (KeptSilently shape old.frames start (cs ++ c ∷ []) (rise a.read_faults new.board.read_faults)) w.shape_is more.1 more.2 new.board (StepCut shape s.map c)
       (seen_cut s.map (same_map s.map s.held) s.up) s.went
 
--- ---- what is said behind the commands
+-- ---- what is said after the commands
 
 module _ (Says : List ℕ → Map → Type 0) (shape : Shape) (frames : ℕ) (start : Map) (cs : List Command) where
-  -- no byte was given out
+  -- no byte was posted
   silent_word : (n : Option ℕ) (f : Flash) (q : List ℕ) → KeptSilently shape frames start cs n f q → KeptWord Says shape frames start cs n f q
   silent_word n f q (none, k) = (k, inl none)
 
@@ -224,7 +224,7 @@ module _ (Says : List ℕ → Map → Type 0) (shape : Shape) (frames : ℕ) (st
     )
 
     module _ (text : List ℕ) (says : Says text w.left) where
-      -- a front of the text was given out
+      -- a prefix of the text was posted
       fronts : (out rest : List ℕ) → out ++ rest ≡ text → said_at b.pages (all_posted w.reached.0 ++ out)
       fronts out rest e =
           let last = at_end w.reached.0 a b (KeptSilently shape frames start cs (rise a.read_faults b.read_faults)) w.reached.1 in (

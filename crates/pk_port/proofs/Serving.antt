@@ -1,4 +1,4 @@
--- What a command that was served leaves of a drive on its board, and what it tells a host.
+-- What a command that was served leaves of a drive on its board, and what it reports to a host.
 use Rattle.std.proofs.Common.{◌≡◌, ◌≢◌, inl, inr, ℕ, ◌+◌, ◌≤◌, ◌<◌, ◌^◌, refl, sym, ap, subst, ◌∙◌, arith, List, [], length, take, Bool, true, false, nat_le, Option, Some, Result, Ok, Err}
 use Rattle.std.proofs.lemmas.Bool.Decides.{nat_tests}
 use Rattle.std.proofs.lemmas.List.{length-take-le}
@@ -35,7 +35,7 @@ ok_told (Err refusal) m e = cc
 ok_same : (x y : Map) → ◌≡◌ {A = Result Map Refusal} (Ok x) (Ok y) → x ≡ y
 ok_same x y e = cc
 
--- what is handed over, of a board of this shape
+-- what is passed, of a board of this shape
 pub value_on : (shape : Shape) (board : BoardState) (opcode size : ℕ) (handed value : List ℕ) → board.shape ≡ Some shape → IsValue shape opcode size handed value → IsValue (shape_of board) opcode size handed value
 value_on shape board opcode size handed value has h = let T : Shape → Type 0 = λ s. IsValue s opcode size handed value in subst T (sym (ap shape_or_none has)) h
 
@@ -141,6 +141,6 @@ module _ (agrees : Option Shape → Flash → Type 0) (shape : Shape) (old : Boa
       },
     )
 
--- data in front of a buffer, so many bytes
+-- data at the start of a buffer, n bytes
 pub front_few : (len : ℕ) (into : List ℕ) (most : ℕ) → len ≤ length into → length (take len into) ≤ most → len ≤ most
 front_few len into most fits few = let n = length-take-le len into fits in omega (arith, n, few)

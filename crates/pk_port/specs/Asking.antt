@@ -12,7 +12,7 @@ use Rattle.pk_model.specs.Reading.{Holds}
 use Rattle.pk_model.specs.Run.{Exchange, commands, RunWithin, faults}
 use Rattle.pk_call.specs.Meter.{meter, MeteredAll}
 
--- the flash holds the map after commands from the front on, and no byte was given out
+-- the flash holds the map after a prefix of the commands, and no byte was posted
 abbrev pub KeptSilently : Shape → ℕ → Map → List Command → Option ℕ → Flash → List ℕ → Type 0
 KeptSilently shape frames start cs n flash posted = (posted ≡ []) × Kept shape frames start cs n [] flash
 
@@ -23,7 +23,7 @@ pub record Ran (shape : Shape) (frames : ℕ) (start : Map) (cs : List Command) 
   pub ran : RunWithin shape frames start all left
   pub few : AtMost n (faults all)
 
--- These commands were served from one state of a board to a later one, and the flash holds the map that they left. Wherever it was cut off, it was kept.
+-- These commands were served from one state of a board to a later one, and the flash holds the map after them. Wherever it was cut, it was kept.
 pub record Asked (shape : Shape) (frames : ℕ) (start : Map) (a b : BoardState) (cs : List Command) : Type 0 where
   pub left : Map
   pub answered : Ran shape frames start cs (rise a.read_faults b.read_faults) left
@@ -35,7 +35,7 @@ pub record Asked (shape : Shape) (frames : ℕ) (start : Map) (a b : BoardState)
   pub no_stop : b.stop_faults ≡ a.stop_faults
   pub rest : OnlyFlash a b
 
--- where a byte was given out, the flash holds the map after all commands, and what was given out begins a text that is said of both maps
+-- if a byte was posted, the flash holds the map after all commands, and what was posted begins a text that is said of both maps
 pub record SaidAll (Says : List ℕ → Map → Type 0) (shape : Shape) (frames : ℕ) (start : Map) (cs : List Command) (n : Option ℕ) (flash : Flash) (posted : List ℕ) : Type 0 where
   pub left : Map
   pub answered : Ran shape frames start cs n left
@@ -45,6 +45,6 @@ pub record SaidAll (Says : List ℕ → Map → Type 0) (shape : Shape) (frames 
   pub unposted : List ℕ
   pub front : posted ++ unposted ≡ text
 
--- What every cut of a word keeps: the flash holds the map after commands of the word from the front on, and where a byte was given out, after all of them.
+-- What every cut of a word keeps: the flash holds the map after a prefix of the word's commands, and if a byte was posted, after all of them.
 abbrev pub KeptWord : (List ℕ → Map → Type 0) → Shape → ℕ → Map → List Command → Option ℕ → Flash → List ℕ → Type 0
 KeptWord Says shape frames start cs n flash posted = Kept shape frames start cs n [] flash × ((posted ≡ []) ⊎ SaidAll Says shape frames start cs n flash posted)

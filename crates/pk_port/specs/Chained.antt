@@ -37,7 +37,7 @@ WhyHalted cs p q =
     Rose p.on.board.stop_faults q.on.board.stop_faults
     ⊎ ((q.on.board.stop_faults ≡ p.on.board.stop_faults) × (q.on.stopped ≡ false) × (roots q.on.board ≤ roots p.on.board + installs cs))
 
--- One of them was not answered, and nothing was done after it. Wherever the board was cut off, the commands were kept from the first on.
+-- One of them was not answered, and nothing was done after it. Wherever the board was cut, a prefix of the commands was kept.
 pub record HaltedAt (shape : Shape) (start : Map) (cs : List Command) (p q : Standing) : Type 0 where
   pub halt : Halt
   pub is : q.halt ≡ Some halt

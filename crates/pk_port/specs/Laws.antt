@@ -1,4 +1,4 @@
--- How steps of a port compose, and what a chain of them tells a host.
+-- How steps of a port compose, and what a chain of them reports to a host.
 use Rattle.std.proofs.Common.{◌≡◌, inl, inr, refl, sym, ap, subst, ◌∙◌, arith, List, [], ◌∷◌, ◌++◌, Option, Some, None, Result, Ok, Err}
 use Rattle.std.specs.Result.{result_ok}
 use Rattle.pk_base.specs.Shape.{Shape, limit}
@@ -34,7 +34,7 @@ told_not : {A : Type 0} (r : Result Map Refusal) (m : Map) → r ≡ Ok m → re
 told_not r m e none = absurd (let h : ◌≡◌ {A = Option Map} None (Some m) = sym none ∙ ap result_ok e in cc)
 
 module _ (shape : Shape) (p q : Standing) (c : Command) where
-  -- the map that is left is that before the command or the one after it
+  -- the map afterwards is that before the command or the one after it
   abbrev OneOf : Map → Type 0
   OneOf m = (m' : Map) × (result_ok (reading shape q.on.board.pages []) ≡ Some m') × LeftBySome shape (limit shape) m (c ∷ []) m'
 

@@ -9,7 +9,7 @@ use Rattle.pk_model.specs.Sight.{Sight}
 use Rattle.pk_call.specs.Drive.{HoldsMap}
 use Rattle.pk_host.specs.Good.{IsGood, holding}
 
--- A drive that agrees with its board, with nothing pending, stands for a map of the board's shape within its limit.
+-- A drive that agrees with its board, with nothing pending, represents a map of the board's shape within its limit.
 pub record Ready (agrees : Option Shape → Flash → Type 0) (shape : Shape) (board : BoardState) (drive : Sight) : Type 0 where
   pub agreed : agrees board.shape board.pages
   pub none : drive.pending ≡ []

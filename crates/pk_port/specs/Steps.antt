@@ -22,27 +22,27 @@ use Rattle.pk_host.specs.Port.{PortState}
 use Rattle.pk_port.specs.declared.halt.Halt.{Halt}
 use Rattle.pk_port.specs.declared.halt.Halt.TheVariants.{Stopped, Worn}
 
--- What is told of a drive on its board: the board, whether the drive is stopped, and its frames.
+-- What is known of a drive on its board: the board, whether the drive is stopped, and its frames.
 pub record Mounted : Type 0 where
   pub board : BoardState
   pub stopped : Bool
   pub frames : ℕ
 
--- what is told of a drive that is seen so, on this board
+-- what is known of a drive that is seen so, on this board
 abbrev pub mount : BoardState → Sight → Mounted
 mount board drive = record { board = board; stopped = drive.stopped; frames = drive.counts.frames }
 
--- What is told of a port: the drive on its board, the count of the port's faults, and why the last of them came.
+-- What is known of a port: the drive on its board, the count of the port's faults, and why the last of them came.
 pub record Standing : Type 0 where
   pub on : Mounted
   pub faults : ℕ
   pub halt : Option Halt
 
--- what is told of a port over a drive that is seen so, on this board
+-- what is known of a port over a drive that is seen so, on this board
 abbrev pub standing : BoardState → Sight → ℕ → Option Halt → Standing
 standing board drive faults halt = record { on = mount board drive; faults = faults; halt = halt }
 
--- what a host sees of a board of this shape, behind so many faults of the port
+-- what a host sees of a board of this shape, after this many faults of the port
 abbrev pub seen : Shape → BoardState → ℕ → PortState
 seen shape board faults = record {
   map = result_ok (reading shape board.pages []);
@@ -59,7 +59,7 @@ pub record Runs (on : Mounted) : Type 0 where
   pub going : on.stopped ≡ false
   pub unworn : is_worn on.board ≡ false
 
--- A command was served, from the map that the flash held to the one that it holds now. Wherever it is cut off, the flash holds one of both.
+-- A command was served, from the map that the flash held to the one that it holds now. Wherever it is cut, the flash holds one of both.
 pub record Serves (shape : Shape) (old new : Mounted) (c : Command) (x : Exchange) : Type 0 where
   pub runs : Runs old
   pub is : x.command ≡ c
@@ -76,7 +76,7 @@ pub record Serves (shape : Shape) (old new : Mounted) (c : Command) (x : Exchang
   pub rest : OnlyFlash old.board new.board
   pub new_is : new ≡ record old { board = new.board }
 
--- A command stopped the drive. Wherever it is cut off, the flash holds the map before it or the one after it.
+-- A command stopped the drive. Wherever it is cut, the flash holds the map before it or the one after it.
 pub record Stops (shape : Shape) (old new : Mounted) (c : Command) : Type 0 where
   pub runs : Runs old
   pub map : Map
@@ -97,7 +97,7 @@ HasCause on Worn = is_worn on.board ≡ true
 abbrev pub Fails : Shape → Mounted → Mounted → Command → Halt → Type 0
 Fails shape old new c halt = ((halt ≡ Stopped) × Stops shape old new c) ⊎ (HasCause old halt × (new ≡ old))
 
--- what a drive makes of a command, with its data in front of a buffer
+-- what a drive makes of a command, with its data at the start of a buffer
 abbrev pub Makes : Shape → Mounted → Mounted → Command → Result Outcome Halt → List ℕ → Type 0
 Makes shape old new c (Ok o) into = Serves shape old new c (record { command = c; reply = reply_of o into; reads = o.reads })
 Makes shape old new c (Err halt) into = Fails shape old new c halt

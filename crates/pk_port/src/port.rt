@@ -7,7 +7,8 @@ use pk_base::Shape;
 use pk_drive::Engine;
 use pk_nand::Nand;
 
-/// A drive on its board as a port. The board is free again when the port is dropped, and stands then as the chain of `took` says.
+/// A drive on its board as a port. The board is free again when the port is dropped, and is then as
+/// the chain of `took` says.
 #[derive(Drop)]
 pub struct DrivePort<'d, 'b, 't, 'm, D: Engine, B: Nand> {
     /// The drive, stopped or with nothing pending.
@@ -16,7 +17,7 @@ pub struct DrivePort<'d, 'b, 't, 'm, D: Engine, B: Nand> {
     pub board: &'b mut B,
     /// What the port counts.
     pub tally: &'t mut Tally,
-    /// Room for the data of any command: `MOST_LIST_BYTES`, or the greatest value where that is more.
+    /// Room for the data of any command: `MOST_LIST_BYTES`, or the greatest value if that is more.
     pub buffer: &'m mut [u8],
     /// The shape of the board.
     pub shape: Shape,

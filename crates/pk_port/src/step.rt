@@ -45,7 +45,7 @@ pub fn serve<D: Engine, B: Nand>(
     value: &[u8],
     into: &mut [u8],
 ) -> Result<Outcome, Halt>
-    // The drive on its board, what is handed over, and the buffer for data.
+    // The drive on its board, what is passed, and the buffer for data.
     requires fits { Fits (D.agrees drive.old) shape.now (B.state board.old) (D.sight drive.old) }
     requires handed { IsHanded (command_of request.now value.now) }
     requires room { HasRoom shape.now into.old }
@@ -88,7 +88,7 @@ pub fn serve_lent<D: Engine, B: Nand>(
     value: &[u8],
     into: &mut [u8],
 ) -> Result<Outcome, Halt>
-    // The drive on its board, what is handed over, and the buffer for data.
+    // The drive on its board, what is passed, and the buffer for data.
     requires fits { ∥ Fits (D.agrees drive.old) shape.now (B.state board.old)
         (D.sight drive.old) ∥₁ }
     requires handed { IsHanded (command_of request.now value.now) }

@@ -15,7 +15,7 @@ use pk_host::{Completed, Port, PortFault, is_handed};
 use pk_nand::Nand;
 use pk_nvme::{Request, SUBMISSION_BYTES, completion};
 
-/// Copies the front of a buffer into the front of another.
+/// Copies the start of a buffer to the start of another.
 fn copy_front(from: &[u8], into: &mut [u8], len: usize)
     requires from { len ≤ length from.now }
     requires into { len ≤ length into.old }
@@ -24,7 +24,8 @@ fn copy_front(from: &[u8], into: &mut [u8], len: usize)
     into[..len].copy_from_slice(&from[..len]);
 }
 
-/// The completion of a command with this outcome, behind so many entries; its data come into the front of a buffer.
+/// The completion of a command with this outcome, after this many entries; its data are put at the
+/// start of a buffer.
 fn completed(
     request: &Request,
     taken: u32,

@@ -16,7 +16,7 @@ pub struct Tally {
 }
 
 impl Tally {
-    /// Nothing was handed over yet.
+    /// Nothing was passed yet.
     pub fn new() -> Tally
         ensures faults { result.faults ≡ 0 }
         ensures halt { result.halt ≡ None }

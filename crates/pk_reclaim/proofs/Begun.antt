@@ -184,7 +184,7 @@ module _ (log : LogState) (values values' : DataState) (pool pool' : Blocks) (mo
     pub dead_given : used_by for_values pool'.states + 1 ≡ used_by for_values pool.states
     dead_given = given.1
 
-    -- then no value wants a reclaim
+    -- then no value needs a reclaim
     pub dead_room : HasRoom (space log values' pool' job')
     dead_room count most =
         let less = given.1 in

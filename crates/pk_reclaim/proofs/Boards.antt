@@ -1,4 +1,4 @@
--- What the one call of a step does to a board beside its pages.
+-- What the one call of a step does to a board apart from its pages.
 use Rattle.std.proofs.Common.{◌≡◌, inl, inr, ℕ, ◌+◌, ◌*◌, ◌/◌, ◌%◌, ◌<◌, ◌≤◌, refl, sym, ap, subst, ◌∙◌, arith, List, [], div-lt_iff_lt-mul}
 use Rattle.pk_base.specs.Shape.{Shape}
 use Rattle.pk_base.specs.Page.{Flash, page_at}
@@ -94,7 +94,7 @@ low_left : (shape : Shape) (mark : Mark) (old new : BoardState) → ((k : ℕ) �
 low_left shape mark old new apart told (inl marked) k low = untouched shape mark k _ _ (apart k low) ((subst (λ (s : Shape). Interrupted s mark old.pages new.pages []) told marked.0).pages k)
 low_left shape mark old new apart told (inr none) k low = ap (λ (f : Flash). page_at f k) none.0
 
--- nor does the first page behind them share a pair with one of them
+-- nor does the first page after them share a pair with one of them
 no_partner : (n at k : ℕ) → k < 2 * n → 2 * n ≤ at → (at ≡ k + 1) × (at % n % 2 ≡ 1) → ⊥
 no_partner n at k low high is =
     let here : at ≡ 2 * n = let next = is.0 in omega (arith, low, high, next) in

@@ -77,7 +77,7 @@ module _ (log : LogState) (values : DataState) (pool : Blocks) (c : Course) (mov
   abbrev hands : Hands
   hands = hands_of values pool log.active log.epoch
 
-  -- the moves that are left, and their entries
+  -- the moves that remain, and their entries
   abbrev left_moves : List (Key × Place)
   left_moves = placed_at (moves_left values.live.heads moves)
 
@@ -301,7 +301,7 @@ module _ (log : LogState) (values : DataState) (pool : Blocks) (c : Course) (mov
     commit_room : HasRoom (space log' values' pool' job')
     commit_room = as_made (λ l p j. HasRoom (space l values' p j)) room_there
 
--- ---- the same, for all that stands before and behind
+-- ---- the same, for all that is before and after
 
 module _ (log log' : LogState) (values values' : DataState) (pool pool' : Blocks) (c : Course) (moves : List Move) (entries : List Entry) (page : List ℕ) (old new : BoardState) (top : ℕ × Root) (found : Found) (m : Map)
     (ready : IsReady old log.shape) (ready' : IsReady new log.shape) (stands : SpaceOnFlash (space_in log values pool moves entries page (Copies c)) old.pages top found m)

@@ -1,4 +1,4 @@
--- The end of a reclaim: its moves are committed, or none was left.
+-- The end of a reclaim: its moves are committed, or none remained.
 use Rattle.std.proofs.Common.{◌≡◌, ℕ, ◌+◌, ◌/◌, false, List, [], ◌∷◌, Some, refl, sym, ap, subst, ◌∙◌}
 use Rattle.std.specs.Prelude.{slice_get, slice_set}
 use Rattle.pk_base.specs.Page.{Flash, page_at, whole}
@@ -25,7 +25,7 @@ use Rattle.pk_reclaim.specs.Values.{MovesPlaced, EndPlaced}
 use Rattle.pk_reclaim.proofs.Holding.{programmed_pool, ValuesOnFlash-given, one_less}
 use Rattle.pk_reclaim.proofs.Relocating.{relocated, ValuesOnFlash-relocated}
 
--- the values behind the commit
+-- the values after the commit
 relocated_is : (c : Course) (moves : List Move) (d d' : DataState) (heads : List ℕ) → heads ≡ heads_all d.live.heads moves
     → d'.live ≡ record { block_pages = d.live.block_pages; heads = heads; closed = closed_with d.open_block (slice_set d.live.closed c.victim false) }
     → d'.open_block ≡ Some (record { block = c.output; used = c.used }) → d' ≡ relocated c moves d
@@ -61,7 +61,7 @@ moves_placed shape c job job' d d' p q active active' epoch epoch' old new es pl
     fits : PoolOnFlash p new.pages
     fits = subst (λ (f : Flash). PoolOnFlash p f) (sym pages_are) (programmed_pool shape p (next_page epoch) bytes old.pages placed.is_shape placed.shape_is (Journal, journal) placed.fits)
 
--- where no entry is left, no move is
+-- if no entry remains, no move does
 none_left : (ms : List Move) → entries_of (placed_at ms) ≡ [] → ms ≡ []
 none_left [] none = refl
 none_left (m ∷ ms) none = cc

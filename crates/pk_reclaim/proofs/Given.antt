@@ -1,4 +1,4 @@
--- A reclaim ended: no move was left, or its moves were committed before; the victim was given back.
+-- A reclaim ended: no move remained, or its moves were committed before; the victim was given back.
 use Rattle.std.proofs.Common.{◌≡◌, inl, ℕ, ◌+◌, ◌-◌, ◌*◌, ◌≤◌, refl, sym, ap, subst, ◌∙◌, arith, true, false, List, [], Option, Some}
 use Rattle.std.proofs.lemmas.Bool.{le-leb}
 use Rattle.pk_base.specs.Key.{Key}
@@ -119,7 +119,7 @@ module _ (log log' : LogState) (values values' : DataState) (pool pool' : Blocks
       fits_need (fits_open shape values' count) (data_blocks shape - 1) (used_by for_values pool'.states)
       (output_fits shape values' c.output c.used count stands.placed.is_shape (ap (λ (h : Hands). h.front) e.hands) used_few most))
 
--- ---- the giving back behind the commit
+-- ---- the giving back after the commit
 
 module _ (log log' : LogState) (values values' : DataState) (pool pool' : Blocks) (victim : ℕ) (moves : List Move) (entries : List Entry) (page : List ℕ) (old new : BoardState) (top : ℕ × Root) (found : Found) (m : Map)
     (stands : SpaceOnFlash (space_in log values pool moves entries page (GivesBack victim)) old.pages top found m) (log_is : log' ≡ record log { active = log'.active; epoch = log'.epoch }) (job' : JobState) (r : Reclaimed)

@@ -53,7 +53,7 @@ module _ (log : LogState) (values : DataState) (pool pool' : Blocks) (job job' :
     pub kept_values : OnErr result ((front' ≡ values.open_block) × (live' ≡ values.live)
         ⊎ (job.phase ≡ Idle) × (victim : ℕ) × Chooses job.shape values.live values.open_block live' front' victim)
 
-  -- where none runs, no read can fail
+  -- if none runs, no read can fail
   idle_stops : (phase : Phase) (e : Fault) → phase ≡ Idle → BreaksIn phase job hands old new e → e ≡ Stopped
   idle_stops Idle e is b = b.0
   idle_stops (Copies c) e is b = cc

@@ -36,7 +36,7 @@ state_of live open_block = record { live = live; open_block = open_block }
 
 -- ---- the open block is closed
 
--- the values where the open block is closed, if there is one
+-- the values if the open block is closed, if there is one
 abbrev pub closing : DataState → DataState
 closing d = record { live = record d.live { closed = closed_with d.open_block d.live.closed }; open_block = None }
 

@@ -75,7 +75,7 @@ module _ (shape : Shape) (flash : Flash) (top : ℕ × Root) (found : Found) (m 
   pub live_few : (d : DataState) (pool : Blocks) (outputs : List ℕ) → ValuesOnFlash shape d pool outputs flash (places found []) → sum d.live.heads ≤ limit shape
   live_few d pool outputs placed = subst (λ (n : ℕ). n ≤ limit shape) (sym (total_of shape d pool outputs flash (places found []) placed)) pages_few
 
--- one map has as many keys, wherever its values lie
+-- one map has as many keys, wherever its values are
 pub as_many_known : (shape : Shape) (old new : Flash) (top : ℕ × Root) (found then_found : Found) (m : Map) → IsShape shape → IsFlash shape old → IsFlash shape new → IsUnder shape old [] top found m → IsUnder shape new [] top then_found m
     → length (places then_found []) ≡ length (places found [])
 as_many_known shape old new top found then_found m is_shape is_old is_new was now =

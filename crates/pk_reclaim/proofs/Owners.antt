@@ -19,7 +19,7 @@ use Rattle.pk_data.specs.Placed.{HoldsValues}
 use Rattle.pk_reclaim.specs.Steps.{KeepsOthers}
 use Rattle.pk_reclaim.proofs.Quiet.{NamesOwned, IsAside}
 
--- the blocks of the journal and of runs are the same ones, and where no block leaves, none does
+-- the blocks of the journal and of runs are the same ones, and if no block leaves, none does
 pub record SameOwners (pool pool' : Blocks) : Type 0 where
   pub shape_is : pool'.shape ≡ pool.shape
   pub journal : (b : ℕ) → slice_get pool.states b ≡ Some (Owned Journal) → slice_get pool'.states b ≡ Some (Owned Journal)
@@ -90,7 +90,7 @@ held_aside pool b held = record { no_journal = λ is. cc; no_meta = λ is. cc }
 pub names_stay : (pool pool' : Blocks) (root : Root) → SameOwners pool pool' → NamesOwned pool root → NamesOwned pool' root
 names_stay pool pool' root same names = record { journal = λ b is. same.journal b (names.journal b is); runs = λ b is. same.meta b (names.runs b is) }
 
--- where neither a root page nor one of theirs differs
+-- if neither a root page nor one of theirs differs
 pub others_kept : (shape : Shape) (root : Root) (pool : Blocks) (old : Flash) (pool' : Blocks) (new : Flash) → SameOwners pool pool'
     → ((k : ℕ) → k < 2 * shape.block_pages → page_at new k ≡ page_at old k)
     → ((k : ℕ) → slice_get pool.states (k / shape.block_pages) ≡ Some (Owned Meta) → page_at new k ≡ page_at old k)

@@ -1,4 +1,4 @@
--- The pages of a commit of the newest epoch lie behind the root blocks, in blocks of the journal.
+-- The pages of a commit of the newest epoch are after the root blocks, in blocks of the journal.
 use Rattle.std.proofs.Common.{◌≡◌, inl, inr, ℕ, ◌+◌, ◌*◌, ◌/◌, ◌<◌, ◌≤◌, sym, subst, ◌∙◌, arith, Some}
 use Rattle.std.specs.Prelude.{slice_get}
 use Rattle.std.proofs.lemmas.Bool.{cases_eq}

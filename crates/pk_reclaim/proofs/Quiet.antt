@@ -44,11 +44,11 @@ aside_unnamed pool root b names aside is = elim (in_append b (root.newest ++ roo
   | inr second ↦ aside.no_meta (names.runs b second)
 ]
 
--- a page below the first block behind the root blocks lies in none behind them
+-- a page below the first block after the root blocks is in none after them
 pub low_block : (n k b : ℕ) → 0 < n → k < 2 * n → 2 ≤ b → k / n ≡ b → ⊥
 low_block n k b some low behind here = let less : k / n < 2 = (div-lt_iff_lt-mul some).1 low in omega (arith, less, behind, here)
 
--- The log stands on the pages of a board, whose map this is; the block is aside, behind the root blocks, and no value is read of it.
+-- The log matches the pages of a board, whose map this is; the block is aside, after the root blocks, and no value is read of it.
 pub record IsQuiet (log : LogState) (pool : Blocks) (old : BoardState) (top : ℕ × Root) (found : Found) (m : Map) (b : ℕ) : Type 0 where
   pub has : old.shape ≡ Some log.shape
   pub logs : LogOnFlash log old.pages top found

@@ -1,4 +1,4 @@
--- A step can be made where the space of a drive stands on a flash.
+-- A step can be made if the space of a drive matches a flash.
 use Rattle.std.proofs.Common.{◌≡◌, inl, inr, ℕ, ◌+◌, ◌-◌, ◌*◌, ◌<◌, refl, sym, ap, subst, ◌∙◌, arith, true, false, T, List, [], ◌∷◌, ◌++◌, length, reverse, Option, Some, None}
 use Rattle.std.specs.Prelude.{MatchOption}
 use Rattle.std.specs.FinMap.Entries.{is_sorted}
@@ -101,7 +101,7 @@ module _ (log : LogState) (values : DataState) (pool : Blocks) (moves : List Mov
       read = values_known log.shape flash top found m stands.under;
     }
 
-    -- where no value is left to be copied
+    -- if no value remains to be copied
     module _ (whole : c.left ≡ 0) (dead : AreDead values.live.heads (source log.shape c) (c.victim * log.shape.block_pages + log.shape.block_pages)) where
       pub is_copied : IsCopied log.shape c moves page values.live.heads flash es
       is_copied = record {

@@ -45,7 +45,7 @@ module _ (shape : Shape) (d : DataState) (p : Blocks) (outputs : List ℕ) (flas
       let same : Owned for_values ≡ Free = get-set_same p.states b Free (Owned for_values) (subst (λ k. HoldsValues then_pool k) e is) in cc in
       (other, sym (get-set_other p.states b c Free other) ∙ is)
 
-  -- no page of a value lies in the block
+  -- no page of a value is in the block
   empty_has_none : count_of d.live b ≡ 0 → (k : ℕ) → IsValuePage shape es k → k / shape.block_pages ≢ b
   empty_has_none empty k is here =
       let exists : b < shape.blocks = omega (arith, slice_get_within p.states b (Owned for_values) held, placed.size) in

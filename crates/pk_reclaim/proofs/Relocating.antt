@@ -42,7 +42,7 @@ use Rattle.pk_data.proofs.Heads.{AreLive, live_moved}
 
 -- ---- the heads
 
--- A move to a place, of a value that is found where it came from if it is left.
+-- A move to a place, of a value that is found where it came from if it remains.
 record IsRelocation (shape : Shape) (heads : List ℕ) (es : List (Key × Place)) (m : Move) : Type 0 where
   is_place : IsPlace shape (new_place m)
   count_is : m.count ≡ charge shape m.len
@@ -52,7 +52,7 @@ module _ (shape : Shape) (is_shape : IsShape shape) (victim output : ℕ) (other
   abbrev n : ℕ
   n = shape.block_pages
 
-  -- behind a move that is left, those that come from later pages are left as before, and their values are where they were
+  -- after a move that remains, those that come from later pages remain as before, and their values are where they were
   later : (heads : List ℕ) (es : List (Key × Place)) (m : Move) (old : Place) (ms : List Move) → find key_cmp m.key es ≡ Some old → old.page ≡ m.from → InBlocks n victim output m
       → AllByRecursion (InBlocks n victim output) ms → AllByRecursion (λ x. m.from + m.count ≤ x.from) ms → AllByRecursion (IsRelocation shape heads es) ms
       → AllByRecursion (IsRelocation shape (heads_behind heads m) (put key_cmp m.key (new_place m) es)) ms
@@ -78,7 +78,7 @@ module _ (shape : Shape) (is_shape : IsShape shape) (victim output : ℕ) (other
       not_tied a b c true never is = absurd (never refl)
       not_tied a b c false never is = is
 
-  -- the heads behind the moves are those of the moved values
+  -- the heads after the moves are those of the moved values
   all_live : (heads : List ℕ) (es : List (Key × Place)) (ms : List Move) → AreLive shape heads es → T (is_sorted key_cmp es) → AllByRecursion (InBlocks n victim output) ms → AreInOrder ms
       → AllByRecursion (IsRelocation shape heads es) ms → MovesApart shape (placed_at ms) → ((k : ℕ) → IsValuePage shape (placed_at ms) k → IsValuePage shape es k → ⊥)
       → AreLive shape (heads_all heads ms) (moved (placed_at (left_of heads ms)) es)
@@ -118,7 +118,7 @@ open_owned : (shape : Shape) (p : Blocks) (flash : Flash) (o : Option OpenBlock)
 open_owned shape p flash None b open_is here = absurd here
 open_owned shape p flash (Some o) b open_is here = (subst (λ k. HoldsValues p k) (sym here) open_is.owned, subst (λ k. k < shape.blocks) (sym here) open_is.exists)
 
--- what is closed where the open block is closed
+-- what is closed if the open block is closed
 was_closed : (o : Option OpenBlock) (closed : List Bool) (b : ℕ) → IsNotOpen o b → slice_get (closed_with o closed) b ≡ Some true → slice_get closed b ≡ Some true
 was_closed None closed b other is = is
 was_closed (Some o) closed b other is = sym (get-set_other closed o.block b true other) ∙ is
@@ -139,7 +139,7 @@ length-closed_with (Some o) closed = length-set closed o.block true
 not_again : (closed : List Bool) (b : ℕ) → slice_get (set closed b false) b ≡ Some true → ⊥
 not_again closed b is = let clash : true ≡ false = get-set_same closed b false true is in cc
 
--- the values where the moves are made, the victim is closed no more, and the output is the open block
+-- the values if the moves are made, the victim is closed no more, and the output is the open block
 abbrev pub relocated : Course → List Move → DataState → DataState
 relocated c moves d = record {
   live = record { block_pages = d.live.block_pages; heads = heads_all d.live.heads moves; closed = closed_with d.open_block (set d.live.closed c.victim false) };
@@ -157,7 +157,7 @@ module _ (shape : Shape) (c : Course) (job : JobState) (d : DataState) (h : Hand
   heads_are : (k : ℕ) → slice_index d.live.heads k ≡ head_of shape es k
   heads_are k = ap (λ (v : Values). slice_index v.heads k) (sym live_is) ∙ give.copied.heads_are k
 
-  -- the value of a move that is left
+  -- the value of a move that remains
   relocations : (ms : List Move) → AllByRecursion (IsMove shape c flash es) ms → AllByRecursion (IsRelocation shape d.live.heads es) ms
   relocations [] all = tt
   relocations (m ∷ ms) all = (
@@ -173,7 +173,7 @@ module _ (shape : Shape) (c : Course) (job : JobState) (d : DataState) (h : Hand
     relocations ms all.1,
   )
 
-  -- a page of a copy lies in the part of the output that is written
+  -- a page of a copy is in the part of the output that is written
   record IsCopied (k : ℕ) : Type 0 where
     low : c.output * shape.block_pages ≤ k
     high : k < target shape c
@@ -197,7 +197,7 @@ module _ (shape : Shape) (c : Course) (job : JobState) (d : DataState) (h : Hand
       all_live shape runs.is_shape c.victim c.output runs.other d.live.heads es job.moves (record { places = placed.places; apart = placed.apart; heads_are = placed.heads_are }) give.copied.rising blocks runs.order
       (relocations job.moves runs.moves_are) runs.apart (λ k here there. runs.free k (copied_page job.moves k runs.moves_are here).block there)
 
-  -- a page of a value lies in the output, or where it lay
+  -- a page of a value is in the output, or where it lay
   page_is : (k : ℕ) → IsValuePage shape (moved (placed_at (left_of d.live.heads job.moves)) es) k → IsCopied k ⊎ IsValuePage shape es k
   page_is k is = elim (page_moved shape (placed_at (left_of d.live.heads job.moves)) es k is) [
     | inl new ↦ inl (copied_page job.moves k runs.moves_are (page_left d.live.heads shape job.moves k new))

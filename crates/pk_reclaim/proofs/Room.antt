@@ -19,7 +19,7 @@ and_no : (b : Bool) → (b && false) ≡ false
 and_no true = refl
 and_no false = refl
 
--- where more than one block is left for values, none wants a reclaim
+-- if more than one block remains for values, none requires a reclaim
 pub no_need : (fits : Bool) (a used : ℕ) → used < a → (not fits && nat_le a used) ≡ false
 no_need fits a used less = ap (λ (b : Bool). not fits && b) (lt-leb a used less) ∙ and_no (not fits)
 
@@ -51,7 +51,7 @@ tight_if active k most cap (suc left) none few = elim (cases_lt cap (active + k)
   | inr enough ↦ absurd (none (enough, omega arith))
 ]
 
--- where the moves have no room, the active buffer or the epoch is tight
+-- if the moves have no room, the active buffer or the epoch is tight
 pub tight_known : (shape : Shape) (active : Table) (e : JournalEpoch) (heads : List ℕ) (ms : List Move) → active.capacity ≡ buffer shape → length ms ≤ dense shape → (MovesHaveRoom active e (entries_left heads ms) → ⊥)
     → is_tight shape (length active.entries) (left_of e) ≡ true
 tight_known shape active e heads ms capacity few none =
@@ -60,7 +60,7 @@ tight_known shape active e heads ms capacity few none =
     tight_if (length active.entries) (new_keys active (entries_left heads ms)) (dense shape) (buffer shape) (left_of e)
     (λ room. none (subst (λ (n : ℕ). length active.entries + new_keys active (entries_left heads ms) ≤ n) (sym capacity) room.0, room.1)) (omega (arith, least, counted, few))
 
--- behind a freeze it is not
+-- after a freeze it is not
 pub freeze_makes_room : FreezeMakesRoom
 freeze_makes_room shape active e is_shape none same unused more =
     let left : left_of e ≡ epoch_commits shape - 0 = λ i. cond (more i) (epoch_commits (same i) - unused i) 0 in

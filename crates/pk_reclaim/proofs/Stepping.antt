@@ -64,7 +64,7 @@ module _ (log log' : LogState) (values values' : DataState) (pool pool' : Blocks
   can : (phase : Phase) → Somewhere (before phase) old → CanStep (job_in log moves entries page phase) hands old.pages
   can phase s = can_step_in log values pool moves entries page old.pages s.top s.found s.m phase ready.flash s.may
 
-  -- less is left
+  -- less remains
   falls : (phase : Phase) (r : Reclaimed) → Somewhere (before phase) old → StepsIn phase (job_in log moves entries page phase) hands old job' hands' new r → r ≢ NeedsFreeze → Falls (before phase) after
   falls phase r s steps other =
       let less = step_lowers (job_in log moves entries page phase) hands old job' hands' new r (can phase s) steps other in

@@ -1,4 +1,4 @@
--- A board on which no page differs: map, log and blocks stay as they are.
+-- A board on which no page differs: map, log and blocks are unchanged.
 use Rattle.std.proofs.Common.{◌≡◌, ℕ, refl, sym, ap, [], append-nil}
 use Rattle.pk_base.specs.Page.{Flash, page_at}
 use Rattle.pk_base.specs.Map.{Map}
@@ -15,7 +15,7 @@ use Rattle.pk_reclaim.specs.Steps.{SpaceMoves, StillIn}
 use Rattle.pk_reclaim.proofs.Owners.{SameOwners, others_kept}
 use Rattle.pk_reclaim.proofs.Quiet.{NamesOwned}
 
--- no page differs, nothing was given out, and no mark was made
+-- no page differs, nothing was posted, and no mark was made
 pub record IsStill (old new : BoardState) : Type 0 where
   pub shape : new.shape ≡ old.shape
   pub pages : new.pages ≡ old.pages

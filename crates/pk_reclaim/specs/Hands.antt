@@ -5,6 +5,6 @@ use Rattle.pk_jrn.specs.Epochs.{JournalEpoch}
 use Rattle.pk_gc.specs.Stepping.{Hands}
 use Rattle.pk_data.specs.State.{DataState}
 
--- the live values and the open block, with the parts beside them
+-- the live values and the open block, with the parts next to them
 abbrev pub hands_of : DataState → Blocks → Table → JournalEpoch → Hands
 hands_of d pool active epoch = record { live = d.live; front = d.open_block; pool = pool; active = active; epoch = epoch }

@@ -5,7 +5,7 @@ use Rattle.pk_work.specs.Backlog.{is_tight}
 use Rattle.pk_buf.specs.Table.{Table}
 use Rattle.pk_jrn.specs.Epochs.{JournalEpoch, left_of}
 
--- behind a freeze there is room for the moves of a reclaim
+-- after a freeze there is room for the moves of a reclaim
 abbrev pub FreezeMakesRoom : Type 0
 FreezeMakesRoom =
     (shape : Shape) (active : Table) (e : JournalEpoch) → IsShape shape → active.entries ≡ [] → e.shape ≡ shape → e.used ≡ 0 → e.takes_more ≡ true

@@ -38,11 +38,11 @@ pub record Space : Type 0 where
 abbrev pub space : LogState → DataState → Blocks → JobState → Space
 space log values pool job = record { log = log; values = values; pool = pool; job = job }
 
--- no value wants a reclaim before it
+-- no value needs a reclaim before it
 abbrev pub HasRoom : Space → Type 0
 HasRoom x = (count : ℕ) → count ≤ most_pages x.log.shape → needs_reclaim x.log.shape x.values x.pool count ≡ false
 
--- The commit of a reclaim's moves is half made: before its first program the map stood on a former flash, without the moves, and the second
+-- The commit of a reclaim's moves is half made: before its first program the map was on a former flash, without the moves, and the second
 -- program can be made. There is room for every value.
 pub record HalfMoves (x : Space) (flash : Flash) (top : ℕ × Root) (found : Found) (m : Map) : Type 0 where
   pub former : Flash
@@ -62,7 +62,7 @@ HalfIn (Copies c) x flash top found m = x.log.epoch.half ≡ false
 HalfIn (Commits victim) x flash top found m = HalfMoves x flash top found m
 HalfIn (GivesBack victim) x flash top found m = x.log.epoch.half ≡ false
 
--- The log stands on the flash, whose map this is, with nothing pending. The values lie in blocks of their own, beside them a reclaim as far
+-- The log matches the flash, whose map this is, with nothing pending. The values are in blocks of their own, next to them a reclaim as far
 -- as it has come, and the root names blocks of the journal and of runs alone. No block leaves.
 pub record SpaceOnFlash (x : Space) (flash : Flash) (top : ℕ × Root) (found : Found) (m : Map) : Type 0 where
   pub logs : LogOnFlash x.log flash top found
@@ -84,16 +84,16 @@ pub record MayReclaim (x : Space) (flash : Flash) (top : ℕ × Root) (found : F
   pub stands : SpaceOnFlash x flash top found m
   pub turn : IsTurn x
 
--- ---- what is left of it
+-- ---- what remains of it
 
--- what is left before a step: a whole reclaim where none runs, but for two steps, which a block that is taken counts
+-- what remains before a step: a whole reclaim if none runs, but for two steps, which a block that is taken counts
 abbrev pub left_before : Space → ℕ
 left_before x = left_of (whole_reclaim x.log.shape - 2) (left_in x.log.shape x.values.live.heads x.job.phase)
 
--- and behind it: nothing where none runs
+-- and after it: nothing if none runs
 abbrev pub left_behind : Space → ℕ
 left_behind x = unwrap_or (left_in x.log.shape x.values.live.heads x.job.phase) 0
 
--- less is left, where a block that is taken counts twice
+-- less remains, if a block that is taken counts twice
 abbrev pub Falls : Space → Space → Type 0
 Falls x x' = Lowers (left_before x) (unready x.pool.states) (left_behind x') (unready x'.pool.states)

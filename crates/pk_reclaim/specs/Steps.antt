@@ -35,7 +35,7 @@ use Rattle.pk_reclaim.specs.Space.{Space, SpaceOnFlash, MayReclaim, Falls, HasRo
 abbrev pub with_newest : Found → List Entry → Found
 with_newest found newest = record found { newest = newest }
 
--- What is not for values stays as it was: the blocks of the journal and of runs, all pages of runs and root blocks, and those of the journal
+-- What is not for values is unchanged: the blocks of the journal and of runs, all pages of runs and root blocks, and those of the journal
 -- but for the newest epoch.
 pub record KeepsOthers (shape : Shape) (root : Root) (pool : Blocks) (old : Flash) (pool' : Blocks) (new : Flash) : Type 0 where
   pub shape_is : pool'.shape ≡ pool.shape
@@ -67,7 +67,7 @@ pub record SpaceMoves (x : Space) (old : BoardState) (top : ℕ × Root) (found 
   pub others : KeepsOthers x.log.shape top.1 x.pool old.pages x'.pool new.pages
   pub cuts : Reaches x.log.shape old new (CrashFinds x.log.shape background old.pages m)
 
--- for whatever stands there
+-- for whatever is there
 abbrev pub Moves : Space → BoardState → Space → BoardState → Type 0
 Moves x old x' new = (top : ℕ × Root) (found : Found) (m : Map) → MayReclaim x old.pages top found m → SpaceMoves x old top found m x' new
 
@@ -123,7 +123,7 @@ pub record Works (x : Space) (old : BoardState) (x' : Space) (new : BoardState) 
   pub room : RoomIn x'.job.phase x'
   pub pair : PairIn x.job.phase x x'
 
--- where the moves were committed before, the log is the same, and values lie as they did; otherwise there is room for every value
+-- if the moves were committed before, the log is the same, and values are where they were; otherwise there is room for every value
 abbrev pub RoomBehind : Phase → Space → Space → Type 0
 RoomBehind Idle x x' = HasRoom x'
 RoomBehind (Copies c) x x' = HasRoom x'

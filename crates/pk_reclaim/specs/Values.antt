@@ -1,4 +1,4 @@
--- What the steps of a reclaim make of placed values: the statements. How the steps change live map, open block and pool is told by pk_gc.
+-- What the steps of a reclaim make of placed values: the statements. How the steps change live map, open block and pool is stated by pk_gc.
 use Rattle.std.specs.Prelude.{◌≡◌, ℕ, ◌+◌, ◌/◌, List, [], ◌∷◌, Some, slice_get}
 use Rattle.pk_base.specs.Key.{Key}
 use Rattle.pk_base.specs.Shape.{Shape}
@@ -42,8 +42,8 @@ CopyProgrammed =
     (shape : Shape) (d : DataState) (p : Blocks) (output page : ℕ) (bytes : List ℕ) (flash : Flash) (es : List (Key × Place)) → ValuesOnFlash shape d p (output ∷ []) flash es
     → page / shape.block_pages ≡ output → ValuesOnFlash shape d p (output ∷ []) (after shape (program page bytes) flash) es
 
--- The first program of the commit of the moves that were left was made: the values are at their new places, the output is the open block, and
--- the victim is held in its stead.
+-- The first program of the commit of the remaining moves was made: the values are at their new places, the output is the open block, and the
+-- victim is held in its stead.
 abbrev pub MovesPlaced : Type 0
 MovesPlaced =
     (shape : Shape) (c : Course) (job job' : JobState) (d d' : DataState) (p q : Blocks) (active active' : Table) (epoch epoch' : JournalEpoch) (old new : BoardState) (es : List (Key × Place))
@@ -52,7 +52,7 @@ MovesPlaced =
     → slice_get p.states (next_page epoch / shape.block_pages) ≡ Some (Owned Journal)
     → ValuesOnFlash shape d' q (c.victim ∷ []) new.pages (moved (placed_at (left_of d.live.heads job.moves)) es)
 
--- No move was left: the output is the open block, and the victim was given back.
+-- No move remained: the output is the open block, and the victim was given back.
 abbrev pub EndPlaced : Type 0
 EndPlaced =
     (shape : Shape) (c : Course) (job job' : JobState) (d d' : DataState) (p q : Blocks) (active active' : Table) (epoch epoch' : JournalEpoch) (old new : BoardState) (es : List (Key × Place))

@@ -2,12 +2,12 @@
 ghost use Rattle.pk_reclaim.specs.Laws.{FreezeMakesRoom};
 ghost use Rattle.pk_reclaim.specs.Values.{OutputTaken, DeadGivenBack, CopyProgrammed, MovesPlaced, EndPlaced, VictimGivenBack};
 
-/// Behind a freeze the moves of a reclaim find room: a step that wanted the freeze wants none then.
+/// After a freeze the moves of a reclaim find room: a step that needed the freeze needs none then.
 pub fn behind_freeze()
     ensures { FreezeMakesRoom }
 {}
 
-/// Values stay placed behind each step of a reclaim, with the block that it holds from then on.
+/// Values remain placed after each step of a reclaim, with the block that it holds from then on.
 pub fn values_stay()
     ensures output { OutputTaken }
     ensures dead { DeadGivenBack }

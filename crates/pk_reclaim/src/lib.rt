@@ -1,7 +1,7 @@
-//! The reclaims of a drive, which make room for values, over its journal, its values and its blocks, in steps of at most one call
-//! of the board.
+//! The reclaims of a drive, which make room for values, over its journal, its values and its
+//! blocks, in steps of at most one flash operation.
 //!
-//! The map is the same, wherever a step is cut, also where the places of its values are new ones.
+//! The map is the same wherever a step is cut, also if the places of its values are new ones.
 #![tactic(auto)]
 
 mod laws;

@@ -18,12 +18,13 @@ use pk_nand::{Fault, Nand};
 use pk_pool::Pool;
 use pk_region::Region;
 
-/// One step of a reclaim, by at most one call of the board: it begins where none runs, a page of the victim is read, or
-/// programmed into the output, the first or the second program of the moves' commit is made, or the victim is given back. Behind
-/// the first program the step is the second one alone, which a Store or a Delete makes before its own entry. `NeedsFreeze` where
-/// the moves find no room in the active buffer or the newest epoch: nothing was done, and after a freeze the step is to be made
-/// again. `Reading` where a read fails: all is as it was, and the step can be made again. `Stopped` where a program or an erase
-/// fails; nothing is to be used any more then.
+/// One step of a reclaim, by at most one flash operation: it begins if none runs, a page of the
+/// victim is read, or programmed into the output, the first or the second program of the moves'
+/// commit is made, or the victim is given back. After the first program the step is the second one
+/// alone, which a Store or a Delete makes before its own entry. `NeedsFreeze` if the moves find no
+/// room in the active buffer or the newest epoch: nothing was done, and after a freeze the step is
+/// to be made again. `Reading` if a read fails: nothing has changed, and the step can be made
+/// again. `Stopped` if a program or an erase fails; nothing may be used after that.
 pub fn reclaim_step<B: Nand, A: Region>(
     board: &mut B,
     job: &mut ReclaimJob<A>,
@@ -37,7 +38,7 @@ pub fn reclaim_step<B: Nand, A: Region>(
         × MayReclaim (space log.old values.old pool.old job.old) (B.state board.old).pages top
         found m }
 
-    // A step was made, or wants a freeze before it.
+    // A step was made, or needs a freeze before it.
     ensures does { IfOk result (λ r. Does (space log.old values.old pool.old job.old)
         (B.state board.old) (space log.new values.new pool.new job.new) (B.state board.new) r) }
 

@@ -25,7 +25,7 @@ use Rattle.pk_root.specs.Installing.{other_block, next_behind, before_pair, IsPo
 use Rattle.pk_root.proofs.Scanning.{root_page_exists}
 use Rattle.pk_root.proofs.Places.{block_below, page_below, not_other, set_back}
 
--- ---- pages behind the root blocks
+-- ---- pages after the root blocks
 
 -- a mark in a root block leaves them
 pub behind_block : (shape : Shape) (mark : Mark) (k block : ℕ) (old new : Page) → 0 < shape.block_pages → touched_block shape mark ≡ Some block → block < 2 → 2 * shape.block_pages ≤ k
@@ -35,7 +35,7 @@ behind_block shape mark k block old new some touched low high =
 
 -- ---- erases
 
--- the board stays ready where an erase fails
+-- the board stays ready if an erase fails
 pub IsReady-erase_failed : (board new : BoardState) (shape : Shape) (block : ℕ) → EraseFailed board new block → IsReady board shape → IsReady new shape
 IsReady-erase_failed board new shape block failed ready = record {
   shape_is = ap (λ s. s.shape) failed.rest ∙ ready.shape_is;
@@ -70,7 +70,7 @@ module _ (law : RootErase) (shape : Shape) (board : BoardState) (beside : ℕ) (
   pub erase_went : (new : BoardState) → EraseFailed board new block → Went board new (λ cut _. KeepsRoot shape board.pages cut)
   erase_went new failed = Went-erase_failed board (λ cut _. KeepsRoot shape board.pages cut) new block failed within erase_done
 
-  -- where it failed
+  -- if it failed
   pub erase_left : (new : BoardState) → EraseFailed board new block → KeepsRoot shape board.pages new.pages
   erase_left new failed = elim failed.left [
     | inl marked ↦ within new.pages marked.0
@@ -90,7 +90,7 @@ module _ (law : RootErase) (shape : Shape) (board : BoardState) (beside : ℕ) (
 
 -- ---- programs
 
--- a pair whose first page is even in its block lies in it
+-- a pair whose first page is even in its block is in it
 even_room : (shape : Shape) (page : ℕ) → IsShape shape → page % shape.block_pages % 2 ≡ 0 → page % shape.block_pages + 1 < shape.block_pages
 even_room shape page is even =
     let least = is.block_least in
@@ -134,7 +134,7 @@ went_installs shape page top bytes root start law install old new run = (
   },
 )
 
--- where a call stopped, its flash is a cut
+-- if a call stopped, its flash is a cut
 went_left : (old new : BoardState) (P : Flash → Type 0) → Went old new (λ f _. P f) → P new.pages
 went_left old new P run = run.1.cuts new.pages _ run.1.stands
 
@@ -177,7 +177,7 @@ module _ (shape : Shape) (board : BoardState) (page : ℕ) (top : ℕ × Root) (
     };
   }
 
--- behind a root in a pair that was programmed
+-- after a root in a pair that was programmed
 possible_behind : (shape : Shape) (flash : Flash) (page : ℕ) (bytes : List ℕ) (root : Root) (t : Bool) → nat_lt (page % shape.block_pages + 2) shape.block_pages ≡ t → IsShape shape
     → page + 1 < length flash → page + 1 < 2 * shape.block_pages → page % shape.block_pages % 2 ≡ 0 → InOrder shape flash (page + 1)
     → IsPossible shape (if t then Program (page + 2) else Erase page) (page, root) (set flash (page + 1) (whole bytes))
@@ -217,7 +217,7 @@ module _ (shape : Shape) (board : BoardState) (page at : ℕ) (root : Root) (is_
   second_free = fits.possible.order.behind (page + 1) (le_refl (page + 1)) (let one : (page + 1) % shape.block_pages ≡ page % shape.block_pages + 1 = mod-add page 1 shape.block_pages (even_room shape page is_shape again_install.even) in
       let r = even_room shape page is_shape again_install.even in omega (arith, one, r))
 
-  -- what stands before the second program is a cut of the pair
+  -- what is there before the second program is a cut of the pair
   pub again_start : IsPairCut page bytes start board.pages
   again_start = record {
     outside = record {
@@ -229,7 +229,7 @@ module _ (shape : Shape) (board : BoardState) (page at : ℕ) (root : Root) (is_
     second = inr (inl second_free);
   }
 
-  -- the root is the newest one still, and what is behind its pair is next
+  -- the root is still the newest one, and what follows its pair is next
   pub again_fits : (new : BoardState) → new ≡ after_program board (page + 1) bytes → IsPairCut page bytes start new.pages → InstallerOnFlash shape (next_behind shape page) (page, root) new.pages
   again_fits new made is_cut =
       let still : page_at new.pages page ≡ whole bytes = ap (λ (b : BoardState). page_at b.pages page) made ∙ page_at-slice_set board.pages (page + 1) page (whole bytes) (λ e. omega (arith, e)) ∙ fits.possible.here in
@@ -239,7 +239,7 @@ module _ (shape : Shape) (board : BoardState) (page at : ℕ) (root : Root) (is_
             (possible_behind shape board.pages page bytes root (nat_lt (page % shape.block_pages + 2) shape.block_pages) refl is_shape again_exists again_install.in_root_blocks again_install.even fits.possible.order);
       }
 
-  -- no page behind the root blocks differs
+  -- no page after the root blocks differs
   pub again_behind : (f : Flash) → IsPairCut page bytes start f → SameBehind shape board.pages f
   again_behind f is_cut k high =
       let below = again_install.in_root_blocks in

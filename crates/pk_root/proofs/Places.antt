@@ -1,4 +1,4 @@
--- Where the pages of the root blocks lie, and what changes behind them leave.
+-- Where the pages of the root blocks are, and what changes after them leave.
 use Rattle.std.proofs.Common.{◌≡◌, ◌≢◌, ℕ, zero, suc, ◌+◌, ◌-◌, ◌*◌, ◌/◌, ◌%◌, ◌<◌, ◌≤◌, refl, sym, ap, ◌∙◌, arith, inl, inr, List, [], ◌∷◌, length, slice_set, mod-lt, Some}
 use Rattle.std.proofs.Math.Nat.{mul-le-mul_right, div-lt_iff_lt-mul}
 use Rattle.std.proofs.lemmas.Nat.{div-add-mod'}
@@ -22,7 +22,7 @@ pub some_pages : (n page : ℕ) → page < 2 * n → 0 < n
 some_pages zero page less = absurd (omega (arith, less))
 some_pages (suc n) page less = omega arith
 
--- a page of the root blocks lies in block 0 or 1
+-- a page of the root blocks is in block 0 or 1
 pub block_below : (n page : ℕ) → page < 2 * n → page / n < 2
 block_below n page less = (div-lt_iff_lt-mul {k = n} {x = page} {y = 2} (some_pages n page less)).1 less
 
@@ -34,14 +34,14 @@ page_below n page some less = (div-lt_iff_lt-mul {k = n} {x = page} {y = 2} some
 pub not_other : (n page : ℕ) → page < 2 * n → page / n ≢ 1 - page / n
 not_other n page less same = let low = block_below n page less in omega (arith, low, same)
 
--- its block ends where the root blocks end, or before
+-- its block ends if the root blocks end, or before
 pub block_end : (n page : ℕ) → page < 2 * n → page - page % n + n ≤ 2 * n
 block_end n page less =
     let low : page / n < 2 = block_below n page less in
     let whole : page / n * n + page % n ≡ page = div-add-mod' page n in
     omega (arith, whole, mul-le-mul_right {m = page / n} {n = 1} n (omega (arith, low)))
 
--- its block ends behind it
+-- its block ends after it
 pub in_block : (n page : ℕ) → page < 2 * n → page < page - page % n + n
 in_block n page less = let rest : page % n < n = mod-lt page (some_pages n page less) in omega (arith, rest)
 
@@ -51,7 +51,7 @@ first_below n block some low = omega (arith, some, mul-le-mul_right {m = block} 
 
 -- ---- installers
 
--- behind the page of the newest root
+-- after the page of the newest root
 pub InstallerOnFlash-after : (shape : Shape) (flash : Flash) (page : ℕ) (root : Root) → newest_root shape (page_at flash) ≡ Some (page, root) → InstallerOnFlash shape (Erase page) (page, root) flash
 InstallerOnFlash-after shape flash page root newest =
     let is = newest_among shape (page_at flash) (page, root) newest in
@@ -82,7 +82,7 @@ order_same shape page old new same below order = record {
   behind = λ k low high. same k (let end = block_end shape.block_pages page below in omega (arith, high, end)) ∙ order.behind k low high;
 }
 
--- where the pair of a page is half made
+-- if the pair of a page is half made
 before_same : (shape : Shape) (page : ℕ) (old new : Flash) (bytes : List ℕ) → SameFront shape old new → page < 2 * shape.block_pages → page_at old page ≡ whole bytes
     → SameFront shape (before_pair old page) (before_pair new page)
 before_same shape page old new bytes same below here k low = elim (eqb_tells k page) [
@@ -121,7 +121,7 @@ possible_same shape (Again page) top old new same possible =
       };
     }
 
--- where no page of the root blocks differs
+-- if no page of the root blocks differs
 pub newest_by_same : (shape : Shape) (old new : Flash) → SameFront shape old new → newest_root shape (page_at new) ≡ newest_root shape (page_at old)
 newest_by_same shape old new same = newest_root_same shape (page_at old) (page_at new) same
 

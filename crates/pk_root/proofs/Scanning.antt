@@ -20,7 +20,7 @@ use Rattle.pk_root.specs.Scanned.{at_page, found_at, newer, is_older, root_in}
 
 -- ---- two roots
 
--- a later root is taken where its number is greater, and else the first one stays
+-- a later root is taken if its number is greater, and otherwise the first one is kept
 stays : (a b : ℕ × Root) → b.1.number ≤ a.1.number → newer (Some a) (Some b) ≡ Some a
 stays a b le = by_test (nat_le b.1.number a.1.number) refl
   where
@@ -70,10 +70,10 @@ newer_of-newer page None later = refl
 newer_of-newer page (Some root) None = refl
 newer_of-newer page (Some root) (Some later) = refl
 
--- ---- pages in a row
+-- ---- consecutive pages
 
 module _ (shape : Shape) (at : ℕ → Page) where
-  -- the newest root of pages and one more behind them
+  -- the newest root of pages and one more after them
   pub newest_of-more : (a n : ℕ) → newest_of shape at (range_with_len a (suc n)) ≡ newer (newest_of shape at (range_with_len a n)) (at_page (a + n) (root_of shape (at (a + n))))
   newest_of-more a zero =
       let here : a + 0 ≡ a = add-zero a in
@@ -88,7 +88,7 @@ module _ (shape : Shape) (at : ℕ → Page) where
       ∙ (ap (λ k. newer (newer (last a) rest) (last k)) moved
       ∙ ap (λ x. newer x (last (a + suc n))) (sym (newer_of-newer a (root_of shape (at a)) rest)))))
 
-  -- the newest root lies among the pages
+  -- the newest root is among the pages
   pub record IsAmong (a n : ℕ) (top : ℕ × Root) : Type 0 where
     pub low : a ≤ top.0
     pub high : top.0 < a + n
@@ -97,7 +97,7 @@ module _ (shape : Shape) (at : ℕ → Page) where
   same_top : (x y : ℕ × Root) → Some x ≡ Some y → x ≡ y
   same_top x y e = cc
 
-  -- it is the first page's root, or lies among the others
+  -- it is the first page's root, or is among the others
   among_step : (a n : ℕ) (top : ℕ × Root) (r : Option Root) (later : Option (ℕ × Root)) → root_of shape (at a) ≡ r → (later ≡ Some top → IsAmong (a + 1) n top)
       → newer_of a r later ≡ Some top → IsAmong a (suc n) top
   among_step a n top r later is rest e = by_root r later is rest e
@@ -179,7 +179,7 @@ pub no_root : (best : Option ℕ) (page : ℕ) (shape : Shape) (held : Root) (by
     → found_at best held ≡ newer (found_at best held) (at_page page (root_page shape bytes))
 no_root best page shape held bytes is = rw is (sym (newer-none (found_at best held)))
 
--- what a read told of a page has the page's root
+-- what a read reported of a page has the page's root
 root_in-read : (shape : Shape) (page : Page) (old : List ℕ) → root_in shape (answer page) (filled page old) ≡ root_of shape page
 root_in-read shape erased old = refl
 root_in-read shape (whole bytes) old = refl

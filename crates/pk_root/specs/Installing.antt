@@ -29,11 +29,11 @@ programs_next (Erase beside) = false
 programs_next (Program page) = true
 programs_next (Again page) = false
 
--- of blocks 0 and 1 the one in which a page of them does not lie
+-- of blocks 0 and 1 the one that does not have this page
 abbrev pub other_block : Shape → ℕ → ℕ
 other_block shape page = 1 - page / shape.block_pages
 
--- behind a root in the pair of this first page comes the next pair of its block; where it is the last one, the other block is erased
+-- after a root in the pair of this first page comes the next pair of its block; if it is the last one, the other block is erased
 abbrev pub next_behind : Shape → ℕ → Next
 next_behind shape page = if nat_lt (page % shape.block_pages + 2) shape.block_pages then Program (page + 2) else Erase page
 
@@ -45,7 +45,7 @@ IsForStep (Again page) newest root = newest ≡ root
 
 -- ---- what can be done
 
--- the root block without this page may be erased: the newest root does not lie in it
+-- the root block without this page may be erased: the newest root is not in it
 pub record MayErase (shape : Shape) (beside newest : ℕ) : Type 0 where
   pub in_root_blocks : beside < root_pages shape
   pub elsewhere : newest / shape.block_pages ≢ other_block shape beside
@@ -68,7 +68,7 @@ pub record MayRepeat (shape : Shape) (page : ℕ) (top : ℕ × Root) (flash : F
   pub former : ℕ × Root
   pub install : IsInstall shape (before_pair flash page) former page (root_bytes shape top.1) top.1
 
--- what is next can be done where this is the newest root, with its page
+-- what is next can be done if this is the newest root, with its page
 abbrev pub IsPossible : Shape → Next → ℕ × Root → Flash → Type 0
 IsPossible shape (Erase beside) top flash = MayErase shape beside top.0
 IsPossible shape (Program page) top flash = MayProgram shape page flash

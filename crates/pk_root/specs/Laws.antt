@@ -1,4 +1,4 @@
--- What changes behind the root blocks leave: the statements.
+-- What changes after the root blocks leave: the statements.
 use Rattle.std.specs.Prelude.{◌≡◌, ℕ, ◌<◌}
 use Rattle.pk_base.specs.Shape.{Shape, root_pages}
 use Rattle.pk_base.specs.Page.{Flash, page_at}

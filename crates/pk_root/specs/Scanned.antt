@@ -5,12 +5,12 @@ use Rattle.pk_nand.specs.declared.types.PageRead.{PageRead}
 use Rattle.pk_nand.specs.declared.types.PageRead.TheVariants.{Erased, Whole, Torn}
 use Rattle.pk_rootfmt.specs.Root.{Root, root_page}
 
--- the root of a page, where there is one, with the page's number
+-- the root of a page, if there is one, with the page's number
 abbrev pub at_page : ℕ → Option Root → Option (ℕ × Root)
 at_page page None = None
 at_page page (Some root) = Some (page, root)
 
--- the root in memory, where it was found in a page
+-- the root in memory, if it was found in a page
 abbrev pub found_at : Option ℕ → Root → Option (ℕ × Root)
 found_at None root = None
 found_at (Some page) root = Some (page, root)

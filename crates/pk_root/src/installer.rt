@@ -1,4 +1,4 @@
-//! Installs of roots, at most one call of the board each.
+//! Installs of roots, at most one flash operation each.
 ghost use Rattle.std.specs.Prelude.{◌≡◌, ◌<◌, ◌⊎◌, ℕ, length, true, false, Some, MatchBool, OnOk, OnErr, IfOk, IfErr};
 ghost use Rattle.pk_base.specs.Shape as spec;
 ghost use Rattle.pk_base.specs.Page.{Flash, page_at, SameBehind};
@@ -32,7 +32,8 @@ impl Model for Installer {
     ghost view = { λ i. i.next };
 }
 
-// Erases the root block in which this page does not lie, and answers its first page. `Stopped` where the erase fails.
+// Erases the root block that does not have this page, and returns its first page. `Stopped` if the
+// erase fails.
 fn erase_other<B: Nand>(board: &mut B, shape: &Shape, beside: u32) -> Result<u32, Fault>
     requires ready { IsReady (B.state board.old) shape.now }
     requires fits { (top : ℕ × RootValue)
@@ -46,7 +47,7 @@ fn erase_other<B: Nand>(board: &mut B, shape: &Shape, beside: u32) -> Result<u32
     ensures failed { OnErr result (FailsToErase shape.now (Erase beside) (B.state board.old)
         (B.state board.new)) }
 
-    // Either way the newest root stays, and all behind the root blocks.
+    // Either way the newest root is unchanged, and so is everything after the root blocks.
     ensures behind { SameBehind shape.now (B.state board.old).pages (B.state board.new).pages }
     ensures ready { IsReady (B.state board.new) shape.now }
 {
@@ -59,7 +60,7 @@ fn erase_other<B: Nand>(board: &mut B, shape: &Shape, beside: u32) -> Result<u32
     }
 }
 
-// Programs the root in this page, the first one of a pair. `Stopped` where the program fails.
+// Programs the root in this page, the first one of a pair. `Stopped` if the program fails.
 fn program_root<B: Nand, A: Allocator>(
     board: &mut B,
     root: &Root<A>,
@@ -82,7 +83,7 @@ fn program_root<B: Nand, A: Allocator>(
     ensures failed { OnErr result (FailsToInstall root.now.shape root.now.root (Program page)
         (B.state board.old) (B.state board.new)) }
 
-    // Either way all behind the root blocks stays.
+    // Either way everything after the root blocks is unchanged.
     ensures behind { SameBehind root.now.shape (B.state board.old).pages (B.state board.new).pages }
     ensures ready { IsReady (B.state board.new) root.now.shape }
     ensures buffer { length buf.new ≡ length buf.old }
@@ -96,7 +97,7 @@ fn program_root<B: Nand, A: Allocator>(
     }
 }
 
-// Programs the root in the page behind this one, which has it. `Stopped` where the program fails.
+// Programs the root in the page after this one, which has it. `Stopped` if the program fails.
 fn repeat_root<B: Nand, A: Allocator>(
     board: &mut B,
     root: &Root<A>,
@@ -118,7 +119,7 @@ fn repeat_root<B: Nand, A: Allocator>(
     ensures failed { OnErr result (FailsToRepeat root.now.shape root.now.root (Again page)
         (B.state board.old) (B.state board.new)) }
 
-    // Either way all behind the root blocks stays.
+    // Either way everything after the root blocks is unchanged.
     ensures behind { SameBehind root.now.shape (B.state board.old).pages (B.state board.new).pages }
     ensures ready { IsReady (B.state board.new) root.now.shape }
     ensures buffer { length buf.new ≡ length buf.old }
@@ -132,7 +133,7 @@ fn repeat_root<B: Nand, A: Allocator>(
     }
 }
 
-// What is next behind a root in the pair of this first page.
+// What is next after a root in the pair of this first page.
 fn next_behind(shape: &Shape, page: u32) -> Next
     requires { page < spec.root_pages shape.now }
     ensures { result ≡ next_behind_of shape.now page }
@@ -147,8 +148,8 @@ fn next_behind(shape: &Shape, page: u32) -> Next
 }
 
 impl Installer {
-    /// Behind the newest root, which was found in this page: the first step erases the other root block, and the next one
-    /// programs that block's first page.
+    /// After the newest root, which was found in this page: the first step erases the other root
+    /// block, and the next one programs that block's first page.
     pub fn after(page: u32) -> Installer
         ensures value { result ≡ Erase page }
         ensures fits { (shape : spec.Shape) (flash : Flash) (root : RootValue)
@@ -171,8 +172,9 @@ impl Installer {
         }
     }
 
-    /// Erases the root block that is next, behind which the next step programs: the newest root stays, wherever it is cut, and
-    /// no page behind the root blocks differs. `Stopped` where the erase fails; the installer is as before then.
+    /// Erases the root block that is next, after which the next step programs: the newest root is
+    /// unchanged, wherever it is cut, and no page after the root blocks differs. `Stopped` if the
+    /// erase fails; the installer is as before then.
     pub fn erase<B: Nand>(&mut self, board: &mut B, shape: &Shape) -> Result<(), Fault>
         requires ready { IsReady (B.state board.old) shape.now }
         requires erases { erases_next self.old ≡ true }
@@ -190,7 +192,7 @@ impl Installer {
             (FailsToErase shape.now self.old (B.state board.old) (B.state board.new)) }
         ensures kept { OnErr result (self.new ≡ self.old) }
 
-        // Either way all behind the root blocks stays.
+        // Either way everything after the root blocks is unchanged.
         ensures behind { SameBehind shape.now (B.state board.old).pages (B.state board.new).pages }
         ensures ready { IsReady (B.state board.new) shape.now }
     {
@@ -218,10 +220,11 @@ impl Installer {
         }
     }
 
-    /// Programs a root with a greater number than the newest one's in the first page of the pair that is next: it is the newest root
-    /// then, and its second program is next. Wherever it is cut the newest root is the former or this one, and no page behind the root
-    /// blocks differs. `Stopped` where the program fails; the installer is as before then. `buf` has the bytes of a page, which are
-    /// lost.
+    /// Programs a root with a greater number than the newest one's in the first page of the pair
+    /// that is next: it is the newest root then, and its second program is next. Wherever it is cut
+    /// the newest root is the former or this one, and no page after the root blocks differs.
+    /// `Stopped` if the program fails; the installer is as before then. `buf` has the size of a
+    /// page and is overwritten.
     pub fn program<B: Nand, A: Allocator>(
         &mut self,
         board: &mut B,
@@ -247,7 +250,7 @@ impl Installer {
             (B.state board.old) (B.state board.new)) }
         ensures kept { OnErr result (self.new ≡ self.old) }
 
-        // Either way all behind the root blocks stays.
+        // Either way everything after the root blocks is unchanged.
         ensures behind { SameBehind root.now.shape (B.state board.old).pages
             (B.state board.new).pages }
         ensures ready { IsReady (B.state board.new) root.now.shape }
@@ -266,9 +269,10 @@ impl Installer {
         }
     }
 
-    /// Programs the newest root once more, in the second page of its pair. Wherever it is cut the newest root is this one or the one
-    /// before it, and no page behind the root blocks differs. `Stopped` where the program fails; the installer is as before then.
-    /// `buf` has the bytes of a page, which are lost.
+    /// Programs the newest root once more, in the second page of its pair. Wherever it is cut the
+    /// newest root is this one or the one before it, and no page after the root blocks differs.
+    /// `Stopped` if the program fails; the installer is as before then. `buf` has the size of a
+    /// page and is overwritten.
     pub fn repeat<B: Nand, A: Allocator>(
         &mut self,
         board: &mut B,
@@ -293,7 +297,7 @@ impl Installer {
             (B.state board.old) (B.state board.new)) }
         ensures kept { OnErr result (self.new ≡ self.old) }
 
-        // Either way all behind the root blocks stays.
+        // Either way everything after the root blocks is unchanged.
         ensures behind { SameBehind root.now.shape (B.state board.old).pages
             (B.state board.new).pages }
         ensures ready { IsReady (B.state board.new) root.now.shape }
@@ -312,10 +316,12 @@ impl Installer {
         }
     }
 
-    /// One step of the install of a root, by one call of the board: the erase of the other root block where that is next, the first
-    /// program of the root, or its second one. True where the second program was made. The root is the newest one from the first
-    /// program on. Wherever a step is cut the newest root is the former or, in a program, this one, and no page behind the root blocks
-    /// differs. `Stopped` where the call fails; the installer is as before then. `buf` has the bytes of a page, which are lost.
+    /// One step of the install of a root, by one flash operation: the erase of the other root block
+    /// if that is next, the first program of the root, or its second one. True if the second
+    /// program was made. The root is the newest one from the first program on. Wherever a step is
+    /// cut the newest root is the former or, in a program, this one, and no page after the root
+    /// blocks differs. `Stopped` if the operation fails; the installer is as before then. `buf` has
+    /// the size of a page and is overwritten.
     pub fn step<B: Nand, A: Allocator>(
         &mut self,
         board: &mut B,
@@ -349,7 +355,7 @@ impl Installer {
             ⊎ FailsToErase root.now.shape self.old (B.state board.old) (B.state board.new)) }
         ensures kept { OnErr result (self.new ≡ self.old) }
 
-        // Either way all behind the root blocks stays.
+        // Either way everything after the root blocks is unchanged.
         ensures behind { SameBehind root.now.shape (B.state board.old).pages
             (B.state board.new).pages }
         ensures ready { IsReady (B.state board.new) root.now.shape }

@@ -1,6 +1,7 @@
-//! The newest root of a flash, found by a read of each page of the two root blocks, and the install of the next one, by at most one
-//! call of the board a step: the first install of a session, and one behind a full block, erases the block without the newest root.
-//! Wherever a step is cut the newest root is the former or the new one, and no page behind the root blocks differs.
+//! The newest root of a flash, found by a read of each page of the two root blocks, and the install
+//! of the next one, by at most one flash operation a step: the first install of a session, and one
+//! after a full block, erases the block without the newest root. Wherever a step is cut the newest
+//! root is the former or the new one, and no page after the root blocks differs.
 #![tactic(auto)]
 
 mod installer;

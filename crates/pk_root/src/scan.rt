@@ -25,8 +25,8 @@ fn is_older(best: Option<u32>, number: u64, other: u64) -> bool
     }
 }
 
-// Takes the root of these bytes where it is newer than the one that was found in a page before, and answers the page of the
-// newer one.
+// Takes the root of these bytes if it is newer than the one that was found in a page before, and
+// returns the page of the newer one.
 fn newer<A: Allocator>(
     best: Option<u32>,
     page: u32,
@@ -72,8 +72,9 @@ fn newer_read<A: Allocator>(
     }
 }
 
-/// The page of the newest root, which is taken into `into`; None exactly where there is none, `into` as it was. Reads every
-/// page of the root blocks, in order. `Reading` where a read fails. `buf` has the bytes of a page, which are lost.
+/// The page of the newest root, which is taken into `into`; None exactly if there is none, `into`
+/// unchanged. Reads every page of the root blocks, in order. `Reading` if a read fails. `buf` has
+/// the size of a page and is overwritten.
 pub fn newest<B: Nand, A: Allocator>(
     board: &mut B,
     into: &mut Root<A>,
@@ -82,7 +83,7 @@ pub fn newest<B: Nand, A: Allocator>(
     requires ready { IsReady (B.state board.old) into.old.shape }
     requires room { length buf.old ≡ into.old.shape.page_bytes }
 
-    // The newest root, and so many reads.
+    // The newest root, and the number of reads.
     ensures found { IfOk result (λ r. MatchOption r
         (newest_root into.old.shape (page_at (B.state board.old).pages) ≡ None) (λ page.
         newest_root into.old.shape (page_at (B.state board.old).pages)

@@ -30,7 +30,7 @@ encoded g number epoch newest older a b c d runs =
     ∙ ap (λ (j : ℕ). before_blocks g j number epoch a b c d (flat_map u16 (e ++ r) ++ (zeros (g.page_bytes - (64 + 2 * length (e ++ r))) ++ []))) (length-append newest older)
     ∙ rows_root g number epoch newest older a b c d runs
 
--- the runs are cut from the front of the list of blocks
+-- the runs are cut from the start of the list of blocks
 pub runs_joined : (sizes items : List ℕ) → total sizes ≤ length items → concat (parts sizes items) ≡ take (total sizes) items
 runs_joined sizes items room =
     let front : List ℕ = take (total sizes) items in
@@ -42,7 +42,7 @@ runs_joined sizes items room =
 length_two : (xs : List ℕ) → length (take 2 xs) + length (drop 2 xs) ≡ length xs
 length_two xs = omega (arith, length-append (take 2 xs) (drop 2 xs), ap length (take-append-drop 2 xs))
 
--- what is written of epochs and runs into so many bytes
+-- what is written of epochs and runs into this many bytes
 abbrev pub written : Shape → ℕ → ℕ → ℕ → List ℕ → List ℕ → List ℕ → List ℕ
 written g size number epoch epochs counts runs =
     spelled (magic ∷ u16 2 ∷ u16 g.block_pages ∷ u32 g.page_bytes ∷ u16 g.blocks ∷ u16 (length epochs) ∷ zeros 4 ∷ u64 number ∷ u64 epoch ∷ flat_map u32 counts ∷ zeros 8 ∷ [])

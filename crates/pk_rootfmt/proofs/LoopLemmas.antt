@@ -10,7 +10,7 @@ use Rattle.pk_rootfmt.specs.Root.{u16s_at}
 use Rattle.pk_rootfmt.specs.Fault.{is_other_block, blocks_fault}
 use Rattle.pk_rootfmt.proofs.BlockLemmas.{numbers_split}
 
--- the numbers that are left begin with the one here
+-- the numbers that remain begin with the one here
 pub left_more : (page : List ℕ) (i count : ℕ) → i < count
     → u16s_at (count - i) (drop (64 + 2 * i) page) ≡ u16_at page (64 + 2 * i) ∷ u16s_at (count - (i + 1)) (drop (64 + 2 * (i + 1)) page)
 left_more page i count less =

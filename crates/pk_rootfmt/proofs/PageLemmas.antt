@@ -14,7 +14,7 @@ use Rattle.pk_rootfmt.specs.Held.{total}
 use Rattle.pk_rootfmt.proofs.BlockLemmas.{both_true, length-u16s, length-numbers, numbers_stand, numbers_split, parts_lengths, parts_joined, are_blocks, Others, others_from_check}
 use Rattle.pk_rootfmt.proofs.RoomLemmas.{page_room, runs_most}
 
--- ---- tests, one behind another
+-- ---- tests, one after another
 
 all_true : (a b c d e f g h : Bool) → a ≡ true → b ≡ true → c ≡ true → d ≡ true → e ≡ true → f ≡ true → g ≡ true → h ≡ true → (a && b && c && d && e && f && g && h) ≡ true
 all_true a b c d e f g h p q r s t u v w = rw (p, q, r, s, t, u, v, w) refl
@@ -90,7 +90,7 @@ rows g journal number epoch a b c d n blocks =
     ∷ (8, u64 number) ∷ (8, u64 epoch) ∷ (4, u32 a) ∷ (4, u32 b) ∷ (4, u32 c) ∷ (4, u32 d) ∷ (8, zeros 8)
     ∷ (2 * n, flat_map u16 blocks) ∷ (g.page_bytes - (64 + 2 * n), zeros (g.page_bytes - (64 + 2 * n))) ∷ []
 
--- what stands before the blocks, and they behind it
+-- what precedes the blocks, and they after it
 abbrev pub before_blocks : Shape → ℕ → ℕ → ℕ → ℕ → ℕ → ℕ → ℕ → List ℕ → List ℕ
 before_blocks g journal number epoch a b c d rest =
     magic ++ u16 2 ++ u16 g.block_pages ++ u32 g.page_bytes ++ u16 g.blocks ++ u16 journal ++ zeros 4 ++ u64 number ++ u64 epoch

@@ -11,16 +11,16 @@ use Rattle.pk_rootfmt.specs.Root.{u16s_at}
 abbrev pub magic : List ℕ
 magic = 80 ∷ 73 ∷ 78 ∷ 75 ∷ 82 ∷ 79 ∷ 79 ∷ 84 ∷ []
 
--- a block behind the root blocks that none of the blocks before is
+-- a block after the root blocks that none of the blocks before is
 abbrev pub is_other_block : Shape → List ℕ → ℕ → Bool
 is_other_block shape before block = nat_le ROOT_BLOCKS block && nat_lt block shape.blocks && not (list_any (λ other. block == other) before)
 
--- the first wrong one of these block numbers, which begin at a place behind other ones
+-- the first wrong one of these block numbers, which begin at a place after other ones
 abbrev pub blocks_fault : Shape → ℕ → List ℕ → List ℕ → Option ℕ
 blocks_fault shape at before [] = None
 blocks_fault shape at before (b ∷ bs) = first_fault (unless at (is_other_block shape before b) ∷ blocks_fault shape (at + 2) (before ++ b ∷ []) bs ∷ [])
 
--- an older epoch has the number before, so the newest is at least 2 where there is one
+-- an older epoch has the number before, so the newest is at least 2 if there is one
 abbrev pub is_epoch : ℕ → ℕ → ℕ → Bool
 is_epoch journal number epoch = nat_le 1 epoch && nat_le epoch number && (journal == EPOCH_BLOCKS || nat_le 2 epoch)
 
@@ -47,7 +47,7 @@ module _ (shape : Shape) (page : List ℕ) where
   listed =
       u16_at page 18 + (run_blocks shape (u32_at page 40) + (run_blocks shape (u32_at page 44) + (run_blocks shape (u32_at page 48) + run_blocks shape (u32_at page 52))))
 
-  -- the blocks, and the zeros behind them
+  -- the blocks, and the zeros after them
   abbrev pub list_checks : List (Option ℕ)
   list_checks = blocks_fault shape LIST_FROM [] (u16s_at listed (drop LIST_FROM page)) ∷ unlike (LIST_FROM + 2 * listed) (zeros (shape.page_bytes - (LIST_FROM + 2 * listed))) page ∷ []
 

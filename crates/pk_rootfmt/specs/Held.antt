@@ -13,7 +13,7 @@ pub record Held : Type 0 where
 abbrev pub none : Root
 none = record { number = 0; epoch = 0; newest = []; older = []; counts = 0 ∷ 0 ∷ 0 ∷ 0 ∷ []; runs = [] ∷ [] ∷ [] ∷ [] ∷ [] }
 
--- the first root of a flash: epoch 1 in the two blocks behind the root blocks, and empty runs
+-- the first root of a flash: epoch 1 in the two blocks after the root blocks, and empty runs
 abbrev pub first : Root
 first = record { number = 1; epoch = 1; newest = ROOT_BLOCKS ∷ (ROOT_BLOCKS + 1) ∷ []; older = []; counts = 0 ∷ 0 ∷ 0 ∷ 0 ∷ []; runs = [] ∷ [] ∷ [] ∷ [] ∷ [] }
 
@@ -22,12 +22,12 @@ abbrev pub total : List ℕ → ℕ
 total [] = 0
 total (n ∷ ns) = n + total ns
 
--- the blocks of an epoch, or zeros where there are none
+-- the blocks of an epoch, or zeros if there are none
 abbrev pub two_of : List ℕ → List ℕ
 two_of [] = 0 ∷ 0 ∷ []
 two_of (b ∷ bs) = b ∷ bs
 
--- the blocks of the older epoch, where there is one
+-- the blocks of the older epoch, if there is one
 abbrev pub older_of : List ℕ → Option (List ℕ)
 older_of [] = None
 older_of (b ∷ bs) = Some (b ∷ bs)

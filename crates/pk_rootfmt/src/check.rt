@@ -13,7 +13,7 @@ use pk_base::{
 
 pub(crate) const MAGIC: [u8; 8] = *b"PINKROOT";
 
-/// The blocks of a run of so many entries.
+/// The blocks of a run of `entries` entries.
 pub(crate) fn run_size(shape: &Shape, entries: u32) -> u32
     ensures { result ≡ run_blocks shape.now entries }
 {
@@ -21,7 +21,7 @@ pub(crate) fn run_size(shape: &Shape, entries: u32) -> u32
     pages.div_ceil(shape.block_pages())
 }
 
-/// A run of this level may have so many entries.
+/// A run of this level may have `entries` entries.
 fn is_count(shape: &Shape, level: u8, entries: u32) -> bool
     requires { 1 ≤ level × level ≤ 4 }
     ensures { result ≡ is_run_count shape.now level entries }
@@ -29,7 +29,7 @@ fn is_count(shape: &Shape, level: u8, entries: u32) -> bool
     entries as u64 <= shape.cap(level) as u64 * shape.entries() as u64
 }
 
-/// The newest epoch of a root with so many journal blocks may have this number.
+/// The newest epoch of a root with this many journal blocks may have this number.
 fn is_newest(journal: u16, number: u64, epoch: u64) -> bool
     ensures { result ≡ is_epoch journal number epoch }
 {
@@ -49,7 +49,7 @@ fn listed(shape: &Shape, page: &[u8]) -> usize
     get_u16(page, 18) as usize + runs
 }
 
-/// None of so many blocks is this one.
+/// None of the first `count` blocks is this one.
 fn is_new(page: &[u8], count: usize, block: u16) -> bool
     requires { LIST_FROM + 2 * count ≤ length page.now }
     ensures { result
@@ -63,7 +63,7 @@ fn is_new(page: &[u8], count: usize, block: u16) -> bool
     true
 }
 
-/// The block number behind so many others may stand there.
+/// The block number after `count` others may be there.
 fn is_block(shape: &Shape, page: &[u8], count: usize, block: u16) -> bool
     requires { LIST_FROM + 2 * count ≤ length page.now }
     ensures { result ≡ is_other_block shape.now (u16s_at count (drop LIST_FROM page.now)) block }
@@ -71,7 +71,7 @@ fn is_block(shape: &Shape, page: &[u8], count: usize, block: u16) -> bool
     block as u32 >= ROOT_BLOCKS && (block as u32) < shape.blocks() && is_new(page, count, block)
 }
 
-/// So many block numbers stand in the page.
+/// The page has `count` block numbers.
 fn check_blocks(shape: &Shape, page: &[u8], count: usize) -> Result<(), Wrong>
     requires fits { LIST_FROM + 2 * count ≤ length page.now }
     requires small { length page.now < 2 ^ 31 }

@@ -23,7 +23,7 @@ fn put_counts(into: &mut [u8], entries: &[u32; 4])
     put_u32(into, 52, entries[3]);
 }
 
-/// Writes what stands before the blocks.
+/// Writes what precedes the blocks.
 pub(crate) fn put_numbers(
     shape: &Shape,
     journal: u16,
@@ -80,7 +80,8 @@ pub(crate) fn put_page(
     put_zeros(into, at + 2 * runs.len(), all);
 }
 
-/// Writes the root page with number 1 and epoch 1 in the two blocks behind the root blocks; `into` has the bytes of a page.
+/// Writes the root page with number 1 and epoch 1 in the two blocks after the root blocks; `into`
+/// has the size of a page.
 pub fn first(shape: &Shape, into: &mut [u8])
     requires { length into.old ≡ shape.now.page_bytes }
     ensures bytes { into.new ≡ root_bytes shape.now first_root }

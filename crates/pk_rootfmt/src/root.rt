@@ -25,7 +25,7 @@ pub struct BadRoot {
     pub at: u32,
 }
 
-/// Where the epochs and the runs of a flash stand.
+/// Where the epochs and the runs of a flash are.
 #[derive(Drop)]
 pub struct Root<A: Allocator> {
     shape: Shape,
@@ -91,7 +91,7 @@ impl<A: Allocator> Root<A> {
         &self.shape
     }
 
-    /// The root's number; 0 where there is none.
+    /// The root's number; 0 if there is none.
     pub fn number(&self) -> u64
         ensures { result ≡ self.now.root.number }
     {
@@ -105,7 +105,7 @@ impl<A: Allocator> Root<A> {
         self.epoch
     }
 
-    /// The two blocks of the newest epoch; zeros where there is no root.
+    /// The two blocks of the newest epoch; zeros if there is no root.
     pub fn newest(&self) -> [u16; 2]
         ensures { result ≡ two_of self.now.root.newest }
     {
@@ -115,7 +115,7 @@ impl<A: Allocator> Root<A> {
         [self.epochs[0], self.epochs[1]]
     }
 
-    /// The two blocks of the older epoch, where there is one.
+    /// The two blocks of the older epoch, if there is one.
     pub fn older(&self) -> Option<[u16; 2]>
         ensures { result ≡ older_of self.now.root.older }
     {
@@ -209,11 +209,11 @@ impl<A: Allocator> Root<A> {
         requires { length page.now ≡ self.old.shape.page_bytes }
         ensures shape { self.new.shape ≡ self.old.shape }
 
-        // A page is decoded exactly where the definition has a root for it, to that root.
+        // A page is decoded exactly if the definition has a root for it, to that root.
         ensures found { OnOk result (root_page self.old.shape page.now ≡ Some self.new.root) }
         ensures grammar { OnOk result (is_root self.new.shape self.new.root ≡ true) }
 
-        // Else the first wrong field is named, and the root is as it was.
+        // Otherwise the first wrong field is named, and the root is unchanged.
         ensures missing { OnErr result (root_page self.old.shape page.now ≡ None) }
         ensures exact { IfErr result (λ bad. root_fault self.old.shape page.now ≡ Some bad.at) }
         ensures kept { OnErr result (self.new ≡ self.old) }
@@ -281,7 +281,7 @@ fn start_of(sizes: &[usize; 4], level: u8) -> usize
     }
 }
 
-/// The blocks of each run of so many entries.
+/// The blocks of each run of n entries.
 fn sizes_of(shape: &Shape, entries: &[u32; 4]) -> [usize; 4]
     ensures { result ≡ map (run_blocks shape.now) entries.now }
 {
@@ -313,7 +313,7 @@ fn put_run(sizes: &mut [usize; 4], items: &mut [u16], level: u8, blocks: &[u16])
     requires room { total_of (slice_set sizes.old (level - 1) (length blocks.now))
         ≤ length items.old }
 
-    // The run of the level is another one, and all else is as it was.
+    // The run of the level is another one, and everything else is unchanged.
     ensures runs { parts sizes.new items.new
         ≡ slice_set (parts sizes.old items.old) (level - 1) blocks.now }
     ensures sizes { sizes.new ≡ slice_set sizes.old (level - 1) (length blocks.now) }
@@ -337,7 +337,7 @@ fn journal_size(older: Option<[u16; 2]>) -> usize
     }
 }
 
-/// The blocks of the newest epoch, and behind them those of the older one.
+/// The blocks of the newest epoch, and after them those of the older one.
 fn all_epochs(newest: [u16; 2], older: Option<[u16; 2]>) -> [u16; 4]
     ensures newest { take 2 (take (2 + length (blocks_or_none older)) result) ≡ newest }
     ensures older { drop 2 (take (2 + length (blocks_or_none older)) result)

@@ -1,4 +1,4 @@
--- A look-up in a run: which page may have the key, and what that page says of the whole run.
+-- A lookup in a run: which page may have the key, and what that page says of the whole run.
 use Rattle.std.proofs.Common.{◌≡◌, ◌≢◌, ◌⊎◌, inl, inr, ℕ, zero, suc, ◌+◌, ◌-◌, ◌*◌, ◌^◌, ◌<◌, ◌≤◌, Bool, true, false, ◌&&◌, T, List, [], ◌∷◌, length, slice_get, get_or, take, drop, refl, ap, sym, subst, ◌∙◌, arith, Option, Some, None, option_map, MatchOption, All, Contains, Ok, ◌/◌, ◌%◌, div-lt_iff_lt-mul, suc-mul, zero-mul, mul-le-mul_right, lt_of_mul-lt-mul_right}
 use Rattle.std.specs.declared.cmp.Ordering.TheVariants.{Greater}
 use Rattle.std.proofs.lemmas.Grind.{div_ceil_times}
@@ -138,7 +138,7 @@ pub frame_page : (r : Kept) (flash : Flash) (arena : Frames) (es : List Entry) (
     → page_at flash (page_of r p) ≡ whole bytes
 frame_page r flash arena es bytes s p lease got is = (s.frames p lease got).bytes ∙ ap (λ (xs : List ℕ). whole xs) (sym is)
 
--- where a page has no frame, none has
+-- if a page has no frame, none has
 pub no_leases : (r : Kept) (flash : Flash) (arena : Frames) (es : List Entry) → RunOnFlash r flash arena es → (p : ℕ) → p < length r.firsts → length r.leases ≤ p → r.leases ≡ []
 no_leases r flash arena es s p exists past =
     elim s.pinned [
@@ -146,7 +146,7 @@ no_leases r flash arena es s p exists past =
       | inr all ↦ absurd (omega (arith, all, exists, past))
     ]
 
--- where a page has one, nothing is read
+-- if a page has one, nothing is read
 pub look_pinned : (leases : List ℕ) (board : BoardState) (p lease : ℕ) → slice_get leases p ≡ Some lease → after_look leases board ≡ board
 look_pinned [] board p lease got = cc
 look_pinned (l ∷ leases) board p lease got = refl

@@ -1,4 +1,4 @@
--- A run that stands while others change pages and frames that are none of its own.
+-- A run that is unchanged while others change pages and frames that are none of its own.
 use Rattle.std.proofs.Common.{◌≡◌, ◌≢◌, ◌⊎◌, inl, inr, ℕ, zero, suc, ◌+◌, ◌<◌, ◌≤◌, Bool, true, false, cond, List, [], ◌∷◌, length, slice_get, set, refl, ap, sym, subst, ◌∙◌, arith, Some, get_or-set_other}
 use Rattle.std.specs.Prelude.{◌==◌}
 use Rattle.std.proofs.lemmas.Bool.{cases_eq}
@@ -27,7 +27,7 @@ itself l = elim (eqb_tells l l) [
   | inr ne ↦ absurd (ne.1 refl)
 ]
 
--- a frame of the run stands among its leases
+-- a frame of the run is among its leases
 among : (ls : List ℕ) (j l : ℕ) → slice_get ls j ≡ Some l → times l ls ≡ 0 → ⊥
 among [] j l got none = cc
 among (x ∷ ls) zero l got none =

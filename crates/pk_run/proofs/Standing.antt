@@ -1,4 +1,4 @@
--- Runs that stand: what others leave of them, and another block or page.
+-- Runs that match a flash: what others leave of them, and another block or page.
 use Rattle.std.proofs.Common.{◌≡◌, ◌⊎◌, inl, inr, ℕ, zero, suc, ◌+◌, ◌-◌, ◌*◌, ◌/◌, ◌%◌, ◌^◌, ◌<◌, ◌≤◌, T, List, [], ◌∷◌, ◌++◌, length, slice_get, slice_index, get_or, take, drop, refl, ap, sym, subst, ◌∙◌, arith, Option, Some, None, option_map, Ok, length-append, suc-mul, mul-le-mul_right, le_refl, zero-mul, div-lt_iff_lt-mul}
 use Rattle.std.proofs.Math.ListN.{get_or-append}
 use Rattle.std.specs.Int.{div_ceil}
@@ -73,7 +73,7 @@ get_right [] ys (suc n) e = absurd (omega arith)
 get_right (x ∷ xs) ys zero e = absurd (omega arith)
 get_right (x ∷ xs) ys (suc n) e = get_right xs ys n (omega arith)
 
--- a place in the blocks is the same where there are more
+-- a place in the blocks is the same if there are more
 same_place : (shape : Shape) (blocks : List ℕ) (b j : ℕ) → IsShape shape → j < length blocks * shape.block_pages → page_in shape (blocks ++ b ∷ []) j ≡ page_in shape blocks j
 same_place shape blocks b j is h =
     let some : 0 < shape.block_pages = let least : 8 ≤ shape.block_pages = is.block_least in omega arith in

@@ -37,7 +37,7 @@ most_pages r = cap r.shape r.level
 abbrev pub most_blocks : Kept → ℕ
 most_blocks r = blocks_of r.shape (most_pages r)
 
--- each page has a frame; so it is where there is no page
+-- each page has a frame; so it is if there is no page
 abbrev pub IsPinned : Kept → Type 0
 IsPinned r = length r.leases ≡ length r.firsts
 
@@ -46,7 +46,7 @@ pub record IsFrameOf (flash : Flash) (arena : Frames) (page lease : ℕ) : Type 
   pub leased : IsLeased arena lease
   pub bytes : page_at flash page ≡ whole (frame_of arena lease)
 
--- The entries of the run on the flash are es, and what is kept tells their pages.
+-- The entries of the run on the flash are es, and what is kept describes their pages.
 pub record RunOnFlash (r : Kept) (flash : Flash) (arena : Frames) (es : List Entry) : Type 0 where
   pub read : run r.shape (page_at flash) r.level r.count r.blocks ≡ Ok es
   pub many : length es ≡ r.count
@@ -67,16 +67,16 @@ abbrev pub with_lease : List ℕ → Option ℕ → List ℕ
 with_lease leases None = leases
 with_lease leases (Some lease) = leases ++ lease ∷ []
 
--- behind the pages so far stands one that begins with this key, of so many entries
+-- after the pages so far there is one that begins with this key, of n entries
 abbrev pub with_page : Kept → Key → Option ℕ → ℕ → Kept
 with_page r first lease more = record r { count = r.count + more; firsts = r.firsts ++ first ∷ []; leases = with_lease r.leases lease }
 
--- a page is pinned where those before it are
+-- a page is pinned if those before it are
 abbrev pub IsPinnedAlike : Kept → Flash → Frames → Option ℕ → Type 0
 IsPinnedAlike r flash arena None = r.leases ≡ []
 IsPinnedAlike r flash arena (Some lease) = IsPinned r × IsFrameOf flash arena (page_of r (length r.firsts)) lease
 
--- The next page of the run's blocks has more entries, which begin with this key and go on behind es.
+-- The next page of the run's blocks has more entries, which begin with this key and follow es.
 pub record IsNext (r : Kept) (flash : Flash) (arena : Frames) (es more : List Entry) (first : Key) (lease : Option ℕ) : Type 0 where
   pub bytes : List ℕ
   pub here : page_at flash (page_of r (length r.firsts)) ≡ whole bytes
@@ -89,7 +89,7 @@ pub record IsNext (r : Kept) (flash : Flash) (arena : Frames) (es more : List En
 
 -- ---- looking at a page
 
--- the board behind it: one read, and none where the page has a frame
+-- the board after it: one read, and none if the page has a frame
 abbrev pub after_look : List ℕ → BoardState → BoardState
 after_look [] board = after_read board
 after_look (lease ∷ leases) board = board

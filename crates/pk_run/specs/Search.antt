@@ -9,7 +9,7 @@ use Rattle.pk_base.specs.declared.entry.Entry.{Entry as RustEntry}
 use Rattle.pk_nand.specs.BoardState.{BoardState}
 use Rattle.pk_run.specs.Kept.{Kept, after_look}
 
--- a look-up answered the entry of the key among these, or that there is none
+-- a lookup answered the entry of the key among these, or that there is none
 abbrev pub IsFound : Key → List Entry → Option RustEntry → Type 0
 IsFound key es found = MatchOption found (find key_cmp key es ≡ None) (λ e. (key_of (entry e) ≡ key) × (find key_cmp key es ≡ Some (entry e).1))
 

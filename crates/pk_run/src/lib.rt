@@ -1,6 +1,8 @@
-//! A run of meta pages: a list of entries that rise by key, on the flash, and what memory keeps of it.
+//! A run of meta pages: a list of entries that rise by key, on the flash, and what memory keeps of
+//! it.
 //!
-//! The entry of a key is found by at most one read, and by none where the pages of the run have frames.
+//! The entry of a key is found by at most one read, and by none if the pages of the run have
+//! frames.
 #![tactic(auto)]
 
 mod laws;

@@ -158,7 +158,7 @@ impl<A: Allocator> Run<A> {
         self.blocks[(i / in_block) as usize] as u32 * in_block + i % in_block
     }
 
-    /// The frame of a page; None where it has none.
+    /// The frame of a page; None if it has none.
     pub fn lease(&self, i: u32) -> Option<&Lease>
         ensures { MatchOption result (length self.now.leases ≤ i) (λ l. slice_get self.now.leases i
             ≡ Some l.now) }
@@ -182,7 +182,7 @@ impl<A: Allocator> Run<A> {
         self.firsts.clear();
     }
 
-    /// Adds a block behind the others.
+    /// Adds a block after the others.
     pub fn push_block(&mut self, block: u16)
         requires { length self.old.blocks < most_blocks self.old }
         ensures added { self.new ≡ record self.old { blocks = self.old.blocks ++ block ∷ [] } }
@@ -193,8 +193,8 @@ impl<A: Allocator> Run<A> {
         self.blocks.push_reserved(block);
     }
 
-    /// Adds the next page of the run's blocks, behind full ones: its first key, its frame where the others have some, and how
-    /// many entries it has.
+    /// Adds the next page of the run's blocks, after full ones: its first key, its frame if the
+    /// others have some, and how many entries it has.
     pub fn push_page(&mut self, first: Key, lease: Option<Lease>, entries: u32)
         requires room { length self.old.firsts < most_pages self.old }
         requires within { length self.old.firsts
@@ -203,7 +203,7 @@ impl<A: Allocator> Run<A> {
         requires some { 1 ≤ entries × entries ≤ page_entries self.old.shape }
         requires alike { MatchOption lease (self.old.leases ≡ []) (λ _. IsPinned self.old) }
 
-        // The run has the page, and stands for its entries too.
+        // The run has the page, and represents its entries too.
         ensures added { self.new ≡ with_page self.old first lease entries }
         ensures stands { (flash : Flash) (arena : Frames) (es more : List EntrySpec)
             → RunOnFlash self.old flash arena es → IsNext self.old flash arena es more first lease
@@ -218,7 +218,7 @@ impl<A: Allocator> Run<A> {
         }
     }
 
-    /// Takes the last lease out, whose frame the caller has then; None where there is none.
+    /// Takes the last lease out, whose frame belongs to the caller then; None if there is none.
     pub fn pop_lease(&mut self) -> Option<Lease>
         ensures taken { MatchOption result (self.old.leases ≡ []) (λ l. self.old.leases
             ≡ self.new.leases ++ l ∷ []) }
@@ -228,8 +228,8 @@ impl<A: Allocator> Run<A> {
         self.leases.pop()
     }
 
-    /// The page that may have the key: it begins at or before the key, and the next one above it. None where no page begins at or
-    /// before the key.
+    /// The page that may have the key: it begins at or before the key, and the next one above it.
+    /// None if no page begins at or before the key.
     pub fn page_for(&self, key: &Key) -> Option<u32>
         ensures { MatchOption result (IsBeforeAll key.now self.now.firsts) (λ p.
             IsPageFor key.now self.now.firsts p) }
@@ -241,8 +241,9 @@ impl<A: Allocator> Run<A> {
         }
     }
 
-    /// The entry of the key. A page is looked at only where it begins at or before the key and the next one above it, and it is
-    /// read only where it has no frame. `Reading` where the read fails; else nothing fails. `buf` has a page's bytes, which are lost.
+    /// The entry of the key. A page is looked at only if it begins at or before the key and the
+    /// next one above it, and it is read only if it has no frame. `Reading` if the read fails;
+    /// otherwise nothing fails. `buf` has the size of a page and is overwritten.
     pub fn find<B: Nand>(
         &self,
         board: &mut B,
@@ -288,8 +289,8 @@ impl<A: Allocator> Run<A> {
         }
     }
 
-    /// Fills `buf` with a page of the run, by one read, and by none where the page has a frame. `Reading` where the read fails;
-    /// else nothing fails.
+    /// Fills `buf` with a page of the run, by one read, and by none if the page has a frame.
+    /// `Reading` if the read fails; otherwise nothing fails.
     pub fn load_page<B: Nand>(
         &self,
         board: &mut B,

@@ -21,7 +21,7 @@ module _ (shape : Shape) (named : List ℕ) (taken : List (Key × Place)) (key :
   now = all_pages shape taken ++ value_pages shape place
 
   module _ (at : ℕ → Page) (rest : List (Key × Place)) where
-    -- what is done behind the test of the pages, and behind the value
+    -- what is done after the test of the pages, and after the value
     abbrev behind : Result (List ℕ) Refusal → Result (List (Key × List ℕ)) Refusal
     behind value = value >>= (λ v. values_of shape at named now rest >>= (λ others. Ok ((key, v) ∷ others)))
 

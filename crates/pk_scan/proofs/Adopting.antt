@@ -61,7 +61,7 @@ both_none : (x : ℕ) (xs ys : List ℕ) → AllByRecursion (λ b. (x == b) ≡ 
 both_none x xs [] p q = tt
 both_none x xs (y ∷ ys) p q = (or_both (x == y) (is_among xs y) p.0 q.0, both_none x xs ys p.1 q.1)
 
--- where all differ, none of the later ones is among the earlier ones
+-- if all differ, none of the later ones is among the earlier ones
 pub apart : (xs ys : List ℕ) → differ (xs ++ ys) ≡ true → AllByRecursion (λ b. is_among xs b ≡ false) ys
 apart [] ys e = all_of (λ b. refl) ys
 apart (x ∷ xs) ys e =
@@ -203,7 +203,7 @@ adopts_block o p q b spare is counted fits = adopts_same (λ c. sym (or_false (b
     or_false true = refl
     or_false false = refl
 
--- the first of those that are left
+-- the first of those that remain
 pub drop_next : {X : Type 0} (xs : List X) (i : ℕ) (x : X) → slice_get xs i ≡ Some x → drop i xs ≡ x ∷ drop (i + 1) xs
 drop_next {X = X} xs i x got = let k : i + 1 ≡ suc i = omega arith in rw k (at_suc xs i got)
   where
@@ -212,7 +212,7 @@ drop_next {X = X} xs i x got = let k : i + 1 ≡ suc i = omega arith in rw k (at
     at_suc (y ∷ xs) zero got = let same : y ≡ x = cc in ap (λ (z : X). z ∷ xs) same
     at_suc (y ∷ xs) (suc i) got = at_suc xs i got
 
--- so many of these blocks were adopted, and the others may be
+-- this many of these blocks were adopted, and the others may be
 pub record Adopting (o : Owner) (blocks : List ℕ) (old now : Blocks) (i : ℕ) : Type 0 where
   pub done : Adopts o (is_among (take i blocks)) (length (take i blocks)) old now
   pub left : MayAdopt o (drop i blocks) now
@@ -246,7 +246,7 @@ pub concat_lists : (xs ys : List (List ℕ)) → concat (xs ++ ys) ≡ concat xs
 concat_lists [] ys = refl
 concat_lists (x ∷ xs) ys = ap (λ (bs : List ℕ). x ++ bs) (concat_lists xs ys) ∙ sym (append_assoc x (concat xs) (concat ys))
 
--- the blocks of so many runs were adopted, and the others may be
+-- the blocks of this many runs were adopted, and the others may be
 pub record RunsAdopting (runs : List (List ℕ)) (old now : Blocks) (i : ℕ) : Type 0 where
   pub done : Adopts Meta (is_among (concat (take i runs))) (length (concat (take i runs))) old now
   pub left : MayAdopt Meta (concat (drop i runs)) now

@@ -1,4 +1,4 @@
--- Boards behind reads, of which the last one may have failed.
+-- Boards after reads, of which the last one may have failed.
 use Rattle.std.proofs.Common.{◌≡◌, ℕ, zero, ◌+◌, Bool, true, false, List, refl, sym, ap, subst, ◌∙◌}
 use Rattle.std.specs.Prelude.{if◌then◌else◌}
 use Rattle.pk_base.specs.Shape.{Shape}
@@ -22,7 +22,7 @@ reads_none old = (zero, refl)
 pub reads_both : (old now new : BoardState) → OnlyReads old now → OnlyReads now new → OnlyReads old new
 reads_both old now new a b = (b.0 + a.0, b.1 ∙ ap (after_reads b.0) a.1 ∙ reads_more b.0 a.0 old)
 
--- so many reads, or none
+-- this many reads, or none
 pub reads_if : (b : Bool) (n : ℕ) (old new : BoardState) → new ≡ (if b then after_reads n old else old) → OnlyReads old new
 reads_if true n old new is = (n, is)
 reads_if false n old new is = (zero, is)

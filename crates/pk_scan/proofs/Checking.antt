@@ -19,7 +19,7 @@ use Rattle.pk_nand.specs.Effects.{OnlyReading}
 use Rattle.pk_scan.proofs.Boards.{rest_reads, rest_failed}
 use Rattle.pk_scan.proofs.Reading.{all_right, first_wrong, not_before}
 
--- ---- the value, behind its head
+-- ---- the value, after its head
 
 behind_head : (r : Result (List ℕ) Refusal) (e : Refusal) → (r >>= (λ bytes. Ok (drop 32 bytes))) ≡ Err e → r ≡ Err e
 behind_head (Ok bytes) e is = cc
@@ -96,7 +96,7 @@ Checking-refused old now new shape key place i Fault less c refused =
       later = λ q e. refused_behind shape old.pages key place i q (omega arith) c.right e;
     }
 
--- the pages stay
+-- the pages are unchanged
 pub refused_pages : (old new : BoardState) (shape : Shape) (key : Key) (place : Place) (e : PageError) → NotFound shape old new key place e → (new.pages ≡ old.pages) × (new.shape ≡ old.shape)
 refused_pages old new shape key place (Damaged page) refused = (ap (λ (b : BoardState). b.pages) refused.board, ap (λ (b : BoardState). b.shape) refused.board)
 refused_pages old new shape key place Fault refused = (ap (λ (b : BoardState). b.pages) refused.reads.failed.rest, ap (λ (b : BoardState). b.shape) refused.reads.failed.rest)

@@ -83,7 +83,7 @@ flags_front xs i =
 
 -- ---- the blocks of values
 
--- a block with a page of pages that lie outside of the blocks that are named is not named
+-- a block with a page of pages that are outside of the blocks that are named is not named
 any_outside : (n : ℕ) (names pages : List ℕ) (b : ℕ) → list_all (λ p. not (list_any (λ c. c == p / n) names)) pages ≡ true → list_any (λ p. p / n == b) pages ≡ true → is_among names b ≡ false
 any_outside n names [] b out has = absurd (false≢true has)
 any_outside n names (p ∷ pages) b out has =
@@ -98,7 +98,7 @@ any_outside n names (p ∷ pages) b out has =
     not_true false e = refl
 
 module _ (shape : Shape) (is_shape : IsShape shape) where
-  -- a block with a page of a value is behind the root blocks
+  -- a block with a page of a value is after the root blocks
   behind_roots : (taken : List (Key × Place)) (b : ℕ) → Placed shape taken → is_used shape taken b ≡ true → 2 ≤ b
   behind_roots [] b placed used = absurd (false≢true used)
   behind_roots (e ∷ es) b placed used =
@@ -137,7 +137,7 @@ module _ (shape : Shape) (is_shape : IsShape shape) where
     past_roots : (b : ℕ) → b < shape.blocks → get_or live.closed b false ≡ true → 2 ≤ b
     past_roots b inside closed = behind_roots taken b lives.places (sym (used_is b inside) ∙ closed)
 
-    -- so many are closed as have a page of a value
+    -- as many are closed as have a page of a value
     pub many_closed : flags live.closed ≡ length (blocks_with shape (all_pages shape taken))
     many_closed =
         ap flags flags_are ∙ count_map (is_used shape taken) (range_with_len 0 shape.blocks)
@@ -149,7 +149,7 @@ module _ (shape : Shape) (is_shape : IsShape shape) where
         at_most : (x y : ℕ) → nat_le x y ≡ true → x ≤ y
         at_most x y e = grind (arith, nat_tests)
 
-  -- what the root does not name is as it was
+  -- what the root does not name is unchanged
   unnamed : (root : Root) (b : ℕ) (s : Option BlockState) → is_among (named root) b ≡ false → option_map (state_of root b) s ≡ s
   unnamed root b s none =
       let parts = or_parts (is_among (root.newest ++ root.older) b) (is_among (concat root.runs) b) (sym (list_any-append (λ c. c == b) (root.newest ++ root.older) (concat root.runs)) ∙ none) in
@@ -217,7 +217,7 @@ flag_at xs i c d inside is told = slice_get-get_or xs i false inside ∙ ap (λ 
 
 -- ---- all of it
 
--- the live map stands for values outside of the root's blocks, which have their owners
+-- the live map represents values outside of the root's blocks, which have their owners
 pub record Settled (p : Blocks) (live : LiveValues) : Type 0 where
   pub many : length live.closed ≡ p.shape.blocks
   pub spare : (b : ℕ) → b < p.shape.blocks → get_or live.closed b false ≡ true → IsSpare p b

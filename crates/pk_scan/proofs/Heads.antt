@@ -1,4 +1,4 @@
--- A page begins with a head exactly where the head that is read from it is that one.
+-- A page begins with a head exactly if the head that is read from it is that one.
 use Rattle.std.proofs.Common.{◌≡◌, ℕ, Bool, true, List, ◌++◌, length, take, drop, sym, subst, ap, ◌∙◌, nat_eq}
 use Rattle.std.specs.List.{starts_with}
 use Rattle.std.proofs.lemmas.Bool.Decides.{same_from_decides}
@@ -23,7 +23,7 @@ begins bytes front e =
 pub begun : (bytes front : List ℕ) → length front ≡ 32 → starts_with nat_eq bytes front ≡ true → take 32 bytes ≡ front
 begun bytes front len e = ap (λ (r : List ℕ). take 32 r) (front_starts bytes front e) ∙ take_at front (drop (length front) bytes) 32 len
 
--- a test that tells whether the head is that of this key and length
+-- a test of whether the head is that of this key and length
 pub head_told : (bytes : List ℕ) (k k' : Key) (l l' : ℕ) (t : Bool) → IsKey k → take 32 bytes ≡ head_bytes k' l' → (take 32 bytes ≡ head_bytes k l → (k' ≡ k) × (l' ≡ l))
     → (t ≡ true → (k' ≡ k) × (l' ≡ l)) → ((k' ≡ k) × (l' ≡ l) → t ≡ true) → t ≡ starts_with nat_eq bytes (head_bytes k l)
 head_told bytes k k' l l' t is here only told tells =
@@ -32,7 +32,7 @@ head_told bytes k k' l l' t is here only told tells =
       λ both. begins bytes (head_bytes k l) (here ∙ (λ i. head_bytes (both.0 i) (both.1 i))),
     )
 
--- a test of two keys that tells whether they are the same
+-- a test of whether two keys are the same
 pub same_told : (a b : Key) (t : Bool) → t ≡ is_eq (key_cmp a b) → (t ≡ true → a ≡ b) × (a ≡ b → t ≡ true)
 same_told a b t is =
     (λ e. same_key a b (sym is ∙ e), λ same. is ∙ ap (λ (k : Key). is_eq (key_cmp k b)) same ∙ ap is_eq (tied_itself key_total b))

@@ -64,7 +64,7 @@ pub kept_more : (pins : Bool) (old new : Frames) (bytes : List ℕ) (lease : Opt
 kept_more pins old new bytes None (unwanted, same) = subst (λ (a : Frames). LeasedMore old a []) (sym same) (leased_none old)
 kept_more pins old new bytes (Some lease) (wanted, free, is_filled, leased, holds) = subst (λ (a : Frames). LeasedMore old a (lease ∷ [])) (sym is_filled) (leased_one old lease bytes free)
 
--- and there is one where it is wanted
+-- and there is one if it is wanted
 pub kept_wanted : (pins : Bool) (old new : Frames) (bytes : List ℕ) (lease : Option ℕ) → KeepsPage pins old new bytes lease → is_some lease ≡ pins
 kept_wanted pins old new bytes None (unwanted, same) = sym unwanted
 kept_wanted pins old new bytes (Some lease) keeps = sym keeps.0

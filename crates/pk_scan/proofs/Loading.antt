@@ -84,7 +84,7 @@ page_taken pins flash before after old new es many first last lease bytes least 
       ends = last_of es more (many - 1) last (let m = held.1 in omega (arith, some, m)) (ends old.level (length old.firsts) more held.0);
     }
 
--- ---- pages in a row
+-- ---- consecutive pages
 
 all_append : (P : Entry → Type 0) (xs ys : List Entry) → AllByRecursion P xs → AllByRecursion P ys → AllByRecursion P (xs ++ ys)
 all_append P [] ys front back = back
@@ -107,7 +107,7 @@ module _ (shape : Shape) (level count : ℕ) (blocks : List ℕ) (pins : Bool) (
   abbrev size : ℕ
   size = page_entries shape
 
-  -- i pages were read, and the reading of the run goes on behind their entries
+  -- i pages were read, and the reading of the run goes on after their entries
   pub record Loading (now : BoardState) (frames : Frames) (r : Kept) (last : Option Key) (i : ℕ) : Type 0 where
     pub es : List Entry
     pub board : now ≡ after_reads i old
@@ -162,7 +162,7 @@ module _ (shape : Shape) (level count : ℕ) (blocks : List ℕ) (pins : Bool) (
     goes_is : (many : ℕ) (bytes : List ℕ) (more : List Entry) → GoesOn r.shape r.level (length r.firsts) many l.es bytes more ≡ GoesOn shape level i many l.es bytes more
     goes_is many bytes more = rw (l.shape_is, l.level_is, l.pages) refl
 
-    -- what is left: this page and the others
+    -- what remains: this page and the others
     left_here : i < run_pages shape count → run shape (page_at old.pages) level count blocks
         ≡ meta shape level count i l.es ((page_in shape blocks i, page_at old.pages (page_in shape blocks i)) ∷ pages_of_blocks shape (page_at old.pages) blocks (i + 1) (run_pages shape count - (i + 1)))
     left_here inside =
@@ -295,14 +295,14 @@ module _ (shape : Shape) (level count : ℕ) (blocks : List ℕ) (pins : Bool) (
       stands = l.stands;
     }
 
-  -- the board behind
+  -- the board afterwards
   pub stays_behind : (made : ℕ) (new : BoardState) → new ≡ after_reads made old → IsReady old shape → StaysReady shape old new
   stays_behind made new is ready = stays_ready_behind shape old new (rest_reads old new (made, is)) ready
 
   pub stays_not_read : (new : BoardState) (e : PageError) → NotRead shape level count blocks old new e → IsReady old shape → StaysReady shape old new
   stays_not_read new e not_read ready = stays_ready_behind shape old new (rest_not_read shape level count blocks old new e not_read) ready
 
-  -- the pages stay
+  -- the pages are unchanged
   pub not_read_pages : (new : BoardState) (e : PageError) → NotRead shape level count blocks old new e → (new.pages ≡ old.pages) × (new.shape ≡ old.shape)
   not_read_pages new (Damaged page) refused = (ap (λ (b : BoardState). b.pages) refused.board, ap (λ (b : BoardState). b.shape) refused.board)
   not_read_pages new Fault refused = (ap (λ (b : BoardState). b.pages) refused.failed.rest, ap (λ (b : BoardState). b.shape) refused.failed.rest)
@@ -328,7 +328,7 @@ block_added old mid new blocks i b got is_mid is_new =
     is_new ∙ ap (λ (r : Kept). record r { blocks = r.blocks ++ b ∷ [] }) is_mid
     ∙ ap (λ (bs : List ℕ). record old { blocks = bs }) (append_assoc old.blocks (take i blocks) (b ∷ []) ∙ ap (λ (bs : List ℕ). old.blocks ++ bs) (sym (take_more blocks i b got)))
 
--- the blocks of so many entries are no more than those of the level
+-- the blocks of n entries are no more than those of the level
 pub blocks_fit : (shape : Shape) (level count : ℕ) → IsShape shape → count ≤ cap shape level * page_entries shape → run_blocks shape count ≤ blocks_of shape (cap shape level)
 blocks_fit shape level count is few =
     let some : 0 < shape.block_pages = let least : 8 ≤ shape.block_pages = is.block_least in omega arith in

@@ -1,4 +1,4 @@
--- The steps of opening, as the reading of a flash comes to them.
+-- The steps of opening, in the order of the reading of a flash.
 use Rattle.std.proofs.Common.{◌≡◌, ℕ, List, [], refl, subst, None, Result, Ok, Err}
 use Rattle.pk_base.specs.Shape.{Shape}
 use Rattle.pk_base.specs.Entry.{Entry}
@@ -29,14 +29,14 @@ pub as_part : {X : Type 0} (part : Result X Refusal) (old new : BoardState) (e :
 as_part part old new (PageDamaged page) why = why
 as_part part old new PageFault why = why
 
--- a refusal behind reads is one of all that was done
+-- a refusal after reads is one of all that was done
 pub behind_reads : {X : Type 0} (part : Result X Refusal) (old now new : BoardState) (e : OpenError) → OnlyReads old now → now.pages ≡ old.pages → PartNotOpened part now new e → PartNotOpened part old new e
 behind_reads part old now new NotFormatted reads same why = why
 behind_reads part old now new (Damaged page) reads same why = (why.0, reads_both old now new reads why.1)
 behind_reads part old now new Fault reads same why = counted_behind old now new reads why
 behind_reads part old now new Memory reads same why = reads_both old now new reads why
 
--- where a part refuses, so does the whole that begins with it
+-- if a part refuses, so does the whole that begins with it
 pub whole_refuses : {X Y : Type 0} (part : Result X Refusal) (whole : Result Y Refusal) (old new : BoardState) (e : OpenError) → ((refusal : Refusal) → part ≡ Err refusal → whole ≡ Err refusal) → PartNotOpened part old new e → PartNotOpened whole old new e
 whole_refuses part whole old new NotFormatted passes why = why
 whole_refuses part whole old new (Damaged page) passes why = (passes (damaged page) why.0, why.1)

@@ -46,7 +46,7 @@ module _ (pool : Blocks) (b : ℕ) where
   settled false e = refl
   settled true e = let within = inside (slice_get pool.states b) refl e in row_has b 0 (length pool.states) (omega arith) (omega (arith, within))
 
-  -- a block has an owner exactly where it is among those
+  -- a block has an owner exactly if it is among those
   pub owned_is : list_any (λ c. c == b) (owned_blocks pool) ≡ has_owner (slice_get pool.states b)
   unfolding owned_blocks
   owned_is = any-filter_same (λ c. c == b) owns (owns b) (λ c e. ap owns (eqb-true c b e)) (range_with_len 0 (length pool.states)) ∙ settled (owns b) refl
@@ -84,7 +84,7 @@ there_is : (p : Blocks) (b : ℕ) → IsSpare p b → slice_get p.states b ≡ N
 there_is p b (inl free) none = let clash : ◌≡◌ {A = Option BlockState} None (Some Free) = sym none ∙ free in cc
 there_is p b (inr ready) none = let clash : ◌≡◌ {A = Option BlockState} None (Some Ready) = sym none ∙ ready in cc
 
--- what has no owner has one where it is among the runs' blocks or the epochs'
+-- what has no owner has one if it is among the runs' blocks or the epochs'
 owned_if_named : (x y : Bool) (s : Option BlockState) → has_owner s ≡ false → ((y || x) ≡ true → s ≡ None → ⊥) → has_owner (option_map (λ t. owned_if Meta x (owned_if Journal y t)) s) ≡ (y || x)
 owned_if_named true true (Some t) none some = refl
 owned_if_named true false (Some t) none some = refl
@@ -107,7 +107,7 @@ module _ (shape : Shape) (root : Root) (is : IsShape shape) (e : is_root shape r
       absurd (omega (arith, one, none))
   none_owned b (Some (Leaving o)) at = absurd (none_leaves_unused shape b o at)
 
-  -- where the root's blocks have got their owners, they are those that have one
+  -- if the root's blocks have got their owners, they are those that have one
   pub owned_named : (pool : Blocks) → NamesOwned root (unused shape) pool → (b : ℕ) → list_any (λ c. c == b) (owned_blocks pool) ≡ list_any (λ c. c == b) (named root)
   owned_named pool owned b =
       let both : is_among (named root) b ≡ (is_among (root.newest ++ root.older) b || is_among (concat root.runs) b) = list_any-append (λ c. c == b) (root.newest ++ root.older) (concat root.runs) in

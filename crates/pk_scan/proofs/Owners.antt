@@ -1,4 +1,4 @@
--- The owners of all blocks, behind those of the root's blocks and of the values'.
+-- The owners of all blocks, after those of the root's blocks and of the values'.
 use Rattle.std.proofs.Common.{◌≡◌, inl, inr, ℕ, ◌-◌, ◌<◌, ◌≤◌, Bool, true, false, ◌==◌, List, [], ◌∷◌, ◌++◌, length, get_or, refl, sym, ap, subst, ◌∙◌, arith, Option, Some, None, option_map}
 use Rattle.std.specs.Prelude.{slice_get, count_by}
 use Rattle.std.specs.List.{concat, AllByRecursion}

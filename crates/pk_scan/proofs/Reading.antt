@@ -1,4 +1,4 @@
--- The reading of a value, page by page: it goes on behind pages that are right, and refuses with the first that is not.
+-- The reading of a value, page by page: it goes on after pages that are right, and refuses with the first that is not.
 use Rattle.std.proofs.Common.{◌≡◌, ℕ, zero, suc, ◌+◌, ◌-◌, ◌*◌, ◌<◌, ◌≤◌, Bool, true, false, ◌&&◌, List, [], ◌++◌, take, drop, refl, sym, ap, ◌∙◌, arith, inl, inr}
 use Rattle.std.specs.Prelude.{Result, Ok, Err, nat_eq, ◌==◌}
 use Rattle.std.specs.List.{list_all, starts_with}
@@ -36,7 +36,7 @@ refused page front left erased go_on e = refl
 refused page front left torn go_on e = refl
 refused page front left (whole bytes) go_on e = one_false page (starts_with nat_eq bytes front) (list_all (λ b. b == 0) (drop left bytes)) (take left bytes) (go_on bytes) e
 
--- what refuses behind a page is what refuses
+-- what refuses after a page is what refuses
 through : (rest : Result (List ℕ) Refusal) (piece : List ℕ) (e : Refusal) → (rest >>= (λ r. Ok (piece ++ r))) ≡ Err e → rest ≡ Err e
 through (Ok r) piece e is = cc
 through (Err f) piece e is = cc
@@ -106,7 +106,7 @@ module _ (shape : Shape) (at : ℕ → Page) where
         omega (arith, is)
   ]
 
-  -- what refuses stands behind all that are right
+  -- what refuses comes after all that are right
   pub not_before : (i n page : ℕ) (front : List ℕ) (left q : ℕ) → i ≤ n → ((k : ℕ) → k < i → Right page front left k) → value_from shape at page front left n ≡ Err (damaged q) → page + i ≤ q
   not_before zero n page front left q room each e = omega (arith, at_or_behind n page front left q e)
   not_before (suc i) zero page front left q room each e = absurd (omega arith)

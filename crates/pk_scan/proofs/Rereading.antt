@@ -1,4 +1,4 @@
--- The reading of a run, page by page: it goes on behind a page that goes on behind those before, and refuses with any other.
+-- The reading of a run, page by page: it goes on after a page whose entries follow those before, and refuses with any other.
 use Rattle.std.proofs.Common.{◌≡◌, ℕ, zero, suc, ◌*◌, ◌<◌, ◌≤◌, min, Bool, true, false, not, ◌||◌, ◌==◌, T, List, [], ◌∷◌, ◌++◌, length, refl, ap, sym, ◌∙◌, arith, Option, Some, None, option_map, Err, append_assoc, suc-mul, mul-le-mul_right, lt_of_mul-lt-mul_right}
 use Rattle.std.specs.Prelude.{slice_get}
 use Rattle.std.specs.Int.{div_ceil}
@@ -18,7 +18,7 @@ of_true : (b : Bool) → b ≡ true → T b
 of_true true e = tt
 of_true false e = cc
 
--- no entries of the page go on behind those before: it refuses
+-- no entries of the page follow those before: it refuses
 pub meta_refused : (shape : Shape) (level count index : ℕ) (before : List Entry) (p : ℕ) (page : Page) (pages : NumberedPages)
     → ((bytes : List ℕ) (more : List Entry) → page ≡ whole bytes → GoesOn shape level index (share shape count index) before bytes more → ⊥)
     → meta shape level count index before ((p, page) ∷ pages) ≡ Err (damaged p)
@@ -58,7 +58,7 @@ last_of es more n last many ends =
 
 -- ---- numbers
 
--- so many entries have no more pages than so many full ones
+-- n entries have no more pages than n full ones
 pub pages_most : (count size most : ℕ) → 0 < size → count ≤ most * size → div_ceil count size ≤ most
 pages_most count size most some few =
     let q : ℕ = div_ceil count size in
@@ -67,11 +67,11 @@ pages_most count size most some few =
     let less : q < suc most = lt_of_mul-lt-mul_right size low in
     omega (arith, less)
 
--- and fewer pages lie in no more blocks
+-- and fewer pages are in no more blocks
 pub blocks_most : (pages most size : ℕ) → 0 < size → pages ≤ most → div_ceil pages size ≤ div_ceil most size
 blocks_most pages most size some few = pages_most pages size (div_ceil most size) some (let all = (div_ceil_times most size some).0 in omega (arith, few, all))
 
--- behind so many full pages there are more entries
+-- after n full pages there are more entries
 pub more_left : (count size i : ℕ) → 0 < size → i < div_ceil count size → i * size < count
 more_left count size i some less =
     let bounds = div_ceil_times count size some in

@@ -1,4 +1,4 @@
--- Entries that rise by key, and go on behind others: it is enough to compare the last key with the next one.
+-- Entries that rise by key, and follow others: it is enough to compare the last key with the next one.
 use Rattle.std.proofs.Common.{◌≡◌, Bool, true, false, ◌&&◌, T, List, [], ◌∷◌, ◌++◌, refl, sym, subst, Ordering, Less, Equal, Greater}
 use Rattle.std.specs.Ordering.{is_lt}
 use Rattle.std.specs.FinMap.Entries.{is_sorted, below_all}

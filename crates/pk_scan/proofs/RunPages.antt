@@ -89,7 +89,7 @@ module _ (shape : Shape) (level index count : ℕ) (page : List ℕ) (es : List 
       goes : T (is_sorted key_cmp (before ++ es)) → GoesOnOr shape level index count before page true
       goes rising = (es, record { holds = holds; rising = rising; deepest = deep })
 
-      -- behind none, or behind the last one
+      -- after none, or after the last one
       with_last : (next : Entry) (rest : List Entry) → es ≡ next ∷ rest → key_of next ≡ first → (last : Option Key) → IsLast last before → (b : Bool) → b ≡ is_behind last first → GoesOnOr shape level index count before page b
       with_last next rest e key None none true is = goes (subst (λ (xs : List Entry). T (is_sorted key_cmp (xs ++ es))) (sym none) up)
       with_last next rest e key None none false is = let clash : false ≡ true = is in cc

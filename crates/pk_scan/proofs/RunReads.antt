@@ -1,4 +1,4 @@
--- How many pages of the runs are read: each once for the first keys, and once more in a walk where it has no frame.
+-- How many pages of the runs are read: each once for the first keys, and once more in a walk if it has no frame.
 use Rattle.std.proofs.Common.{◌≡◌, ℕ, ◌+◌, ◌*◌, Bool, true, false, List, [], ◌∷◌, length, refl, sym, ap, ◌∙◌, arith}
 use Rattle.std.specs.Prelude.{nat_le, if◌then◌else◌}
 use Rattle.pk_base.specs.Shape.{Shape, run_pages}

@@ -53,7 +53,7 @@ set_length [] k y = refl
 set_length (x ∷ xs) zero y = refl
 set_length (x ∷ xs) (suc k) y = ap suc (set_length xs k y)
 
--- what a level of those that are pinned wants
+-- what a pinned level needs
 wanted_one : (k p : ℕ) (xs : List ℕ) → k < p → total (drop k (take p xs)) ≡ get_or xs k 0 + total (drop (suc k) (take p xs))
 wanted_one k zero xs h = absurd (omega (arith, h))
 wanted_one zero (suc p) [] h = refl
@@ -68,7 +68,7 @@ wanted_none zero (suc p) xs h = absurd (omega (arith, h))
 wanted_none (suc k) (suc p) [] h = refl
 wanted_none (suc k) (suc p) (x ∷ xs) h = wanted_none k p xs (omega (arith, h))
 
--- ---- runs that stand
+-- ---- runs that match the flash
 
 stand_kept : (flash : Flash) (old new : Frames) → RunsStand old new → (rs : List Kept) (ess : List (List Entry)) → RunsOnFlash flash old rs ess → RunsOnFlash flash new rs ess
 stand_kept flash old new kept [] [] each = tt
@@ -169,8 +169,8 @@ module _ (shape : Shape) (at : ℕ → Page) where
 
 -- ---- the loop
 
--- The first so many levels were read, for which frames were leased since the start; the reading of the runs has these entries,
--- and goes on with the other levels.
+-- The first n levels were read, for which frames were leased since the start; the reading of the runs has these entries, and
+-- goes on with the other levels.
 pub record RunsTo (shape : Shape) (root : Root) (flash : Flash) (pinned : ℕ) (start arena : Frames) (levels : Levels) (k : ℕ) : Type 0 where
   pub ess : List (List Entry)
   pub comes : runs_from shape (page_at flash) 1 root.counts root.runs ≡ behind ess (runs_from shape (page_at flash) (suc k) (drop k root.counts) (drop k root.runs))

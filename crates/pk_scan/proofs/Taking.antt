@@ -77,7 +77,7 @@ module _ (shape : Shape) (named : List ℕ) (live : Values) (taken : List (Key �
   read : (h : ℕ) → get_or live.heads h 0 ≡ head_of shape taken h
   read h = ap (λ hs. get_or hs h 0) heads_are ∙ heads_read shape is_shape taken h lives.places
 
-  -- a page is live exactly where it is one of the values' pages
+  -- a page is live exactly if it is one of the values' pages
   live_has : (p : ℕ) → IsLive live p → has p old ≡ true
   live_has p is = covered shape is_shape taken now.apart is.0 p is.1 (omega (arith, is.2, read is.0))
 
@@ -176,7 +176,7 @@ module _ (shape : Shape) (named : List ℕ) (live : Values) (taken : List (Key �
 
   -- ---- the live map with the value
 
-  -- where the test is passed, no value begins at the page
+  -- if the test is passed, no value begins at the page
   fresh : fits shape named (old ++ own) ≡ true → head_of shape taken place.page ≡ 0
   fresh e = elim (cases_lt 0 (head_of shape taken place.page)) [
     | inl more ↦

@@ -30,7 +30,7 @@ use Rattle.pk_scan.specs.declared.errors.PageError.{PageError}
 use Rattle.pk_scan.specs.declared.errors.PageError.TheVariants.{Damaged, Fault}
 use Rattle.pk_nand.specs.BoardState.{BoardState}
 
--- a value of so many bytes begins at this page
+-- a value of n bytes begins at this page
 abbrev pub place : ℕ → ℕ → Place
 place page len = record { page = page; len = len }
 
@@ -83,7 +83,7 @@ module _ (shape : Shape) (flash : Flash) (named : List ℕ) (es : List (Key × P
 
 -- ---- the walk over them
 
--- So many values were taken of those that the walk gave at its start, and it has the rest still to give.
+-- This many values were taken of those that the walk had at its start, and it still has the rest to return.
 pub record TakenTo (shape : Shape) (flash : Flash) (arena : Frames) (runs : List Kept) (active frozen : List Entry) (named : List ℕ) (start walk : Walk) (live : Values) (k : ℕ) : Type 0 where
   pub es : List (Key × Place)
   pub taken : List (Key × Place)
@@ -135,7 +135,7 @@ module _ (shape : Shape) (flash : Flash) (arena : Frames) (runs : List Kept) (ac
       let many = t.many in
       omega (arith, few, some, many)
 
--- what an answer of the walk says of what was left
+-- what an answer of the walk says of what remained
 pub gives_put : (key : Key) (page len : ℕ) (rest later : List (Key × Place)) → Gives (Some (Put key page len)) rest later → rest ≡ (key, place page len) ∷ later
 gives_put key page len [] later g = let none : ◌≡◌ {A = Option RustEntry} (Some (Put key page len)) None = g.0 in cc
 gives_put key page len (x ∷ rest) later g =
@@ -202,7 +202,7 @@ module _ (shape : Shape) (flash : Flash) (arena : Frames) (runs : List Kept) (ac
         )
     TakenTo-refused old now new Fault reads same why es left = counted_behind old now new reads (why.1.reads.flash, why.1.reads.read)
 
-  -- behind the last of them all were taken
+  -- after the last of them all were taken
   pub TakenTo-all : t.rest ≡ [] → (es : List (Key × Place)) → of_start es → t.taken ≡ es
   TakenTo-all none es left =
       (ValuesTo-end shape flash named t.es live t.taken (subst (ValuesTo shape flash named t.es live t.taken) none t.to)).2 ∙ left_one shape flash arena runs active frozen named start start t.es es t.starts left

@@ -15,7 +15,7 @@ reads_one_more : (shape : Shape) (es : List (Key × Place)) (key : Key) (at : Pl
 reads_one_more shape [] key at = omega arith
 reads_one_more shape (e ∷ es) key at = let rest = reads_one_more shape es key at in omega (arith, rest)
 
--- Where no page is skipped: those that the walk has come past since its start were read, and those of these values.
+-- If no page is skipped: those that the walk has passed since its start were read, and those of these values.
 abbrev pub HaveRead : Shape → List Kept → Walk → Walk → List (Key × Place) → BoardState → BoardState → Type 0
 HaveRead shape runs start walk taken old now =
     SkipsNone start → SkipsNone walk × (n : ℕ) × (n + pages_read runs start.cursors ≡ pages_read runs walk.cursors) × (now ≡ after_reads (n + value_reads shape taken) old)
@@ -46,7 +46,7 @@ module _ (shape : Shape) (runs : List Kept) (start : Walk) (old : BoardState) wh
         let count : charge shape at.len + (far.1 + value_reads shape taken) ≡ far.1 + value_reads shape (taken ++ (key, at) ∷ []) = omega (arith, more) in
         (far.0, far.1, far.2, ok ∙ ap (after_reads (charge shape at.len)) far.3 ∙ reads_more (charge shape at.len) (far.1 + value_reads shape taken) old ∙ ap (λ (k : ℕ). after_reads k old) count)
 
-    -- behind the last key all pages of the runs and of the values were read
+    -- after the last key all pages of the runs and of the values were read
     pub HaveRead-end : (SkipsNone walk → pages_read runs walk'.cursors ≡ most_read runs) → SkipsNone start → pages_read runs start.cursors ≡ 0 → (es : List (Key × Place)) → taken ≡ es
         → mid ≡ after_reads (most_read runs + value_reads shape es) old
     HaveRead-end ended none nothing es same =

@@ -1,4 +1,4 @@
--- The frames that pinned levels want are there: so many levels are pinned only where they are.
+-- The frames that pinned levels need exist: only as many levels are pinned as have them.
 use Rattle.std.proofs.Common.{◌≡◌, ℕ, ◌≤◌, Bool, true, false, refl, arith}
 use Rattle.std.specs.Prelude.{nat_le, if◌then◌else◌}
 use Rattle.pk_base.specs.Shape.{Shape, need, pinned}

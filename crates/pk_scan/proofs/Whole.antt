@@ -120,7 +120,7 @@ module _ (shape : Shape) (at : ℕ → Page) where
 
 -- ---- refusals
 
--- where a part refuses, so does the reading of the flash
+-- if a part refuses, so does the reading of the flash
 pub as_whole : {X : Type 0} (part : Result X Refusal) (shape : Shape) (old new : BoardState) (e : OpenError) → ((refusal : Refusal) → part ≡ Err refusal → reading shape old.pages [] ≡ Err refusal) → PartNotOpened part old new e → NotOpened shape old new e
 as_whole part shape old new NotFormatted passes why = absurd why
 as_whole part shape old new (Damaged page) passes why = (passes (damaged page) why.0, why.1)
@@ -141,7 +141,7 @@ module _ (shape : Shape) (page : ℕ) (root : Root) (old : BoardState) (top : ne
       as_whole part shape old new e (values_refuse shape old.pages page root top found is room)
       (behind_reads part old now new e reads same (subst (λ (f : Flash). PartNotOpened (values_of shape (page_at f) (named root) [] (places found [])) now new e) same why))
 
--- ---- all that stands on the flash
+-- ---- all that is on the flash
 
 module _ {A : Type 0} (shape : Shape) (flash : Flash) (frames : ℕ) (f : Opened A) (found : Found) (held : HoldsFound shape flash f.root.root f.active f.frozen f.epoch f.arena f.levels found)
     (top : newest_root shape (page_at flash) ≡ Some (f.root_page, f.root.root)) (pinned_is : f.levels.pinned ≡ pinned shape frames) (live : Values) (values : ReadsValues shape flash (named f.root.root) live (places found [])) where
@@ -194,7 +194,7 @@ module _ {A : Type 0} (shape : Shape) (flash : Flash) (frames : ℕ) (f : Opened
       sum : (roots older newest once again all values : ℕ) → once + again ≡ all → (again + values) + (roots + (older + newest + once)) ≡ roots + older + newest + all + values
       sum roots older newest once again all values e = omega (arith, e)
 
--- the lists were read behind the root
+-- the lists were read after the root
 pub root_then_lists : (shape other : Shape) (root : Root) (old now new : BoardState) → other ≡ shape → now ≡ after_reads (root_pages shape) old → now.pages ≡ old.pages → new ≡ after_reads (list_reads other (page_at now.pages) root) now
     → new ≡ after_reads (root_pages shape + list_reads shape (page_at old.pages) root) old
 root_then_lists shape other root old now new is first same second =
@@ -205,7 +205,7 @@ root_then_lists shape other root old now new is first same second =
     swap : (m n : ℕ) → m + n ≡ n + m
     swap m n = omega arith
 
--- the root was found, and behind it the lists
+-- the root was found, and after it the lists
 pub finds_lists : {A : Type 0} (flash now : Flash) (old mid new : Opened A) (found : Found) → new ≡ record mid { active = new.active; frozen = new.frozen; levels = new.levels; arena = new.arena; epoch = new.epoch }
     → mid.root.shape ≡ old.root.shape → mid.levels ≡ old.levels → mid.arena ≡ old.arena → now ≡ flash → newest_root old.root.shape (page_at flash) ≡ Some (mid.root_page, mid.root.root) → mid.root_page < root_pages old.root.shape
     → is_root old.root.shape mid.root.root ≡ true → old.levels.shape ≡ old.root.shape → length new.active.entries ≤ new.active.capacity → LoadsLists now mid new found → FindsLists flash old new found
@@ -233,7 +233,7 @@ module _ {A : Type 0} (shape a : Shape) (f : Opened A) (is : a ≡ shape) (root_
   held_old : HoldsFound a old.pages f.root.root f.active f.frozen f.epoch f.arena f.levels found
   held_old = subst (λ (s : Shape). HoldsFound s old.pages f.root.root f.active f.frozen f.epoch f.arena f.levels found) before_is finds.held
 
-  -- the lists still stand on the board behind them
+  -- the lists still match the board after them
   pub held_behind : HoldsLists now.pages f found
   held_behind =
       subst (λ (x : Flash). HoldsFound f.root.shape x f.root.root f.active f.frozen f.epoch f.arena f.levels found) (sym same)
@@ -291,7 +291,7 @@ awaits_lists shape frames f none = record {
   free = subst (λ (s : Shape). wanted_behind s f.levels.pinned 0 ≤ free_frames f.arena) (sym none.root_shape) (frames_enough shape frames f.levels f.arena none.no_run none.all_free);
 }
 
--- behind the lists the values may be read
+-- after the lists the values may be read
 pub awaits_values : {A : Type 0} (shape : Shape) (frames : ℕ) (flash : Flash) (was now : Working A) (found : Found) → IsUnread shape frames was → FindsLists flash was.found now.found found
     → now.found.root.shape ≡ was.found.root.shape → now.found.live ≡ was.found.live → now.walk ≡ was.walk → now.found.pool ≡ was.found.pool → length now.page.items ≡ was.found.root.shape.page_bytes → AwaitsValues now
 awaits_values shape frames flash was now found unread finds root_is live walk pool room =

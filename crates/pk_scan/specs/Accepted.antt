@@ -1,4 +1,4 @@
--- A value as the next one that the reading of a flash comes to.
+-- A value as the next one that the reading of a flash reaches.
 use Rattle.std.specs.Prelude.{◌≡◌, ℕ, suc, ◌-◌, List, [], ◌∷◌, ◌++◌, true, Ok, Err, if◌then◌else◌}
 use Rattle.pk_base.specs.Key.{Key}
 use Rattle.pk_base.specs.Shape.{Shape}
@@ -13,7 +13,7 @@ use Rattle.pk_scan.specs.Checked.{Faulted}
 use Rattle.pk_scan.specs.declared.errors.PageError.{PageError}
 use Rattle.pk_scan.specs.declared.errors.PageError.TheVariants.{Damaged, Fault}
 
--- Behind the values that were taken, the reading finds this one and goes on with the others.
+-- After the values that were taken, the reading finds this one and goes on with the others.
 pub record Accepted (shape : Shape) (flash : Flash) (named : List ℕ) (taken : List (Key × Place)) (key : Key) (place : Place) : Type 0 where
   pub value : List ℕ
   pub found : value_at shape (page_at flash) key place ≡ Ok value
@@ -21,7 +21,7 @@ pub record Accepted (shape : Shape) (flash : Flash) (named : List ℕ) (taken : 
       → values_of shape (page_at flash) named (all_pages shape taken) ((key, place) ∷ rest)
       ≡ (values_of shape (page_at flash) named (all_pages shape (taken ++ (key, place) ∷ [])) rest >>= (λ others. Ok ((key, value) ∷ others)))
 
--- The reading refuses this value with the page. Its pages were read up to this one, or none where they may not be taken.
+-- The reading refuses this value with the page. Its pages were read up to this one, or none if they may not be taken.
 pub record RefusedWith (shape : Shape) (old new : BoardState) (named : List ℕ) (taken : List (Key × Place)) (key : Key) (place : Place) (page : ℕ) : Type 0 where
   pub refusal : (rest : List (Key × Place)) → values_of shape (page_at old.pages) named (all_pages shape taken) ((key, place) ∷ rest) ≡ Err (damaged page)
   pub board : new ≡ (if fits shape named (all_pages shape taken ++ value_pages shape place) then after_reads (suc (page - place.page)) old else old)

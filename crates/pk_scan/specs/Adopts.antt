@@ -34,7 +34,7 @@ abbrev pub owned_if : Owner → Bool → BlockState → BlockState
 owned_if owner true state = Owned owner
 owned_if owner false state = state
 
--- The blocks that pass the test, so many, became the owner's, and all others are what they were.
+-- The blocks that pass the test, n of them, became the owner's, and all others are unchanged.
 pub record Adopts (owner : Owner) (test : ℕ → Bool) (n : ℕ) (old new : Blocks) : Type 0 where
   pub shape : new.shape ≡ old.shape
   pub states : (b : ℕ) → slice_get new.states b ≡ option_map (owned_if owner (test b)) (slice_get old.states b)
@@ -42,7 +42,7 @@ pub record Adopts (owner : Owner) (test : ℕ → Bool) (n : ℕ) (old new : Blo
   pub others : (o : Owner) → same_owner o owner ≡ false → used_by o new.states ≡ used_by o old.states
   pub fits : (flash : Flash) → PoolOnFlash old flash → PoolOnFlash new flash
 
--- what a block is of which a root tells
+-- what a block is that a root names
 abbrev pub state_of : Root → ℕ → BlockState → BlockState
 state_of root b state = owned_if Meta (is_among (concat root.runs) b) (owned_if Journal (is_among (root.newest ++ root.older) b) state)
 
@@ -55,7 +55,7 @@ pub record NamesOwned (root : Root) (old new : Blocks) : Type 0 where
   pub values : used_by Values new.states ≡ used_by Values old.states
   pub fits : (flash : Flash) → PoolOnFlash old flash → PoolOnFlash new flash
 
--- In a new pool the blocks of the root's epochs became the journal's, and those of its runs meta blocks. So many these owners have, and
+-- In a new pool the blocks of the root's epochs became the journal's, and those of its runs meta blocks. These owners have as many, and
 -- the values none.
 pub record RootOwned (shape : Shape) (root : Root) (pool : Blocks) : Type 0 where
   pub named_owned : NamesOwned root (unused shape) pool

@@ -1,4 +1,4 @@
--- What a check of a value answers, and the board behind it.
+-- What a check of a value returns, and the board after it.
 use Rattle.std.specs.Prelude.{◌≡◌, ℕ, suc, ◌+◌, ◌-◌, ◌<◌, ◌≤◌, List, false, Ok, Err}
 use Rattle.pk_base.specs.Key.{Key}
 use Rattle.pk_base.specs.Shape.{Shape, charge}

@@ -85,7 +85,7 @@ pub record AwaitsValues {A : Type 0} (m : Memory A) : Type 0 where
   pub pool_unused : m.found.pool ≡ unused m.found.root.shape
   pub page_room : length m.page.items ≡ m.found.root.shape.page_bytes
 
--- The values of all keys that are there were read, each page once: the live map stands for them, and the keys are counted.
+-- The values of all keys that exist were read, each page once: the live map represents them, and the keys are counted.
 pub record FindsValues {A : Type 0} (old new : BoardState) (f : Found A) (lists : FoundLists) : Type 0 where
   pub values : ReadsValues f.root.shape old.pages (named f.root.root) f.live (places lists [])
   pub keys_are : f.keys ≡ length (places lists [])

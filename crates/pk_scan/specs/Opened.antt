@@ -1,4 +1,4 @@
--- All that stands on a flash, as opening has it in memory.
+-- All that is on a flash, as opening has it in memory.
 use Rattle.std.specs.Prelude.{◌≡◌, ◌≢◌, ℕ, ◌<◌, true, [], length}
 use Rattle.pk_base.specs.Shape.{Shape, root_pages, pinned}
 use Rattle.pk_base.specs.Page.{Flash, page_at, erased}
@@ -36,16 +36,16 @@ pub record ListsOnFlash {A : Type 0} (shape : Shape) (flash : Flash) (frames : �
   pub run_blocks : HaveBlocks shape f.levels.runs f.root.root.runs
   pub arena_is : HasArena shape frames f.levels f.arena []
 
--- The live map stands for the values of the keys that are there, and each block has the owner that it is found to have: the values'
--- are those with a page of a value.
+-- The live map represents the values of the keys that exist, and each block has the owner that it is found to have: the values' are
+-- those with a page of a value.
 pub record BlocksOnFlash {A : Type 0} (shape : Shape) (flash : Flash) (f : Found A) (lists : FoundLists) : Type 0 where
   pub lives : Lives shape (named f.root.root) f.live (places lists [])
   pub written : (k : ℕ) → IsValuePage shape (places lists []) k → page_at flash k ≢ erased
   pub owners : HasOwners shape f.root.root f.live f.pool
   pub values_are : used_by for_values f.pool.states ≡ length (blocks_with shape (all_pages shape (places lists [])))
 
--- The flash is opened: the lists under its newest root are in memory, the live map stands for the values of the keys that are
--- there, each block has its owner, and the keys are counted.
+-- The flash is opened: the lists under its newest root are in memory, the live map represents the values of the keys that
+-- exist, each block has its owner, and the keys are counted.
 pub record FoundOnFlash {A : Type 0} (shape : Shape) (flash : Flash) (frames : ℕ) (f : Found A) : Type 0 where
   pub found : FoundLists
   pub map : Map

@@ -37,7 +37,7 @@ use Rattle.pk_scan.specs.declared.errors.OpenError.TheVariants.{NotFormatted, Da
 abbrev pub OnlyReads : BoardState → BoardState → Type 0
 OnlyReads old new = (n : ℕ) × (new ≡ after_reads n old)
 
--- a read failed, and both counts of faults tell of it
+-- a read failed, and both counts of faults record it
 abbrev pub FaultCounted : BoardState → BoardState → Type 0
 FaultCounted old new = Rose old.flash_faults new.flash_faults × Rose old.read_faults new.read_faults
 
@@ -72,7 +72,7 @@ pub record HoldsEpoch (shape : Shape) (read : Result (List Entry) Refusal) (into
   pub held : into ≡ buffer_of shape entries
   pub each : AllByRecursion (IsEntry shape) entries
 
--- the older epoch, where the root names one
+-- the older epoch, if the root names one
 abbrev pub OlderHeld : Shape → Flash → Root → Table → Type 0
 OlderHeld shape flash root into = (entries : List Entry) × HoldsEpoch shape (older_epoch shape (page_at flash) root) into entries
 
@@ -89,14 +89,14 @@ NewestHeld shape flash root into epoch =
 
 -- ---- runs
 
--- The runs from this level on have so many entries; each page has a frame up to the last level that is pinned, and none behind it.
+-- The runs from this level on have this many entries; each page has a frame up to the last level that is pinned, and none after it.
 abbrev pub HaveFrames : ℕ → ℕ → List Kept → List ℕ → Type 0
 HaveFrames pinned level [] [] = ⊤
 HaveFrames pinned level [] (count ∷ counts) = ⊥
 HaveFrames pinned level (r ∷ rs) [] = ⊥
 HaveFrames pinned level (r ∷ rs) (count ∷ counts) = (r.count ≡ count) × IsPinnedIf (nat_le level pinned) r × HaveFrames pinned (level + 1) rs counts
 
--- the reading of the runs finds these lists, and the levels stand for them, with the blocks that the root names
+-- the reading of the runs finds these lists, and the levels represent them, with the blocks that the root names
 pub record HoldsRuns (shape : Shape) (flash : Flash) (root : Root) (arena : Frames) (levels : Levels) (ess : List (List Entry)) : Type 0 where
   pub finds : runs_from shape (page_at flash) 1 root.counts root.runs ≡ Ok ess
   pub stand : RunsOnFlash flash arena levels.runs ess
@@ -111,8 +111,8 @@ level_of root at level = run root.shape at level (slice_index root.root.counts (
 abbrev pub level_reads : Held → ℕ → ℕ
 level_reads root level = run_pages root.shape (slice_index root.root.counts (level - 1))
 
--- The run of a level was read, and stands at it with its blocks; its frames were free, those of the others contain what they
--- contained, and so many are free still.
+-- The run of a level was read, and is in its place with its blocks; its frames were free, those of the others are unchanged,
+-- and this many are still free.
 pub record LoadsLevel (shape : Shape) (root : Root) (level : ℕ) (flash : Flash) (before after : Frames) (old new : Levels) : Type 0 where
   pub entries : List Entry
   pub kept : Kept
@@ -128,11 +128,11 @@ pub record LoadsLevel (shape : Shape) (root : Root) (level : ℕ) (flash : Flash
   pub pinned : level ≤ old.pinned → free_frames before ≤ free_frames after + cap shape level
   pub unpinned : old.pinned < level → free_frames before ≤ free_frames after
 
--- So many frames are wanted for the levels behind the first ones, where so many levels are pinned.
+-- This many frames are needed for the levels after the first ones, if this many levels are pinned.
 abbrev pub wanted_behind : Shape → ℕ → ℕ → ℕ
 wanted_behind shape pinned levels = total (drop levels (take pinned (caps shape)))
 
--- The run of a level may be read under a root: the levels and the arena have its shape, and frames are free where the level is pinned.
+-- The run of a level may be read under a root: the levels and the arena have its shape, and frames are free if the level is pinned.
 pub record MayLoadLevel (root : Held) (level : ℕ) (arena : Frames) (levels : Levels) : Type 0 where
   pub least : 1 ≤ level
   pub most : level ≤ LEVELS
@@ -177,7 +177,7 @@ pub record HoldsFound (shape : Shape) (flash : Flash) (root : Root) (active froz
 
 -- ---- values
 
--- The reading of the flash finds values at these places, one after another, and the live map stands for them.
+-- The reading of the flash finds values at these places, one after another, and the live map represents them.
 pub record ReadsValues (shape : Shape) (flash : Flash) (named : List ℕ) (live : Values) (es : List (Key × Place)) : Type 0 where
   pub values : List (Key × List ℕ)
   pub read : values_of shape (page_at flash) named [] es ≡ Ok values

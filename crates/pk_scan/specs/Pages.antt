@@ -8,12 +8,12 @@ use Rattle.pk_base.specs.Entry.{Place}
 use Rattle.pk_base.specs.Page.{Page, erased, whole, torn}
 use Rattle.pk_segfmt.specs.Value.{head_bytes}
 
--- the bytes with which page i of a value has to begin: its head, and none behind the first page
+-- the bytes with which page i of a value has to begin: its head, and none after the first page
 abbrev pub front_of : List ℕ → ℕ → List ℕ
 front_of head zero = head
 front_of head (suc i) = []
 
--- the bytes begin with the front, and zeros stand behind those that are left
+-- the bytes begin with `front`, and zeros follow the first `left` of them
 abbrev pub fits_page : List ℕ → ℕ → List ℕ → Bool
 fits_page front left bytes = starts_with nat_eq bytes front && list_all (λ b. b == 0) (drop left bytes)
 
@@ -23,7 +23,7 @@ passes front left erased = false
 passes front left torn = false
 passes front left (whole bytes) = fits_page front left bytes
 
--- the bytes that are left for page i of a value and the pages behind it
+-- the bytes that remain for page i of a value and the pages after it
 abbrev pub left_at : Shape → ℕ → ℕ → ℕ
 left_at shape len i = HEAD_BYTES + len - i * shape.page_bytes
 

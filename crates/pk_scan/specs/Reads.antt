@@ -1,4 +1,4 @@
--- How many pages opening reads, by what stands on the flash.
+-- How many pages opening reads, by what is on the flash.
 use Rattle.std.specs.Prelude.{ℕ, ◌+◌, ◌*◌, List, [], ◌∷◌, nat_le, if◌then◌else◌, Option, Some, None, Result, Ok, Err}
 use Rattle.pk_base.specs.Key.{Key}
 use Rattle.pk_base.specs.Shape.{Shape, charge, root_pages, pinned, run_pages}
@@ -11,7 +11,7 @@ use Rattle.pk_model.specs.Found.{Found, found_under}
 use Rattle.pk_jrn.specs.Replays.{epoch_reads}
 use Rattle.pk_steps.specs.Under.{places}
 
--- The runs from this level on are read once for the first keys of their pages, and where they have no frames once more for their
+-- The runs from this level on are read once for the first keys of their pages, and if they have no frames once more for their
 -- entries.
 abbrev pub run_reads : Shape → ℕ → ℕ → List ℕ → ℕ
 run_reads shape pinned level [] = 0
@@ -37,7 +37,7 @@ reads_under shape at frames root found =
     root_pages shape + epoch_reads shape at root.older + epoch_reads shape at root.newest + run_reads shape (pinned shape frames) 1 root.counts
     + value_reads shape (places found [])
 
--- all reads under a root, where the lists of entries are found; else there is no map to open
+-- all reads under a root, if the lists of entries are found; otherwise there is no map to open
 abbrev pub reads_if_found : Shape → (ℕ → Page) → ℕ → Root → Result Found Refusal → ℕ
 reads_if_found shape at frames root (Ok found) = reads_under shape at frames root found
 reads_if_found shape at frames root (Err refusal) = 0
@@ -47,6 +47,6 @@ abbrev pub reads_if_root : Shape → (ℕ → Page) → ℕ → Option (ℕ × R
 reads_if_root shape at frames None = 0
 reads_if_root shape at frames (Some top) = reads_if_found shape at frames top.1 (found_under shape at top.1)
 
--- how many pages an opening with so many frames reads of a flash that holds a map
+-- how many pages an opening with this many frames reads of a flash that holds a map
 unfoldable pub opened : Shape → Flash → ℕ → ℕ
 opened shape flash frames = reads_if_root shape (page_at flash) frames (newest_root shape (page_at flash))

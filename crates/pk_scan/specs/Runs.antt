@@ -26,7 +26,7 @@ abbrev pub AllExist : Shape → List ℕ → Type 0
 AllExist shape blocks = (n : ℕ) → n < length blocks → slice_index blocks n < shape.blocks
 
 module _ (shape : Shape) (level count : ℕ) (blocks : List ℕ) where
-  -- The reading of the run finds entries, and what is kept of it stands for them.
+  -- The reading of the run finds entries, and what is in memory represents them.
   pub record HasRun (flash : Flash) (arena : Frames) (r : Kept) : Type 0 where
     pub entries : List Entry
     pub read : run shape (page_at flash) level count blocks ≡ Ok entries
@@ -34,12 +34,12 @@ module _ (shape : Shape) (level count : ℕ) (blocks : List ℕ) where
     pub counted : r.count ≡ count
     pub stands : RunOnFlash r flash arena entries
 
-  -- behind so many pages the reading of the run has these entries, and goes on with the other pages
+  -- after this many pages the reading of the run has these entries, and goes on with the other pages
   abbrev pub ComesTo : Flash → ℕ → List Entry → Type 0
   ComesTo flash index es =
       run shape (page_at flash) level count blocks ≡ meta shape level count index es (pages_of_blocks shape (page_at flash) blocks index (run_pages shape count - index))
 
-  -- The reading of the run refuses with this page, behind which nothing was read.
+  -- The reading of the run refuses with this page, after which nothing was read.
   pub record RunRefused (old new : BoardState) (page : ℕ) : Type 0 where
     pub index : ℕ
     pub within : index < run_pages shape count
@@ -47,7 +47,7 @@ module _ (shape : Shape) (level count : ℕ) (blocks : List ℕ) where
     pub read : run shape (page_at old.pages) level count blocks ≡ Err (damaged page)
     pub board : new ≡ after_reads (index + 1) old
 
-  -- A read failed, behind pages that the reading of the run does not refuse.
+  -- A read failed, after pages that the reading of the run does not refuse.
   pub record RunFailed (old new : BoardState) : Type 0 where
     pub made : ℕ
     pub within : made < run_pages shape count
@@ -69,12 +69,12 @@ pub record LeasedMore (old new : Frames) (more : List ℕ) : Type 0 where
   pub free : free_frames new + length more ≡ free_frames old
   pub leases : (ls : List ℕ) → AreLeases old ls → AreLeases new (more ++ ls)
 
--- each run that stood with the frames of one arena stands with those of the other
+-- each run that matches with the frames of one arena matches with those of the other
 abbrev pub RunsStand : Frames → Frames → Type 0
 RunsStand old new = (r : Kept) (flash : Flash) (es : List Entry) → RunOnFlash r flash old es → RunOnFlash r flash new es
 
--- A run of so many entries may be read from these blocks: they exist and have room for its pages and no others, nothing was read
--- into it, and where frames are wanted, enough are free.
+-- A run of n entries may be read from these blocks: they exist and have room for its pages and no others, nothing was read into
+-- it, and if frames are needed, enough are free.
 pub record MayLoadRun (pins : Bool) (count : ℕ) (blocks : List ℕ) (arena : Frames) (r : Kept) : Type 0 where
   pub is_empty : r ≡ empty r.shape r.level
   pub few : count ≤ cap r.shape r.level * page_entries r.shape
@@ -83,8 +83,8 @@ pub record MayLoadRun (pins : Bool) (count : ℕ) (blocks : List ℕ) (arena : F
   pub page_bytes : arena.page_bytes ≡ r.shape.page_bytes
   pub free : pins ≡ true → run_pages r.shape count ≤ free_frames arena
 
--- Pages of a run were read into it: it stands for those, and their frames were free, if they have some. Its blocks are these, and
--- all other runs stand as they did.
+-- Pages of a run were read into it: it represents those, and their frames were free, if they have some. Its blocks are these, and
+-- all other runs are unchanged.
 pub record LoadsPages (pins : Bool) (flash : Flash) (blocks : List ℕ) (before after : Frames) (old new : Kept) : Type 0 where
   pub es : List Entry
   pub stands : RunOnFlash new flash after es
@@ -97,7 +97,7 @@ pub record LoadsPages (pins : Bool) (flash : Flash) (blocks : List ℕ) (before 
 
 -- ---- inside
 
--- The run has the blocks of so many entries, and none of their pages yet; where frames are wanted, enough are free.
+-- The run has the blocks of n entries, and none of their pages yet; if frames are needed, enough are free.
 pub record AwaitsPages (pins : Bool) (count : ℕ) (flash : Flash) (arena : Frames) (r : Kept) : Type 0 where
   pub exist : AllExist r.shape r.blocks
   pub few : count ≤ cap r.shape r.level * page_entries r.shape
@@ -109,8 +109,8 @@ pub record AwaitsPages (pins : Bool) (count : ℕ) (flash : Flash) (arena : Fram
   pub page_bytes : arena.page_bytes ≡ r.shape.page_bytes
   pub free : pins ≡ true → run_pages r.shape count ≤ free_frames arena
 
--- The run may take a next page with so many entries: all pages before are full, it has room and a block for one more, and where a
--- frame is wanted one is free.
+-- The run may take a next page with n entries: all pages before are full, it has room and a block for one more, and if a frame is
+-- needed one is free.
 pub record AwaitsPage (pins : Bool) (many : ℕ) (arena : Frames) (r : Kept) : Type 0 where
   pub exist : AllExist r.shape r.blocks
   pub within : length r.firsts < length r.blocks * r.shape.block_pages
@@ -121,7 +121,7 @@ pub record AwaitsPage (pins : Bool) (many : ℕ) (arena : Frames) (r : Kept) : T
   pub page_bytes : arena.page_bytes ≡ r.shape.page_bytes
   pub free : pins ≡ true → 0 < free_frames arena
 
--- the last of these entries has this key; there is none where there is no key
+-- the last of these entries has this key; there is none if there is no key
 abbrev pub IsLast : Option Key → List Entry → Type 0
 IsLast None es = es ≡ []
 IsLast (Some key) es = (front : List Entry) × (e : Entry) × (es ≡ front ++ e ∷ []) × (key_of e ≡ key)
@@ -135,7 +135,7 @@ is_behind (Some last) key = is_lt (key_cmp last key)
 abbrev pub are_put : List Entry → Bool
 are_put es = list_all (λ e. is_some e.1) es
 
--- The page of this level and index has so many entries, which go on behind those before.
+-- The page of this level and index has n entries, which follow those before.
 pub record GoesOn (shape : Shape) (level index many : ℕ) (before : List Entry) (bytes : List ℕ) (more : List Entry) : Type 0 where
   pub holds : meta_entries shape level index many bytes ≡ Some more
   pub rising : T (is_sorted key_cmp (before ++ more))
@@ -152,7 +152,7 @@ abbrev pub listed : Option ℕ → List ℕ
 listed None = []
 listed (Some lease) = lease ∷ []
 
--- The next page of the run has so many entries, and stands in it now.
+-- The next page of the run has n entries, and is in it now.
 pub record PageAdded (pins : Bool) (before after : Frames) (old new : Kept) (many : ℕ) : Type 0 where
   pub first : Key
   pub lease : Option ℕ
@@ -160,7 +160,7 @@ pub record PageAdded (pins : Bool) (before after : Frames) (old new : Kept) (man
   pub wanted : is_some lease ≡ pins
   pub more : LeasedMore before after (listed lease)
 
--- Its entries go on behind es, and the last one has this key.
+-- Its entries follow es, and the last one has this key.
 pub record PageTaken (flash : Flash) (after : Frames) (old new : Kept) (es : List Entry) (many : ℕ) (last : Key) : Type 0 where
   pub bytes : List ℕ
   pub more : List Entry
@@ -169,7 +169,7 @@ pub record PageTaken (flash : Flash) (after : Frames) (old new : Kept) (es : Lis
   pub stands : RunOnFlash new flash after (es ++ more)
   pub ends : IsLast (Some last) (es ++ more)
 
--- The next page of the run was read, and has no entries that go on behind es; or its read failed.
+-- The next page of the run was read, and has no entries that follow es; or its read failed.
 abbrev pub PageRefused : BoardState → BoardState → Kept → List Entry → ℕ → PageError → Type 0
 PageRefused old new r es many (Damaged page) =
     (page ≡ page_of r (length r.firsts)) × (new ≡ after_read old)

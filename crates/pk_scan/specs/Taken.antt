@@ -12,12 +12,12 @@ use Rattle.pk_walk.specs.Walking.{Walk, SkipsNone, most_read, pages_read}
 use Rattle.pk_scan.specs.Opening.{OnlyReads, ReadsValues}
 use Rattle.pk_scan.specs.Reads.{value_reads}
 
--- The values at these places were read and taken, and so many keys were counted.
+-- The values at these places were read and taken, and this many keys were counted.
 pub record TakesValues (shape : Shape) (flash : Flash) (named : List ℕ) (live : Values) (keys : ℕ) (es : List (Key × Place)) : Type 0 where
   pub values : ReadsValues shape flash named live es
   pub keys_are : keys ≡ length es
 
--- No read failed; where the walk began at the first key, each page of the runs without frames was read once, and each of the values.
+-- No read failed; if the walk began at the first key, each page of the runs without frames was read once, and each of the values.
 pub record ReadsExactly (shape : Shape) (runs : List Kept) (walk : Walk) (es : List (Key × Place)) (old new : BoardState) : Type 0 where
   pub reads : OnlyReads old new
   pub exact : SkipsNone walk → pages_read runs walk.cursors ≡ 0 → new ≡ after_reads (most_read runs + value_reads shape es) old

@@ -1,4 +1,4 @@
-//! Values as the reading of a flash comes to them.
+//! Values in the order of the reading of a flash.
 ghost use Rattle.std.specs.Prelude.{◌≡◌, ◌++◌, ◌∷◌, [], List, length, OnOk, IfErr};
 ghost use Rattle.pk_base.specs.Key.{Key as KeySpec};
 ghost use Rattle.pk_base.specs.Shape as spec;
@@ -20,11 +20,13 @@ use pk_nand::Nand;
 use pk_pool::Pool;
 use std::alloc::Allocator;
 
-/// Takes the pages of a value and checks them: one step of the reading of a flash, whose earlier values `live` stands for.
-/// In the pool the blocks that the root names have their owners. `buf` has the bytes of a page, which are lost.
+/// Takes the pages of a value and checks them: one step of the reading of a flash, whose earlier
+/// values `live` represents. In the pool the blocks that the root names have their owners. `buf`
+/// has the size of a page and is overwritten.
 ///
-/// `Damaged` names the first page of a value whose pages may not be taken, before any read, or the first page that is wrong.
-/// `Fault` where a read failed. After either the live map stands for nothing.
+/// `Damaged` names the first page of a value whose pages may not be taken, before any read, or the
+/// first page that is wrong. `Fault` if a read failed. After either the live map represents
+/// nothing.
 pub fn accept_value<B: Nand, A: Allocator>(
     board: &mut B,
     shape: &Shape,
@@ -40,7 +42,7 @@ pub fn accept_value<B: Nand, A: Allocator>(
         × Lives shape.now (owned_blocks pool.now) live.old taken }
     requires room { length buf.old ≡ shape.now.page_bytes }
 
-    // The reading finds the value behind those that were taken, and the live map stands for it too.
+    // The reading finds the value after those that were taken, and the live map represents it too.
     ensures accepted { OnOk result ((taken : List (KeySpec × Place))
         → Lives shape.now (owned_blocks pool.now) live.old taken
         → Accepted shape.now (B.state board.old).pages

@@ -68,8 +68,9 @@ pub fn adopt_blocks<A: Allocator>(pool: &mut Pool<A>, root: &Root<A>)
     adopt_runs(pool, root);
 }
 
-/// Makes the blocks that have a live page the values'. The live map stands for values in none of the blocks that the root
-/// names, whose blocks have their owners; so they are free, and leave the owner at least one more block.
+/// Makes the blocks that have a live page the values'. The live map represents values in none of
+/// the blocks that the root names, whose blocks have their owners; so they are free, and leave the
+/// owner at least one more block.
 pub fn adopt_values<A: Allocator>(pool: &mut Pool<A>, live: &Live<A>)
     requires named { (root : spec.Root) × (taken : List (Key × Place))
         × NamesOwned root (unused pool.old.shape) pool.old

@@ -10,7 +10,7 @@ use pk_region::Region;
 use pk_rootfmt::Root;
 use pk_walk::Walk;
 
-/// All that stands on a flash, in memory.
+/// All that is on a flash, in memory.
 #[derive(Drop)]
 pub struct Found<A: Region> {
     /// The newest root.
@@ -19,13 +19,13 @@ pub struct Found<A: Region> {
     pub root_page: u32,
     /// The entries of the newest epoch.
     pub active: Buffer<A>,
-    /// The entries of the older epoch; none where the root names none.
+    /// The entries of the older epoch; none if the root names none.
     pub frozen: Buffer<A>,
     /// The four runs.
     pub levels: Levels<A>,
     /// The frames, with the pages of the runs whose levels are pinned.
     pub arena: PinArena<A>,
-    /// The pages of the values of all keys that are there, and the blocks in which they lie.
+    /// The pages of the values of all keys that exist, and the blocks in which they lie.
     pub live: Live<A>,
     /// The blocks, of which those of the epochs, the runs and the values have their owners.
     pub pool: Pool<A>,

@@ -30,7 +30,7 @@ pub fn read_older<B: Nand, A: Region>(
     requires empty { into.old ≡ no_entries root.now.shape }
     requires room { length buf.old ≡ root.now.shape.page_bytes }
 
-    // What the epoch holds, and so many reads.
+    // What the epoch holds, and the number of reads.
     ensures held { OnOk result
         (OlderHeld root.now.shape (B.state board.old).pages root.now.root into.new) }
     ensures reads { OnOk result (B.state board.new ≡ after_reads
@@ -76,7 +76,7 @@ pub fn read_newest<B: Nand, A: Region>(
     requires empty { into.old ≡ no_entries root.now.shape }
     requires room { length buf.old ≡ root.now.shape.page_bytes }
 
-    // What the epoch holds, and so many reads.
+    // What the epoch holds, and the number of reads.
     ensures held { IfOk result (λ epoch.
         NewestHeld root.now.shape (B.state board.old).pages root.now.root into.new epoch) }
     ensures reads { OnOk result (B.state board.new ≡ after_reads

@@ -1,4 +1,4 @@
-//! What is answered where a flash is refused.
+//! What is returned if a flash is refused.
 
 /// Why pages of a flash are not what is looked for in them. Nothing but reads was done on the board, of which one failed
 /// exactly at `Fault`.
@@ -6,7 +6,7 @@
 pub enum PageError {
     /// This page is the first that is wrong.
     Damaged { page: u32 },
-    /// A read failed. The board's counts tell of it.
+    /// A read failed. The board's counts record it.
     Fault,
 }
 
@@ -17,7 +17,7 @@ pub enum OpenError {
     NotFormatted,
     /// This page is the first at which the reading of the flash refuses.
     Damaged { page: u32 },
-    /// A read failed. The board's counts tell of it.
+    /// A read failed. The board's counts record it.
     Fault,
     /// The allocator has not enough memory.
     Memory,

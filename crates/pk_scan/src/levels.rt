@@ -17,7 +17,7 @@ use pk_region::Region;
 use pk_rootfmt::Root;
 use pk_run::Run;
 
-// Reads the run of a level, which takes the place of the one that stands there.
+// Reads the run of a level, which replaces the one that is there.
 fn load_level<B: Nand, A: Region>(
     alloc: A,
     board: &mut B,
@@ -31,7 +31,7 @@ fn load_level<B: Nand, A: Region>(
     requires may { MayLoadLevel root.now level arena.old levels.old }
     requires room { length buf.old ≡ root.now.shape.page_bytes }
 
-    // The run stands at its level, behind so many reads.
+    // The run is in its level, after this many reads.
     ensures loaded { OnOk result (LoadsLevel root.now.shape root.now.root level
         (B.state board.old).pages arena.old arena.new levels.old levels.new) }
     ensures reads { OnOk result (B.state board.new
@@ -66,9 +66,10 @@ fn load_level<B: Nand, A: Region>(
     }
 }
 
-/// Reads the four runs, each page once; each run takes the place of the one that stands at its level. The arena has free frames
-/// for all pages of the levels that are pinned. `Damaged` names the first page that is wrong; `Fault` where a read failed;
-/// `Memory` where a run finds no memory. `buf` has the bytes of a page, which are lost.
+/// Reads the four runs, each page once; each run replaces the one of its level. The arena has free
+/// frames for all pages of the levels that are pinned. `Damaged` names the first page that is
+/// wrong; `Fault` if a read failed; `Memory` if a run finds no memory. `buf` has the size of a page
+/// and is overwritten.
 pub fn load_runs<B: Nand, A: Region>(
     alloc: A,
     board: &mut B,
@@ -81,7 +82,7 @@ pub fn load_runs<B: Nand, A: Region>(
     requires may { MayLoadRuns root.now arena.old levels.old }
     requires room { length buf.old ≡ root.now.shape.page_bytes }
 
-    // The runs stand at their levels, behind so many reads.
+    // The runs are in their levels, after this many reads.
     ensures loaded { OnOk result (LoadsRuns root.now
         (B.state board.old).pages arena.old arena.new levels.old levels.new) }
     ensures reads { OnOk result (B.state board.new

@@ -1,6 +1,7 @@
-//! Opening: what the flash holds is read part by part, by exact numbers of reads, up to the first page that is wrong.
-//! A value or a run is accepted exactly where the reading of a flash finds it; each refusal names the page that this reading
-//! names. The blocks that were found get their owners in the pool. `scan` does all of it in one call.
+//! Opening: what the flash holds is read part by part, by exact numbers of reads, up to the first
+//! page that is wrong. A value or a run is accepted exactly if the reading of a flash finds it;
+//! each refusal names the page that this reading names. The blocks that were found get their owners
+//! in the pool. `scan` does all of it in one call.
 #![tactic(auto)]
 
 mod accept;

@@ -22,8 +22,8 @@ use pk_root::newest;
 use pk_rootfmt::Root;
 use std::alloc::Allocator;
 
-/// Takes the newest root of the flash, and answers its page. `NotFormatted` exactly where there is none; `Fault` where a read
-/// failed. `buf` has the bytes of a page, which are lost.
+/// Takes the newest root of the flash, and returns its page. `NotFormatted` exactly if there is
+/// none; `Fault` if a read failed. `buf` has the size of a page and is overwritten.
 pub fn find_root<B: Nand, A: Allocator>(
     board: &mut B,
     root: &mut Root<A>,
@@ -32,7 +32,7 @@ pub fn find_root<B: Nand, A: Allocator>(
     requires ready { IsReady (B.state board.old) root.old.shape }
     requires room { length buf.old ≡ root.old.shape.page_bytes }
 
-    // The newest root, behind so many reads.
+    // The newest root, after this many reads.
     ensures found { IfOk result (λ page.
         newest_root root.old.shape (page_at (B.state board.old).pages)
         ≡ Some (page, root.new.root)) }
@@ -57,10 +57,12 @@ pub fn find_root<B: Nand, A: Allocator>(
     }
 }
 
-/// Reads all lists of entries that are found under a root: the older epoch into the frozen buffer, the newest one into the active
-/// one, and the four runs into the levels. Each page of them is read once, of an epoch up to the first that is not Whole. The
-/// arena has free frames for all pages of the levels that are pinned. `Damaged` names the first page that is wrong, in this
-/// order; `Fault` where a read failed; `Memory` where a run finds no memory. `buf` has the bytes of a page, which are lost.
+/// Reads all lists of entries that are found under a root: the older epoch into the frozen buffer,
+/// the newest one into the active one, and the four runs into the levels. Each page of them is read
+/// once, of an epoch up to the first that is not Whole. The arena has free frames for all pages of
+/// the levels that are pinned. `Damaged` names the first page that is wrong, in this order; `Fault`
+/// if a read failed; `Memory` if a run finds no memory. `buf` has the size of a page and is
+/// overwritten.
 pub fn read_lists<B: Nand, A: Region>(
     alloc: A,
     board: &mut B,

@@ -17,7 +17,7 @@ use pk_walk::Walk;
 use std::alloc::AllocError;
 
 impl<A: Region> Found<A> {
-    // Memory for all that may stand on a flash of this shape, and for so many frames.
+    // Memory for all that may be on a flash of this shape, and for this many frames.
     fn nothing(alloc: A, shape: Shape, frames: u32) -> Result<Found<A>, AllocError>
         ensures { IfOk result (λ f. FoundNothing shape frames f) }
     {
@@ -38,7 +38,7 @@ impl<A: Region> Found<A> {
 }
 
 impl<A: Region> Memory<A> {
-    /// Memory for a flash of this shape and so many frames, into which nothing was read.
+    /// Memory for a flash of this shape and this many frames, into which nothing was read.
     pub fn new(alloc: A, shape: Shape, frames: u32) -> Result<Memory<A>, AllocError>
         ensures { IfOk result (λ m. IsUnread shape frames m) }
     {

@@ -113,7 +113,7 @@ fn fill_values<B: Nand, A: Region>(board: &mut B, memory: &mut Memory<A>) -> Res
 {
     let shape = *memory.found.root.shape();
     shape.known();
-    // first of all: no value may lie in a block that has its owner
+    // first of all: no value may be in a block that has its owner
     adopt_blocks(&mut memory.found.pool, &memory.found.root);
     let lists = Lists {
         arena: &memory.found.arena,
@@ -138,13 +138,14 @@ fn fill_values<B: Nand, A: Region>(board: &mut B, memory: &mut Memory<A>) -> Res
     }
 }
 
-/// Opens the flash of a board of this shape, with so many frames for the pages of runs: reads all that stands on it, and gives
-/// each block its owner. Nothing is written. The memory of the drive is taken before the first read, but for that of a run, which
-/// is taken when the run is read.
+/// Opens the flash of a board of this shape, with this many frames for the pages of runs: reads all
+/// that is on it, and gives each block its owner. Nothing is written. The memory of the drive is
+/// taken before the first read, except that of a run, which is taken when the run is read.
 ///
-/// `NotFormatted` exactly where the flash has no root, `Damaged` exactly where it has one and holds no map, with the page at
-/// which its reading fails; `Fault` where a read failed; `Memory` where the allocator has none. After every answer nothing but
-/// reads was done, of which one failed exactly at `Fault`.
+/// `NotFormatted` exactly if the flash has no root, `Damaged` exactly if it has one and holds no
+/// map, with the page at which its reading fails; `Fault` if a read failed; `Memory` if the
+/// allocator has none. Whatever is returned, nothing but reads was done, of which one failed
+/// exactly at `Fault`.
 pub fn scan<B: Nand, A: Region>(
     alloc: A,
     board: &mut B,

@@ -1,4 +1,4 @@
-//! A page of a run: whether its entries go on behind those of the pages before.
+//! A page of a run: whether its entries follow those of the pages before.
 ghost use Rattle.std.specs.Prelude.{◌≡◌, ◌==◌, ◌||◌, not, ◌<◌, ◌≤◌, ℕ, List, T, true, length, slice_get, is_some, option_map, Some, MatchBool};
 ghost use Rattle.std.specs.FinMap.Entries.{is_sorted};
 ghost use Rattle.pk_base.specs.Key.{key_cmp};
@@ -19,7 +19,7 @@ fn is_head(found: MetaHead, wanted: MetaHead) -> bool
     found == wanted
 }
 
-// Whether a key stands behind the last one, if there is one.
+// Whether a key is above the last one, if there is one.
 fn is_behind(last: &Option<Key>, key: &Key) -> bool
     ensures { result ≡ runs.is_behind last.now key.now }
 {
@@ -39,7 +39,7 @@ fn is_put(entry: &Entry) -> bool
     }
 }
 
-// Whether no key of a page with so many entries was deleted.
+// Whether no key of a page with `count` entries was deleted.
 fn are_put(shape: &Shape, page: &[u8], count: u32) -> bool
     requires sized { length page.now ≡ shape.now.page_bytes }
     requires decodes { Decodes shape.now page.now }
@@ -55,7 +55,8 @@ fn are_put(shape: &Shape, page: &[u8], count: u32) -> bool
     true
 }
 
-// Whether a page with so many entries may stand in a run of this level: the deepest run keeps no deleted keys.
+// Whether a page with `count` entries may be in a run of this level: the deepest run keeps no
+// deleted keys.
 fn may_stand(shape: &Shape, level: u8, page: &[u8], count: u32) -> bool
     requires sized { length page.now ≡ shape.now.page_bytes }
     requires decodes { Decodes shape.now page.now }
@@ -77,8 +78,8 @@ pub fn key_at(shape: &Shape, page: &[u8], i: u32) -> Key
     entry(shape, page, i).key().copy()
 }
 
-/// Whether a page is that of this level and index with so many entries, which go on behind others of which the last has this
-/// key, and none of which is deleted in the deepest run.
+/// Whether a page is that of this level and index with `count` entries, which follow others of
+/// which the last has this key, and none of which is deleted in the deepest run.
 pub fn goes_on(
     shape: &Shape,
     level: u8,

@@ -19,7 +19,7 @@ use pk_pin::PinArena;
 use pk_run::Run;
 use std::alloc::Allocator;
 
-// Adds blocks behind the others.
+// Adds blocks after the others.
 fn add_blocks<A: Allocator>(blocks: &[u16], into: &mut Run<A>)
     requires { length into.old.blocks + length blocks.now ≤ most_blocks into.old }
     ensures added { into.new ≡ record into.old { blocks = into.old.blocks ++ blocks.now } }
@@ -31,7 +31,8 @@ fn add_blocks<A: Allocator>(blocks: &[u16], into: &mut Run<A>)
     }
 }
 
-// Reads the next page of a run, with so many entries, and adds it. Answers its last key; the last one before is `last`.
+// Reads the next page of a run, with `entries` entries, and adds it. Returns its last key; the last
+// one before is `last`.
 fn take_page<B: Nand, A: Allocator>(
     board: &mut B,
     arena: &mut PinArena<A>,
@@ -47,7 +48,7 @@ fn take_page<B: Nand, A: Allocator>(
         × RunOnFlash into.old (B.state board.old).pages arena.old es × IsLast last.now es }
     requires sized { length buf.old ≡ into.old.shape.page_bytes }
 
-    // The page stands in the run, behind one read.
+    // The page is in the run, after one read.
     ensures taken { IfOk result (λ key. (es : List EntrySpec)
         → RunOnFlash into.old (B.state board.old).pages arena.old es → IsLast last.now es
         → PageTaken (B.state board.old).pages arena.new into.old into.new es entries key) }
@@ -92,7 +93,7 @@ fn read_pages<B: Nand, A: Allocator>(
     requires awaits { AwaitsPages pins count (B.state board.old).pages arena.old into.old }
     requires sized { length buf.old ≡ into.old.shape.page_bytes }
 
-    // The run stands for all its pages, behind so many reads.
+    // The run represents all its pages, after this many reads.
     ensures has_run { OnOk result (HasRun into.old.shape into.old.level count into.old.blocks
         (B.state board.old).pages arena.new into.new) }
     ensures reads { OnOk result (B.state board.new
@@ -102,7 +103,7 @@ fn read_pages<B: Nand, A: Allocator>(
     ensures err { IfErr result (λ e. NotRead into.old.shape into.old.level count into.old.blocks
         (B.state board.old) (B.state board.new) e) }
 
-    // Either way the run stands for the pages before, and nothing but reads was done.
+    // Either way the run represents the pages before, and nothing but reads was done.
     ensures loads { LoadsPages pins (B.state board.old).pages into.old.blocks
         arena.old arena.new into.old into.new }
     ensures board { StaysReady into.old.shape (B.state board.old) (B.state board.new) }
@@ -122,13 +123,13 @@ fn read_pages<B: Nand, A: Allocator>(
     Ok(())
 }
 
-/// Reads a run of so many entries from its blocks into an empty run of its level, page by page, up to the first page that is
-/// wrong. Where `pins`, each page is kept in a frame of the arena, which has enough free ones. `buf` has the bytes of a page,
-/// which are lost.
+/// Reads a run of `count` entries from its blocks into an empty run of its level, page by page, up
+/// to the first page that is wrong. If `pins`, each page is kept in a frame of the arena, which has
+/// enough free ones. `buf` has the size of a page and is overwritten.
 ///
-/// `Damaged` names the first page that is not Whole, not the meta page of this level, index and count, whose keys do not rise
-/// behind those of the pages before, or which has a deleted key in the deepest run. `Fault` where a read failed. After either
-/// the run stands for the pages before.
+/// `Damaged` names the first page that is not Whole, not the meta page of this level, index and
+/// count, whose keys do not rise after those of the pages before, or which has a deleted key in the
+/// deepest run. `Fault` if a read failed. After either the run represents the pages before.
 pub fn load_run<B: Nand, A: Allocator>(
     board: &mut B,
     arena: &mut PinArena<A>,
@@ -142,7 +143,7 @@ pub fn load_run<B: Nand, A: Allocator>(
     requires may { MayLoadRun pins count blocks.now arena.old into.old }
     requires sized { length buf.old ≡ into.old.shape.page_bytes }
 
-    // The run stands for its entries, behind so many reads.
+    // The run represents its entries, after this many reads.
     ensures has_run { OnOk result (HasRun into.old.shape into.old.level count blocks.now
         (B.state board.old).pages arena.new into.new) }
     ensures reads { OnOk result (B.state board.new
@@ -152,7 +153,7 @@ pub fn load_run<B: Nand, A: Allocator>(
     ensures err { IfErr result (λ e. NotRead into.old.shape into.old.level count blocks.now
         (B.state board.old) (B.state board.new) e) }
 
-    // Either way the run stands for the pages before, and nothing but reads was done.
+    // Either way the run represents the pages before, and nothing but reads was done.
     ensures loads { LoadsPages pins (B.state board.old).pages blocks.now
         arena.old arena.new into.old into.new }
     ensures board { StaysReady into.old.shape (B.state board.old) (B.state board.new) }

@@ -51,7 +51,7 @@ fn begins_before<A: Allocator>(live: &Live<A>, from: u32, end: u32) -> bool
     false
 }
 
-// Whether one of so many pages is live: the first is, or a value begins behind it.
+// Whether one of `count` pages is live: the first is, or a value begins after it.
 fn overlaps<A: Allocator>(live: &Live<A>, page: u32, count: u32) -> bool
     requires some { 0 < count }
     requires small { page + count < 2 ^ 32 }
@@ -74,7 +74,7 @@ fn blocks_used<A: Allocator>(live: &Live<A>, block: u32) -> u32
     }
 }
 
-// Whether so many live pages, in so many blocks, are not too many.
+// Whether this many live pages, in this many blocks, are not too many.
 fn are_few(shape: &Shape, pages: u32, blocks: u32) -> bool
     ensures { result
         ≡ (nat_le pages (limit shape.now) && nat_le blocks (data_blocks shape.now - 1)) }
@@ -107,9 +107,10 @@ fn has_room<A: Allocator>(shape: &Shape, pool: &Pool<A>, live: &Live<A>, place: 
     are_few(shape, pages, blocks_used(live, block))
 }
 
-/// Whether the pages of a value lie in no block that has an owner, none of them belongs to a value that was taken before, and
-/// with them the live pages and the blocks that have one are not too many. If so they are live from now on, and their block
-/// is closed; else the live map stays. The block gets its owner when all values are taken.
+/// Whether the pages of a value are in no block that has an owner, none of them belongs to a value
+/// that was taken before, and with them the live pages and the blocks that have one are not too
+/// many. If so they are live from now on, and their block is closed; otherwise the live map is
+/// unchanged. The block gets its owner when all values are taken.
 pub fn take_value<A: Allocator>(
     shape: &Shape,
     pool: &Pool<A>,
@@ -137,7 +138,7 @@ pub fn take_value<A: Allocator>(
     true
 }
 
-/// A live map without values stands for none.
+/// A live map without values represents none.
 pub fn starts_with_none()
     ensures { StartsWithNone }
 {}

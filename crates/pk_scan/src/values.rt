@@ -30,7 +30,7 @@ fn begins_with_head(shape: &Shape, key: &Key, len: u32, bytes: &[u8]) -> bool
     }
 }
 
-// Whether only zeros stand behind so many bytes.
+// Whether only zeros follow the first `left` bytes.
 fn ends_in_zeros(bytes: &[u8], left: usize) -> bool
     ensures { result ≡ list_all (λ b. b == 0) (drop left bytes.now) }
 {
@@ -101,10 +101,12 @@ fn check_page<B: Nand>(
     }
 }
 
-/// Checks that the pages of a value are Whole, begin with the head of this key and length, hold the value, and have zeros
-/// behind it. Reads them in order, up to the first that is wrong. `buf` has the bytes of a page, which are lost.
+/// Checks that the pages of a value are Whole, begin with the head of this key and length, hold the
+/// value, and have zeros after it. Reads them in order, up to the first that is wrong. `buf` has
+/// the size of a page and is overwritten.
 ///
-/// `Damaged` names the first page that is wrong. `Fault` where a read failed, behind pages that are right.
+/// `Damaged` names the first page that is wrong. `Fault` if a read failed, after pages that are
+/// right.
 pub fn check_value<B: Nand>(
     board: &mut B,
     shape: &Shape,
@@ -116,7 +118,7 @@ pub fn check_value<B: Nand>(
     requires place { IsPlace shape.now place }
     requires room { length buf.old ≡ shape.now.page_bytes }
 
-    // The value stands there, by a read of each page.
+    // The value is there, by a read of each page.
     ensures value { OnOk result
         (HasValue shape.now (B.state board.old).pages key.now place) }
     ensures ok { OnOk result

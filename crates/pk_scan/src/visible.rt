@@ -35,12 +35,14 @@ pub struct Lists<'a, A: Region> {
     pub frozen: &'a Buffer<A>,
 }
 
-/// Reads the values of all keys that the walk gives, in its order, and takes their pages: those of blocks that have an owner,
-/// which are those that the root names, are not free for them. Answers how many keys there are. `Damaged` names the first value whose pages may not be taken, or
-/// its first page that is wrong; `Fault` where a read failed. `buf` has the bytes of a page, which are lost.
+/// Reads the values of all keys that the walk returns, in its order, and takes their pages: those
+/// of blocks that have an owner, which are those that the root names, are not free for them.
+/// Returns how many keys there are. `Damaged` names the first value whose pages may not be taken,
+/// or its first page that is wrong; `Fault` if a read failed. `buf` has the size of a page and is
+/// overwritten.
 ///
-/// A walk that begins at the first key reads each page of the runs without frames once, and the pages of the values are read
-/// beside them.
+/// A walk that begins at the first key reads each page of the runs without frames once; the pages
+/// of the values are read in addition.
 pub fn read_values<B: Nand, A: Region>(
     board: &mut B,
     shape: &Shape,
@@ -59,7 +61,7 @@ pub fn read_values<B: Nand, A: Region>(
     requires none { Lives shape.now (owned_blocks pool.now) live.old [] }
     requires room { length buf.old ≡ shape.now.page_bytes }
 
-    // The values of all keys, and so many reads.
+    // The values of all keys, and the number of reads.
     ensures read { IfOk result (λ keys. (es : List (Key × Place))
         → IsLeft walk.old (B.state board.old).pages lists.now.arena.now lists.now.levels.now.runs
         lists.now.active.now.entries lists.now.frozen.now.entries es

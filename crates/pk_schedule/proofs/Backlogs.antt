@@ -1,4 +1,4 @@
--- What is left of the work is within its bounds: buffers and runs by the lists under the root, and no job has more left than the whole of it.
+-- The remaining work is within its bounds: buffers and runs by the lists under the root, and no job has more left than the whole of it.
 use Rattle.std.proofs.Common.{◌≡◌, inl, inr, ℕ, zero, suc, ◌+◌, ◌-◌, ◌*◌, ◌<◌, ◌≤◌, refl, sym, ap, subst, ◌∙◌, arith, Bool, true, false, T, ◌==◌, ◌||◌, if◌then◌else◌, List, [], ◌∷◌, length, map, Option, Some, None, Result, Ok}
 use Rattle.std.specs.Prelude.{slice_index, slice_index_or, unwrap_or, IfSome, not, nat_le, zip}
 use Rattle.std.specs.List.{list_all}
@@ -45,7 +45,7 @@ sizes_are flash arena [] (es ∷ ess) h = absurd h
 sizes_are flash arena (r ∷ rs) [] h = absurd h
 sizes_are flash arena (r ∷ rs) (es ∷ ess) h = λ i. sym h.0.many i ∷ sizes_are flash arena rs ess h.1 i
 
--- and the pages of so many
+-- and the pages of that many
 pages_are : (shape : Shape) (flash : Flash) (arena : Frames) (rs : List Kept) (bss : List (List ℕ)) (ess : List (List Entry)) (d : Kept) (i : ℕ) → i < length rs → HaveBlocks shape rs bss → RunsOnFlash flash arena rs ess
     → length (slice_index_or rs i d).firsts ≡ run_pages shape (slice_index (map (λ (r : Kept). r.count) rs) i)
 pages_are shape flash arena [] bss ess d i less have h = absurd (omega (arith, less))

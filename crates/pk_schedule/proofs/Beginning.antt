@@ -1,4 +1,4 @@
--- The next merge begins: it can be, its source has an entry, and the index stands as before with it.
+-- The next merge begins: it can be, its source has an entry, and the index is as before with it.
 use Rattle.std.proofs.Common.{◌≡◌, ◌⊎◌, inl, inr, ℕ, zero, suc, ◌+◌, ◌-◌, ◌<◌, ◌≤◌, Bool, true, false, T, ◌==◌, if◌then◌else◌, List, [], length, map, nat_le, Option, Some, None, refl, sym, ap, subst, ◌∙◌, arith, leb-false, le_trans}
 use Rattle.std.specs.Prelude.{slice_index, slice_index_or, unwrap_or}
 use Rattle.std.specs.List.{AllByRecursion}
@@ -247,7 +247,7 @@ module _ (x : Index) (frames : ℕ) (old : BoardState) (top : ℕ × Root) (foun
       frames = pin;
     }
 
-  -- ---- the index behind its beginning
+  -- ---- the index after its beginning
 
   abbrev pub job : Job
   job = begun x.schedule.job.merger.shape x.schedule.job level
@@ -336,7 +336,7 @@ module _ (x : Index) (frames : ℕ) (old : BoardState) (top : ℕ × Root) (foun
       cuts = Reaches-none x.log.shape old (CrashFinds x.log.shape background old.pages m) ready.shape_is old refl (refl, under_reads x.log.shape old.pages [] top found m may.under);
     }
 
-    -- ---- what is left
+    -- ---- what remains
 
     whole : steps_left (source_at x level) (run_of x.levels level) (output_of job) job.merger (most_pages (output_of job)) (most_blocks (output_of job)) + 7 ≤ whole_merge x.log.shape level
     whole =

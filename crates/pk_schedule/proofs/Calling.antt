@@ -1,4 +1,4 @@
--- The call of a step: at most one, also where it failed, and none where nothing was done.
+-- The call of a step: at most one, also if it failed, and none if nothing was done.
 use Rattle.std.proofs.Common.{inl, refl, arith, Result, Ok, Err}
 use Rattle.pk_base.specs.Shape.{Shape}
 use Rattle.pk_nand.specs.declared.types.Fault.{Fault}

@@ -87,7 +87,7 @@ module _ {X Y : Type 0} (source : Source X) (s : Source Y) (is : Shown source s)
   pub job_carried : (j : Job) (pool : Blocks) (flash : Flash) (arena : Frames) (es fs : List Entry) → JobRuns source target j pool flash arena es fs → JobRuns s target j pool flash arena es fs
   job_carried j pool flash arena es fs r = record { output = r.output; same_level = r.same_level; running = carried _ _ j.merger pool flash arena es fs r.running }
 
-  -- as much is left of it
+  -- the same amount of it remains
   gathers_same : (m : Merger) → can_gather s target m ≡ can_gather source target m
   unfolding can_gather
   gathers_same m = let n = is.count in let w = is.wants m.source in rw (n, w) refl

@@ -1,4 +1,4 @@
--- The job of merges where its runs are taken and given back one after another.
+-- The job of merges if its runs are taken and given back one after another.
 use Rattle.std.proofs.Common.{◌≡◌, ℕ, zero, suc, ◌-◌, ◌≤◌, refl, ap, ◌∙◌, arith, List, Some, Option}
 use Rattle.pk_base.specs.Shape.{Shape}
 use Rattle.pk_run.specs.Kept.{Kept, empty}
@@ -11,7 +11,7 @@ spares_back : (shape : Shape) (spares : List (Option Kept)) (level : ℕ) (forme
     → with_spare (without spares level) former.level (empty former.shape former.level) ≡ all_spare shape
 spares_back shape spares level former s f least most = (λ i. with_spare (without (s i) level) (f.same_level i) (empty (f.same_shape i) (f.same_level i))) ∙ (spare_at shape level least most).1
 
--- Behind the exchange of the target's run a run for the source's level is there; behind that of the source's as well the job is idle.
+-- After the exchange of the target's run there is a run for the source's level; after that of the source's as well the job is idle.
 pub record SecondRun (shape : Shape) (j : Job) (level : ℕ) : Type 0 where
   pub held : held_at j (level - 1) ≡ Some (empty shape (level - 1))
   pub idle : (source : Kept) → IsFormer shape (level - 1) source → IsIdle shape (ended (given_to (taken_from j (level - 1)) source))

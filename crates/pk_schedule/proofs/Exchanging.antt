@@ -1,4 +1,4 @@
--- The exchange of runs behind a merge, from its parts.
+-- The exchange of runs after a merge, from its parts.
 use Rattle.std.proofs.Common.{◌≡◌, ℕ, List, [], ◌++◌, sym, ap, subst, ◌∙◌, Some}
 use Rattle.std.proofs.lemmas.Option.{same_Some}
 use Rattle.pk_base.specs.Page.{Flash}

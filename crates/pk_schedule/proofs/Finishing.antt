@@ -46,7 +46,7 @@ module _ (x : Index) (frames : ℕ) (old : BoardState) (top : ℕ × Root) (foun
   pub may_finish : MayFinish x.log old.pages top found m
   may_finish = record { logs = may.stands.logs; under = may.under; half = may.half.half }
 
-  -- nothing behind the root blocks differs
+  -- nothing after the root blocks differs
   module _ (shared : IsShared x.pool.shape x.pool.states) (new : BoardState) (next' : Next) (f : LogFinished x.log old top found m (record x.log { next = next' }) new) where
     abbrev then_index : Index
     then_index = record (settled x) { log = record x.log { next = next' } }

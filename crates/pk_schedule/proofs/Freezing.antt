@@ -56,7 +56,7 @@ length_none : {X : Type 0} (xs : List X) → length xs ≡ 0 → xs ≡ []
 length_none [] none = refl
 length_none (x ∷ xs) none = absurd (omega (arith, none))
 
--- ---- the pool behind a step that goes on
+-- ---- the pool after a step that goes on
 
 -- Blocks with an owner have it still, and only the journal may have some more.
 record Grown (pool pool' : Blocks) (more : ℕ) : Type 0 where
@@ -280,7 +280,7 @@ module _ (x : Index) (frames : ℕ) (old : BoardState) (top : ℕ × Root) (foun
       gives = let P : Blocks → Type 0 = λ p. GivesBack Journal gone x.pool p in
           subst P (sym free_is) (gives_back Journal gone x.pool (gone_differs (length found.newest == 0)) (λ b is. newest_owned b (in_gone (length found.newest == 0) b is)))
 
-      -- a block of another owner stays, and so does one of the journal that is not given back
+      -- a block of another owner is unchanged, and so does one of the journal that is not given back
       stays : (o : Owner) (b : ℕ) → slice_get x.pool.states b ≡ Some (Owned o) → (In b gone → ⊥) → slice_get free.states b ≡ Some (Owned o)
       stays o b owned away = gives.others b away ∙ owned
 

@@ -36,7 +36,7 @@ other_owner Values Journal differs = refl
 other_owner Values Meta differs = refl
 other_owner Values Values differs = absurd (differs refl)
 
--- a count of an owner stays where a state of none of his becomes another such
+-- a count of an owner stays if a state of none of his becomes another such
 same_count : (p : Owner) (states : List BlockState) (b : ℕ) (s t : BlockState) → is_owned_by p s ≡ false → is_owned_by p t ≡ false → slice_get states b ≡ Some s → used_by p (with_state (record { shape = record { page_bytes = 0; block_pages = 0; blocks = 0 }; states = states }) b t).states ≡ used_by p states
 same_count p states b s t none none' is =
     let was : cond {A = ℕ} (is_owned_by p s) 1 0 ≡ 0 = rw none refl in

@@ -214,7 +214,7 @@ same_page pool out old new (inr (b, is, s)) k other =
 
 -- ---- runs
 
--- runs whose blocks are none of the output's stand
+-- runs whose blocks are none of the output's are unchanged
 pub runs_leave : (shape : Shape) (pool : Blocks) (out : Kept) (old : Flash) (before : Frames) (new : Flash) (after : Frames) → LeavesRuns pool out old before new after → out.shape ≡ shape
     → (rs : List Kept) (bss : List (List ℕ)) (ess : List (List Entry)) → HaveBlocks shape rs bss → ((b : ℕ) → In b (concat bss) → slice_get pool.states b ≡ Some (Owned Meta)) → ((b : ℕ) → In b (concat bss) → In b out.blocks → ⊥)
     → RunsOnFlash old before rs ess → RunsOnFlash new after rs ess

@@ -1,4 +1,4 @@
--- A step of the install of a merge, for whatever stands on the flash.
+-- A step of the install of a merge, for whatever is on the flash.
 use Rattle.std.proofs.Common.{◌≡◌, ℕ, ◌≤◌, true, List, [], ◌∷◌, refl, sym, ap, subst, ◌∙◌, arith, Option, Result, Ok, Err}
 use Rattle.pk_base.specs.Map.{Map}
 use Rattle.pk_nand.specs.declared.types.Fault.{Fault}
@@ -30,7 +30,7 @@ same_older : (blocks : List ℕ) → blocks_or_none (older_of blocks) ≡ blocks
 same_older [] = refl
 same_older (b ∷ bs) = refl
 
--- the level of a merge whose output stands
+-- the level of a merge whose output is complete
 pub ready_at : (n : ℕ) (p : Phase) → n ≡ merging p → (level : ℕ) × (p ≡ Ready level) → p ≡ Ready n
 ready_at n p told (level, is) = is ∙ ap (λ (l : ℕ). Ready l) (sym (told ∙ ap merging is))
 
@@ -44,7 +44,7 @@ module _ (x : Index) (level : ℕ) (is : x.schedule.phase ≡ Ready level) (shar
   pub ask_prepare : Stands x old → (top : ℕ × Root) × (found : Found) × (m : Map) × MayPrepare x.log old.pages top found m
   ask_prepare s = (s.1, s.2, s.3, wait.may_prepare x s.0 old s.1 s.2 s.3 s.4 level is shared known)
 
-  -- the output, as it is told
+  -- the output, as it is reported
   module _ (out : Kept) (count : ℕ) (blocks : List ℕ) (out_is : out ≡ output x.schedule) (count_is : count ≡ out.count) (blocks_are : blocks ≡ out.blocks) where
     told : (P : ℕ → List ℕ → Type 0) → P (output x.schedule).count (output x.schedule).blocks → P count blocks
     told P is = subst (λ n. P n blocks) (sym (count_is ∙ ap (λ (r : Kept). r.count) out_is)) (subst (λ bs. P (output x.schedule).count bs) (sym (blocks_are ∙ ap (λ (r : Kept). r.blocks) out_is)) is)

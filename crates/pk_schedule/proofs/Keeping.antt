@@ -1,4 +1,4 @@
--- An index stands as before where others change pages and owners that are none of its own, where entries are noted, and where they are committed.
+-- An index is as before if others change pages and owners that are none of its own, if entries are noted, and if they are committed.
 use Rattle.std.proofs.Common.{◌≡◌, ◌⊎◌, inl, inr, ℕ, ◌*◌, ◌/◌, ◌%◌, ◌<◌, List, [], ◌∷◌, ◌++◌, length, map, slice_index, Option, Some, refl, sym, ap, subst, ◌∙◌, arith, mod-lt, div-lt_iff_lt-mul}
 use Rattle.std.specs.Prelude.{slice_get, unwrap_or}
 use Rattle.std.specs.List.{concat, AllByRecursion}
@@ -43,7 +43,7 @@ use Rattle.pk_schedule.specs.Index.{Index, Schedule, IndexOnFlash, MergesInto, M
 
 -- ---- runs
 
--- a page of a run lies in one of its blocks
+-- a page of a run is in one of its blocks
 page_named : (r : Kept) (j : ℕ) → 0 < r.shape.block_pages → j < length r.blocks * r.shape.block_pages → AnyByRecursion (λ b. page_of r j / r.shape.block_pages ≡ b) r.blocks
 page_named r j some small =
     let n : ℕ = r.shape.block_pages in
@@ -51,7 +51,7 @@ page_named r j some small =
     let here : page_of r j / n ≡ slice_index r.blocks (j / n) = div-mul-add (slice_index r.blocks (j / n)) n (j % n) (mod-lt j some) in
     subst (λ (x : ℕ). AnyByRecursion (λ b. x ≡ b) r.blocks) (sym here) (member r.blocks (j / n) inside)
 
--- a run stands where no page of its blocks differs
+-- a run is unchanged if no page of its blocks differs
 pub RunOnFlash-same : (r : Kept) (old new : Flash) (arena : Frames) (es : List Entry) → 0 < r.shape.block_pages
     → ((k : ℕ) → AnyByRecursion (λ b. k / r.shape.block_pages ≡ b) r.blocks → page_at new k ≡ page_at old k)
     → RunOnFlash r old arena es → RunOnFlash r new arena es
@@ -59,7 +59,7 @@ RunOnFlash-same r old new arena es some same s =
     let within = s.within in
     RunOnFlash-elsewhere r old new arena arena es (λ j small. same (page_of r j) (page_named r j some (omega (arith, small, within)))) (λ j lease got is. (is, refl)) s
 
--- runs stand where no page of their blocks differs
+-- runs are unchanged if no page of their blocks differs
 pub RunsOnFlash-same : (shape : Shape) (old new : Flash) (arena : Frames) (rs : List Kept) (bss : List (List ℕ)) (ess : List (List Entry)) → 0 < shape.block_pages → HaveBlocks shape rs bss
     → ((k : ℕ) → AnyByRecursion (λ b. k / shape.block_pages ≡ b) (concat bss) → page_at new k ≡ page_at old k)
     → RunsOnFlash old arena rs ess → RunsOnFlash new arena rs ess
@@ -97,7 +97,7 @@ any_split P [] ys is = inr is
 any_split P (x ∷ xs) ys (inl is) = inl (inl is)
 any_split P (x ∷ xs) ys (inr is) = elim (any_split P xs ys is) [ inl front ↦ inl (inr front) | inr back ↦ inr back ]
 
--- what holds of each of a list is shown of it and the ones that are left
+-- what holds of each of a list is shown of it and the ones that remain
 all_of : (P Q : ℕ → Type 0) (xs : List ℕ) → ((x : ℕ) → AnyByRecursion (λ c. x ≡ c) xs → P x → Q x) → AllByRecursion P xs → AllByRecursion Q xs
 all_of P Q [] each all = tt
 all_of P Q (x ∷ xs) each all = (each x (inl refl) all.0, all_of P Q xs (λ y is. each y (inr is)) all.1)
@@ -239,7 +239,7 @@ module _ (x : Index) (frames : ℕ) (old new : Flash) (top : ℕ × Root) (found
     same = λ b k is here. e.same b k (member_all (IsTaken x.log.shape x.pool old top.1) (taken_by x.schedule.freeze) b stands.freeze.taken is).owned here;
   }
 
-  -- where no page differs that is its own, an index stands beside other owners of the other blocks
+  -- if no page differs that is its own, an index matches next to other owners of the other blocks
   pub index_elsewhere : IndexOnFlash (record x { pool = pool' }) frames new top found
   index_elsewhere = index_then x frames old new top found stands pool' e.meta taken_same x.log.epoch x.log.active x.log.pending found.newest (logs_elsewhere x.log old new top found named_same stands.logs)
 
@@ -291,7 +291,7 @@ index_pushed x frames flash top found e stands logs =
 
 -- ---- opening
 
--- where nothing runs
+-- if nothing runs
 module _ (log : LogState) (levels : Levels) (arena : Frames) (pool : Blocks) (frames : ℕ) (flash : Flash) (top : ℕ × Root) (found : Found) where
   -- what opening found of an index
   pub record IsFound : Type 0 where
@@ -333,7 +333,7 @@ module _ (log : LogState) (levels : Levels) (arena : Frames) (pool : Blocks) (fr
         freeze = record { taken = tt; different = refl; none_frozen = λ some. absurd (omega (arith, some)) };
       }
 
-  -- an index that was found stands with a schedule in which nothing runs
+  -- an index that was found matches with a schedule in which nothing runs
   pub index_opens : IsFound → (s : Schedule) → (s.phase ≡ Idle) × (s.freeze ≡ NoFreeze) × IsIdle log.shape s.job → s.job.pinned ≡ pinned log.shape frames → IndexOnFlash (index log levels arena pool s) frames flash top found
   index_opens f s idle pins_are =
       let S : Phase → FreezeJob → Type 0 = λ p j. IndexOnFlash (index log levels arena pool (record { job = s.job; phase = p; freeze = j })) frames flash top found in
@@ -355,6 +355,6 @@ idle_in Idle x flash root found m none = m
 idle_in (Running level) x flash root found m none = absurd (not_level level (next_is_level x.log.shape (length (firsts found.older)) (map length found.runs) level m.into.due) none)
 idle_in (Ready level) x flash root found m none = absurd (not_level level (next_is_level x.log.shape (length (firsts found.older)) (map length found.runs) level m.into.due) none)
 
--- where no merge runs, its output has no frames
+-- if no merge runs, its output has no frames
 pub idle_leases : (x : Index) (frames : ℕ) (flash : Flash) (top : ℕ × Root) (found : Found) → IndexOnFlash x frames flash top found → merging x.schedule.phase ≡ 0 → (output x.schedule).leases ≡ []
 idle_leases x frames flash top found stands none = no_leases x.log.shape x.schedule.job (idle_in x.schedule.phase x flash top.1 found stands.merge none)

@@ -45,7 +45,7 @@ run_blocks_in shape (r ∷ rs) (bs ∷ bss) (suc i) d inside have b is = any_bac
 
 -- ---- frames
 
--- so many pages of a level may have frames, where so many levels are pinned
+-- this many pages of a level may have frames, if this many levels are pinned
 abbrev bound : Shape → ℕ → ℕ → ℕ
 bound shape p level = if nat_le level p then cap shape level else 0
 
@@ -115,7 +115,7 @@ leases_most shape p levels is kept same pins =
         let all = length-append (leases_of (a ∷ b ∷ c ∷ d ∷ [])) [] in
         omega (arith, one, two, three, fourth, la, lb, lc, ld, all)
 
--- where no merge runs, there are frames for the output of one into a pinned level
+-- if no merge runs, there are frames for the output of one into a pinned level
 pub frames_left : (shape : Shape) (frames : ℕ) (levels : Levels) (arena : Frames) (level : ℕ) → IsLevels levels → AllByRecursion IsKept levels.runs → levels.shape ≡ shape → levels.pinned ≡ pinned shape frames
     → HasArena shape frames levels arena [] → IsLevel level → nat_le level (pinned shape frames) ≡ true → cap shape level ≤ free_frames arena
 frames_left shape frames levels arena level is kept same pins has is_level within =

@@ -41,7 +41,7 @@ use Rattle.pk_root.specs.declared.next.Next.TheVariants.{Erase, Program, Again}
 use Rattle.pk_compact.proofs.NextRoot.{programs_whole}
 use Rattle.pk_schedule.proofs.Settled.{stands_settled, values_settled}
 
--- a block that counts as erased lies behind the root blocks
+-- a block that counts as erased is after the root blocks
 pub pool_behind : (pool : Blocks) (old new : Flash) → IsShared pool.shape pool.states → SameBehind pool.shape old new → PoolOnFlash pool old → PoolOnFlash pool new
 pool_behind pool old new shared behind fits = PoolOnFlash-same pool old new (λ b k ready inside.
     let least = behind_roots pool.shape pool.states b ReadyBlock ready_is_not_root ready shared in
@@ -53,7 +53,7 @@ pool_behind pool old new shared behind fits = PoolOnFlash-same pool old new (λ 
 pub no_freeze : (job : FreezeJob) (next : Next) → taken_by job ≡ [] → freeze_rest_of job next ≡ None
 no_freeze job next none = rw (ap (λ (xs : List ℕ). length xs) none) refl
 
--- an install has one step less behind its erase
+-- an install has one step less after its erase
 one_fewer : (a b : Next) (u : ℕ) → programs_next a ≡ true → erases_next b ≡ true → Lowers (install_steps b) u (install_steps a) u
 one_fewer (Program page) (Erase beside) u programs erases = record { none_ready = omega arith; less = omega arith }
 one_fewer (Program page) (Program other) u programs erases = absurd (let x : ⊥ = cc in x)
@@ -75,7 +75,7 @@ module _ (x : Index) (frames : ℕ) (old : BoardState) (top : ℕ × Root) (foun
   none : taken_by x.schedule.freeze ≡ []
   none = none_taken x frames old top found m may level is shared known
 
-  -- a flash of which no page behind the root blocks differs
+  -- a flash of which no page after the root blocks differs
   module _ (new : Flash) (behind : SameBehind shape old.pages new) where
     pub same_page : (o : Owner) (k : ℕ) → slice_get x.pool.states (k / shape.block_pages) ≡ Some (Owned o) → page_at new k ≡ page_at old.pages k
     same_page o k owned = behind k (owned_beyond x frames old.pages top found m may shared o k owned)
@@ -93,7 +93,7 @@ module _ (x : Index) (frames : ℕ) (old : BoardState) (top : ℕ × Root) (foun
     runs_stand = RunsOnFlash-same shape old.pages new x.arena x.levels.runs top.1.runs found.runs (block_pages_positive shape may.stands.logs.is_shape) may.stands.run_blocks
         (λ k among. same_page Meta k (may.stands.runs (k / shape.block_pages) among)) may.stands.stand
 
-  -- what is left of the merge, and that it is the next one
+  -- what remains of the merge, and that it is the next one
   pub merge_is : merge_left x.schedule.phase x ≡ Some (install_steps x.log.next)
   merge_is = ap (λ q. merge_left q x) is
 

@@ -1,4 +1,4 @@
--- What the exchange of runs leaves behind a merge: into level 1, and into a deeper one.
+-- What the exchange of runs leaves after a merge: into level 1, and into a deeper one.
 use Rattle.std.proofs.Common.{◌≡◌, ◌⊎◌, inl, inr, ℕ, ◌+◌, ◌-◌, ◌<◌, ◌≤◌, Bool, true, false, ◌==◌, nat_le, if◌then◌else◌, List, [], ◌++◌, length, map, slice_set, slice_index, slice_index_or, Some, None, refl, sym, ap, subst, ◌∙◌, arith, length-append, append-nil}
 use Rattle.std.specs.Prelude.{slice_get}
 use Rattle.std.specs.List.{concat}
@@ -42,7 +42,7 @@ use Rattle.pk_schedule.proofs.Preparing.{output_stands, runs_stand}
 use Rattle.pk_schedule.proofs.Replacing.{RunsOnFlash-set, HaveBlocks-set, ArePinnedTo-set, RunsOnFlash-given, at_set, at_other, map_set, given_bytes, given_size}
 use Rattle.pk_schedule.proofs.Waiting as wait
 
--- ---- lists behind a merge
+-- ---- lists after a merge
 
 abbrev OneRuns : ℕ → List Entry → List (List Entry) → Type 0
 OneRuns level older runs = merged level older runs ≡ slice_set runs (level - 1) (output_of level (record { newest = []; older = older; runs = runs }))

@@ -1,4 +1,4 @@
--- A run that stands in place of another, in lists of runs.
+-- A run that replaces another, in lists of runs.
 use Rattle.std.proofs.Common.{◌≡◌, inl, inr, ℕ, zero, suc, ◌+◌, ◌≤◌, ◌<◌, false, nat_le, T, List, [], ◌∷◌, length, map, slice_set, slice_index_or, Some, refl, sym, ap, subst, ◌∙◌, arith}
 use Rattle.std.specs.Prelude.{slice_get}
 use Rattle.std.proofs.lemmas.List.{length-set}
@@ -16,7 +16,7 @@ use Rattle.pk_model.proofs.Commits.{apart, rest_differs}
 use Rattle.pk_steps.proofs.Places.{In}
 use Rattle.pk_merge.specs.Jobs.{LeavesOthers, given_all, all_spare, spare_of, without, with_spare}
 
--- ---- what stands
+-- ---- what is unchanged
 
 pub RunsOnFlash-set : (flash : Flash) (arena : Frames) (rs : List Kept) (ess : List (List Entry)) (i : ℕ) (r : Kept) (es : List Entry) → RunOnFlash r flash arena es → RunsOnFlash flash arena rs ess → RunsOnFlash flash arena (slice_set rs i r) (slice_set ess i es)
 RunsOnFlash-set flash arena [] [] i r es is s = tt
@@ -82,7 +82,7 @@ leases_set l (suc i) (q ∷ rs) r d low =
     let rest = leases_set l i rs r d (omega (arith, low)) in
     omega (arith, now, was, rest)
 
--- runs that have none of the frames that were given back stand as before
+-- runs that have none of the frames that were given back are as before
 pub RunsOnFlash-given : (leases : List ℕ) (flash : Flash) (before after : Frames) (rs : List Kept) (ess : List (List Entry)) → LeavesOthers leases before after
     → ((i l : ℕ) → slice_get leases i ≡ Some l → times l (leases_of rs) ≡ 0) → RunsOnFlash flash before rs ess → RunsOnFlash flash after rs ess
 RunsOnFlash-given leases flash before after [] [] leaves none s = tt

@@ -1,4 +1,4 @@
--- A step of the job of a merge that runs: the index stands on the flash behind it, with the same map, wherever the step is cut.
+-- A step of the job of a merge that runs: the index matches the flash after it, with the same map, wherever the step is cut.
 use Rattle.std.proofs.Common.{◌≡◌, ◌≢◌, ◌⊎◌, inl, inr, ℕ, ◌*◌, ◌/◌, ◌<◌, ◌≤◌, List, [], ◌∷◌, ◌++◌, length, Option, Some, refl, sym, ap, subst, ◌∙◌, arith, div-lt_iff_lt-mul}
 use Rattle.std.specs.Prelude.{slice_get, slice_index}
 use Rattle.std.specs.List.{concat, AllByRecursion}
@@ -55,7 +55,7 @@ use Rattle.pk_schedule.specs.Steps.{MayWork, IndexMoves}
 use Rattle.pk_schedule.proofs.Grown.{Grew, SameEnd, got_in, in_got, differ_of, owned_not_spare, grew_shape, grew_kept, grew_no_more, grew_size, grew_used, grew_meta, grew_from, same_page, runs_leave, grew_none_leaves}
 use Rattle.pk_schedule.proofs.Settled.{stands_settled, values_settled}
 
--- what holds of each of a list is shown of it and the ones that are left
+-- what holds of each of a list is shown of it and the ones that remain
 all_of : (P Q : ℕ → Type 0) (xs : List ℕ) → ((x : ℕ) → P x → Q x) → AllByRecursion P xs → AllByRecursion Q xs
 all_of P Q [] each all = tt
 all_of P Q (x ∷ xs) each all = (each x all.0, all_of P Q xs each all.1)
@@ -210,7 +210,7 @@ module _ (x : Index) (frames : ℕ) (old : BoardState) (top : ℕ × Root) (foun
         unnamed = t.unnamed;
       }
 
-    -- ---- the index behind it
+    -- ---- the index after it
 
     module _ (new : BoardState) (phase : Phase) (job : Job) (pool : Blocks) (arena : Frames)
         (is_job : job ≡ record x.schedule.job { output = job.output; merger = job.merger })

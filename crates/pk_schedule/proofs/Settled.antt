@@ -1,4 +1,4 @@
--- An index that is whole stands as it is, and what a step of one leaves.
+-- An index that is whole is unchanged, and what a step of one leaves.
 use Rattle.std.proofs.Common.{◌≡◌, ℕ, ◌-◌, ◌*◌, ◌/◌, sym, ap, subst, ◌∙◌, arith, ◌||◌, ◌==◌, List, [], length, nat_le, Result, Ok}
 use Rattle.pk_base.specs.Shape.{Shape}
 use Rattle.pk_base.specs.Page.{Page, Flash, page_in, commits_of}
@@ -13,7 +13,7 @@ use Rattle.pk_model.proofs.StrangePages.{bind_ok}
 use Rattle.pk_schedule.specs.Index.{Index, IndexOnFlash, IsSettled, settled}
 use Rattle.pk_schedule.specs.Steps.{KeepsValues}
 
--- no block leaves, also where one has another owner or is erased
+-- no block leaves, also if one has another owner or is erased
 pub none_leaves_set : (p : Blocks) (b : ℕ) (s : BlockState) → freed_state s ≡ s → NoneLeaves p → NoneLeaves (with_state p b s)
 none_leaves_set p b s same none =
     subst NoneLeaves (freed_set p b s ∙ (λ i. with_state (freed_same p none i) b (same i))) (none_leaves (with_state p b s))

@@ -1,4 +1,4 @@
--- What stands of an index before a step: its owners, its pages, and the merge that does not run.
+-- What an index is before a step: its owners, its pages, and the merge that does not run.
 use Rattle.std.proofs.Common.{◌≡◌, ◌⊎◌, inl, inr, ℕ, ◌*◌, ◌/◌, ◌<◌, ◌≤◌, Bool, true, false, ◌&&◌, ◌++◌, Some, refl, subst, arith, mul-le-mul_right}
 use Rattle.std.specs.Prelude.{slice_get}
 use Rattle.std.specs.List.{concat}
@@ -26,7 +26,7 @@ pub both_true : (a b : Bool) → (a && b) ≡ true → (a ≡ true) × (b ≡ tr
 both_true true b e = (refl, e)
 both_true false b e = absurd (let x : ⊥ = cc in x)
 
--- a page of a block behind the root blocks lies behind them
+-- a page of a block after the root blocks is after them
 pub beyond : (n k : ℕ) → 0 < n → 2 ≤ k / n → 2 * n ≤ k
 beyond n k some least = let twice : 2 * n ≤ (k / n) * n = mul-le-mul_right n least in omega (arith, twice, some)
 
@@ -48,7 +48,7 @@ module _ (x : Index) (frames : ℕ) (flash : Flash) (top : ℕ × Root) (found :
     no_value = λ b k spare here value. not_spare x.pool Values b (subst (λ n. slice_get x.pool.states n ≡ Some (Owned Values)) here (may.values k value)) spare;
   }
 
-  -- a page of a block with an owner lies behind the root blocks
+  -- a page of a block with an owner is after the root blocks
   pub owned_beyond : IsShared x.pool.shape x.pool.states → (o : Owner) (k : ℕ) → slice_get x.pool.states (k / x.log.shape.block_pages) ≡ Some (Owned o) → 2 * x.log.shape.block_pages ≤ k
   owned_beyond shared o k owned = beyond x.log.shape.block_pages k (block_pages_positive x.log.shape may.stands.logs.is_shape)
       (behind_roots x.pool.shape x.pool.states (k / x.log.shape.block_pages) (Owned o) (owned_is_not_root {o = o}) owned shared)

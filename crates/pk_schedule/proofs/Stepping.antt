@@ -186,7 +186,7 @@ module _ (x : Index) (frames : ℕ) (old : BoardState) (top : ℕ × Root) (foun
           let pinned : pins x.schedule.job ≡ pins job = sym (ap (λ (j : Job). pins j) is_job) in
           moves_to (Ready level) (record { into = into_behind (Ready level); whole = subst (λ (b : Bool). IsWhole b (output_of job) new.pages arena (whole_output level found)) pinned (subst (λ (xs : List Entry). IsWhole (pins x.schedule.job) (output_of job) new.pages arena xs) its all) })
 
-      -- ---- what is left
+      -- ---- what remains
 
       module _ (lowers : LowersTo source target out x.schedule.job.merger x.pool (output_of job) job.merger pool (most_pages out) (most_blocks out)) where
         left_then : ℕ
@@ -352,7 +352,7 @@ module _ (x : Index) (frames : ℕ) (old : BoardState) (top : ℕ × Root) (foun
       broken_by = subst (λ (k : Kept). (fault : Fault) → fault ≡ Stopped → Fails source k out x.schedule.job.merger x.pool old fault job.merger new → Goes x.log.shape old new (CrashFinds x.log.shape background old.pages m)) (sym is_target)
           (λ fault e fails. goes_broken source shows new job.merger (subst (λ (f : Fault). Fails source target out x.schedule.job.merger x.pool old f job.merger new) e fails))
 
-  -- ---- what the flash is behind it
+  -- ---- what the flash is after it
 
   pub ok_end : (new : BoardState) → StepReaches x.pool out old new → SameEnd x.pool out old.pages new.pages
   ok_end new cuts = reached_end x.pool out old new cuts

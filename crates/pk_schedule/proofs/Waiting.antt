@@ -1,4 +1,4 @@
--- A merge whose output stands: what its install asks for.
+-- A merge whose output is complete: what its install requires.
 use Rattle.std.proofs.Common.{◌≡◌, inl, inr, ℕ, zero, suc, ◌-◌, ◌/◌, ◌<◌, ◌≤◌, true, T, List, [], ◌∷◌, ◌++◌, length, map, slice_set, slice_index_or, Some, None, Ok, refl, sym, ap, subst, ◌∙◌, arith, le→leb}
 use Rattle.std.specs.Prelude.{slice_get}
 use Rattle.std.proofs.lemmas.List.{length-set}
@@ -76,7 +76,7 @@ length_none : (xs : List ℕ) → (0 < length xs → ⊥) → xs ≡ []
 length_none [] none = refl
 length_none (x ∷ xs) none = absurd (none (omega arith))
 
--- a merge is next only where something is frozen
+-- a merge is next only if something is frozen
 some_frozen : (shape : Shape) (frozen : ℕ) (counts : List ℕ) (level : ℕ) → next_merge shape frozen counts ≡ Some level → 0 < frozen
 some_frozen shape zero counts level next = absurd (let x : ⊥ = cc in x)
 some_frozen shape (suc n) counts level next = omega arith
@@ -224,13 +224,13 @@ module _ (x : Index) (frames : ℕ) (old : BoardState) (top : ℕ × Root) (foun
     leased = are_leased x.arena [] (run_of x.levels level).leases (leases_of runs_one) rows_one;
   }
 
-  -- the pool behind the exchange
+  -- the pool after the exchange
   pub gives_one : GivesBack Meta (run_of x.levels level).blocks x.pool (given_back x.pool (run_of x.levels level).blocks)
   gives_one = gives_back Meta (run_of x.levels level).blocks x.pool (former_differs level) (former_owned level)
 
   -- ---- a merge into level 1
 
-  -- the journal's blocks stay
+  -- the journal's blocks are unchanged
   pub journal_stays : (b : ℕ) → slice_get x.pool.states b ≡ Some (Owned Journal) → slice_get (given_back x.pool (run_of x.levels level).blocks).states b ≡ Some (Owned Journal)
   journal_stays b owned = gives_one.others b (λ among. other_owner (one_owner x.pool Journal Meta b owned (former_owned level b among))) ∙ owned
     where
@@ -264,7 +264,7 @@ module _ (x : Index) (frames : ℕ) (old : BoardState) (top : ℕ × Root) (foun
     abbrev runs_two : List Kept
     runs_two = slice_set runs_one (level - 1 - 1) (empty shape (level - 1))
 
-    -- the source's run stands in place still
+    -- the source's run is still in its place
     pub source_is : run_of (with_run x.levels level out) (level - 1) ≡ source
     source_is = at_other x.levels.runs (level - 1) (level - 1 - 1) out (empty x.levels.shape (level - 1)) (λ e. omega (arith, e, deep))
 

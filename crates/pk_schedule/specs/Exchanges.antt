@@ -12,7 +12,7 @@ use Rattle.pk_run.specs.Kept.{Kept}
 use Rattle.pk_level.specs.Levels.{Levels, IsOfLevel, run_of, with_run}
 use Rattle.pk_merge.specs.Jobs.{Job, AreOwned, AreLeased, LeavesOthers, held_at, taken_from, given_to, given_all, ended}
 
--- The job has this run for the level, which may stand there, and what the former one has may be given back.
+-- The job has this run for the level, which may be there, and what the former one has may be given back.
 pub record CanExchange (levels : Levels) (arena : Frames) (pool : Blocks) (job : Job) (level : ℕ)
     (r : Kept) : Type 0 where
   pub held : held_at job level ≡ Some r
@@ -20,7 +20,7 @@ pub record CanExchange (levels : Levels) (arena : Frames) (pool : Blocks) (job :
   pub owned : AreOwned pool (run_of levels level).blocks
   pub leased : AreLeased arena (run_of levels level).leases
 
--- The run stands in place of the former one of its level, whose blocks and frames are free; no other run has lost one.
+-- The run replaces the former one of its level, whose blocks and frames are free; no other run has lost one.
 pub record Exchanges (levels : Levels) (arena : Frames) (pool : Blocks) (job : Job) (level : ℕ)
     (r : Kept) (levels' : Levels) (arena' : Frames) (pool' : Blocks) (job' : Job) : Type 0 where
   pub levels_are : levels' ≡ with_run levels level r
@@ -47,7 +47,7 @@ pub record CanFree (pool : Blocks) (blocks : List ℕ) : Type 0 where
 
 -- ---- the end of a merge
 
--- A merge into level 1: its output may stand there, and behind the exchange the blocks of the older epoch may be given back.
+-- A merge into level 1: its output may be there, and after the exchange the blocks of the older epoch may be given back.
 pub record CanEndFirst (levels : Levels) (arena : Frames) (pool : Blocks) (job : Job)
     (older : List ℕ) : Type 0 where
   pub out : Kept
@@ -65,7 +65,7 @@ pub record EndsFirst (levels : Levels) (arena : Frames) (pool : Blocks) (job : J
   pub pool_fits : (flash : Flash) → PoolOnFlash then_pool flash → PoolOnFlash pool' flash
   pub over : job' ≡ ended then_job
 
--- A merge into a deeper level: its output may stand there, and behind the exchange so may a run without entries in place of the source.
+-- A merge into a deeper level: its output may be there, and after the exchange a run without entries may replace the source.
 pub record CanEndDeep (levels : Levels) (arena : Frames) (pool : Blocks) (job : Job)
     (level : ℕ) : Type 0 where
   pub out : Kept

@@ -1,4 +1,4 @@
--- The index of a drive, where it keeps which key has its value where: its log and its runs, the blocks of both, and the jobs that keep the lists short.
+-- The index of a drive, which records where the value of each key is: its log and its runs, the blocks of both, and the jobs that keep the lists short.
 use Rattle.std.specs.Prelude.{◌≡◌, ◌⊎◌, ℕ, ◌+◌, ◌-◌, ◌<◌, List, [], length, map, ◌==◌, ◌++◌, if◌then◌else◌, slice_get, Some, true, false}
 use Rattle.std.specs.Borrow.{Bor}
 use Rattle.std.specs.List.{concat, AllByRecursion}
@@ -41,13 +41,13 @@ pub record Schedule : Type 0 where
   pub phase : Phase
   pub freeze : FreezeJob
 
--- the level into which a merge runs, 0 where none does
+-- the level into which a merge runs, 0 if none does
 abbrev pub merging : Phase → ℕ
 merging Idle = 0
 merging (Running level) = level
 merging (Ready level) = level
 
--- the output of the merge; an empty run where none runs
+-- the output of the merge; an empty run if none runs
 abbrev pub output : Schedule → Kept
 output s = output_of s.job
 
@@ -70,7 +70,7 @@ index log levels arena pool schedule = record {
 
 -- ---- what a merge is made of
 
--- a value behind a reference
+-- a reference to this value
 abbrev pub behind : {X : Type 0} → X → Bor X
 behind x = record { ref_ptr = (0, 0); now = x }
 
@@ -117,20 +117,20 @@ pub record MergeRuns (x : Index) (flash : Flash) (root : Root) (found : Found)
       (entries_at x found level) (run_at found.runs level)
   pub undone : IsDone (source_at x level) (run_of x.levels level) x.schedule.job.merger → ⊥
 
--- Its output stands whole, and waits for its root.
+-- Its output is complete, and waits for its root.
 pub record MergeWaits (x : Index) (flash : Flash) (root : Root) (found : Found)
     (level : ℕ) : Type 0 where
   pub into : MergesInto x root found level
   pub whole : IsWhole (pins x.schedule.job) (output x.schedule) flash x.arena
       (whole_output level found)
 
--- the merge stands so far as its phase says
+-- the merge is as far as its phase says
 abbrev pub MergeStands : Phase → Index → Flash → Root → Found → Type 0
 MergeStands Idle x flash root found = IsIdle x.log.shape x.schedule.job
 MergeStands (Running level) x flash root found = MergeRuns x flash root found level
 MergeStands (Ready level) x flash root found = MergeWaits x flash root found level
 
--- The blocks that a freeze has taken are different ones of the journal, Erased, and the root names none of them. It takes some only where nothing is frozen.
+-- The blocks that a freeze has taken are different ones of the journal, Erased, and the root names none of them. It takes some only if nothing is frozen.
 pub record FreezeStands (x : Index) (flash : Flash) (root : Root) : Type 0 where
   pub taken : AllByRecursion (IsTaken x.log.shape x.pool flash root) (taken_by x.schedule.freeze)
   pub different : differ (taken_by x.schedule.freeze) ≡ true
@@ -147,7 +147,7 @@ pub record IsSettled (x : Index) : Type 0 where
   pub whole : repeats_next x.log.next ≡ false
   pub none_leaves : NoneLeaves x.pool
 
--- The pair of the newest root is half made; before its first program the same map stood under the former root. No merge and no freeze runs.
+-- The pair of the newest root is half made; before its first program the same map was under the former root. No merge and no freeze runs.
 -- Something is frozen, or a block is free that was not erased since it had an owner, so that the index is not idle.
 pub record HalfStands (x : Index) (flash : Flash) (m : Map) : Type 0 where
   pub half : IsHalf x.log.shape x.log.next flash m
@@ -158,15 +158,15 @@ pub record HalfStands (x : Index) (flash : Flash) (m : Map) : Type 0 where
   pub busy : (0 < length x.log.frozen.entries)
       ⊎ ((b : ℕ) × (slice_get (freed x.pool).states b ≡ Some Free))
 
--- ---- how it stands to a flash
+-- ---- how it matches a flash
 
--- The log and the runs are those of what stands under the newest root, and the jobs stand beside them.
+-- The log and the runs are those of what is under the newest root, and the jobs match next to them.
 pub record IndexOnFlash (x : Index) (frames : ℕ) (flash : Flash) (top : ℕ × Root)
     (found : Found) : Type 0 where
   pub logs : LogOnFlash x.log flash top found
   pub pool_shape : x.pool.shape ≡ x.log.shape
   pub pool_fits : PoolOnFlash x.pool flash
-  -- the runs stand in the blocks that the root names
+  -- the runs are in the blocks that the root names
   pub levels_shape : x.levels.shape ≡ x.log.shape
   pub levels_pinned : x.levels.pinned ≡ pinned x.log.shape frames
   pub stand : RunsOnFlash flash x.arena x.levels.runs found.runs

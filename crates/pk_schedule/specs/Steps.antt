@@ -32,9 +32,9 @@ use Rattle.pk_schedule.specs.declared.phase.Phase.TheVariants.{Idle, Running, Re
 pub use Rattle.pk_log.specs.MergeSteps.{KeepsActive}
 use Rattle.pk_schedule.specs.Index.{Index, IndexOnFlash, IsSettled, HalfStands, settled, output, source_at}
 
--- ---- what is left
+-- ---- what remains
 
--- How many steps are left of the merge that runs: those of its job with one for its end, and those of its install.
+-- How many steps remain of the merge that runs: those of its job with one for its end, and those of its install.
 abbrev pub merge_left : Phase → Index → Option ℕ
 merge_left Idle x = None
 merge_left (Running level) x =
@@ -43,11 +43,11 @@ merge_left (Running level) x =
     + install_steps x.log.next)
 merge_left (Ready level) x = Some (install_steps x.log.next)
 
--- how many are left of the freeze that runs
+-- how many remain of the freeze that runs
 abbrev pub freeze_rest_of : FreezeJob → Next → Option ℕ
 freeze_rest_of job next = if length (taken_by job) == 0 then None else Some (freeze_left job next)
 
--- What of a drive's backlog the index tells: no reclaim runs, and none is due.
+-- What the index contributes to a drive's backlog: no reclaim runs, and none is due.
 abbrev pub backlog_of : Index → Backlog
 backlog_of x = record {
   frozen = length x.log.frozen.entries;
@@ -73,7 +73,7 @@ has_no_merge x = is_between x.schedule.phase && (length x.log.frozen.entries == 
 
 -- ---- what a step asks
 
--- The index stands on the flash, whose map this is, with nothing pending and no pair half made, and the values lie in blocks of their own.
+-- The index matches the flash, whose map this is, with nothing pending and no pair half made, and the values are in blocks of their own.
 pub record MayWork (x : Index) (frames : ℕ) (flash : Flash) (top : ℕ × Root) (found : Found)
     (m : Map) : Type 0 where
   pub stands : IndexOnFlash x frames flash top found
@@ -98,8 +98,8 @@ pub record KeepsValues (shape : Shape) (pool : Blocks) (old : Flash) (pool' : Bl
   pub pages : (k : ℕ) → slice_get pool.states (k / shape.block_pages) ≡ Some (Owned Values)
       → page_at new k ≡ page_at old k
 
--- One step further the index stands on the flash, with the same map and the same places of its values, under the same root or the one that
--- follows, whose pair is half made then: it stands as if the blocks that leave were free. So it is wherever the step is cut.
+-- One step further the index matches the flash, with the same map and the same places of its values, under the same root or the one that
+-- follows, whose pair is half made then: it matches as if the blocks that leave were free. So it does wherever the step is cut.
 pub record IndexMoves (x : Index) (frames : ℕ) (old : BoardState) (found : Found) (m : Map)
     (x' : Index) (new : BoardState) : Type 0 where
   pub then_top : ℕ × Root
@@ -115,12 +115,12 @@ pub record IndexMoves (x : Index) (frames : ℕ) (old : BoardState) (found : Fou
   pub grows : Grows x.log.shape old.pages new.pages
   pub cuts : Reaches x.log.shape old new (CrashFinds x.log.shape background old.pages m)
 
--- for whatever stands there
+-- for whatever is there
 abbrev pub Moves : Index → BoardState → Index → BoardState → Type 0
 Moves x old x' new = (frames : ℕ) (top : ℕ × Root) (found : Found) (m : Map)
     → MayWork x frames old.pages top found m → IndexMoves x frames old found m x' new
 
--- A read failed: the index stands as before, and as much is left; of the job no more differs than the bytes of a page.
+-- A read failed: the index is as before, and the same amount remains; of the job no more differs than the bytes of a page.
 pub record Unmoved (x : Index) (x' : Index) : Type 0 where
   pub rest : x' ≡ record x { schedule = record x.schedule { job = x'.schedule.job } }
   pub same_backlog : backlog_of x' ≡ backlog_of x
@@ -128,15 +128,15 @@ pub record Unmoved (x : Index) (x' : Index) : Type 0 where
 
 -- ---- a step of the merges
 
--- It lowers what is left of the background work, and what is left to empty the frozen buffer. Where it makes the first program of a root, the
--- level that is due is one less.
+-- It lowers the remaining background work, and what remains to empty the frozen buffer. If it makes the first program of a root, the level
+-- that is due is one less.
 pub record LessIsLeft (x x' : Index) : Type 0 where
   pub work : work x.log.shape (backlog_of x') < work x.log.shape (backlog_of x)
   pub merging : merging_left x.log.shape (backlog_of x') < merging_left x.log.shape (backlog_of x)
   pub roots : x'.log.root.number + due_level x.log.shape (backlog_of x')
       ≡ x.log.root.number + due_level x.log.shape (backlog_of x)
 
--- for every flash on which the index may stand
+-- for every flash that the index may match
 abbrev pub Less : Index → Flash → Index → Type 0
 Less x flash x' = (frames : ℕ) (top : ℕ × Root) (found : Found) (m : Map)
     → MayWork x frames flash top found m → LessIsLeft x x'
@@ -164,7 +164,7 @@ pub record FailsByRead (x : Index) (old : BoardState) (x' : Index) (new : BoardS
   pub flash : Rose old.flash_faults new.flash_faults
   pub only : OnlyReading old new
 
--- Whatever came of it, it made at most one call of the flash, and installed at most one root.
+-- Whatever the result, it made at most one flash operation, and installed at most one root.
 pub record CallsOnce (shape : Shape) (old new : BoardState) : Type 0 where
   pub calls : AtMostOneCall old new
   pub rest : OnlyFlash old new
@@ -173,7 +173,7 @@ pub record CallsOnce (shape : Shape) (old new : BoardState) : Type 0 where
 
 -- ---- the second program of a root
 
--- What it asks: the pair of the newest root is half made, and the index stands on the flash as if the blocks that leave were free.
+-- What it requires: the pair of the newest root is half made, and the index matches the flash as if the blocks that leave were free.
 pub record MaySettle (x : Index) (frames : ℕ) (flash : Flash) (top : ℕ × Root) (found : Found)
     (m : Map) : Type 0 where
   pub stands : IndexOnFlash (settled x) frames flash top found
@@ -183,8 +183,8 @@ pub record MaySettle (x : Index) (frames : ℕ) (flash : Flash) (top : ℕ × Ro
   pub values : (k : ℕ) → IsValuePage x.log.shape (places found []) k
       → slice_get (freed x.pool).states (k / x.log.shape.block_pages) ≡ Some (Owned Values)
 
--- The pair is whole, and the blocks that left are free; of the log no more differs than what its installer does next. The index stands on the
--- flash under the same root, with the same map, wherever the program is cut. Less is left then.
+-- The pair is whole, and the blocks that left are free; of the log no more differs than what its installer does next. The index matches the
+-- flash under the same root, with the same map, wherever the program is cut. Less remains then.
 pub record IndexSettles (x : Index) (frames : ℕ) (old : BoardState) (top : ℕ × Root) (found : Found)
     (m : Map) (x' : Index) (new : BoardState) : Type 0 where
   pub stands : IndexOnFlash x' frames new.pages top found
@@ -198,7 +198,7 @@ pub record IndexSettles (x : Index) (frames : ℕ) (old : BoardState) (top : ℕ
   pub grows : Grows x.log.shape old.pages new.pages
   pub cuts : Reaches x.log.shape old new (CrashFinds x.log.shape background old.pages m)
 
--- for whatever stands there
+-- for whatever is there
 abbrev pub Settles : Index → BoardState → Index → BoardState → Type 0
 Settles x old x' new = (frames : ℕ) (top : ℕ × Root) (found : Found) (m : Map)
     → MaySettle x frames old.pages top found m → IndexSettles x frames old top found m x' new
@@ -217,7 +217,7 @@ pub record MayFreeze (x : Index) (frames : ℕ) (flash : Flash) (top : ℕ × Ro
   pub may : MayWork x frames flash top found m
   pub none_merges : has_no_merge x ≡ true
 
--- The freeze is one step further, and the log is as before, but for what its installer does next; less is left of the freeze.
+-- The freeze is one step further, and the log is as before, but for what its installer does next; less remains of the freeze.
 pub record FreezeMoves (x x' : Index) : Type 0 where
   pub log : x'.log ≡ record x.log { next = x'.log.next }
   pub whole : repeats_next x'.log.next ≡ false
@@ -231,7 +231,7 @@ pub record FreezeMoves (x x' : Index) : Type 0 where
   -- it has taken a block
   pub some : 0 < length (taken_by x'.schedule.freeze)
 
--- The first program of the freeze's root was made: an empty epoch is the newest one, and the buffers are exchanged. The second program is left.
+-- The first program of the freeze's root was made: an empty epoch is the newest one, and the buffers are exchanged. The second program remains.
 pub record Freezes (x x' : Index) : Type 0 where
   pub rest : x' ≡ record x {
     log = x'.log;

@@ -74,7 +74,8 @@ impl<A: Region> Schedule<A> {
         self.phase = Phase::Idle;
     }
 
-    // Ends the merge into a deeper level, whose root is installed: a run without entries stands in place of its source.
+    // Ends the merge into a deeper level, whose root is installed: a run without entries replaces
+    // its source.
     pub(crate) fn end_deep(
         &mut self,
         pool: &mut Pool<A>,

@@ -18,9 +18,10 @@ use pk_pool::Pool;
 use pk_region::Region;
 
 impl<A: Region> Schedule<A> {
-    // One step of the install of the merge whose output stands, up to the first program of its root: the erase before the root, if
-    // one is next, or that program. After it the runs are exchanged; the blocks of the former ones and of the source leave, and their
-    // frames are given back. `Stopped` if the call fails.
+    // One step of the install of the merge whose output is complete, up to the first program of its
+    // root: the erase before the root, if one is next, or that program. After it the runs are
+    // exchanged; the blocks of the former ones and of the source leave, and their frames are given
+    // back. `Stopped` if the operation fails.
     pub(crate) fn install<B: Nand>(
         &mut self,
         board: &mut B,
@@ -45,7 +46,7 @@ impl<A: Region> Schedule<A> {
             (B.state board.new))
             log.old.shape 1 (B.state board.old) (B.state board.new) result }
 
-        // The rest is as it was.
+        // The rest is unchanged.
         ensures active { KeepsActive log.old log.new }
         ensures same_freeze { self.new.freeze ≡ self.old.freeze }
         ensures buffer { length buf.new ≡ length buf.old }

@@ -1,8 +1,9 @@
-//! The jobs that keep the lists of a drive short, over its log and its runs, in steps of at most one call of the board: merges, which
-//! empty the frozen buffer into the runs, and freezes of the active one.
+//! The jobs that keep the lists of a drive short, over its log and its runs, in steps of at most
+//! one flash operation: merges, which empty the frozen buffer into the runs, and freezes of the
+//! active one.
 //!
-//! The map is the same, wherever a step is cut, each new root follows the former one, and commands that are served between the steps
-//! see the former lists.
+//! The map is the same wherever a step is cut, each new root follows the former one, and commands
+//! that are served between the steps see the former lists.
 #![tactic(auto)]
 
 mod exchange;

@@ -39,7 +39,7 @@ fn source_of<'a, A: Region>(log: &'a Log<A>, levels: &'a Levels<A>, level: u8) -
 }
 
 impl<A: Region> Schedule<A> {
-    // Begins the merge that is next, where something is frozen. No call of the board is made.
+    // Begins the merge that is next, if something is frozen. No flash operation is made.
     pub(crate) fn begin(&mut self, levels: &Levels<A>, log: &Log<A>) -> Stepped
         // No merge runs, and the parts fit each other.
         requires idle { self.old.phase ≡ NoMerge }
@@ -62,7 +62,7 @@ impl<A: Region> Schedule<A> {
             → Less (index log.now levels.now arena pool self.old) board.pages
             (index log.now levels.now arena pool self.new) }
 
-        // What stays in any case.
+        // What is unchanged in any case.
         ensures same_freeze { self.new.freeze ≡ self.old.freeze }
     {
         levels.known();

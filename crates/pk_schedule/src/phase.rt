@@ -7,7 +7,7 @@ pub enum Phase {
     Idle,
     /// Its output is made, into the run of this level.
     Running { level: u8 },
-    /// Its output stands, and its root is installed.
+    /// Its output is complete, and its root is installed.
     Ready { level: u8 },
 }
 

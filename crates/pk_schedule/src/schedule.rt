@@ -49,7 +49,7 @@ impl<A: Region> Model for Schedule<A> {
 }
 
 impl<A: Region> Schedule<A> {
-    /// Nothing runs, for an arena of so many frames. All memory of the jobs is taken here.
+    /// Nothing runs, for an arena of this many frames. All memory of the jobs is taken here.
     pub fn new(alloc: A, plan: Plan, frames: u32) -> Result<Schedule<A>, AllocError>
         ensures idle { IfOk result (λ s. (s.phase ≡ NoMerge) × (s.freeze ≡ NoFreeze)
             × IsIdle plan s.job) }
@@ -63,7 +63,7 @@ impl<A: Region> Schedule<A> {
         })
     }
 
-    /// The level into which a merge runs; 0 where none does.
+    /// The level into which a merge runs; 0 if none does.
     pub fn merging(&self) -> u8
         ensures { result ≡ merging_of self.now.phase }
     {
@@ -95,11 +95,13 @@ impl<A: Region> Schedule<A> {
         }
     }
 
-    /// One step of the merges, by at most one call of the board: the next merge begins, its output grows, the root block that is next
-    /// is erased, or its root gets its first program. In the step that makes that program the runs are exchanged, the blocks of the
-    /// former ones leave, and their frames are given back; `finish` is the next step then. No pair may be half made before. `Reading`
-    /// if a read fails: all is as it was, and the step can be made again. `Stopped` if a program or an erase fails; nothing is to be
-    /// used any more then. `buf` has a page's bytes, which are lost.
+    /// One step of the merges, by at most one flash operation: the next merge begins, its output
+    /// grows, the root block that is next is erased, or its root gets its first program. In the
+    /// step that makes that program the runs are exchanged, the blocks of the former ones leave,
+    /// and their frames are given back; `finish` is the next step then. No pair may be half made
+    /// before. `Reading` if a read fails: nothing has changed, and the step can be made again.
+    /// `Stopped` if a program or an erase fails; nothing may be used after that. `buf` has the size
+    /// of a page and is overwritten.
     pub fn step<B: Nand>(
         &mut self,
         board: &mut B,
@@ -116,7 +118,7 @@ impl<A: Region> Schedule<A> {
             (B.state board.old).pages top found m }
         requires room { length buf.old ≡ log.old.shape.page_bytes }
 
-        // Nothing is left to do, or a step was made.
+        // Nothing remains to be done, or a step was made.
         ensures idle { result ≡ Ok Stepped.Idle → (has_no_merge (index log.old levels.old arena.old
             pool.old self.old) ≡ true)
             × (index log.new levels.new arena.new pool.new self.new ≡ index log.old levels.old
@@ -166,8 +168,9 @@ impl<A: Region> Schedule<A> {
         }
     }
 
-    /// The second program of the newest root, whose pair is half made: the one call of the board. After it the blocks that leave are
-    /// free. `Stopped` if it fails; nothing is to be used any more then. `buf` has a page's bytes, which are lost.
+    /// The second program of the newest root, whose pair is half made: the one flash operation.
+    /// After it the blocks that leave are free. `Stopped` if it fails; nothing may be used after
+    /// that. `buf` has the size of a page and is overwritten.
     pub fn finish<B: Nand>(
         &self,
         board: &mut B,
@@ -207,11 +210,13 @@ impl<A: Region> Schedule<A> {
         log.finish_pair(board, pool, buf)
     }
 
-    /// One step of a freeze of the active buffer, by at most one call of the board: a block of the empty epoch, the other one, the
-    /// erase before the root, its first program, its second one. True exactly if this call made the second program of a root. From the
-    /// first program on the empty epoch is the newest one, and the buffers are exchanged; the blocks of a former epoch without entries
-    /// are free after the second. Nothing may be pending; at the freeze's start no merge may run, and nothing be frozen. `Stopped` if
-    /// the call fails; nothing is to be used any more then. `buf` has a page's bytes, which are lost.
+    /// One step of a freeze of the active buffer, by at most one flash operation: a block of the
+    /// empty epoch, the other one, the erase before the root, its first program, its second one.
+    /// True exactly if this call made the second program of a root. From the first program on the
+    /// empty epoch is the newest one, and the buffers are exchanged; the blocks of a former epoch
+    /// without entries are free after the second. Nothing may be pending; at the freeze's start no
+    /// merge may run, and nothing be frozen. `Stopped` if the operation fails; nothing may be used
+    /// after that. `buf` has the size of a page and is overwritten.
     pub fn freeze_step<B: Nand>(
         &mut self,
         board: &mut B,

@@ -1,4 +1,4 @@
--- The front of a value by its pages.
+-- A prefix of a value by its pages.
 use Rattle.std.proofs.Common.{◌≡◌, ◌⊎◌, inl, inr, ◌<◌, ◌≤◌, ◌+◌, ◌-◌, ◌*◌, ℕ, zero, suc, List, ◌++◌, length, take, drop, refl, sym, ◌∙◌, ap, subst, arith}
 use Rattle.std.specs.Prelude.{min}
 use Rattle.std.proofs.Math.Nat.{lt_of_mul-lt-mul_right}
@@ -14,7 +14,7 @@ use Rattle.pk_segfmt.specs.Value.{head_bytes, value_bytes}
 use Rattle.pk_segfmt.specs.Stored.{page_of}
 use Rattle.pk_segfmt.proofs.StoredLemmas.{length-head_bytes, page_is}
 
--- a piece that is cut from a page of a text, where the text goes on behind the first h bytes
+-- a piece that is cut from a page of a text, if the text goes on after the first h bytes
 cut_piece : (h d s p a m : ℕ) (text : List ℕ) → s + a ≡ h + d → s ≤ p → take m (drop s (take p (drop a text))) ≡ take m (take (p - s) (drop d (drop h text)))
 cut_piece h d s p a m text place room =
     let e : s + (p - s) ≡ p = omega arith in
@@ -28,7 +28,7 @@ take_both m k xs = elim (cases_lt k m) [
   | inr more ↦ (let e : min m k ≡ m = omega (arith, more) in rw e (take-take m k xs more))
 ]
 
--- one page more of the front of a text behind its first 32 bytes
+-- one page more of the prefix of a text after its first 32 bytes
 pub front_next : (n p i : ℕ) (text old new : List ℕ) → 32 ≤ p → i * p - 32 ≤ n
     → take (i * p - 32) old ≡ take (i * p - 32) (drop 32 text)
     → take (min n ((i + 1) * p - 32)) new ≡ take (i * p - 32) old ++ take (n - (i * p - 32)) (drop (32 - i * p) (take p (drop (i * p) text)))
@@ -47,7 +47,7 @@ front_next n p i text old new head within before now =
     now ∙ (ap (λ (r : List ℕ). r ++ take q (drop s (take p (drop (i * p) text)))) before
     ∙ (ap (λ (r : List ℕ). take d rest ++ r) piece ∙ (sym (take-add d m rest) ∙ ap (λ (k : ℕ). take k rest) all)))
 
--- the bytes behind the head of a value's pages begin with the value
+-- the bytes after the head of a value's pages begin with the value
 pub value_front : (shape : Shape) (key : Key) (value : List ℕ) (n : ℕ) → IsKey key → n ≤ length value → take n (drop 32 (value_bytes shape key value)) ≡ take n value
 unfolding value_bytes
 value_front shape key value n is_key short =

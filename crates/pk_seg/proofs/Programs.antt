@@ -21,7 +21,7 @@ use Rattle.pk_seg.specs.Stored.{written, WriteFailed}
 pub SameOutside-same : (first count : ℕ) (f : Flash) → SameOutside first count f f
 SameOutside-same first count f = record { size = refl; below = λ k _. refl; above = λ k _. refl }
 
--- the board stays ready where a program fails
+-- the board stays ready if a program fails
 pub IsReady-failed : (board new : BoardState) (shape : Shape) (at : ℕ) (bytes : List ℕ) → IsPage shape bytes → ProgramFailed board new at bytes → IsReady board shape → IsReady new shape
 IsReady-failed board new shape at bytes full failed ready = record {
   shape_is = ap (λ s. s.shape) failed.rest ∙ ready.shape_is;

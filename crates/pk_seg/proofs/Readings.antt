@@ -33,7 +33,7 @@ IsReady-read_failed old new shape at failed ready = record {
   flash = rw (ap (λ s. s.pages) failed.rest) ready.flash;
 }
 
--- a page behind the first that is read at once to its place, all of it within the front
+-- a page after the first that is read directly to its place, all of it within the prefix
 pub straight_piece : (shape : Shape) (i at size : ℕ) (old buf bytes : List ℕ) → IsShape shape
     → size ≡ shape.page_bytes → 0 < i → at ≡ i * size - 32 → at + size ≤ length old
     → length buf ≡ size → buf ≡ bytes
@@ -60,7 +60,7 @@ length-part at size xs room =
     let within : at + size - at ≤ length (drop at xs) = omega (arith, room, length-drop at xs) in
     length-take-le (at + size - at) (drop at xs) within ∙ omega arith
 
--- i of the pages were read, and the front of the value that they hold is filled in
+-- i of the pages were read, and the prefix of the value that they hold is filled in
 pub record Filling (old now : BoardState) (shape : Shape) (page n i : ℕ) (into : List ℕ) : Type 0 where
   pub board : now ≡ after_reads i old
   pub len : length into ≡ n

@@ -1,10 +1,10 @@
--- Reads in a row.
+-- Consecutive reads.
 use Rattle.std.specs.Prelude.{ℕ, ◌+◌, ◌<◌}
 use Rattle.pk_nand.specs.BoardState.{BoardState}
 use Rattle.pk_nand.specs.Calls.{Rose, ReadFailed}
 use Rattle.pk_nand.specs.Counts.{after_reads}
 
--- of n reads from this page on one failed, behind others that did not
+-- of n reads from this page on one failed, after others that did not
 pub record ReadsFailed (old new : BoardState) (page n : ℕ) : Type 0 where
   pub made : ℕ
   pub within : made < n

@@ -10,13 +10,13 @@ use Rattle.pk_segfmt.specs.Head.{IsHead}
 use Rattle.pk_segfmt.specs.Value.{head_bytes}
 use Rattle.pk_segfmt.specs.Stored.{page_of, IsStored}
 
--- from this page on stand the pages of a value of at least n bytes
+-- from this page on are the pages of a value of at least n bytes
 pub record IsFront (shape : Shape) (flash : Flash) (page n : ℕ) (key : Key) (value : List ℕ) : Type 0 where
   pub is_head : IsHead shape key (length value)
   pub long : n ≤ length value
   pub stored : IsStored shape (page_at flash) key page value
 
--- page i of a value, of these bytes, brings its piece of the value's front behind the pieces before
+-- page i of a value, of these bytes, brings its piece of the value's prefix after the pieces before
 abbrev pub BringsPiece : Shape → ℕ → List ℕ → List ℕ → List ℕ → Type 0
 BringsPiece shape i bytes old new =
     let at : ℕ = i * shape.page_bytes - HEAD_BYTES in
@@ -31,12 +31,12 @@ pub record HasHead (shape : Shape) (flash : Flash) (page : ℕ) (key : Key) (len
   pub front : take HEAD_BYTES bytes ≡ head_bytes key len
 
 module _ (shape : Shape) (key : Key) (page : ℕ) (value : List ℕ) where
-  -- the board behind the programs of the first k pages of a value
+  -- the board after the programs of the first k pages of a value
   abbrev pub written : ℕ → BoardState → BoardState
   written zero old = old
   written (suc k) old = after_program (written k old) (page + k) (page_of shape key value k)
 
-  -- a program of one of its pages failed, behind those of all pages before it
+  -- a program of one of its pages failed, after those of all pages before it
   pub record WriteFailed (old new : BoardState) : Type 0 where
     pub made : ℕ
     pub within : made < charge shape (length value)

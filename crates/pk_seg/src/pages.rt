@@ -10,7 +10,7 @@ ghost use Rattle.pk_nand.specs.declared.types.Fault.TheVariants.{Reading, Stoppe
 
 use pk_nand::{Fault, Nand};
 
-/// Reads a whole page into the buffer, by one read. `Reading` where it fails.
+/// Reads a whole page into the buffer, by one read. `Reading` if it fails.
 pub fn read_page<B: Nand>(board: &mut B, page: u32, buf: &mut [u8]) -> Result<(), Fault>
     requires exists { page < length (B.state board.old).pages }
     requires room { length buf.old ≡ (shape_of (B.state board.old)).page_bytes }
@@ -30,8 +30,8 @@ pub fn read_page<B: Nand>(board: &mut B, page: u32, buf: &mut [u8]) -> Result<()
     }
 }
 
-/// Programs the next Erased page of its block with the buffer's bytes. `Stopped` where this fails. Wherever it is cut, no
-/// page outside its pair differs.
+/// Programs the next Erased page of its block with the buffer's bytes. `Stopped` if this fails.
+/// Wherever it is cut, no page outside its pair differs.
 pub fn write_page<B: Nand>(board: &mut B, page: u32, buf: &[u8]) -> Result<(), Fault>
     requires exists { page < length (B.state board.old).pages }
     requires full { length buf.now ≡ (shape_of (B.state board.old)).page_bytes }

@@ -15,8 +15,9 @@ use pk_base::{HEAD_BYTES, Key, MOST_PAGE_BYTES, Shape};
 use pk_nand::{Fault, Nand};
 use pk_segfmt::page as value_page;
 
-/// Programs the pages of a value, the next Erased ones of a block, from an even one on. `Stopped` where a program fails. Wherever it
-/// is cut, no other page differs. `buf` has the bytes of a page, which are lost.
+/// Programs the pages of a value, the next Erased ones of a block, from an even one on. `Stopped`
+/// if a program fails. Wherever it is cut, no other page differs. `buf` has the size of a page and
+/// is overwritten.
 pub fn write_value<B: Nand>(
     board: &mut B,
     shape: &Shape,
@@ -34,7 +35,7 @@ pub fn write_value<B: Nand>(
     requires order { InOrder shape.now (B.state board.old).pages page }
     requires room { length buf.old ≡ shape.now.page_bytes }
 
-    // The value stands there, and its pages were programmed in order.
+    // The value is there, and its pages were programmed in order.
     ensures stored { OnOk result (IsStored shape.now (page_at (B.state board.new).pages) key.now
         page value.now) }
     ensures ok { OnOk result (B.state board.new
@@ -74,7 +75,7 @@ pub fn write_value<B: Nand>(
     Ok(())
 }
 
-// Copies page i of a value, behind the bytes of its head, to its place in the value's front.
+// Copies page i of a value, after the bytes of its head, to its place in the value's prefix.
 fn copy_page(into: &mut [u8], i: u32, page: &[u8])
     requires within { i * length page.now - HEAD_BYTES ≤ length into.old }
     requires head { HEAD_BYTES ≤ length page.now }
@@ -91,8 +92,8 @@ fn copy_page(into: &mut [u8], i: u32, page: &[u8])
     into[done..done + count].copy_from_slice(&part[..count]);
 }
 
-// Reads page i of a value to its place in the value's front: at once where all of it belongs there,
-// and else by way of `buf`.
+// Reads page i of a value to its place in the value's prefix: directly if all of it belongs there,
+// otherwise by way of `buf`.
 fn read_part<B: Nand>(
     board: &mut B,
     shape: &Shape,
@@ -136,8 +137,8 @@ fn read_part<B: Nand>(
     }
 }
 
-/// Fills `into` with the front of the value from this page on, by as many reads as it has pages. `Reading` where one fails.
-/// `buf` has the bytes of a page, which are lost.
+/// Fills `into` with the prefix of the value from this page on, by as many reads as it has pages.
+/// `Reading` if one fails. `buf` has the size of a page and is overwritten.
 pub fn read_value<B: Nand>(
     board: &mut B,
     shape: &Shape,
@@ -150,7 +151,7 @@ pub fn read_value<B: Nand>(
         × IsFront shape.now (B.state board.old).pages page (length into.old) key value }
     requires room { length buf.old ≡ shape.now.page_bytes }
 
-    // The front, and so many reads.
+    // The prefix, and the number of reads.
     ensures front { OnOk result ((key value : List ℕ)
         → IsFront shape.now (B.state board.old).pages page (length into.old) key value
         → into.new ≡ take (length into.old) value) }

@@ -31,7 +31,7 @@ padded_cut a n size xs room fits =
     ∙ take_past n ys (zeros z)
     ∙ ap (λ (r : List ℕ). take n ys ++ r) (take-replicate (n - length ys) z 0 (omega arith) ∙ ap zeros all)
 
--- a text in front of a padded one
+-- a text before a padded one
 pub padded_front : (size : ℕ) (xs ys : List ℕ) → length xs ≤ size → padded size (xs ++ ys) ≡ xs ++ padded (size - length xs) ys
 padded_front size xs ys fits =
     let e : size - length (xs ++ ys) ≡ size - length xs - length ys = omega (arith, length-append xs ys) in

@@ -27,7 +27,7 @@ length-head_bytes key len is = simp length-append (omega (arith, length-padded 1
 pub charge_some : (shape : Shape) (is : IsShape shape) (len : ℕ) → 0 < charge shape len
 charge_some shape is len = omega (arith, charge_least shape len is)
 
--- a front of a page of a text is a front of the text
+-- a prefix of a page of a text is a prefix of the text
 take_front : (n size : ℕ) (xs : List ℕ) → n ≤ size → n ≤ length xs → take n (cut size xs) ≡ take n xs
 take_front n size xs room short =
     let t : List ℕ = take size xs in
@@ -66,7 +66,7 @@ module _ (shape : Shape) (is : IsShape shape) (key : Key) (value : List ℕ) (is
       ∙ padded_front size front (take (size - length front) value) (omega (arith, front_len))
       ∙ ap (λ (n : ℕ). front ++ padded n (take n value)) e
 
-  -- the first page: the head, and the value behind it
+  -- the first page: the head, and the value after it
   pub first_page : page_of shape key value 0 ≡ front ++ padded (size - 32) (take (size - 32) value)
   first_page =
       let none : 0 * size ≡ 0 = omega arith in
@@ -86,7 +86,7 @@ module _ (shape : Shape) (is : IsShape shape) (key : Key) (value : List ℕ) (is
       drop_past (i * size) front value ∙ ap (λ (r : List ℕ). r ++ drop (i * size - length front) value) (drop_all (i * size) front (omega (arith, front_len)))
       ∙ ap (λ (k : ℕ). drop k value) e)
 
-  -- the front of the value from its first page
+  -- the prefix of the value in its first page
   pub front_first : (n : ℕ) → n ≤ size - 32 → n ≤ length value → take n (drop 32 (page_of shape key value 0)) ≡ take n value
   front_first n room short =
       let part : List ℕ = take (size - 32) value in
@@ -94,7 +94,7 @@ module _ (shape : Shape) (is : IsShape shape) (key : Key) (value : List ℕ) (is
       ap (λ (r : List ℕ). take n r) (ap (λ (r : List ℕ). drop 32 r) first_page ∙ drop_at front (padded (size - 32) part) 32 front_len)
       ∙ take_front n (size - 32) value room short
 
-  -- a longer front of the value, with bytes of a further page
+  -- a longer prefix of the value, with bytes of a further page
   pub front_more : (i n : ℕ) → 0 < i → i < charge shape (length value) → n ≤ size → i * size - 32 + n ≤ length value
       → take (i * size - 32) value ++ take n (page_of shape key value i) ≡ take (i * size - 32 + n) value
   front_more i n some less room short =
@@ -102,7 +102,7 @@ module _ (shape : Shape) (is : IsShape shape) (key : Key) (value : List ℕ) (is
       ap (λ (r : List ℕ). take a value ++ r) (ap (λ (r : List ℕ). take n r) (next_page i some less) ∙ take_front n size (drop a value) room (omega (arith, length-drop a value)))
       ∙ sym (take-add a n value)
 
-  -- where its pages stand, the value is found
+  -- if its pages are there, the value is found
   pub value_again : (at : ℕ → Page) (page : ℕ) → IsStored shape at key page value → value_at shape at key (record { page = page; len = length value }) ≡ Ok value
   unfolding value_at
   value_again at page stored =
@@ -115,7 +115,7 @@ module _ (shape : Shape) (is : IsShape shape) (key : Key) (value : List ℕ) (is
       ∙ ap (λ (r : Result (List ℕ) Refusal). r >>= (λ bytes. Ok (drop 32 bytes))) found
       ∙ ap (λ (r : List ℕ). Ok r) (drop_at front value 32 front_len)
 
--- the text behind whose head the value was found
+-- the text after whose head the value was found
 record Behind (r : Result (List ℕ) Refusal) (value : List ℕ) : Type 0 where
   pub text : List ℕ
   pub found : r ≡ Ok text
@@ -125,7 +125,7 @@ behind_head : (r : Result (List ℕ) Refusal) (value : List ℕ) → (r >>= (λ 
 behind_head (Ok text) value e = record { text = text; found = refl; behind = cc }
 behind_head (Err refusal) value e = cc
 
--- a text that begins with the head, behind which the value stands
+-- a text that begins with the head, which the value follows
 head_and_value : (size : ℕ) (front text value : List ℕ) → length front ≡ 32 → 32 ≤ size → 32 ≤ length text → starts_with nat_eq (cut size text) front ≡ true
     → drop 32 text ≡ value → text ≡ front ++ value
 head_and_value size front text value len room long starts behind =

@@ -16,7 +16,7 @@ use Rattle.pk_segfmt.proofs.PageLemmas.{drop_past, take_past}
 
 -- ---- the tests of the reading
 
--- a text begins with what stands in front of it
+-- a text begins with what precedes it
 pub starts_front : (xs ys : List ℕ) → starts_with nat_eq (xs ++ ys) xs ≡ true
 starts_front xs ys = (starts_is Decides-eqb (xs ++ ys) xs (starts_with nat_eq (xs ++ ys) xs) refl).1 ys refl
 
@@ -68,7 +68,7 @@ cut size ys = padded size (take size ys)
 length-cut : (size : ℕ) (ys : List ℕ) → length (cut size ys) ≡ size
 length-cut size ys = length-padded size (take size ys) (omega (arith, length-take size ys))
 
--- behind the text there are zeros
+-- after the text there are zeros
 cut_ends : (size : ℕ) (ys : List ℕ) → list_all (λ b. b == 0) (drop (length ys) (cut size ys)) ≡ true
 cut_ends size ys =
     let t : List ℕ = take size ys in
@@ -155,7 +155,7 @@ each_more shape at n page ys first more (suc k) less =
     ap at next ∙ more k (omega arith)
     ∙ ap (λ (r : List ℕ). whole (cut shape.page_bytes r)) (drop-drop (k * shape.page_bytes) shape.page_bytes ys ∙ ap (λ (p : ℕ). drop p ys) place)
 
--- where the reading of a flash finds a text, the pages are those of the text
+-- if the reading of a flash finds a text, the pages are those of the text
 pub text_found : (shape : Shape) (at : ℕ → Page) → AreFull shape at → (n page : ℕ) (front ys : List ℕ) (left : ℕ) → left ≤ n * shape.page_bytes
     → value_from shape at page front left n ≡ Ok ys → Found shape at n page front ys left
 text_found shape at full zero page front [] left room e = record { starts = λ some. absurd (omega arith); len = omega arith; each = λ k less. absurd (omega arith) }

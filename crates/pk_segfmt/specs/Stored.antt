@@ -1,4 +1,4 @@
--- The pages of a value, each by its number, and a flash in which they stand.
+-- The pages of a value, each by its number, and a flash that has them.
 use Rattle.std.specs.Prelude.{◌≡◌, ℕ, ◌+◌, ◌*◌, ◌<◌, List, length, take, drop, Ok}
 use Rattle.pk_base.specs.declared.sizes.TheConstants.{HEAD_BYTES}
 use Rattle.pk_base.specs.Key.{Key}
@@ -12,7 +12,7 @@ use Rattle.pk_segfmt.specs.Head.{IsHead}
 unfoldable pub page_of : Shape → Key → List ℕ → ℕ → List ℕ
 page_of shape key value i = take shape.page_bytes (drop (i * shape.page_bytes) (value_bytes shape key value))
 
--- the pages of this value stand one after another from a page on
+-- the pages of this value are there one after another from a page on
 abbrev pub IsStored : Shape → (ℕ → Page) → Key → ℕ → List ℕ → Type 0
 IsStored shape at key page value = (i : ℕ) → i < charge shape (length value) → at (page + i) ≡ whole (page_of shape key value i)
 
@@ -20,13 +20,13 @@ IsStored shape at key page value = (i : ℕ) → i < charge shape (length value)
 abbrev pub AreFull : Shape → (ℕ → Page) → Type 0
 AreFull shape at = (page : ℕ) (bytes : List ℕ) → at page ≡ whole bytes → length bytes ≡ shape.page_bytes
 
--- where the pages of a value stand, the reading of a flash finds the value
+-- if the pages of a value are there, the reading of a flash finds the value
 abbrev pub ReadsBack : Type 0
 ReadsBack =
     (shape : Shape) (at : ℕ → Page) (key : Key) (page : ℕ) (value : List ℕ) → IsShape shape → IsHead shape key (length value) → IsStored shape at key page value
     → value_at shape at key (record { page = page; len = length value }) ≡ Ok value
 
--- where the reading of a flash finds a value, its pages stand
+-- if the reading of a flash finds a value, its pages are there
 abbrev pub StandsWhereRead : Type 0
 StandsWhereRead =
     (shape : Shape) (at : ℕ → Page) (key : Key) (place : Place) (value : List ℕ) → IsShape shape → IsHead shape key place.len → AreFull shape at

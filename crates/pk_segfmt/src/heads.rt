@@ -1,4 +1,4 @@
-//! The head in front of a value.
+//! The head before a value.
 ghost use Rattle.std.specs.Prelude.{◌≡◌, ◌≤◌, List, ℕ, length, take, nat_le, IfOk, IfErr, MatchResult, Ok, Some, None, slice_index, drop};
 ghost use Rattle.pk_base.specs.declared.sizes.TheConstants.{HEAD_BYTES};
 ghost use Rattle.pk_base.specs.Fields.{Finds, number_at};
@@ -92,10 +92,10 @@ fn decode(shape: &Shape, bytes: &[u8]) -> Result<Head, BadHead>
 /// The head of a value's first page.
 pub fn head(shape: &Shape, page: &[u8]) -> Result<Head, BadHead>
     requires { length page.now ≡ shape.now.page_bytes }
-    // What is found may be a head, and its bytes stand in front.
+    // What is found may be a head, and the bytes begin with it.
     ensures found { IfOk result
         (λ h. IsHead shape.now h.key h.len × (take HEAD_BYTES page.now ≡ head_bytes h.key h.len)) }
-    // A head that stands in front is found.
+    // A head that bytes begin with is found.
     ensures only { (key : List ℕ) (len : ℕ) → IsHead shape.now key len
         → take HEAD_BYTES page.now ≡ head_bytes key len
         → result ≡ Ok (record { key = key; len = len }) }
@@ -111,7 +111,7 @@ pub fn head(shape: &Shape, page: &[u8]) -> Result<Head, BadHead>
     decode(shape, &page[..HEAD_BYTES])
 }
 
-/// Writes the head of a value of so many bytes.
+/// Writes the head of a value of `len` bytes.
 pub(crate) fn put_head(key: &[u8], len: u32, into: &mut [u8])
     requires key { IsKey key.now }
     requires room { HEAD_BYTES ≤ length into.old }

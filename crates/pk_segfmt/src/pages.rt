@@ -8,7 +8,7 @@ ghost use Rattle.pk_segfmt.specs.Stored.{page_of, ReadsBack, StandsWhereRead, Be
 use crate::heads::put_head;
 use pk_base::{HEAD_BYTES, Key, Shape, put_padded};
 
-/// Writes a text from this place on, as much as there is room for, and zeros behind it.
+/// Writes a text from this place on, as much as there is room for, and zeros after it.
 fn put_rest(into: &mut [u8], at: usize, text: &[u8])
     requires { at ≤ length into.old }
     ensures { into.new
@@ -19,7 +19,7 @@ fn put_rest(into: &mut [u8], at: usize, text: &[u8])
     put_padded(into, at, room, &text[..size]);
 }
 
-/// The text from this place on; nothing where it ends before.
+/// The text from this place on; nothing if it ends before.
 fn rest_of(text: &[u8], from: usize) -> &[u8]
     ensures { result.now ≡ drop from text.now }
 {
@@ -44,12 +44,12 @@ pub fn page(shape: &Shape, key: &Key, value: &[u8], i: u32, into: &mut [u8])
     }
 }
 
-/// Where the pages of a value stand, the reading of a flash finds the value.
+/// If the pages of a value are there, the reading of a flash finds the value.
 pub fn reads_back()
     ensures { ReadsBack }
 {}
 
-/// Where the reading of a flash finds a value, its pages stand.
+/// If the reading of a flash finds a value, its pages are there.
 pub fn stands_where_read()
     ensures { StandsWhereRead }
 {}

@@ -1,4 +1,4 @@
--- What the counts of faults tell, whatever the drive stands for.
+-- What the counts of faults show, whatever the drive represents.
 use Rattle.std.proofs.Common.{◌≡◌, ℕ, sym, subst, ap, ◌∙◌, Bool, List}
 use Rattle.pk_base.specs.Shape.{Shape}
 use Rattle.pk_nand.specs.BoardState.{BoardState}
@@ -27,7 +27,7 @@ quiet-flash a b rest same = record { output = ap (λ (s : BoardState). s.out_fau
 pub quiet-post : (a b : BoardState) (bytes : List ℕ) → b ≡ after_post a bytes → NoFaults a b
 quiet-post a b bytes is = record { output = ap (λ (s : BoardState). s.out_faults) is; stop = ap (λ (s : BoardState). s.stop_faults) is }
 
--- ---- the end of a call, as it is told
+-- ---- the end of a call, as it is reported
 
 pub blames-cause : (a b : BoardState) (end : End) → HasCause a b end → Blames a b end
 blames-cause a b Done h = absurd h
@@ -57,7 +57,7 @@ blames-still a b c Output h i q = rose_to _ _ _ q.output h
 blames-still a b c Flash h i q = rose_to _ _ _ q.stop h
 blames-still a b c Worn h i q = (i ∙ h.0, quiet-then a b c h.1 q)
 
--- an end that is no fault of the output or the flash, and what failed behind it
+-- an end that is no fault of the output or the flash, and what failed after it
 unfailed : (a b : BoardState) (end : End) → (IsFault end → ⊥) → Blames a b end → NoFaults a b
 unfailed a b Done n h = h.1
 unfailed a b Truncated n h = h.1

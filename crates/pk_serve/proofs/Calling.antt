@@ -1,4 +1,4 @@
--- Counts of calls of the flash.
+-- Counts of flash operations.
 use Rattle.std.proofs.Common.{◌≡◌, ◌≢◌, ℕ, zero, suc, ◌+◌, ◌≤◌, List, [], ◌∷◌, ◌++◌, take, Some, refl, ap, subst, arith}
 use Rattle.pk_base.specs.Shape.{Shape, commit_programs}
 use Rattle.pk_base.specs.Entry.{Entry}
@@ -48,7 +48,7 @@ pub most_calls-append : (shape : Shape) (xs ys : List Command) → most_calls_of
 most_calls-append shape [] ys = omega arith
 most_calls-append shape (c ∷ xs) ys = let rest = most_calls-append shape xs ys in omega (arith, rest)
 
--- a front of them
+-- a prefix of them
 pub most_calls-front : (shape : Shape) (xs ys : List Command) → most_calls_of_all shape (xs ++ take 1 ys) ≤ most_calls_of_all shape (xs ++ ys)
 most_calls-front shape xs ys =
     let front = most_calls-append shape xs (take 1 ys) in

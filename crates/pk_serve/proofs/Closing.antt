@@ -107,7 +107,7 @@ pub front_none : (xs ys : List ℕ) → xs ++ ys ≡ [] → xs ≡ []
 front_none [] ys e = refl
 front_none (x ∷ xs) ys e = cc
 
--- an input that is told
+-- an input that is recorded
 pub told : (o : Option (List ℕ)) (xs input : List ℕ) → Some input ≡ put_back xs o → (left : List ℕ) × (o ≡ Some left) × (input ≡ xs ++ left)
 told None xs input e = absurd (let h : Some input ≡ None = e in cc)
 told (Some left) xs input e = (left, refl, (let h : Some input ≡ Some (xs ++ left) = e in cc))
@@ -170,7 +170,7 @@ module _ (shape : Shape) (frames : ℕ) (start : Map) (a b : BoardState) (d : Si
   }
 
   module _ (input : List ℕ) (is : a.input ≡ Some input) where
-    -- the input that was taken, and what is left
+    -- the input that was taken, and what remains
     input_of : (xs : List ℕ) → a.input ≡ put_back xs b.input → (left : List ℕ) × (b.input ≡ Some left) × (input ≡ xs ++ left)
     input_of xs e = told b.input xs input (sym is ∙ e)
 
@@ -303,12 +303,12 @@ module _ (a b : BoardState) (before after : Sight) (end : End) (h : Ends a b bef
   pub answers_all : IsFault end ⊎ (after.pending ≡ []) → Answers a b before end
   answers_all closed shape frames start stands none input is = served_by shape frames start a b after input is end closed (h shape frames start stands none)
 
--- where it is no fault, nothing is pending
+-- if it is no fault, nothing is pending
 pub none_left : (end : End) (None_pending Agrees : Type 0) → IsFault end ⊎ (None_pending × Agrees) → IsFault end ⊎ None_pending
 none_left end None_pending Agrees (inl fault) = inl fault
 none_left end None_pending Agrees (inr ok) = inr ok.0
 
--- what was served, whether the input is told or not
+-- what was served, whether the input is recorded or not
 served_some : (shape : Shape) (frames : ℕ) (start : Map) (a b : BoardState) (d : Sight) (end : End) → IsFault end ⊎ (d.pending ≡ []) → Finish shape frames start a b d [] end
     → ServedSome shape frames start a b end
 unfolding served_of

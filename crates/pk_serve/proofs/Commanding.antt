@@ -60,7 +60,7 @@ cutoff-more shape frames start a c cs more h = record {
   answered = answered-more shape frames start a c cs more h.answered;
 }
 
--- what is held, with nothing behind it
+-- what is held, with nothing after it
 bare : (shape : Shape) (frames : ℕ) (start : Map) (a b : BoardState) (d : Sight) (held : List ℕ) (all : List Exchange) (m : Map) → Serving shape frames start a b d held all m → Serving shape frames start a b d (held ++ []) all m
 bare shape frames start a b d held all m w = let T : List ℕ → Type 0 = λ t. Serving shape frames start a b d t all m in subst T (sym (append-nil held)) w
 

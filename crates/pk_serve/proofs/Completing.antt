@@ -1,4 +1,4 @@
--- Where nothing fails, the whole script is served.
+-- If nothing fails, the whole script is served.
 use Rattle.std.proofs.Common.{◌≡◌, ◌≢◌, ◌⊎◌, inl, inr, ℕ, zero, suc, ◌+◌, ◌-◌, ◌*◌, ◌≤◌, ◌<◌, List, [], ◌∷◌, ◌++◌, length, refl, sym, ◌∙◌, ap, subst, arith, length-append, Some, None, Bool, true, false, ◌==◌, if◌then◌else◌, nat_le, Ok}
 use Rattle.std.proofs.lemmas.Bool.Decides.{nat_tests}
 use Rattle.std.specs.List.{FoldsTo}
@@ -34,7 +34,7 @@ use Rattle.pk_serve.proofs.Closing.{told, script_is, front_none, served_by, size
 -- ---- answers without a read error
 
 module _ (shape : Shape) (frames : ℕ) where
-  -- where no reply tells of a read error, each is an answer, and the map is known
+  -- if no reply reports a read error, each is an answer, and the map is known
   answered : (xs : List Exchange) (m m' : Map) → faults xs ≡ 0
       → FoldsTo (λ m x m'. Step shape frames m x.command x.reply m' × (op_of x.command.opcode ≡ Some Retrieve → x.reads ≤ most_reads shape frames m x.command)) m xs m'
       → FoldsTo (λ m x m'. Answer shape (limit shape) frames m x.command x.reply m') m xs m' × (m' ≡ map_after_all shape m (commands xs))
@@ -81,7 +81,7 @@ ticks-append : (xs ys : List Command) → ticks (xs ++ ys) ≡ ticks xs + ticks 
 ticks-append [] ys = omega arith
 ticks-append (c ∷ cs) ys = let rest = ticks-append cs ys in omega (arith, rest)
 
--- not worn, behind commands that install few roots
+-- not worn, after commands that install few roots
 unworn : (a b : BoardState) (cs : List Command) → roots b ≤ roots a + installs cs → roots a < 4611686018427387904 → ticks cs < 2305843009213693952 → length cs < 4294967296 → is_worn b ≢ true
 unworn a b cs up far few short worn =
     let at : 9223372036854775808 ≤ roots b = grind (arith, nat_tests, worn) in
@@ -90,7 +90,7 @@ unworn a b cs up far few short worn =
 
 -- ---- a part of the script
 
--- bytes of which no command stands are left
+-- bytes that are no command remain
 nothing_taken : (n : ℕ) (bytes : List ℕ) → (commands_in n bytes).0 ≡ [] → (commands_in n bytes).1 ≡ bytes
 nothing_taken zero bytes none = refl
 nothing_taken (suc n) bytes none = by (begins_whole bytes) refl

@@ -1,4 +1,4 @@
--- What was taken of a script, whatever the drive stands for.
+-- What was taken of a script, whatever the drive represents.
 use Rattle.std.proofs.Common.{◌≡◌, ◌⊎◌, inl, inr, ℕ, ◌+◌, List, [], ◌∷◌, ◌++◌, length, refl, sym, ◌∙◌, ap, subst, arith, append-nil, append_assoc, length-append, true, Bool}
 use Rattle.pk_nand.specs.BoardState.{BoardState}
 use Rattle.pk_model.specs.Script.{script}
@@ -54,7 +54,7 @@ module _ (a b c : BoardState) (taken : ℕ) (w : Consumed a b taken []) where
   consumes-quits d held end (inl n) = consumes-entry (is_worn b) (λ worn. inr worn) end n
   consumes-quits d held end (inr f) = consumes_failed a c end f.fault
 
--- the input and the roots are left
+-- the input and the roots are unchanged
 module _ (a b c : BoardState) (same : c.input ≡ b.input) (worn : is_worn c ≡ is_worn b) where
   consumed-still : (taken : ℕ) (part : List ℕ) → Consumed a b taken part → Consumed a c taken part
   consumed-still taken part w = record { cs = w.cs; bytes = w.bytes; count = w.count; input = w.input ∙ ap (put_back (w.bytes ++ part)) (sym same); spells = w.spells }
@@ -67,7 +67,7 @@ module _ (a b c : BoardState) (same : c.input ≡ b.input) (worn : is_worn c ≡
   consumes-still Flash h = tt
   consumes-still Worn (taken, part, some, w, cause) = (taken, part, some, consumed-still taken part w, elim cause [ inl full ↦ inl full | inr is ↦ inr (worn ∙ is) ])
 
--- ---- an input that is told
+-- ---- an input that is recorded
 
 pub says_of_script : (a b : BoardState) (end : End) → Consumes a b end → SaysOfScript a b end
 says_of_script a b Done (taken, w, at_end) input is =

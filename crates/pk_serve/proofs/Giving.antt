@@ -1,4 +1,4 @@
--- Commits, and the posts behind them.
+-- Commits, and the posts after them.
 use Rattle.std.proofs.Common.{◌≡◌, ℕ, List, [], ◌++◌, refl, sym, subst, append_assoc, ap, arith, ◌∙◌}
 use Rattle.pk_base.specs.Shape.{Shape}
 use Rattle.pk_base.specs.Map.{Map}
@@ -36,7 +36,7 @@ pub post-breaks : (b c : BoardState) (bytes : List ℕ) → PostFailed b c bytes
 post-breaks b c bytes failed drive idle shape frames start a behind all m w =
     (Cutoff-post shape frames start a b drive (bytes ++ behind) all m w c bytes behind idle refl failed, rose_from w.no_faults.output failed.faults)
 
--- two posts in a row
+-- two consecutive posts
 pub posts_both : (b c d : BoardState) (xs ys whole : List ℕ) → whole ≡ xs ++ ys → Posts b c xs → Posts c d ys → Posts b d whole
 posts_both b c d xs ys whole is p q drive idle shape frames start a behind all m w =
     let T : List ℕ → Type 0 = λ t. Serving shape frames start a b drive t all m in

@@ -50,7 +50,7 @@ module _ (shape : Shape) (frames : ℕ) (start : Map) (a b c : BoardState) (d e 
         spells = subst S (sym (commands-push w.all x.x ∙ ap (λ cmd. commands w.all ++ cmd ∷ []) x.is)) (Spells-append w.bytes n.bytes (commands w.all) (n.c ∷ []) w.spells n.spells);
       }
 
-  -- bytes behind the commands were taken
+  -- bytes after the commands were taken
   finished : (part : List ℕ) → b.input ≡ put_back part c.input → c ≡ record b { input = c.input; in_faults = c.in_faults } → e ≡ d → now_held ≡ held → Finished shape frames start a c e now_held part
   finished part more rest same_drive same_held =
       let T : BoardState → Type 0 = λ s. Serving shape frames start a s d held w.all w.m in
@@ -80,7 +80,7 @@ module _ (shape : Shape) (frames : ℕ) (start : Map) (a b c : BoardState) (d e 
         cause = r.1;
       }
 
-  -- the board was left but for its input
+  -- the board is unchanged but for its input
   worn_too : c ≡ record b { input = c.input; in_faults = c.in_faults } → is_worn c ≡ is_worn b
   worn_too rest = ap is_worn rest
 
@@ -88,7 +88,7 @@ module _ (shape : Shape) (frames : ℕ) (start : Map) (a b c : BoardState) (d e 
   both_fields : c ≡ record b { input = c.input } → c ≡ record b { input = c.input; in_faults = c.in_faults }
   both_fields p = p ∙ ap (λ (k : ℕ). record b { input = c.input; in_faults = k }) (sym (ap (λ s. s.in_faults) p))
 
-  -- nothing was left open where the input ends
+  -- nothing was left open if the input ends
   pub none_taken : (no_more : Bool) (why : no_more ≡ true → (taken ≡ most_entries) ⊎ (is_worn b ≡ true)) (go : no_more ≡ false → (taken < most_entries) × (is_worn b ≡ false)) (end : End) → b.in_faults ≡ a.in_faults → e ≡ d → now_held ≡ held → NoEntry b c no_more end → Finish shape frames start a c e now_held end
   unfolding finished
   none_taken no_more why go Done same sd sh n = record { finished = finished [] n.left.input n.left.rest sd sh; at_end = n.at_end; same = n.same ∙ same }

@@ -92,7 +92,7 @@ module _ (a m n : BoardState) (entry : List ℕ) (entered : Entered a m entry) (
     rose = (let T : ℕ → Type 0 = λ k. Rose k n.in_faults in subst T (ap (λ s. s.in_faults) entered.rest) h.rose);
   }
 
--- a drive that tells of its flash whether it is worn
+-- a drive that reports of its flash whether it is worn
 pub worn_is : (agrees : Option Shape → Flash → Type 0) (board : BoardState) (shape : Shape) (worn : Bool) → board.shape ≡ Some shape → agrees board.shape board.pages
     → ((s : Shape) (f : Flash) → agrees (Some s) f → worn ≡ nat_le 9223372036854775808 (root_number s f)) → worn ≡ is_worn board
 worn_is agrees board shape worn has ok told =

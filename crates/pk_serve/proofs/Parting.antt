@@ -1,4 +1,4 @@
--- Parts of the serving loop, one behind another.
+-- Parts of the serving loop, one after another.
 use Rattle.std.proofs.Common.{◌≡◌, sym, subst, Option}
 use Rattle.pk_base.specs.Shape.{Shape}
 use Rattle.pk_base.specs.Page.{Flash as Pages}
@@ -9,7 +9,7 @@ use Rattle.pk_serve.specs.Part.{IsRunning, KeepsRunning, Faulted}
 use Rattle.pk_serve.specs.declared.end.End.{End}
 use Rattle.pk_serve.proofs.Blaming.{quiet-then, cause-then}
 
--- the flash was left
+-- the flash is unchanged
 pub running-still : (agreeing : Option Shape → Pages → Type 0) (drive : Sight) (b c : BoardState) → (c.shape ≡ b.shape) × (c.pages ≡ b.pages) → IsRunning agreeing drive b → IsRunning agreeing drive c
 running-still agreeing drive b c same h =
     let T : Option Shape → Type 0 = λ s. agreeing s b.pages in

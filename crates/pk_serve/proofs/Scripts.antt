@@ -33,7 +33,7 @@ enough (suc n) (suc m) bytes hn hm =
     let same : commands_in n (drop (64 + value_follows bytes) bytes) ≡ commands_in m (drop (64 + value_follows bytes) bytes) = enough n m (drop (64 + value_follows bytes) bytes) (omega arith) (omega arith) in
     ap (λ rest. if begins_whole bytes then (first_command bytes ∷ rest.0, rest.1) else ([], bytes)) same
 
--- a whole command in front
+-- a whole command at the start
 whole : (bytes : List ℕ) → begins_whole bytes ≡ true → script bytes ≡ behind (first_command bytes ∷ []) (script (drop (64 + value_follows bytes) bytes))
 unfolding script
 whole bytes e =
@@ -43,7 +43,7 @@ whole bytes e =
     ∙ ap (λ r. behind (first_command bytes ∷ []) r)
     (enough (length bytes) (length (drop (64 + value_follows bytes) bytes)) (drop (64 + value_follows bytes) bytes) (omega (arith, length-drop (64 + value_follows bytes) bytes)) (omega arith)))
 
--- none in front
+-- none at the start
 pub part_of : (bytes : List ℕ) → begins_whole bytes ≡ false → IsPart bytes
 unfolding script
 part_of bytes e =

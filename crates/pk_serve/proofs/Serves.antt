@@ -48,7 +48,7 @@ kept-more shape frames start cs more n later up f q k = record {
   few_faults = up (faults k.served) k.few_faults;
 }
 
--- two posts in a row
+-- two consecutive posts
 longer-append : (told : Option (List ℕ)) (xs ys : List ℕ) → longer (longer told xs) ys ≡ longer told (xs ++ ys)
 longer-append None xs ys = refl
 longer-append (Some told) xs ys = ap (λ l. Some l) (append_assoc told xs ys)
@@ -57,7 +57,7 @@ longer-append (Some told) xs ys = ap (λ l. Some l) (append_assoc told xs ys)
 abbrev ReadBehind : BoardState → BoardState → List Command → Type 0
 ReadBehind b c more = (c.reads ≡ b.reads) ⊎ ((n : ℕ) × (c.reads ≡ reads_after b.reads n) × (more ≢ []))
 
--- nothing more was given out
+-- nothing more was posted
 none_more : (P : List ℕ → Type 0) (out q : List ℕ) → q ≡ [] → P out → P (out ++ q)
 none_more P out q e h = subst P (sym (ap (λ t. out ++ t) e ∙ append-nil out)) h
 
@@ -67,7 +67,7 @@ few_more n xs x k e h = let T : ℕ → Type 0 = λ f. AtMost n f in subst T (sy
 
 module _ (shape : Shape) (frames : ℕ) (start : Map) (a b : BoardState) (drive : Sight) (unposted : List ℕ) (all : List Exchange) (m : Map)
     (w : Serving shape frames start a b drive unposted all m) where
-  -- what stands now is kept
+  -- what exists now is kept
   present : KeptAt shape frames start (commands all) (rise a.read_faults b.read_faults) b.pages (all_posted w.marks)
   present = at_end w.marks a b (KeptAt shape frames start (commands all) (rise a.read_faults b.read_faults)) w.run
 
@@ -85,7 +85,7 @@ module _ (shape : Shape) (frames : ℕ) (start : Map) (a b : BoardState) (drive 
     few_faults = k.few_faults;
   }
 
-  -- a flash that holds all that was served, where a front of what is not posted was given out
+  -- a flash that holds all that was served, if a prefix of what is not posted was sent
   kept_all : (f : Flash) → reading shape f [] ≡ Ok m → (out rest : List ℕ) → out ++ rest ≡ unposted → KeptAt shape frames start (commands all) (rise a.read_faults b.read_faults) f (all_posted w.marks ++ out)
   kept_all f e out rest front = record {
     served = all;
@@ -164,7 +164,7 @@ module _ (shape : Shape) (frames : ℕ) (start : Map) (a b : BoardState) (drive 
   grown : (ms : List Mark) → GrowsAlong shape b.pages ms → GrowsAlong shape a.pages (w.marks ++ ms)
   grown ms more = grows_behind shape w.marks a b (KeptAt shape frames start (commands all) (rise a.read_faults b.read_faults)) w.shape_is w.run w.grows ms more
 
-  -- what was answered, where these bytes were posted behind
+  -- what was answered, if these bytes were posted after it
   answered_by : (c : BoardState) (more : List Command) (out rest : List ℕ) → out ++ rest ≡ unposted → c.posted ≡ longer b.posted out → b.read_faults ≤ c.read_faults → ReadBehind b c more
       → calls_of c ≤ calls_of a + most_calls_of_all shape (commands all ++ take 1 more) → Answered shape frames start a c (commands all ++ more)
   answered_by c more out rest front is up read few_calls = record {
@@ -265,7 +265,7 @@ module _ (shape : Shape) (frames : ℕ) (start : Map) (a b : BoardState) (drive 
             (kept-more shape frames start (commands all) [] (rise a.read_faults b.read_faults) (rise a.read_faults later) (λ k h. at_most-more a.read_faults b.read_faults later k up h) f (all_posted w.marks ++ []) (kept_all f held [] unposted refl))
       ])
 
-  -- the calls of a run that ends here, beside a commit that was owed
+  -- the calls of a run that ends here, and a commit that was owed
   calls_here : (c : BoardState) → calls_of c ≤ calls_of b + owed drive.pending → calls_of c ≤ calls_of a + most_calls_of_all shape (commands all ++ [])
   calls_here c few =
       let so_far = w.few_calls in
@@ -308,7 +308,7 @@ module _ (shape : Shape) (frames : ℕ) (start : Map) (a b : BoardState) (drive 
       let R : List Command → Type 0 = λ l. Cutoff shape frames start a c l in
       subst R (append-nil (commands all)) (extend_went [] c (CrashFinds shape commit b.pages m) up (commit_cut c.read_faults up) (λ f q cut. (unposted, ap (λ t. t ++ unposted) cut.0)) (inl read) (calls_here c few_calls) went)
 
-  -- ---- a post of a front of what is not posted, where nothing is pending
+  -- ---- a post of a prefix of what is not posted, if nothing is pending
 
   -- the flash holds the map
   held_now : drive.pending ≡ [] → reading shape b.pages [] ≡ Ok m

@@ -1,4 +1,4 @@
--- How many calls of the flash serving makes.
+-- How many flash operations serving makes.
 use Rattle.std.specs.Prelude.{ℕ, ◌+◌, List, [], ◌∷◌}
 use Rattle.pk_base.specs.Shape.{Shape, commit_programs}
 use Rattle.pk_base.specs.Entry.{Entry}
@@ -6,7 +6,7 @@ use Rattle.pk_nvme.specs.Command.{Command}
 use Rattle.pk_nand.specs.BoardState.{BoardState}
 use Rattle.pk_call.specs.Calling.{most_calls_of}
 
--- the calls of the flash that a board has counted, failed ones included
+-- the flash operations that a board has counted, failed ones included
 abbrev pub calls_of : BoardState → ℕ
 calls_of board = board.reads + board.programs + board.erases
 

@@ -41,12 +41,12 @@ pub record Complete (shape : Shape) (frames : ℕ) (start : Map) (a b : BoardSta
 abbrev pub far_below : ℕ
 far_below = 4611686018427387904
 
--- The steps that Ticks may ask for are fewer than 2^61: each installs at most one root, and what is left of a further 2^62 numbers is for the other
+-- The steps that Ticks may request are fewer than 2^61: each installs at most one root, and what remains of a further 2^62 numbers is for the other
 -- commands.
 abbrev pub ticks_below : ℕ
 ticks_below = 2305843009213693952
 
--- a script that is whole, of fewer than 2^32 entries, on a drive that is far from worn, where nothing fails
+-- a script that is whole, of fewer than 2^32 entries, on a drive that is far from worn, if nothing fails
 pub record IsServable (a b : BoardState) (cs : List Command) (rest : List ℕ) : Type 0 where
   pub whole : rest ≡ []
   pub few : length cs < 4294967296

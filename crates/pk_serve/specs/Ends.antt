@@ -28,8 +28,8 @@ IsFault Output = Unit {0}
 IsFault Flash = Unit {0}
 IsFault Worn = ⊥
 
--- What the counts of faults tell of an end, whatever the drive stands for: the input, the output, or a program or an erase failed where it
--- says so, and none of them did where it does not.
+-- What the counts of faults show of an end, whatever the drive represents: the input, the output, or a program or an erase failed if it
+-- says so, and none of them did if it does not.
 abbrev pub Blames : BoardState → BoardState → End → Type 0
 Blames a b Done = (b.in_faults ≡ a.in_faults) × NoFaults a b
 Blames a b Truncated = (b.in_faults ≡ a.in_faults) × NoFaults a b

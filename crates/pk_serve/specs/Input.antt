@@ -15,7 +15,7 @@ use Rattle.pk_serve.specs.Serving.{Serves, Stops}
 use Rattle.pk_serve.specs.declared.end.End.{End}
 use Rattle.pk_serve.specs.declared.end.End.TheVariants.{Done, Truncated, Input, Output, Flash, Worn}
 
--- a script behind these commands
+-- a script after these commands
 abbrev pub behind : List Command → (List Command × List ℕ) → (List Command × List ℕ)
 behind cs rest = (cs ++ rest.0, rest.1)
 
@@ -23,7 +23,7 @@ behind cs rest = (cs ++ rest.0, rest.1)
 abbrev pub Spells : List ℕ → List Command → Type 0
 Spells bytes cs = (left : List ℕ) → script (bytes ++ left) ≡ behind cs (script left)
 
--- no whole command stands in the bytes
+-- no whole command is in the bytes
 abbrev pub IsPart : List ℕ → Type 0
 IsPart bytes = script bytes ≡ ([], bytes)
 
@@ -77,7 +77,7 @@ pub record RefusesMore (old new : BoardState) : Type 0 where
   pub input : old.input ≡ put_back part new.input
   pub rest : new ≡ record old { input = new.input }
 
--- how no command was taken; none is where no more are
+-- how no command was taken; none if no more are to be taken
 abbrev pub NoEntry : BoardState → BoardState → Bool → End → Type 0
 NoEntry old new no_more Done = Finds old new
 NoEntry old new no_more Truncated = BreaksOff old new × (no_more ≡ false)
@@ -93,14 +93,14 @@ pub record Entered (old new : BoardState) (entry : List ℕ) : Type 0 where
 
 -- ---- bytes that are taken in parts
 
--- at most so many bytes were taken, fewer only at the end of the input
+-- at most n bytes were taken, fewer only at the end of the input
 pub record Took (old new : BoardState) (size : ℕ) (bytes : List ℕ) : Type 0 where
   pub within : length bytes ≤ size
   pub input : old.input ≡ put_back bytes new.input
   pub ended : length bytes < size → AtEnd new.input
   pub rest : new ≡ record old { input = new.input }
 
--- the input failed behind fewer bytes
+-- the input failed after fewer bytes
 pub record TookFailed (old new : BoardState) (size : ℕ) : Type 0 where
   pub bytes : List ℕ
   pub few : length bytes < size
@@ -108,7 +108,7 @@ pub record TookFailed (old new : BoardState) (size : ℕ) : Type 0 where
   pub rose : Rose old.in_faults new.in_faults
   pub rest : new ≡ record old { input = new.input; in_faults = new.in_faults }
 
--- the bytes stand in a buffer behind what was there
+-- the bytes are in a buffer after what was there
 pub record Filled (old new : BoardState) (from n : ℕ) (before into : List ℕ) : Type 0 where
   pub bytes : List ℕ
   pub took : Took old new (length before - from) bytes
@@ -121,7 +121,7 @@ pub record Skipped (old new : BoardState) (size n : ℕ) : Type 0 where
   pub took : Took old new size bytes
   pub count : n ≡ length bytes
 
--- The value behind an entry was taken, and this is handed to the drive.
+-- The value after an entry was taken, and this is passed to the drive.
 pub record Valued (old new : BoardState) (shape : Shape) (opcode size : ℕ) (handed : List ℕ) : Type 0 where
   pub value : List ℕ
   pub whole : length value ≡ (if opcode == STORE then size else 0)

@@ -19,7 +19,7 @@ use Rattle.pk_serve.specs.declared.end.End.TheVariants.{Done, Truncated, Input, 
 abbrev pub most_entries : ℕ
 most_entries = 4294967295
 
--- So many commands were taken from the input and served.
+-- This many commands were taken from the input and served.
 pub record Looping (shape : Shape) (frames : ℕ) (start : Map) (a b : BoardState) (drive : Sight) (held : List ℕ) (taken : ℕ) : Type 0 where
   pub all : List Exchange
   pub m : Map
@@ -40,7 +40,7 @@ pub record Finished (shape : Shape) (frames : ℕ) (start : Map) (a b : BoardSta
   pub input : a.input ≡ put_back (bytes ++ part) b.input
   pub spells : Spells bytes (commands all)
 
--- The run failed in or behind these commands, all taken whole.
+-- The run failed in or after these commands, all taken whole.
 pub record Failed (shape : Shape) (frames : ℕ) (start : Map) (a b : BoardState) (end : End) : Type 0 where
   pub cs : List Command
   pub bytes : List ℕ
@@ -50,7 +50,7 @@ pub record Failed (shape : Shape) (frames : ℕ) (start : Map) (a b : BoardState
   pub spells : Spells bytes cs
   pub cause : HasCause a b end
 
--- fewer entries were taken than a run takes, and the drive is not worn: another one may be taken behind these
+-- fewer entries were taken than a run takes, and the drive is not worn: another one may be taken after these
 abbrev pub TakesMore : BoardState → ℕ → Type 0
 TakesMore board taken = (taken < most_entries) × (is_worn board ≡ false)
 

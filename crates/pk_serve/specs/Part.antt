@@ -22,7 +22,7 @@ pub record CanServe (agreeing : Option Shape → Pages → Type 0) (drive : Sigh
   pub running : IsRunning agreeing drive board
   pub unworn : is_worn board ≡ false
 
--- of a value this is handed over: all of it where it is not too large, and nothing else
+-- of a value this is passed: all of it if it is not too large, and nothing else
 pub record IsHanded (shape : Shape) (opcode size : ℕ) (handed : List ℕ) : Type 0 where
   pub sized : opcode ≡ STORE → size ≤ greatest shape → length handed ≡ size
   pub empty : opcode ≢ STORE → handed ≡ []
@@ -34,7 +34,7 @@ pub record HasRoom (board : BoardState) (shape : Shape) (into : List ℕ) : Type
   pub for_list : MOST_LIST_BYTES ≤ length into
   pub for_value : greatest shape ≤ length into
 
--- and another one for the value behind each entry
+-- and another one for the value after each entry
 pub record HasBuffers (board : BoardState) (shape : Shape) (value into : List ℕ) : Type 0 where
   pub room : HasRoom board shape into
   pub fits : greatest shape ≤ length value
@@ -46,19 +46,19 @@ pub record CanRun (agreeing : Option Shape → Pages → Type 0) (drive : Sight)
   pub none : held ≡ []
   pub buffers : HasBuffers board shape value into
 
--- ---- what is left
+-- ---- what remains
 
 -- nothing failed: the drive agrees with the board and runs, and no fault was counted
 pub record KeepsRunning (agreeing : Option Shape → Pages → Type 0) (drive : Sight) (old new : BoardState) : Type 0 where
   pub running : IsRunning agreeing drive new
   pub quiet : NoFaults old new
 
--- the output or the flash failed, and its count of faults tells
+-- the output or the flash failed, and its count of faults shows it
 pub record Faulted (old new : BoardState) (end : End) : Type 0 where
   pub fault : IsFault end
   pub cause : HasCause old new end
 
--- the host was given bytes, and nothing else was done
+-- bytes were posted, and nothing else was done
 pub record OnlyGives (old new : BoardState) : Type 0 where
   pub flash : (new.shape ≡ old.shape) × (new.pages ≡ old.pages)
   pub input : new.input ≡ old.input

@@ -16,11 +16,11 @@ use Rattle.pk_model.specs.Sight.{Sight}
 use Rattle.pk_call.specs.Drive.{HoldsMap}
 use Rattle.pk_model.specs.Growth.{Reaches, Goes}
 
--- where it is cut off the flash holds the map before the command or the one after it
+-- wherever it is cut the flash holds the map before the command or the one after it
 abbrev pub StepCut : Shape → Map → Command → Flash → List ℕ → Type 0
 StepCut shape m c flash posted = (posted ≡ []) × (Holds shape flash m ⊎ Holds shape flash (map_after shape (limit shape) m c))
 
--- a command that was answered, with so many pages read for it
+-- a command that was answered, with this many pages read for it
 pub record Submitted (shape : Shape) (frames : ℕ) (old new : BoardState) (after : Sight) (m : Map) (c : Command) (reply : Reply) (reads : ℕ) : Type 0 where
   pub left : Map
   pub stepped : Step shape frames m c reply left

@@ -27,13 +27,13 @@ KeepsScript a b before =
     (shape : Shape) (frames : ℕ) (start : Map) → HoldsMap shape frames a before start → before.pending ≡ []
     → (input : List ℕ) → a.input ≡ Some input → Goes shape a b (KeptAt shape frames start (script input).0 (rise a.read_faults b.read_faults))
 
--- the same where the input is not told
+-- the same if the input is not recorded
 abbrev pub KeepsSome : BoardState → BoardState → Sight → Type 0
 KeepsSome a b before =
     (shape : Shape) (frames : ℕ) (start : Map) → HoldsMap shape frames a before start → before.pending ≡ []
     → (cs : List Command) × Goes shape a b (KeptAt shape frames start cs (rise a.read_faults b.read_faults))
 
--- Whether it fails or not, no more calls of the flash are made than the commands of the script may make.
+-- Whether it fails or not, no more flash operations are made than the commands of the script may make.
 abbrev pub CallsWithin : BoardState → BoardState → Sight → Type 0
 CallsWithin a b before =
     (shape : Shape) (frames : ℕ) (start : Map) → HoldsMap shape frames a before start → before.pending ≡ []
@@ -56,7 +56,7 @@ pub record Served (shape : Shape) (frames : ℕ) (start : Map) (a b : BoardState
   pub unworn : cs ≢ [] → is_worn a ≡ false
 
 -- Which commands were served, by the end: all of the script; all of it, and more bytes; those whole in the bytes that were taken; those before
--- another one that begins; those before an entry that is refused; those before the one in which a call failed, or a front of them.
+-- another one that begins; those before the one in which a call failed, or a prefix of them.
 abbrev pub ServedBy : Shape → ℕ → Map → BoardState → BoardState → List ℕ → End → Type 0
 ServedBy shape frames start a b input Done =
     (script input ≡ ((script input).0, [])) × Served shape frames start a b (script input).0 × AtEnd b.input × (b.in_faults ≡ a.in_faults)
@@ -76,7 +76,7 @@ Answers a b before end =
     (shape : Shape) (frames : ℕ) (start : Map) → HoldsMap shape frames a before start → before.pending ≡ []
     → (input : List ℕ) → a.input ≡ Some input → ServedBy shape frames start a b input end
 
--- The same where the input is not told: some commands were served, and each end has its cause.
+-- The same if the input is not recorded: some commands were served, and each end has its cause.
 abbrev pub ServedSome : Shape → ℕ → Map → BoardState → BoardState → End → Type 0
 ServedSome shape frames start a b Done = (cs : List Command) × Served shape frames start a b cs × (b.in_faults ≡ a.in_faults)
 ServedSome shape frames start a b Truncated = (cs : List Command) × TakesMore b (length cs) × Served shape frames start a b cs × (b.in_faults ≡ a.in_faults)

@@ -1,4 +1,4 @@
--- What was taken of a script, whatever the drive stands for.
+-- What was taken of a script, whatever the drive represents.
 use Rattle.std.specs.Prelude.{◌≡◌, ◌≢◌, ◌⊎◌, ℕ, List, [], ◌++◌, length, Some, true}
 use Rattle.pk_nvme.specs.Command.{Command}
 use Rattle.pk_nand.specs.BoardState.{BoardState}
@@ -12,7 +12,7 @@ use Rattle.pk_serve.specs.Loop.{Ends, most_entries}
 use Rattle.pk_serve.specs.declared.end.End.{End}
 use Rattle.pk_serve.specs.declared.end.End.TheVariants.{Done, Truncated, Input, Output, Flash, Worn}
 
--- So many commands were taken whole, and then this part of another one.
+-- This many commands were taken whole, and then this part of another one.
 pub record Consumed (a b : BoardState) (taken : ℕ) (part : List ℕ) : Type 0 where
   pub cs : List Command
   pub bytes : List ℕ
@@ -29,14 +29,14 @@ Consumes a b Output = Unit {0}
 Consumes a b Flash = Unit {0}
 Consumes a b Worn = (taken : ℕ) × (part : List ℕ) × (part ≢ []) × Consumed a b taken part × ((taken ≡ most_entries) ⊎ (is_worn b ≡ true))
 
--- What is told of a run by its end: what was taken, which commands were served, with these bytes held, and the counts of faults.
+-- What the end of a run says of it: what was taken, which commands were served, with these bytes held, and the counts of faults.
 pub record Runs (a b : BoardState) (before after : Sight) (held : List ℕ) (end : End) : Type 0 where
   pub consumes : Consumes a b end
   pub ends : Ends a b before after held end
   pub blames : Blames a b end
 
--- What it says of the script. Done: it is whole. Truncated: bytes stand behind its last command. Worn: more bytes stand behind as many commands
--- as are taken, or the drive is worn.
+-- What it says of the script. Done: it is whole. Truncated: bytes follow its last command. Worn: more bytes follow as many commands as are
+-- taken, or the drive is worn.
 abbrev pub Says : BoardState → List ℕ → End → Type 0
 Says b input Done = ((script input).1 ≡ []) × AtEnd b.input
 Says b input Truncated = ((script input).1 ≢ []) × AtEnd b.input

@@ -1,4 +1,4 @@
--- What stands after some commands were served.
+-- What holds after some commands were served.
 use Rattle.std.specs.Prelude.{◌≡◌, ◌≢◌, ◌⊎◌, ℕ, ◌+◌, ◌≤◌, List, [], ◌∷◌, ◌++◌, length, take, Option, Some}
 use Rattle.pk_base.specs.Shape.{Shape}
 use Rattle.pk_base.specs.Page.{Flash}
@@ -47,8 +47,8 @@ pub record Serving (shape : Shape) (frames : ℕ) (start : Map) (a b : BoardStat
   pub few_calls : calls_of b + owed drive.pending ≤ calls_of a + most_calls_of_all shape (commands all)
   pub no_faults : NoFaults a b
 
--- A front of these commands was answered, each with its number of reads, and what was posted is a front of their records. Behind them nothing was
--- read, but by the command in which the run ended; that one, at most, made calls beside those that were answered.
+-- A prefix of these commands was answered, each with its number of reads, and what was posted is a prefix of their records. After them nothing
+-- was read, but by the command in which the run ended; that one, at most, made calls in addition to those that were answered.
 pub record Answered (shape : Shape) (frames : ℕ) (start : Map) (a b : BoardState) (cs : List Command) : Type 0 where
   pub served : List Exchange
   pub unserved : List Command
@@ -70,7 +70,7 @@ pub record Cutoff (shape : Shape) (frames : ℕ) (start : Map) (a b : BoardState
   pub went : Goes shape a b (KeptAt shape frames start cs (rise a.read_faults b.read_faults))
   pub answered : Answered shape frames start a b cs
 
--- A call posts these bytes: what was served stays, and those behind them are left.
+-- A call posts these bytes: what was served is unchanged, and those after them remain.
 abbrev pub Flushed : BoardState → BoardState → Sight → Sight → List ℕ → Type 0
 Flushed old new before after bytes =
     (shape : Shape) (frames : ℕ) (start : Map) (a : BoardState) (behind : List ℕ) (all : List Exchange) (m : Map)
@@ -82,7 +82,7 @@ Breaks old new before bytes end =
     (shape : Shape) (frames : ℕ) (start : Map) (a : BoardState) (behind : List ℕ) (all : List Exchange) (m : Map)
     → Serving shape frames start a old before (bytes ++ behind) all m → Cutoff shape frames start a new (commands all) × HasCause a new end
 
--- The output or the flash failed while these bytes were held: its count of faults tells, and what was served is kept.
+-- The output or the flash failed while these bytes were held: its count of faults shows it, and what was served is kept.
 pub record FailsHolding (old new : BoardState) (before : Sight) (held : List ℕ) (end : End) : Type 0 where
   pub fault : Faulted old new end
   pub breaks : Breaks old new before held end
@@ -94,7 +94,7 @@ Posts old new bytes = (drive : Sight) → drive.pending ≡ [] → Flushed old n
 abbrev pub PostBreaks : BoardState → BoardState → List ℕ → End → Type 0
 PostBreaks old new bytes end = (drive : Sight) → drive.pending ≡ [] → Breaks old new drive bytes end
 
--- A call changes what is held from one to the other: what was served stays.
+-- A call changes what is held from one to the other: what was served is unchanged.
 abbrev pub Keeps : BoardState → BoardState → Sight → Sight → List ℕ → List ℕ → Type 0
 Keeps old new before after held now_held =
     (shape : Shape) (frames : ℕ) (start : Map) (a : BoardState) (all : List Exchange) (m : Map)
@@ -112,13 +112,13 @@ pub record Next (shape : Shape) (frames : ℕ) (start : Map) (a b : BoardState) 
   pub step : StepWithin shape frames before x m
   pub serving : Serving shape frames start a b drive unposted (all ++ x ∷ []) m
 
--- A call serves a command behind so many taken.
+-- A call serves a command after this many were taken.
 abbrev pub Serves : BoardState → BoardState → Sight → Sight → List ℕ → List ℕ → ℕ → Command → Type 0
 Serves old new before after held now_held taken c =
     (shape : Shape) (frames : ℕ) (start : Map) (a : BoardState) (all : List Exchange) (m : Map)
     → taken ≡ length all → Serving shape frames start a old before held all m → Next shape frames start a new after now_held all m c
 
--- A call ends the run in a command behind so many taken.
+-- A call ends the run in a command after this many were taken.
 abbrev pub Stops : BoardState → BoardState → Sight → List ℕ → ℕ → End → Command → Type 0
 Stops old new before held taken end c =
     (shape : Shape) (frames : ℕ) (start : Map) (a : BoardState) (all : List Exchange) (m : Map)

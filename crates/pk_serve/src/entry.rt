@@ -19,7 +19,7 @@ pub struct Numbered {
     pub before: u32,
 }
 
-/// Takes an entry, or tells why none was taken. None is where no more are to be.
+/// Takes an entry, or says why none was taken. None if no more are to be taken.
 pub fn take_entry<B: Board>(board: &mut B, entry: &mut [u8], no_more: bool) -> Result<(), End>
     requires { length entry.old ≡ SUBMISSION_BYTES }
     ensures ok { OnOk result (Entered (B.state board.old) (B.state board.new) entry.new) }
@@ -49,7 +49,8 @@ pub fn take_entry<B: Board>(board: &mut B, entry: &mut [u8], no_more: bool) -> R
     }
 }
 
-/// Takes the value behind an entry: how many bytes of the buffer go to the drive. None where the input ends inside it.
+/// Takes the value after an entry: how many bytes of the buffer go to the drive. None if the input
+/// ends inside it.
 pub fn take_value<B: Board>(
     board: &mut B,
     request: &Request,

@@ -34,7 +34,7 @@ pub fn submit<D: Engine, B: Nand>(
     requires unworn { is_worn (B.state board.old) ≡ false }
     requires none { (D.sight drive.old).pending ≡ [] }
 
-    // What is handed over, and the buffer for data.
+    // What is passed, and the buffer for data.
     requires sized { request.now.opcode ≡ STORE
         → request.now.size ≤ greatest (shape_of (B.state board.old))
         → length value.now ≡ request.now.size }
@@ -55,7 +55,7 @@ pub fn submit<D: Engine, B: Nand>(
     ensures looks { only_looks request.now.opcode ≡ true
         → OnlyReading (B.state board.old) (B.state board.new) }
 
-    // The command, with the value of which these bytes were handed over.
+    // The command, with the value of which these bytes were passed.
     ensures submits { IfOk result (λ o. (v : List ℕ)
         → IsValue (shape_of (B.state board.old)) request.now.opcode request.now.size value.now v
         → Submits (B.state board.old) (B.state board.new) (D.sight drive.old) (D.sight drive.new)

@@ -1,5 +1,6 @@
-//! The serving loop: functions over the parts of a `Server`, since their contracts say which records are held before a call and
-//! behind it, and of what a call writes into a field of `&mut self` the check gives no plain equation.
+//! The serving loop: functions over the parts of a `Server`, since their contracts say which
+//! records are held before and after a call, and of what a call writes into a field of `&mut self`
+//! the check gives no plain equation.
 ghost use Rattle.std.specs.Prelude.{◌≡◌, ◌<◌, ◌⊎◌, ℕ, List, [], true, false, OnOk, IfErr};
 ghost use Rattle.pk_queue.specs.Queue.{bytes_of};
 ghost use Rattle.pk_serve.specs.Ends.{IsFault, Blames};
@@ -94,7 +95,7 @@ pub fn serve_entries<D: Engine, B: Board>(
     ensures runs { Runs (B.state board.old) (B.state board.new) (D.sight drive.old)
         (D.sight drive.new) (bytes_of held.new.heads) result }
 
-    // The drive and the board behind them.
+    // The drive and the board after them.
     ensures shape { (B.state board.new).shape ≡ (B.state board.old).shape }
     ensures open { IsFault result
         ⊎ IsRunning (D.agrees drive.new) (D.sight drive.new) (B.state board.new) }
@@ -112,7 +113,7 @@ pub fn serve_entries<D: Engine, B: Board>(
     }
 }
 
-/// Serves the input, and at its end commits and gives out what is held.
+/// Serves the input, and at its end commits and posts what is held.
 pub fn serve_all<D: Engine, B: Board>(
     drive: &mut D,
     board: &mut B,
@@ -129,7 +130,7 @@ pub fn serve_all<D: Engine, B: Board>(
     ensures runs { Runs (B.state board.old) (B.state board.new) (D.sight drive.old)
         (D.sight drive.new) [] result }
 
-    // The drive and the board behind them.
+    // The drive and the board after them.
     ensures none { IsFault result ⊎ (((D.sight drive.new).pending ≡ [])
         × (D.agrees drive.new (B.state board.new).shape (B.state board.new).pages)) }
 {

@@ -1,4 +1,4 @@
-//! What serving needs beside the drive and the board.
+//! What serving needs besides the drive and the board.
 ghost use Rattle.std.specs.Prelude.{◌≡◌, ◌⊎◌, [], false, IfOk, Some};
 ghost use Rattle.pk_serve.specs.Ends.{IsFault, Blames};
 ghost use Rattle.pk_serve.specs.Complete.{Completes};

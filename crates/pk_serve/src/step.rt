@@ -22,9 +22,9 @@ use pk_nvme::status::SUCCESSFUL_COMPLETION;
 use pk_nvme::{RECORD_HEAD_BYTES, Request, completion, record_head};
 use pk_queue::Queue;
 
-/// Gives bytes to the host; none where there are none.
+/// Posts bytes; none if there are none.
 pub fn give<B: Board>(board: &mut B, bytes: &[u8]) -> Result<(), End>
-    // What stays of the board.
+    // What of the board is unchanged.
     ensures only { OnlyGives (B.state board.old) (B.state board.new) }
 
     // The posts, or a fault.
@@ -44,7 +44,7 @@ pub fn give<B: Board>(board: &mut B, bytes: &[u8]) -> Result<(), End>
 
 /// Gives the held records to the host, in order.
 pub fn give_all<B: Board>(board: &mut B, heads: &[[u8; RECORD_HEAD_BYTES]]) -> Result<(), End>
-    // What stays of the board.
+    // What of the board is unchanged.
     ensures only { OnlyGives (B.state board.old) (B.state board.new) }
 
     // The posts, or a fault.
@@ -64,7 +64,8 @@ pub fn give_all<B: Board>(board: &mut B, heads: &[[u8; RECORD_HEAD_BYTES]]) -> R
     Ok(())
 }
 
-/// Commits, and gives out the records that were held; nothing is done where no entry is pending and no record is held.
+/// Commits, and posts the records that were held; nothing is done if no entry is pending and no
+/// record is held.
 pub fn flush<D: Engine, B: Board>(drive: &mut D, board: &mut B, held: &mut Queue) -> Result<(), End>
     requires { IsRunning (D.agrees drive.old) (D.sight drive.old) (B.state board.old) }
 
@@ -84,7 +85,7 @@ pub fn flush<D: Engine, B: Board>(drive: &mut D, board: &mut B, held: &mut Queue
     ensures fails { IfErr result (FailsHolding (B.state board.old) (B.state board.new)
         (D.sight drive.old) (bytes_of held.old.heads)) }
 {
-    // so a command that only reads, behind a flush of its own, makes none before its record
+    // so a command that only reads, after a flush of its own, makes none before its record
     if drive.pending() == 0 && held.held().is_empty() {
         return Ok(());
     }
@@ -100,7 +101,7 @@ pub fn flush<D: Engine, B: Board>(drive: &mut D, board: &mut B, held: &mut Queue
     Ok(())
 }
 
-/// Before a command that is neither a Store nor a Delete, commits and gives out what is held.
+/// Before a command that is neither a Store nor a Delete, commits and posts what is held.
 pub fn prepare<D: Engine, B: Board>(
     drive: &mut D,
     board: &mut B,
@@ -161,7 +162,7 @@ pub fn head_of(request: &Request, count: u32, outcome: &Outcome) -> [u8; RECORD_
     record_head(&entry, outcome.reads, outcome.data_len)
 }
 
-/// Holds the record of a command where it is to wait; otherwise commits and gives out all records.
+/// Holds the record of a command if it is to wait; otherwise commits and posts all records.
 pub fn finish<D: Engine, B: Board>(
     drive: &mut D,
     board: &mut B,
@@ -207,7 +208,7 @@ pub fn finish<D: Engine, B: Board>(
     }
 }
 
-/// Serves one command. A value is handed over where it is not too large.
+/// Serves one command. A value is passed if it is not too large.
 pub fn serve_one<D: Engine, B: Board>(
     drive: &mut D,
     board: &mut B,
@@ -228,7 +229,7 @@ pub fn serve_one<D: Engine, B: Board>(
     ensures rest { TakesNone (B.state board.old) (B.state board.new) }
     ensures rooms { SameRoom held.old.room held.new.room into.old into.new }
 
-    // The command, with the value of which these bytes were handed over.
+    // The command, with the value of which these bytes were passed.
     ensures serves { OnOk result ((v : List ℕ)
         → IsValue shape.now entry.now.request.opcode entry.now.request.size value.now v
         → Serves (B.state board.old) (B.state board.new) (D.sight drive.old) (D.sight drive.new)

@@ -33,7 +33,7 @@ pub fn board(
     board_in(alloc, shape, pages, input, ROOM)
 }
 
-/// The pages behind the first k marks, of which the next, where there is one, leaves this.
+/// The pages after the first k marks, of which the next, if there is one, leaves this.
 pub fn cut(alloc: Global, flash: &Flash, k: usize, left: &Left) -> Result<Vec<PageState>, Fail> {
     if flash.shape().is_none() || k > flash.marks() {
         return Err(Fail::from("a cut"));
@@ -63,7 +63,7 @@ pub fn made<P: Program>(alloc: Global, words: &[&str]) -> Result<Vec<PageState>,
     pages_done(alloc, status, &flash)
 }
 
-// The pages that a board has now, where this is the status of a session that ended well.
+// The pages that a board has now, if this is the status of a session that ended well.
 fn pages_done(alloc: Global, status: u8, flash: &Flash) -> Result<Vec<PageState>, Fail> {
     if status != DONE {
         return Err(Fail::from("a session that ends well"));
@@ -71,7 +71,7 @@ fn pages_done(alloc: Global, status: u8, flash: &Flash) -> Result<Vec<PageState>
     pages_left(alloc, flash)
 }
 
-/// The status with which the program serves the board's input with so many frames.
+/// The status with which the program serves the board's input with this many frames.
 pub fn serve_with<P: Program>(alloc: Global, flash: &mut Flash, frames: &str) -> u8 {
     P::run(alloc, &["serve", frames], flash)
 }
@@ -81,7 +81,7 @@ pub fn serve<P: Program>(alloc: Global, flash: &mut Flash) -> u8 {
     serve_with::<P>(alloc, flash, "36")
 }
 
-/// A session behind its end.
+/// A session after its end.
 #[derive(Drop)]
 pub struct Session {
     pub status: u8,
@@ -89,12 +89,12 @@ pub struct Session {
 }
 
 impl Session {
-    /// A failure where the session had another status.
+    /// A failure if the session had another status.
     pub fn ended(&self, status: u8, place: Place) -> Result<(), Fail> {
         same(self.status, status, format_args!("the status, {place}"))
     }
 
-    /// A failure where the session had another status, or posted other bytes.
+    /// A failure if the session had another status, or posted other bytes.
     pub fn posted(&self, status: u8, posted: &[u8], place: Place) -> Result<(), Fail> {
         self.ended(status, place)?;
         let found = self.flash.posted();

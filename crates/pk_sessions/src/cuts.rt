@@ -1,9 +1,10 @@
-//! What is out where a session is cut off.
+//! What is posted if a session is cut.
 
 use pk_flash::Flash;
 use pk_nand::Mark;
 
-/// The most bytes that may be out where the mark with this number is interrupted: those of all posts up to it.
+/// The most bytes that may be posted if the mark with this number is interrupted: those of all
+/// posts up to it.
 pub fn bytes_out(flash: &Flash, k: usize) -> usize {
     let mut bytes = 0usize;
     for i in 0..flash.marks() {

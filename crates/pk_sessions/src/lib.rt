@@ -1,7 +1,9 @@
-//! Whole sessions of any program over the board in memory, with words, scripts and records alone: what trials of several crates need.
+//! Whole sessions of any program over the board in memory, with words, scripts and records alone:
+//! what trials of several crates need.
 //!
-//! Boards go from session to session, scripts are written and their records read, pages are made by hand. The program is a parameter, so
-//! that all this stands on none of its parts; `pk_trials` and `pk_hardships` have the trials.
+//! Boards go from session to session, scripts are written and their records read, pages are made by
+//! hand. The program is a parameter, so that all this depends on none of its parts; `pk_trials` and
+//! `pk_hardships` have the trials.
 #![tactic(auto)]
 
 pub mod boards;

@@ -1,5 +1,5 @@
-//! Keys that are stored once each and then overwritten, over and over: what is stored by each command, what stands under each key
-//! behind so many of them, and what a session's records tell of it.
+//! Keys that are stored once each and then overwritten, over and over: what each command stores,
+//! the value of each key after a number of them, and what a session's records show of it.
 
 use crate::script::{Value, entry, push_value};
 use pk_base::get_u32;
@@ -21,7 +21,7 @@ fn key_bytes(key: u32) -> [u8; 2] {
     [bytes[2], bytes[3]]
 }
 
-/// The key of the command with this number, of so many keys: each in turn, and then every seventh.
+/// The key of the command with this number, of `keys` keys: each in turn, and then every seventh.
 pub fn key_of(command: u32, keys: u32) -> u32 {
     if keys == 0 {
         return 0;
@@ -46,7 +46,7 @@ pub fn push_store(into: &mut Vec<u8>, key: u32, value: &Value) -> Result<(), All
     push_value(into, value)
 }
 
-/// Adds the Stores with these numbers, of so many keys.
+/// Adds the Stores with these numbers, of `keys` keys.
 pub fn push_stores(into: &mut Vec<u8>, keys: u32, from: u32, to: u32) -> Result<(), AllocError> {
     for command in from..to {
         push_store(into, key_of(command, keys), &value_of(command))?;
@@ -93,7 +93,7 @@ impl Record {
     }
 }
 
-/// The record that begins here; None where none of this length is there.
+/// The record that begins here; None if none of this length is there.
 pub fn record_at(posted: &[u8], at: usize) -> Option<Record> {
     if at > posted.len() || posted.len() - at < 24 {
         return None;
@@ -110,7 +110,7 @@ pub fn record_at(posted: &[u8], at: usize) -> Option<Record> {
     Some(record)
 }
 
-// Where the record ends that begins here, which is to have this status and no data.
+// Where the record ends that begins here, which has to have this status and no data.
 fn end_with(posted: &[u8], at: usize, status: u32) -> Option<usize> {
     match record_at(posted, at) {
         Some(record) if record.status == status && record.len == 0 => Some(record.end()),
@@ -118,7 +118,7 @@ fn end_with(posted: &[u8], at: usize, status: u32) -> Option<usize> {
     }
 }
 
-/// The end of the first records, so many, each of which is to have this status and no data.
+/// The end of the first `count` records, each of which has to have this status and no data.
 pub fn all_with(posted: &[u8], from: usize, count: u32, status: u32) -> Result<usize, Fail> {
     let mut at = from;
     for i in 0..count {
@@ -130,7 +130,7 @@ pub fn all_with(posted: &[u8], from: usize, count: u32, status: u32) -> Result<u
     Ok(at)
 }
 
-// What the record with this number is, which is not the one that was wanted.
+// What the record with this number is, which is not the one that was expected.
 fn other_record(posted: &[u8], at: usize, i: u32) -> Fail {
     let record = record_at(posted, at);
     Fail::new(format_args!("record {i}: {record:?}"))
@@ -168,7 +168,8 @@ fn first_at(posted: &[u8], at: usize) -> Option<First> {
     }
 }
 
-/// The first byte of the data of so many Retrieves, each of a value of 100 bytes of one page, in a table by key.
+/// The first byte of the data of `keys` Retrieves, each of a value of 100 bytes of one page, in a
+/// table by key.
 pub fn firsts(alloc: Global, posted: &[u8], from: usize, keys: u32) -> Result<Vec<u8>, Fail> {
     let mut firsts = Vec::new(alloc);
     push_firsts(&mut firsts, posted, from, keys)?;
@@ -189,7 +190,7 @@ fn push_firsts(into: &mut Vec<u8>, posted: &[u8], from: usize, keys: u32) -> Res
     Ok(())
 }
 
-/// The first bytes of the values of all keys behind so many commands.
+/// The first bytes of the values of all keys after this many commands.
 pub fn firsts_behind(alloc: Global, keys: u32, commands: u32) -> Result<Vec<u8>, AllocError> {
     let mut firsts = Vec::from_elem(alloc, 0u8, keys as usize)?;
     for command in 0..commands {

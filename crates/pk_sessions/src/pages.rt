@@ -9,7 +9,7 @@ use std::test::*;
 /// An entry of a key of one byte.
 #[derive(Clone, Copy)]
 pub enum Note {
-    /// Its value begins at this page and has so many bytes.
+    /// Its value begins at this page and has this many bytes.
     Put(u8, u32, u32),
     /// It was deleted.
     Gone(u8),
@@ -72,8 +72,8 @@ pub struct Sizes {
     pub blocks: u16,
 }
 
-/// What a root tells: its number, the newest epoch, how many epochs have blocks, one or two, the entries of the runs, and the blocks
-/// of the epochs and of the runs.
+/// What a root records: its number, the newest epoch, how many epochs have blocks, one or two, the
+/// entries of the runs, and the blocks of the epochs and of the runs.
 #[derive(Clone, Copy)]
 pub struct Top<'a> {
     pub number: u64,
@@ -232,7 +232,7 @@ fn write_pages(
     Ok(())
 }
 
-/// So many Erased pages.
+/// `count` Erased pages.
 pub fn erased(alloc: Global, count: u32) -> Result<Vec<PageState>, AllocError> {
     let mut pages = Vec::new(alloc);
     for _ in 0..count {

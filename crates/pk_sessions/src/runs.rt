@@ -1,7 +1,8 @@
 //! Flashes with runs on all four levels, whose pages are made by hand.
 //!
-//! The lists are, from the first that counts: the newest epoch, the older one, and runs 1 to 4. Keys are bytes, and the value of a key
-//! stands at a place of its own. An entry that one of an earlier list covers names a page that has no value.
+//! The lists are, from the first that counts: the newest epoch, the older one, and runs 1 to 4.
+//! Keys are bytes, and the value of a key is at a place of its own. An entry that one of an earlier
+//! list covers names a page that has no value.
 
 use crate::pages::{
     Note, erased, journal_page, meta_page, root_page, write, write_pair, write_value,
@@ -143,7 +144,7 @@ fn last_notes() -> [Note; 2] {
     [there(1), there(60)]
 }
 
-// Writes the root with so many epochs.
+// Writes the root with this many epochs.
 fn write_root(
     alloc: Global,
     pages: &mut Vec<PageState>,

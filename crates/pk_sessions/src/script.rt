@@ -8,7 +8,7 @@ use std::alloc::{AllocError, Global};
 /// No command has this opcode.
 pub const UNKNOWN: u8 = 0x03;
 
-/// A value of `len` bytes: the first one, and each next one greater by one, 0 behind 255.
+/// A value of `len` bytes: the first one, and each next one greater by one, 0 after 255.
 #[derive(Clone, Copy)]
 pub struct Value {
     pub first: u8,
@@ -23,7 +23,7 @@ pub enum Ask {
     Retrieve(u8),
     Delete(u8),
     Flush,
-    /// At most so many background steps.
+    /// At most this many background steps.
     Tick(u32),
     /// From the first key on, with a buffer of 1,000 bytes.
     List,
@@ -37,7 +37,7 @@ pub enum Answer {
     Done,
     /// There is no such key.
     Missing,
-    /// A call of the flash failed, behind one read.
+    /// A flash operation failed, after one read.
     Unread,
     /// Done, with this value, whose pages were read.
     Found(Value),
@@ -110,7 +110,7 @@ pub fn script(alloc: Global, asks: &[Ask]) -> Result<Vec<u8>, AllocError> {
     Ok(bytes)
 }
 
-/// Adds what stands before the data of the record with this number and CID.
+/// Adds what precedes the data of the record with this number and CID.
 pub fn push_head(
     into: &mut Vec<u8>,
     number: u16,
@@ -128,7 +128,7 @@ pub fn push_done(into: &mut Vec<u8>, number: u16) -> Result<(), AllocError> {
     push_head(into, number, SUCCESSFUL_COMPLETION, 0, 0, 0)
 }
 
-/// Adds the record of a Retrieve that gives this whole value behind so many reads.
+/// Adds the record of a Retrieve that gives this whole value after this many reads.
 pub fn push_found(
     into: &mut Vec<u8>,
     number: u16,
@@ -146,7 +146,8 @@ pub fn push_found(
     push_value(into, value)
 }
 
-/// The pages of 512 bytes that a value of so many bytes has behind its head of 32; none are read for no bytes.
+/// The pages of 512 bytes that a value of `len` bytes has after its head of 32; none are read for
+/// no bytes.
 pub fn pages_read(len: u32) -> u32 {
     if len == 0 {
         return 0;
@@ -161,7 +162,7 @@ fn push_keys(into: &mut Vec<u8>, keys: &[u8]) -> Result<(), AllocError> {
     Ok(())
 }
 
-/// Adds the record of a List that gives these keys behind so many reads.
+/// Adds the record of a List that gives these keys after this many reads.
 pub fn push_list(
     into: &mut Vec<u8>,
     number: u16,

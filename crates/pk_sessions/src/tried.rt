@@ -10,7 +10,7 @@ pub trait Program {
     fn run(alloc: Global, words: &[&str], flash: &mut Flash) -> u8;
 }
 
-/// A failure where this does not hold.
+/// A failure if this does not hold.
 pub fn holds<D: Display + Drop>(is_so: bool, what: D) -> Result<(), Fail> {
     if is_so {
         return Ok(());
@@ -18,7 +18,7 @@ pub fn holds<D: Display + Drop>(is_so: bool, what: D) -> Result<(), Fail> {
     Err(Fail::new(what))
 }
 
-/// A failure where these differ.
+/// A failure if these differ.
 pub fn same<T: PartialEq + Debug + Drop, D: Display + Drop>(
     found: T,
     wanted: T,
@@ -30,11 +30,11 @@ pub fn same<T: PartialEq + Debug + Drop, D: Display + Drop>(
     Err(Fail::new(format_args!("{what}: {found:?}, and not {wanted:?}")))
 }
 
-/// Where in a trial something was found, as a failure tells it.
+/// Where in a trial something was found, as a failure reports it.
 #[derive(Clone, Copy)]
 pub enum Place {
     Named(&'static str),
-    /// Behind a cut at this mark.
+    /// After a cut at this mark.
     Mark(usize),
     /// The same, left in this way.
     Way(usize, u32),
@@ -54,7 +54,7 @@ impl Place {
         }
     }
 
-    // Its number, and 0 where there is none.
+    // Its number, and 0 if there is none.
     fn number(&self) -> u64 {
         match self {
             Place::Named(_) => 0,
@@ -64,7 +64,7 @@ impl Place {
         }
     }
 
-    // The way, and 0 where there is none.
+    // The way, and 0 if there is none.
     fn way(&self) -> u32 {
         match self {
             Place::Way(_, way) => *way,

@@ -30,8 +30,8 @@ pub fn kind_of(flash: &Flash, k: usize) -> Kind {
     }
 }
 
-/// All ways in which a program may be interrupted: its page is as it was, Torn or done, and where it is the second one of a pair, the
-/// first one may be Torn besides.
+/// All ways in which a program may be interrupted: its page is unchanged, Torn or done, and if it
+/// is the second one of a pair, the first one may be Torn besides.
 pub fn ways_of_program(alloc: Global, is_second: bool) -> Result<Vec<Left>, AllocError> {
     let mut ways = Vec::new(alloc);
     ways.push(Left::Untouched)?;
@@ -75,13 +75,13 @@ const ERASED: EraseLeft = EraseLeft::Erased;
 
 const TORN: EraseLeft = EraseLeft::Torn;
 
-/// Each of 16 pages as it was, Erased or Torn by turns.
+/// Each of 16 pages unchanged, Erased or Torn by turns.
 const BY_TURNS: [EraseLeft; 16] = [
     KEPT, ERASED, TORN, KEPT, ERASED, TORN, KEPT, ERASED, TORN, KEPT, ERASED, TORN, KEPT, ERASED,
     TORN, KEPT,
 ];
 
-/// An erase that leaves the pages of a block of at most 16 as they were, Erased or Torn by turns.
+/// An erase that leaves the pages of a block of at most 16 unchanged, Erased or Torn by turns.
 pub fn by_turns(alloc: Global) -> Result<Left, AllocError> {
     Ok(Left::Each(BY_TURNS.to_vec(alloc)?))
 }

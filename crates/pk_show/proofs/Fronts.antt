@@ -1,4 +1,4 @@
--- How long the front of a line is.
+-- How long the start of a line is.
 use Rattle.std.proofs.Common.{◌≡◌, ℕ, ◌+◌, Bool, false, ◌==◌, List, [], ◌∷◌, ◌++◌, length, length-append, sym, ap, ◌∙◌, arith}
 use Rattle.std.specs.Prelude.{if◌then◌else◌, codes}
 use Rattle.std.proofs.lemmas.Bool.Decides.{nat_tests}
@@ -21,7 +21,7 @@ pub length-front : (h : Head) (b : Bool) → (h.data_len == 0) ≡ b
 length-front h b e =
     length-append (words h) (dash (h.data_len == 0)) ∙ ap (λ (d : Bool). length (words h) + length (dash d)) e ∙ ap (λ (n : ℕ). n + length (dash b)) (length-words h)
 
--- the front, the digits and a line feed are the line
+-- the start, the digits and a line feed are the line
 joined : (ws bytes : List ℕ) (n : ℕ) → length bytes ≡ n → ws ++ dash (n == 0) ++ hex_text bytes ++ codes "\n" ≡ ws ++ bytes_text bytes ++ codes "\n"
 unfolding encode_with
 joined ws [] n e = ap (λ (k : ℕ). ws ++ dash (k == 0) ++ hex_text [] ++ codes "\n") (sym e) ∙ ap (λ (xs : List ℕ). xs ++ codes "\n") (append-nil (ws ++ codes "-"))

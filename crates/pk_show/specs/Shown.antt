@@ -24,7 +24,7 @@ words h =
 abbrev pub shown : List ℕ → List ℕ → List ℕ
 shown head bytes = words (head_of head) ++ bytes_text bytes ++ codes "\n"
 
--- the front of a line that is known from the head alone: all before the digits of the data
+-- the start of a line that is known from the head alone: all before the digits of the data
 abbrev pub front : Head → List ℕ
 front h = words h ++ (if h.data_len == 0 then codes "-" else [])
 

@@ -1,4 +1,4 @@
-//! The front of a record's line.
+//! The start of a record's line.
 ghost use Rattle.std.specs.Prelude.{◌≡◌, ◌+◌, ◌≤◌, ◌++◌, length, IsTrue, ◌↔◌, if◌then◌else◌};
 ghost use Rattle.pk_nvme.specs.Bytes.{RoomyList};
 ghost use Rattle.pk_nvme.specs.Text.{number_text};
@@ -6,8 +6,9 @@ ghost use Rattle.pk_show.specs.Shown.{head_of, front, shown_head};
 
 use pk_nvme::{Bytes, RECORD_HEAD_BYTES, cid_in, data_bytes_in, reads_in, result_in, status_in};
 
-/// Writes a record's line up to the digits of its data, with `-` where it has no data: the digits, where there are any, and a
-/// line feed follow. It is false exactly where that text does not fit the room, and then nothing is written.
+/// Writes a record's line up to the digits of its data, with `-` if it has no data: the digits, if
+/// there are any, and a line feed follow. It is false exactly if that text does not fit the room,
+/// and then nothing is written.
 pub fn show_head(head: &[u8; RECORD_HEAD_BYTES], into: &mut Bytes) -> bool
     ensures fits { IsTrue result
         ↔ (length into.old.items + length (shown_head head.now) ≤ into.old.room) }

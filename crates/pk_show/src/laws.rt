@@ -4,7 +4,8 @@ ghost use Rattle.pk_nvme.specs.Reply.{data_bytes_at};
 ghost use Rattle.pk_nvme.specs.Text.{hex_text};
 ghost use Rattle.pk_show.specs.Shown.{shown, shown_head};
 
-/// The front, the digits of the data and a line feed are the line of the record, and digits join piece by piece.
+/// The start, the digits of the data and a line feed are the line of the record, and digits join
+/// piece by piece.
 pub fn line()
     ensures parts { (head bytes : List ℕ)
         → length bytes ≡ data_bytes_at head

@@ -5,8 +5,8 @@ ghost use Rattle.pk_nvme.specs.Text.{hex_text};
 
 use pk_nvme::Bytes;
 
-/// Writes the digits of a piece of the data, two for each byte. It is false exactly where they do not fit the room, and then
-/// nothing is written.
+/// Writes the digits of a piece of the data, two for each byte. It is false exactly if they do not
+/// fit the room, and then nothing is written.
 pub fn show_piece(piece: &[u8], into: &mut Bytes) -> bool
     ensures fits { IsTrue result
         ↔ (length into.old.items + 2 * length piece.now ≤ into.old.room) }

@@ -144,7 +144,7 @@ module _ (shape : Shape) (is_shape : IsShape shape) where
   blocks_more : (a b : ℕ) → a ≤ b → blocks_of shape a ≤ blocks_of shape b
   blocks_more a b few = let all = ceil_room b shape.block_pages (block_pages_positive shape is_shape) in ceil_most a shape.block_pages (blocks_of shape b) (block_pages_positive shape is_shape) (le_trans few all)
 
-  -- so many entries as that many pages can hold
+  -- as many entries as that many pages can hold
   run_blocks_most : (n cap : ℕ) → n ≤ cap * page_entries shape → run_blocks shape n ≤ blocks_of shape cap
   run_blocks_most n cap few = blocks_more (run_pages shape n) cap (ceil_most n (page_entries shape) cap entries_positive few)
 

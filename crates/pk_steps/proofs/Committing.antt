@@ -1,4 +1,4 @@
--- A commit that is cut leaves what stands under the root, or has its entries in the newest epoch.
+-- A commit that is cut does not change what is under the root, or has its entries in the newest epoch.
 use Rattle.std.proofs.Common.{◌≡◌, inl, inr, ℕ, ◌+◌, ◌*◌, ◌<◌, ◌≤◌, ap, subst, List, [], ◌++◌, Some, Ok, append-nil}
 use Rattle.pk_base.specs.Shape.{Shape, IsShape, epoch_pages, epoch_commits}
 use Rattle.pk_base.specs.Page.{Page, Flash, page_at, erased, whole, page_in, commit_page, commit_at}

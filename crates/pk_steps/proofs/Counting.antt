@@ -32,7 +32,7 @@ value_of shape flash q (Some (Some place)) value is = is
 pub finds : Finds
 finds shape flash pending top found m key under = value_of shape flash key (find key_cmp key (entries_in_order found pending)) (get m key) (map_under_get shape (page_at flash) top.1 found pending m under.is_map key)
 
--- ---- lists one behind another
+-- ---- lists one after another
 
 find-append : (q : Key) (xs ys : List Entry) → find key_cmp q (xs ++ ys) ≡ or_else (find key_cmp q xs) (find key_cmp q ys)
 find-append q [] ys = refl

@@ -1,4 +1,4 @@
--- The root behind a merge may follow.
+-- The root after a merge may follow.
 use Rattle.std.proofs.Common.{◌≡◌, inl, inr, ℕ, ◌-◌, ◌/◌, refl, T, Bool, true, false, List, [], ◌++◌, length, map, nat_le, ◌==◌, ◌||◌, if◌then◌else◌, Result, Ok, leb→le, zero-mul}
 use Rattle.std.specs.List.{concat}
 use Rattle.pk_base.specs.Shape.{Shape, IsShape}
@@ -72,7 +72,7 @@ module _ (shape : Shape) (flash : Flash) (extra : List Entry) (top : ℕ × Root
       let runs = runs_after shape (page_at flash) found.newest found.older root.counts root.runs found.runs lists count taken level is_level is.stands in
       rw (older, newest, runs) refl
 
-  -- no value lies in a block that the root names
+  -- no value is in a block that the root names
   outside : (k : ℕ) → IsValuePage shape (places found extra) k → IsNamed shape (merged_root root level count taken) k → ⊥
   outside k value among =
       let b = k / shape.block_pages in

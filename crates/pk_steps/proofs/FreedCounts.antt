@@ -13,7 +13,7 @@ use Rattle.pk_steps.proofs.Amounts.{levels}
 use Rattle.pk_steps.proofs.Freeing.{differ_back, in_one, was_named}
 use Rattle.pk_steps.proofs.Spelling.{differ_both}
 
--- ---- two runs in a row
+-- ---- two consecutive runs
 
 pair_differs : (i : ℕ) (runs : List (List ℕ)) → T (differ (concat runs)) → T (differ (slice_index_or runs i [] ++ slice_index_or runs (suc i) []))
 pair_differs i [] d = tt

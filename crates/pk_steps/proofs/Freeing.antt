@@ -58,7 +58,7 @@ module _ (newest older taken : List ℕ) (runs : List (List ℕ)) (d : T (differ
   runs_differ : T (differ (concat runs))
   runs_differ = differ_back (newest ++ older) (concat runs) d
 
-  -- a block that was given back is among the epochs and runs only where it was taken anew
+  -- a block that was given back is among the epochs and runs only if it was taken anew
   Only : List ℕ → List ℕ → List (List ℕ) → Type 0
   Only freed then_older then_runs = In b freed → In b ((newest ++ then_older) ++ concat then_runs) → In b taken
 

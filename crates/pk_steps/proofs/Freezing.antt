@@ -127,7 +127,7 @@ module _ (shape : Shape) (flash new : Flash) (top : ℕ × Root) (found : Found)
   values : Values shape flash [] top.1 found m
   values = values_under shape flash [] top.1 found m before.is_map
 
-  -- no value lies in a block that the new root names
+  -- no value is in a block that the new root names
   outside : (k : ℕ) → In k (all_pages shape (places found [])) → In (k / shape.block_pages) (named root') → ⊥
   outside k is among =
       let value = in_value shape (places found []) k is in

@@ -1,4 +1,4 @@
--- The root behind a freeze may follow.
+-- The root after a freeze may follow.
 use Rattle.std.proofs.Common.{◌≡◌, inl, inr, ℕ, suc, ◌+◌, ◌-◌, ◌*◌, ◌/◌, ◌%◌, ◌<◌, ◌≤◌, refl, sym, ap, subst, ◌∙◌, arith, true, false, ◌||◌, T, List, [], ◌∷◌, ◌++◌, length, reverse, nat_le, slice_index, ◌==◌, if◌then◌else◌, Ok, append-nil, mul-le-mul_right, div-add-mod', mod-lt, zero-mul, eqb→eq, le→leb, leb→le, le_trans}
 use Rattle.std.proofs.lemmas.Nat.{div-mul-add}
 use Rattle.std.proofs.lemmas.List.{reverse-append}
@@ -112,7 +112,7 @@ module _ (shape : Shape) (flash : Flash) (extra : List Entry) (top : ℕ × Root
   values : Values shape flash extra root found m
   values = values_under shape flash extra root found m before.is_map
 
-  -- no value lies in a block that the root names
+  -- no value is in a block that the root names
   outside : (k : ℕ) → IsValuePage shape (places found extra) k → IsNamed shape then_root k → ⊥
   outside k value among =
       let b = k / shape.block_pages in

@@ -45,7 +45,7 @@ module _ (shape : Shape) (at : ℕ → Page) (newest older : List Entry) (counts
 
 -- ---- the entries that count
 
--- two lists as one, with nothing behind the others
+-- two lists as one, with nothing after the others
 as_one : {X : Type 0} (b c d : Option X) → first_some (first_some b c) (first_some d None) ≡ first_some b (first_some c d)
 as_one b c d = first_some_assoc b c (first_some d None) ∙ (λ i. first_some b (first_some c (first_some_none d i)))
 

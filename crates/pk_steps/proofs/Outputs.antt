@@ -213,7 +213,7 @@ module _ (shape : Shape) (flash : Flash) (extra : List Entry) (top : ℕ × Root
       let split = add-mul pages 24 e in
       omega (arith, most, all, split)
 
-  -- the output, where the runs are these
+  -- the output, if the runs are these
   abbrev Fits : ℕ → List (List Entry) → Type 0
   Fits l ls = length (output_of l (record { newest = found.newest; older = found.older; runs = ls })) ≤ room shape l
 

@@ -1,4 +1,4 @@
--- Where one value more, or one less, lies well.
+-- One value more, or one less, that is well placed.
 use Rattle.std.proofs.Common.{◌≡◌, ◌⊎◌, inl, inr, ℕ, zero, suc, ◌+◌, ◌/◌, ◌<◌, ◌≤◌, refl, sym, ap, subst, ◌∙◌, arith, Bool, true, false, not, ◌||◌, cond, T, List, [], ◌∷◌, ◌++◌, length, filter, ◌==◌, eqb→eq, le_trans, eq-or-lt_of_le, length-append}
 use Rattle.std.specs.declared.cmp.Ordering.TheVariants.{Less, Equal, Greater}
 use Rattle.std.specs.List.{list_any, list_all, range_with_len}
@@ -280,7 +280,7 @@ module _ (shape : Shape) where
           | false ↦ λ i. any_behind_test p (value_pages shape e.1) (all_pages shape es) (any_kept p es i)
         ] is
 
-    -- fewer values lie well
+    -- fewer values are well placed
     pub kept_fit : (blocks : List ℕ) (es : List (Key × Place)) → T (fits shape blocks (all_pages shape es)) → T (fits shape blocks (all_pages shape (kept q es)))
     kept_fit blocks es is =
         let parts = fits_parts shape blocks (all_pages shape es) is in
@@ -291,7 +291,7 @@ module _ (shape : Shape) where
           few_blocks = le_trans (filter_more (λ b. list_any (λ p. p / shape.block_pages == b) (all_pages shape (kept q es))) (λ b. list_any (λ p. p / shape.block_pages == b) (all_pages shape es)) (λ b t. any_kept _ es t) (range_with_len 0 shape.blocks)) parts.few_blocks;
         })
 
--- one value more lies well
+-- one value more is well placed
 pub fits_more : Fits
 fits_more shape blocks used es key place is outside new few among few_used =
     let parts = fits_parts shape blocks (all_pages shape es) (subst T (sym is) tt) in

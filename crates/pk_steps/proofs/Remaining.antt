@@ -1,4 +1,4 @@
--- The output of a merge stays while commands are served.
+-- The output of a merge is unchanged while commands are served.
 use Rattle.std.proofs.Common.{◌≡◌, ℕ, ◌*◌, ◌/◌, ◌%◌, ◌<◌, slice_index, div-lt_iff_lt-mul, mod-lt, sym, ap, subst, ◌∙◌, arith, true, List, length, map, Ok}
 use Rattle.pk_base.specs.Shape.{Shape, run_pages, run_blocks}
 use Rattle.pk_base.specs.Page.{page_at, page_in}
@@ -19,7 +19,7 @@ use Rattle.pk_steps.specs.Merging.{MergedStill, merged_root, output_of}
 same_output : (level : ℕ) (found then_found : Found) → then_found.older ≡ found.older → then_found.runs ≡ found.runs → output_of level then_found ≡ output_of level found
 same_output level found then_found older runs = λ i. output_of level (record { newest = found.newest; older = older i; runs = runs i })
 
--- a page of the output lies in one of its blocks
+-- a page of the output is in one of its blocks
 in_taken : (shape : Shape) (count : ℕ) (taken : List ℕ) → 0 < shape.block_pages → length taken ≡ run_blocks shape count → (j : ℕ) → j < run_pages shape count → AnyByRecursion (λ b. page_in shape taken j / shape.block_pages ≡ b) taken
 in_taken shape count taken positive size j low =
     let n = shape.block_pages in

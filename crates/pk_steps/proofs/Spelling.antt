@@ -1,4 +1,4 @@
--- The root behind a merge is one of the grammar.
+-- The root after a merge is one of the grammar.
 use Rattle.std.proofs.Common.{◌≡◌, ◌⊎◌, inl, inr, ℕ, zero, suc, ◌+◌, ◌-◌, ◌*◌, ◌/◌, ◌%◌, ◌<◌, ◌≤◌, min, refl, sym, ap, subst, ◌∙◌, arith, Bool, true, false, not, ◌&&◌, ◌||◌, T, List, [], ◌∷◌, ◌++◌, length, map, zip, nat_le, nat_lt, ◌==◌, slice_set, if◌then◌else◌, leb→le, le→leb, append-nil, eqb→eq}
 use Rattle.std.specs.Prelude.{bytes_eq}
 use Rattle.std.proofs.Math.Nat.{zero-div, zero-mod}
@@ -19,7 +19,7 @@ use Rattle.pk_steps.proofs.Amounts.{WithinCaps, within_caps, counted_of, levels}
 use Rattle.pk_steps.proofs.Merging.{in_set, in_after}
 use Rattle.pk_steps.proofs.Freeing.{differ_back}
 
--- ---- tests in a row
+-- ---- tests one after another
 
 -- the eight tests of a root
 pub record Eight (a b c d e f g h : Bool) : Type 0 where

@@ -32,12 +32,12 @@ module _ (shape : Shape) (flash new : Flash) (extra : List Entry) (top : ℕ × 
   positive : 0 < shape.block_pages
   positive = block_pages_positive shape is_shape
 
-  -- the values of the map do not lie in the root blocks
+  -- the values of the map are not in the root blocks
   values_stay : (k : ℕ) → AnyByRecursion (λ e. IsPageOf shape k e.1) (placed (firsts (entries_in_order found extra))) → page_at new k ≡ page_at flash k
   values_stay k is = behind k (values_behind shape (firsts (entries_in_order found extra))
       (counting_all (IsEntry shape) shape (page_at flash) (λ k number index bytes es stands read. journal_are shape number index bytes es read) (λ k level index count bytes es stands read. meta_are shape level index count bytes es read) top.1 found extra before.is_found entries) k is)
 
-  -- where the newest root is the former
+  -- if the newest root is the former
   pub stays : newest_root shape (page_at new) ≡ Some top → IsUnder shape new extra top found m
   stays is_top = record {
     is_top = is_top;
@@ -45,7 +45,7 @@ module _ (shape : Shape) (flash new : Flash) (extra : List Entry) (top : ℕ × 
     is_map = map_under_same shape (page_at flash) (page_at new) top.1 found extra values_stay ∙ before.is_map;
   }
 
-  -- and where it is one that may follow
+  -- and if it is one that may follow
   module _ (page : ℕ) (root : Root) (then_found : Found) (next : IsNext shape flash extra top found root then_found) where
     abbrev es : List (Key × Place)
     es = places found extra
@@ -56,7 +56,7 @@ module _ (shape : Shape) (flash new : Flash) (extra : List Entry) (top : ℕ × 
     still : found_under shape (page_at new) root ≡ Ok then_found
     still = found_alone shape is_shape (page_at flash) (page_at new) behind root (subst T (sym next.grammar) tt) ∙ next.is_found
 
-    -- no value lies in a block that the root names
+    -- no value is in a block that the root names
     apart : (k : ℕ) → In k (all_pages shape es) → T (not (list_any (λ b. b == k / shape.block_pages) (named root)))
     apart k is = not_of (list_any (λ b. b == k / shape.block_pages) (named root)) (λ t. next.outside k (in_value shape es k is) (any_in_back (k / shape.block_pages) (named root) t))
 

@@ -1,4 +1,4 @@
--- What a freeze makes of what stands under the root, as a root that may follow: the statement.
+-- What a freeze makes of what is under the root, as a root that may follow: the statement.
 use Rattle.std.specs.Prelude.{◌≡◌, ℕ, ◌<◌, List, [], ◌∷◌, true}
 use Rattle.pk_base.specs.Shape.{Shape, IsShape, epoch_pages}
 use Rattle.pk_base.specs.Page.{Flash, page_at, erased, page_in}

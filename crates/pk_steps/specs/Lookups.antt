@@ -16,7 +16,7 @@ use Rattle.pk_model.specs.Found.{Found, entries_in_order}
 use Rattle.pk_model.specs.Values.{all_pages}
 use Rattle.pk_steps.specs.Under.{IsUnder, places}
 
--- what a map has where the entry that counts says so: nothing where there is none or the key is deleted, else the value at the place
+-- what a map has if the entry that counts says so: nothing if there is none or the key is deleted, otherwise the value at the place
 abbrev pub IsValueOf : Shape → Flash → Key → Option (Option Place) → Option (List ℕ) → Type 0
 IsValueOf shape flash key None value = value ≡ None
 IsValueOf shape flash key (Some None) value = value ≡ None

@@ -1,4 +1,4 @@
--- What a merge makes of what stands under the root: the statements.
+-- What a merge makes of what is under the root: the statements.
 use Rattle.std.specs.Prelude.{◌≡◌, ℕ, ◌+◌, ◌-◌, ◌/◌, ◌<◌, ◌≤◌, List, [], length, map, reverse, true, ◌==◌, if◌then◌else◌, slice_set, slice_index_or, ◌++◌, Some, Ok}
 use Rattle.pk_base.specs.Shape.{Shape, IsShape, run_blocks}
 use Rattle.pk_base.specs.Page.{Flash, page_at}
@@ -23,7 +23,7 @@ source_of level found = if level == 1 then reverse found.older else run_at found
 abbrev pub output_of : ℕ → Found → List Entry
 output_of level found = kept_at level (over (source_of level found) (run_at found.runs level))
 
--- the entries of the runs after a merge whose output has so many
+-- the entries of the runs after a merge whose output has n
 abbrev pub counts_after : ℕ → ℕ → List ℕ → List ℕ
 counts_after level count counts = if level == 1 then slice_set counts 0 count else slice_set (slice_set counts (level - 1) count) (level - 2) 0
 
@@ -42,7 +42,8 @@ merged_found level found = record found {
   runs = merged level found.older found.runs;
 }
 
--- The output of the next merge stands in these blocks, which the root does not name and in which no value that counts has a page; the root that follows can be written.
+-- The output of the next merge is in these blocks, which the root does not name and in which no value that counts has a page; the root that follows
+-- can be written.
 pub record IsMerged (shape : Shape) (flash : Flash) (extra : List Entry) (top : ℕ × Root) (found : Found) (level count : ℕ) (taken : List ℕ) : Type 0 where
   pub next : next_merge shape (length (firsts found.older)) (map length found.runs) ≡ Some level
   pub stands : run shape (page_at flash) level count taken ≡ Ok (output_of level found)
@@ -65,7 +66,7 @@ blocks_at runs level = slice_index_or runs (level - 1) []
 abbrev pub freed_by : ℕ → Root → List ℕ
 freed_by level root = (if level == 1 then root.older else blocks_at root.runs (level - 1)) ++ blocks_at root.runs level
 
--- behind the merge nobody reads them: the new root does not name them, and no value that counts has a page there
+-- after the merge nobody reads them: the new root does not name them, and no value that counts has a page there
 abbrev pub Freed : Type 0
 Freed =
     (shape : Shape) (flash : Flash) (extra : List Entry) (top : ℕ × Root) (found : Found) (m : Map) (level count : ℕ) (taken : List ℕ) (b : ℕ) → IsShape shape
@@ -74,7 +75,7 @@ Freed =
     → (AnyByRecursion (λ c. b ≡ c) (named (merged_root top.1 level count taken)) → ⊥)
     × ((k : ℕ) → k / shape.block_pages ≡ b → IsValuePage shape (places (merged_found level found) extra) k → ⊥)
 
--- that root is one of the grammar, where the output is not too large and stands in as many different blocks as it needs, none of them named before
+-- that root is one of the grammar, if the output is not too large and is in as many different blocks as it needs, none of them named before
 abbrev pub MergedGrammar : Type 0
 MergedGrammar =
     (shape : Shape) (root : Root) (level count : ℕ) (taken : List ℕ) → is_root shape root ≡ true → 1 ≤ level → level ≤ 4 → count ≤ room shape level

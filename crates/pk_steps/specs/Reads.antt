@@ -11,11 +11,11 @@ use Rattle.pk_model.specs.Reading.{reading}
 use Rattle.pk_model.specs.Laws.{AnyByRecursion, IsRead}
 use Rattle.pk_steps.specs.Under.{IsUnder, IsNamed, IsValuePage, places}
 
--- a map that is read stands under the newest root
+-- a map that is read is under the newest root
 abbrev pub ReadsUnder : Type 0
 ReadsUnder = (shape : Shape) (flash : Flash) (extra : List Entry) (m : Map) → reading shape flash extra ≡ Ok m → (top : ℕ × Root) × (found : Found) × IsUnder shape flash extra top found m
 
--- and what stands there is read
+-- and what is there is read
 abbrev pub UnderReads : Type 0
 UnderReads = (shape : Shape) (flash : Flash) (extra : List Entry) (top : ℕ × Root) (found : Found) (m : Map) → IsUnder shape flash extra top found m → reading shape flash extra ≡ Ok m
 
@@ -26,7 +26,7 @@ Same =
     → ((k : ℕ) → IsRead shape top.1 (entries_in_order found extra) k → page_at cut k ≡ page_at flash k)
     → IsUnder shape cut extra top found m
 
--- erased pages behind the root blocks, in no block that the root names, whatever became of them
+-- erased pages after the root blocks, in no block that the root names, whatever became of them
 abbrev pub Programs : Type 0
 Programs =
     (shape : Shape) (flash cut : Flash) (extra : List Entry) (top : ℕ × Root) (found : Found) (m : Map) (first count : ℕ) → IsShape shape → IsUnder shape flash extra top found m
@@ -36,7 +36,7 @@ Programs =
     → SameOutside first count flash cut
     → IsUnder shape cut extra top found m
 
--- a block behind the root blocks that the root does not name and that has no page of a value, whatever became of it
+-- a block after the root blocks that the root does not name and that has no page of a value, whatever became of it
 abbrev pub Erases : Type 0
 Erases =
     (shape : Shape) (flash cut : Flash) (extra : List Entry) (top : ℕ × Root) (found : Found) (m : Map) (block : ℕ) → IsShape shape → IsUnder shape flash extra top found m

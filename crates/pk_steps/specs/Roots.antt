@@ -1,4 +1,4 @@
--- What a commit and a freeze make of what stands under the root: the statements.
+-- What a commit and a freeze make of what is under the root: the statements.
 use Rattle.std.specs.Prelude.{◌≡◌, ◌⊎◌, ℕ, ◌+◌, ◌<◌, ◌≤◌, List, [], ◌∷◌, ◌++◌, length, true, ◌==◌, if◌then◌else◌, Some}
 use Rattle.pk_base.specs.Shape.{Shape, IsShape, epoch_pages, root_pages}
 use Rattle.pk_base.specs.Page.{Flash, page_at, erased, whole, page_in, commit_page}
@@ -13,7 +13,7 @@ use Rattle.pk_model.specs.Laws.{IsCommit}
 use Rattle.pk_model.specs.Tree.{Follows}
 use Rattle.pk_steps.specs.Under.{IsUnder}
 
--- these entries behind those of the newest epoch
+-- these entries after those of the newest epoch
 abbrev pub committed : Found → List Entry → Found
 committed found es = record found { newest = found.newest ++ es }
 
@@ -33,7 +33,7 @@ CommitsPair =
     → IsPairCut (commit_page shape top.1.newest index) bytes flash cut
     → IsUnder shape cut [] top found m0 ⊎ IsUnder shape cut [] top (committed found es) m1
 
--- the root of a freeze: an empty epoch in these blocks, and the newest one as the older where it has entries
+-- the root of a freeze: an empty epoch in these blocks, and the newest one as the older if it has entries
 abbrev pub frozen_root : Root → Found → ℕ → ℕ → Root
 frozen_root root found first second = record root {
   number = root.number + 1;
@@ -56,7 +56,7 @@ Freezes =
     → ((j : ℕ) → j < epoch_pages shape → page_at flash (page_in shape (first ∷ second ∷ []) j) ≡ erased)
     → IsUnder shape new [] (page, frozen_root top.1 found first second) (frozen found) m × Follows shape flash new
 
--- it has them once the first of the two programs was made, and behind both
+-- it has them once the first of the two programs was made, and after both
 abbrev pub Committed : Type 0
 Committed =
     (shape : Shape) (flash now : Flash) (top : ℕ × Root) (found : Found) (es : List Entry) (m0 m1 : Map) (index : ℕ) (bytes : List ℕ) → IsShape shape

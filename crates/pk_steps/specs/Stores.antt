@@ -15,7 +15,7 @@ use Rattle.pk_model.specs.Values.{fits, all_pages}
 use Rattle.pk_model.specs.Laws.{AnyByRecursion, IsPageOf}
 use Rattle.pk_steps.specs.Under.{IsUnder, IsValuePage, places}
 
--- the value of a further entry stands at its place, the buffer has room for its key, and the values lie well
+-- the value of a further entry is at its place, the buffer has room for its key, and the values are well placed
 abbrev pub Stores : Type 0
 Stores =
     (shape : Shape) (flash : Flash) (pending : List Entry) (top : ℕ × Root) (found : Found) (m : Map) (key : Key) (place : Place) (value : List ℕ)
@@ -32,7 +32,7 @@ Deletes =
     → length (firsts (found.newest ++ (pending ++ (key, None) ∷ []))) ≤ buffer shape
     → IsUnder shape flash (pending ++ (key, None) ∷ []) top found (remove m key)
 
--- One more value lies well: in no block that the root names, at pages of no other value, within the limit, and all values lie in few blocks.
+-- One value more is well placed: in no block that the root names, at pages of no other value, within the limit, and all values are in few blocks.
 abbrev pub Fits : Type 0
 Fits =
     (shape : Shape) (blocks used : List ℕ) (es : List (Key × Place)) (key : Key) (place : Place)

@@ -1,4 +1,4 @@
--- What stands under the newest root of a flash, and the map that it makes with entries that are not yet there.
+-- What is under the newest root of a flash, and the map that it makes with entries that are not yet there.
 use Rattle.std.specs.Prelude.{◌≡◌, ℕ, ◌/◌, List, Some, Ok}
 use Rattle.pk_base.specs.Shape.{Shape}
 use Rattle.pk_base.specs.Page.{Flash, page_at}
@@ -27,7 +27,7 @@ counting found extra = firsts (entries_in_order found extra)
 abbrev pub places : Found → List Entry → List (Key × Place)
 places found extra = placed (counting found extra)
 
--- the page lies in a block that the root names
+-- the page is in a block that the root names
 abbrev pub IsNamed : Shape → Root → ℕ → Type 0
 IsNamed shape root k = AnyByRecursion (λ b. k / shape.block_pages ≡ b) (named root)
 

@@ -11,14 +11,14 @@ ghost use Rattle.pk_steps.specs.Freezing.{Frozen};
 ghost use Rattle.pk_steps.specs.Merging.{Merged, MergedGrammar, MergedStill, Freed, FreedCounted};
 ghost use Rattle.pk_steps.specs.Fitting.{OutputFits, QuotaFits};
 
-/// A flash holds a map exactly where one stands under its newest root.
+/// A flash holds a map exactly if one is under its newest root.
 pub fn reading()
     ensures under { ReadsUnder }
     ensures read { UnderReads }
 {}
 
-/// What is not read may change: erased pages may be programmed, blocks without a page that is read may be erased, and at every
-/// cut the same stands under the same root.
+/// What is not read may change: erased pages may be programmed, blocks without a page that is read
+/// may be erased, and at every cut the same is under the same root.
 pub fn unread()
     ensures same { Same }
     ensures programs { Programs }
@@ -47,18 +47,19 @@ pub fn roots()
     ensures freezes { Freezes }
 {}
 
-/// A root that may follow the newest one leaves the map, at every cut of its install and behind it.
+/// A root that may follow the newest one does not change the map, at any cut of its install and
+/// after it.
 pub fn installs()
     ensures installed { Installed }
     ensures installs { Installs }
 {}
 
-/// The root behind a freeze may follow.
+/// The root after a freeze may follow.
 pub fn freezes()
     ensures { Frozen }
 {}
 
-/// The root behind a merge may follow, and what it names no more is read by nobody.
+/// The root after a merge may follow, and blocks that it no longer names are read by nobody.
 pub fn merges()
     ensures merged { Merged }
     ensures grammar { MergedGrammar }
@@ -67,7 +68,7 @@ pub fn merges()
     ensures counted { FreedCounted }
 {}
 
-/// The output of a merge fits into its run, and into the meta blocks beside all runs.
+/// The output of a merge fits into its run, and into the meta blocks besides all runs.
 pub fn sizes()
     ensures output { OutputFits }
     ensures quota { QuotaFits }

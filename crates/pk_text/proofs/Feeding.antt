@@ -69,7 +69,7 @@ Filled-fetched p bytes n a b false empty f room e =
     let same : a.input ≡ b.input = takes_back a.input b.input n bytes f.bytes ∙ (ap (λ l. put_back l b.input) gone ∙ sym (put_back-nil b.input)) in
     (Fed-fetched p bytes n a b empty f, record { none = gone; at_end = subst AtEnd same (f.none none room) })
 
--- bytes in front are used
+-- bytes at the start are used
 pub Fed-used : (p q : List ℕ) (n : ℕ) (a b : BoardState) → Fed p q a b [] → Fed p (drop n q) a b (take n q)
 Fed-used p q n a b f = record {
   came = f.came ∙ (sym (put_back-nil (ahead q b)) ∙ (ap (λ l. put_back l b.input) (sym (take-append-drop n q)) ∙ sym (put_back-append (take n q) (drop n q) b.input)));
@@ -91,7 +91,7 @@ Fed-end p q r a b c bytes f g = let T : List ℕ → Type 0 = λ xs. Fed p r a c
 none_left : (from to : ℕ) (bytes : List ℕ) → to ≤ from → drop from (take to bytes) ≡ []
 none_left from to bytes past = drop_of_length-le (take to bytes) (omega (arith, length-take to bytes))
 
--- the bytes that a fetch brought stand in front of the buffer
+-- the bytes that a fetch brought are at the start of the buffer
 pub Filled-buffer : (p bytes old old' : List ℕ) (from to n len : ℕ) (a b : BoardState) → p ≡ drop from (take to old') → to ≤ from → length bytes ≡ len → 0 < length bytes → Fetched a b n bytes
     → Filled p (take n (take len (bytes ++ drop (length bytes) old))) a b (nat_lt 0 n)
 Filled-buffer p bytes old old' from to n len a b is past size room f =

@@ -96,7 +96,7 @@ Line-advances taken number next p q line a b c few found given = record {
   moved = Moved-then a b c [] given.out found.1.moved given.moved;
 }
 
--- an input that begins with the line, as far as it is told
+-- an input that begins with the line, as far as it is recorded
 pub record Found (u : Option (List ℕ)) (a b : BoardState) (line : List ℕ) : Type 0 where
   pub input : List ℕ
   pub rest : List ℕ

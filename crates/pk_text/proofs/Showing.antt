@@ -245,7 +245,7 @@ End-failed more p a b f =
 pub Records-stop : (taken : ℕ) (p q : List ℕ) (a b : BoardState) (end : TextEnd) → 4294967295 ≤ taken → Stops p q a b end → TurnsFrom (shown_from taken) (ahead p a) a b end
 Records-stop taken p q a b end full h = Turns-stop (shown_from taken) p q a b end refl (λ byte rest. too_many taken byte rest full) h
 
--- ---- how long the front of a line is
+-- ---- how long the start of a line is
 
 dash_short : (b : Bool) → length (if b then codes "-" else []) ≤ 1
 dash_short true = omega arith
@@ -298,7 +298,7 @@ Head-advances_as taken p q head a b r few h e = let T : Bool → Type 0 = λ x. 
 pub Head-part_as : (taken : ℕ) (p q head : List ℕ) (a b : BoardState) (r : Bool) → taken < 4294967295 → 0 < length head → HeadTaken p q a b head r → r ≡ false → TurnsFrom (shown_from taken) (ahead p a) a b Truncated
 Head-part_as taken p q head a b r few some h e = let T : Bool → Type 0 = λ x. HeadTaken p q a b head x in Head-part taken p q head a b few some (subst T e h)
 
--- a front of a line fits
+-- the start of a line fits
 pub no_refusal : (old now : RoomyList) (text : List ℕ) (r : Bool) → length text ≤ 66 → old.room ≡ 8192 → now ≡ record old { items = [] } → (IsTrue r ↔ (length now.items + length text ≤ now.room)) → r ≡ false → ⊥
 no_refusal old now text r short room clear h e =
     let none : length now.items ≡ 0 = ap (λ (l : RoomyList). length l.items) clear in

@@ -4,7 +4,7 @@ use Rattle.pk_asm.specs.Line.{Line, nothing, entry, says}
 use Rattle.pk_text.specs.Written.{Written, ended, before, most}
 use Rattle.pk_text.specs.declared.end.TextEnd.TheVariants.{Done, TooMany, BadLine}
 
--- a byte in front of the first line
+-- a byte before the first line
 abbrev pub onto_first : ℕ → List (List ℕ) → List (List ℕ)
 onto_first byte [] = (byte ∷ []) ∷ []
 onto_first byte (line ∷ lines) = (byte ∷ line) ∷ lines
@@ -20,7 +20,7 @@ line_given None number more = ended BadLine
 line_given (Some nothing) number more = more number
 line_given (Some (entry e bytes)) number more = before (e ++ bytes) (more (number + 1))
 
--- what lines give behind so many lines, where the next entry has this number
+-- what lines give after n lines, if the next entry has this number
 abbrev pub lines_given : ℕ → ℕ → List (List ℕ) → Written
 lines_given taken number [] = ended Done
 lines_given taken number (line ∷ lines) =

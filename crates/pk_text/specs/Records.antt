@@ -11,7 +11,7 @@ use Rattle.pk_text.specs.declared.end.TextEnd.TheVariants.{Done, Truncated, TooM
 abbrev pub cut_short : List ℕ → Written
 cut_short bytes = record { bytes = hex_text bytes; end = Truncated }
 
--- the digits of so many bytes of data and a line feed, and then what follows
+-- the digits of n bytes of data and a line feed, and then what follows
 abbrev pub data_shown : ℕ → (List ℕ → Written) → List ℕ → Written
 data_shown size more bytes =
     if nat_lt (length bytes) size then cut_short bytes
@@ -25,14 +25,14 @@ head_shown head more bytes = before (shown_head head) (data_shown (data_bytes_at
 abbrev pub record_shown : (List ℕ → Written) → List ℕ → Written
 record_shown more bytes = if nat_lt (length bytes) RECORD_HEAD_BYTES then ended Truncated else head_shown (take RECORD_HEAD_BYTES bytes) more (drop RECORD_HEAD_BYTES bytes)
 
--- the lines of at most so many records, behind so many others
+-- the lines of at most n records, after this many others
 abbrev pub records_shown : ℕ → ℕ → List ℕ → Written
 records_shown zero taken bytes = ended Done
 records_shown (suc n) taken [] = ended Done
 records_shown (suc n) taken (byte ∷ bytes) =
     if nat_le most taken then ended TooMany else record_shown (λ rest. records_shown n (suc taken) rest) (byte ∷ bytes)
 
--- the lines of all the records that stand in the bytes, behind so many others
+-- the lines of all the records that are in the bytes, after this many others
 abbrev pub shown_from : ℕ → List ℕ → Written
 shown_from taken bytes = records_shown (length bytes) taken bytes
 

@@ -12,7 +12,7 @@ use Rattle.pk_text.specs.Turns.{Touched}
 use Rattle.pk_text.specs.declared.end.TextEnd.{TextEnd}
 use Rattle.pk_text.specs.declared.end.TextEnd.TheVariants.{Done, Truncated, Input, Output, TooMany, BadLine}
 
--- the input from here on, where it is told: bytes that were fetched and not used, and what the board has left
+-- the input from here on, if it is recorded: bytes that were fetched and not used, and what the board has left
 abbrev pub ahead : List ℕ → BoardState → Option (List ℕ)
 ahead pending board = put_back pending board.input
 

@@ -7,7 +7,7 @@ use Rattle.pk_text.specs.Written.{Written}
 use Rattle.pk_text.specs.declared.end.TextEnd.{TextEnd}
 use Rattle.pk_text.specs.declared.end.TextEnd.TheVariants.{Done, Truncated, Input, Output, TooMany, BadLine}
 
--- Bytes of the input were taken and these bytes posted, with the pages as they were at every cut. Of the rest only the trail and the counts of host
+-- Bytes of the input were taken and these bytes posted, with the pages unchanged at every cut. Of the rest only the trail and the counts of host
 -- faults may differ.
 pub record Touched (old new : BoardState) (out : List ℕ) : Type 0 where
   pub taken : List ℕ
@@ -16,7 +16,7 @@ pub record Touched (old new : BoardState) (out : List ℕ) : Type 0 where
   pub rests : RestsFlash old new
   pub rest : new ≡ record old { input = new.input; posted = new.posted; trail = new.trail; in_faults = new.in_faults; out_faults = new.out_faults }
 
--- the bytes stand in front of the whole
+-- the bytes are a prefix of the whole
 abbrev pub IsFront : List ℕ → List ℕ → Type 0
 IsFront out whole = (more : List ℕ) × (out ++ more ≡ whole)
 
@@ -27,13 +27,13 @@ pub record IsAll (old new : BoardState) (w : Written) (out : List ℕ) (end : Te
   pub in_same : new.in_faults ≡ old.in_faults
   pub out_same : new.out_faults ≡ old.out_faults
 
--- the input failed, behind a front of what is posted
+-- the input failed, after a prefix of what is posted
 pub record InputFailed (old new : BoardState) (w : Written) (out : List ℕ) : Type 0 where
   pub rose : Rose old.in_faults new.in_faults
   pub out_same : new.out_faults ≡ old.out_faults
   pub front : IsFront out w.bytes
 
--- the output failed, behind a front of what is posted
+-- the output failed, after a prefix of what is posted
 pub record OutputFailed (old new : BoardState) (w : Written) (out : List ℕ) : Type 0 where
   pub rose : Rose old.out_faults new.out_faults
   pub in_same : new.in_faults ≡ old.in_faults
@@ -48,7 +48,7 @@ Ends old new w out Output = OutputFailed old new w out
 Ends old new w out TooMany = IsAll old new w out TooMany
 Ends old new w out BadLine = IsAll old new w out BadLine
 
--- A run turns an input into what this function says of it. The input is the one that is ahead, where that is told.
+-- A run turns an input into what this function says of it. The input is the one that is ahead, if that is recorded.
 pub record TurnsFrom (turn : List ℕ → Written) (ahead : Option (List ℕ)) (old new : BoardState) (end : TextEnd) : Type 0 where
   pub input : List ℕ
   pub told : IfSome ahead (λ bytes. bytes ≡ input)

@@ -29,7 +29,7 @@ pub struct Assembler {
 }
 
 impl Assembler {
-    /// Takes all the memory that assembling needs; an error where it is missing.
+    /// Takes all the memory that assembling needs; an error if it is missing.
     pub fn new(alloc: Global) -> Result<Assembler, AllocError> {
         Ok(Assembler {
             feed: Feed::new(alloc)?,
@@ -39,11 +39,12 @@ impl Assembler {
         })
     }
 
-    /// Assembles the script that the input is, from its next byte on: each entry is posted with its value, line by line.
+    /// Assembles the script that the input is, from its next byte on: each entry is posted with its
+    /// value, line by line.
     ///
-    /// It ends with `BadLine` exactly at the first line outside the grammar, with `TooMany` exactly at the first byte of a
-    /// line behind 2^32-1 others, with `Input` and `Output` only where that count of faults rose, and else with `Done` at
-    /// the end of the input.
+    /// It ends with `BadLine` exactly at the first line outside the grammar, with `TooMany` exactly
+    /// at the first byte of a line after 2^32-1 others, with `Input` and `Output` only if that
+    /// count of faults rose, and otherwise with `Done` at the end of the input.
     pub fn assemble<B: Board>(&mut self, board: &mut B) -> TextEnd
         ensures { Turns assembled (B.state board.old) (B.state board.new) result }
     {

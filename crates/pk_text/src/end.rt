@@ -11,7 +11,7 @@ pub enum TextEnd {
     Input,
     /// The output failed.
     Output,
-    /// Another line or record begins behind 2^32-1 of them.
+    /// Another line or record begins after 2^32-1 of them.
     TooMany,
     /// A line is outside the grammar.
     BadLine,

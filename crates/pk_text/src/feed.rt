@@ -27,7 +27,7 @@ impl Model for Feed {
 }
 
 impl Feed {
-    /// No bytes; an error where memory is missing.
+    /// No bytes; an error if memory is missing.
     pub fn new(alloc: Global) -> Result<Feed, AllocError>
         ensures { IfOk result (λ f. f ≡ []) }
     {
@@ -46,7 +46,7 @@ impl Feed {
         self.to = 0;
     }
 
-    /// Fetches where no byte is there; false where the input is at its end.
+    /// Fetches if no byte is there; false if the input is at its end.
     pub fn fill<B: Board>(&mut self, board: &mut B) -> Result<bool, HostFault>
         ensures ok { IfOk result
             (λ some. Filled self.old self.new (B.state board.old) (B.state board.new) some) }
@@ -72,7 +72,7 @@ impl Feed {
         &self.bytes[self.from..self.to]
     }
 
-    /// Uses so many of them.
+    /// Uses `count` of them.
     pub fn take(&mut self, count: usize)
         requires { count ≤ length self.old }
         ensures { self.new ≡ drop count self.old }
@@ -80,7 +80,7 @@ impl Feed {
         self.from += count;
     }
 
-    /// The next byte; None where the input is at its end.
+    /// The next byte; None if the input is at its end.
     pub fn next<B: Board>(&mut self, board: &mut B) -> Result<Option<u8>, HostFault>
         ensures ok { IfOk result
             (λ byte. Nexted self.old self.new (B.state board.old) (B.state board.new) byte) }

@@ -6,7 +6,7 @@ ghost use Rattle.pk_show.specs.Shown.{shown as record_line};
 ghost use Rattle.pk_text.specs.Written.{before, most};
 ghost use Rattle.pk_text.specs.Records.{shown_from};
 
-/// A whole record in front of others gives its line, and then they give theirs.
+/// A whole record before others gives its line, and then they give theirs.
 pub fn whole_record()
     ensures { (taken : ℕ) (head bytes rest : List ℕ)
         → taken < most → length head ≡ RECORD_HEAD_BYTES → length bytes ≡ data_bytes_at head

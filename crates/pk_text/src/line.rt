@@ -10,7 +10,7 @@ use pk_asm::{MOST_LINE_BYTES, assemble_line};
 use pk_nand::{Board, HostFault};
 use pk_nvme::{Bytes, SUBMISSION_BYTES};
 
-/// Takes a line without its line feed. False where it is the last one, which lacks it.
+/// Takes a line without its line feed. False if it is the last one, which lacks it.
 pub fn take_line<B: Board>(
     feed: &mut Feed,
     board: &mut B,
@@ -44,7 +44,7 @@ pub fn take_line<B: Board>(
     Err(TextEnd::BadLine)
 }
 
-/// Posts an entry and the bytes behind it in one piece.
+/// Posts an entry and the bytes after it in one piece.
 fn post_entry<B: Board>(
     board: &mut B,
     entry: &[u8; SUBMISSION_BYTES],

@@ -5,7 +5,7 @@ use crate::TextEnd;
 use crate::feed::Feed;
 use pk_nand::Board;
 
-/// How a run ends behind as many lines or records as it may take.
+/// How a run ends after as many lines or records as it may take.
 pub fn stop<B: Board>(feed: &mut Feed, board: &mut B) -> TextEnd
     ensures { Stops feed.old feed.new (B.state board.old) (B.state board.new) result }
 {

@@ -17,7 +17,7 @@ use pk_nand::{Board, HostFault};
 use pk_nvme::{Bytes, RECORD_HEAD_BYTES, cid_in, data_bytes_in, reads_in, result_in};
 use pk_show::{show_head, show_piece};
 
-/// Takes the head of a record. False where the input ends before it is whole.
+/// Takes the head of a record. False if the input ends before it is whole.
 pub fn take_head<B: Board>(
     feed: &mut Feed,
     board: &mut B,
@@ -40,7 +40,7 @@ pub fn take_head<B: Board>(
     Ok(true)
 }
 
-// Writes the front of a record's line.
+// Writes the start of a record's line.
 fn write_front(head: &[u8; RECORD_HEAD_BYTES], text: &mut Bytes)
     requires { text.old.room ≡ 2 * PIECE }
     ensures { text.new ≡ record text.old { items = shown_head head.now } }
@@ -52,7 +52,8 @@ fn write_front(head: &[u8; RECORD_HEAD_BYTES], text: &mut Bytes)
     }
 }
 
-/// Posts the front of the line of the record with this head. Answers the bytes of its data.
+/// Posts the start of the line of the record with this head. Returns the number of bytes of its
+/// data.
 pub fn post_front<B: Board>(board: &mut B, head: &Bytes, text: &mut Bytes) -> Result<u32, HostFault>
     requires whole { length head.now.items ≡ RECORD_HEAD_BYTES }
     requires room { text.old.room ≡ 2 * PIECE }
@@ -88,7 +89,8 @@ fn post_piece<B: Board>(board: &mut B, piece: &[u8], text: &mut Bytes) -> Result
     board.post(text.bytes())
 }
 
-// Takes some of the data of a record, of which so many bytes are left, and posts their digits. Answers how many it took.
+// Takes some of the data of a record, of which `left` bytes remain, and posts their digits. Returns
+// how many it took.
 fn show_some<B: Board>(
     feed: &mut Feed,
     board: &mut B,
@@ -127,7 +129,7 @@ fn show_some<B: Board>(
     }
 }
 
-/// Takes the data of a record, so many bytes, and posts their digits.
+/// Takes the data of a record, `size` bytes, and posts their digits.
 pub fn show_data<B: Board>(
     feed: &mut Feed,
     board: &mut B,
@@ -154,7 +156,7 @@ pub fn show_data<B: Board>(
     Ok(())
 }
 
-// Posts the line feed behind the data of a record.
+// Posts the line feed after the data of a record.
 fn end_line<B: Board>(board: &mut B) -> Result<(), TextEnd>
     ensures ok { OnOk result (B.state board.new ≡ after_post (B.state board.old) (codes "\n")) }
     ensures err { OnErr result (PostFailed (B.state board.old) (B.state board.new) (codes "\n")) }

@@ -27,7 +27,7 @@ pub struct Shower {
 }
 
 impl Shower {
-    /// Takes all the memory that showing needs; an error where it is missing.
+    /// Takes all the memory that showing needs; an error if it is missing.
     pub fn new(alloc: Global) -> Result<Shower, AllocError> {
         Ok(Shower {
             feed: Feed::new(alloc)?,
@@ -36,12 +36,13 @@ impl Shower {
         })
     }
 
-    /// Shows the records that the input is, from its next byte on, a line for each. Of a record that is cut short behind
-    /// its head the line is posted up to the digits that are known, and of one that is cut short within its head nothing.
+    /// Shows the records that the input is, from its next byte on, a line for each. Of a record
+    /// that is cut short after its head the line is posted up to the digits that are known, and of
+    /// one that is cut short within its head nothing.
     ///
-    /// It ends with `Truncated` exactly where the input ends inside a record, with `TooMany` exactly at the first byte of a
-    /// record behind 2^32-1 others, with `Input` and `Output` only where that count of faults rose, and else with `Done` at
-    /// the end of the input.
+    /// It ends with `Truncated` exactly if the input ends inside a record, with `TooMany` exactly
+    /// at the first byte of a record after 2^32-1 others, with `Input` and `Output` only if that
+    /// count of faults rose, and otherwise with `Done` at the end of the input.
     pub fn show<B: Board>(&mut self, board: &mut B) -> TextEnd
         ensures { Turns shown (B.state board.old) (B.state board.new) result }
     {

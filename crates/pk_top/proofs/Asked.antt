@@ -48,7 +48,7 @@ kept-none shape frames start cs before behind flash holds = record {
   few_faults = at_most-zero (rise before behind);
 }
 
--- a flash that holds the map, before any byte was given out
+-- a flash that holds the map, before any byte was posted
 pub silent : (task : Task) (before behind : ℕ) (shape : Shape) (frames : ℕ) (start : Map) (flash : Flash) → Holds shape flash start → KeptTask task before behind shape frames start flash []
 silent (answer q) before behind shape frames start flash holds = (kept-none shape frames start _ before behind flash holds, inl refl)
 silent (list from) before behind shape frames start flash holds = record { held = holds; text = key_lines (wanted_keys from start); says = (refl, inl refl); unposted = key_lines (wanted_keys from start); front = refl }
@@ -132,7 +132,7 @@ own_frames shape shape' frames b d same stands =
     let T : Shape → Type 0 = λ s. (m : Map) × HoldsMap s d.counts.frames b d m in
     subst T (sym same) (stands.0, record { shape_is = stands.1.shape_is; frames_is = refl; map_is = stands.1.map_is })
 
--- ---- what the status tells
+-- ---- what the status says
 
 module _ (shape : Shape) (old loaded new : BoardState) (found : Loaded old loaded (Some shape)) where
   tells_end : (task : Task) (start : Map) (end : WordEnd) → EndsBy task shape WORD_FRAMES start (behind_opening shape WORD_FRAMES loaded) new end → Tells old new (word_status end)
@@ -147,7 +147,7 @@ module _ (shape : Shape) (old loaded new : BoardState) (found : Loaded old loade
     | inr e ↦ let T : ℕ → Type 0 = λ n. Tells old new n in subst T (sym e.1) (tells_end task e.2.start e.0 e.2.ends)
   ]
 
-  -- want of memory is met before anything is done
+  -- lack of memory is met before anything is done
   word_memory : (end : WordEnd) → word_status end ≡ 7 → ⊥
   word_memory Done e = omega arith
   word_memory Output e = omega arith

@@ -1,4 +1,4 @@
--- Where no call fails, a whole script is served.
+-- If no call fails, a whole script is served.
 use Rattle.std.proofs.Common.{◌≡◌, inl, inr, ℕ, List, Option, Some, None, IsSome, refl, sym, ◌∙◌, ap, subst, ◌<◌}
 use Rattle.pk_base.specs.Shape.{Shape}
 use Rattle.pk_base.specs.Page.{Flash}

@@ -183,7 +183,7 @@ module _ (task : PairTask) (shape : Shape) (loaded new loaded' new' : BoardState
       let two_few = few_keys shape loaded' also.0 is_shape law ready' (other-held task shape loaded new loaded' new' d at.0 at.1 none e also.0 also.1 none') in
       omega (arith, one_few, two_few))
 
--- ---- what the status tells
+-- ---- what the status says
 
 gives_of : (old new : BoardState) → Untouched old new → GivesNothing old new
 gives_of old new u = u.gives

@@ -25,7 +25,7 @@ use Rattle.pk_top.specs.Sessions.{ProgramRun, IsRun, LeavesMap, KeptThrough, Run
 use Rattle.pk_top.specs.Resting.{Rests}
 use Rattle.pk_top.specs.Words.{Word, make, serve, ask, assemble, show, word_of}
 
--- the marks that a trail tells are those that it grew by
+-- the marks that a trail records are those that it grew by
 same_marks : (told : Option (List Mark)) (before xs ys : List Mark) → told ≡ Some before → longer told ys ≡ Some (before ++ xs) → xs ≡ ys
 same_marks None before xs ys is more = let never : None ≡ Some before = is in cc
 same_marks (Some t) before xs ys is more =
@@ -114,7 +114,7 @@ module _ (shape : Shape) (r : ProgramRun) (is : IsRun shape r) where
   sound_serving frames (inr (inr (inl missing))) = sound_untouched frames (ap (λ (s : BoardState). s.trail) missing.1.rest) (missing.1.held some_shape).0
   sound_serving frames (inr (inr (inr found))) = sound_found frames found
 
-  -- the flash was left alone
+  -- the flash is unchanged
   sound_resting : RestsFlash r.old r.new → RestsCut × Ended
   unfolding Ended
   sound_resting rests =
@@ -171,7 +171,7 @@ module _ (shape : Shape) (r : ProgramRun) (is : IsRun shape r) where
 
   -- ---- any word
 
-  -- the map that was left
+  -- the map afterwards
   abbrev Left : Option Word → Map → Type 0
   Left word m = (next : Map) × LeavesMap word shape r m next × Holds shape r.left next
 

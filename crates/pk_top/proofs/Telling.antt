@@ -1,4 +1,4 @@
--- What the status of a run tells.
+-- What the status of a run says.
 use Rattle.std.proofs.Common.{◌≡◌, ◌⊎◌, inl, inr, ℕ, List, Option, Some, None, IsSome, refl, sym, ◌∙◌, ap, subst, arith}
 use Rattle.pk_base.specs.Shape.{Shape}
 use Rattle.pk_base.specs.Page.{Page}
@@ -99,7 +99,7 @@ tells_made old new status is some untouched = record {
   made = λ e. (some, untouched);
 }
 
--- where nothing was done
+-- if nothing was done
 pub gives_same : (old new : BoardState) → new ≡ old → GivesNothing old new
 gives_same old new same = record { input = ap (λ (s : BoardState). s.input) same; posted = ap (λ (s : BoardState). s.posted) same }
 
@@ -120,7 +120,7 @@ refused_gives old new l = record { input = ap (λ (s : BoardState). s.input) l.r
 pub refused_untouched : (old new : BoardState) → new.flash_faults ≡ old.flash_faults → LoadFailed old new → Untouched old new
 refused_untouched old new sound l = record { gives = refused_gives old new l; trail = ap (λ (s : BoardState). s.trail) l.rest; sound = sound; held = l.held }
 
--- a load that wants memory
+-- a load that lacks memory
 pub wants_sound : (old new : BoardState) (fault : LoadFault) → load_status fault ≡ 7 → HasReason old new fault → new.flash_faults ≡ old.flash_faults
 wants_sound old new Fault wants reason = absurd (omega arith)
 wants_sound old new (BadImage at) wants reason = absurd (omega arith)
@@ -186,7 +186,7 @@ module _ (shape : Shape) (old loaded new : BoardState) (found : Loaded old loade
     | inr e ↦ let T : ℕ → Type 0 = λ n. Tells old new n in subst T (sym e.1) (tells_end frames e.0 e.2.blames)
   ]
 
-  -- want of memory is met before anything is taken
+  -- lack of memory is met before anything is taken
   end_memory : (end : End) → end_status end ≡ 7 → ⊥
   end_memory Done e = omega arith
   end_memory Truncated e = omega arith

@@ -116,7 +116,7 @@ unfolding word_of
 words-within [] = tt
 words-within (name ∷ operands) = within_if (bytes_eq name (codes "put")) (put_of operands) (plain_of name operands) (put-within operands) (plain-within name operands)
 
--- words that ask for serving ask for so many frames at most
+-- words that ask for serving ask for a number of frames within the limit
 pub frames_within : (words : List (List ℕ)) (word : Word) → Some word ≡ word_of words → (frames : ℕ) → word ≡ serve frames → frames ≤ 16384
 frames_within words word is frames same =
     let e : word_of words ≡ Some (serve frames) = sym is ∙ ap (λ w. Some w) same in

@@ -26,15 +26,14 @@ word_status Output = OUTPUT.0
 word_status FlashFailed = FLASH.0
 word_status Worn = WORN.0
 
--- The headline: whatever map the flash held at first, every cut holds the map after commands of the word from the front on; where a byte was given
--- out, the map after all of them, and what was given out begins the text that is said of both maps. From each state of the trail to the next the
--- tree grows.
+-- The headline: whatever map the flash held at first, every cut holds the map after a prefix of the word's commands; if a byte was posted, the map
+-- after all of them, and what was posted begins the text that is said of both maps. From each state of the trail to the next the tree grows.
 abbrev pub KeepsTask : Task → Shape → BoardState → BoardState → Type 0
 KeepsTask task shape loaded new =
     Goes shape loaded new (λ flash posted. (start : Map) → Holds shape loaded.pages start
     → KeptTask task loaded.read_faults new.read_faults shape WORD_FRAMES start flash posted)
 
--- The drive was opened, and the word came to this end.
+-- The drive was opened, and this is the end of the word.
 pub record AskedTo (task : Task) (shape : Shape) (loaded new : BoardState) (end : WordEnd) : Type 0 where
   pub start : Map
   pub holds : Holds shape loaded.pages start
@@ -61,7 +60,7 @@ AskRun task old new status =
 
 -- ---- completeness
 
--- On a drive that is far from worn, where no call fails: the word is done, and its text says that no read failed; or memory was missing, and nothing
+-- On a drive that is far from worn, if no call fails: the word is done, and its text says that no read failed; or memory was missing, and nothing
 -- was done.
 abbrev pub AsksAll : Task → Shape → BoardState → BoardState → ℕ → Type 0
 AsksAll task shape loaded new status =

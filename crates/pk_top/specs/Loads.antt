@@ -12,7 +12,7 @@ load_status Fault = FLASH.0
 load_status (BadImage at) = NO_DRIVE.0
 load_status Memory = MEMORY.0
 
--- why: a call of the flash failed exactly where the refusal says so, and a damaged image is one that the board says to be damaged
+-- why: a flash operation failed exactly if the refusal says so, and a damaged image is one that the board says to be damaged
 abbrev pub HasReason : BoardState → BoardState → LoadFault → Type 0
 HasReason old new Fault = Rose old.flash_faults new.flash_faults
 HasReason old new (BadImage at) = (new.flash_faults ≡ old.flash_faults) × (new.bad ≡ Some at) × (IsSome old.shape → ⊥)

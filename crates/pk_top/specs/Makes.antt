@@ -23,7 +23,7 @@ pub record MadeImage (shape : Shape) (loaded new : BoardState) (status : ℕ) : 
   pub is_made : Made loaded made shape
   pub formats : Formatted shape made new status ⊎ ((status ≡ FLASH.0) × ProgramsFailed made new (programs_of_pair 0 (root_bytes shape first_root)))
 
--- What was done where there was no image.
+-- What was done if there was no image.
 abbrev pub Makes : Shape → BoardState → BoardState → ℕ → Type 0
 Makes shape loaded new status = MakeRefused loaded new status ⊎ MadeImage shape loaded new status
 

@@ -93,7 +93,7 @@ PairFlashFailed old new old' new' =
     (Rose old.stop_faults new.stop_faults ⊎ Rose old'.stop_faults new'.stop_faults)
     ⊎ ((Rose old.flash_faults new.flash_faults ⊎ Rose old'.flash_faults new'.flash_faults) × GivesNothing old new)
 
--- What each status tells, and that there is no other.
+-- What each status says, and that there is no other.
 pub record PairTells (old new old' new' : BoardState) (status : ℕ) : Type 0 where
   pub is_one : (status ≡ DONE.0) ⊎ ((status ≡ OUTPUT.0) ⊎ ((status ≡ FLASH.0) ⊎ ((status ≡ MEMORY.0) ⊎ ((status ≡ NO_DRIVE.0) ⊎ (status ≡ WORN.0)))))
   pub output : status ≡ OUTPUT.0 → Rose old.out_faults new.out_faults

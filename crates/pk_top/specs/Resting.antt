@@ -1,4 +1,4 @@
--- Words that leave the flash as it is: every cut has the pages as they were at the start.
+-- Words that do not change the flash: every cut has the pages as they were at the start.
 use Rattle.std.specs.Prelude.{◌≡◌, Option, Some, None, IsSome, true}
 use Rattle.pk_nand.specs.BoardState.{BoardState}
 use Rattle.pk_nand.specs.Resting.{RestsFlash}

@@ -27,7 +27,7 @@ use Rattle.pk_top.specs.Statuses.{Untouched}
 
 -- ---- the headline
 
--- Whatever map the flash held at first: these commands were served from the front on, and what was served is kept.
+-- Whatever map the flash held at first: a prefix of these commands was served, and what was served is kept.
 abbrev pub KeptFrom : Shape → ℕ → BoardState → BoardState → List Command → Flash → List ℕ → Type 0
 KeptFrom shape frames loaded new cs flash posted =
     (start : Map) → Holds shape loaded.pages start → Kept shape frames start cs (rise loaded.read_faults new.read_faults) posted flash
@@ -37,20 +37,20 @@ abbrev pub KeepsScript : Shape → ℕ → BoardState → BoardState → Type 0
 KeepsScript shape frames loaded new =
     (input : List ℕ) → loaded.input ≡ Some input → Goes shape loaded new (KeptFrom shape frames loaded new (script input).0)
 
--- the same of some commands, also where the input is not told
+-- the same of some commands, also if the input is not recorded
 abbrev pub KeepsSome : Shape → ℕ → BoardState → BoardState → Type 0
 KeepsSome shape frames loaded new = (cs : List Command) × Goes shape loaded new (KeptFrom shape frames loaded new cs)
 
 -- ---- outcomes
 
--- The drive was not opened: nothing was done but reads, and the status tells why.
+-- The drive was not opened: nothing was done but reads, and the status says why.
 pub record NotServed (shape : Shape) (loaded new : BoardState) (status : ℕ) : Type 0 where
   pub error : OpenError
   pub tells : status ≡ open_status error
   pub reason : NotOpened shape loaded new error
   pub only_reads : OnlyReading loaded new
 
--- the board behind the reads of opening
+-- the board after the reads of opening
 abbrev pub behind_opening : Shape → ℕ → BoardState → BoardState
 behind_opening shape frames loaded = after_reads (opened shape loaded.pages frames) loaded
 
@@ -65,7 +65,7 @@ pub record ServedTo (shape : Shape) (frames : ℕ) (loaded new : BoardState) (en
 
 -- ---- completeness
 
--- On a drive that is far from worn, where no call fails: a script that is whole was served, its records were posted, and the flash holds the map
+-- On a drive that is far from worn, if no call fails: a script that is whole was served, its records were posted, and the flash holds the map
 -- after it; or memory was missing, and nothing was done.
 abbrev pub ServesAll : Shape → ℕ → BoardState → BoardState → ℕ → Type 0
 ServesAll shape frames loaded new status =

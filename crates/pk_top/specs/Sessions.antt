@@ -18,8 +18,8 @@ use Rattle.pk_top.specs.Asks.{AskRun}
 use Rattle.pk_top.specs.declared.asking.TheConstants.{WORD_FRAMES}
 use Rattle.pk_top.specs.Words.{Word, make, serve, ask, assemble, show, word_of}
 
--- A run of the program: its words, its input, the board before it and at its end, its status, the marks that it made, and the flash and the bytes
--- given out where it was cut off.
+-- A run of the program: its words, its input, the board before it and at its end, its status, the marks that it made, and the flash and the
+-- posted bytes at its cut.
 pub record ProgramRun : Type 0 where
   pub words : List (List ℕ)
   pub input : List ℕ
@@ -30,7 +30,7 @@ pub record ProgramRun : Type 0 where
   pub left : Flash
   pub posted : List ℕ
 
--- It is what `run` promises of these words, on a board that holds its pages and tells its input and its trail; it was cut off at a cut of its marks.
+-- It is what `run` promises of these words, on a board that holds its pages and records its input and its trail; it was stopped at a cut of its marks.
 pub record IsRun (shape : Shape) (r : ProgramRun) : Type 0 where
   pub serves : (frames : ℕ) → word_of r.words ≡ Some (serve frames) → ServeRun frames r.old r.new r.status
   pub asks : (task : Task) → word_of r.words ≡ Some (ask task) → AskRun task r.old r.new r.status
@@ -42,8 +42,8 @@ pub record IsRun (shape : Shape) (r : ProgramRun) : Type 0 where
   pub more : r.new.trail ≡ Some (before ++ r.marks)
   pub cut : Cut shape r.old.pages r.marks r.left r.posted
 
--- What a run that was cut off made of a map. One that serves: the map after commands of its script from the front on, with every one of which a
--- byte was posted. One that asks: a map that the flash holds, and what its word keeps. Another one leaves the map.
+-- What a run that was cut made of a map. One that serves: the map after a prefix of the commands of its script, with every one of which a byte
+-- was posted. One that asks: a map that the flash holds, and what its word keeps. Another one does not change the map.
 abbrev pub LeavesMap : Option Word → Shape → ProgramRun → Map → Map → Type 0
 LeavesMap (Some (serve frames)) shape r m m' =
     (kept : Kept shape frames m (script r.input).0 (rise r.old.read_faults r.new.read_faults) r.posted r.left) × (m' ≡ kept.map_left)
@@ -53,7 +53,7 @@ LeavesMap (Some assemble) shape r m m' = m' ≡ m
 LeavesMap (Some show) shape r m m' = m' ≡ m
 LeavesMap None shape r m m' = m' ≡ m
 
--- from map to map, each of which the flash held where the run was cut off
+-- from map to map, each of which the flash held at the cut of the run
 abbrev pub KeptThrough : Shape → Map → List ProgramRun → Map → Type 0
 KeptThrough shape m [] m' = m' ≡ m
 KeptThrough shape m (r ∷ runs) m' = (next : Map) × LeavesMap (word_of r.words) shape r m next × Holds shape r.left next × KeptThrough shape next runs m'
@@ -63,7 +63,7 @@ abbrev pub RunOn : Shape → Flash → List ProgramRun → Flash → Type 0
 RunOn shape start [] end = end ≡ start
 RunOn shape start (r ∷ runs) end = IsRun shape r × (r.old.pages ≡ start) × RunOn shape r.left runs end
 
--- On a made drive, after any runs of any words, each cut off anywhere: each kept what the one before left, from the empty map on, and the end holds the
+-- On a made drive, after any runs of any words, each cut anywhere: each kept what the one before left, from the empty map on, and the end holds the
 -- last map.
 abbrev pub KeptThroughRuns : Type 0
 KeptThroughRuns =

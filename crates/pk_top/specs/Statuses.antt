@@ -1,4 +1,4 @@
--- What the status of a run tells of the board.
+-- What the status of a run says of the board.
 use Rattle.std.specs.Prelude.{◌≡◌, ◌⊎◌, ℕ, None, Some, IsSome}
 use Rattle.pk_base.specs.Shape.{Shape}
 use Rattle.pk_base.specs.Refusal.{Refusal}
@@ -12,7 +12,7 @@ pub record GivesNothing (old new : BoardState) : Type 0 where
   pub input : new.input ≡ old.input
   pub posted : new.posted ≡ old.posted
 
--- Nothing was taken or posted, nothing was programmed or erased, and no call of the flash failed; a board that held its pages from the start
+-- Nothing was taken or posted, nothing was programmed or erased, and no flash operation failed; a board that held its pages from the start
 -- holds them still.
 pub record Untouched (old new : BoardState) : Type 0 where
   pub gives : GivesNothing old new
@@ -20,7 +20,7 @@ pub record Untouched (old new : BoardState) : Type 0 where
   pub sound : new.flash_faults ≡ old.flash_faults
   pub held : IsSome old.shape → (new.pages ≡ old.pages) × (new.shape ≡ old.shape)
 
--- A program or an erase failed; or a call of the flash failed before anything was taken or posted.
+-- A program or an erase failed; or a flash operation failed before anything was taken or posted.
 abbrev pub FlashFailed : BoardState → BoardState → Type 0
 FlashFailed old new = Rose old.stop_faults new.stop_faults ⊎ (Rose old.flash_faults new.flash_faults × GivesNothing old new)
 
@@ -29,7 +29,7 @@ abbrev pub HasNoDrive : BoardState → Type 0
 HasNoDrive board =
     (board.shape ≡ None) ⊎ (IsSome board.bad ⊎ ((shape : Shape) × (refusal : Refusal) × (board.shape ≡ Some shape) × Refuses shape board.pages refusal))
 
--- Where a word of the table was obeyed: what the statuses of failures tell.
+-- If a word of the table was obeyed: what the statuses of failures say.
 pub record Tells (old new : BoardState) (status : ℕ) : Type 0 where
   pub no_words : status ≡ WORDS.0 → ⊥
   pub input : status ≡ INPUT.0 → Rose old.in_faults new.in_faults

@@ -93,12 +93,12 @@ plain_of name operands =
     if bytes_eq name (codes "show") then alone show operands else
     if bytes_eq name (codes "gen") then generate_of operands else None
 
--- what these words ask for; nothing where they are none of the table
+-- what these words ask for; nothing if they are none of the table
 unfoldable pub word_of : List (List ℕ) → Option Word
 word_of [] = None
 word_of (name ∷ operands) = if bytes_eq name (codes "put") then put_of operands else plain_of name operands
 
--- with how many frames a word serves an input, where it serves one
+-- with how many frames a word serves an input, if it serves one
 abbrev pub frames_in : Word → Option ℕ
 frames_in (make shape) = None
 frames_in (serve frames) = Some frames

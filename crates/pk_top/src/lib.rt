@@ -1,7 +1,8 @@
 //! The program's one call: words and a board in, a status out.
 //!
-//! Every run returns and is safe, over every board. Each status other than 0 has its cause as a clause of the call, and what a
-//! run of `serve` keeps at every cut is one too; `laws::sessions` says what that comes to over any number of runs.
+//! Every run returns and is safe, over every board. Each status other than 0 has its cause as a
+//! clause of the call, and what a run of `serve` keeps at every cut is one too; `laws::sessions`
+//! says what follows for any number of runs.
 #![tactic(auto)]
 
 mod asking;

@@ -21,7 +21,7 @@ pub fn of_load_fault(fault: LoadFault) -> Status
     }
 }
 
-/// Makes an image where there is none, and formats its flash.
+/// Makes an image if there is none, and formats its flash.
 fn make_image<B: Board>(alloc: Global, shape: Shape, board: &mut B) -> Status
     requires { (B.state board.old).shape ≡ None }
     ensures { Makes shape (B.state board.old) (B.state board.new) result.0 }
@@ -35,7 +35,7 @@ fn make_image<B: Board>(alloc: Global, shape: Shape, board: &mut B) -> Status
     }
 }
 
-/// Makes a drive of this shape, where there is no image.
+/// Makes a drive of this shape, if there is no image.
 pub fn make<B: Board>(alloc: Global, shape: Shape, board: &mut B) -> Status
     ensures runs { MakeRun shape (B.state board.old) (B.state board.new) result.0 }
     ensures tells { Tells (B.state board.old) (B.state board.new) result.0 }

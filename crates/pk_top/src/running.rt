@@ -26,12 +26,14 @@ use crate::words::word_of;
 use pk_nand::Board;
 use std::alloc::Global;
 
-/// Does what the words ask for, over any board. The status is `WORDS` exactly where they ask for nothing of the table (or
-/// `MEMORY` where the memory for a value among them is missing), and nothing was done then.
+/// Does what the words ask for, over any board. The status is `WORDS` exactly if they ask for
+/// nothing of the table (or `MEMORY` if the memory for a value among them is missing), and nothing
+/// was done then.
 ///
-/// `serves` carries what the project is about, for one session: every record that was posted is the finite map's, and wherever
-/// the session is stopped the flash holds the map after a prefix of its commands that contains every completed one.
-/// `laws::sessions` says it of any number of sessions on a made drive.
+/// `serves` carries what the project is about, for one session: every record that was posted is the
+/// finite map's, and wherever the session is stopped the flash holds the map after a prefix of its
+/// commands that contains every completed one. `laws::sessions` says it of any number of sessions
+/// on a made drive.
 pub fn run<B: Board>(alloc: Global, words: &[&str], board: &mut B) -> Status
     // The words, the status and its cause.
     ensures words { result.0 ≡ WORDS.0 → (spec.word_of (map (λ w. w.now) words.now) ≡ None)

@@ -28,7 +28,7 @@ fn of_end(end: End) -> Status
     }
 }
 
-/// The status where a drive was not opened.
+/// The status if a drive was not opened.
 pub fn of_open_error(error: OpenError) -> Status
     ensures { result.0 ≡ open_status error }
 {
@@ -55,7 +55,7 @@ fn serve_image<B: Board>(alloc: Global, shape: Shape, frames: u32, board: &mut B
     }
 }
 
-/// Serves the script of the input with so many frames, on the drive of the image that is found.
+/// Serves the script of the input with this many frames, on the drive of the image that is found.
 pub fn serve<B: Board>(alloc: Global, frames: u32, board: &mut B) -> Status
     requires { frames ≤ MOST_FRAMES }
     ensures runs { ServeRun frames (B.state board.old) (B.state board.new) result.0 }

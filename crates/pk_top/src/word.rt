@@ -8,7 +8,7 @@ use pk_wordrun::Task;
 pub enum Word {
     /// A new image of this shape.
     Make(Shape),
-    /// To serve the input with so many frames.
+    /// To serve the input with this many frames.
     Serve(u32),
     /// To ask the drive.
     Ask(Task),

@@ -182,7 +182,7 @@ fn alone(word: Word, operands: &[&str]) -> Option<Word>
     }
 }
 
-/// What a name and its operands ask for, where no value stands among them.
+/// What a name and its operands ask for, if no value is among them.
 #[tactic(auto, unfolding(crate::specs::Words::plain_of))]
 fn plain(name: &[u8], operands: &[&str]) -> Option<Word>
     ensures { option_map seen result ≡ spec.plain_of name.now (map (λ w. w.now) operands.now) }
@@ -212,7 +212,8 @@ fn plain(name: &[u8], operands: &[&str]) -> Option<Word>
     }
 }
 
-/// What the words ask for; nothing where they are none of the table. An error where the memory for a value is missing.
+/// What the words ask for; nothing if they are none of the table. An error if the memory for a
+/// value is missing.
 #[tactic(auto, unfolding(crate::specs::Words::word_of))]
 pub fn word_of(alloc: Global, words: &[&str]) -> Result<Option<Word>, AllocError>
     ensures { IfOk result (λ w. option_map seen w ≡ spec.word_of (map (λ w. w.now) words.now)) }

@@ -1,4 +1,4 @@
-//! A session that is cut off at every mark, and the session behind it.
+//! A session that is cut at every mark, and the session after it.
 
 use crate::steps::{MAKE_SMALL, answered, ask_small, cut, holds, made, records, same};
 use crate::ways::{Ways, ways_of_erases};
@@ -37,10 +37,10 @@ const FIRST: [Ask; 9] = [
     Ask::Delete(0x61),
 ];
 
-/// What stands under the four keys.
+/// The values of the four keys.
 pub type Held = [Option<Value>; 4];
 
-/// Behind so many commands of the first session.
+/// After this many commands of the first session.
 pub const HELD: [Held; 10] = [
     [None, None, None, None],
     [Some(A_FIRST), None, None, None],
@@ -92,13 +92,13 @@ const EACH: [[EraseLeft; 8]; 3] = [
     [TORN, KEPT, TORN, KEPT, TORN, KEPT, TORN, KEPT],
 ];
 
-/// Each page of a block of eight is left by itself, in one of three ways.
+/// Each page of a block of eight becomes one of three, by itself.
 pub fn each(rt: &impl Abort, alloc: Global, way: usize) -> Left {
     let pages = EACH.get(way).unwrap_or(&EACH[0]);
     Left::Each(pages.to_vec(alloc).expect(rt, "memory"))
 }
 
-// Nothing is done, all is Torn, all is Erased, or each page is left by itself.
+// Nothing is done, all is Torn, all is Erased, or each page is changed by itself.
 fn ways_of_erase(rt: &impl Abort, alloc: Global) -> Vec<Left> {
     let mut ways = ways_of_program(alloc, false).expect(rt, "memory");
     for way in 0..EACH.len() {
@@ -107,7 +107,7 @@ fn ways_of_erase(rt: &impl Abort, alloc: Global) -> Vec<Left> {
     ways
 }
 
-/// The answer to a Retrieve of a key under which this stands.
+/// The answer to a Retrieve of a key with this value.
 pub fn retrieved(value: Option<Value>) -> Answer {
     match value {
         Some(value) => Answer::Found(value),
@@ -127,7 +127,8 @@ pub fn second_answers(held: &Held) -> [Answer; 6] {
     ]
 }
 
-// The first number of commands, from this one on, behind which the records of the second session are the posted ones.
+// The first number of commands, from this one on, after which the records of the second session are
+// the posted ones.
 fn commands_kept(rt: &impl Abort, alloc: Global, posted: &[u8], least: usize) -> Option<usize> {
     for count in least..HELD.len() {
         let want = records(rt, alloc, &second_answers(&HELD[count]));
@@ -138,8 +139,9 @@ fn commands_kept(rt: &impl Abort, alloc: Global, posted: &[u8], least: usize) ->
     None
 }
 
-/// The second session on the pages that are left where the first one is cut off here, and behind how many commands of the
-/// first one. Those with a byte of their record posted, which has 24, are among them.
+/// The second session on the pages that remain if the first one is cut here, and after how many
+/// commands of the first one. Those with a byte of their record posted, which has 24, are among
+/// them.
 pub fn second_session(
     rt: &impl Abort,
     alloc: Global,

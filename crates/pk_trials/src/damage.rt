@@ -275,7 +275,7 @@ fn damaged_pages(rt: &impl Abort, alloc: Global, case: &Case) -> Vec<PageState> 
     pages
 }
 
-/// A session with this status posted nothing exactly where it is 8, and wrote nothing.
+/// A session with this status posted nothing exactly if it is 8, and wrote nothing.
 pub fn refused(rt: &impl Abort, session: &Session, status: u8, place: Place) {
     ended(rt, session, status, place);
     let is_empty = session.flash.posted().is_empty();
@@ -288,7 +288,8 @@ pub fn refused(rt: &impl Abort, session: &Session, status: u8, place: Place) {
     wrote(rt, session, 0, 0);
 }
 
-/// By the pages from one to another that are damaged: the status of a session, which posts and writes nothing where it is 8.
+/// By the pages from one to another that are damaged: the status of a session, which posts and
+/// writes nothing if it is 8.
 #[test]
 fn damaged(rt: HostRuntime) {
     for case in &CASES {

@@ -32,7 +32,7 @@ fn check(rt: &impl Abort, alloc: Global, script: Vec<u8>, status: u8, want: &[u8
     posted(rt, &session, status, want, Place::Named("no call fails"));
 }
 
-// The same while the call with this number behind those of opening fails, and leaves this.
+// The same while the call with this number after those of opening fails, and leaves this.
 fn check_failing(
     rt: &impl Abort,
     alloc: Global,
@@ -49,7 +49,8 @@ fn check_failing(
     posted(rt, &serve(alloc, flash), status, want, Place::Call(call));
 }
 
-// The record of a Store is out where the input ends inside the value of the next one, of so many bytes.
+// The record of a Store is posted if the input ends inside the value of the next one, of this many
+// bytes.
 fn check_inside(rt: &impl Abort, alloc: Global, size: u32) {
     let next = entry(2, STORE, [0x62, 0], 1, size);
     let script = joined(rt, alloc, &[&store(1), &next, b"ab"]);
@@ -57,7 +58,8 @@ fn check_inside(rt: &impl Abort, alloc: Global, size: u32) {
     check(rt, alloc, script, TRUNCATED, &want);
 }
 
-/// The record of a Store is out where the input ends inside the value of the next one, whether that is too large or not.
+/// The record of a Store is posted if the input ends inside the value of the next one, whether that
+/// is too large or not.
 #[test]
 fn inside_a_value(rt: HostRuntime) {
     check_inside(&rt, rt.alloc(), 3);

@@ -1,4 +1,4 @@
-//! The erase of a full block, cut off in all its ways.
+//! The erase of a full block, cut in all its ways.
 
 use crate::steps::{MAKE_SMALL, answered, ask_small, cut, ended_well, made, pages_left, same};
 use crate::ways::Ways;
@@ -14,7 +14,8 @@ const B: Value = Value { first: 2, len: 600 };
 
 const C: Value = Value { first: 3, len: 3 };
 
-// Four values of two pages each fill the first block for values. All of them are dead after the Delete, and `b` stands in the next one.
+// Four values of two pages each fill the first block for values. All of them are dead after the
+// Delete, and `b` is in the next one.
 const FILL: [Ask; 6] = [
     Ask::Store(0x61, A),
     Ask::Store(0x61, A),
@@ -48,8 +49,8 @@ fn first_erase(flash: &Flash) -> Option<usize> {
     None
 }
 
-/// Eight written pages, of the block of the dead values, are erased first, for the journal: each of them stays, is Erased or is Torn, by
-/// itself. The third session answers as the second one.
+/// Eight written pages, of the block of the dead values, are erased first, for the journal: each of
+/// them is unchanged, is Erased or is Torn, by itself. The third session answers as the second one.
 #[test]
 fn full_block(rt: HostRuntime) {
     let alloc = rt.alloc();

@@ -37,7 +37,7 @@ fn ask_failing(rt: &impl Abort, alloc: Global, asks: &[Ask], call: u64, left: Le
     serve(alloc, flash)
 }
 
-/// The entry is fetched behind the reads of opening, and then the page of the value is read.
+/// The entry is fetched after the reads of opening, and then the page of the value is read.
 #[test]
 fn read_of_retrieve(rt: HostRuntime) {
     let alloc = rt.alloc();
@@ -73,11 +73,11 @@ enum Way {
     Untouched,
     Torn,
     Done,
-    // The second page of a pair is left so, and the first one is Torn.
+    // The second page of a pair becomes this, and the first one is Torn.
     WithEven(PageLeft),
     // The pages of a block as they were, Erased or Torn by turns.
     ByTurns,
-    // So many bytes of a post.
+    // This many bytes of a post.
     Part(u32),
 }
 
@@ -388,7 +388,7 @@ const FAILURES: [Failure; 40] = [
     },
 ];
 
-// Stores the key `a` while this call fails: what was posted, and the keys behind the session.
+// Stores the key `a` while this call fails: what was posted, and the keys after the session.
 fn check_store(rt: &impl Abort, alloc: Global, failure: &Failure) {
     let place = Place::Call(failure.call);
     let left = left(rt, alloc, failure.way);

@@ -1,4 +1,5 @@
-//! Freezes on flashes made by hand, cut off at every mark: alone, and behind merges into each level that empty the frozen buffer.
+//! Freezes on flashes made by hand, cut at every mark: alone, and after merges into each level that
+//! empty the frozen buffer.
 
 use crate::layered::{FLASHES, Layered, key_of, roots_of, value_of};
 use crate::merges::{check_marks, serve_layered};
@@ -45,8 +46,8 @@ fn check_cuts(rt: &impl Abort, alloc: Global, layered: &Layered) -> u32 {
     check_marks(rt, alloc, layered, &flash, Some(NEW))
 }
 
-/// A freeze that first empties the frozen buffer by merges into levels 4, 3, 2 and 1 is cut off at every mark: the keys and the lists are
-/// those of the newest root, and of the newest epoch.
+/// A freeze that first empties the frozen buffer by merges into levels 4, 3, 2 and 1 is cut at
+/// every mark: the keys and the lists are those of the newest root, and of the newest epoch.
 #[test]
 fn freezes_behind_merges(rt: HostRuntime) {
     let mut cuts = 0u32;
@@ -57,7 +58,7 @@ fn freezes_behind_merges(rt: HostRuntime) {
     at_least(&rt, cuts, 300, "cuts");
 }
 
-/// So is one where nothing is frozen, with entries in the newest epoch, and without.
+/// So is one if nothing is frozen, with entries in the newest epoch, and without.
 #[test]
 fn freezes(rt: HostRuntime) {
     let mut cuts = 0u32;

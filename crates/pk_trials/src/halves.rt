@@ -75,7 +75,7 @@ fn half_made(rt: &impl Abort, flash: &Flash, place: Place) -> u32 {
 
 // ---- what is there
 
-// What stands under six keys.
+// The values of six keys.
 type Held = [Option<Value>; 6];
 
 const KEYS: [u8; 6] = [0x61, 0x62, 0x63, 0x64, 0x65, 0x66];
@@ -131,7 +131,8 @@ struct Asked {
     flash: Flash,
 }
 
-// Whether these are the records of the Retrieves on what is there after some of the commands, at least so many.
+// Whether these are the records of the Retrieves on what exists after some of the commands, at
+// least this many.
 fn are_kept(rt: &impl Abort, alloc: Global, asked: &Asked, posted: &[u8], least: usize) -> bool {
     let mut held = asked.before;
     for i in 0..asked.asks.len().saturating_add(1) {
@@ -202,7 +203,8 @@ fn asks_of(rt: &impl Abort, alloc: Global, parts: &[&[Ask]]) -> Vec<Ask> {
 
 // ---- roots
 
-// A session freezes the key of an earlier one, makes so many steps of the merge of it, and stores a further key.
+// A session freezes the key of an earlier one, makes this many steps of the merge of it, and stores
+// a further key.
 fn merging(rt: &impl Abort, alloc: Global, steps: u32) -> Asked {
     let first = ask_small(
         rt,
@@ -229,8 +231,9 @@ fn merging(rt: &impl Abort, alloc: Global, steps: u32) -> Asked {
     )
 }
 
-/// The root of a merge is programmed in two steps. After any number of steps a Store comes: exactly once the root is half made then, and
-/// the Store makes its second program before anything else. Each session is cut off at every mark.
+/// The root of a merge is programmed in two steps. After any number of steps a Store comes: exactly
+/// once the root is half made then, and the Store makes its second program before anything else.
+/// Each session is cut at every mark.
 #[test]
 fn root_of_a_merge(rt: HostRuntime) {
     let alloc = rt.alloc();
@@ -259,7 +262,8 @@ const FILLING: [Ask; 8] = [
     Ask::Store(0x62, LATER),
 ];
 
-// A session fills the drive, makes so many steps of a reclaim, and overwrites a key, whose value the reclaim may have copied.
+// A session fills the drive, makes this many steps of a reclaim, and overwrites a key, whose value
+// the reclaim may have copied.
 fn reclaiming(rt: &impl Abort, alloc: Global, steps: u32) -> Asked {
     let asks = [Ask::Tick(steps), Ask::Store(0x63, NEW), Ask::Flush];
     let pages = made(rt, alloc, &MAKE_SMALL);
@@ -273,8 +277,9 @@ fn reclaiming(rt: &impl Abort, alloc: Global, steps: u32) -> Asked {
     )
 }
 
-/// The commit of a reclaim's moves is programmed in two steps. After any number of steps a Store comes: exactly once the commit is half made
-/// then, and the Store makes its second program before anything else. Each session is cut off at every mark.
+/// The commit of a reclaim's moves is programmed in two steps. After any number of steps a Store
+/// comes: exactly once the commit is half made then, and the Store makes its second program before
+/// anything else. Each session is cut at every mark.
 #[test]
 fn commit_of_moves(rt: HostRuntime) {
     let alloc = rt.alloc();

@@ -49,8 +49,8 @@ const WORDS: [&[&str]; 10] = [
     &MAKE_WORKED,
 ];
 
-// The state byte of a page is 3: each word that needs the image ends with 8, and no byte of the file changes. With the byte as it was the
-// image is one again.
+// The state byte of a page is 3: each word that needs the image ends with 8, and no byte of the
+// file changes. With the former byte the image is one again.
 #[test]
 fn third_state(rt: HostRuntime) {
     let folder = own_folder(&rt, "third_state").expect(&rt, "a folder");
@@ -106,7 +106,8 @@ fn former_version(rt: HostRuntime) {
     fs::remove_dir(&rt, folder.as_str()).expect(&rt, "the folder");
 }
 
-// Writes the versions of the roots in the first two pages, which stand behind 32 bytes of the header and 1,024 state bytes.
+// Writes the versions of the roots in the first two pages, which follow 32 bytes of the header and
+// 1,024 state bytes.
 fn write_versions(file: &File, version: u8) -> io::Result<()> {
     for page in 0..2u64 {
         file.write_all_at(&[version], 32 + 1024 + 512 * page + 8)?;

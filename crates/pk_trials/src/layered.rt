@@ -12,7 +12,8 @@ use std::alloc::Global;
 use std::process::Abort;
 use std::test::*;
 
-/// How many entries the newest epoch, the older one, and runs 1 to 4 have. There is an older epoch only where it has some.
+/// How many entries the newest epoch, the older one, and runs 1 to 4 have. There is an older epoch
+/// only if it has some.
 #[derive(Clone, Copy)]
 pub struct Lists {
     pub active: u16,
@@ -20,7 +21,7 @@ pub struct Lists {
     pub runs: [u16; 4],
 }
 
-/// What is there behind a cut: how long the lists are, and a key that was stored.
+/// What exists after a cut: how long the lists are, and a key that was stored.
 #[derive(Clone, Copy)]
 pub struct Wanted {
     pub lists: Lists,
@@ -105,7 +106,7 @@ fn entries_of(sizes: &Sizes) -> u16 {
 // The value of each key has five bytes.
 const VALUE_BYTES: u32 = 5;
 
-/// The value of a key, which stands on the first page of a pair.
+/// The value of a key, which is on the first page of a pair.
 pub fn value_of(key: u16) -> Value {
     Value {
         first: (key % 256) as u8,
@@ -132,7 +133,7 @@ fn put_note(page: &mut [u8], i: u16, key: u16, first: Option<u32>) {
     }
 }
 
-// Writes entries of deleted keys, so many from this one on.
+// Writes `count` entries of deleted keys, from this one on.
 fn put_gone(page: &mut [u8], first: u16, count: u16) {
     for i in 0..count {
         put_note(page, i, first.saturating_add(i), None);
@@ -161,7 +162,7 @@ fn put_journal(page: &mut [u8], epoch: u64, index: u16, count: u16) {
     put_u16(page, 20, count);
 }
 
-// Writes the value of a key, which stands on one page, after its head.
+// Writes the value of a key, which is on one page, after its head.
 fn put_value(page: &mut [u8], key: u16) {
     if page.len() < 37 {
         return;
@@ -252,7 +253,7 @@ impl Writer {
         self.write(rt, self.at(block, 0));
     }
 
-    // Writes a commit of an epoch with so many deleted keys from this one on, if there are some.
+    // Writes a commit of an epoch with this many deleted keys from this one on, if there are some.
     fn write_epoch(
         &mut self,
         rt: &impl Abort,
@@ -286,7 +287,7 @@ struct Named {
 }
 
 impl Named {
-    // Names so many more blocks.
+    // Names this many more blocks.
     fn take(&mut self, count: u16) {
         for _ in 0..count {
             if self.count < 20 {
@@ -303,7 +304,7 @@ impl Named {
 }
 
 impl Layered {
-    /// The same lists, but for so many entries of the newest epoch and of the older one.
+    /// The same lists, but for this many entries of the newest epoch and of the older one.
     pub fn with(&self, active: u16, frozen: u16) -> Layered {
         Layered {
             sizes: self.sizes,
@@ -383,7 +384,8 @@ impl Layered {
         writer.write_pair(rt, 0, 0);
     }
 
-    /// The data of a List: the keys of run 4 but for those that the newest epoch deletes, and one more where it was stored.
+    /// The data of a List: the keys of run 4 but for those that the newest epoch deletes, and one
+    /// more if it was stored.
     pub fn keys_listed(&self, rt: &impl Abort, alloc: Global, stored: Option<u16>) -> Vec<u8> {
         let mut data = Vec::new(alloc);
         let there = u32::from(self.lists.runs[3].saturating_sub(self.lists.active));
@@ -407,7 +409,8 @@ fn add_key(rt: &impl Abort, data: &mut Vec<u8>, number: u16) {
 // ---- what roots change
 
 impl Lists {
-    /// Behind so many more roots, of the merges into levels 4, 3, 2 and 1 where there is an older epoch, and of the freeze.
+    /// After this many more roots, of the merges into levels 4, 3, 2 and 1 if there is an older
+    /// epoch, and of the freeze.
     pub fn behind(&self, roots: usize) -> Lists {
         let mut lists = *self;
         let mut left = roots;
@@ -422,7 +425,7 @@ impl Lists {
         lists
     }
 
-    /// What is there with these lists: where a key was stored, it is the only entry of the newest epoch.
+    /// What exists with these lists: if a key was stored, it is the only entry of the newest epoch.
     pub fn with_stored(&self, stored: Option<u16>) -> Wanted {
         let mut lists = *self;
         if stored.is_some() {
@@ -431,7 +434,7 @@ impl Lists {
         Wanted { lists, stored }
     }
 
-    // So many of the four merges are made. All that run 3 has are deleted keys.
+    // This many of the four merges are made. All that run 3 has are deleted keys.
     fn merge(&mut self, merges: usize) {
         if merges >= 1 {
             self.runs[2] = 0;
@@ -472,8 +475,8 @@ fn is_root(mark: &Mark, sizes: &Sizes) -> bool {
     }
 }
 
-/// Whether the pair is there whose first page is programmed by the mark with number i and whose second page by the next mark, where the
-/// marks are cut off at the one with number k, of which this is left.
+/// Whether the pair is there whose first page is programmed by the mark with number i and whose
+/// second page by the next mark, if the marks are cut at the one with number k, which leaves this.
 pub fn is_pair_there(i: usize, k: usize, left: &Left) -> bool {
     if k == i {
         return matches!(left, Left::Done);

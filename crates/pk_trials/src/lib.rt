@@ -1,9 +1,10 @@
-//! The trials of whole sessions, run on the program; scripts that it answers as the machine in memory answers them; and its words on
-//! an image file that is none.
+//! The trials of whole sessions, run on the program; scripts that it answers as the machine in
+//! memory answers them; and its words on an image file that is none.
 //!
-//! An image goes from session to session, is cut off at every mark, fails at calls, is damaged and is worn. Each trial compares the status
-//! and the posted bytes with the records of the answers that it lists. The crate has nothing but these tests. They see words, scripts and
-//! records alone, and the board in memory.
+//! An image goes from session to session, is cut at every mark, fails at calls, is damaged and is
+//! worn. Each trial compares the status and the posted bytes with the records of the answers that
+//! it lists. The crate has nothing but these tests. They see words, scripts and records alone, and
+//! the board in memory.
 #![tactic(auto)]
 
 #[cfg(test)]

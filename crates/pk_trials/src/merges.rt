@@ -1,4 +1,5 @@
-//! Freezes and merges by commands from a made drive on; and merges into each level, on flashes made by hand, cut off at every mark.
+//! Freezes and merges by commands from a made drive on; and merges into each level, on flashes made
+//! by hand, cut at every mark.
 
 use crate::layered::{FLASHES, Layered, Lists, Wanted, is_pair_there, key_of, roots_behind, ways};
 use crate::steps::{
@@ -42,7 +43,7 @@ fn number_at(rt: &impl Abort, posted: &[u8], at: usize) -> u32 {
     get_u32(posted, at)
 }
 
-// The sixteen numbers of the Report whose record ends so many bytes before the end.
+// The sixteen numbers of the Report whose record ends this many bytes before the end.
 fn numbers(rt: &impl Abort, posted: &[u8], behind: usize) -> [u32; 16] {
     let start = posted
         .len()
@@ -66,7 +67,7 @@ const ABC: Value = Value {
 // What is asked of a made drive.
 #[derive(Clone, Copy)]
 enum Step {
-    // Stores of so many keys of two bytes, of two pages each.
+    // Stores of n keys of two bytes, of two pages each.
     Stores(u16),
     // With a buffer of 10 bytes.
     Retrieve(u16),
@@ -106,7 +107,7 @@ const REPORT_BYTES: usize = 24 + 64;
 
 const FOUND_BYTES: usize = 24 + 3;
 
-// How many pages the Retrieve read whose record ends so many bytes before the end.
+// How many pages the Retrieve read whose record ends this many bytes before the end.
 fn reads_of(rt: &impl Abort, posted: &[u8], behind: usize) -> u32 {
     let start = posted
         .len()
@@ -120,7 +121,7 @@ fn check_one_read(rt: &impl Abort, posted: &[u8], behind: usize) {
     same(rt, u64::from(reads_of(rt, posted, behind)), 1, "reads");
 }
 
-// These pages behind a session with so many frames, which is to end well.
+// These pages after a session with this many frames, which has to end well.
 fn behind_pages(
     rt: &impl Abort,
     alloc: Global,
@@ -133,7 +134,7 @@ fn behind_pages(
     ended_well(rt, session, Place::Named("from a made drive on"))
 }
 
-// A made drive behind such a session.
+// A made drive after such a session.
 fn behind(rt: &impl Abort, alloc: Global, steps: &[Step]) -> Flash {
     behind_pages(rt, alloc, made(rt, alloc, &MAKE_WORKED), steps, "36")
 }
@@ -146,11 +147,11 @@ const FIRST_MERGE: [Step; 5] = [
     Step::Retrieve(0),
 ];
 
-// All numbers of a Report behind the first merge.
+// All numbers of a Report after the first merge.
 const MERGED: [u32; 16] = [62, 492, 31, 2, 36, 2, 1, 0, 30, 0, 0, 0, 1, 4, 55, 0];
 
-/// Thirty keys are frozen by the 31st Store, and a Tick merges them into run 1: all sixteen numbers of a Report, and the pages that a
-/// Retrieve of the first key reads before and behind the merge.
+/// Thirty keys are frozen by the 31st Store, and a Tick merges them into run 1: all sixteen numbers
+/// of a Report, and the pages that a Retrieve of the first key reads before and after the merge.
 #[test]
 fn first_merge(rt: HostRuntime) {
     let flash = behind(&rt, rt.alloc(), &FIRST_MERGE);
@@ -175,14 +176,15 @@ const ONE_STEP: [Step; 6] = [
     Step::Report,
 ];
 
-// The Report so many bytes before the end tells whether a merge has begun, and so many frozen entries and ones of run 1.
+// The Report this many bytes before the end says whether a merge has begun, and has this many
+// frozen entries and entries of run 1.
 fn check_merge(rt: &impl Abort, posted: &[u8], behind: usize, wanted: [u32; 3]) {
     let found = numbers(rt, posted, behind);
     let found = [found[15], found[7], found[8]];
     holds(rt, found == wanted, "the numbers", Place::Named("one step"));
 }
 
-/// One step of the merge is made, and the lists are as they were; the rest of the steps ends it.
+/// One step of the merge is made, and the lists are unchanged; the rest of the steps ends it.
 #[test]
 fn one_step(rt: HostRuntime) {
     let flash = behind(&rt, rt.alloc(), &ONE_STEP);
@@ -197,8 +199,9 @@ const TWO_RUNS: [Step; 3] = [Step::Stores(121), Step::Report, Step::Retrieve(0)]
 // Four freezes: the numbers of entries of the lists.
 const FOUR_FREEZES: [u32; 6] = [1, 30, 30, 60, 0, 0];
 
-/// Four freezes merge into runs 1 and 2. A Retrieve of the first key reads the value's page alone where both levels have frames; without
-/// frames it reads a page of each run besides, two to five in all, and gives the same.
+/// Four freezes merge into runs 1 and 2. A Retrieve of the first key reads the value's page alone
+/// if both levels have frames; without frames it reads a page of each run besides, two to five in
+/// all, and gives the same.
 #[test]
 fn two_runs(rt: HostRuntime) {
     let alloc = rt.alloc();
@@ -241,8 +244,9 @@ fn last_erase(flash: &Flash, wanted: u32) -> Option<usize> {
     last
 }
 
-/// Roots fill block 1, and block 0 is erased for the next install: cut off there, with its pages left as they were, Erased and Torn by
-/// turns, the newest root is one of block 1, and every key whose record was posted is there.
+/// Roots fill block 1, and block 0 is erased for the next install: cut there, with its pages
+/// unchanged, Erased and Torn by turns, the newest root is one of block 1, and every key whose
+/// record was posted exists.
 #[test]
 fn roots_fill_a_block(rt: HostRuntime) {
     let alloc = rt.alloc();
@@ -298,7 +302,8 @@ fn check_entries(rt: &impl Abort, posted: &[u8], lists: &Lists, place: Place) {
     holds(rt, found == entries_in(lists), "the entries", place);
 }
 
-// On these pages the keys are those of the flash that was made, and the one that was stored; and the lists have so many entries.
+// On these pages the keys are those of the flash that was made, and the one that was stored; and
+// the lists have these numbers of entries.
 fn check_lists(
     rt: &impl Abort,
     alloc: Global,
@@ -329,8 +334,9 @@ fn all_merges(rt: &impl Abort, alloc: Global, layered: &Layered) -> Flash {
     flash
 }
 
-// What is there where this mark is interrupted and leaves this: each merge and the freeze are made whose root is there; and where a key is
-// stored, it is there where the commit with its entry, whose pages are programmed last, is.
+// What exists if this mark is interrupted and leaves this: each merge and the freeze are made whose
+// root is there; and if a key is stored, it exists if the commit with its entry, whose pages are
+// programmed last, is there.
 fn wanted_behind(
     layered: &Layered,
     flash: &Flash,
@@ -348,7 +354,8 @@ fn wanted_behind(
     }
 }
 
-/// Each mark of a session that makes merges, or stores this key behind a freeze, is interrupted in some ways; and how many cuts these are.
+/// Each mark of a session that makes merges, or stores this key after a freeze, is interrupted in
+/// some ways; and how many cuts these are.
 pub fn check_marks(
     rt: &impl Abort,
     alloc: Global,
@@ -368,8 +375,8 @@ pub fn check_marks(
     cuts
 }
 
-/// Merges into levels 4, 3, 2 and 1 in one session, which is cut off at every mark: the keys are the same behind each cut, and the lists are
-/// those of the newest root.
+/// Merges into levels 4, 3, 2 and 1 in one session, which is cut at every mark: the keys are the
+/// same after each cut, and the lists are those of the newest root.
 #[test]
 fn every_cut_of_merges(rt: HostRuntime) {
     let mut cuts = 0u32;

@@ -1,4 +1,5 @@
-//! Reclaims of drives that are full, cut off at every mark, and with each call of the board failing in turn.
+//! Reclaims of drives that are full, cut at every mark, and with each flash operation failing in
+//! turn.
 
 use crate::steps::{
     MAKE_SMALL, MAKE_WORKED, at_least, cut, done, ended, ended_well, holds, made, pages_left,
@@ -39,7 +40,8 @@ const FEW: Room = Room {
     marks: 400,
 };
 
-// A drive that is full with so many keys of two pages each, and how many commands are made before one that reclaims a block.
+// A drive that is full with n keys of two pages each, and how many commands are made before one
+// that reclaims a block.
 #[derive(Clone, Copy)]
 struct Full {
     keys: u32,
@@ -108,21 +110,22 @@ impl Full {
     }
 }
 
-// The Stores with these numbers, of so many keys.
+// The Stores with these numbers, of this many keys.
 fn stores(rt: &impl Abort, alloc: Global, keys: u32, from: u32, to: u32) -> Vec<u8> {
     let mut script = Vec::new(alloc);
     push_stores(&mut script, keys, from, to).expect(rt, "memory");
     script
 }
 
-/// How many cuts of a first session were tried, and how many of the sessions behind them.
+/// How many cuts of a first session were tried, and how many of the sessions after them.
 #[derive(Clone, Copy)]
 pub struct Cuts {
     pub first: u32,
     pub second: u32,
 }
 
-// How many commands were told, at least a byte of the record of each, where this mark is interrupted.
+// How many commands were answered, at least a byte of the record of each, if this mark is
+// interrupted.
 fn told(flash: &Flash, k: usize) -> u32 {
     (bytes_out(flash, k) / 24).min(100_000) as u32
 }
@@ -152,8 +155,9 @@ fn values_on(
     found_in(rt, alloc, full, &session, place)
 }
 
-// How a first session is cut off: of a drive like this, with at most so many commands, from this mark on. Of the cuts of the second
-// session behind each one of every so many is made, none where `every` is 0; which ones goes on from cut to cut.
+// How a first session is cut: of a drive like this, with at most this many commands, from this mark
+// on. Of the cuts of the second session after each one, one of every n is made, none if `every` is
+// 0; which ones goes on from cut to cut.
 #[derive(Clone, Copy)]
 struct Cutting {
     full: Full,
@@ -162,8 +166,8 @@ struct Cutting {
     every: u32,
 }
 
-// Behind how many commands, at least so many and at most so many, these are the first bytes of the values of all keys, where the first
-// bytes that are held are those behind the least number of commands.
+// After how many commands, between these two numbers, these are the first bytes of the values of
+// all keys, if the first bytes that are held are those after the least number of commands.
 fn kept_from(held: &mut [u8], found: &[u8], keys: u32, least: u32, most: u32) -> Option<u32> {
     for command in least..most.saturating_add(1) {
         if *held == *found {
@@ -174,15 +178,16 @@ fn kept_from(held: &mut [u8], found: &[u8], keys: u32, least: u32, most: u32) ->
     None
 }
 
-// A session behind its end, and the first bytes of the values that it retrieved.
+// A session after its end, and the first bytes of the values that it retrieved.
 #[derive(Drop)]
 struct Behind {
     flash: Flash,
     found: Vec<u8>,
 }
 
-// The second session behind this cut of the first one, which retrieves each key and then overwrites the first one: it finds the values
-// behind as many commands as the first session told, or some more.
+// The second session after this cut of the first one, which retrieves each key and then overwrites
+// the first one: it finds the values after as many commands as the first session answered, or some
+// more.
 fn second(
     rt: &impl Abort,
     alloc: Global,
@@ -208,15 +213,15 @@ fn second(
     }
 }
 
-// Whether these values are those of the second session, but for the first key's, which is the one that it stored, where this was told,
-// and may be it else.
+// Whether these values are those of the second session, but for the first key's, which is the one
+// that it stored if this was answered, and may be it otherwise.
 fn is_kept(found: &[u8], held: &[u8], is_told: bool) -> bool {
     let is_new = found.first() == Some(&value_of(OTHER).first);
     let is_old = found.first() == held.first();
     found.get(1..) == held.get(1..) && (is_new || is_old && !is_told)
 }
 
-// The third session behind this cut of the second one.
+// The third session after this cut of the second one.
 fn check_third(
     rt: &impl Abort,
     alloc: Global,
@@ -227,7 +232,7 @@ fn check_third(
 ) {
     let pages = cut(rt, alloc, &second.flash, k, left);
     let found = values_on(rt, alloc, full, pages, Place::Mark(k));
-    // whether a byte is out behind the records of the Retrieves
+    // whether a byte is posted after the records of the Retrieves
     let retrieved = u64::from(full.keys).saturating_mul(124);
     let is_told = bytes_out(&second.flash, k) as u64 > retrieved;
     let is_so = is_kept(&found, &second.found, is_told);
@@ -254,7 +259,7 @@ impl Turns {
     }
 }
 
-// Of all cuts of a second session one of every so many: how many these are.
+// Of all cuts of a second session one of every n: how many these are.
 fn check_second(
     rt: &impl Abort,
     alloc: Global,
@@ -298,7 +303,7 @@ fn check_mark(
     }
 }
 
-// Cuts the first session off at each mark behind which all keys were told, in some ways each.
+// Cuts the first session at each mark after which all keys were answered, in some ways each.
 fn check(rt: &impl Abort, alloc: Global, cutting: &Cutting, first: &Flash) -> Cuts {
     let mut cuts = Cuts {
         first: 0,
@@ -312,7 +317,8 @@ fn check(rt: &impl Abort, alloc: Global, cutting: &Cutting, first: &Flash) -> Cu
     cuts
 }
 
-// A reclaim of a full drive, cut off at every mark: from before it to the end of the command that makes it.
+// A reclaim of a full drive, cut at every mark: from before it to the end of the command that makes
+// it.
 fn check_one(rt: &impl Abort, alloc: Global, full: &Full, every: u32) -> Cuts {
     let before = full.commands(rt, alloc, full.before);
     let cutting = Cutting {
@@ -326,14 +332,15 @@ fn check_one(rt: &impl Abort, alloc: Global, full: &Full, every: u32) -> Cuts {
     check(rt, alloc, &cutting, &first)
 }
 
-/// The first reclaim of a full drive of 64 blocks, cut off at every mark.
+/// The first reclaim of a full drive of 64 blocks, cut at every mark.
 #[test]
 fn first_on_full(rt: HostRuntime) {
     let cuts = check_one(&rt, rt.alloc(), &WORKED, 0);
     at_least(&rt, cuts.first, 30, "cuts");
 }
 
-/// The same, and of the cuts of the session behind each one, of every mark in some ways, one of every so many. This takes minutes.
+/// The same, and of the cuts of the session after each one, of every mark in some ways, one in
+/// `every`. This takes minutes.
 pub fn first_on_full_twice(rt: &impl Abort, alloc: Global, every: u32) -> Cuts {
     check_one(rt, alloc, &WORKED, every)
 }
@@ -346,7 +353,7 @@ fn one_on_small(rt: HostRuntime) {
     at_least(&rt, cuts.second, 500, "cuts after them");
 }
 
-// A session of so many commands on a full drive of 33 blocks.
+// A session of n commands on a full drive of 33 blocks.
 const OVERWRITES: Cutting = Cutting {
     full: SMALL,
     most: 60,
@@ -354,8 +361,8 @@ const OVERWRITES: Cutting = Cutting {
     every: 0,
 };
 
-/// A full drive of 33 blocks takes overwrites, of which nearly each makes a reclaim, and some a freeze inside it: it is cut off at every
-/// mark behind the Stores of all keys.
+/// A full drive of 33 blocks takes overwrites, of which nearly each makes a reclaim, and some a
+/// freeze inside it: it is cut at every mark after the Stores of all keys.
 #[test]
 fn every_cut_of_reclaims(rt: HostRuntime) {
     let first = SMALL.commands(&rt, rt.alloc(), OVERWRITES.most);
@@ -368,8 +375,8 @@ fn every_cut_of_reclaims(rt: HostRuntime) {
 // The overwrites are the commands from the Stores of all keys up to this one.
 const LAST: u32 = 40;
 
-// Takes into what stands under each key the overwrites whose records these are: those that are done, and not one for which a call of the
-// flash failed. The first command whose record is missing.
+// Takes into the values of all keys the overwrites whose records these are: those that succeeded,
+// and not one for which a flash operation failed. The first command whose record is missing.
 fn replay(rt: &impl Abort, held: &mut [u8], posted: &[u8]) -> u32 {
     let mut at = 0usize;
     let mut next = SMALL.keys;
@@ -388,7 +395,8 @@ fn replay(rt: &impl Abort, held: &mut [u8], posted: &[u8]) -> u32 {
     next
 }
 
-// The drive is opened again behind a call that failed, and has the values behind the commands that were told, or behind some more.
+// The drive is opened again after a call that failed, and has the values after the commands that
+// were answered, or after some more.
 fn check_behind(rt: &impl Abort, alloc: Global, flash: &Flash, call: u64) {
     let mut held = firsts_behind(alloc, SMALL.keys, SMALL.keys).expect(rt, "memory");
     let next = replay(rt, &mut held, flash.posted());
@@ -441,8 +449,8 @@ fn left_by(call: u64) -> Left {
     }
 }
 
-/// Each call of a session of overwrites on a full drive of 33 blocks fails once, reads of opening, fetches, values, entries, roots, copies,
-/// erases and posts: nothing that was told is lost.
+/// Each call of a session of overwrites on a full drive of 33 blocks fails once, reads of opening,
+/// fetches, values, entries, roots, copies, erases and posts: nothing that was answered is lost.
 #[test]
 fn every_call_fails(rt: HostRuntime) {
     let stored = SMALL.commands(&rt, rt.alloc(), SMALL.keys);

@@ -1,4 +1,4 @@
-//! The second session is cut off at every mark, too, behind a cut of the first one at each of its marks.
+//! The second session is cut at every mark, too, after a cut of the first one at each of its marks.
 
 use crate::cuts::{
     E, HELD, Held, each, first_session, retrieved, second_answers, second_session, some_ways,
@@ -28,9 +28,9 @@ const THIRD: [Ask; 7] = [
     Ask::Retrieve(0x66),
 ];
 
-// The answers of the third session on these values, with this one under the fifth key. Where the second session began an epoch over
-// one with entries, the Store merges these before it freezes a second time; where values stand in both blocks that they may have, it
-// reclaims one of them.
+// The answers of the third session on these values, with this one under the fifth key. If the
+// second session began an epoch over one with entries, the Store merges these before it freezes a
+// second time; if values are in both blocks that they may have, it reclaims one of them.
 fn third_answers(held: &Held, fifth: Option<Value>) -> [Answer; 7] {
     let [first, second, third, fourth] = *held;
     [
@@ -44,8 +44,8 @@ fn third_answers(held: &Held, fifth: Option<Value>) -> [Answer; 7] {
     ]
 }
 
-// Whether values of the first session and the one of the second stand in a block each, which are all that values may have: a further
-// Store reclaims one of them.
+// Whether values of the first session and the one of the second are in a block each, which are all
+// that values may have: a further Store reclaims one of them.
 fn fill_both_blocks(held: &Held, fifth: Option<Value>) -> bool {
     fifth.is_some() && held.iter().any(|value| value.is_some())
 }
@@ -55,7 +55,8 @@ fn both_are(one: Option<&[u8]>, other: Option<&[u8]>) -> bool {
     one.is_some() && one == other
 }
 
-// Whether these are the records that are wanted, but for the count of reads of the one that begins at this byte.
+// Whether these are the records that are expected, but for the count of reads of the one that
+// begins at this byte.
 fn same_but_reads(posted: &[u8], want: &[u8], at: usize) -> bool {
     let front = at.saturating_add(16);
     let behind = at.saturating_add(20);
@@ -63,8 +64,8 @@ fn same_but_reads(posted: &[u8], want: &[u8], at: usize) -> bool {
         && both_are(posted.get(behind..), want.get(behind..))
 }
 
-// Whether these are the records of the third session on these values, with this one under the fifth key. A Store that reclaims a block
-// tells the pages that it read.
+// Whether these are the records of the third session on these values, with this one under the fifth
+// key. A Store that reclaims a block reports the pages that it read.
 fn are_third(
     rt: &impl Abort,
     alloc: Global,
@@ -81,8 +82,9 @@ fn are_third(
     same_but_reads(posted, &want, before.len())
 }
 
-// Serves the third session behind a cut of the second one. The fifth key is there, if a byte of its Store's record was posted, and
-// may be there else; the records of the four Retrieves begin the second session.
+// Serves the third session after a cut of the second one. The fifth key exists if a byte of its
+// Store's record was posted, and may exist otherwise; the records of the four Retrieves begin the
+// second session.
 fn check_recut(
     rt: &impl Abort,
     alloc: Global,
@@ -127,8 +129,9 @@ fn check_all_ways(rt: &impl Abort, alloc: Global, second: &Flash, held: &Held, k
     }
 }
 
-// The number of one of the ways in which this mark is interrupted: the program of a first page is Torn, that of a second page is left in
-// all its ways but the first by turns, and of an erase each page is left by itself.
+// The number of one of the ways in which this mark is interrupted: the program of a first page is
+// Torn, that of a second page is interrupted in all its ways but the first by turns, and of an
+// erase each page is changed by itself.
 fn one_way(flash: &Flash, k: usize) -> usize {
     match kind_of(flash, k) {
         Kind::None | Kind::Post => 0,
@@ -138,7 +141,8 @@ fn one_way(flash: &Flash, k: usize) -> usize {
     }
 }
 
-/// The second session is cut off at every mark in some ways, behind one cut of the first session at each of its marks.
+/// The second session is cut at every mark in some ways, after one cut of the first session at each
+/// of its marks.
 #[test]
 fn cut_twice(rt: HostRuntime) {
     let alloc = rt.alloc();
@@ -152,7 +156,7 @@ fn cut_twice(rt: HostRuntime) {
     }
 }
 
-// The second session behind the whole first one.
+// The second session after the whole first one.
 fn second_behind_first(rt: &impl Abort, alloc: Global) -> Session {
     let first = first_session(rt, alloc).flash;
     let (second, kept) = second_session(rt, alloc, &first, first.marks(), &Left::Untouched);
@@ -165,8 +169,8 @@ fn second_behind_first(rt: &impl Abort, alloc: Global) -> Session {
     second
 }
 
-/// The second session is cut off at every mark in all its ways, behind the whole first one. Of its four erases one is that of the other
-/// root block, which has both pages of a root.
+/// The second session is cut at every mark in all its ways, after the whole first one. Of its four
+/// erases one is that of the other root block, which has both pages of a root.
 #[test]
 fn every_cut_of_second(rt: HostRuntime) {
     let alloc = rt.alloc();
@@ -178,7 +182,7 @@ fn every_cut_of_second(rt: HostRuntime) {
     }
 }
 
-// Where a session is cut off, and what is left there.
+// Where a session is cut, and what remains there.
 #[derive(Clone, Copy)]
 struct Cut {
     k: usize,
@@ -190,9 +194,9 @@ enum Way {
     Untouched,
     Torn,
     Done,
-    // Each page of a block is left by itself.
+    // Each page of a block is changed by itself.
     Each(usize),
-    // The second page of a pair is left so, and the first one is Torn.
+    // The second page of a pair becomes this, and the first one is Torn.
     WithEven(PageLeft),
 }
 
@@ -269,9 +273,10 @@ fn left_by(rt: &impl Abort, alloc: Global, way: Way) -> Left {
     }
 }
 
-/// Sessions that are cut off one after another before an entry is on the flash, some after a root of their own: the marks of each are
-/// the erases of two blocks for the epoch and of the other root block, both pages of the root, the erase of a block for values, both pages
-/// of the value, both pages of the commit, and the post. The last session is not cut.
+/// Sessions that are cut one after another before an entry is on the flash, some after a root of
+/// their own: the marks of each are the erases of two blocks for the epoch and of the other root
+/// block, both pages of the root, the erase of a block for values, both pages of the value, both
+/// pages of the commit, and the post. The last session is not cut.
 #[test]
 fn cut_many_times(rt: HostRuntime) {
     let alloc = rt.alloc();

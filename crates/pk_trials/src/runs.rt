@@ -20,7 +20,7 @@ use std::alloc::Global;
 use std::process::Abort;
 use std::test::*;
 
-// Serves this script with so many frames.
+// Serves this script with this many frames.
 fn ask_with(
     rt: &impl Abort,
     alloc: Global,
@@ -143,8 +143,8 @@ const ROWS: [Row; 20] = [
     },
 ];
 
-// Adds the record of the Retrieve of a key, where so many levels are pinned: one page is read for each other level down to that of the
-// entry, and then the value's pages.
+// Adds the record of the Retrieve of a key, if this many levels are pinned: one page is read for
+// each other level down to that of the entry, and then the value's pages.
 fn add_retrieved(rt: &impl Abort, into: &mut Vec<u8>, number: u16, pinned: u32, row: &Row) {
     let looked = row.level.saturating_sub(pinned);
     let value = value_of(row.key);
@@ -300,7 +300,7 @@ impl Listing {
     }
 }
 
-// The records of a List of these keys and, where there are numbers, of a Report.
+// The records of a List of these keys and, if there are numbers, of a Report.
 fn listed(
     rt: &impl Abort,
     alloc: Global,
@@ -328,7 +328,7 @@ fn keys_are_listed(rt: HostRuntime) {
     }
 }
 
-// The session that stores the key 90 where one epoch has all entries of the buffers.
+// The session that stores the key 90 if one epoch has all entries of the buffers.
 fn stored(rt: &impl Abort, alloc: Global) -> Session {
     let pages = done(rt, with_one_epoch(alloc));
     ask_with(rt, alloc, pages, &[Ask::Store(90, value_of(90))], "36")
@@ -341,10 +341,11 @@ fn keys_with_stored(rt: &impl Abort, alloc: Global) -> Vec<u8> {
     keys
 }
 
-// The numbers of a Report behind the Store.
+// The numbers of a Report after the Store.
 const STORED: [u32; 16] = [88, 492, 44, 2, 36, 3, 1, 5, 2, 16, 31, 17, 1, 12, 0, 0];
 
-/// A Store begins an epoch over the one with five keys, by a root that names the same runs. The session behind it has all keys.
+/// A Store begins an epoch over the one with five keys, by a root that names the same runs. The
+/// session after it has all keys.
 #[test]
 fn store_over_runs(rt: HostRuntime) {
     let alloc = rt.alloc();
@@ -362,7 +363,8 @@ fn store_over_runs(rt: HostRuntime) {
     posted(&rt, &found, DONE, &retrieved(&rt, alloc, 2), place);
 }
 
-// Lists the keys behind a cut of the Store. The new one is there, if a byte of its record was posted, and may be there else.
+// Lists the keys after a cut of the Store. The new one exists if a byte of its record was posted,
+// and may exist otherwise.
 fn check_cut(rt: &impl Abort, alloc: Global, stored: &Flash, k: usize, left: &Left) {
     let pages = cut(rt, alloc, stored, k, left);
     let session = ask_with(rt, alloc, pages, &[Ask::List], "36");
@@ -375,8 +377,8 @@ fn check_cut(rt: &impl Abort, alloc: Global, stored: &Flash, k: usize, left: &Le
     holds(rt, is_so, "what is there", Place::Mark(k));
 }
 
-/// The Store is cut off at each of its marks, which is not begun, torn or done, and where it programs the second page of a pair, with the
-/// first one torn besides.
+/// The Store is cut at each of its marks, which is not begun, torn or done, and if it programs the
+/// second page of a pair, with the first one torn besides.
 #[test]
 fn cut_over_runs(rt: HostRuntime) {
     let stored = stored(&rt, rt.alloc()).flash;
@@ -387,7 +389,7 @@ fn cut_over_runs(rt: HostRuntime) {
     }
 }
 
-// Pages that are Torn, so many from one on: the status of a session.
+// Pages that are Torn, n from one on: the status of a session.
 #[derive(Clone, Copy)]
 struct TornPage {
     name: &'static str,
@@ -490,8 +492,9 @@ const TORN_PAGES: [TornPage; 15] = [
     },
 ];
 
-/// A page of a run that is Torn, and one of a value under any list, are damage, and so is a commit whose pages are both Torn, where it is the
-/// only one of the older epoch; pages that no list counts are none, and neither is one page of a commit.
+/// A page of a run that is Torn, and one of a value under any list, are damage, and so is a commit
+/// whose pages are both Torn, if it is the only one of the older epoch; pages that no list counts
+/// are none, and neither is one page of a commit.
 #[test]
 fn torn_pages(rt: HostRuntime) {
     for torn in &TORN_PAGES {

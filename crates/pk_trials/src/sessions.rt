@@ -43,7 +43,7 @@ const STORED: [u8; 24] = [
     0, 0, 0, 0, 0, 0, 0, 0, 1, 0, 1, 0, 1, 0, 1, 0, 0, 0, 0, 0, 0, 0, 0, 0,
 ];
 
-/// An image is made once, and a script that ends inside an entry is told so.
+/// An image is made once, and a script that ends inside an entry is reported as such.
 #[test]
 fn makes_once(rt: HostRuntime) {
     let alloc = rt.alloc();
@@ -58,7 +58,7 @@ fn makes_once(rt: HostRuntime) {
     posted(&rt, &session, TRUNCATED, &RECORDS[..24], place);
 }
 
-// The pages behind this script, which is to have these records.
+// The pages after this script, which has to have these records.
 fn behind(
     rt: &impl Abort,
     alloc: Global,
@@ -71,7 +71,7 @@ fn behind(
     pages_left(rt, alloc, &session.flash)
 }
 
-// The pages behind the Store of a byte under this key.
+// The pages after the Store of a byte under this key.
 fn behind_store(rt: &impl Abort, alloc: Global, pages: Vec<PageState>, key: u8) -> Vec<PageState> {
     let value = Value { first: key, len: 1 };
     let script = script(rt, alloc, &[Ask::Store(key, value)]);
@@ -114,7 +114,7 @@ fn refuses(rt: HostRuntime) {
     ended(&rt, &no_image, NO_DRIVE, Place::Named("no image"));
 }
 
-// ---- sessions in a row
+// ---- sessions one after another
 
 // What one session asks, and how it is answered.
 #[derive(Clone, Copy)]
@@ -164,7 +164,7 @@ const THREE_STORES: [Talk; 6] = [
     },
 ];
 
-// These sessions one behind the other, from a made drive on.
+// These sessions one after another, on a made drive.
 fn check_talks(rt: &impl Abort, alloc: Global, talks: &[Talk]) {
     let mut pages = made(rt, alloc, &MAKE_WORKED);
     for talk in talks {
@@ -180,7 +180,8 @@ fn check_talks(rt: &impl Abort, alloc: Global, talks: &[Talk]) {
     }
 }
 
-/// A value that one session stores is what the next one retrieves, byte for byte, and the one behind it.
+/// A value that one session stores is what the next one retrieves, byte for byte, and the one after
+/// it.
 #[test]
 fn values_stay(rt: HostRuntime) {
     check_talks(&rt, rt.alloc(), &STAYING);
@@ -247,8 +248,8 @@ const COMMITS: [Ask; 4] = [
     Ask::Flush,
 ];
 
-/// Two keys, each with a commit of its own, cut at the first page of the second commit, which is not begun, torn or done; and at its
-/// second page, where the first one is as it was, or Torn.
+/// Two keys, each with a commit of its own, cut at the first page of the second commit, which is
+/// not begun, torn or done; and at its second page, with the first one unchanged, or Torn.
 #[test]
 fn pages_of_a_commit(rt: HostRuntime) {
     let alloc = rt.alloc();
@@ -287,8 +288,9 @@ fn second_of_root(flash: &Flash) -> Option<usize> {
     found
 }
 
-/// A root, by which a Store begins an epoch over one with a key, is cut at its second page, and both pages are Torn: the former root counts,
-/// and the map is the same. So is it where the first page or the second one stays, by the new root.
+/// A root, by which a Store begins an epoch over one with a key, is cut at its second page, and
+/// both pages are Torn: the former root counts, and the map is the same. So is it if the first page
+/// or the second one remains, by the new root.
 #[test]
 fn pages_of_a_root(rt: HostRuntime) {
     let alloc = rt.alloc();
@@ -421,7 +423,8 @@ fn full_buffer(rt: HostRuntime) {
     check_numbers(&rt, flash.posted(), &FULL_BUFFER);
 }
 
-/// The first of these keys stands in the frozen buffer, so a Retrieve of it reads the value's page alone.
+/// The first of these keys is in the frozen buffer, so a Retrieve of it reads the value's page
+/// alone.
 #[test]
 fn first_of_full_buffer(rt: HostRuntime) {
     let alloc = rt.alloc();
@@ -486,7 +489,8 @@ fn full_epoch(rt: HostRuntime) {
 
 // ---- buffers and pages
 
-/// A Retrieve gives as much of a value as its buffer takes, and tells its whole length. Without a buffer it reads no page.
+/// A Retrieve returns as much of a value as its buffer takes, and reports its whole length. Without
+/// a buffer it reads no page.
 #[test]
 fn short_buffers(rt: HostRuntime) {
     let alloc = rt.alloc();

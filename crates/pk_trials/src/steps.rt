@@ -1,4 +1,5 @@
-//! The steps of the trials: boards that the program serves, and what is wanted of them. Whatever fails ends the test.
+//! The steps of the trials: boards that the program serves, and what is expected of them. Whatever
+//! fails ends the test.
 
 use pk_base::Shape;
 use pk_flash::{Flash, Left};
@@ -25,7 +26,7 @@ impl Program for Pink {
 /// The words that make a drive of 33 blocks of 8 pages.
 pub const MAKE_SMALL: [&str; 4] = ["make", "512", "8", "33"];
 
-// ---- what is wanted
+// ---- what is expected
 
 /// The value of a step that did not fail.
 pub fn done<T>(rt: &impl Abort, step: Result<T, Fail>) -> T {
@@ -35,22 +36,22 @@ pub fn done<T>(rt: &impl Abort, step: Result<T, Fail>) -> T {
     }
 }
 
-/// Ends the test where this does not hold.
+/// Ends the test if this does not hold.
 pub fn holds(rt: &impl Abort, is_so: bool, what: &str, place: Place) {
     assert!(rt; is_so, "{what}, {place}");
 }
 
-/// Ends the test where these numbers differ.
+/// Ends the test if these numbers differ.
 pub fn same(rt: &impl Abort, found: u64, wanted: u64, what: &str) {
     assert!(rt; found == wanted, "{what}: {found}, and not {wanted}");
 }
 
-/// Ends the test where there are fewer than so many.
+/// Ends the test if there are fewer than this many.
 pub fn at_least(rt: &impl Abort, count: u32, least: u32, what: &str) {
     assert!(rt; count >= least, "{what}: {count}, and not {least}");
 }
 
-/// Ends the test where the session had another status.
+/// Ends the test if the session had another status.
 pub fn ended(rt: &impl Abort, session: &Session, status: u8, place: Place) {
     let found = session.status;
     assert!(rt;
@@ -59,7 +60,7 @@ pub fn ended(rt: &impl Abort, session: &Session, status: u8, place: Place) {
     );
 }
 
-/// Ends the test where the session had another status, or posted other bytes.
+/// Ends the test if the session had another status, or posted other bytes.
 pub fn posted(rt: &impl Abort, session: &Session, status: u8, bytes: &[u8], place: Place) {
     ended(rt, session, status, place);
     holds(
@@ -70,7 +71,7 @@ pub fn posted(rt: &impl Abort, session: &Session, status: u8, bytes: &[u8], plac
     );
 }
 
-/// Ends the test where the session did not end well, or posted other records than these.
+/// Ends the test if the session did not end well, or posted other records than these.
 pub fn answered(
     rt: &impl Abort,
     alloc: Global,
@@ -82,13 +83,13 @@ pub fn answered(
     posted(rt, session, DONE, &want, place);
 }
 
-/// Ends the test where the session made another number of programs or of erases.
+/// Ends the test if the session made another number of programs or of erases.
 pub fn wrote(rt: &impl Abort, session: &Session, programs: u64, erases: u64) {
     same(rt, session.flash.program_count(), programs, "programs");
     same(rt, session.flash.erase_count(), erases, "erases");
 }
 
-/// The board behind a session that is to end well.
+/// The board after a session that has to end well.
 pub fn ended_well(rt: &impl Abort, session: Session, place: Place) -> Flash {
     ended(rt, &session, DONE, place);
     session.flash
@@ -187,7 +188,7 @@ pub fn serve(alloc: Global, flash: Flash) -> Session {
     serve_with(alloc, flash, "36")
 }
 
-/// The session of a board's input, with so many frames.
+/// The session of a board's input, with this many frames.
 pub fn serve_with(alloc: Global, mut flash: Flash, frames: &str) -> Session {
     let status = Pink::run(alloc, &["serve", frames], &mut flash);
     Session { status, flash }
@@ -210,7 +211,7 @@ pub fn pages_left(rt: &impl Abort, alloc: Global, flash: &Flash) -> Vec<PageStat
     done(rt, pk_sessions::boards::pages_left(alloc, flash))
 }
 
-/// The pages behind the first k marks, of which the next, where there is one, leaves this.
+/// The pages after the first k marks, of which the next, if there is one, leaves this.
 pub fn cut(rt: &impl Abort, alloc: Global, flash: &Flash, k: usize, left: &Left) -> Vec<PageState> {
     done(rt, pk_sessions::boards::cut(alloc, flash, k, left))
 }

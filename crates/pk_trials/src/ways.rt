@@ -27,7 +27,7 @@ fn page_left(number: u32) -> EraseLeft {
     }
 }
 
-// For each page of this block whether it is Whole behind the first k marks.
+// For each page of this block whether it is Whole after the first k marks.
 fn wholes(rt: &impl Abort, alloc: Global, flash: &Flash, k: usize, block: u32) -> Vec<bool> {
     let pages = cut(rt, alloc, flash, k, &Left::Untouched);
     let shape = flash.shape().expect(rt, "a shape");
@@ -42,7 +42,7 @@ fn wholes(rt: &impl Abort, alloc: Global, flash: &Flash, k: usize, block: u32) -
     wholes
 }
 
-// The same of the block that the mark with this number erases; no page where it erases none.
+// The same of the block that the mark with this number erases; no page if it erases none.
 fn wholes_of_erase(rt: &impl Abort, alloc: Global, flash: &Flash, k: usize) -> Vec<bool> {
     if k < flash.marks() {
         if let Mark::Erase { block } = flash.mark(k) {
@@ -64,8 +64,8 @@ fn left_of_program(way: u32, is_second: bool) -> Left {
     }
 }
 
-// In how many ways an interrupted erase may leave a block. A Whole page may stay, be Erased or be Torn; another one stays only as one
-// of the two that an erase may make of it.
+// In how many ways an interrupted erase may leave a block. A Whole page may be unchanged, Erased or
+// Torn; another one remains only as one of the two that an erase may make of it.
 fn ways_of_block(wholes: &[bool]) -> u32 {
     let mut count = 1u32;
     for is_whole in wholes {
@@ -98,7 +98,8 @@ impl Ways {
         }
     }
 
-    /// What the way with this number leaves: of an erased block each page as it was, Erased or Torn.
+    /// What the way with this number leaves: of an erased block each page unchanged, Erased or
+    /// Torn.
     pub fn left(&self, rt: &impl Abort, alloc: Global, way: u32) -> Left {
         if self.wholes.is_empty() {
             return left_of_program(way, self.is_second);

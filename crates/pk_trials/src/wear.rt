@@ -16,7 +16,7 @@ const STORES: [Ask; 2] = [
 
 const ANSWERS: [Answer; 2] = [Answer::Done, Answer::Done];
 
-// The root in this page with this number, which stands at its byte 24.
+// The root in this page with this number, which is at its byte 24.
 fn root_with(
     rt: &impl Abort,
     alloc: Global,

@@ -117,7 +117,8 @@ fn texts(rt: HostRuntime) {
 
 // ---- on a drive
 
-// What `stat` says behind a Store of three bytes, one of no byte, and a Delete of the other key, each in a session of its own.
+// What `stat` prints after a Store of three bytes, one of no byte, and a Delete of the other key,
+// each in a session of its own.
 const NUMBERS: &[u8] =
     b"live 2\nlimit 492\nkeys 1\npinned 2\nframes 36\nleased 1\nactive 1\nfrozen 1\n\
     run1 1\nrun2 0\nrun3 0\nrun4 0\nepoch 1\nblocks 1\nready 0\nmerge 0\n";
@@ -135,7 +136,7 @@ fn session_of(rt: &impl Abort, alloc: Global, pages: Vec<PageState>, words: &str
     run_words(rt, alloc, words, flash)
 }
 
-// The pages behind a word.
+// The pages after a word.
 fn behind(rt: &impl Abort, alloc: Global, pages: Vec<PageState>, said: &Said) -> Vec<PageState> {
     let session = session_of(rt, alloc, pages, said.words);
     posted(rt, &session, DONE, said.text, Place::Named(said.words));
@@ -214,12 +215,12 @@ fn words_that_ask(rt: HostRuntime) {
     }
 }
 
-// The pages of a drive with the key `a`, whose value stands in page 32.
+// The pages of a drive with the key `a`, whose value is in page 32.
 fn with_one_key(rt: &impl Abort, alloc: Global) -> Vec<PageState> {
     behind(rt, alloc, made(rt, alloc, &MAKE_WORKED), &SAID[0])
 }
 
-// Words, of which the first call behind opening fails: their status and text.
+// Words, of which the first call after opening fails: their status and text.
 #[derive(Clone, Copy)]
 struct Failing {
     words: &'static str,
@@ -255,8 +256,8 @@ const FAILING: [Failing; 5] = [
     },
 ];
 
-/// A read that fails behind opening is told, and so is an output that fails. How many reads open the drive is told by a Report, which
-/// reads no page.
+/// A read that fails after opening is reported, and so is an output that fails. How many reads open
+/// the drive follows from a Report, which reads no page.
 #[test]
 fn words_that_fail(rt: HostRuntime) {
     let alloc = rt.alloc();

@@ -39,7 +39,7 @@ entries_some shape is = let page : 512 ≤ shape.page_bytes = is.page_least in o
 pub page_exists : (r : Kept) (place : ℕ) → IsShape r.shape → IsKept r → place < r.count → place / page_entries r.shape < length r.firsts
 page_exists r place is kept h = (div-lt_iff_lt-mul (entries_some r.shape is)).1 (omega (arith, h, kept.entries))
 
--- where the pages end that were come past
+-- where the pages end that were passed
 module _ (loaded place size stop : ℕ) (is : loaded ≡ suc (place / size)) (far : stop ≡ loaded * size) where
   stops : stop ≡ place / size * size + size
   stops = far ∙ ap (λ (n : ℕ). n * size) is ∙ suc-mul (place / size) size
@@ -51,7 +51,7 @@ module _ (loaded place size stop : ℕ) (is : loaded ≡ suc (place / size)) (fa
   pub before_place : stop - size ≤ place
   before_place = let e = stops in let at = div-add-mod' place size in omega (arith, e, at)
 
-  -- so the place in the page is what is left
+  -- so the place in the page is what remains
   pub in_page : place - (stop - size) ≡ place % size
   in_page = let e = stops in let at = div-add-mod' place size in omega (arith, e, at)
 
@@ -107,7 +107,7 @@ seen_nowhere [] i e = omega arith
 seen_nowhere (l ∷ leases) zero e = cc
 seen_nowhere (l ∷ leases) (suc i) e = omega (arith, seen_nowhere leases i e)
 
--- where a page has a frame, the run has frames
+-- if a page has a frame, the run has frames
 pub has_frames : (leases : List ℕ) (i lease : ℕ) → slice_get leases i ≡ Some lease → leases ≡ [] → ⊥
 has_frames [] i lease got none = cc
 has_frames (l ∷ leases) i lease got none = cc
@@ -124,7 +124,7 @@ page_seen r flash arena es c p s exists loaded own =
     let same : p ≡ c.loaded - 1 = omega (arith, loaded) in
     subst (λ (n : ℕ). page_at flash (page_of r p) ≡ whole (seen_bytes c.bytes arena (slice_get r.leases n))) same (seen_page r flash arena es s c.bytes p exists own (slice_get r.leases p) refl)
 
--- where it has a frame nothing is read
+-- if it has a frame nothing is read
 pub come_pinned : (leases : List ℕ) (p lease a b : ℕ) (old : BoardState) → slice_get leases p ≡ Some lease → Reads (read_of leases a) (read_of leases b) old old
 come_pinned [] p lease a b old got = cc
 come_pinned (l ∷ leases) p lease a b old got = (0, omega arith, refl)
@@ -164,7 +164,7 @@ module _ (flash : Flash) (r : Kept) (es : List Entry) (position : Position) (c :
     sure = λ has. let some = (f.sure has).0 in absurd (omega (arith, none, some));
   }
 
--- where the first wanted entry has to be looked for
+-- if the first wanted entry has to be looked for
 pub sought_left : (flash : Flash) (r : Kept) (es : List Entry) (position : Position) (c : Cursor) → Follows flash r es position c → c.head ≡ None → wanted (is_wanted position) es ≡ wanted (is_wanted position) (drop c.place es)
 sought_left flash r es position c f sought = subst (λ (h : Head). wanted (is_wanted position) es ≡ held h ++ wanted (is_wanted position) (drop c.place es)) sought f.left
 
@@ -182,7 +182,7 @@ stays_loaded flash r c d is exists here moved = record {
   follows = λ es position f. subst (Follows flash r es position) (sym moved) (Follows-loaded flash r es position c is f d.bytes exists here);
 }
 
--- and without it, where it could not be read
+-- and without it, if it could not be read
 pub stays_failed : (flash : Flash) (r : Kept) (c d : Cursor) (p : ℕ) → IsShape r.shape → p ≡ c.place / page_entries r.shape → c.loaded ≤ p → d ≡ record c { bytes = d.bytes } → StaysAt flash r c d
 stays_failed flash r c d p is same before kept = record {
   place = kept ∙ (λ i. record c { loaded = (sym kept i).loaded; bytes = d.bytes });
@@ -266,7 +266,7 @@ looked (l ∷ leases) loaded p old new h e = (0, omega arith, e)
 
 -- ---- a cursor that skips no page
 
--- the page of its place is the one behind those that it has come past, or one of them
+-- the page of its place is the one after those that it has passed, or one of them
 pub page_comes : (c : Cursor) → HasPassed c → c.place / page_entries c.shape ≤ c.loaded
 page_comes c passed = div-le_of_le-mul (page_entries c.shape) (omega (arith, passed))
 
@@ -284,7 +284,7 @@ pub looked_all : (leases : List ℕ) (loaded p : ℕ) (old new : BoardState) →
 looked_all [] loaded p old new h e = (1, omega (arith, h), e)
 looked_all (l ∷ leases) loaded p old new h e = (0, omega arith, e)
 
--- behind a look at the page of its place
+-- after a look at the page of its place
 pub head_here : (r : Kept) (c d : Cursor) → IsShape r.shape → c.shape ≡ r.shape → d ≡ record c { loaded = suc (c.place / page_entries r.shape); bytes = d.bytes } → d.place < d.loaded * page_entries d.shape
 head_here r c d is same moved =
     subst (λ (x : Cursor). x.place < x.loaded * page_entries x.shape) (sym moved)
@@ -302,7 +302,7 @@ ceil_most x y k some room =
     let less : div_ceil x y < suc k = lt_of_mul-lt-mul_right y few in
     omega arith
 
--- behind the last entry it has come past each page
+-- after the last entry it has passed each page
 pub all_come : (r : Kept) (flash : Flash) (arena : Frames) (es : List Entry) (position : Position) (c : Cursor) → IsShape r.shape → c.shape ≡ r.shape → RunOnFlash r flash arena es → Follows flash r es position c
     → r.count ≤ c.place → HasPassed c → c.loaded ≡ length r.firsts
 all_come r flash arena es position c is same s f past passed =

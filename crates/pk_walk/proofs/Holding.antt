@@ -1,4 +1,4 @@
--- A cursor that knows the first wanted entry of its run, and stands behind it.
+-- A cursor that knows the first wanted entry of its run, and is after it.
 use Rattle.std.proofs.Common.{◌≡◌, ℕ, zero, suc, ◌*◌, ◌/◌, ◌%◌, ◌<◌, ◌≤◌, refl, sym, ap, subst, ◌∙◌, arith, Bool, true, false, if◌then◌else◌, T, is_some, List, [], ◌∷◌, drop, slice_get, option_map, Option, Some, None, div-lt_iff_lt-mul}
 use Rattle.std.specs.Option.{IsSome}
 use Rattle.std.proofs.lemmas.Nat.{div-add-mod', le-div}
@@ -39,7 +39,7 @@ rises (y ∷ es) n zero e x up less got next = absurd (omega (arith, less))
 rises (y ∷ es) zero (suc i) e x up less got next = subst (λ (z : Entry). key_cmp z.0 x.0 ≡ Less) (same_entry y e got) (above_at y.0 es i x (left_part _ _ up) next)
 rises (y ∷ es) (suc n) (suc i) e x up less got next = rises es n i e x (right_part _ _ up) (omega (arith, less)) got next
 
--- what was found at the place is held, and the cursor goes behind it
+-- what was found at the place is held, and the cursor goes past it
 pub holds_entry : (r : Kept) (flash : Flash) (arena : Frames) (es : List Entry) (position : Position) (d : Cursor) (e : Entry) → IsShape r.shape → RunOnFlash r flash arena es → Follows flash r es position d
     → d.head ≡ None → IsAt r flash arena d e → Some e ≡ first_of (wanted (is_wanted position) es) → Follows flash r es position (holding (Some e) d)
 holds_entry r flash arena es position d e is s f sought at found =
@@ -150,12 +150,12 @@ module _ (r : Kept) (arena : Frames) (position : Position) (old : BoardState) (c
           let one : T (is_wanted position (seen e).0) = subst (λ (h : Head). IsNext position h (seen e)) sought next in
           first_here (is_wanted position) es c.place (seen e) (there es s) (is_true _ one) (sought_left old.pages r es position c f sought)
 
--- where it is not known it has to be looked for
+-- if it is not known it has to be looked for
 pub unknown : (h : Head) → is_some h ≡ false → h ≡ None
 unknown None e = refl
 unknown (Some found) e = cc
 
--- there is room behind an entry
+-- there is room after an entry
 pub place_fits : (r : Kept) (arena : Frames) (position : Position) (old new : BoardState) (c d : Cursor) (answer : Option RustEntry) → FindsIn r arena position old new c d answer → IsSome answer → d.place < r.count
 place_fits r arena position old new c d None f some = cc
 place_fits r arena position old new c d (Some e) f some = (f.at e refl).inside

@@ -1,4 +1,4 @@
--- The orders that are kept from one key to the next hold as long as their entries stay.
+-- The orders that are kept from one key to the next hold as long as their entries are unchanged.
 use Rattle.std.proofs.Common.{◌≡◌, refl, sym, ap, subst, ◌∙◌, arith, List, [], ◌∷◌, ◌++◌, length, Option, Some, None}
 use Rattle.std.specs.Prelude.{⊤, IfSome}
 use Rattle.std.specs.List.{AllByRecursion}
@@ -39,7 +39,7 @@ pub is_kept : (hs : List Head) (u h : RustHead) (k : Option Ordering) → own u 
 is_kept hs u h None top kept = tt
 is_kept hs u h (Some o) top kept = kept.is ∙ ap (λ (l : Option Entry). order_of l (own h)) (sym top)
 
--- ---- entries that were known are as they were
+-- ---- entries that were known are unchanged
 
 abbrev pub Stay : List Head → List Head → Type 0
 Stay [] [] = ⊤
@@ -110,7 +110,7 @@ top_stays found None settled = cc
 top_stays found (Some first) settled = refl
 
 module _ (rs : List Kept) (arena : Frames) (active frozen : List Entry) (shape : Shape) (old new : BoardState) (w : Walk) (t : Tops) (ds : List Cursor) (at : Learned rs arena active frozen shape old new w t ds) where
-  -- all entries are known behind it
+  -- all entries are known after it
   pub learned_settled : AllByRecursion IsSettled (heads_in t ds)
   learned_settled = (
     subst (λ (x : Tops). IsSettled x.active) (sym at.known) (top_settled _ w.tops.active),
@@ -127,7 +127,7 @@ module _ (rs : List Kept) (arena : Frames) (active frozen : List Entry) (shape :
       )
       (learned_settled.0, tt) learned_settled.1 kept
 
--- ---- behind the least
+-- ---- after the least
 
 module _ (t : Tops) (c1 c2 c3 c4 : Cursor) (o : RustOrders) (are : AreOrders t.active t.frozen c1.head c2.head c3.head c4.head o) (s : AllByRecursion IsSettled (heads_in t (c1 ∷ c2 ∷ c3 ∷ c4 ∷ []))) where
   frozen_order : IsOrder (t.active ∷ []) t.frozen o.frozen
@@ -142,7 +142,7 @@ module _ (t : Tops) (c1 c2 c3 c4 : Cursor) (o : RustOrders) (are : AreOrders t.a
   third_order : IsOrder (t.active ∷ t.frozen ∷ c1.head ∷ c2.head ∷ []) c3.head o.third
   third_order = record { before = (s.0, (s.1.0, (s.1.1.0, (s.1.1.1.0, tt)))); settled = s.1.1.1.1.0; is = are.third_is }
 
-  -- those of the sources before the one that goes on stay
+  -- those of the sources before the one that goes on are unchanged
   module _ (k : RustKeptOrders) where
     pub before_fourth : (d4 : Cursor) → as_list k ≡ Some o.frozen ∷ Some o.first ∷ Some o.second ∷ Some o.third ∷ None ∷ [] → AreKept t (c1 ∷ c2 ∷ c3 ∷ d4 ∷ []) k
     before_fourth d4 is = subst (EachKept (t.active ∷ []) (t.frozen ∷ c1.head ∷ c2.head ∷ c3.head ∷ d4.head ∷ [])) (sym is) (frozen_order, (first_order, (second_order, (third_order, (tt, tt)))))

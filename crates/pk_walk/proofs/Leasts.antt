@@ -1,4 +1,4 @@
--- The least of several first wanted entries: by how each stands to the least of those before it, and which of them go with it.
+-- The least of several first wanted entries: by how each compares with the least of those before it, and which of them go with it.
 use Rattle.std.proofs.Common.{◌≡◌, refl, sym, ap, subst, ◌∙◌, Bool, true, false, if◌then◌else◌, List, [], ◌∷◌, ◌++◌, Option, Some, None}
 use Rattle.std.specs.Prelude.{⊤}
 use Rattle.std.specs.Ordering.{is_gt, is_eq}
@@ -18,7 +18,7 @@ pub lesser_none : (a : Option Entry) → lesser a None ≡ a
 lesser_none None = refl
 lesser_none (Some x) = refl
 
--- by how they stand
+-- by how they compare
 pub lesser_is : (a b : Option Entry) → lesser a b ≡ (if is_gt (order_of a b) then b else a)
 lesser_is None None = refl
 lesser_is None (Some y) = refl
@@ -46,7 +46,7 @@ lesser_assoc (Some x) None c = refl
 lesser_assoc (Some x) (Some y) None = lesser_none (lesser (Some x) (Some y))
 lesser_assoc (Some x) (Some y) (Some z) = three x y z (key_cmp x.0 y.0) (key_cmp y.0 z.0) (key_cmp x.0 z.0) refl refl refl
 
--- with one more behind them
+-- with one more after them
 pub least_more : (hs : List Head) (h : Head) → least_of (hs ++ h ∷ []) ≡ lesser (least_of hs) (entry_in h)
 least_more [] h = lesser_none (entry_in h)
 least_more (x ∷ hs) h = ap (lesser (entry_in x)) (least_more hs h) ∙ sym (lesser_assoc (entry_in x) (least_of hs) (entry_in h))
@@ -85,7 +85,7 @@ taken (Some (Some e)) = itself e
 pub take_first : (h : Head) → Takes (h ∷ []) (let_go h ∷ []) (entry_in h)
 take_first h = record { least = sym (lesser_none (entry_in h)); go = (taken h, tt) }
 
--- where the lesser of two is above an entry both are
+-- if the lesser of two is above an entry both are
 above_both : (a b : Option Entry) (e : Entry) → order_of (lesser a b) (Some e) ≡ Greater → (order_of a (Some e) ≡ Greater) × (order_of b (Some e) ≡ Greater)
 above_both None b e gt = (refl, gt)
 above_both (Some x) None e gt = (gt, refl)

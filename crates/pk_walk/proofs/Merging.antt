@@ -1,4 +1,4 @@
--- The first wanted entry of sorted lists in a row is the least of the first wanted entries of each.
+-- The first wanted entry of several sorted lists is the least of the first wanted entries of each.
 use Rattle.std.proofs.Common.{◌≡◌, refl, sym, ap, subst, ◌∙◌, Bool, true, false, cond, T, if◌then◌else◌, List, [], ◌∷◌, ◌++◌, Option, Some, None}
 use Rattle.std.specs.Prelude.{⊤}
 use Rattle.std.specs.List.{flat_map}
@@ -146,7 +146,7 @@ module _ (f g : Key → Option (Option Place)) (w : Key → Bool) where
             from_either (f k) (g k) v found ⊥ (λ u there. p.2 k u is there (key_total.trans k y.0 x.0 low lower)) (λ there. q.2 k v is there low),
       )
 
-  -- the least of two lists in a row is the lesser
+  -- the least of two lists together is the lesser
   pub least_of_both : (a b : Option Entry) → IsLeast f w a → IsLeast g w b → IsLeast either w (lesser a b)
   least_of_both None b p q = agree g either w b (λ k is. sym (none_left (f k) (g k) (p k is))) q
   least_of_both (Some x) None p q = agree f either w (Some x) (λ k is. none_right (f k) (g k) (q k is)) p
@@ -170,7 +170,7 @@ abbrev pub EachSorted : List (List Entry) → Type 0
 EachSorted [] = ⊤
 EachSorted (es ∷ ess) = T (is_sorted key_cmp es) × EachSorted ess
 
--- of several lists in a row
+-- of several lists together
 pub first_of_lists : (w : Key → Bool) (lists : List (List Entry)) → EachSorted lists → first_of (wanted w (firsts (flat_map (λ es. es) lists))) ≡ least_first w lists
 first_of_lists w [] up = refl
 first_of_lists w (es ∷ ess) up = first_of_row w es (flat_map (λ es. es) ess) up.0 ∙ ap (lesser (first_of (wanted w es))) (first_of_lists w ess up.1)

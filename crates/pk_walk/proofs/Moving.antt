@@ -152,7 +152,7 @@ module _ (r : Kept) (flash : Flash) (arena : Frames) (es : List Entry) (is : IsS
     pub moved_forth : c.place ≤ d.place
     moved_forth = let forth = first.forth in let place = place_is in let to = moved_to in omega (arith, place, forth, to)
 
-    -- it goes behind the page at most
+    -- it passes the page at most
     pub moved_within : d.place ≤ d.loaded * page_entries d.shape
     moved_within =
         let most = first.most in
@@ -192,7 +192,7 @@ module _ (r : Kept) (flash : Flash) (arena : Frames) (es : List Entry) (is : IsS
           (omega (arith, some, loaded), λ i e le got. subst (λ (h : Head). IsNext position h e) (sym (ap (λ (x : Cursor). x.head) m.cursor)) (before.1 i e (omega (arith, forth, le)) got));
     }
 
-    -- where a wanted entry was found it has the page of its place still
+    -- if a wanted entry was found it has the page of its place still
     module _ (there : found ≡ true) where
       within : m.to < number_at 2 10 (bytes_in r arena c)
       within = ltb-true m.to (number_at 2 10 (bytes_in r arena c)) (sym m.tells ∙ there)
@@ -217,7 +217,7 @@ module _ (r : Kept) (flash : Flash) (arena : Frames) (es : List Entry) (is : IsS
       pub found_wanted : (e : Entry) → slice_get es d.place ≡ Some e → is_wanted position e.0 ≡ true
       found_wanted e got = ap (is_wanted position) (key_there m.to e within (ap (slice_get es) (sym moved_to) ∙ got)) ∙ first.at within
 
-    -- else it went on
+    -- otherwise it went on
     pub none_forth : found ≡ false → c.place < d.place
     none_forth none =
         let least = ltb-false m.to (number_at 2 10 (bytes_in r arena c)) (sym m.tells ∙ none) in

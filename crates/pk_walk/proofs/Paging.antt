@@ -1,4 +1,4 @@
--- The wanted entries of a page: they stand behind those that are not, and a search among them.
+-- The wanted entries of a page: they are after those that are not, and a search among them.
 use Rattle.std.proofs.Common.{◌≡◌, ℕ, ◌+◌, ◌<◌, ◌≤◌, subst, arith, Bool, true, false, T, List, refl}
 use Rattle.std.specs.declared.cmp.Ordering.{Ordering}
 use Rattle.std.specs.declared.cmp.Ordering.TheVariants.{Less, Equal, Greater}
@@ -29,7 +29,7 @@ module _ (g : Shape) (page : List ℕ) (shape : IsShape g) (decodes : Decodes g 
       let past = to_left g page key shape decodes 0 (number_at 2 10 page) i (all_of key page) (omega arith) (omega (arith, le, less)) gt in
       greater_equal (key_cmp key key) (past.above j le less) (tied_itself key_total key)
 
-  -- behind a wanted key all are wanted
+  -- after a wanted key all are wanted
   page_upward : (position : Position) (i j : ℕ) → i ≤ j → j < number_at 2 10 page → T (is_wanted position (place_key page i)) → T (is_wanted position (place_key page j))
   page_upward position i j le less one =
       elim (key_cmp (place_key page i) (place_key page j)) as (λ o. key_cmp (place_key page i) (place_key page j) ≡ o → T (is_wanted position (place_key page j))) [
@@ -74,7 +74,7 @@ module _ (position : Position) (page : List ℕ) (from low high middle : ℕ) (s
     at = λ inside. one;
   }
 
-  -- it is behind the middle
+  -- it is after the middle
   pub Sought-right : (g : Shape) → IsShape g → Decodes g page → is_wanted position (place_key page middle) ≡ false → Sought position page from (middle + 1) high
   Sought-right g shape decodes none = record {
     forth = (let forth = s.forth in omega (arith, forth, within));

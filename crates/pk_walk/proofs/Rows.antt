@@ -192,7 +192,7 @@ module _ (levels : Levels) (arena : Frames) (position : Position) (old now : Boa
             all = λ none before. (passed_next passed none before, all_next every none before);
           }
 
-      -- where a read failed, the cursors go on from where they stand
+      -- if a read failed, the cursors go on from where they are
       pub Rows-stays : (SkipsNoPage position → HasPassed c → HasPassed d) → GoOn old.pages arena levels.shape levels.runs position first (slice_set cs i d)
       Rows-stays passed = record {
         follow = λ ess s. subst (λ (xss : List (List Entry)). FollowEach old.pages levels.runs xss position (slice_set cs i d)) (one_each levels.runs old.pages at.ess ess at.stand s) follow_next;
@@ -207,7 +207,7 @@ module _ (levels : Levels) (arena : Frames) (position : Position) (old now : Boa
           let all = ap (λ (b : BoardState). after_reads k b) at.reads.2 ∙ reads_more k at.reads.0 old in
           (k + at.reads.0, page, omega (arith, e, h, few), subst (λ (b : BoardState). ReadFailed b next page) all failed)
 
--- ---- none is left
+-- ---- none remains
 
 -- the cursor of a run has come past all its pages
 abbrev pub HasEnded : List Kept → List Cursor → ℕ → Type 0

@@ -137,11 +137,11 @@ module _ (r : Kept) (arena : Frames) (position : Position) (old : BoardState) (f
           loaded = subst (λ (n : ℕ). d.loaded ≡ suc (n / page_entries r.shape)) place looks.loaded;
         }
 
-    -- the cursor goes on from where it has come
+    -- the cursor goes on from the place that it has reached
     pub Seeking-goes_on : GoesOn old.pages arena r position first c
     Seeking-goes_on = record { follows = follows_any; shape = at.shape; passed = λ none before. (at.all none before).0 }
 
-    -- and where no page could be read, it stands as before
+    -- and if no page could be read, it is as before
     follows_failed : (d : Cursor) → ((es : List Entry) (p : Position) → Follows now.pages r es p c → Follows now.pages r es p d)
         → (es : List Entry) → RunOnFlash r old.pages arena es → Follows old.pages r es position d
     follows_failed d moved es s =
@@ -160,11 +160,11 @@ module _ (r : Kept) (arena : Frames) (position : Position) (old : BoardState) (f
         subst (λ (n : ℕ). ReadsFail (read_of r.leases first.loaded) (read_of r.leases n) old next) (sym fails.kept)
         (Reads-failed _ _ old now next (page_of r (c.place / page_entries r.shape)) at.reads fails.failed)
 
-    -- behind all entries it has come past all pages
+    -- after all entries it has passed all pages
     pub Seeking-ended : IsShape r.shape → first.shape ≡ r.shape → r.count ≤ c.place → SkipsNoPage position → HasPassed first → c.loaded ≡ length r.firsts
     Seeking-ended is same past none before = all_come r old.pages arena at.es position c is (at.shape ∙ same) at.stands at.follows past (at.all none before).0
 
-    -- no entry is left
+    -- no entry remains
     pub Seeking-none : IsShape r.shape → first.shape ≡ r.shape → r.count ≤ c.place → FindsIn r arena position old now first c None
     Seeking-none is same past = record {
       found = λ es s. Seeking-end es s past;

@@ -1,4 +1,4 @@
--- The least entry of a walk's sources is taken: how they stand, and what is left of them.
+-- The least entry of a walk's sources is taken: how they compare, and what remains of them.
 use Rattle.std.proofs.Common.{◌≡◌, refl, sym, ap, subst, ◌∙◌, Bool, true, false, if◌then◌else◌, List, [], ◌∷◌, ◌++◌, Option, Some, None}
 use Rattle.std.specs.Ordering.{is_gt, is_eq}
 use Rattle.std.specs.declared.cmp.Ordering.{Ordering}
@@ -11,7 +11,7 @@ use Rattle.pk_walk.specs.Walking.{Cursor, Tops}
 use Rattle.pk_walk.specs.Steps.{AreOrders, GoBehind}
 use Rattle.pk_walk.proofs.Leasts.{GoEach, Takes, least_more, lesser_is, lesser_none, take_before, take_first, take_last}
 
--- ---- how they stand
+-- ---- how they compare
 
 -- the entry that memory has
 abbrev pub own : RustHead → Option Entry
@@ -32,7 +32,7 @@ lead hs u h x o top is pick =
 pub stands_to : (hs : List Head) (u h : RustHead) (o : Ordering) → own u ≡ least_of hs → o ≡ order_of (own u) (own h) → o ≡ order_of (least_of hs) (own h)
 stands_to hs u h o top is = is ∙ ap (λ (l : Option Entry). order_of l (own h)) top
 
--- ---- what is left of them
+-- ---- what remains of them
 
 -- those of its key are let go
 abbrev pub kept_by : Ordering → Head → Head
@@ -61,7 +61,7 @@ module _ (t : Tops) (c1 c2 c3 c4 : Cursor) (o : RustOrders) (are : AreOrders t.a
             ∙ (λ i. record c1 { head = p.1.1.0 i } ∷ record c2 { head = p.1.1.1.0 i } ∷ record c3 { head = p.1.1.1.1.0 i } ∷ record c4 { head = p.1.1.1.1.1.0 i } ∷ []),
       )
 
-  -- where the entry of the fourth run is the least, or one before it is
+  -- if the entry of the fourth run is the least, or one before it is
   fourth_kept : (ks : List Head) (a : Option Entry) → is_gt o.fourth ≡ false → Takes (t.active ∷ t.frozen ∷ c1.head ∷ c2.head ∷ c3.head ∷ []) ks a → Takes heads (ks ++ kept_by o.fourth c4.head ∷ []) a
   fourth_kept ks a before takes = take_before (t.active ∷ t.frozen ∷ c1.head ∷ c2.head ∷ c3.head ∷ []) ks a c4.head o.fourth are.fourth_is before takes
 

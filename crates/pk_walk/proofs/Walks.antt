@@ -1,4 +1,4 @@
--- A walk over all lists: what a step leaves, and what is left behind several.
+-- A walk over all lists: what a step leaves, and what remains after several.
 use Rattle.std.proofs.Common.{◌≡◌, ℕ, suc, ◌+◌, ◌<◌, ◌≤◌, refl, sym, ap, subst, ◌∙◌, arith, Bool, true, false, if◌then◌else◌, T, is_some, option_map, List, [], ◌∷◌, ◌++◌, length, drop, Option, Some, None, Result, Ok, Err}
 use Rattle.std.specs.List.{AllByRecursion, flat_map}
 use Rattle.std.specs.Ordering.{is_eq, is_gt}
@@ -34,7 +34,7 @@ use Rattle.pk_walk.proofs.Leasts.{NotBelow, NoneBelow, none_below}
 use Rattle.pk_walk.proofs.Following.{Follows-above, Follows-start}
 use Rattle.pk_walk.proofs.Seeking.{Reads-none, Reads-more, Reads-pages, ReadsAll-none, ReadsAll-more, no_answer, one_list}
 
--- ---- lists of runs that stand
+-- ---- lists of runs that match the flash
 
 pub each_rises : (flash : Flash) (arena : Frames) (rs : List Kept) (ess : List (List Entry)) → RunsOnFlash flash arena rs ess → EachSorted ess
 each_rises flash arena [] [] s = tt
@@ -105,7 +105,7 @@ shows_known : (es : List Entry) (position : Position) (h : Head) → Shows es po
 shows_known es position None shows = refl
 shows_known es position (Some found) shows = shows
 
--- where there is no least there is none of all
+-- if there is no least there is none of all
 neither : (a b : Option Entry) → None ≡ lesser a b → (a ≡ None) × (b ≡ None)
 neither None b e = (refl, sym e)
 neither (Some x) None e = cc
@@ -177,7 +177,7 @@ step_shows position key es (Some (Some e)) one low shows =
 pub step_wanted : (position : Position) (lists : List (List Entry)) (e : RustEntry) → Some (seen e) ≡ first_of (all_left position lists) → T (is_wanted position (key_of (seen e)))
 step_wanted position lists e is = first_wanted (is_wanted position) (firsts (flat_map (λ es. es) lists)) (seen e) (sym is)
 
--- the pages that were come past stay so
+-- the pages that were passed stay so
 behind_read : (key : Key) (rs : List Kept) (cs : List Cursor) → pages_read rs (cursors_behind key cs) ≡ pages_read rs cs
 behind_read key [] cs = refl
 behind_read key (r ∷ rs) [] = refl
@@ -200,7 +200,7 @@ is_walk_behind shape own position tops t u ds cs a go are same four = record { f
     each None go = subst (AreOfShape shape) (sym go.1) are
     each (Some e) go = subst (AreOfShape shape) (sym go.1) (behind_shape shape e.0 ds are)
 
--- What a step learned at a walk's position, and where it left the cursors.
+-- What a step learned at a walk's position, and how it left the cursors.
 pub record Learned (rs : List Kept) (arena : Frames) (active frozen : List Entry) (shape : Shape) (old new : BoardState) (w : Walk) (t : Tops) (ds : List Cursor) : Type 0 where
   pub on : GoOn old.pages arena shape rs w.position w.cursors ds
   pub shows : ShowsEach rs w.position old new w.cursors ds
@@ -221,7 +221,7 @@ module _ (rs : List Kept) (arena : Frames) (active frozen : List Entry) (shape :
       (ap (λ (x : Tops). entry_in x.active) at.known ∙ known_top active w.position w.tops.active at.before.0) (ap (λ (x : Tops). entry_in x.frozen) at.known ∙ known_top frozen w.position w.tops.frozen at.before.1)
       (known_least old.pages arena w.position rs ess ds at.many s (at.on.follow ess s) at.shows.known) least
 
-  -- the walk goes behind an entry
+  -- the walk moves past an entry
   module _ (e : RustEntry) (key : Key) (of_entry : key ≡ key_of (seen e)) (least : Some (seen e) ≡ least_of (heads_in t ds)) (u : Tops) (cs : List Cursor) (go : GoBehind (Some (seen e)) t ds u cs) where
     read_same : pages_read rs cs ≡ pages_read rs ds
     read_same = ap (pages_read rs) go.1 ∙ behind_read (key_of (seen e)) rs ds
@@ -277,7 +277,7 @@ module _ (rs : List Kept) (arena : Frames) (active frozen : List Entry) (shape :
           ap (pages_read rs) go.1 ∙ at.shows.ended (all_none ds (sym deep.1) at.shows.known) none.position none.passed;
     }
 
-  -- whatever it was, the walk goes behind it
+  -- whatever it was, the walk moves past it
   pub comes_to_found : (a : Option RustEntry) (p : Position) → p ≡ behind_found (option_map seen a) w.position → option_map seen a ≡ least_of (heads_in t ds) → (u : Tops) (cs : List Cursor) → GoBehind (option_map seen a) t ds u cs
       → Comes rs arena active frozen old new w (record w { position = p; tops = u; cursors = cs }) a
   comes_to_found None p is least u cs go = subst (λ (q : Position). Comes rs arena active frozen old new w (record w { position = q; tops = u; cursors = cs }) None) (sym is) (comes_to_none least u cs go)
@@ -297,9 +297,9 @@ walks_failed rs arena active frozen shape flash w t ds on same before = record {
   skips_none = λ none. record { position = none.position; passed = on.passed none.position none.passed };
 }
 
--- ---- what is left
+-- ---- what remains
 
--- the keys that are left are those of the entries that are
+-- the remaining keys are those of the remaining entries
 left_is : (position : Position) (lists : List (List Entry)) → wanted (is_wanted position) (visible lists) ≡ placed (all_left position lists)
 left_is position lists = placed_wanted (is_wanted position) (firsts (flat_map (λ es. es) lists))
 
@@ -324,7 +324,7 @@ start_follow flash position (r ∷ rs) [] cs = tt
 start_follow flash position (r ∷ rs) (es ∷ ess) [] = tt
 start_follow flash position (r ∷ rs) (es ∷ ess) (c ∷ cs) = (Follows-start flash r es position c, start_follow flash position rs ess cs)
 
--- at the start all wanted keys are left
+-- at the start all wanted keys remain
 pub start_left : (w : Walk) (cs : List Cursor) → w.cursors ≡ all_at_start cs → w.tops ≡ none_known → (flash : Flash) (arena : Frames) (rs : List Kept) (active frozen : List Entry) (ess : List (List Entry)) → RunsOnFlash flash arena rs ess
     → IsLeft w flash arena rs active frozen (wanted (is_wanted w.position) (visible (active ∷ frozen ∷ ess)))
 start_left w cs same unknown flash arena rs active frozen ess stand = record {
@@ -363,7 +363,7 @@ all_wanted : (xs : List (Key × Place)) → wanted (is_wanted First) xs ≡ xs
 all_wanted [] = refl
 all_wanted (x ∷ xs) = ap (λ (ys : List (Key × Place)). x ∷ ys) (all_wanted xs)
 
--- from the first key on all keys are left
+-- from the first key on all keys remain
 pub start_all : (w : Walk) (cs : List Cursor) → w.cursors ≡ all_at_start cs → w.tops ≡ none_known → w.position ≡ First → (flash : Flash) (arena : Frames) (rs : List Kept) (active frozen : List Entry) (ess : List (List Entry)) → RunsOnFlash flash arena rs ess
     → IsLeft w flash arena rs active frozen (visible (active ∷ frozen ∷ ess))
 start_all w cs same unknown first flash arena rs active frozen ess stand =
@@ -409,7 +409,7 @@ module _ (rs : List Kept) (arena : Frames) (active frozen : List Entry) (shape :
     abbrev lists : List (List Entry)
     lists = active ∷ frozen ∷ at.ess
 
-    -- where the step skips no page, neither do all of them
+    -- if the step skips no page, neither do all of them
     pub Walking-all : (next : BoardState) (v : Walk) → (SkipsNone w → SkipsNone v) → (SkipsNone w → ReadsAll (pages_read rs w.cursors) (pages_read rs v.cursors) now next)
         → SkipsNone first → SkipsNone v × ReadsAll (pages_read rs first.cursors) (pages_read rs v.cursors) old next
     Walking-all next v skips every none =
@@ -442,11 +442,11 @@ module _ (rs : List Kept) (arena : Frames) (active frozen : List Entry) (shape :
         passed_gone [] ys p = cc
         passed_gone (x ∷ xs) ys p = no_place x (ap (λ (y : Entry). is_some y.1) (sym p.0) ∙ gone) xs ∙ ap placed (sym p.1)
 
-    -- the keys that are left now
+    -- the keys that remain now
     abbrev left_by : Walk → List (Key × Place)
     left_by v = wanted (is_wanted v.position) (visible lists)
 
-    -- what is left before any list
+    -- what remains before any list
     rest_is : (rest : List (Key × Place)) → IsLeft first old.pages arena rs active frozen rest → rest ≡ placed (all_left w.position lists)
     rest_is rest left =
         let own = one_of_each old.pages arena rs left.ess at.ess left.stand at.stand in
@@ -527,7 +527,7 @@ module _ (rs : List Kept) (arena : Frames) (active frozen : List Entry) (shape :
             let others = bound rs ess cs s.1 f.1 in
             omega (arith, one, others)
 
-    -- with each step fewer are left
+    -- with each step fewer remain
     pub fewer_left : (next : BoardState) (v : Walk) (e : RustEntry) → next.pages ≡ now.pages
         → ((ess : List (List Entry)) → RunsOnFlash now.pages arena rs ess → Passes (Some e) (all_left w.position (active ∷ frozen ∷ ess)) (all_left v.position (active ∷ frozen ∷ ess)))
         → many_left next.pages rs active frozen v.position < many_left now.pages rs active frozen w.position

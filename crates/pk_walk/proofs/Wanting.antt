@@ -1,4 +1,4 @@
--- What a sorted list has of the wanted keys: its first, what is behind it, and where it begins.
+-- What a sorted list has of the wanted keys: its first, what is after it, and where it begins.
 use Rattle.std.proofs.Common.{◌≡◌, ℕ, zero, suc, ◌+◌, ◌≤◌, refl, sym, ap, subst, ◌∙◌, arith, Bool, true, false, cond, not, T, if◌then◌else◌, List, [], ◌∷◌, length, drop, slice_get, option_map, Option, Some, None}
 use Rattle.std.specs.declared.cmp.Ordering.{Ordering}
 use Rattle.std.specs.declared.cmp.Ordering.TheVariants.{Less, Equal, Greater}
@@ -37,7 +37,7 @@ narrowed v w (e ∷ es) within =
           ] refl
     ] refl
 
--- where nothing wanted stands before a place, nothing that is wanted more narrowly does
+-- if nothing wanted is before a place, nothing that is wanted more narrowly is
 pub narrowed_behind : (v w : Key → Bool) (es : List Entry) (n : ℕ) → ((k : Key) → T (v k) → T (w k)) → wanted w es ≡ wanted w (drop n es) → wanted v es ≡ wanted v (drop n es)
 narrowed_behind v w es n within left = sym (narrowed v w es within) ∙ ap (wanted v) left ∙ narrowed v w (drop n es) within
 
@@ -71,7 +71,7 @@ above_at k [] n e h got = absurd (no_entry e got)
 above_at k (x ∷ es) zero e h got = subst (λ (y : Entry). key_cmp k y.0 ≡ Less) (same_entry x e got) (less _ (left_part _ _ h))
 above_at k (x ∷ es) (suc n) e h got = above_at k es n e (right_part _ _ h) got
 
--- ---- where a walk from a key begins
+-- ---- if a walk from a key begins
 
 -- a key that is not above another
 abbrev pub IsUpTo : Key → Key → Type 0
@@ -85,7 +85,7 @@ below_up_to a b c Greater q low le = absurd (le q)
 pub from_wants : (key : Key) → WantsFrom (is_wanted (From key)) key
 from_wants key k low = rw low refl
 
--- nothing wanted stands before an entry that is not above the key
+-- nothing wanted is before an entry that is not above the key
 pub begun_at : (w : Key → Bool) (key : Key) (es : List Entry) (n : ℕ) (e : Entry) → WantsFrom w key → T (is_sorted key_cmp es) → slice_get es n ≡ Some e → IsUpTo e.0 key → wanted w es ≡ wanted w (drop n es)
 begun_at w key es zero e from up got le = refl
 begun_at w key [] (suc n) e from up got le = refl
@@ -111,11 +111,11 @@ first_is_wanted : (w : Key → Bool) (es : List Entry) → ((e : Entry) → slic
 first_is_wanted w [] one = refl
 first_is_wanted w (e ∷ es) one = sym (ap (λ (b : Bool). first_of (if b then e ∷ wanted w es else wanted w es)) (one e refl))
 
--- the key stands at its place, or not
+-- the key is at its place, or not
 abbrev pub stands_at : Key → Entry → Bool
 stands_at key e = is_eq (key_cmp e.0 key)
 
--- of the keys above one the first is at its place, or behind the key itself
+-- of the keys above one the first is at its place, or after the key itself
 pub first_above_itself : (key : Key) (es : List Entry) (e : Entry) → T (is_sorted key_cmp es) → slice_get es (place_of key es) ≡ Some e → key_cmp e.0 key ≡ Equal → slice_get es (suc (place_of key es)) ≡ first_of (wanted (is_wanted (Above key)) es)
 first_above_itself key [] e up got same = absurd (no_entry e got)
 first_above_itself key (x ∷ es) e up got same =
@@ -139,7 +139,7 @@ first_above_other key (x ∷ es) other =
       | Greater ↦ λ p other. refl
     ] refl other
 
--- ---- behind the first
+-- ---- after the first
 
 -- with a key all above it are wanted
 abbrev pub IsUpward : (Key → Bool) → Type 0
@@ -188,7 +188,7 @@ first_above w k (x ∷ es) e above first =
       | false ↦ λ first. first_above w k es e (right_part _ _ above) first
     ] first
 
--- behind the first wanted entry stand those above it
+-- after the first wanted entry come those above it
 pub behind_first : (position : Position) (es : List Entry) (e : Entry) → T (is_sorted key_cmp es) → first_of (wanted (is_wanted position) es) ≡ Some e
     → wanted (is_wanted position) es ≡ e ∷ wanted (is_wanted (Above e.0)) es
 behind_first position [] e up first = absurd (no_entry e first)
@@ -219,14 +219,14 @@ first_wanted w (x ∷ es) e first =
       | false ↦ λ p first. first_wanted w es e first
     ] refl first
 
--- where there is no first there is none
+-- if there is no first there is none
 pub none_wanted : (xs : List Entry) → first_of xs ≡ None → xs ≡ []
 none_wanted [] e = refl
 none_wanted (x ∷ xs) e = cc
 
 -- ---- keys that are there
 
--- the wanted ones of the keys that are there are there among the wanted
+-- the wanted ones of the keys that exist are among the wanted
 pub placed_wanted : (w : Key → Bool) (es : List Entry) → wanted w (placed es) ≡ placed (wanted w es)
 placed_wanted w [] = refl
 placed_wanted w ((key, Some place) ∷ es) =
@@ -299,14 +299,14 @@ next_of key (x ∷ es) (suc n) e up got same =
     let low : key_cmp x.0 key ≡ Less = subst (λ (k : Key). key_cmp x.0 k ≡ Less) (key_antisymm e.0 key same) (above_at x.0 es n e (left_part _ _ up) got) in
     next_of key es n e (right_part _ _ up) got same ∙ sym (ap (λ (o : Ordering). first_of (if is_gt o then x ∷ wanted (is_wanted (Above key)) es else wanted (is_wanted (Above key)) es)) low)
 
--- behind the key itself stands the first above it
+-- after the key itself comes the first above it
 pub above_next : (key : Key) (es : List Entry) (n : ℕ) (k : Key) → T (is_sorted key_cmp es) → option_map key_of (slice_get es n) ≡ Some k → key_cmp k key ≡ Equal → slice_get es (n + 1) ≡ first_of (wanted (is_wanted (Above key)) es)
 above_next key es n k up got same =
     let e = entry_with (slice_get es n) k got in
     let on : n + 1 ≡ suc n = omega arith in
     ap (slice_get es) on ∙ next_of key es n e.0 up e.1 (ap (λ (q : Key). key_cmp q key) e.2 ∙ same)
 
--- behind a key that is not above another stand all that are
+-- after a key that is not above another come all that are
 pub above_behind : (key : Key) (es : List Entry) (n : ℕ) (k : Key) → T (is_sorted key_cmp es) → option_map key_of (slice_get es n) ≡ Some k → is_gt (key_cmp k key) ≡ false
     → wanted (is_wanted (Above key)) es ≡ wanted (is_wanted (Above key)) (drop (suc n) es)
 above_behind key es n k up got not_one =

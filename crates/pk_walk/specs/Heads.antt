@@ -21,7 +21,7 @@ seen_head Sought = None
 seen_head Ended = Some None
 seen_head (Stands e) = Some (Some (entry e))
 
--- the entry, where it is known
+-- the entry, if it is known
 abbrev pub entry_in : Head → Option Entry
 entry_in None = None
 entry_in (Some found) = found
@@ -37,13 +37,13 @@ abbrev pub known_as : Option Entry → Head → Head
 known_as found None = Some found
 known_as found (Some first) = Some first
 
--- what is known where it was given
+-- what is known if it was returned
 abbrev pub let_go : Head → Head
 let_go None = None
 let_go (Some None) = Some None
 let_go (Some (Some e)) = None
 
--- and where the walk goes behind a key that is not above it
+-- and if the walk moves past a key that is not above it
 abbrev pub behind : Key → Head → Head
 behind key None = None
 behind key (Some None) = Some None
@@ -54,7 +54,7 @@ abbrev pub Shows : List Entry → Position → Head → Type 0
 Shows es position None = ⊤
 Shows es position (Some found) = found ≡ first_of (wanted (is_wanted position) es)
 
--- the entry is wanted next, or behind the one that is known
+-- the entry is wanted next, or after the one that is known
 abbrev pub IsNext : Position → Head → Entry → Type 0
 IsNext position None e = T (is_wanted position e.0)
 IsNext position (Some None) e = ⊤
@@ -62,7 +62,7 @@ IsNext position (Some (Some first)) e = key_cmp first.0 e.0 ≡ Less
 
 -- ---- several
 
--- the order of two entries by their keys, where one that is not there is above all
+-- the order of two entries by their keys, if one that is not there is above all
 abbrev pub order_of : Option Entry → Option Entry → Ordering
 order_of None None = Less
 order_of None (Some y) = Greater

@@ -1,4 +1,4 @@
--- How the first wanted entries of a walk's sources stand to each other, and what of it is kept from one key to the next.
+-- How the first wanted entries of a walk's sources compare with each other, and what of it is kept from one key to the next.
 use Rattle.std.specs.Prelude.{◌≡◌, ⊤, true, List, [], ◌∷◌, ◌++◌, is_some, Option, Some, None}
 use Rattle.std.specs.List.{AllByRecursion}
 use Rattle.std.specs.declared.cmp.Ordering.{Ordering}
@@ -12,13 +12,13 @@ use Rattle.pk_walk.specs.Steps.{AreOrders, heads_of}
 abbrev pub IsSettled : Head → Type 0
 IsSettled h = is_some h ≡ true
 
--- How an entry that was looked for stands to the least of some that were.
+-- How an entry that was looked for compares with the least of some that were.
 pub record IsOrder (hs : List Head) (h : Head) (o : Ordering) : Type 0 where
   pub before : AllByRecursion IsSettled hs
   pub settled : IsSettled h
   pub is : o ≡ order_of (least_of hs) (entry_in h)
 
--- it is that where it is kept
+-- it is that if it is kept
 abbrev pub MayKeep : List Head → Head → Option Ordering → Type 0
 MayKeep hs h None = ⊤
 MayKeep hs h (Some o) = IsOrder hs h o
@@ -29,7 +29,7 @@ EachKept hs [] os = ⊤
 EachKept hs (h ∷ rest) [] = ⊤
 EachKept hs (h ∷ rest) (o ∷ os) = MayKeep hs h o × EachKept (hs ++ h ∷ []) rest os
 
--- those of the sources behind the active buffer
+-- those of the sources after the active buffer
 abbrev pub as_list : RustKeptOrders → List (Option Ordering)
 as_list k = k.frozen ∷ k.first ∷ k.second ∷ k.third ∷ k.fourth ∷ []
 

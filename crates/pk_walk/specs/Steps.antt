@@ -25,7 +25,7 @@ use Rattle.pk_walk.specs.Walking.{Cursor, Tops, Walk, AreOfShape, Follows, Follo
 
 -- ---- a page of a run
 
--- the bytes of a page: those in its frame, or, where it has none, those that were read
+-- the bytes of a page: those in its frame, or, if it has none, those that were read
 abbrev pub seen_bytes : List ℕ → Frames → Option ℕ → List ℕ
 seen_bytes read arena None = read
 seen_bytes read arena (Some lease) = frame_of arena lease
@@ -42,13 +42,13 @@ pub record HasPage (r : Kept) (arena : Frames) (c : Cursor) : Type 0 where
   pub decodes : Decodes c.shape (bytes_in r arena c)
   pub within : c.place % page_entries c.shape < number_at 2 10 (bytes_in r arena c)
 
--- Page p of the run is there, and the cursor has come past no later one; and where the run has no frames, it has its bytes if it has come past it.
+-- Page p of the run is there, and the cursor has passed no later one; and if the run has no frames, it has its bytes if it has passed it.
 pub record MayLoad (flash : Flash) (r : Kept) (p : ℕ) (c : Cursor) : Type 0 where
   pub exists : p < length r.firsts
   pub behind : c.loaded ≤ suc p
   pub holds : r.leases ≡ [] → c.loaded ≡ suc p → page_at flash (page_of r p) ≡ whole c.bytes
 
--- The cursor has come past page p; pages were read at most once as it came past them, and exactly once where it skipped none.
+-- The cursor has passed page p; pages were read at most once as it passed them, and exactly once if it skipped none.
 pub record Loads (r : Kept) (p : ℕ) (old new : BoardState) (c d : Cursor) : Type 0 where
   pub cursor : d ≡ record c { loaded = suc p; bytes = d.bytes }
   pub reads : Reads (read_of r.leases c.loaded) (read_of r.leases (suc p)) old new
@@ -67,7 +67,7 @@ pub record StaysAt (flash : Flash) (r : Kept) (c d : Cursor) : Type 0 where
   pub place : d ≡ record c { loaded = d.loaded; bytes = d.bytes }
   pub follows : (es : List Entry) (position : Position) → Follows flash r es position c → Follows flash r es position d
 
--- The cursor has the page of its place; it was read at most once, and exactly once where none was skipped.
+-- The cursor has the page of its place; it was read at most once, and exactly once if none was skipped.
 pub record Looks (r : Kept) (arena : Frames) (old new : BoardState) (c d : Cursor) : Type 0 where
   pub page : page_at old.pages (page_of r (c.place / page_entries r.shape)) ≡ whole (bytes_in r arena d)
   pub loaded : d.loaded ≡ suc (c.place / page_entries r.shape)
@@ -80,14 +80,14 @@ pub record FailsToShow (r : Kept) (old new : BoardState) (c d : Cursor) : Type 0
   pub kept : d.loaded ≡ c.loaded
   pub failed : ReadFailed old new (page_of r (c.place / page_entries r.shape))
 
--- From a place on in a page the first wanted entry stands at this place; or none is wanted, and this is the end.
+-- From a place on in a page the first wanted entry is at this place; or none is wanted, and this is the end.
 pub record IsFirstWanted (position : Position) (page : List ℕ) (from place : ℕ) : Type 0 where
   pub forth : from ≤ place
   pub most : place ≤ number_at 2 10 page
   pub before : (k : ℕ) → from ≤ k → k < place → is_wanted position (cell_key (cell_at (HEAD_BYTES + ENTRY_BYTES * k) page)) ≡ false
   pub at : place < number_at 2 10 page → is_wanted position (cell_key (cell_at (HEAD_BYTES + ENTRY_BYTES * place) page)) ≡ true
 
--- The cursor went on in its page, of these bytes, to the first wanted entry from its place on, or, where none was found, behind the last.
+-- The cursor went on in its page, of these bytes, to the first wanted entry from its place on, or, if none was found, past the last.
 pub record Moves (position : Position) (page : List ℕ) (c d : Cursor) (found : Bool) : Type 0 where
   pub to : ℕ
   pub first : IsFirstWanted position page (c.place % page_entries c.shape) to
@@ -102,7 +102,8 @@ pub record IsAt (r : Kept) (flash : Flash) (arena : Frames) (d : Cursor) (e : En
   pub loaded : d.loaded ≡ suc (d.place / page_entries r.shape)
   pub is : (es : List Entry) → RunOnFlash r flash arena es → slice_get es d.place ≡ Some e
 
--- This is the first entry of the run that is wanted, and the cursor is at it, or there is none; each page up to it was read at most once, and exactly once where none is skipped.
+-- This is the first entry of the run that is wanted, and the cursor is at it, or there is none; each page up to it was read at most once, and exactly
+-- once if none is skipped.
 pub record FindsIn (r : Kept) (arena : Frames) (position : Position) (old new : BoardState) (c d : Cursor) (answer : Option RustEntry) : Type 0 where
   pub found : (es : List Entry) → RunOnFlash r old.pages arena es → option_map seen answer ≡ first_of (wanted (is_wanted position) es)
   pub at : (e : RustEntry) → answer ≡ Some e → IsAt r old.pages arena d (seen e)
@@ -112,19 +113,19 @@ pub record FindsIn (r : Kept) (arena : Frames) (position : Position) (old new : 
   pub all : SkipsNoPage position → HasPassed c → ReadsAll (read_of r.leases c.loaded) (read_of r.leases d.loaded) old new
   pub ended : answer ≡ None → SkipsNoPage position → HasPassed c → d.loaded ≡ length r.firsts
 
--- the cursor with what was found at its place, and behind it
+-- the cursor with what was found at its place, and past it
 abbrev pub holding : Option Entry → Cursor → Cursor
 holding None c = record c { head = Some None }
 holding (Some e) c = record c { place = suc c.place; head = Some (Some e); has_found = true }
 
--- The cursor knows the first wanted entry of the run; each page up to it was read at most once, and exactly once where none is skipped.
+-- The cursor knows the first wanted entry of the run; each page up to it was read at most once, and exactly once if none is skipped.
 pub record ShowsIn (r : Kept) (position : Position) (old new : BoardState) (c d : Cursor) : Type 0 where
   pub known : is_some d.head ≡ true
   pub reads : Reads (read_of r.leases c.loaded) (read_of r.leases d.loaded) old new
   pub all : SkipsNoPage position → HasPassed c → ReadsAll (read_of r.leases c.loaded) (read_of r.leases d.loaded) old new
   pub ended : d.head ≡ Some None → SkipsNoPage position → HasPassed c → d.loaded ≡ length r.firsts
 
--- The cursor follows the run from this position on, and has skipped no page where none is skipped.
+-- The cursor follows the run from this position on, and has skipped no page if none is skipped.
 pub record GoesOn (flash : Flash) (arena : Frames) (r : Kept) (position : Position) (c d : Cursor) : Type 0 where
   pub follows : (es : List Entry) → RunOnFlash r flash arena es → Follows flash r es position d
   pub shape : d.shape ≡ c.shape
@@ -138,7 +139,7 @@ pub record MaySeek (r : Kept) (arena : Frames) (position : Position) (old : Boar
   pub stands : RunOnFlash r old.pages arena entries
   pub follows : Follows old.pages r entries position c
 
--- Whether or not a read failed, the cursor goes on, the flash is as it was, and the board may be called as before.
+-- Whether or not a read failed, the cursor goes on, the flash is unchanged, and the board may be called as before.
 pub record SeeksOn (r : Kept) (arena : Frames) (position : Position) (old new : BoardState) (c d : Cursor) : Type 0 where
   pub goes_on : GoesOn old.pages arena r position c d
   pub same : new.pages ≡ old.pages
@@ -159,14 +160,14 @@ IsKnown c = is_some c.head ≡ true
 abbrev pub HasNone : Cursor → Type 0
 HasNone c = c.head ≡ Some None
 
--- The cursors know the first wanted entries of the runs; each page up to them was read at most once, and exactly once where none is skipped.
+-- The cursors know the first wanted entries of the runs; each page up to them was read at most once, and exactly once if none is skipped.
 pub record ShowsEach (rs : List Kept) (position : Position) (old new : BoardState) (cs ds : List Cursor) : Type 0 where
   pub known : AllByRecursion IsKnown ds
   pub reads : Reads (pages_read rs cs) (pages_read rs ds) old new
   pub all : SkipsNoPage position → AllByRecursion HasPassed cs → ReadsAll (pages_read rs cs) (pages_read rs ds) old new
   pub ended : AllByRecursion HasNone ds → SkipsNoPage position → AllByRecursion HasPassed cs → pages_read rs ds ≡ most_read rs
 
--- The cursors follow the runs from this position on, and have skipped no page where none is skipped.
+-- The cursors follow the runs from this position on, and have skipped no page if none is skipped.
 pub record GoOn (flash : Flash) (arena : Frames) (shape : Shape) (rs : List Kept) (position : Position) (cs ds : List Cursor) : Type 0 where
   pub follow : (ess : List (List Entry)) → RunsOnFlash flash arena rs ess → FollowEach flash rs ess position ds
   pub of_shape : AreOfShape shape ds
@@ -188,7 +189,7 @@ abbrev pub AreKnown : List Entry → List Entry → Position → Tops → Tops �
 AreKnown active frozen position t u =
     u ≡ record { active = known_as (first_of (wanted (is_wanted position) active)) t.active; frozen = known_as (first_of (wanted (is_wanted position) frozen)) t.frozen }
 
--- How each but the first stands to the least of those before it.
+-- How each but the first compares with the least of those before it.
 pub record AreOrders (a b c d e f : Head) (o : RustOrders) : Type 0 where
   pub frozen_is : o.frozen ≡ order_of (least_of (a ∷ [])) (entry_in b)
   pub first_is : o.first ≡ order_of (least_of (a ∷ b ∷ [])) (entry_in c)
@@ -196,16 +197,16 @@ pub record AreOrders (a b c d e f : Head) (o : RustOrders) : Type 0 where
   pub third_is : o.third ≡ order_of (least_of (a ∷ b ∷ c ∷ d ∷ [])) (entry_in e)
   pub fourth_is : o.fourth ≡ order_of (least_of (a ∷ b ∷ c ∷ d ∷ e ∷ [])) (entry_in f)
 
--- those of the key that was given have to be looked for, and the others are as they were
+-- those of the key that was returned have to be looked for, and the others are unchanged
 abbrev pub GoBehind : Option Entry → Tops → List Cursor → Tops → List Cursor → Type 0
 GoBehind None t cs u ds = (u ≡ t) × (ds ≡ cs)
 GoBehind (Some e) t cs u ds = (u ≡ tops_behind e.0 t) × (ds ≡ cursors_behind e.0 cs)
 
--- the first entry that is left in the buffers and the runs
+-- the first entry that remains in the buffers and the runs
 abbrev pub first_left : Position → List Entry → List Entry → List (List Entry) → Option Entry
 first_left position active frozen ess = first_of (all_left position (active ∷ frozen ∷ ess))
 
--- This is the next of the entries that are left, or there is none; each page up to it was read at most once, and exactly once where none is skipped.
+-- This is the next of the entries that remain, or there is none; each page up to it was read at most once, and exactly once if none is skipped.
 pub record Comes (rs : List Kept) (arena : Frames) (active frozen : List Entry) (old new : BoardState) (w v : Walk) (answer : Option RustEntry) : Type 0 where
   pub passes : (ess : List (List Entry)) → RunsOnFlash old.pages arena rs ess → Passes answer (all_left w.position (active ∷ frozen ∷ ess)) (all_left v.position (active ∷ frozen ∷ ess))
   pub reads : Reads (pages_read rs w.cursors) (pages_read rs v.cursors) old new

@@ -1,4 +1,4 @@
--- Which keys are there in lists of entries, and which of them a walk still wants.
+-- Which keys exist in lists of entries, and which of them a walk still wants.
 use Rattle.std.specs.Prelude.{◌≡◌, Bool, true, false, not, if◌then◌else◌, List, [], ◌∷◌, filter, slice_get, Option, Some, None}
 use Rattle.std.specs.List.{flat_map}
 use Rattle.std.specs.Ordering.{is_lt, is_gt}
@@ -20,7 +20,7 @@ is_wanted First key = true
 is_wanted (From from) key = not (is_lt (key_cmp key from))
 is_wanted (Above from) key = is_gt (key_cmp key from)
 
--- the position behind what was found, if anything was
+-- the position after what was found, if anything was
 abbrev pub behind_found : Option Entry → Position → Position
 behind_found None position = position
 behind_found (Some e) position = Above e.0

@@ -1,4 +1,4 @@
--- A walk over two write buffers and four runs: what it keeps, and what is left of it.
+-- A walk over two write buffers and four runs: what it keeps, and what remains of it.
 use Rattle.std.specs.Prelude.{◌≡◌, ⊤, ℕ, suc, ◌+◌, ◌*◌, ◌/◌, ◌<◌, ◌≤◌, Bool, true, false, slice_get, List, [], ◌∷◌, ◌++◌, length, drop, Option, Some, None}
 use Rattle.pk_base.specs.Key.{Key}
 use Rattle.pk_base.specs.Shape.{Shape, page_entries}
@@ -20,8 +20,8 @@ use Rattle.pk_walk.specs.Heads.{Head, IsNext, Shows, behind, held, seen_head}
 use Rattle.pk_walk.specs.declared.position.Position.{Position}
 use Rattle.pk_walk.specs.declared.position.Position.TheVariants.{First, From, Above}
 
--- A place among the entries of a run; how many pages of the run the walk has come past, and the bytes of the last of them where it
--- was read; and the first wanted entry, which stands just before the place. A cursor that has found one wants all those from its place on.
+-- A place among the entries of a run; how many pages of the run the walk has passed, and the bytes of the last of them if it was read; and
+-- the first wanted entry, which is just before the place. A cursor that has found one wants all those from its place on.
 pub record Cursor : Type 0 where
   pub shape : Shape
   pub place : ℕ
@@ -39,7 +39,7 @@ abbrev pub all_at_start : List Cursor → List Cursor
 all_at_start [] = []
 all_at_start (c ∷ cs) = at_start c ∷ all_at_start cs
 
--- where the walk goes behind a key that is not above what the cursors have
+-- if the walk moves past a key that is not above what the cursors have
 abbrev pub cursors_behind : Key → List Cursor → List Cursor
 cursors_behind key [] = []
 cursors_behind key (c ∷ cs) = record c { head = behind key c.head } ∷ cursors_behind key cs
@@ -57,11 +57,11 @@ seen_tops t = record { active = seen_head t.active.head; frozen = seen_head t.fr
 abbrev pub none_known : Tops
 none_known = record { active = None; frozen = None }
 
--- where the walk goes behind a key that is not above them
+-- if the walk moves past a key that is not above them
 abbrev pub tops_behind : Key → Tops → Tops
 tops_behind key t = record { active = behind key t.active; frozen = behind key t.frozen }
 
--- the keys that were given are behind a position; the write buffers, and a cursor in each of the four runs
+-- the keys that were returned are before a position; the write buffers, and a cursor in each of the four runs
 pub record Walk : Type 0 where
   pub shape : Shape
   pub position : Position
@@ -89,7 +89,7 @@ pub record IsWalk (w : Walk) : Type 0 where
 
 -- ---- cursors and runs
 
--- No wanted key of the run stands before the cursor but the one that it has; and where the run has no frames, it has the page of its place if it has come past it.
+-- No wanted key of the run is before the cursor but the one that it has; and if the run has no frames, it has the page of its place if it has passed it.
 pub record Follows (flash : Flash) (r : Kept) (es : List Entry) (position : Position) (c : Cursor) : Type 0 where
   pub pages : c.loaded ≤ length r.firsts
   pub behind : c.loaded ≤ suc (c.place / page_entries r.shape)
@@ -115,7 +115,7 @@ ShowBoth active frozen position t = Shows active position t.active × Shows froz
 abbrev pub HasPassed : Cursor → Type 0
 HasPassed c = c.place ≤ c.loaded * page_entries c.shape
 
--- A run is searched from its first page on, or from where its cursor stands: only from a key on may pages be skipped.
+-- A run is searched from its first page on, or from where its cursor is: only from a key on may pages be skipped.
 abbrev pub SkipsNoPage : Position → Type 0
 SkipsNoPage First = ⊤
 SkipsNoPage (From key) = ⊥
@@ -126,10 +126,10 @@ pub record SkipsNone (w : Walk) : Type 0 where
   pub position : SkipsNoPage w.position
   pub passed : AllByRecursion HasPassed w.cursors
 
--- ---- what is left
+-- ---- what remains
 
--- The keys that the walk has still to give, with their places: those wanted of the keys that are there in the entries of the
--- buffers and of the runs that stand on the flash.
+-- The keys that the walk still has to return, with their places: those wanted of the keys that exist in the entries of the
+-- buffers and of the runs on the flash.
 pub record IsLeft (w : Walk) (flash : Flash) (arena : Frames) (runs : List Kept) (active frozen : List Entry) (rest : List (Key × Place)) : Type 0 where
   pub ess : List (List Entry)
   pub stand : RunsOnFlash flash arena runs ess
@@ -137,7 +137,7 @@ pub record IsLeft (w : Walk) (flash : Flash) (arena : Frames) (runs : List Kept)
   pub tops : ShowBoth active frozen w.position w.tops
   pub is : rest ≡ wanted (is_wanted w.position) (visible (active ∷ frozen ∷ ess))
 
--- the first of them was answered, or that there is none; and these are left
+-- the first of them was answered, or that there is none; and these remain
 abbrev pub Gives : Option RustEntry → List (Key × Place) → List (Key × Place) → Type 0
 Gives found [] later = (found ≡ None) × (later ≡ [])
 Gives None (x ∷ rest) later = ⊥
@@ -145,7 +145,7 @@ Gives (Some e) (x ∷ rest) later = (entry e ≡ put_entry x.0 x.1) × (later �
 
 -- ---- reads
 
--- how many pages were read at most, of so many that were come past: none where they have frames
+-- how many pages were read at most, of n that were passed: none if they have frames
 abbrev pub read_of : List ℕ → ℕ → ℕ
 read_of [] pages = pages
 read_of (lease ∷ leases) pages = 0
@@ -161,7 +161,7 @@ abbrev pub most_read : List Kept → ℕ
 most_read [] = 0
 most_read (r ∷ rs) = read_of r.leases (length r.firsts) + most_read rs
 
--- Nothing was done but reads, so many at most that a number of pages rose from before to after.
+-- Nothing was done but reads, at most as many as a number of pages rose from before to after.
 abbrev pub Reads : ℕ → ℕ → BoardState → BoardState → Type 0
 Reads before after old new = (k : ℕ) × (k + before ≤ after) × (new ≡ after_reads k old)
 
@@ -169,7 +169,7 @@ Reads before after old new = (k : ℕ) × (k + before ≤ after) × (new ≡ aft
 abbrev pub ReadsAll : ℕ → ℕ → BoardState → BoardState → Type 0
 ReadsAll before after old new = (k : ℕ) × (k + before ≡ after) × (new ≡ after_reads k old)
 
--- so many at most were done, and then a read failed
+-- at most this many were done, and then a read failed
 abbrev pub ReadsFail : ℕ → ℕ → BoardState → BoardState → Type 0
 ReadsFail before after old new = (k page : ℕ) × (k + before ≤ after) × ReadFailed (after_reads k old) new page
 
@@ -179,7 +179,7 @@ ReadsFail before after old new = (k page : ℕ) × (k + before ≤ after) × Rea
 abbrev pub all_left : Position → List (List Entry) → List Entry
 all_left position lists = wanted (is_wanted position) (firsts (flat_map (λ es. es) lists))
 
--- the first of them was found, or that there is none; and these are left
+-- the first of them was found, or that there is none; and these remain
 abbrev pub Passes : Option RustEntry → List Entry → List Entry → Type 0
 Passes found [] later = (found ≡ None) × (later ≡ [])
 Passes None (x ∷ rest) later = ⊥

@@ -13,9 +13,9 @@ use pk_base::Key;
 use pk_run::Run;
 use std::alloc::Allocator;
 
-/// The place in a run before which no key is wanted from this position on: where a walk begins at a key, the start of the page
-/// that may have it, else the first place. Behind its first step a walk has come to a page of each run that has one, and its
-/// cursors stand where it goes on.
+/// The place in a run before which no key is wanted from this position on: if a walk begins at a
+/// key, the start of the page that may have it, otherwise the first place. After its first step a
+/// walk has reached a page of each run that has one, and its cursors are where it goes on.
 pub fn begins_at<A: Allocator>(run: &Run<A>, position: &Position) -> u32
     ensures begins { (flash : Flash) (arena : Frames) (es : List EntrySpec)
         → RunOnFlash run.now flash arena es → wanted (is_wanted position.now) es

@@ -89,7 +89,7 @@ fn place_in<A: Region>(buffer: &Buffer<A>, position: &Position, hint: u32) -> u3
     }
 }
 
-/// The entry at a place; None behind the last.
+/// The entry at a place; None after the last.
 fn entry_at<A: Region>(buffer: &Buffer<A>, i: u32) -> Option<Entry>
     ensures { option_map seen result ≡ slice_get buffer.now.entries i }
 {
@@ -100,8 +100,8 @@ fn entry_at<A: Region>(buffer: &Buffer<A>, i: u32) -> Option<Entry>
     }
 }
 
-/// The place of the first key above this one, by two comparisons at most where it is the hint, or
-/// the next one behind the key itself.
+/// The place of the first key above this one, by two comparisons at most if it is the hint, or the
+/// next one after the key itself.
 fn place_above<A: Region>(buffer: &Buffer<A>, key: &Key, hint: u32) -> u32
     ensures { slice_get buffer.now.entries result
         ≡ first_of (wanted (is_wanted (Above key.now)) buffer.now.entries) }
@@ -117,8 +117,8 @@ fn place_above<A: Region>(buffer: &Buffer<A>, key: &Key, hint: u32) -> u32
     }
 }
 
-/// The place of the first key above this one, where the key at the hint is one, or the hint is
-/// behind the last.
+/// The place of the first key above this one, if the key at the hint is one, or the hint is after
+/// the last.
 fn lowest_above<A: Region>(buffer: &Buffer<A>, key: &Key, hint: u32) -> u32
     requires within { hint ≤ length buffer.now.entries }
     requires first { slice_get buffer.now.entries hint

@@ -107,7 +107,7 @@ impl<A: Allocator> Cursor<A> {
         self.has_found = false;
     }
 
-    /// How many entries stand before the place.
+    /// How many entries are before the place.
     pub fn place(&self) -> u32
         ensures { result ≡ self.now.place }
     {
@@ -121,7 +121,7 @@ impl<A: Allocator> Cursor<A> {
         &self.head
     }
 
-    /// Has what was found at the place, and goes behind it.
+    /// Takes what was found at the place, and moves past it.
     #[inline(always)]
     pub fn hold(&mut self, found: Option<Entry>)
         requires { IsSome found → self.old.place + 1 < 4294967296 }
@@ -134,7 +134,7 @@ impl<A: Allocator> Cursor<A> {
         self.head = Head::of(found);
     }
 
-    /// Gives the first wanted entry, so that the next one has to be looked for; None where there is
+    /// Returns the first wanted entry, so that the next one has to be looked for; None if there is
     /// none.
     #[inline(always)]
     pub fn take(&mut self) -> Option<Entry>
@@ -144,7 +144,7 @@ impl<A: Allocator> Cursor<A> {
         self.head.take()
     }
 
-    /// Brings the position behind the first wanted entry, if there is one.
+    /// Moves the position past the first wanted entry, if there is one.
     #[inline(always)]
     pub fn lead(&self, position: &mut Position)
         ensures { position.new ≡ behind_found (entry_in self.now.head) position.old }
@@ -152,7 +152,7 @@ impl<A: Allocator> Cursor<A> {
         self.head.lead(position);
     }
 
-    /// Lets its entry go where the key that is given is its own.
+    /// Drops its entry if the key that is returned is its own.
     pub fn pass(&mut self, given: Ordering)
         ensures { self.new
             ≡ record self.old { head = if is_eq given then None else self.old.head } }
@@ -160,7 +160,7 @@ impl<A: Allocator> Cursor<A> {
         self.head.pass(given);
     }
 
-    /// Goes to the page where a walk from this position begins, unless it has come past a page.
+    /// Goes to the page where a walk from this position begins, unless it has passed a page.
     pub fn begin(&mut self, run: &Run<A>, position: &Position)
         requires { self.old.head ≡ None }
         ensures place { self.new ≡ record self.old { place = self.new.place } }
@@ -211,7 +211,7 @@ impl<A: Allocator> Cursor<A> {
             (B.state board.new) self.old self.new) }
         ensures reading { IfErr result (λ fault. fault ≡ Reading) }
 
-        // The flash is as it was.
+        // The flash is unchanged.
         ensures same { (B.state board.new).pages ≡ (B.state board.old).pages }
         ensures ready { IsReady (B.state board.new) run.now.shape }
     {
@@ -235,8 +235,8 @@ impl<A: Allocator> Cursor<A> {
         }
     }
 
-    /// Has the page of the place, by one read at most. `Reading` where the read fails; else nothing
-    /// fails.
+    /// Has the page of the place, by one read at most. `Reading` if the read fails; otherwise
+    /// nothing fails.
     pub fn look<B: Nand>(
         &mut self,
         board: &mut B,
@@ -260,7 +260,7 @@ impl<A: Allocator> Cursor<A> {
             (B.state board.new) self.old self.new) }
         ensures reading { IfErr result (λ fault. fault ≡ Reading) }
 
-        // The flash is as it was.
+        // The flash is unchanged.
         ensures same { (B.state board.new).pages ≡ (B.state board.old).pages }
         ensures ready { IsReady (B.state board.new) run.now.shape }
     {
@@ -273,7 +273,7 @@ impl<A: Allocator> Cursor<A> {
         }
     }
 
-    // The bytes of the page of the place: where the page has a frame they are read in it.
+    // The bytes of the page of the place: if the page has a frame they are read in it.
     fn bytes<'a>(&'a self, arena: &'a PinArena<A>, run: &Run<A>) -> &'a [u8]
         requires { HasPage run.now arena.now self.now }
         ensures { result.now ≡ bytes_in run.now arena.now self.now }
@@ -284,8 +284,7 @@ impl<A: Allocator> Cursor<A> {
         }
     }
 
-    // The place in its page of the first wanted entry from the place on; the end where there is
-    // none.
+    // The place in its page of the first wanted entry from the place on; the end if there is none.
     fn wanted_here(&self, arena: &PinArena<A>, run: &Run<A>, position: &Position) -> u32
         requires { HasPage run.now arena.now self.now }
         ensures { IsFirstWanted position.now (bytes_in run.now arena.now self.now)
@@ -304,8 +303,8 @@ impl<A: Allocator> Cursor<A> {
         get_u16(self.bytes(arena, run), 10) as u32
     }
 
-    /// Goes to the first wanted entry from the place on in its page; false where there is none, and
-    /// it is behind the page then.
+    /// Goes to the first wanted entry from the place on in its page; false if there is none, and
+    /// the cursor is past the page then.
     pub fn skip(&mut self, arena: &PinArena<A>, run: &Run<A>, position: &Position) -> bool
         requires page { HasPage run.now arena.now self.old }
         requires fits { self.old.place - self.old.place % page_entries self.old.shape
@@ -320,8 +319,8 @@ impl<A: Allocator> Cursor<A> {
         to < end
     }
 
-    /// Whether the entry at the place is the next wanted one, and its page is there. Where a walk
-    /// has found an entry it wants all those behind it.
+    /// Whether the entry at the place is the next wanted one, and its page is there. If a walk has
+    /// found an entry it wants all those after it.
     pub fn is_ready(&self, run: &Run<A>) -> bool
         ensures { result ≡ true → (self.now.has_found ≡ true) × (self.now.place < run.now.count)
             × (self.now.place < self.now.loaded * page_entries self.now.shape) }

@@ -80,7 +80,8 @@ impl<A: Allocator> Cursors<A> {
         self.fourth.restart();
     }
 
-    /// Knows the first wanted entry of each run. `Reading` where a read fails; else nothing fails.
+    /// Knows the first wanted entry of each run. `Reading` if a read fails; otherwise nothing
+    /// fails.
     #[inline(always)]
     pub fn seek<B: Nand>(
         &mut self,
@@ -106,7 +107,7 @@ impl<A: Allocator> Cursors<A> {
         ensures err { OnErr result (ReadsFail (pages_read levels.now.runs self.old)
             (pages_read levels.now.runs self.new) (B.state board.old) (B.state board.new)) }
 
-        // The flash is as it was.
+        // The flash is unchanged.
         ensures same { (B.state board.new).pages ≡ (B.state board.old).pages }
         ensures ready { IsReady (B.state board.new) levels.now.shape }
     {
@@ -130,7 +131,7 @@ impl<A: Allocator> Cursors<A> {
         Ok(())
     }
 
-    /// How the entries that are known stand to each other.
+    /// How the entries that are known compare with each other.
     #[inline(always)]
     fn orders(&self, tops: &Tops, kept: &KeptOrders) -> Orders
         requires { AreKept (seen_tops tops.now) self.now kept.now }
@@ -147,8 +148,8 @@ impl<A: Allocator> Cursors<A> {
         )
     }
 
-    /// Gives the least of the entries, which are known, brings the position behind it, and lets the
-    /// others of its key go with it: of one key the first counts. None where there is none.
+    /// Returns the least of the entries, which are known, moves the position past it, and drops the
+    /// others of its key: of one key the first counts. None if there is none.
     #[inline(always)]
     pub fn take_least(
         &mut self,
@@ -165,7 +166,7 @@ impl<A: Allocator> Cursors<A> {
             (seen_tops tops.new) self.new }
         ensures four { length self.new ≡ LEVELS }
 
-        // What is kept of the orders of the others, and the position behind it.
+        // What is kept of the orders of the others, and the position after it.
         ensures kept { AreKept (seen_tops tops.new) self.new kept.new }
         ensures passed { position.new ≡ behind_found (option_map seen result) position.old }
     {

@@ -43,7 +43,7 @@ impl Head {
         }
     }
 
-    /// Gives it, so that the next one has to be looked for; None where there is none.
+    /// Returns it, so that the next one has to be looked for; None if there is none.
     #[inline(always)]
     pub fn take(&mut self) -> Option<Entry>
         ensures entry { option_map seen result ≡ entry_in (seen_head self.old) }
@@ -59,8 +59,8 @@ impl Head {
         }
     }
 
-    /// Brings the position behind it, if there is one. Before it is given, since what is given is
-    /// moved faster where nothing has pointed to it.
+    /// Moves the position past it, if there is one. Before it is returned, since what is returned
+    /// is moved faster if nothing has pointed to it.
     #[inline(always)]
     pub fn lead(&self, position: &mut Position)
         ensures { position.new ≡ behind_found (entry_in (seen_head self.now)) position.old }
@@ -72,7 +72,7 @@ impl Head {
         }
     }
 
-    /// Lets it go where the key that is given is its own.
+    /// Drops it if the key that is returned is its own.
     pub fn pass(&mut self, given: Ordering)
         ensures { seen_head self.new
             ≡ (if is_eq given then None else seen_head self.old) }
@@ -83,7 +83,7 @@ impl Head {
     }
 }
 
-/// How the key of one stands to that of another. One that there is not is above all.
+/// How the key of one compares with that of another. A missing one is above all.
 pub fn order(head: &Head, other: &Head) -> Ordering
     ensures { result ≡ order_of (entry_in (seen_head head.now)) (entry_in (seen_head other.now)) }
 {
@@ -98,7 +98,7 @@ pub fn order(head: &Head, other: &Head) -> Ordering
     }
 }
 
-// How nothing stands to it.
+// How nothing compares with it.
 fn order_of_none(other: &Head) -> Ordering
     ensures { result ≡ order_of None (entry_in (seen_head other.now)) }
 {
@@ -109,7 +109,7 @@ fn order_of_none(other: &Head) -> Ordering
     }
 }
 
-/// The one whose key is lower, by how they stand, and of one key the first.
+/// The one whose key is lower, by how they compare, and of one key the first.
 pub fn lower<'a>(head: &'a Head, other: &'a Head, order: Ordering) -> &'a Head
     ensures { result.now ≡ (if is_gt order then other.now else head.now) }
 {

@@ -1,4 +1,5 @@
-//! How the first wanted entries of a walk's sources stand to each other, and what of it is kept from one key to the next.
+//! How the first wanted entries of a walk's sources compare with each other, and what of it is kept
+//! from one key to the next.
 ghost use Rattle.std.specs.Prelude.{◌≡◌, ◌∷◌, [], IfSome, Some, None};
 ghost use Rattle.pk_walk.specs.Heads.{entry_in, order_of, seen_head};
 ghost use Rattle.pk_walk.specs.Orders.{EachKept, as_list, no_orders};
@@ -7,7 +8,7 @@ ghost use Rattle.pk_walk.specs.Steps.{AreOrders};
 use crate::head::{Head, lower, order};
 use std::cmp::Ordering;
 
-/// How the first wanted entry of each source but the active buffer stands to the least of those
+/// How the first wanted entry of each source but the active buffer compares with the least of those
 /// before it.
 #[derive(Clone, Copy)]
 pub struct Orders {
@@ -44,7 +45,7 @@ impl KeptOrders {
 }
 
 impl Orders {
-    /// What is kept where the first run goes on.
+    /// What is kept if the first run goes on.
     pub fn before_first(&self) -> KeptOrders
         ensures { as_list result ≡ Some self.now.frozen ∷ None ∷ None ∷ None ∷ None ∷ [] }
     {
@@ -53,7 +54,7 @@ impl Orders {
         kept
     }
 
-    /// What is kept where the second run goes on.
+    /// What is kept if the second run goes on.
     pub fn before_second(&self) -> KeptOrders
         ensures { as_list result
             ≡ Some self.now.frozen ∷ Some self.now.first ∷ None ∷ None ∷ None ∷ [] }
@@ -63,7 +64,7 @@ impl Orders {
         kept
     }
 
-    /// What is kept where the third run goes on.
+    /// What is kept if the third run goes on.
     pub fn before_third(&self) -> KeptOrders
         ensures { as_list result ≡ Some self.now.frozen ∷ Some self.now.first
             ∷ Some self.now.second ∷ None ∷ None ∷ [] }
@@ -73,7 +74,7 @@ impl Orders {
         kept
     }
 
-    /// What is kept where the fourth run goes on.
+    /// What is kept if the fourth run goes on.
     pub fn before_fourth(&self) -> KeptOrders
         ensures { as_list result ≡ Some self.now.frozen ∷ Some self.now.first
             ∷ Some self.now.second ∷ Some self.now.third ∷ None ∷ [] }
@@ -118,7 +119,7 @@ pub fn orders_of(
     }
 }
 
-// How they stand, compared only where that is not kept.
+// How they compare, computed only if that is not kept.
 #[inline(always)]
 fn kept_order(kept: Option<Ordering>, head: &Head, other: &Head) -> Ordering
     requires { IfSome kept (λ o. o

@@ -29,8 +29,8 @@ fn whole_put(cell: &[u8]) -> Entry
     }
 }
 
-/// An entry of a page. Where its key is a whole one that has a value, as mostly, that is known
-/// before it is read, so that it is read without a choice and without a call.
+/// An entry of a page. If its key is a whole one that has a value, as mostly, that is known before
+/// it is read, so that it is read without a choice and without a call.
 #[inline(always)]
 pub fn entry_at(shape: &Shape, page: &[u8], i: u32) -> Entry
     requires sized { length page.now ≡ shape.now.page_bytes }
@@ -63,7 +63,7 @@ fn wants_at(shape: &Shape, page: &[u8], position: &Position, i: u32) -> bool
 }
 
 /// How many of the next entries are looked at before the rest is halved: two, since a walk mostly
-/// stays at its place or goes on by one, and none where it begins at a key.
+/// stays at its place or goes on by one, and none if it begins at a key.
 fn first_looks(position: &Position) -> u32 {
     match position {
         Position::From(_) => 0,
@@ -86,7 +86,7 @@ fn next_look(from: u32, low: u32, high: u32, first: u32) -> u32
     }
 }
 
-/// The place of the first wanted entry of the page from this place on; the end where there is none.
+/// The place of the first wanted entry of the page from this place on; the end if there is none.
 pub fn first_wanted(shape: &Shape, page: &[u8], position: &Position, from: u32) -> u32
     requires sized { length page.now ≡ shape.now.page_bytes }
     requires decodes { Decodes shape.now page.now }

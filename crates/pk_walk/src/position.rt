@@ -15,7 +15,7 @@ pub enum Position {
 }
 
 impl Position {
-    /// Goes to those above this key. A whole key is copied where it stands.
+    /// Goes to those above this key. A whole key is copied in place.
     #[inline(always)]
     pub fn go_above(&mut self, key: &Key)
         ensures { self.new ≡ Above key.now }

@@ -15,8 +15,9 @@ use pk_pin::PinArena;
 use pk_run::Run;
 use std::alloc::Allocator;
 
-/// Knows the first entry of the run whose key is wanted. Each page is read once at most, as the cursor comes past it, and once
-/// exactly where none is skipped. `Reading` where a read fails; else nothing fails.
+/// Knows the first entry of the run whose key is wanted. Each page is read once at most, as the
+/// cursor passes it, and once exactly if none is skipped. `Reading` if a read fails; otherwise
+/// nothing fails.
 #[inline(always)]
 pub fn seek<A: Allocator, B: Nand>(
     cursor: &mut Cursor<A>,
@@ -50,7 +51,7 @@ pub fn seek<A: Allocator, B: Nand>(
 }
 
 // Has the entry at the cursor's place, whose page is there. It is apart, so that the room for an
-// entry is made only where one is read.
+// entry is made only if one is read.
 #[inline(always)]
 fn hold_next<A: Allocator>(cursor: &mut Cursor<A>, arena: &PinArena<A>, run: &Run<A>)
     requires page { HasPage run.now arena.now cursor.old }
@@ -64,7 +65,8 @@ fn hold_next<A: Allocator>(cursor: &mut Cursor<A>, arena: &PinArena<A>, run: &Ru
     cursor.hold(Some(entry));
 }
 
-// Knows the first wanted entry, which was not looked for, where the page of the place is not there. A call, for the same reason.
+// Knows the first wanted entry, which was not looked for, if the page of the place is not there. A
+// call, for the same reason.
 #[inline(never)]
 fn seek_page<A: Allocator, B: Nand>(
     cursor: &mut Cursor<A>,
@@ -97,7 +99,7 @@ fn seek_page<A: Allocator, B: Nand>(
     }
 }
 
-// Comes to the first entry of the run whose key is wanted; None where there is none.
+// Comes to the first entry of the run whose key is wanted; None if there is none.
 fn search<A: Allocator, B: Nand>(
     cursor: &mut Cursor<A>,
     board: &mut B,

@@ -127,9 +127,9 @@ impl<A: Region> Walk<A> {
         }
     }
 
-    // Comes to the next entry that counts, also to one of a deleted key; None behind the last. In
-    // the code of the callers, as all that it calls for a key whose page is there: then an entry
-    // is moved least on its way out.
+    // Comes to the next entry that counts, also to one of a deleted key; None after the last.
+    // Inlined into the callers, as is all that it calls for a key whose page is there: then an
+    // entry is moved least on its way out.
     #[inline(always)]
     fn step<B: Nand>(
         &mut self,
@@ -161,7 +161,7 @@ impl<A: Region> Walk<A> {
             × ReadsFail (pages_read levels.now.runs self.old.cursors)
             (pages_read levels.now.runs self.new.cursors) (B.state board.old) (B.state board.new)) }
 
-        // The flash is as it was.
+        // The flash is unchanged.
         ensures same { (B.state board.new).pages ≡ (B.state board.old).pages }
         ensures ready { IsReady (B.state board.new) levels.now.shape }
     {
@@ -188,11 +188,13 @@ impl<A: Region> Walk<A> {
         }
     }
 
-    /// The next key that is there, as its entry with the place of the value; None exactly after the last. `Reading` where a read
-    /// fails, and the same call may be made again then; else nothing fails.
+    /// The next key that exists, as its entry with the place of the value; None exactly after the
+    /// last. `Reading` if a read fails, and the same call may be made again then; otherwise nothing
+    /// fails.
     ///
-    /// The parts are as at the first call since the start. A page of a run without frames is read when the walk comes to it, and
-    /// not again; a walk that began at the first key has read each of them once behind its last key.
+    /// The parts are as at the first call since the start. A page of a run without frames is read
+    /// when the walk reaches it, and not again; a walk that began at the first key has read each of
+    /// them once after its last key.
     #[inline(always)]
     pub fn next<B: Nand>(
         &mut self,
@@ -310,7 +312,7 @@ fn know_all<A: Region, B: Nand>(
         × ReadsFail (pages_read levels.now.runs cursors.old)
         (pages_read levels.now.runs cursors.new) (B.state board.old) (B.state board.new)) }
 
-    // The flash is as it was.
+    // The flash is unchanged.
     ensures same { (B.state board.new).pages ≡ (B.state board.old).pages }
     ensures ready { IsReady (B.state board.new) levels.now.shape }
     ensures four { length cursors.new ≡ 4 }

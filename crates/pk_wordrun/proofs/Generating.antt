@@ -90,7 +90,7 @@ installs_few : (begin count : ℕ) → installs (workload begin count) ≤ turn_
 installs_few begin zero = omega arith
 installs_few begin (suc n) = let e = installs_few begin n in let more = installs-push (workload begin n) (command_at begin n) in let few = few_at begin n in omega (arith, e, more, few)
 
--- the first ones stand in front of more
+-- the first ones come before more
 abbrev Front : ℕ → ℕ → ℕ → Type 0
 Front begin turn count = (more : List Command) × (workload begin count ≡ workload begin turn ++ more)
 

@@ -42,7 +42,7 @@ module _ (shape : Shape) (frames : ℕ) (start : Map) (a b : BoardState) (drive 
   abbrev now : Option ℕ
   now = rise a.read_faults b.read_faults
 
-  -- what stands now is kept, and no byte was given out
+  -- what is there now is kept, and no byte was given out
   present : KeptSilently shape frames start (commands all) now b.pages (all_posted w.reached.0)
   present = at_end w.reached.0 a b (KeptSilently shape frames start (commands all) now) w.reached.1
 

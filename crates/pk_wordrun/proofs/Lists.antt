@@ -31,11 +31,11 @@ use Rattle.pk_wordrun.specs.Told.{Told}
 use Rattle.pk_wordrun.specs.declared.end.WordEnd.{WordEnd}
 use Rattle.pk_wordrun.specs.declared.end.WordEnd.TheVariants.{Done, Output, Flash as FlashFailed, Worn}
 
--- the map stands, and what was given out begins these lines
+-- the map is unchanged, and what was posted begins these lines
 abbrev FrontOf : Shape → Map → List ℕ → Flash → List ℕ → Type 0
 FrontOf shape start lines flash posted = Holds shape flash start × ((rest : List ℕ) × (posted ++ rest ≡ lines))
 
--- So far: nothing was done but reads, and the lines of the first keys went out; the others are left at this place.
+-- So far: nothing was done but reads, and the lines of the first keys were posted; the others remain at this place.
 pub record IsSaying (from : Option Key) (shape : Shape) (start : Map) (a b : BoardState) (place : ListPosition) : Type 0 where
   pub has : a.shape ≡ Some shape
   pub holds : Holds shape a.pages start
@@ -102,7 +102,7 @@ module _ (from : Option Key) (shape : Shape) (frames : ℕ) (start : Map) (a b :
   rests_on : (c : BoardState) → RestsFlash b c → RestsFlash a c
   rests_on c more = Rests-then a b c so_far.pages so_far.rests more
 
-  -- one more text behind what went out: what every cut before it has, and every front of it
+  -- one more text after what was posted: what every cut before it has, and every prefix of it
   module _ (asked : BoardState) (only : OnlyReading b asked) (text : List ℕ) (P : Flash → List ℕ → Type 0)
       (before : (f : Flash) (q : List ℕ) → FrontOf shape start lines f q → P f q)
       (begins : (out rest : List ℕ) → out ++ rest ≡ text → (f : Flash) → Holds shape f start → P f (key_lines so_far.front ++ out)) where
@@ -131,7 +131,7 @@ module _ (from : Option Key) (shape : Shape) (frames : ℕ) (start : Map) (a b :
 
   -- ---- one more piece
 
-  -- the lines of the next keys, and those behind them
+  -- the lines of the next keys, and those after them
   pieces : (page left : List Key) → keys_left place start ≡ page ++ left → lines ≡ key_lines so_far.front ++ (key_lines page ++ key_lines left)
   pieces page left e =
       ap key_lines (so_far.split ∙ ap (λ (ks : List Key). so_far.front ++ ks) e)
@@ -236,7 +236,7 @@ module _ (from : Option Key) (shape : Shape) (frames : ℕ) (start : Map) (a b :
         };
       }
 
-  -- a front of the lines of the next keys
+  -- a prefix of the lines of the next keys
   begins_lines : (next : ListPosition) (asked : BoardState) (text : List ℕ) → PieceAsked shape b asked place (Some next) text → (x y : ℕ)
       → (out rest : List ℕ) → out ++ rest ≡ text → (f : Flash) → Holds shape f start → KeptTask (list from) x y shape frames start f (key_lines so_far.front ++ out)
   begins_lines next asked text is x y out rest e f h =

@@ -1,4 +1,4 @@
--- A drive fits its board behind a post as before it.
+-- A drive fits its board after a post as before it.
 use Rattle.std.proofs.Common.{◌≡◌, List, ℕ, Option, sym, subst}
 use mathlib.Core.Logic.{∥∥₁_map}
 use Rattle.pk_base.specs.Shape.{Shape}

@@ -1,4 +1,4 @@
--- A flash rests while commands only read, and a text goes out behind them.
+-- A flash rests while commands only read, and a text is posted after them.
 use Rattle.std.proofs.Common.{◌≡◌, List, ℕ, refl, ap, true, false}
 use Rattle.pk_base.specs.Shape.{Shape}
 use Rattle.pk_nand.specs.BoardState.{BoardState}

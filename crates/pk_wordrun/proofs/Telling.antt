@@ -42,7 +42,7 @@ output_unworn e = cc
 pub flash_unworn : ◌≡◌ {A = WordEnd} FlashFailed Worn → ⊥
 flash_unworn e = cc
 
--- ---- what stays of a board
+-- ---- what of a board is unchanged
 
 pub keeps-flash : (a b : BoardState) → OnlyFlash a b → KeepsInput a b
 keeps-flash a b only = record { input = ap (λ (s : BoardState). s.input) only; in_faults = ap (λ (s : BoardState). s.in_faults) only }

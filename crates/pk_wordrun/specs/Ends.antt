@@ -1,4 +1,4 @@
--- How a word ends where a command was not answered.
+-- How a word ends if a command was not answered.
 use Rattle.pk_port.specs.declared.halt.Halt.{Halt}
 use Rattle.pk_port.specs.declared.halt.Halt.TheVariants.{Stopped, Worn as UsedUp}
 use Rattle.pk_wordrun.specs.declared.end.WordEnd.{WordEnd}

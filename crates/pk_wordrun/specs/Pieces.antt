@@ -32,7 +32,7 @@ pub record PieceUnposted (shape : Shape) (a c : BoardState) (place : ListPositio
   pub is : PieceAsked shape a asked place next text
   pub failed : PostFailed asked c text
 
--- Why no piece went out: the output failed; or a call of the flash that stops a drive, which no command that reads makes; or the numbers of
+-- Why no piece was posted: the output failed; or a flash operation that stops a drive, which no command that reads makes; or the numbers of
 -- roots are used up, and nothing was done.
 abbrev pub PieceEnds : Shape → BoardState → BoardState → ListPosition → WordEnd → Type 0
 PieceEnds shape a c place Done = ⊥

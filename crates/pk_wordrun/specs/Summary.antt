@@ -37,7 +37,7 @@ summary_lines all keys pages =
     ++ number_line (codes "live") pages
     ++ number_line (codes "most") (most_read all)
 
--- A run of the workload from one map to another, with at most so many read errors, and its summary.
+-- A run of the workload from one map to another, with at most n read errors, and its summary.
 pub record SaysSummary (begin count : ℕ) (n : Option ℕ) (shape : Shape) (frames : ℕ) (m : Map) (text : List ℕ) (m' : Map) : Type 0 where
   pub all : List Exchange
   pub are : commands all ≡ workload begin count

@@ -13,7 +13,7 @@ use Rattle.pk_words.specs.Question.{Question, put, get, delete, has, stat, comma
 use Rattle.pk_words.specs.Says.{SaysKeys}
 use Rattle.pk_wordrun.specs.Summary.{SaysSummary}
 
--- a question, a list of the keys from one on, or a workload from a start, of so many commands
+-- a question, a list of the keys from one on, or a workload from a start, of n commands
 pub data Task : Type 0 where
   answer : Question → Task
   list : Option Key → Task
@@ -33,17 +33,17 @@ only_asks (answer q) = only_asked q
 only_asks (list from) = true
 only_asks (generate begin count) = false
 
--- what the answer to a question says on some drive; that a read failed is said only where the count of failed reads rose
+-- what the answer to a question says on some drive; that a read failed is said only if the count of failed reads rose
 abbrev pub SaysAnswer : Question → ℕ → ℕ → Shape → Map → List ℕ → Map → Type 0
 SaysAnswer q before behind shape m text m' = (frames : ℕ) × Answers q (Rose before behind) shape (limit shape) frames m text m'
 
--- What a word says, from map to map, on a drive with so many frames, where the count of failed reads went from one number to another.
+-- What a word says, from map to map, on a drive with this many frames, if the count of failed reads went from one number to another.
 abbrev pub SaysTask : Task → ℕ → ℕ → Shape → ℕ → Map → List ℕ → Map → Type 0
 SaysTask (answer q) before behind shape frames m text m' = SaysAnswer q before behind shape m text m'
 SaysTask (list from) before behind shape frames m text m' = SaysKeys from (Rose before behind) shape (limit shape) frames m text m'
 SaysTask (generate begin count) before behind shape frames m text m' = SaysSummary begin count (rise before behind) shape frames m text m'
 
--- The map stands, and what was given out begins a text of the list.
+-- The map is unchanged, and what was posted begins a text of the list.
 pub record KeptList (from : Option Key) (before behind : ℕ) (shape : Shape) (frames : ℕ) (start : Map) (flash : Flash) (posted : List ℕ) : Type 0 where
   pub held : Holds shape flash start
   pub text : List ℕ
@@ -51,8 +51,8 @@ pub record KeptList (from : Option Key) (before behind : ℕ) (shape : Shape) (f
   pub unposted : List ℕ
   pub front : posted ++ unposted ≡ text
 
--- What every cut of a word keeps: the map after commands of the word from the front on; and where a byte was given out, the map after all of
--- them, and what was given out begins a text that is said of both maps. A list changes no map.
+-- What every cut of a word keeps: the map after a prefix of the word's commands; and if a byte was posted, the map after all of them, and
+-- what was posted begins a text that is said of both maps. A list changes no map.
 abbrev pub KeptTask : Task → ℕ → ℕ → Shape → ℕ → Map → Flash → List ℕ → Type 0
 KeptTask (answer q) before behind shape frames start flash posted =
     KeptWord (SaysTask (answer q) before behind shape frames start) shape frames start (command_of shape q ∷ []) (rise before behind) flash posted

@@ -29,7 +29,7 @@ EndsBy task shape frames start a b Output = Rose a.out_faults b.out_faults
 EndsBy task shape frames start a b Flash = Rose a.stop_faults b.stop_faults
 EndsBy task shape frames start a b Worn = (is_worn b ≡ true) × NoFaults a b
 
--- the input was left alone
+-- the input was not touched
 pub record KeepsInput (a b : BoardState) : Type 0 where
   pub input : b.input ≡ a.input
   pub in_faults : b.in_faults ≡ a.in_faults
@@ -44,7 +44,7 @@ most_roots (answer q) = 0
 most_roots (list from) = 0
 most_roots (generate begin count) = turn_roots * count
 
--- Wherever it was cut off it was kept, and it ended so. A word that only asks leaves each page of the flash.
+-- Wherever it was cut it was kept, and it ended so. A word that only asks changes no page of the flash.
 pub record Told (task : Task) (shape : Shape) (frames : ℕ) (start : Map) (a b : BoardState) (end : WordEnd) : Type 0 where
   pub kept : Goes shape a b (KeptTask task a.read_faults b.read_faults shape frames start)
   pub rests : only_asks task ≡ true → RestsFlash a b

@@ -17,7 +17,7 @@ pub enum WordEnd {
     Worn,
 }
 
-/// How a word ends where a command was not answered.
+/// How a word ends if a command was not answered.
 pub fn end_of(halt: Halt) -> WordEnd
     ensures { result ≡ end_of halt }
 {

@@ -59,7 +59,8 @@ fn ask_keys<D: Engine, B: Nand>(
     }
 }
 
-/// Asks for the next piece of a list, and gives it to the host. The place where the list goes on; nothing behind its last piece.
+/// Asks for the next piece of a list, and sends it to the host. The place where the list goes on;
+/// nothing after its last piece.
 pub fn tell_piece<D: Engine, B: Board>(
     words: &mut Words,
     drive: &mut D,
@@ -73,7 +74,7 @@ pub fn tell_piece<D: Engine, B: Board>(
     requires runs { (D.sight drive.old).stopped ≡ false }
     requires room { HasRoom shape buffer.old }
 
-    // The drive on its board behind it.
+    // The drive on its board after it.
     ensures fits { IfOk result (λ next. ∥ Fits (D.agrees drive.new) shape (B.state board.new)
         (D.sight drive.new) ∥₁) }
     ensures runs { IfOk result (λ next. (D.sight drive.new).stopped ≡ false) }

@@ -4,7 +4,7 @@ ghost use Rattle.pk_nand.specs.Calls.{after_post, PostFailed};
 
 use pk_nand::{Board, HostFault};
 
-/// Gives a text to the host; nothing is done where it is empty.
+/// Posts a text; nothing is done if it is empty.
 pub fn say<B: Board>(board: &mut B, text: &[u8]) -> Result<(), HostFault>
     ensures posts { OnOk result
         (B.state board.new ≡ after_post (B.state board.old) text.now) }

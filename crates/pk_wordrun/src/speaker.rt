@@ -83,7 +83,7 @@ impl Speaker {
 
     /// Does what a word asks of a drive that was opened, and gives its text to the host. No memory is taken.
     pub fn run<D: Engine, B: Board>(self, drive: &mut D, board: &mut B, task: Task) -> WordEnd
-        // The drive on its board, with nothing pending, and the map for which it stands.
+        // The drive on its board, with nothing pending, and the map that it represents.
         requires agrees { D.agrees drive.old (B.state board.old).shape (B.state board.old).pages }
         requires runs { (D.sight drive.old).stopped ≡ false }
         requires none { (D.sight drive.old).pending ≡ [] }

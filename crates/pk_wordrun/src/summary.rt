@@ -1,4 +1,4 @@
-//! What a workload came to.
+//! The result of a workload.
 ghost use Rattle.std.specs.Prelude.{◌≡◌, ◌<◌, ◌≤◌, ◌+◌, ◌-◌, ◌^◌, ◌++◌, ◌∷◌, [], ◌==◌, ℕ, max, List, length, if◌then◌else◌};
 ghost use Rattle.pk_model.specs.Run.{Exchange};
 ghost use Rattle.pk_nvme.specs.Bytes.{RoomyList};
@@ -85,7 +85,7 @@ impl Summary {
     }
 }
 
-/// One more where this holds.
+/// One more if this holds.
 fn one_more(count: u32, holds: bool) -> u32
     ensures { count < 2 ^ 32 - 1 → result ≡ count + (if holds then 1 else 0) }
 {

@@ -14,7 +14,7 @@ pub enum Task {
     Generate(Series),
 }
 
-/// Commands of a generated workload: so many of those from a start.
+/// Commands of a generated workload: the first n of those from a start.
 #[derive(Clone, Copy, Debug)]
 pub struct Series {
     /// What the generator starts from.

@@ -17,7 +17,7 @@ pub one_more : (ks : List Key) (i : ℕ) → i < length ks → key_lines (take (
 one_more ks i h =
     ap key_lines (take_more ks i [] h) ∙ flat_map-append key_line (take i ks) (slice_index_or ks i [] ∷ []) ∙ ap (λ (xs : List ℕ). key_lines (take i ks) ++ xs) (append-nil (key_line (slice_index_or ks i [])))
 
--- what stands in a text when so many keys of a page were said
+-- what is in a text when n keys of a page were said
 pub record AreSaid (page : List Key) (text initial : RoomyList) (i : ℕ) : Type 0 where
   pub lines : text ≡ record initial { items = key_lines (take i page) }
   pub most : length text.items ≤ 33 * i

@@ -28,7 +28,7 @@ use Rattle.pk_words.specs.Lines.{key_line, key_lines, status_line, failed_line}
 use Rattle.pk_words.specs.Listing.{IsText, keys_left, behind, pieces_left, Continues, Ends}
 use Rattle.pk_words.proofs.RankLemmas.{after_first, after_key}
 
--- ---- keys that are not below a key: it itself, where it is there, and those above it
+-- ---- keys that are not below a key: the key itself, if it exists, and those above it
 
 -- a key is not below another that is below it
 not_below : (a b : Key) → is_lt (key_cmp a b) ≡ true → is_lt (key_cmp b a) ≡ false
@@ -59,7 +59,7 @@ none_found : (key : Key) (es : List (Key × List ℕ)) → AllByRecursion (λ k.
 none_found key [] h = refl
 none_found key (e ∷ es) h = none_by key e es (key_cmp key e.0) (none_found key es h.1) refl h.0
 
--- the key itself, where it is one of them
+-- the key itself, if it is one of them
 abbrev itself : Key → Option (List ℕ) → List Key
 itself key value = if is_some value then key ∷ [] else []
 
@@ -77,7 +77,7 @@ module _ (key : Key) (e : Key × List ℕ) (es : List (Key × List ℕ)) where
   Splits : Type 0
   Splits = kept key (names (e ∷ es)) ≡ itself key (find key_cmp key (e ∷ es)) ++ above key (names (e ∷ es))
 
-  -- what both sides are, by how the key stands to the first of them
+  -- what both sides are, by how the key compares with the first of them
   found_by : (o : Ordering) → key_cmp key e.0 ≡ o
       → itself key (find key_cmp key (e ∷ es)) ++ above key (names (e ∷ es))
       ≡ itself key (cond (is_eq o) (Some e.1) (find key_cmp key es)) ++ (if is_lt o then e.0 ∷ above key (names es) else above key (names es))

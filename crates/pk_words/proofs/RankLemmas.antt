@@ -15,7 +15,7 @@ tail_bytes b k h i = h (suc i)
 power : (n : ℕ) → 257 ^ suc n ≡ 257 * 257 ^ n
 power n = pow-succ' 257 n
 
--- a first byte and all that may stand behind it
+-- a first byte and all that may follow it
 byte_room : (b x : ℕ) → b < 256 → suc b * x + x ≤ 257 * x
 byte_room b x h = omega (arith, mul-le-mul_right x (let k : suc b ≤ 256 = omega arith in k))
 

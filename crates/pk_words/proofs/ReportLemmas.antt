@@ -13,7 +13,7 @@ use Rattle.pk_words.specs.Lines.{number_line, number_lines, report_names, report
 use Rattle.pk_words.specs.Says.{SaysNumbers}
 use Rattle.pk_words.specs.Said.{Said}
 
--- the lines so far, and those of the numbers that are left
+-- the lines so far, and those of the numbers that remain
 pub record AreCounted (numbers : List ℕ) (text initial : RoomyList) (i : ℕ) : Type 0 where
   pub lines : text.items ++ number_lines (drop i report_names) numbers (4 * i) ≡ report_lines numbers
   pub room : text.room ≡ initial.room

@@ -54,7 +54,7 @@ found_small bound (e ∷ es) q v all found =
 value_small : (shape : Shape) (m : Map) (q : Key) (v : List ℕ) → IsMap shape m → get m q ≡ Some v → length v ≤ greatest shape
 value_small shape m q v h found = found_small (greatest shape) (entries m) q v h.values (sym (get-entries m q) ∙ found)
 
--- the front that was fetched into a buffer of that size is the whole value
+-- the prefix that was fetched into a buffer of that size is the whole value
 whole_front : (value : Option (List ℕ)) (len : ℕ) (into : List ℕ) (bound : ℕ) → ((v : List ℕ) → value ≡ Some v → length v ≤ bound) → length into ≡ bound → IsFront value (Some len) into → value ≡ Some (take len into)
 whole_front None len into bound small sized h = cc
 whole_front (Some v) len into bound small sized h =

@@ -39,7 +39,7 @@ report_names =
     codes "live" ∷ codes "limit" ∷ codes "keys" ∷ codes "pinned" ∷ codes "frames" ∷ codes "leased" ∷ codes "active" ∷ codes "frozen" ∷ codes "run1" ∷ codes "run2"
     ∷ codes "run3" ∷ codes "run4" ∷ codes "epoch" ∷ codes "blocks" ∷ codes "ready" ∷ codes "merge" ∷ []
 
--- a line for each name, with the numbers of four bytes each that stand from a place on
+-- a line for each name, with the numbers of four bytes each that begin at a place
 abbrev pub number_lines : List (List ℕ) → List ℕ → ℕ → List ℕ
 number_lines [] numbers at = []
 number_lines (name ∷ names) numbers at = number_line name (u32_at numbers at) ++ number_lines names numbers (at + 4)

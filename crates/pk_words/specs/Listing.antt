@@ -26,7 +26,7 @@ abbrev pub start_at : Option Key → ListPosition
 start_at None = First
 start_at (Some key) = From key
 
--- behind a key, or at the first key of all
+-- after a key, or at the first key of all
 abbrev pub behind : Option Key → ListPosition
 behind None = First
 behind (Some key) = After key
@@ -50,14 +50,14 @@ pub record IsText (key : Key) : Type 0 where
   pub is_key : IsKey key
   pub bytes : AreBytes key
 
--- at most so many pieces come behind a key
+-- at most n pieces come after a key
 unfoldable pub pieces_after : Key → ℕ
 pieces_after key = 257 ^ KEY_BYTES - rank KEY_BYTES key
 
 unfoldable pub most_pieces : ℕ
 most_pieces = 257 ^ KEY_BYTES
 
--- at most so many pieces are left: each makes it less
+-- at most n pieces remain: each makes it less
 abbrev pub pieces_left : ListPosition → ℕ
 pieces_left First = most_pieces + 1
 pieces_left (From key) = pieces_after key + 1
@@ -70,7 +70,7 @@ pub record Continues (old : PortState) (place next : ListPosition) (text : List 
   pub lines : (m : Map) → old.map ≡ Some m → (page : List Key) × (keys_left place m ≡ page ++ keys_left next m) × (text ≡ key_lines page)
   pub falls : pieces_left next < pieces_left place
 
--- no key is left, or a read failed, which is said
+-- no key remains, or a read failed, which is said
 abbrev pub Ends : PortState → PortState → ListPosition → List ℕ → Type 0
 Ends old new place text =
     (m : Map) → old.map ≡ Some m → ((text ≡ []) × (keys_left place m ≡ [])) ⊎ (Rose old.read_faults new.read_faults × (text ≡ failed_line))
@@ -82,7 +82,7 @@ Piece old new place None text = Ends old new place text
 
 -- ---- all pieces
 
--- Some pieces were said: their lines are those of the first keys that are wanted, and the keys that are left are the others.
+-- Some pieces were said: their lines are those of the first keys that are wanted, and the keys that remain are the others.
 pub record Listed (from : Option Key) (start now : PortState) (place : ListPosition) (text : List ℕ) : Type 0 where
   pub leaves : Leaves start now (λ m. m)
   pub lines : (m : Map) → start.map ≡ Some m → (front : List Key) × (text ≡ key_lines front) × (wanted_keys from m ≡ front ++ keys_left place m)

@@ -15,18 +15,18 @@ pub record Spoken : Type 0 where
   pub shape : Shape
   pub text : List ℕ
 
--- from this map on, the port was left with the map that the text leaves; that a read failed is said only where one did
+-- from this map on, the port's map afterwards is the one of the text; that a read failed is said only if one did
 pub record SaidOn (Says : Saying) (old new : PortState) (text : List ℕ) (m : Map) : Type 0 where
   pub frames : ℕ
   pub left : Map
   pub says : Says (Rose old.read_faults new.read_faults) old.shape old.limit frames m text left
   pub told : new.map ≡ Some left
 
--- the text is the definition's, from the port's map, where that is told
+-- the text is the definition's, from the port's map, if that is known
 abbrev pub Said : Saying → PortState → PortState → List ℕ → Type 0
 Said Says old new text = (m : Map) → old.map ≡ Some m → SaidOn Says old new text m
 
--- the status of the reply of which this outcome is made; a fault where it is made of none
+-- the status of the reply of which this outcome is made; a fault if it is made of none
 abbrev pub IsStatus : {X : Type 0} → (Reply → Result X HostError) → Result X HostError → Result ℕ PortFault → Type 0
 IsStatus of outcome (Ok status) = (outcome ≢ Err Port) × ((a : Reply) → outcome ≡ of a → a.status ≡ status)
 IsStatus of outcome (Err fault) = (a : Reply) → outcome ≢ of a

@@ -11,7 +11,7 @@ use Rattle.pk_model.specs.Answer.{report_bytes}
 use Rattle.pk_model.specs.Run.{StepIn}
 use Rattle.pk_words.specs.Lines.{failed_line, status_line, value_line, key_lines, report_lines}
 
--- a text from one map to another, on a drive of this shape, this limit of live pages and so many frames; and what holds where a read failed
+-- a text from one map to another, on a drive of this shape, this limit of live pages and this many frames; and what holds if a read failed
 abbrev pub Saying : Type 1
 Saying = Type 0 → Shape → ℕ → ℕ → Map → List ℕ → Map → Type 0
 
@@ -34,7 +34,7 @@ SaysValue key failed shape most frames m text m' = (m' ≡ m) × Finds failed (v
 abbrev pub wanted_keys : Option Key → Map → List Key
 wanted_keys from m = keys_from (key_or_none from) m
 
--- all keys that are wanted, or a front of them and that a read failed
+-- all keys that are requested, or a prefix of them and that a read failed
 abbrev pub ListsKeys : Type 0 → List Key → List ℕ → Type 0
 ListsKeys failed wanted text =
     (text ≡ key_lines wanted)

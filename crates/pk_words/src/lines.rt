@@ -41,7 +41,7 @@ pub fn say_value(value: &[u8], text: &mut Bytes)
     text.push(b'\n');
 }
 
-/// The first bytes, so many of them; all where there are no more.
+/// The first `len` bytes; all if there are no more.
 pub fn front(bytes: &[u8], len: usize) -> &[u8]
     ensures { result.now ≡ take len bytes.now }
 {

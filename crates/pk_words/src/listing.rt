@@ -20,9 +20,9 @@ use pk_host::{HostError, KeyPage, Port, PortFault};
 pub enum ListPosition {
     /// At the first key.
     First,
-    /// At this key, or behind it where it is missing.
+    /// At this key, or after it if it is missing.
     From(Key),
-    /// Behind this key.
+    /// After this key.
     After(Key),
 }
 
@@ -39,8 +39,8 @@ impl ListPosition {
 }
 
 impl Words {
-    /// Says the next piece of a list, by one command. The place where the list goes on; nothing where this was its last piece, as no
-    /// key is left or as a read failed.
+    /// Says the next piece of a list, by one command. The place where the list goes on; nothing if
+    /// this was its last piece, as no key remains or as a read failed.
     pub fn list<P: Port>(
         &mut self,
         port: &mut P,
@@ -64,7 +64,7 @@ impl Words {
         }
     }
 
-    /// Says this key, where it is there.
+    /// Says this key, if it exists.
     fn list_at<P: Port>(
         &mut self,
         port: &mut P,
@@ -95,7 +95,7 @@ impl Words {
         }
     }
 
-    /// Says a page of the keys behind this one, or from the first where there is none.
+    /// Says a page of the keys after this one, or from the first if there is none.
     fn list_after<P: Port>(
         &mut self,
         port: &mut P,

@@ -13,11 +13,11 @@ use Rattle.pk_work.specs.Steps.{MovesMerge, EndsMerge, MovesFreeze, EndsFreeze, 
 abbrev pub WorkMost : Type 0
 WorkMost = (shape : Shape) (b : Backlog) → IsShape shape → IsBacklog shape b → work shape b < 4 * most_calls shape + 2 * shape.blocks
 
--- what is left to empty the frozen buffer is at most four whole merges
+-- what remains to empty the frozen buffer is at most four whole merges
 abbrev pub MergingMost : Type 0
 MergingMost = (shape : Shape) (b : Backlog) → IsBacklog shape b → merging shape b ≤ emptying shape 4
 
--- A step of a merge lowers the work, and what is left to empty the frozen buffer; the level that is due is the same, or one less behind an end.
+-- A step of a merge lowers the work, and what remains to empty the frozen buffer; the level that is due is the same, or one less after an end.
 abbrev pub MergeMoves : Type 0
 MergeMoves =
     (shape : Shape) (b b' : Backlog) → MovesMerge shape b b'
@@ -49,7 +49,7 @@ Reclaims = (shape : Shape) (b b' : Backlog) → StepsReclaim shape b b' → work
 abbrev pub Erases : Type 0
 Erases = (shape : Shape) (b b' : Backlog) → ErasesBlock b b' → work shape b' < work shape b
 
--- Where it is not tight, so many moves have room; and it is not tight behind a freeze.
+-- If it is not tight, that many moves have room; and it is not tight after a freeze.
 abbrev pub RoomForMoves : Type 0
 RoomForMoves = (shape : Shape) (active left moves : ℕ) → is_tight shape active left ≡ false → moves ≤ dense shape → (active + moves ≤ buffer shape) × (0 < left)
 
@@ -96,7 +96,7 @@ FewPages = (shape : Shape) (level entries : ℕ) → IsShape shape → entries �
 abbrev pub FewBlocks : Type 0
 FewBlocks = (shape : Shape) (level entries : ℕ) → IsShape shape → entries ≤ room shape level → run_blocks shape entries ≤ blocks_of shape (cap shape level)
 
--- where as many data blocks are in use as there may be, one of them has few enough live pages to be reclaimed
+-- if as many data blocks are in use as there may be, one of them has few enough live pages to be reclaimed
 abbrev pub LightVictim : Type 0
 LightVictim =
     (shape : Shape) (live : List ℕ) → IsShape shape → length live ≡ data_blocks shape - 1 → sum live ≤ limit shape

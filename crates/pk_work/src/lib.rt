@@ -1,5 +1,5 @@
-//! How much work is left in the background, and how many calls of the flash a command makes: definitions, and laws
-//! over them, each the contract of a function that does nothing.
+//! How much work remains in the background, and how many flash operations a command makes:
+//! definitions, and laws over them, each the contract of a function that does nothing.
 #![tactic(auto)]
 
 ghost use Rattle.pk_work.specs.Laws.{WorkMost, MergingMost, MergeMoves, MergeEnds, FreezeMoves, FreezeEnds, PairEnds, Reclaims, Erases, RoomForMoves, FrozenIsRoom, LightVictim, RoomBehind, MergeWithin, MergePrograms, MergeTakes, FreezeWithin, FreezeTakes, ReclaimWithin, ReclaimReads, ReclaimPrograms, FewPages, FewBlocks};
@@ -17,7 +17,8 @@ pub fn merges()
     ensures ends { MergeEnds }
 {}
 
-/// Each step of a freeze lowers the work, with the merges that are due behind it, and so does the second program of a root.
+/// Each step of a freeze lowers the work, with the merges that are due after it, and so does the
+/// second program of a root.
 #[tactic(auto, unfolding(crate::specs::Work::work, crate::specs::Backlog::due_level))]
 pub fn freezes()
     ensures moves { FreezeMoves }
@@ -59,7 +60,8 @@ pub fn pages()
     ensures few_blocks { FewBlocks }
 {}
 
-/// No command makes more calls of the flash than its parts can, and these come to the most calls of a command.
+/// No command makes more flash operations than its parts can, and these add up to the most
+/// operations of a command.
 pub fn commands()
     ensures { CallsMost }
 {}

@@ -6,7 +6,7 @@ use Rattle.pk_pool.specs.Unready.{unready}
 use Rattle.pk_merge.specs.Jobs.{AreOwned}
 use Rattle.pk_merge.proofs.job.leave_blocks.Given as goal
 
--- the blocks that are left to leave are owned, and once those are freed that left, it is as if these were given back as well
+-- the blocks that remain to leave are owned, and once those are freed that left, it is as if these were given back as well
 abbrev pub invariant-loop-block : goal.invariant-loop-block
 invariant-loop-block g l = record {
   owned : AreOwned (freed l.pool) (drop l.block-index l.blocks);

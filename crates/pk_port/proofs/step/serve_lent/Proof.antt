@@ -25,7 +25,7 @@ module _ (T1' : RattleType.RattleType) (T2' : RattleType.RattleType) (L1' : Laws
   abbrev post : lts.Post-type T1' T2' L1' L2' D-Engine-dict B-Nand-dict
   post = reads.Post T1' T2' L1' L2' D-Engine D-Engine-dict B-Nand B-Nand-dict
 
-  -- the same where the drive is known to fit
+  -- the same if the drive is known to fit
   abbrev sure : lts.Pre-type T1' T2' L1' L2' D-Engine-dict B-Nand-dict
   sure κs a = some κs a × Fits (D-Engine.agrees a.0.now) a.1.1.0.now (B-Nand.state a.1.0.now) (D-Engine.sight a.0.now)
 

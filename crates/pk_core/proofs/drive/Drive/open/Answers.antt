@@ -31,7 +31,7 @@ returns-in-Ok-over-clause-fresh g c = (c.in-Ok-over.ensures c.args.shape _ c.arg
 pub returns-in-Ok-over-clause-closed : goal.returns-in-Ok-over-clause-closed
 returns-in-Ok-over-clause-closed g c = (c.in-Ok-over.ensures c.args.shape _ c.args.frames c.requires.ready.flash c.in-Ok.ensures.opened).none_open
 
--- memory was wanting behind all reads
+-- memory was missing after all reads
 pub returns-in-Err-over-clause-err : goal.returns-in-Err-over-clause-err
 returns-in-Err-over-clause-err g c = (_, c.in-Ok.ensures.reads)
 

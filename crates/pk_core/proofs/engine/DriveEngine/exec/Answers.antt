@@ -35,7 +35,7 @@ returns-in-None-clause-early g c = rw (← c.self.view_is) (λ some.
     let never : false ≡ true = subst IsSome here some in
     cc)
 
--- a refused command leaves all as it was
+-- a refused command changes nothing
 pub returns-in-Some-clause-steady : goal.returns-in-Some-clause-steady
 returns-in-Some-clause-steady g c = rw (← c.self.view_is) (λ runs. steadies c.self.inside.parts (g.B.Nand.state c.args.board.now) (g.B.Nand.state c.args.board.now) (sight_of c.self.inside.parts) (rw (← c.self.view_is) at c.requires.agrees) refl c.known.ensures)
 

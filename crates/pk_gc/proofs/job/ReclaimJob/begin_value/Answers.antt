@@ -15,7 +15,7 @@ use Rattle.pk_gc.specs.Asking.{begun_course, begun_moves}
 use Rattle.pk_gc.proofs.Copying.{begin_runs}
 use Rattle.pk_gc.proofs.job.ReclaimJob.begin_value.Goals as goal
 
--- the head that stands in front of the page that was read
+-- the head at the start of the page that was read
 found_head : (shape : Shape) (flash : Flash) (page : ℕ) (key : Key) (len : ℕ) (bytes : List ℕ)
     → HasHead shape flash page key len → page_at flash page ≡ whole bytes
     → take 32 bytes ≡ head_bytes key len

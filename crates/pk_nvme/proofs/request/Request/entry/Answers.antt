@@ -6,7 +6,7 @@ use Rattle.pk_nvme.specs.Command.{command}
 use Rattle.pk_nvme.proofs.RequestLemmas.{command-entry_of}
 use Rattle.pk_nvme.proofs.request.Request.entry.Goals as goal
 
--- what was written behind a place, by the size of the text
+-- what was written after a place, by the size of the text
 front_sized : (at n : ℕ) (new old text : List ℕ) → length text ≡ n → take (at + length text) new ≡ take at old ++ text → take (at + n) new ≡ take at old ++ text
 front_sized at n new old text size front = ap (λ (k : ℕ). take (at + k) new) (sym size) ∙ front
 
