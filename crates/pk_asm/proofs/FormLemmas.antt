@@ -8,7 +8,7 @@ use Rattle.pk_base.specs.Fields.{AreBytes}
 use Rattle.pk_base.specs.Key.{IsKey}
 use Rattle.pk_nvme.specs.Text.{is_number, number_of, number_text, hex_text, bytes_text, some_bytes_of, bytes_of}
 use Rattle.pk_asm.specs.Words.{key_of}
-use Rattle.pk_asm.specs.Line.{retrieve_of, delete_of, exist_of, from_of, list_of, flush_of, report_of, tick_of, plain_of, options_of, store_with, store_of, named_of}
+use Rattle.pk_asm.specs.Line.{retrieve_of, delete_of, exist_of, from_of, list_form, flush_of, report_of, tick_of, plain_of, options_of, store_with, store_of, named_of}
 use Rattle.pk_asm.specs.Printed.{form_words, from_text, option_words}
 use Rattle.pk_asm.specs.declared.form.Form.{Form}
 use Rattle.pk_asm.specs.declared.form.Form.TheVariants.{Store, Retrieve, Delete, Exist, ListFrom, Flush, Report, Tick}
@@ -101,7 +101,7 @@ exist_is (k ∷ []) form e =
 exist_is [] form e = cc
 exist_is (k ∷ x ∷ ws) form e = cc
 
-list_is : (ws : List (List ℕ)) (form : Form) → list_of ws ≡ Some form → IsForm form []
+list_is : (ws : List (List ℕ)) (form : Form) → list_form ws ≡ Some form → IsForm form []
 list_is (k ∷ n ∷ []) form e =
     let h = both_are ListFrom (from_of k) (number_of n) form e in
     subst (λ f. IsForm f []) h.4 (from_is k h.0 h.2, number_is n h.1 h.3, refl)
@@ -133,7 +133,7 @@ plain_is name ws form e =
         | inl h ↦ delete_is ws form h
         | inr e2 ↦ elim (picked (bytes_eq name (codes "exist")) (exist_of ws) _ form e2) [
           | inl h ↦ exist_is ws form h
-          | inr e3 ↦ elim (picked (bytes_eq name (codes "list")) (list_of ws) _ form e3) [
+          | inr e3 ↦ elim (picked (bytes_eq name (codes "list")) (list_form ws) _ form e3) [
             | inl h ↦ list_is ws form h
             | inr e4 ↦ elim (picked (bytes_eq name (codes "flush")) (flush_of ws) _ form e4) [
               | inl h ↦ flush_is ws form h

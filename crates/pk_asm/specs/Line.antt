@@ -33,12 +33,12 @@ exist_of _ = None
 abbrev pub from_of : List ℕ → Option (Option (List ℕ))
 from_of word = if bytes_eq word (codes "-") then Some None else option_map Some (key_of word)
 
-abbrev pub list_of : List (List ℕ) → Option Form
-list_of (k ∷ n ∷ []) = do
+abbrev pub list_form : List (List ℕ) → Option Form
+list_form (k ∷ n ∷ []) = do
   from ← from_of k
   size ← number_of n
   Some (ListFrom from size)
-list_of _ = None
+list_form _ = None
 
 abbrev pub flush_of : List (List ℕ) → Option Form
 flush_of [] = Some Flush
@@ -57,7 +57,7 @@ plain_of name operands =
     if bytes_eq name (codes "retrieve") then retrieve_of operands else
     if bytes_eq name (codes "delete") then delete_of operands else
     if bytes_eq name (codes "exist") then exist_of operands else
-    if bytes_eq name (codes "list") then list_of operands else
+    if bytes_eq name (codes "list") then list_form operands else
     if bytes_eq name (codes "flush") then flush_of operands else
     if bytes_eq name (codes "report") then report_of operands else
     if bytes_eq name (codes "tick") then tick_of operands else None

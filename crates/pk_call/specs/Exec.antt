@@ -27,12 +27,12 @@ ExecStands old new before after c reply reads =
     (shape : Shape) (frames : ℕ) (m : Map) → HoldsMap shape frames old before m → Executed shape frames new after m c reply reads
 
 -- most roots of a Store: a reclaim and its entry may each need room, which takes four merges and a freeze, and each of these a root
-abbrev pub most_roots : ℕ
-most_roots = 2 * (4 + 1)
+abbrev pub most_store_roots : ℕ
+most_store_roots = 2 * (4 + 1)
 
 -- most roots that a command installs: a Tick one for each step, another at most ten
 abbrev pub most_installs : ℕ → ℕ → ℕ
-most_installs opcode size = if opcode == TICK then size else most_roots
+most_installs opcode size = if opcode == TICK then size else most_store_roots
 
 -- the bytes of a Report
 abbrev pub report_of : Counts → List ℕ

@@ -17,6 +17,6 @@ Settles old new before after steps =
     (shape : Shape) (frames : ℕ) (m : Map) → HoldsMap shape frames old before m → (after.work + steps ≤ before.work) ⊎ IsIdle shape new.pages after
 
 -- As many steps as may ever remain leave nothing to do.
-abbrev pub Rests : BoardState → BoardState → Sight → Sight → ℕ → Type 0
-Rests old new before after steps =
+abbrev pub RestsAfter : BoardState → BoardState → Sight → Sight → ℕ → Type 0
+RestsAfter old new before after steps =
     (shape : Shape) (frames : ℕ) (m : Map) → HoldsMap shape frames old before m → most_work shape ≤ steps → IsIdle shape new.pages after

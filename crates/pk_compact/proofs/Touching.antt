@@ -17,7 +17,7 @@ use Rattle.pk_model.specs.Crashes.{CrashFinds, background}
 use Rattle.pk_model.proofs.Running.{Reaches-program, Goes-program}
 use Rattle.pk_steps.specs.Under.{IsUnder}
 use Rattle.pk_steps.proofs.Untouched.{erases, under_reads}
-use Rattle.pk_compact.specs.Laws.{IsUnread, Leaves, ProgramUnread, EraseUnread}
+use Rattle.pk_compact.specs.Laws.{IsUnread, CallLeaves, ProgramUnread, EraseUnread}
 use Rattle.pk_compact.proofs.Taking.{take_reaches, take_under, take_goes}
 
 module _ (shape : Shape) (old : BoardState) (top : ℕ × Root) (found : Found) (m : Map) (block page : ℕ) (bytes : List ℕ) (is_shape : IsShape shape) (ready : IsReady old shape) (under : IsUnder shape old.pages [] top found m)
@@ -34,7 +34,7 @@ module _ (shape : Shape) (old : BoardState) (top : ℕ × Root) (found : Found) 
   grows : Grows shape old.pages (after shape (program page bytes) old.pages)
   grows = inl (under_after.is_top ∙ sym under.is_top)
 
-  program_leaves : (new : BoardState) → new ≡ after_program old page bytes → Leaves shape old top found m new
+  program_leaves : (new : BoardState) → new ≡ after_program old page bytes → CallLeaves shape old top found m new
   program_leaves new made =
       let P : BoardState → Type 0 = λ s. IsUnder shape s.pages [] top found m in
       let S : Shape → Type 0 = λ s. IsUnder shape (after s (program page bytes) old.pages) [] top found m in

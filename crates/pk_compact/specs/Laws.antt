@@ -32,7 +32,7 @@ pub record IsUnread (shape : Shape) (root : Root) (found : Found) (block : ℕ) 
   pub no_value : (k : ℕ) → k / shape.block_pages ≡ block → IsValuePage shape (places found []) k → ⊥
 
 -- the map is the same at every cut of a call, and the lists match after it
-pub record Leaves (shape : Shape) (old : BoardState) (top : ℕ × Root) (found : Found) (m : Map) (new : BoardState) : Type 0 where
+pub record CallLeaves (shape : Shape) (old : BoardState) (top : ℕ × Root) (found : Found) (m : Map) (new : BoardState) : Type 0 where
   pub under : IsUnder shape new.pages [] top found m
   pub cuts : Reaches shape old new (CrashFinds shape background old.pages m)
 
@@ -41,7 +41,7 @@ abbrev pub ProgramUnread : Type 0
 ProgramUnread =
     (shape : Shape) (old new : BoardState) (top : ℕ × Root) (found : Found) (m : Map) (block page : ℕ) (bytes : List ℕ) → IsShape shape → IsReady old shape
     → IsUnder shape old.pages [] top found m → IsUnread shape top.1 found block → page / shape.block_pages ≡ block
-    → (new ≡ after_program old page bytes → Leaves shape old top found m new)
+    → (new ≡ after_program old page bytes → CallLeaves shape old top found m new)
     × (ProgramFailed old new page bytes → Goes shape old new (CrashFinds shape background old.pages m))
 
 -- an erase of such a block, done or failed
@@ -49,5 +49,5 @@ abbrev pub EraseUnread : Type 0
 EraseUnread =
     (shape : Shape) (old new : BoardState) (top : ℕ × Root) (found : Found) (m : Map) (block : ℕ) → IsShape shape → IsReady old shape
     → IsUnder shape old.pages [] top found m → IsUnread shape top.1 found block
-    → (new ≡ after_erase old block → Leaves shape old top found m new)
+    → (new ≡ after_erase old block → CallLeaves shape old top found m new)
     × (EraseFailed old new block → Goes shape old new (CrashFinds shape background old.pages m))

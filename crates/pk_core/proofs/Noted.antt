@@ -23,7 +23,7 @@ use Rattle.pk_data.specs.Placed.{IsOpenIn}
 use Rattle.pk_call.specs.Moving.{HasOpenRoom, StoresIn, Stores}
 use Rattle.pk_parts.specs.Parts.{Parts, sight_of, block_if_open}
 use Rattle.pk_parts.specs.Agreeing.{DriveOnFlash}
-use Rattle.pk_parts.specs.Staying.{IsNoted, SameBlocks, OpensOne, MakesRoom}
+use Rattle.pk_parts.specs.Staying.{IsNoted, SameUse, OpensOne, MakesRoom}
 use Rattle.pk_parts.proofs.Ticking.{count_free}
 
 -- ---- what is seen of it
@@ -64,7 +64,7 @@ found_first found pending k place is =
 told_same : (a b : Shape) → ◌≡◌ {A = Option Shape} (Some a) (Some b) → a ≡ b
 told_same a b e = cc
 
-module _ (d e : Parts) (old new : BoardState) (c : Command) (a : DriveOnFlash d old.shape old.pages) (b : DriveOnFlash e new.shape new.pages) (n : IsNoted e (key c)) (blocks : SameBlocks d e ⊎ (OpensOne d e (charge d.log.shape c.size) ⊎ MakesRoom d e (charge d.log.shape c.size))) where
+module _ (d e : Parts) (old new : BoardState) (c : Command) (a : DriveOnFlash d old.shape old.pages) (b : DriveOnFlash e new.shape new.pages) (n : IsNoted e (key c)) (blocks : SameUse d e ⊎ (OpensOne d e (charge d.log.shape c.size) ⊎ MakesRoom d e (charge d.log.shape c.size))) where
   has_room : HasOpenRoom a.shape old.pages (sight_of d) (charge a.shape c.size) → fits_open d.log.shape d.space (charge d.log.shape c.size) ≡ false → ⊥
   has_room room none =
       let left : fits_open a.shape d.space (charge a.shape c.size) ≡ true = left_is a.shape (freed d.pool) old.pages d.space.open_block room.0 (charge a.shape c.size) a.with.placed.open_is room.1 room.2 in

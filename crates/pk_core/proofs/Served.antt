@@ -29,7 +29,7 @@ use Rattle.pk_model.proofs.Machines.{store_check, store_late, live_stored}
 use Rattle.pk_nand.specs.Effects.{NoFault, OnlyFlash}
 use Rattle.pk_call.specs.Drive.{HoldsMap}
 use Rattle.pk_model.specs.Growth.{Reaches, Goes}
-use Rattle.pk_call.specs.Exec.{Executed, most_installs, most_roots}
+use Rattle.pk_call.specs.Exec.{Executed, most_installs, most_store_roots}
 use Rattle.pk_model.specs.Crashes.{CrashFinds, commit, change, command}
 use Rattle.pk_call.specs.Seen.{reply_of as shown}
 use Rattle.pk_model.specs.Wear.{roots}
@@ -78,7 +78,7 @@ no_yes e = cc
 ok_sound : ◌≡◌ {A = ℕ} 0 0x88 → ⊥
 ok_sound e = cc
 
-module _ (d : Parts) (old new : BoardState) (a : DriveOnFlash d old.shape old.pages) (c : Command) (after : Map) (count : IsCounted old new) (few_roots : roots new ≤ roots old + most_roots) (one : most_installs c.opcode c.size ≡ most_roots)
+module _ (d : Parts) (old new : BoardState) (a : DriveOnFlash d old.shape old.pages) (c : Command) (after : Map) (count : IsCounted old new) (few_roots : roots new ≤ roots old + most_store_roots) (one : most_installs c.opcode c.size ≡ most_store_roots)
     (rest : OnlyFlash old new) (other : op_of c.opcode ≡ Some Retrieve → ⊥) (leaves : map_after d.log.shape (limit d.log.shape) a.all c ≡ after) where
   told : old.shape ≡ Some d.log.shape
   told = a.told_is ∙ ap (λ s. Some s) (sym a.with.shape_is)
@@ -325,11 +325,11 @@ module _ (d : Parts) (old : BoardState) (r : Request) (value : List ℕ) (k : Ke
     leaves_put : map_after d.log.shape (limit d.log.shape) all c ≡ insert all k value
     leaves_put = store_leaves d.log.shape (frames_of d) all c passes (ap op_of op) late_none ∙ ap (λ q. insert all q value) (sym named)
 
-    one_root : most_installs r.opcode r.size ≡ most_roots
+    one_root : most_installs r.opcode r.size ≡ most_store_roots
     one_root = ap (λ x. most_installs x r.size) op
 
     -- the result of putting it
-    pub store_came : (answer : Result Unit Fault) (e : Parts) (new : BoardState) (most : ℕ) (into : List ℕ) (outcome : Outcome) (reads : ℕ) → StoresWhole d e most old new k value answer → roots new ≤ roots old + most_roots → IsCounted old new → OnRunning (StaysBetween d e) answer
+    pub store_came : (answer : Result Unit Fault) (e : Parts) (new : BoardState) (most : ℕ) (into : List ℕ) (outcome : Outcome) (reads : ℕ) → StoresWhole d e most old new k value answer → roots new ≤ roots old + most_store_roots → IsCounted old new → OnRunning (StaysBetween d e) answer
         → outcome ≡ outcome_for answer reads → Executes d (stopped_by e answer) old new c outcome into (new.reads - old.reads)
     unfolding its_drive
     store_came (Ok u) e new most into outcome reads step few count stays told_is =
@@ -402,11 +402,11 @@ module _ (d : Parts) (old : BoardState) (r : Request) (v : List ℕ) (k : Key) (
     leaves_gone : map_after d.log.shape (limit d.log.shape) its_map dc ≡ remove its_map k
     leaves_gone = delete_leaves d.log.shape (frames_of d) its_map dc delete_passed (ap op_of op) gone_late ∙ ap (λ q. remove its_map q) (sym named)
 
-    gone_root : most_installs r.opcode r.size ≡ most_roots
+    gone_root : most_installs r.opcode r.size ≡ most_store_roots
     gone_root = ap (λ x. most_installs x r.size) op
 
     -- the result of taking it out
-    pub delete_came : (answer : Result Unit Fault) (e : Parts) (new : BoardState) (most : ℕ) (into : List ℕ) (outcome : Outcome) (reads : ℕ) → TakesWhole d e most old new k p answer → roots new ≤ roots old + most_roots → IsCounted old new → OnRunning (StaysBetween d e) answer
+    pub delete_came : (answer : Result Unit Fault) (e : Parts) (new : BoardState) (most : ℕ) (into : List ℕ) (outcome : Outcome) (reads : ℕ) → TakesWhole d e most old new k p answer → roots new ≤ roots old + most_store_roots → IsCounted old new → OnRunning (StaysBetween d e) answer
         → outcome ≡ outcome_for answer reads → Executes d (stopped_by e answer) old new dc outcome into (new.reads - old.reads)
     unfolding its_drive
     delete_came (Ok u) e new most into outcome reads step few count stays told_is =

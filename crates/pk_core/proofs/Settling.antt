@@ -5,7 +5,7 @@ use Rattle.pk_nand.specs.BoardState.{BoardState}
 use Rattle.pk_nand.specs.Effects.{OnlyFlash}
 use Rattle.pk_pool.specs.Blocks.{IsShared}
 use Rattle.pk_model.specs.Sight.{IsIdle}
-use Rattle.pk_call.specs.Settling.{Settles, Rests}
+use Rattle.pk_call.specs.Settling.{Settles, RestsAfter}
 use Rattle.pk_parts.specs.Parts.{Parts, sight_of}
 use Rattle.pk_parts.specs.Agreeing.{DriveOnFlash}
 use Rattle.pk_parts.specs.Ticking.{HasNoStep}
@@ -28,7 +28,7 @@ module _ (d e : Parts) (old new : BoardState) (steps : ℕ) (a : DriveOnFlash e 
   settles_there shape frames m stands = elim lessens [ inl less ↦ inl less | inr none ↦ inr (idle_there shape stands.shape_is none) ]
 
   -- as many steps as may ever remain leave none
-  pub rests_there : DriveOnFlash d old.shape old.pages → Rests old new (sight_of d) (sight_of e) steps
+  pub rests_there : DriveOnFlash d old.shape old.pages → RestsAfter old new (sight_of d) (sight_of e) steps
   rests_there agrees shape frames m stands most =
       let few = few_left d old.shape shape old.pages agrees stands.shape_is in
       elim lessens [ inl less ↦ absurd (omega (arith, few, less, most)) | inr none ↦ idle_there shape stands.shape_is none ]

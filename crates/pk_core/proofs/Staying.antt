@@ -9,7 +9,7 @@ use Rattle.pk_nand.specs.Effects.{OnlyFlash}
 use Rattle.pk_call.specs.Moving.{KeepsFresh, BlocksGrow}
 use Rattle.pk_parts.specs.Parts.{Parts, sight_of}
 use Rattle.pk_parts.specs.Agreeing.{DriveOnFlash}
-use Rattle.pk_parts.specs.Staying.{StaysFresh, SameBlocks, OpensOne, MakesRoom, Stays, StaysOrOpens, StaysOrFrees}
+use Rattle.pk_parts.specs.Staying.{StaysFresh, SameUse, OpensOne, MakesRoom, Stays, StaysOrOpens, StaysOrFrees}
 use Rattle.pk_parts.proofs.Staying.{fresh_then}
 
 -- ---- background steps
@@ -43,10 +43,10 @@ keeps_fresh d e old new a b rest s = record {
       elim s.begun [ inl same ↦ inl (sym after ∙ (same ∙ before)) | inr began ↦ inr began ];
 }
 
-pub blocks_stay : (d e : Parts) (opcode : ℕ) → SameBlocks d e → BlocksGrow opcode (sight_of d) (sight_of e)
+pub blocks_stay : (d e : Parts) (opcode : ℕ) → SameUse d e → BlocksGrow opcode (sight_of d) (sight_of e)
 blocks_stay d e opcode same = inl (let used = same.used in omega (arith, used))
 
-pub blocks_grow : (d e : Parts) (opcode count : ℕ) → opcode ≡ 0x01 → SameBlocks d e ⊎ (OpensOne d e count ⊎ MakesRoom d e count) → BlocksGrow opcode (sight_of d) (sight_of e)
+pub blocks_grow : (d e : Parts) (opcode count : ℕ) → opcode ≡ 0x01 → SameUse d e ⊎ (OpensOne d e count ⊎ MakesRoom d e count) → BlocksGrow opcode (sight_of d) (sight_of e)
 blocks_grow d e opcode count is (inl same) = blocks_stay d e opcode same
 blocks_grow d e opcode count is (inr (inl one)) = inr (is, one.used, one.other)
 blocks_grow d e opcode count is (inr (inr room)) = inl room.no_more

@@ -38,7 +38,7 @@ use Rattle.pk_core.specs.Done.{Does}
 use Rattle.pk_core.specs.Quiet.{eleven}
 use Rattle.pk_parts.specs.Staying.{StaysOrFrees}
 use Rattle.pk_parts.specs.Ticking.{MayTick, Ticks, HasNoStep, Advances}
-use Rattle.pk_core.specs.Stepping.{has_failed, Steps, outcome_of}
+use Rattle.pk_core.specs.Stepping.{has_failed, BackgroundSteps, outcome_of}
 use Rattle.pk_core.proofs.Unchanging.{same_early, unread_step}
 use Rattle.pk_parts.proofs.Unchanging.{for_its_map}
 use Rattle.pk_core.proofs.Staying.{frees_then}
@@ -51,7 +51,7 @@ pub record Ongoing (first : Parts) (old : BoardState) (d : Parts) (board : Board
   pub agrees : DriveOnFlash d board.shape board.pages
   pub unstopped : d.stopped ≡ false
   pub none : d.log.pending ≡ []
-  pub steps : Steps old board (sight_of first) (sight_of d) Worked made
+  pub steps : BackgroundSteps old board (sight_of first) (sight_of d) Worked made
   pub less : (sight_of d).work + made ≤ (sight_of first).work
   pub number : d.log.root.number ≤ first.log.root.number + made
   pub counted : board.read_faults ≤ last_count
@@ -62,7 +62,7 @@ pub record Ongoing (first : Parts) (old : BoardState) (d : Parts) (board : Board
 worked_fault : (b : Bool) → Worked ≡ Fault b → ⊥
 worked_fault b e = cc
 
-pub steps_none : (old : BoardState) (s : Sight) → old.reads ≤ last_count → s.pending ≡ [] → Steps old old s s Worked 0
+pub steps_none : (old : BoardState) (s : Sight) → old.reads ≤ last_count → s.pending ≡ [] → BackgroundSteps old old s s Worked 0
 steps_none old s few none = record {
   stands = λ _ shape frames m st. st;
   cuts = λ _ shape frames m st. ([], Reached-start old old (CrashFinds shape background old.pages m) refl refl refl refl (refl, subst (λ p. reading shape old.pages p ≡ Ok m) none st.map_is), tt);
@@ -120,7 +120,7 @@ sound_step a b s t Worked ticks e = ticks.worked refl
 sound_step a b s t Idle ticks e = subst (λ x. NoFault a x) (sym (ticks.idle_rests refl).0) (refl, refl, refl, refl)
 sound_step a b s t (Fault stopped) ticks e = absurd (yes_no true e refl)
 
-module _ (s0 s1 : BoardState) (e0 e1 : Sight) (n : ℕ) (first : Steps s0 s1 e0 e1 Worked n) where
+module _ (s0 s1 : BoardState) (e0 e1 : Sight) (n : ℕ) (first : BackgroundSteps s0 s1 e0 e1 Worked n) where
   -- a cut after the steps so far is one after the first
   seen : (shape : Shape) (frames : ℕ) (m : Map) (st : HoldsMap shape frames s0 e0 m) (f : Flash) (q : List ℕ)
       → CrashFinds shape background s0.pages m f q → CrashFinds shape background s0.pages m f (all_posted (first.cuts refl shape frames m st).0 ++ q)
@@ -129,7 +129,7 @@ module _ (s0 s1 : BoardState) (e0 e1 : Sight) (n : ℕ) (first : Steps s0 s1 e0 
       let ends = at_end run.0 s0 s1 (CrashFinds shape background s0.pages m) run.1 in
       (ap (λ (xs : List ℕ). xs ++ q) ends.0 ∙ cut.0, cut.1)
 
-  pub steps_more : (s2 : BoardState) (e2 : Sight) (answer : Ticked) → Ticks s1 s2 e1 e2 answer → Steps s0 s2 e0 e2 answer (n + 1)
+  pub steps_more : (s2 : BoardState) (e2 : Sight) (answer : Ticked) → Ticks s1 s2 e1 e2 answer → BackgroundSteps s0 s2 e0 e2 answer (n + 1)
   steps_more s2 e2 answer ticks =
       let calm = first.sound refl in
       let reads = one_read s1 s2 first.few ticks.calls in
@@ -162,7 +162,7 @@ no_more_step d e a b (Fault true) step runs = absurd (yes_no true runs refl)
 no_more_step d e a b (Fault false) step runs = let same = ap (λ (s : Sight). s.work) (step.ticks.unmade refl).0 in omega (arith, same)
 
 -- this many steps are within more
-pub steps_within : (old new : BoardState) (s t : Sight) (answer : Ticked) (n k : ℕ) → n ≤ k → Steps old new s t answer n → Steps old new s t answer k
+pub steps_within : (old new : BoardState) (s t : Sight) (answer : Ticked) (n k : ℕ) → n ≤ k → BackgroundSteps old new s t answer n → BackgroundSteps old new s t answer k
 steps_within old new s t answer n k less w = record {
   stands = w.stands;
   cuts = w.cuts;
@@ -198,7 +198,7 @@ module _ (old new : BoardState) (d d' : Parts) (r : Request) (v : List ℕ) (a :
   passes = same_early d.log.shape r v ∙ passed
 
   -- the clauses that every answer has alike
-  does_steps : (answer : Ticked) (reply : Reply) (reads : ℕ) → Steps old new (sight_of d) (sight_of d') answer r.size → reads ≡ new.reads - old.reads
+  does_steps : (answer : Ticked) (reply : Reply) (reads : ℕ) → BackgroundSteps old new (sight_of d) (sight_of d') answer r.size → reads ≡ new.reads - old.reads
       → Step d.log.shape (frames_of d) a.all (command_of r v) reply a.all
       → (reply.status ≡ 0x88 → stopped_by answer ≡ false → Rose old.read_faults new.read_faults)
       → (reply.status ≢ 0x88 → NoFault old new)
@@ -232,7 +232,7 @@ module _ (old new : BoardState) (d d' : Parts) (r : Request) (v : List ℕ) (a :
         installs = subst (λ (x : ℕ). roots new ≤ roots old + most_installs x r.size) (sym op) w.spends.installs;
       }
 
-  by_answer : (answer : Ticked) (into : List ℕ) (reads : ℕ) → Steps old new (sight_of d) (sight_of d') answer r.size → reads ≡ new.reads - old.reads
+  by_answer : (answer : Ticked) (into : List ℕ) (reads : ℕ) → BackgroundSteps old new (sight_of d) (sight_of d') answer r.size → reads ≡ new.reads - old.reads
       → Does old new (sight_of d) (sight_of d') (command_of r v) (reply_of (outcome_of answer reads) into) reads (stopped_by answer)
   by_answer Worked into reads w is =
       does_steps Worked (success 0 []) reads w is (tick_step d.log.shape (frames_of d) a.all (command_of r v) passes op) (λ e _. absurd (ok_sound e)) (λ _. w.sound refl) (λ e. absurd (yes_no false refl e))
@@ -241,12 +241,12 @@ module _ (old new : BoardState) (d d' : Parts) (r : Request) (v : List ℕ) (a :
   by_answer (Fault stopped) into reads w is =
       does_steps (Fault stopped) (refusal 0x88) reads w is (unread_step d.log.shape (frames_of d) a.all (command_of r v) passes) (λ _ e. w.unread (ap (λ b. Fault b) e)) (λ e. absurd (e refl)) (λ _. refl)
 
-  pub tick_does : (answer : Ticked) (o : Outcome) (into : List ℕ) (reads : ℕ) → Steps old new (sight_of d) (sight_of d') answer r.size → reads ≡ new.reads - old.reads → o ≡ outcome_of answer reads
+  pub tick_does : (answer : Ticked) (o : Outcome) (into : List ℕ) (reads : ℕ) → BackgroundSteps old new (sight_of d) (sight_of d') answer r.size → reads ≡ new.reads - old.reads → o ≡ outcome_of answer reads
       → Does old new (sight_of d) (sight_of d') (command_of r v) (reply_of o into) o.reads o.stopped
   tick_does answer o into reads w is told =
       subst (λ (x : Outcome). Does old new (sight_of d) (sight_of d') (command_of r v) (reply_of x into) x.reads x.stopped) (sym told) (by_cases answer w)
     where
-      by_cases : (l : Ticked) → Steps old new (sight_of d) (sight_of d') l r.size
+      by_cases : (l : Ticked) → BackgroundSteps old new (sight_of d) (sight_of d') l r.size
           → Does old new (sight_of d) (sight_of d') (command_of r v) (reply_of (outcome_of l reads) into) (outcome_of l reads).reads (outcome_of l reads).stopped
       by_cases Worked w = by_answer Worked into reads w is
       by_cases Idle w = by_answer Idle into reads w is
@@ -274,7 +274,7 @@ module _ (first : Parts) (old : BoardState) (d : Parts) (board : BoardState) (ma
 
   module _ (e : Parts) (next : BoardState) (answer : Ticked) (step : Advances d e board next answer) where
     -- it ends after any step
-    pub ongoing_last : (most : ℕ) → made < most → Steps old next (sight_of first) (sight_of e) answer most
+    pub ongoing_last : (most : ℕ) → made < most → BackgroundSteps old next (sight_of first) (sight_of e) answer most
     ongoing_last most less = steps_within old next (sight_of first) (sight_of e) answer (made + 1) most (omega (arith, less)) (steps_more old board (sight_of first) (sight_of d) made o.steps next (sight_of e) answer step.ticks)
 
     pub ongoing_stays : stopped_by answer ≡ false → StaysOrFrees first e

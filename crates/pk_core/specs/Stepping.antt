@@ -22,7 +22,7 @@ has_failed Idle = false
 has_failed (Fault stopped) = true
 
 -- What at most n steps did together to a drive and its board, if the last of them answered this.
-pub record Steps (old new : BoardState) (before after : Sight) (answer : Ticked) (most : ℕ) : Type 0 where
+pub record BackgroundSteps (old new : BoardState) (before after : Sight) (answer : Ticked) (most : ℕ) : Type 0 where
   pub stands : stopped_by answer ≡ false → KeepsMap old new before after
   pub cuts : stopped_by answer ≡ false → CallReaches old new before background
   pub cuts_stopped : stopped_by answer ≡ true → CallGoes old new before background

@@ -5,7 +5,7 @@ ghost use Rattle.pk_base.specs.Map.{Map};
 ghost use Rattle.pk_nand.specs.Calls.{IsReady};
 ghost use Rattle.pk_nand.specs.Counts.{after_reads};
 ghost use Rattle.pk_call.specs.Drive.{HoldsMap};
-ghost use Rattle.pk_scan.specs.Reads.{opened};
+ghost use Rattle.pk_scan.specs.Reads.{opening_reads};
 ghost use Rattle.pk_scan.specs.Opening.{NotOpened};
 ghost use Rattle.pk_nand.specs.Effects.{OnlyReading};
 ghost use Rattle.pk_parts.specs.Parts.{sight_of};
@@ -53,7 +53,7 @@ impl<A: Region> Drive<A> {
         ensures closed { IfOk result (λ d. d.space.open_block ≡ None) }
 
         // The board.
-        ensures reads { OnOk result (B.state board.new ≡ after_reads (opened shape
+        ensures reads { OnOk result (B.state board.new ≡ after_reads (opening_reads shape
             (B.state board.old).pages frames) (B.state board.old)) }
         ensures err { IfErr result (λ e. NotOpened shape (B.state board.old)
             (B.state board.new) e) }

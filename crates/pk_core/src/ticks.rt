@@ -8,7 +8,7 @@ ghost use Rattle.pk_parts.specs.Agreeing.{DriveOnFlash};
 ghost use Rattle.pk_core.specs.Serving.{IsServable};
 ghost use Rattle.pk_core.specs.Done.{Executes};
 ghost use Rattle.pk_parts.specs.Ticking.{MayTick};
-ghost use Rattle.pk_core.specs.Stepping.{Steps, Lessens, has_failed, outcome_of};
+ghost use Rattle.pk_core.specs.Stepping.{BackgroundSteps, Lessens, has_failed, outcome_of};
 ghost use Rattle.pk_nvme.specs.declared.status.TheConstants.{SUCCESSFUL_COMPLETION};
 ghost use Rattle.pk_nvme.specs.declared.opcode.TheConstants.{TICK};
 ghost use Rattle.pk_call.specs.Calling.{FewCalls};
@@ -54,7 +54,7 @@ fn work<B: Nand, A: Region>(parts: &mut Parts<A>, board: &mut B, steps: u32) -> 
     ensures moves { stopped_by result ≡ false → StaysOrFrees parts.old parts.new }
 
     // The steps.
-    ensures steps { Steps (B.state board.old) (B.state board.new) (sight_of parts.old)
+    ensures steps { BackgroundSteps (B.state board.old) (B.state board.new) (sight_of parts.old)
         (sight_of parts.new) result steps }
     ensures done { has_failed result ≡ false → Lessens parts.old parts.new steps }
     ensures no_more { stopped_by result ≡ false

@@ -25,7 +25,7 @@ use Rattle.pk_model.proofs.ValueSets.{is_true}
 use Rattle.pk_steps.specs.Under.{IsValuePage}
 use Rattle.pk_live.specs.declared.open_block.OpenBlock.{OpenBlock}
 use Rattle.pk_live.specs.OpenBlocks.{closed_with}
-use Rattle.pk_data.specs.State.{DataState, has_left, page_behind, fits_open, next_page, opened, more_used, with_written, needs_reclaim}
+use Rattle.pk_data.specs.State.{DataState, has_left, page_behind, fits_open, next_page, block_opened, more_used, with_written, needs_reclaim}
 use Rattle.pk_data.specs.Placed.{ValuesOnFlash, AreOutputs, IsOpenIn, IsNotOpen, IsOutput, HoldsValues}
 use Rattle.pk_data.specs.Reserving.{IsReserved, WritesNext, IsFreeOf}
 use Rattle.pk_data.specs.Entries.{IsInOpen}
@@ -136,10 +136,10 @@ module _ (shape : Shape) (pool : Blocks) (outputs : List ℕ) (flash flash' : Fl
     unread = are.unread;
   }
 
-  pub ValuesOnFlash-opened : (d : DataState) (es : List (Key × Place)) → ValuesOnFlash shape d pool outputs flash es → 2 ≤ b → b < shape.blocks
+  pub ValuesOnFlash-block_opened : (d : DataState) (es : List (Key × Place)) → ValuesOnFlash shape d pool outputs flash es → 2 ≤ b → b < shape.blocks
       → used_by for_values then_pool.states ≤ data_blocks shape - 1 + length outputs → PoolOnFlash then_pool flash' → IsErasedBlock shape flash' b → SameButBlock shape b flash flash'
-      → ValuesOnFlash shape (opened d b) then_pool outputs flash' es
-  ValuesOnFlash-opened d es p low exists few fits is_erased same =
+      → ValuesOnFlash shape (block_opened d b) then_pool outputs flash' es
+  ValuesOnFlash-block_opened d es p low exists few fits is_erased same =
       let pages = same_values p.is_shape same in
       record {
         is_shape = p.is_shape;
@@ -279,19 +279,19 @@ module _ (shape : Shape) (d : DataState) (p q : Blocks) (outputs : List ℕ) (ol
   in_shape : (P : Shape → Type 0) → P p.shape → P shape
   in_shape P is = subst P placed.shape_is is
 
-  pub opened_by : (count : ℕ) → needs_reclaim shape d p count ≡ false → fits_open shape d count ≡ false → ValuesOnFlash shape (opened d b) q outputs new.pages es
+  pub opened_by : (count : ℕ) → needs_reclaim shape d p count ≡ false → fits_open shape d count ≡ false → ValuesOnFlash shape (block_opened d b) q outputs new.pages es
   opened_by count room no_room =
       let one_less : used_by for_values p.states < data_blocks shape - 1 =
       below (data_blocks shape - 1) (used_by for_values p.states) (few_more (fits_open shape d count) (nat_le (data_blocks shape - 1) (used_by for_values p.states)) room no_room) in
       let counted' : used_by for_values (with_state p b (Owned for_values)).states ≡ used_by for_values p.states + 1 = subst (λ (r : Blocks). used_by for_values r.states ≡ used_by for_values p.states + 1) taken_is counted in
-      subst (λ (r : Blocks). ValuesOnFlash shape (opened d b) r outputs new.pages es) (sym taken_is)
-      (ValuesOnFlash-opened shape p outputs old.pages new.pages b spare d es placed place.0 (in_shape (λ s. b < s.blocks) place.1) (omega (arith, one_less, counted'))
+      subst (λ (r : Blocks). ValuesOnFlash shape (block_opened d b) r outputs new.pages es) (sym taken_is)
+      (ValuesOnFlash-block_opened shape p outputs old.pages new.pages b spare d es placed place.0 (in_shape (λ s. b < s.blocks) place.1) (omega (arith, one_less, counted'))
       (subst (λ (r : Blocks). PoolOnFlash r new.pages) taken_is fits) (in_shape (λ s. IsErasedBlock s new.pages b) is_erased) (in_shape (λ s. SameButBlock s b old.pages new.pages) (reached_in p.shape b old new cuts)))
 
   pub opened_reserved : (count : ℕ) → needs_reclaim shape d p count ≡ false → fits_open shape d count ≡ false → 1 ≤ count → count ≤ most_pages shape
-      → IsReserved shape (opened d b) q new.pages (b * shape.block_pages) count
+      → IsReserved shape (block_opened d b) q new.pages (b * shape.block_pages) count
   opened_reserved count room no_room some most =
-      reserved_next shape (opened d b) q outputs new.pages es (b * shape.block_pages) count (opened_by count room no_room) some
+      reserved_next shape (block_opened d b) q outputs new.pages es (b * shape.block_pages) count (opened_by count room no_room) some
       (true_is (0 + count) shape.block_pages (omega (arith, most))) (omega arith)
     where
       true_is : (a n : ℕ) → a ≤ n → nat_le a n ≡ true

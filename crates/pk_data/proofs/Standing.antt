@@ -24,7 +24,7 @@ use Rattle.pk_live.specs.declared.open_block.OpenBlock.{OpenBlock}
 use Rattle.pk_data.specs.declared.span.Span.{Span}
 use Rattle.pk_data.specs.State.{DataState, with_head, with_heads}
 use Rattle.pk_data.specs.Placed.{ValuesOnFlash, IsOpenIn, IsOutput, IsNotOpen, HoldsValues, without}
-use Rattle.pk_data.specs.Entries.{span_if_some, heads_without, Held, Moves}
+use Rattle.pk_data.specs.Entries.{span_if_some, heads_without, ValueHeld, ValueMoves}
 use Rattle.pk_data.proofs.Lists.{put_without, nothing_out, find_gone, page_put, page_without, found_place, head_none, head_found}
 use Rattle.pk_data.proofs.Heads.{AreLive, live_removed, live_added}
 
@@ -144,11 +144,11 @@ module _ (shape : Shape) (d : DataState) (pool : Blocks) (outputs : List ℕ) (f
 -- ---- the calls
 
 -- the head of a value that is held
-pub held_head : (d : DataState) (span : Span) → Held d span → slice_get d.live.heads span.page ≡ Some span.count
+pub held_head : (d : DataState) (span : Span) → ValueHeld d span → slice_get d.live.heads span.page ≡ Some span.count
 held_head d span h =
     subst (λ (s : Span). slice_get d.live.heads s.page ≡ Some s.count) h.span_is (head_is h.shape d h.pool h.outputs h.flash h.es h.placed h.key h.place h.found)
 
-pub removed : (d : DataState) (span : Span) (h : Held d span) → ValuesOnFlash h.shape (with_head d span.page 0) h.pool h.outputs h.flash (without h.key h.es)
+pub removed : (d : DataState) (span : Span) (h : ValueHeld d span) → ValuesOnFlash h.shape (with_head d span.page 0) h.pool h.outputs h.flash (without h.key h.es)
 removed d span h =
     subst (λ (s : Span). ValuesOnFlash h.shape (with_head d s.page 0) h.pool h.outputs h.flash (without h.key h.es)) h.span_is
     (ValuesOnFlash-removed h.shape d h.pool h.outputs h.flash h.es h.placed h.key h.place h.rising h.found)
@@ -157,7 +157,7 @@ removed d span h =
 abbrev before : DataState → Option Span → DataState
 before d old = with_heads d (heads_without old d.live.heads)
 
-module _ (d : DataState) (old : Option Span) (new : Span) (m : Moves d old new) where
+module _ (d : DataState) (old : Option Span) (new : Span) (m : ValueMoves d old new) where
   within : InBlock m.shape m.pool m.outputs m.flash m.place
   within = in_block m.shape m.pool m.outputs m.flash m.place d.open_block m.placed.is_shape m.even m.short m.placed.open_is m.placed.outputs_are.not_open m.in_open
 
@@ -198,11 +198,11 @@ module _ (d : DataState) (old : Option Span) (new : Span) (m : Moves d old new) 
       (ValuesOnFlash-added m.shape (before d old) m.pool m.outputs m.flash (without m.key m.es) placed_before m.key m.place (find_gone m.key m.es) within free_before))
 
 -- the same, if the state is known by an equation
-pub removed_as : (d : DataState) (span : Span) (d' : DataState) → d' ≡ with_head d span.page 0 → (h : Held d span) → ValuesOnFlash h.shape d' h.pool h.outputs h.flash (without h.key h.es)
+pub removed_as : (d : DataState) (span : Span) (d' : DataState) → d' ≡ with_head d span.page 0 → (h : ValueHeld d span) → ValuesOnFlash h.shape d' h.pool h.outputs h.flash (without h.key h.es)
 removed_as d span d' is h = subst (λ (v : DataState). ValuesOnFlash h.shape v h.pool h.outputs h.flash (without h.key h.es)) (sym is) (removed d span h)
 
 pub moved_as : (d : DataState) (old : Option Span) (new : Span) (d' : DataState) → d' ≡ with_head (with_heads d (heads_without old d.live.heads)) new.page new.count
-    → (m : Moves d old new) → ValuesOnFlash m.shape d' m.pool m.outputs m.flash (put key_cmp m.key m.place m.es)
+    → (m : ValueMoves d old new) → ValuesOnFlash m.shape d' m.pool m.outputs m.flash (put key_cmp m.key m.place m.es)
 moved_as d old new d' is m = subst (λ (v : DataState). ValuesOnFlash m.shape v m.pool m.outputs m.flash (put key_cmp m.key m.place m.es)) (sym is) (moved d old new m)
 
 -- all live pages

@@ -19,7 +19,7 @@ use Rattle.pk_data.specs.declared.span.Span.{Span}
 use Rattle.pk_data.specs.State.{DataState, next_page}
 use Rattle.pk_data.specs.Placed.{ValuesOnFlash}
 use Rattle.pk_data.specs.Reserving.{IsReserved, IsFreeOf, WritesNext}
-use Rattle.pk_data.specs.Entries.{Moves, IsInOpen, span_if_some}
+use Rattle.pk_data.specs.Entries.{ValueMoves, IsInOpen, span_if_some}
 
 -- if the whole call left no other page differing at any cut, it left none at its end
 pub same_at_end : (page count : ℕ) (old new : BoardState) → Reached old new (λ flash _. SameOutside page count old.pages flash) → SameOutside page count old.pages new.pages
@@ -50,7 +50,7 @@ module _ (shape : Shape) (before d : DataState) (pool : Blocks) (outputs : List 
   pub here : IsInOpen shape d page (charge shape (length value))
   here = subst (λ (n : ℕ). IsInOpen shape d page n) count_is (subst (λ (p : ℕ). IsInOpen shape d p count) (sym reserved.next) in_open)
 
-  abbrev pub moves : Moves d old (record { page = page; count = count })
+  abbrev pub moves : ValueMoves d old (record { page = page; count = count })
   moves = record {
     shape = shape;
     pool = pool;

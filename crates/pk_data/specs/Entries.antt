@@ -30,7 +30,7 @@ heads_without None heads = heads
 heads_without (Some span) heads = slice_set heads span.page 0
 
 -- The value of a key has these pages.
-pub record Held (d : DataState) (span : Span) : Type 0 where
+pub record ValueHeld (d : DataState) (span : Span) : Type 0 where
   pub shape : Shape
   pub pool : Blocks
   pub outputs : List ℕ
@@ -45,7 +45,7 @@ pub record Held (d : DataState) (span : Span) : Type 0 where
 
 -- A key is to have its value at the pages of new, from an even one on, which were written into the open block and belong to no value. Until now it had
 -- those of old, or none.
-pub record Moves (d : DataState) (old : Option Span) (new : Span) : Type 0 where
+pub record ValueMoves (d : DataState) (old : Option Span) (new : Span) : Type 0 where
   pub shape : Shape
   pub pool : Blocks
   pub outputs : List ℕ

@@ -13,7 +13,7 @@ use Rattle.pk_pool.specs.declared.state.BlockState.TheVariants.{Owned}
 use Rattle.pk_pool.specs.Blocks.{Blocks, IsSpare, with_state}
 use Rattle.pk_pool.specs.Taking.{TakesReady, ErasesFree, ReachesIn}
 use Rattle.pk_steps.specs.Under.{IsValuePage}
-use Rattle.pk_data.specs.State.{DataState, fits_open, next_page, opened}
+use Rattle.pk_data.specs.State.{DataState, fits_open, next_page, block_opened}
 use Rattle.pk_data.specs.Placed.{HoldsValues, ValuesOnFlash}
 
 -- From this page on, which is even, the next n are Erased ones of the open block, which is one for values.
@@ -47,7 +47,7 @@ pub record TakesNext (shape : Shape) (d : DataState) (p : Blocks) (old : BoardSt
 pub record OpensBlock (shape : Shape) (d : DataState) (p : Blocks) (old : BoardState) (count : ℕ) (d' : DataState) (q : Blocks) (new : BoardState) : Type 0 where
   pub no_room : fits_open shape d count ≡ false
   pub block : ℕ
-  pub opens : d' ≡ opened d block
+  pub opens : d' ≡ block_opened d block
   pub spare : IsSpare p block
   pub place : ROOT_BLOCKS ≤ block × block < p.shape.blocks
   pub taken : q ≡ with_state p block (Owned for_values)

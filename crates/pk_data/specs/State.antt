@@ -39,8 +39,8 @@ abbrev pub needs_reclaim : Shape → DataState → Blocks → ℕ → Bool
 needs_reclaim shape d pool count = not (fits_open shape d count) && nat_le (data_blocks shape - 1) (used_by for_values pool.states)
 
 -- this block takes values from now on, in place of the one before
-abbrev pub opened : DataState → ℕ → DataState
-opened d b = record {
+abbrev pub block_opened : DataState → ℕ → DataState
+block_opened d b = record {
   live = record d.live { closed = closed_with d.open_block d.live.closed };
   open_block = Some (record { block = b; used = 0 });
 }

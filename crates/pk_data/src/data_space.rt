@@ -10,11 +10,11 @@ ghost use Rattle.pk_nand.specs.declared.types.Fault.TheVariants.{Stopped};
 ghost use Rattle.pk_pool.specs.Blocks.{Blocks};
 ghost use Rattle.pk_pool.specs.Taking.{FailsToErase};
 ghost use Rattle.pk_model.specs.Values.{all_pages};
-ghost use Rattle.pk_data.specs.State.{DataState, IsSmall, with_none_open, opened, more_used, with_written, with_head, with_heads};
+ghost use Rattle.pk_data.specs.State.{DataState, IsSmall, with_none_open, block_opened, more_used, with_written, with_head, with_heads};
 ghost use Rattle.pk_data.specs.State as state;
 ghost use Rattle.pk_data.specs.Placed.{ValuesOnFlash, HasPlaced, StayPlaced, FoundAtOpening, without};
 ghost use Rattle.pk_data.specs.Reserving.{IsReserved, TakesNextOrOpens, WritesNext, AreFree};
-ghost use Rattle.pk_data.specs.Entries.{Held, Moves, IsInOpen, heads_without};
+ghost use Rattle.pk_data.specs.Entries.{ValueHeld, ValueMoves, IsInOpen, heads_without};
 
 use crate::span::Span;
 use pk_base::{MOST_BLOCKS, Shape};
@@ -155,7 +155,7 @@ impl<A: Allocator> Data<A> {
         requires small { block ≤ MOST_BLOCKS }
         requires closes { MatchOption self.old.open_block (Unit {0})
             (λ o. o.block < length self.old.live.closed) }
-        ensures { self.new ≡ opened self.old block }
+        ensures { self.new ≡ block_opened self.old block }
     {
         close(&mut self.live, self.open_block);
         self.open_block = Some(OpenBlock { block, used: 0 });
@@ -225,10 +225,10 @@ impl<A: Allocator> Data<A> {
 
     /// A key has its value at the pages of `new` from now on, and no more at those of `old`.
     pub fn replace(&mut self, old: Option<Span>, new: Span)
-        requires { Moves self.old old new }
+        requires { ValueMoves self.old old new }
         ensures moved { self.new ≡ with_head (with_heads self.old
             (heads_without old self.old.live.heads)) new.page new.count }
-        ensures placed { (m : Moves self.old old new)
+        ensures placed { (m : ValueMoves self.old old new)
             → ValuesOnFlash m.shape self.new m.pool m.outputs m.flash
             (put key_cmp m.key m.place m.es) }
     {
@@ -238,9 +238,9 @@ impl<A: Allocator> Data<A> {
 
     /// The value at these pages is live no more: its key was removed.
     pub fn remove(&mut self, span: Span)
-        requires { Held self.old span }
+        requires { ValueHeld self.old span }
         ensures removed { self.new ≡ with_head self.old span.page 0 }
-        ensures placed { (h : Held self.old span)
+        ensures placed { (h : ValueHeld self.old span)
             → ValuesOnFlash h.shape self.new h.pool h.outputs h.flash
             (without h.key h.es) }
     {

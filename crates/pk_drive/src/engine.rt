@@ -22,7 +22,7 @@ ghost use Rattle.pk_call.specs.Tick.{TellsIdle, LowersWork};
 ghost use Rattle.pk_call.specs.Seen.{reply_of, stopped_by, counts_of};
 ghost use Rattle.pk_model.specs.Growth.{Grows};
 ghost use Rattle.pk_call.specs.Calling.{FewCalls, most_calls_of, only_looks};
-ghost use Rattle.pk_call.specs.Settling.{may_raise, Settles, Rests};
+ghost use Rattle.pk_call.specs.Settling.{may_raise, Settles, RestsAfter};
 ghost use Rattle.pk_call.specs.Steady.{IsSteady, Steadies};
 ghost use Rattle.pk_call.specs.Moving.{Commits, KeepsFresh, BlocksGrow, Stores, IsQuiet, HasOpenRoom, Quietly, commits_for};
 ghost use Rattle.pk_call.specs.declared.types.Ticked.{Ticked};
@@ -124,7 +124,7 @@ pub trait Engine {
             → Settles (B.state board.old) (B.state board.new) (sight self.old) (sight self.new)
             request.now.size }
         ensures rests { request.now.opcode ≡ TICK → result.status ≡ SUCCESSFUL_COMPLETION
-            → Rests (B.state board.old) (B.state board.new) (sight self.old) (sight self.new)
+            → RestsAfter (B.state board.old) (B.state board.new) (sight self.old) (sight self.new)
             request.now.size }
 
         // What is seen of the drive: its numbers, the newest epoch, and the blocks for values.

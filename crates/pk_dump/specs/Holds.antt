@@ -10,16 +10,16 @@ use Rattle.pk_dump.specs.declared.held.Held.TheVariants.{Erased, Torn, Wrong, En
 use Rattle.pk_dump.specs.declared.run.Wanted.{Wanted}
 
 -- The page is printed as what it is, by the entries that are read of its bytes if it is whole.
-abbrev pub Holds : (List ℕ → Option (List Entry)) → Page → Held → Type 0
-Holds entries page Erased = page ≡ erased
-Holds entries page Torn = page ≡ torn
-Holds entries page Wrong = (bytes : List ℕ) × (page ≡ whole bytes) × (entries bytes ≡ None)
-Holds entries page (Entries count) = (bytes : List ℕ) × (es : List Entry) × (page ≡ whole bytes) × (entries bytes ≡ Some es) × (length es ≡ count)
+abbrev pub PagePrinted : (List ℕ → Option (List Entry)) → Page → Held → Type 0
+PagePrinted entries page Erased = page ≡ erased
+PagePrinted entries page Torn = page ≡ torn
+PagePrinted entries page Wrong = (bytes : List ℕ) × (page ≡ whole bytes) × (entries bytes ≡ None)
+PagePrinted entries page (Entries count) = (bytes : List ℕ) × (es : List Entry) × (page ≡ whole bytes) × (entries bytes ≡ Some es) × (length es ≡ count)
 
 -- what it is as the commit of this index in the epoch of this number
 abbrev pub HoldsCommit : Shape → ℕ → ℕ → Page → Held → Type 0
-HoldsCommit shape number index page held = Holds (journal_entries shape number index) page held
+HoldsCommit shape number index page held = PagePrinted (journal_entries shape number index) page held
 
 -- what it is as this page of a run
 abbrev pub HoldsRunPage : Shape → Wanted → Page → Held → Type 0
-HoldsRunPage shape wanted page held = Holds (meta_entries shape wanted.level wanted.index wanted.count) page held
+HoldsRunPage shape wanted page held = PagePrinted (meta_entries shape wanted.level wanted.index wanted.count) page held

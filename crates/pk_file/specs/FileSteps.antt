@@ -20,7 +20,7 @@ abbrev pub erase_steps : ℕ → ℕ → List FileStep
 erase_steps first count = states_set first count ERASED ∷ synced ∷ []
 
 -- A page was programmed, whose bytes in the file were zeros from the extent on.
-pub record Programs (page extent : ℕ) (bytes : List ℕ) (old new : Option (List FileStep)) : Type 0 where
+pub record FileProgrammed (page extent : ℕ) (bytes : List ℕ) (old new : Option (List FileStep)) : Type 0 where
   pub part : List ℕ
   pub restores : Restores part extent bytes
   pub steps : new ≡ longer old (program_steps page part)

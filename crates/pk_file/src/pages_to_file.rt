@@ -5,7 +5,7 @@ ghost use Rattle.pk_nand.specs.Calls.{longer};
 ghost use Rattle.pk_file.specs.Slots.{AllFit};
 ghost use Rattle.pk_file.specs.Trims.{ZerosFrom};
 ghost use Rattle.pk_file.specs.Extents.{Restores};
-ghost use Rattle.pk_file.specs.FileSteps.{Programs, erase_steps};
+ghost use Rattle.pk_file.specs.FileSteps.{FileProgrammed, erase_steps};
 ghost use Rattle.pk_file.specs.declared.pages_to_file.Written.{Written};
 
 use crate::image_file::{ImageFile, PageFile};
@@ -181,7 +181,7 @@ pub fn write_page<F: PageFile>(
     requires exists { page < spec.page_count shape.now }
     requires zeros { ZerosFrom front bytes.now }
     ensures { result ≡ Written.Whole
-        → Programs page extent bytes.now (F.steps file.old) (F.steps file.new) }
+        → FileProgrammed page extent bytes.now (F.steps file.old) (F.steps file.new) }
 {
     let part = unlike(bytes, front, extent);
     if file.begin().is_err() {

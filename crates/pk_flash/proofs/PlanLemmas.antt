@@ -3,7 +3,7 @@ use Rattle.std.proofs.Common.{◌≡◌, ℕ, List, [], ◌∷◌, ◌++◌, ref
 use Rattle.std.proofs.Math.Dec.{eqb_refl}
 use Rattle.pk_flash.specs.declared.types.Left.{Left}
 use Rattle.pk_flash.specs.declared.types.Planned.{Planned}
-use Rattle.pk_flash.specs.Plan.{later, left_by, planned_left}
+use Rattle.pk_flash.specs.Plan.{later, left_if_planned, planned_left}
 
 later-none : (o : Option Left) → later None o ≡ o
 later-none None = refl
@@ -13,18 +13,18 @@ later-later : (a b c : Option Left) → later a (later b c) ≡ later (later a b
 later-later a b None = refl
 later-later a b (Some left) = refl
 
-pub planned-append : (call : ℕ) (plan : List Planned) (next : Planned) → planned_left (plan ++ next ∷ []) call ≡ later (planned_left plan call) (left_by next call)
-planned-append call [] next = sym (later-none (left_by next call))
-planned-append call (p ∷ plan) next = ap (later (left_by p call)) (planned-append call plan next) ∙ later-later (left_by p call) (planned_left plan call) (left_by next call)
+pub planned-append : (call : ℕ) (plan : List Planned) (next : Planned) → planned_left (plan ++ next ∷ []) call ≡ later (planned_left plan call) (left_if_planned next call)
+planned-append call [] next = sym (later-none (left_if_planned next call))
+planned-append call (p ∷ plan) next = ap (later (left_if_planned p call)) (planned-append call plan next) ∙ later-later (left_if_planned p call) (planned_left plan call) (left_if_planned next call)
 
 yes : (b : Bool) → T b → b ≡ true
 yes true t = refl
 yes false t = absurd t
 
-pub left-same : (next : Planned) → left_by next next.call ≡ Some next.left
+pub left-same : (next : Planned) → left_if_planned next next.call ≡ Some next.left
 left-same next = rw (yes (next.call == next.call) (eqb_refl next.call)) refl
 
-pub left-other : (call : ℕ) (next : Planned) → (call ≡ next.call → ⊥) → left_by next call ≡ None
+pub left-other : (call : ℕ) (next : Planned) → (call ≡ next.call → ⊥) → left_if_planned next call ≡ None
 left-other call next other =
     elim (next.call == call) as (λ b. (next.call == call) ≡ b → (if b then Some next.left else None) ≡ None) [
       | true ↦ λ e. absurd (other (sym (eqb→eq _ _ (subst T (sym e) tt))))

@@ -26,7 +26,7 @@ part all (Some (WithEven left)) = 0
 part all (Some (Part count)) = min all count
 
 -- it gives these bytes out, and notes them
-pub record Gives {X E : Type 0} (left : Option Left) (out : List ℕ) (posted posted' : List ℕ) (trail trail' : List Mark) (result : Result X E) : Type 0 where
+pub record PostGives {X E : Type 0} (left : Option Left) (out : List ℕ) (posted posted' : List ℕ) (trail trail' : List Mark) (result : Result X E) : Type 0 where
   pub answer : AnswersBy left result
   pub given : posted' ≡ posted ++ out
   pub noted : trail' ≡ trail ++ post out ∷ []
@@ -39,6 +39,6 @@ pub record GivesNothing {X E : Type 0} (posted posted' : List ℕ) (trail trail'
 
 -- A post sends what was planned, or nothing is done: with room it does for at most a page of bytes, and without it never.
 pub record PostsBy {X E : Type 0} (page_bytes posted_room room : ℕ) (left : Option Left) (bytes posted posted' : List ℕ) (trail trail' : List Mark) (result : Result X E) : Type 0 where
-  pub did : Gives left (take (part (length bytes) left) bytes) posted posted' trail trail' result ⊎ GivesNothing posted posted' trail trail' result
-  pub free : part (length bytes) left ≤ page_bytes → length posted + part (length bytes) left ≤ posted_room → length trail < room → Gives left (take (part (length bytes) left) bytes) posted posted' trail trail' result
+  pub did : PostGives left (take (part (length bytes) left) bytes) posted posted' trail trail' result ⊎ GivesNothing posted posted' trail trail' result
+  pub free : part (length bytes) left ≤ page_bytes → length posted + part (length bytes) left ≤ posted_room → length trail < room → PostGives left (take (part (length bytes) left) bytes) posted posted' trail trail' result
   pub refused : (posted_room < length posted + part (length bytes) left) ⊎ (room ≤ length trail) → GivesNothing posted posted' trail trail' result

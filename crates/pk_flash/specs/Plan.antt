@@ -12,13 +12,13 @@ later first None = first
 later first (Some left) = Some left
 
 -- what a plan has the call with this number leave, if it is for it
-abbrev pub left_by : Planned → ℕ → Option Left
-left_by next call = if next.call == call then Some next.left else None
+abbrev pub left_if_planned : Planned → ℕ → Option Left
+left_if_planned next call = if next.call == call then Some next.left else None
 
 -- what the call with this number is to leave, if it is to fail: what the last plan for it says
 abbrev pub planned_left : List Planned → ℕ → Option Left
 planned_left [] call = None
-planned_left (next ∷ plan) call = later (left_by next call) (planned_left plan call)
+planned_left (next ∷ plan) call = later (left_if_planned next call) (planned_left plan call)
 
 -- what a call leaves: what was planned, or all that it does
 abbrev pub left_of : Option Left → Left

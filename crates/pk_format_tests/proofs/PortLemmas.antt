@@ -7,7 +7,7 @@ use Rattle.pk_nvme.specs.Reply.{Reply, completion}
 use Rattle.pk_model.specs.Answer.{map_after}
 use Rattle.pk_model.specs.Machine.{Machine, Answers, no_numbers, replied}
 use Rattle.pk_model.specs.declared.answer.Answer.{Answer}
-use Rattle.pk_host.specs.Port.{PortState, Steps, Replies, Completes, Took, room_of}
+use Rattle.pk_host.specs.Port.{PortState, PortSteps, Replies, Completes, Took, room_of}
 use Rattle.pk_host.specs.declared.types.Completed.{Completed}
 use Rattle.pk_host.specs.Good.{IsGood, IsHanded}
 use Rattle.pk_format_tests.specs.Memory.{seen}
@@ -36,7 +36,7 @@ module _ (old new : Machine) (faults : ℕ) (c : Command) (a : Answer) (h : Answ
   replies_so good status field = record {
     status_size = status;
     result_size = field;
-    answers = λ m told. subst (λ (x : Map). Steps (seen old faults) (seen new faults) c (replied a) x) (some_map old.map m told) (record {
+    answers = λ m told. subst (λ (x : Map). PortSteps (seen old faults) (seen new faults) c (replied a) x) (some_map old.map m told) (record {
       within = record { sized = good.sized; few = good.few };
       frames = 0;
       left = map_after old.shape (limit old.shape) old.map c;

@@ -25,7 +25,7 @@ use Rattle.pk_gc.specs.State.{JobState, unseen, live_from, live_unseen, steps_le
 use Rattle.pk_live.specs.OpenBlocks.{closed_with}
 use Rattle.pk_gc.specs.Victims.{HoldsValues, IsFull, Chooses}
 use Rattle.pk_gc.specs.Beginning.{Begins}
-use Rattle.pk_gc.specs.Stepping.{Hands, CanGoOn, CanStepIn, StepsIn, GoesOn, Tries}
+use Rattle.pk_gc.specs.Stepping.{Hands, CanGoOn, CanStepIn, StepsIn, ReclaimGoesOn, Tries}
 use Rattle.pk_gc.specs.Committing.{entries_left}
 use Rattle.pk_gc.specs.Lowering.{left_behind, StepLowers, LiveOfBlock}
 use Rattle.pk_gc.proofs.Counting.{read_falls, program_falls, begin_falls}
@@ -132,7 +132,7 @@ module _ (job : JobState) (h : Hands) (old : BoardState) (job' : JobState) (h' :
         let end = on.end is.whole is.dead in
         given left c.victim (record job { phase = Idle; entries = [] }) _ refl refl made.job_is made.hands end.owned (omega arith)
 
-    goes_on : (r : Reclaimed) → GoesOn c job h old job' h' new r → r ≢ NeedsFreeze → LowersFrom left
+    goes_on : (r : Reclaimed) → ReclaimGoesOn c job h old job' h' new r → r ≢ NeedsFreeze → LowersFrom left
     goes_on r (inl copy) free = elim copy.2 [
       | inl programs ↦
           become left (record job { phase = Copies (programmed c); entries = [] }) h programs.job_is copy.1 (omega arith) (let falls = program_falls job.shape heads c programs.held (on.runs.held_is programs.held).0 in omega (arith, falls))

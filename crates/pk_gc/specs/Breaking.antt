@@ -42,5 +42,5 @@ BreaksIn (Copies c) job h old new e = FailsToRead c old new e ⊎ (FailsToCopy c
 BreaksIn (Commits victim) job h old new e = (e ≡ Stopped) × FailsToEnd h.epoch job.entries old new
 BreaksIn (GivesBack victim) job h old new e = ⊥
 
-abbrev pub Breaks : JobState → Hands → BoardState → BoardState → Fault → Type 0
-Breaks job h old new e = BreaksIn job.phase job h old new e
+abbrev pub JobBroken : JobState → Hands → BoardState → BoardState → Fault → Type 0
+JobBroken job h old new e = BreaksIn job.phase job h old new e

@@ -24,7 +24,7 @@ abbrev pub HasRoom : Table → JournalEpoch → List Entry → Type 0
 HasRoom active e es = (length active.entries + new_keys active es ≤ active.capacity) × (0 < commits_left e)
 
 -- nothing is done to the epoch and the board
-pub record Rests (e : JournalEpoch) (old : BoardState) (e' : JournalEpoch) (new : BoardState) : Type 0 where
+pub record EpochRests (e : JournalEpoch) (old : BoardState) (e' : JournalEpoch) (new : BoardState) : Type 0 where
   pub kept : e' ≡ e
   pub same : new ≡ old
 
@@ -32,7 +32,7 @@ pub record Rests (e : JournalEpoch) (old : BoardState) (e' : JournalEpoch) (new 
 pub record Refuses (es : List Entry) (active : Table) (e : JournalEpoch) (old : BoardState) (e' : JournalEpoch) (new : BoardState) : Type 0 where
   pub some : es ≢ []
   pub no_room : HasRoom active e es → ⊥
-  pub rests : Rests e old e' new
+  pub rests : EpochRests e old e' new
 
 -- There are entries, with room for them, and the first program of the epoch's next commit was made with them.
 pub record Adds (es : List Entry) (active : Table) (e : JournalEpoch) (old : BoardState) (e' : JournalEpoch) (new : BoardState) : Type 0 where
@@ -48,6 +48,6 @@ pub record FailsToAdd (es : List Entry) (active : Table) (e : JournalEpoch) (old
 
 -- what became of these entries, by the answer
 abbrev pub BecameOf : List Entry → Table → JournalEpoch → BoardState → JournalEpoch → BoardState → Committed → Type 0
-BecameOf es active e old e' new None = (es ≡ []) × Rests e old e' new
+BecameOf es active e old e' new None = (es ≡ []) × EpochRests e old e' new
 BecameOf es active e old e' new NeedsFreeze = Refuses es active e old e' new
 BecameOf es active e old e' new All = Adds es active e old e' new

@@ -145,8 +145,8 @@ pub record Tries (c : Course) (job : JobState) (h : Hands) (old : BoardState) (j
   pub finishes : Finishes c job h old job' h' new r
 
 -- a step of a reclaim that runs: a copy, or the end
-abbrev pub GoesOn : Course → JobState → Hands → BoardState → JobState → Hands → BoardState → Reclaimed → Type 0
-GoesOn c job h old job' h' new r =
+abbrev pub ReclaimGoesOn : Course → JobState → Hands → BoardState → JobState → Hands → BoardState → Reclaimed → Type 0
+ReclaimGoesOn c job h old job' h' new r =
     ((r ≡ Worked) × (h' ≡ h) × (ProgramsHeld c job old job' new ⊎ (ReadsNext c job old job' new ⊎ BeginsValue c job h old job' new)))
     ⊎ Tries c job h old job' h' new r
 
@@ -166,7 +166,7 @@ pub record GivesVictim (victim : ℕ) (job : JobState) (h : Hands) (old : BoardS
 
 abbrev pub StepsIn : Phase → JobState → Hands → BoardState → JobState → Hands → BoardState → Reclaimed → Type 0
 StepsIn Idle job h old job' h' new r = Begins job h.live h.front h.pool old job' h'.live h'.front h'.pool new r × (h'.active ≡ h.active) × (h'.epoch ≡ h.epoch)
-StepsIn (Copies c) job h old job' h' new r = GoesOn c job h old job' h' new r
+StepsIn (Copies c) job h old job' h' new r = ReclaimGoesOn c job h old job' h' new r
 StepsIn (Commits victim) job h old job' h' new r = EndsMoves victim job h old job' h' new r
 StepsIn (GivesBack victim) job h old job' h' new r = GivesVictim victim job h old job' h' new r
 

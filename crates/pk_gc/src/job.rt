@@ -22,7 +22,7 @@ ghost use Rattle.pk_gc.specs.Victims.{Chooses};
 ghost use Rattle.pk_gc.specs.Beginning.{Begins};
 ghost use Rattle.pk_gc.specs.Committing.{BecameOf, entries_left};
 ghost use Rattle.pk_gc.specs.Stepping.{CanStep, Steps, ProgramsHeld, IsHalfCommitted, runs_in};
-ghost use Rattle.pk_gc.specs.Breaking.{Breaks, FailsToCopy};
+ghost use Rattle.pk_gc.specs.Breaking.{JobBroken, FailsToCopy};
 ghost use Rattle.pk_gc.specs.Asking.{MayStart, MayCopy, MayBegin, ReadsFirst, CannotRead};
 ghost use Rattle.pk_gc.specs.Asking.{IsEpoch, CannotAdd, IsBehindCommit, CanFinish, Finished, RunsOn, hands_of};
 
@@ -169,7 +169,7 @@ impl<A: Region> ReclaimJob<A> {
             (hands_of live.new front.new pool.new active.new epoch.new) (B.state board.new) r) }
 
         // Or its call failed.
-        ensures breaks { IfErr result (λ e. Breaks self.old
+        ensures breaks { IfErr result (λ e. JobBroken self.old
             (hands_of live.old front.old pool.old active.old epoch.old) (B.state board.old)
             (B.state board.new) e) }
         ensures kept { OnErr result (self.new ≡ record self.old { page = self.new.page }) }

@@ -127,8 +127,8 @@ Gets p key value = (m : Map) → p.map ≡ Some m → value ≡ get m key
 abbrev pub Cuts : PortState → Key → ℕ → Option (List ℕ) → Option ℕ → Type 0
 Cuts p key most bytes whole = (m : Map) → p.map ≡ Some m → (bytes ≡ option_map (take most) (get m key)) × (whole ≡ option_map length (get m key))
 
-abbrev pub Holds : PortState → Key → ℕ → Option (List ℕ) → Type 0
-Holds p key most bytes = (m : Map) → p.map ≡ Some m → bytes ≡ option_map (take most) (get m key)
+abbrev pub KeyHas : PortState → Key → ℕ → Option (List ℕ) → Type 0
+KeyHas p key most bytes = (m : Map) → p.map ≡ Some m → bytes ≡ option_map (take most) (get m key)
 
 -- sixteen numbers: five of the map and of some frames, and eleven of the drive's own
 abbrev pub Numbers : PortState → List ℕ → Type 0

@@ -40,7 +40,7 @@ abbrev pub room_of : Command → ℕ
 room_of c = room_for c.size (op_of c.opcode)
 
 -- from this map on: the reply is that of the definition, and so is the map afterwards
-pub record Steps (old new : PortState) (c : Command) (a : Reply) (m : Map) : Type 0 where
+pub record PortSteps (old new : PortState) (c : Command) (a : Reply) (m : Map) : Type 0 where
   pub within : IsWithin old m
   pub frames : ℕ
   pub left : Map
@@ -51,7 +51,7 @@ pub record Steps (old new : PortState) (c : Command) (a : Reply) (m : Map) : Typ
 pub record Replies (old new : PortState) (c : Command) (a : Reply) : Type 0 where
   pub status_size : a.status < 256
   pub result_size : a.result < 2 ^ 32
-  pub answers : (m : Map) → old.map ≡ Some m → Steps old new c a m
+  pub answers : (m : Map) → old.map ≡ Some m → PortSteps old new c a m
   pub unread : a.status ≡ UNRECOVERED_ERROR → Rose old.read_faults new.read_faults
 
 -- the completion entry of that answer after some number of entries, and its data at the start of the buffer

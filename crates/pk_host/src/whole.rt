@@ -1,7 +1,7 @@
 //! Values that are fetched whole.
 ghost use Rattle.std.specs.Prelude.{[], ◌∷◌, OnOk, IfOk, IfErr};
 ghost use Rattle.std.specs.Option.{option_map};
-ghost use Rattle.pk_host.specs.Calls.{IsCause, retrieved, retrieve_of, AtMostOne, AreRetrieves, TookSome, Leaves, Gets, Cuts, Holds};
+ghost use Rattle.pk_host.specs.Calls.{IsCause, retrieved, retrieve_of, AtMostOne, AreRetrieves, TookSome, Leaves, Gets, Cuts, KeyHas};
 
 use crate::host::Host;
 use crate::port::Port;
@@ -54,7 +54,7 @@ impl Host {
         most: u32,
     ) -> Result<Option<Vec<u8>>, HostError>
         ensures gets { IfOk result (λ value.
-            Holds (P.state port.old) key.now most (option_map (λ v. v.items) value)) }
+            KeyHas (P.state port.old) key.now most (option_map (λ v. v.items) value)) }
         ensures causes { IfErr result (λ e. IsCause (P.state port.old) (P.state port.new)
             retrieved e) }
         ensures leaves { OnOk result (Leaves (P.state port.old) (P.state port.new) (λ m. m)) }

@@ -9,7 +9,7 @@ use Rattle.pk_base.specs.declared.shape.ShapeError.TheVariants.{BadPage, BadBloc
 use Rattle.pk_base.specs.Fields.{u32, spelled, zeros, first_fault}
 use Rattle.pk_base.specs.Shape.{Shape, IsShape, checked, has_bad_page, has_bad_block, is_too_large, is_too_small, page_entries, dense, meta_blocks}
 use Rattle.pk_base.proofs.Tables.{◌⊕◌, fields_of, AllNone, all_none, first_none, unless_true, true_unless, unlike_stands, stands_unlike, number_stands, stands_number, Stand, AreSized, stand_spelled, spelled_stand}
-use Rattle.pk_image.specs.Header.{magic, file_size, header_bytes, named_shape, is_shape, has_size, IsHeader, header_checks, header_fault, place_of}
+use Rattle.pk_image.specs.Header.{image_magic, file_size, header_bytes, named_shape, is_shape, has_size, IsHeader, header_checks, header_fault, refusal_place}
 use Rattle.pk_image.specs.declared.head.ImageError.{ImageError}
 
 -- ---- shapes that are accepted
@@ -78,7 +78,7 @@ accepted_shape s e = by_cases (checked s) refl e
 -- ---- the rows of a header, each with its size
 
 rows : Shape → List (ℕ × List ℕ)
-rows s = (8, magic) ∷ (4, u32 s.page_bytes) ∷ (4, u32 s.block_pages) ∷ (4, u32 s.blocks) ∷ (12, zeros 12) ∷ []
+rows s = (8, image_magic) ∷ (4, u32 s.page_bytes) ∷ (4, u32 s.block_pages) ∷ (4, u32 s.blocks) ∷ (12, zeros 12) ∷ []
 
 rows_header : (s : Shape) → spelled (fields_of (rows s)) ≡ header_bytes s
 unfolding rows header_bytes
@@ -116,10 +116,10 @@ pub header_takes : (bytes : List ℕ) (size : ℕ) → ((i : ℕ) → get_or byt
 unfolding rows
 header_takes bytes size fits sized good =
     let each : AllNone (header_checks bytes size) = all_none (header_checks bytes size) (long_enough bytes size good).1 in
-    let least : length magic ≡ 8 = refl in
+    let least : length image_magic ≡ 8 = refl in
     let parts = and_parts (is_shape (named_shape bytes)) (size == file_size (named_shape bytes)) (unless_true 32 (has_size (named_shape bytes) size) each.1.1.1.0) in
     let stands : Stand 0 (rows (named_shape bytes)) bytes =
-    unlike_stands 0 magic bytes each.0 (omega arith)
+    unlike_stands 0 image_magic bytes each.0 (omega arith)
     ⊕ number_stands 4 8 bytes fits (omega arith)
     ⊕ number_stands 4 12 bytes fits (omega arith)
     ⊕ number_stands 4 16 bytes fits (omega arith)
@@ -155,7 +155,7 @@ header_again s bytes size is =
     let long : nat_le 32 size ≡ true = grind (arith, nat_tests, is.file) in
     record {
       passes = rw long (first_none (header_checks bytes size) (
-          stands_unlike 0 magic (drop 8 bytes) bytes row.0
+          stands_unlike 0 image_magic (drop 8 bytes) bytes row.0
           ⊕ true_unless 8 _ ok
           ⊕ stands_unlike 20 (zeros 12) (drop 32 bytes) bytes row.1.1.1.1.0
           ⊕ true_unless 32 _ room
@@ -166,7 +166,7 @@ header_again s bytes size is =
 -- ---- reading exactly is finding what is there, and whatever is there
 
 abbrev pub Exact : List ℕ → ℕ → Result Shape ImageError → Type 0
-Exact bytes size r = MatchResult r (λ shape. (header_fault bytes size ≡ None) × (shape ≡ named_shape bytes)) (λ bad. header_fault bytes size ≡ Some (place_of bad))
+Exact bytes size r = MatchResult r (λ shape. (header_fault bytes size ≡ None) × (shape ≡ named_shape bytes)) (λ bad. header_fault bytes size ≡ Some (refusal_place bad))
 
 pub found : (bytes : List ℕ) (size : ℕ) (r : Result Shape ImageError) → ((i : ℕ) → get_or bytes i 0 < 256) → length bytes ≡ 32 → Exact bytes size r
     → IfOk r (λ shape. IsHeader shape bytes size)

@@ -7,8 +7,8 @@ use Rattle.pk_image.specs.declared.head.ImageError.{ImageError}
 use Rattle.pk_image.specs.declared.head.ImageError.TheVariants.{Bad}
 
 -- PINKIMG1
-abbrev pub magic : List ℕ
-magic = 80 ∷ 73 ∷ 78 ∷ 75 ∷ 73 ∷ 77 ∷ 71 ∷ 49 ∷ []
+abbrev pub image_magic : List ℕ
+image_magic = 80 ∷ 73 ∷ 78 ∷ 75 ∷ 73 ∷ 77 ∷ 71 ∷ 49 ∷ []
 
 -- the bytes of a file of this shape: the header, and for each page a state byte and its bytes
 abbrev pub file_size : Shape → ℕ
@@ -16,7 +16,7 @@ file_size shape = HEADER_BYTES + page_count shape * (shape.page_bytes + 1)
 
 -- the bytes of the header of this shape
 unfoldable pub header_bytes : Shape → List ℕ
-header_bytes shape = spelled (magic ∷ u32 shape.page_bytes ∷ u32 shape.block_pages ∷ u32 shape.blocks ∷ zeros 12 ∷ [])
+header_bytes shape = spelled (image_magic ∷ u32 shape.page_bytes ∷ u32 shape.block_pages ∷ u32 shape.blocks ∷ zeros 12 ∷ [])
 
 -- the numbers that a header names, whether or not they are a shape's
 abbrev pub named_shape : List ℕ → Shape
@@ -39,12 +39,12 @@ pub record IsHeader (shape : Shape) (bytes : List ℕ) (size : ℕ) : Type 0 whe
 -- the fields of a header in order, each with its place; then the length of the file
 abbrev pub header_checks : List ℕ → ℕ → List (Option ℕ)
 header_checks bytes size =
-    unlike 0 magic bytes ∷ unless 8 (is_shape (named_shape bytes)) ∷ unlike 20 (zeros 12) bytes ∷ unless HEADER_BYTES (has_size (named_shape bytes) size) ∷ []
+    unlike 0 image_magic bytes ∷ unless 8 (is_shape (named_shape bytes)) ∷ unlike 20 (zeros 12) bytes ∷ unless HEADER_BYTES (has_size (named_shape bytes) size) ∷ []
 
 -- The first wrong field of a file's header. A file that is shorter than a header is wrong at its length.
 unfoldable pub header_fault : List ℕ → ℕ → Option ℕ
 header_fault bytes size = if nat_le HEADER_BYTES size then first_fault (header_checks bytes size) else Some size
 
 -- the place that a refusal names
-abbrev pub place_of : ImageError → ℕ
-place_of (Bad at) = at
+abbrev pub refusal_place : ImageError → ℕ
+refusal_place (Bad at) = at

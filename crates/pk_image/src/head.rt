@@ -2,7 +2,7 @@
 ghost use Rattle.std.specs.Prelude.{◌≡◌, ◌≤◌, length, IfOk, IfErr, MatchResult, Ok, Some, None};
 ghost use Rattle.pk_base.specs.Fields.{Finds};
 ghost use Rattle.pk_base.specs.Shape as spec;
-ghost use Rattle.pk_image.specs.Header.{file_size, header_bytes, named_shape, is_shape, has_size, header_fault, IsHeader, place_of};
+ghost use Rattle.pk_image.specs.Header.{file_size, header_bytes, named_shape, is_shape, has_size, header_fault, IsHeader, refusal_place};
 
 use pk_base::{
     Shape, ShapeError, Wrong, get_u32, passes, put_text, put_u32, put_zeros, text, zeros,
@@ -100,7 +100,7 @@ fn shape_of(bytes: &[u8], file_len: u64) -> Result<Shape, ImageError>
     requires { length bytes.now ≡ HEADER_BYTES }
     ensures { MatchResult result
         (λ shape. (header_fault bytes.now file_len ≡ None) × (shape ≡ named_shape bytes.now))
-        (λ bad. header_fault bytes.now file_len ≡ Some (place_of bad)) }
+        (λ bad. header_fault bytes.now file_len ≡ Some (refusal_place bad)) }
 {
     if file_len < HEADER_BYTES as u64 {
         return Err(ImageError::Bad { at: file_len });
@@ -123,7 +123,7 @@ pub fn read_header(bytes: &[u8; HEADER_BYTES], file_len: u64) -> Result<Shape, I
     // The header of a shape is read as this shape.
     ensures only { (shape : spec.Shape) → IsHeader shape bytes.now file_len → result ≡ Ok shape }
     // Else the first wrong field is named.
-    ensures exact { IfErr result (λ bad. header_fault bytes.now file_len ≡ Some (place_of bad)) }
+    ensures exact { IfErr result (λ bad. header_fault bytes.now file_len ≡ Some (refusal_place bad)) }
 {
     shape_of(bytes, file_len)
 }

@@ -1,7 +1,7 @@
 //! The state bytes of an image, and the places of its parts.
 ghost use Rattle.std.specs.Prelude.{◌≡◌, ◌<◌, Some, None, IfOk, MatchResult};
 ghost use Rattle.pk_base.specs.Shape.{page_count};
-ghost use Rattle.pk_image.specs.Header.{place_of};
+ghost use Rattle.pk_image.specs.Header.{refusal_place};
 ghost use Rattle.pk_image.specs.Image.{byte_of, state_place, page_place};
 
 use crate::head::{HEADER_BYTES, ImageError};
@@ -39,7 +39,7 @@ impl PageTag {
 pub fn state(byte: u8, at: u64) -> Result<PageTag, ImageError>
     // Each state has one byte, and every other byte is wrong at its place.
     ensures { MatchResult result (λ tag. byte ≡ byte_of tag)
-        (λ bad. (TORN < byte) × (place_of bad ≡ at)) }
+        (λ bad. (TORN < byte) × (refusal_place bad ≡ at)) }
 {
     match byte {
         ERASED => Ok(PageTag::Erased),

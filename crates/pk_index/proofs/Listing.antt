@@ -20,7 +20,7 @@ use Rattle.pk_model.specs.Answer.{listed, fitting, list_bytes}
 use Rattle.pk_walk.specs.declared.position.Position.{Position}
 use Rattle.pk_walk.specs.declared.position.Position.TheVariants.{First, From}
 use Rattle.pk_walk.specs.Visible.{visible, is_wanted, wanted}
-use Rattle.pk_walk.specs.Walking.{Walk, IsLeft, Gives, Reads, ReadsFail, pages_read, most_read}
+use Rattle.pk_walk.specs.Walking.{Walk, IsLeft, WalkGives, Reads, ReadsFail, pages_read, most_read}
 use Rattle.pk_walk.proofs.Walks.{one_of_each}
 use Rattle.pk_walk.proofs.Seeking.{Reads-none, Reads-more}
 use Rattle.pk_index.specs.declared.filled.Filled.{Filled}
@@ -184,7 +184,7 @@ left_first w from flash arena rs active frozen ess at none left = (
 )
 
 -- the key of the entry that the walk gave was offered
-pub gives_key : (into new : List ℕ) (at : Filled) (room : ℕ) (e : RustEntry) (key : Key) (next : Option Filled) (rest later : List (Key × Place)) → key ≡ key_of (seen e) → Gives (Some e) rest later → OffersKey into at room key next new
+pub gives_key : (into new : List ℕ) (at : Filled) (room : ℕ) (e : RustEntry) (key : Key) (next : Option Filled) (rest later : List (Key × Place)) → key ≡ key_of (seen e) → WalkGives (Some e) rest later → OffersKey into at room key next new
     → OffersFirst into at room rest next new later
 gives_key into new at room e key next [] later is gives o = absurd (some_none e gives.0)
   where
@@ -193,7 +193,7 @@ gives_key into new at room e key next [] later is gives o = absurd (some_none e 
 gives_key into new at room e key next (x ∷ rest) later is gives o =
     (subst (λ (k : Key). OffersKey into at room k next new) (is ∙ ap (λ (y : Entry). y.0) gives.0) o, gives.1)
 
-pub gives_none : (into : List ℕ) (at : Filled) (room : ℕ) (rest later : List (Key × Place)) → Gives None rest later → OffersFirst into at room rest None into later
+pub gives_none : (into : List ℕ) (at : Filled) (room : ℕ) (rest later : List (Key × Place)) → WalkGives None rest later → OffersFirst into at room rest None into later
 gives_none into at room [] later gives = (refl, refl)
 gives_none into at room (x ∷ rest) later gives = absurd gives
 

@@ -14,7 +14,7 @@ use Rattle.pk_nand.specs.Calls.{counted, IsReady, after_read, ReadFailed}
 use Rattle.pk_nand.specs.Counts.{counted_by, after_reads}
 use Rattle.pk_pin.specs.Frames.{Frames}
 use Rattle.pk_run.specs.Kept.{Kept, IsPinned, RunOnFlash, empty, after_look}
-use Rattle.pk_run.specs.Search.{IsFound, IsPageFor, Looks}
+use Rattle.pk_run.specs.Search.{IsFound, IsPageFor, RunLooks}
 use Rattle.pk_level.specs.Levels.{Levels, IsOfLevel, AreOfLevels, IsLevels, RunsOnFlash, all_entries, reads_by, most_reads, reads_through, LooksFor, ReadsUpTo, ReadFailsWithin}
 
 -- ---- entries of several lists
@@ -102,7 +102,7 @@ look_by [] (suc n) p now next h e = (suc zero, omega arith, e)
 look_by (l ∷ leases) (suc n) p now next h e = (zero, omega arith, e)
 
 -- how often a lookup in one run reads
-look_reads : (r : Kept) (key : Key) (now next : BoardState) → Looks r key now next → (k : ℕ) × (k ≤ most_reads r) × (next ≡ after_reads k now)
+look_reads : (r : Kept) (key : Key) (now next : BoardState) → RunLooks r key now next → (k : ℕ) × (k ≤ most_reads r) × (next ≡ after_reads k now)
 look_reads r key now next (inl none) = (zero, omega arith, none.1)
 look_reads r key now next (inr some) = look_by r.leases (length r.firsts) some.0 now next some.1.exists some.2
 
@@ -160,7 +160,7 @@ drop_all (x ∷ xs) (suc i) h = drop_all xs i (omega arith)
 
 -- a run is looked into, and what comes after it is known by whether it has the key
 looks_at : (rs : List Kept) (ess : List (List Entry)) (key : Key) (now next last : BoardState) (i : ℕ) (r : Kept) (es : List Entry) (found : Option (Option Place)) → slice_get rs i ≡ Some r → slice_get ess i ≡ Some es
-    → Looks r key now next → find key_cmp key es ≡ found → MatchOption found (LooksFor key (drop (suc i) rs) (drop (suc i) ess) next last) (λ place. last ≡ next) → LooksFor key (drop i rs) (drop i ess) now last
+    → RunLooks r key now next → find key_cmp key es ≡ found → MatchOption found (LooksFor key (drop (suc i) rs) (drop (suc i) ess) next last) (λ place. last ≡ next) → LooksFor key (drop i rs) (drop i ess) now last
 looks_at rs ess key now next last i r es found got own looks is rest =
     subst (λ (ks : List Kept). LooksFor key ks (drop i ess) now last) (sym (drop_at rs i r got))
     (subst (λ (fs : List (List Entry)). LooksFor key (r ∷ drop (suc i) rs) fs now last) (sym (drop_at ess i es own))
@@ -168,7 +168,7 @@ looks_at rs ess key now next last i r es found got own looks is rest =
 
 -- the next run has nothing either
 pub Looking-next : (rs : List Kept) (arena : Frames) (key : Key) (old now next : BoardState) (i : ℕ) (r : Kept) → Looking rs arena key old now i → slice_get rs i ≡ Some r
-    → Looks r key now next → ((es : List Entry) → RunOnFlash r now.pages arena es → find key_cmp key es ≡ None) → Looking rs arena key old next (i + 1)
+    → RunLooks r key now next → ((es : List Entry) → RunOnFlash r now.pages arena es → find key_cmp key es ≡ None) → Looking rs arena key old next (i + 1)
 Looking-next rs arena key old now next i r at got looks missing =
     let look = look_reads r key now next looks in
     let left = through_at rs i r got in
@@ -195,7 +195,7 @@ Looking-found rs arena key old now i r e at got found ess each =
     let is = found own.0 own.2 in
     (is.0, at.none ess each ∙ ap (find key_cmp key) (entries_at ess i own.0 own.1) ∙ find_left key own.0 (all_entries (drop (suc i) ess)) (seen e).1 is.1)
 
-pub reads_found : (rs : List Kept) (arena : Frames) (key : Key) (old now next : BoardState) (i : ℕ) (r : Kept) → Looking rs arena key old now i → slice_get rs i ≡ Some r → Looks r key now next
+pub reads_found : (rs : List Kept) (arena : Frames) (key : Key) (old now next : BoardState) (i : ℕ) (r : Kept) → Looking rs arena key old now i → slice_get rs i ≡ Some r → RunLooks r key now next
     → ReadsUpTo (reads_through rs) old next
 reads_found rs arena key old now next i r at got looks =
     let look = look_reads r key now next looks in
@@ -203,7 +203,7 @@ reads_found rs arena key old now next i r at got looks =
     let few = at.few in
     (look.0 + at.made, omega (arith, few, left, look.1), look.2 ∙ ap (λ (b : BoardState). after_reads look.0 b) at.board ∙ reads_more look.0 at.made old)
 
-pub looks_found : (rs : List Kept) (arena : Frames) (key : Key) (old now next : BoardState) (i : ℕ) (r : Kept) (e : RustEntry) → Looking rs arena key old now i → slice_get rs i ≡ Some r → Looks r key now next
+pub looks_found : (rs : List Kept) (arena : Frames) (key : Key) (old now next : BoardState) (i : ℕ) (r : Kept) (e : RustEntry) → Looking rs arena key old now i → slice_get rs i ≡ Some r → RunLooks r key now next
     → ((es : List Entry) → RunOnFlash r now.pages arena es → IsFound key es (Some e)) → (ess : List (List Entry)) → RunsOnFlash old.pages arena rs ess → LooksFor key rs ess old next
 looks_found rs arena key old now next i r e at got looks found ess each =
     let own = next_stands rs arena key old now i r ess at got each in

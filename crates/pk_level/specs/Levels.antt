@@ -12,7 +12,7 @@ use Rattle.pk_nand.specs.Calls.{ReadFailed}
 use Rattle.pk_nand.specs.Counts.{after_reads}
 use Rattle.pk_pin.specs.Frames.{Frames}
 use Rattle.pk_run.specs.Kept.{Kept, IsPinned, RunOnFlash, empty}
-use Rattle.pk_run.specs.Search.{Looks}
+use Rattle.pk_run.specs.Search.{RunLooks}
 
 -- how many levels have frames for all their pages, and runs 1 to 4
 pub record Levels : Type 0 where
@@ -84,7 +84,7 @@ abbrev pub LooksFor : Key → List Kept → List (List Entry) → BoardState →
 LooksFor key [] ess old new = new ≡ old
 LooksFor key (r ∷ rs) [] old new = new ≡ old
 LooksFor key (r ∷ rs) (es ∷ ess) old new =
-    (between : BoardState) × Looks r key old between × MatchOption (find key_cmp key es) (LooksFor key rs ess between new) (λ place. new ≡ between)
+    (between : BoardState) × RunLooks r key old between × MatchOption (find key_cmp key es) (LooksFor key rs ess between new) (λ place. new ≡ between)
 
 -- nothing but at most n reads
 abbrev pub ReadsUpTo : ℕ → BoardState → BoardState → Type 0

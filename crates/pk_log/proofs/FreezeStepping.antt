@@ -38,7 +38,7 @@ use Rattle.pk_compact.proofs.TakingOne.{all_in}
 use Rattle.pk_compact.proofs.Pairs.{two_are, two_same}
 use Rattle.pk_log.specs.State.{LogState}
 use Rattle.pk_log.specs.Logs.{LogOnFlash}
-use Rattle.pk_log.specs.FreezeSteps.{begun, CanStep, LogGoesOn, LogFrozen}
+use Rattle.pk_log.specs.FreezeSteps.{freeze_begun, CanStep, LogGoesOn, LogFrozen}
 use Rattle.pk_log.proofs.Buffers.{none_of_firsts, tells_some, two_erased}
 
 -- what a step did, by its answer
@@ -223,7 +223,7 @@ module _ (log : LogState) (pool : Blocks) (job : FreezeJob) (old : BoardState) (
         these : blocks ≡ done.first ∷ done.second ∷ []
         these = blocks_are ∙ ap (λ (r : Root). two_of r.newest) done.root_is
 
-        stands_begun : LogOnFlash (begun log root' next' blocks) new.pages (done.page, root') (frozen found)
+        stands_begun : LogOnFlash (freeze_begun log root' next' blocks) new.pages (done.page, root') (frozen found)
         stands_begun =
             let logs = can.logs in
             record {
@@ -244,7 +244,7 @@ module _ (log : LogState) (pool : Blocks) (job : FreezeJob) (old : BoardState) (
               pending_whole = λ some. absurd (some can.none_pending);
             }
 
-        made : LogFrozen log pool job old top found m (begun log root' next' blocks) pool' job' new
+        made : LogFrozen log pool job old top found m (freeze_begun log root' next' blocks) pool' job' new
         made =
             let W : List ℕ → Type 0 = λ bs. IsApart log.shape (given_back pool bs) root' (frozen found) in
             let bs_are : (if has_entries then [] else slice_index (two_of log.root.newest) 0 ∷ slice_index (two_of log.root.newest) 1 ∷ []) ≡ (if length found.newest == 0 then top.1.newest else []) =
@@ -256,7 +256,7 @@ module _ (log : LogState) (pool : Blocks) (job : FreezeJob) (old : BoardState) (
               page = done.page;
               first = done.first;
               second = done.second;
-              begun_is = ap (λ (r : Root). begun log r next' blocks) done.root_is ∙ ap (λ bs. begun log (frozen_root top.1 found done.first done.second) next' bs) these;
+              begun_is = ap (λ (r : Root). freeze_begun log r next' blocks) done.root_is ∙ ap (λ bs. freeze_begun log (frozen_root top.1 found done.first done.second) next' bs) these;
               logs = stands_begun;
               under = done.under;
               half = done.half;
@@ -271,5 +271,5 @@ module _ (log : LogState) (pool : Blocks) (job : FreezeJob) (old : BoardState) (
               cuts = done.cuts;
             }
 
-        pub log_frozen : (log' : LogState) → log' ≡ begun log root' next' blocks → LogFrozen log pool job old top found m log' pool' job' new
+        pub log_frozen : (log' : LogState) → log' ≡ freeze_begun log root' next' blocks → LogFrozen log pool job old top found m log' pool' job' new
         log_frozen log' is = let P : LogState → Type 0 = λ l. LogFrozen log pool job old top found m l pool' job' new in subst P (sym is) made

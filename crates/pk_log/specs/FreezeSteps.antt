@@ -57,8 +57,8 @@ pub record LogGoesOn (log : LogState) (pool : Blocks) (job : FreezeJob) (old : B
   pub cuts : Reaches log.shape old new (CrashFinds log.shape background old.pages m)
 
 -- an empty epoch in these blocks is the newest of this root, and the buffers are exchanged
-abbrev pub begun : LogState → Root → Next → List ℕ → LogState
-begun log root next blocks = record log { root = root; next = next; epoch = started log.shape root.epoch blocks; active = log.frozen; frozen = log.active }
+abbrev pub freeze_begun : LogState → Root → Next → List ℕ → LogState
+freeze_begun log root next blocks = record log { root = root; next = next; epoch = started log.shape root.epoch blocks; active = log.frozen; frozen = log.active }
 
 -- The freeze's root was programmed in the first page of its pair, and the log matches the flash: an empty epoch is the newest one, the buffers
 -- are exchanged, and the blocks of a former epoch without entries leave. They may be given back after the second program: no spare block is read
@@ -67,7 +67,7 @@ pub record LogFrozen (log : LogState) (pool : Blocks) (job : FreezeJob) (old : B
   pub page : ℕ
   pub first : ℕ
   pub second : ℕ
-  pub begun_is : log' ≡ begun log (frozen_root top.1 found first second) log'.next (first ∷ second ∷ [])
+  pub begun_is : log' ≡ freeze_begun log (frozen_root top.1 found first second) log'.next (first ∷ second ∷ [])
   pub logs : LogOnFlash log' new.pages (page, log'.root) (frozen found)
   pub under : IsUnder log.shape new.pages [] (page, log'.root) (frozen found) m
   pub half : IsHalf log.shape log'.next new.pages m

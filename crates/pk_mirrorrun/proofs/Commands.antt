@@ -21,7 +21,7 @@ use Rattle.pk_mirror.specs.Spending.{OnlyLooks, LooksOr, count_of}
 use Rattle.pk_mirror.proofs.AskLemmas.{same_after}
 use Rattle.pk_mirrorwords.specs.PairTasks.{PairTask, put, get, delete, list, resync, change_of, after_change}
 use Rattle.pk_mirrorwords.specs.PairAnswers.{AreChange, AreOfFirst, AreOfPair, AreOfSecond}
-use Rattle.pk_mirrorrun.specs.PairTold.{left_by, most_roots}
+use Rattle.pk_mirrorrun.specs.PairTold.{map_left_by, most_pair_roots}
 
 -- ---- maps
 
@@ -54,7 +54,7 @@ change_left shape most m m' (Some c) change (inr one) h = subst (λ (cs : List C
 
 -- what is kept of a word's commands is the map before it or the one after it
 pub kept_first : (task : PairTask) (shape : Shape) (frames : ℕ) (m : Map) (cs : List Command) (n : Option ℕ) (posted : List ℕ) (f : Flash) → AreOfFirst task cs → Kept shape frames m cs n posted f
-    → Holds shape f m ⊎ Holds shape f (left_by shape task m)
+    → Holds shape f m ⊎ Holds shape f (map_left_by shape task m)
 kept_first task shape frames m cs n posted f are k =
     let served = ran_left shape frames k.served m k.map_left k.ran in
     let more = left_both shape (limit shape) m (commands k.served) k.map_left k.unserved k.map_left served (none_left shape (limit shape) k.map_left k.unserved) in
@@ -85,7 +85,7 @@ few_installs : (cs : List Command) → AreOfPair cs → installs cs ≤ 10 * (co
 few_installs [] h = omega arith
 few_installs (c ∷ cs) h = let one = one_installs c h.0 in let rest = few_installs cs h.1 in omega (arith, one, rest)
 
-pub second_installs : (first second : PortState) (m other : Map) (cs : List Command) → first.map ≡ Some m → second.map ≡ Some other → AreOfSecond first second cs → installs cs ≤ most_roots m other
+pub second_installs : (first second : PortState) (m other : Map) (cs : List Command) → first.map ≡ Some m → second.map ≡ Some other → AreOfSecond first second cs → installs cs ≤ most_pair_roots m other
 second_installs first second m other cs told too are =
     let few = are.few m other told too in
     let each = few_installs cs are.only in
@@ -104,7 +104,7 @@ change_installs (delete key) change (inr one) = let n : installs change ≡ 10 =
 change_installs list change none = let n : installs change ≡ 0 = ap installs none in omega (arith, n)
 change_installs resync change none = let n : installs change ≡ 0 = ap installs none in omega (arith, n)
 
-pub first_installs : (task : PairTask) (m other : Map) (cs : List Command) → AreOfFirst task cs → installs cs ≤ most_roots m other
+pub first_installs : (task : PairTask) (m other : Map) (cs : List Command) → AreOfFirst task cs → installs cs ≤ most_pair_roots m other
 first_installs task m other cs are =
     let few = change_installs task are.change are.changing in
     let all : installs cs ≡ installs are.change = ap installs are.are ∙ asks_install are.asks are.change are.asking in

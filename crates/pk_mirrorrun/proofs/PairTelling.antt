@@ -31,7 +31,7 @@ use Rattle.pk_wordrun.specs.declared.end.WordEnd.TheVariants.{Done, Output}
 use Rattle.pk_wordrun.proofs.Telling.{keeps-flash}
 use Rattle.pk_mirrorwords.specs.PairTasks.{PairTask}
 use Rattle.pk_mirrorwords.specs.PairAnswers.{PairSaid, PairFault, AreOfFirst, AreOfSecond}
-use Rattle.pk_mirrorrun.specs.PairTold.{EitherUnread, left_by, text_by, Walk, BothWalked, end_by, KeptFirst, KeptSecond, PairAnswered, PairEnds, most_roots, UsedRoots, PairTold}
+use Rattle.pk_mirrorrun.specs.PairTold.{EitherUnread, map_left_by, text_by, Walk, BothWalked, end_by, KeptFirst, KeptSecond, PairAnswered, PairEnds, most_pair_roots, UsedRoots, PairTold}
 use Rattle.pk_mirrorrun.proofs.Commands.{kept_first, first_installs, second_installs}
 
 some_same : {X : Type 0} (x y : X) → ◌≡◌ {A = Option X} (Some x) (Some y) → x ≡ y
@@ -49,7 +49,7 @@ module _ (shape : Shape) (start : Map) (cs : List Command) (p q : Standing) wher
   only_flash (inl w) = w.asked.rest
   only_flash (inr h) = h.rest
 
-  used_by : (m other : Map) → installs cs ≤ most_roots m other → Chained shape start cs p q → UsedRoots m other p.on.board q.on.board
+  used_by : (m other : Map) → installs cs ≤ most_pair_roots m other → Chained shape start cs p q → UsedRoots m other p.on.board q.on.board
   used_by m other few (inl w) = let most = w.few in inr (omega (arith, most, few))
   used_by m other few (inr h) = elim h.why [
     | inl stop ↦ inl stop
@@ -96,7 +96,7 @@ BothUnworn a c = (is_worn a ≡ false) × (is_worn c ≡ false)
 -- ---- both
 
 module _ (task : PairTask) (shape : Shape) (m other : Map) (cs ds : List Command) (p p' q q' : Standing) (are : AreOfFirst task cs)
-    (few : installs ds ≤ most_roots m other) (walk : Chained shape m cs p p') (too : Chained shape other ds q q') where
+    (few : installs ds ≤ most_pair_roots m other) (walk : Chained shape m cs p p') (too : Chained shape other ds q q') where
   abbrev a : BoardState
   a = p.on.board
 
@@ -163,11 +163,11 @@ module _ (task : PairTask) (shape : Shape) (m other : Map) (cs ds : List Command
       (said : PairSaid (BothUnworn a c) task (seen shape a p.faults) (seen shape b p'.faults) (seen shape c q.faults) (seen shape d q'.faults) m text) where
     -- what the text says of the map that the first drive holds
     abbrev Says : List ℕ → Map → Type 0
-    Says t left = ((left ≡ left_by shape task m) × (t ≡ text_by shape task m)) ⊎ (EitherUnread a b c d × (t ≡ failed_line))
+    Says t left = ((left ≡ map_left_by shape task m) × (t ≡ text_by shape task m)) ⊎ (EitherUnread a b c d × (t ≡ failed_line))
 
     says : Says text w.asked.left
     says = elim said [
-      | inl (unworn, done) ↦ inl (some_same w.asked.left (left_by shape task m) (sym (ap result_ok w.asked.held) ∙ done.first_left), done.spelled)
+      | inl (unworn, done) ↦ inl (some_same w.asked.left (map_left_by shape task m) (sym (ap result_ok w.asked.held) ∙ done.first_left), done.spelled)
       | inr unread ↦ inr unread
     ]
 
@@ -186,8 +186,8 @@ module _ (task : PairTask) (shape : Shape) (m other : Map) (cs ds : List Command
     finished_says = elim said [
       | inl (unworn, done) ↦ inl (record {
         text_is = done.spelled;
-        first_holds = subst (λ (x : Map). Holds shape b.pages x) (some_same w.asked.left (left_by shape task m) (sym (ap result_ok w.asked.held) ∙ done.first_left)) w.asked.held;
-        second_holds = subst (λ (x : Map). Holds shape d.pages x) (some_same v.asked.left (left_by shape task m) (sym (ap result_ok v.asked.held) ∙ done.second_left)) v.asked.held;
+        first_holds = subst (λ (x : Map). Holds shape b.pages x) (some_same w.asked.left (map_left_by shape task m) (sym (ap result_ok w.asked.held) ∙ done.first_left)) w.asked.held;
+        second_holds = subst (λ (x : Map). Holds shape d.pages x) (some_same v.asked.left (map_left_by shape task m) (sym (ap result_ok v.asked.held) ∙ done.second_left)) v.asked.held;
         first_unworn = unworn.0;
         second_unworn = unworn.1;
       })
@@ -236,7 +236,7 @@ module _ (task : PairTask) (shape : Shape) (m other : Map) (cs ds : List Command
           second_kept = second_kept shape other ds q q' too;
           ends = subst (λ (k : ℕ). Rose k last.out_faults) (ap (λ (s : BoardState). s.out_faults) w.asked.rest) failed.faults;
           first_used =
-              let R : BoardState → Type 0 = λ s. roots s ≤ roots a + most_roots m other in
+              let R : BoardState → Type 0 = λ s. roots s ≤ roots a + most_pair_roots m other in
               elim used_too [
                 | inl stop ↦ inl (subst (λ (k : ℕ). Rose a.stop_faults k) (sym same_stop) stop)
                 | inr most ↦ inr (let same_roots : roots last ≡ roots b = ap roots failed.rest in omega (arith, most, same_roots))
@@ -265,7 +265,7 @@ module _ (task : PairTask) (shape : Shape) (m other : Map) (p p' q q' : Standing
   two : Chained shape other too.0 q q'
   two = chained shape other q too.0 q' has' holds' going' too.2
 
-  few_roots : installs too.0 ≤ most_roots m other
+  few_roots : installs too.0 ≤ most_pair_roots m other
   few_roots = second_installs (seen shape p.on.board p.faults) (seen shape q.on.board q.faults) m other too.0 (ap result_ok holds) (ap result_ok holds') too.1
 
   pub tells-halted : (end : WordEnd) → Some end ≡ end_by p'.halt q'.halt → PairTold task shape m other p.on.board p'.on.board q.on.board q'.on.board end

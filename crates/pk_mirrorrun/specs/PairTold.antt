@@ -26,8 +26,8 @@ abbrev pub EitherUnread : BoardState → BoardState → BoardState → BoardStat
 EitherUnread a b c d = Rose a.read_faults b.read_faults ⊎ Rose c.read_faults d.read_faults
 
 -- the map that a word leaves, and what it says, on drives of this shape
-abbrev pub left_by : Shape → PairTask → Map → Map
-left_by shape task m = map_left shape (limit shape) task m
+abbrev pub map_left_by : Shape → PairTask → Map → Map
+map_left_by shape task m = map_left shape (limit shape) task m
 
 abbrev pub text_by : Shape → PairTask → Map → List ℕ
 text_by shape task m = text_of shape (limit shape) task m
@@ -58,10 +58,10 @@ pub record IsServing (shape : Shape) (board : BoardState) (drive : Sight) : Type
 -- The first drive holds its map or the one after the word. What was posted begins the text of the word, and the drive holds the map after it if a
 -- byte was posted; or it begins the line that says that a read failed, and one did.
 pub record KeptFirst (task : PairTask) (failed : Type 0) (shape : Shape) (m : Map) (flash : Flash) (posted : List ℕ) : Type 0 where
-  pub held : Holds shape flash m ⊎ Holds shape flash (left_by shape task m)
+  pub held : Holds shape flash m ⊎ Holds shape flash (map_left_by shape task m)
   pub said :
       (posted ≡ [])
-      ⊎ ((Holds shape flash (left_by shape task m) × ((rest : List ℕ) × (posted ++ rest ≡ text_by shape task m)))
+      ⊎ ((Holds shape flash (map_left_by shape task m) × ((rest : List ℕ) × (posted ++ rest ≡ text_by shape task m)))
       ⊎ (failed × ((rest : List ℕ) × (posted ++ rest ≡ failed_line))))
 
 -- The second holds a map, and nothing is posted on it.
@@ -75,8 +75,8 @@ pub record KeptSecond (shape : Shape) (flash : Flash) (posted : List ℕ) : Type
 -- The text is the definition's, and both drives hold the map after the word. Neither drive was worn when the word began.
 pub record PairAnswered (task : PairTask) (shape : Shape) (m : Map) (a b c d : BoardState) (text : List ℕ) : Type 0 where
   pub text_is : text ≡ text_by shape task m
-  pub first_holds : Holds shape b.pages (left_by shape task m)
-  pub second_holds : Holds shape d.pages (left_by shape task m)
+  pub first_holds : Holds shape b.pages (map_left_by shape task m)
+  pub second_holds : Holds shape d.pages (map_left_by shape task m)
   pub first_unworn : is_worn a ≡ false
   pub second_unworn : is_worn c ≡ false
 
@@ -98,12 +98,12 @@ PairEnds task shape m a b c d Worn = (is_worn b ≡ true) ⊎ (is_worn d ≡ tru
 
 -- most roots that the commands of a word install on a drive, each at most ten: a Delete of each key of the second, a Store of each of the first, and the
 -- word's own command
-abbrev pub most_roots : Map → Map → ℕ
-most_roots m other = 10 * (len m + len other + 1)
+abbrev pub most_pair_roots : Map → Map → ℕ
+most_pair_roots m other = 10 * (len m + len other + 1)
 
 -- If the numbers of roots are used up, the word installed no more than these, or a program or an erase had failed.
 abbrev pub UsedRoots : Map → Map → BoardState → BoardState → Type 0
-UsedRoots m other a b = Rose a.stop_faults b.stop_faults ⊎ (roots b ≤ roots a + most_roots m other)
+UsedRoots m other a b = Rose a.stop_faults b.stop_faults ⊎ (roots b ≤ roots a + most_pair_roots m other)
 
 -- A word on two drives of this shape, of which the first held this map and the second that one. Wherever either was cut it was kept, and the word
 -- ended so.

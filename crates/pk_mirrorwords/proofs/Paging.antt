@@ -32,7 +32,7 @@ use Rattle.pk_mirror.proofs.VisitLemmas.{asking_none, asking_more}
 use Rattle.pk_mirror.proofs.PageLemmas.{parts, none_follow, page_some}
 use Rattle.pk_mirrorwords.specs.PairTasks.{list}
 use Rattle.pk_mirrorwords.specs.PairAnswers.{IsToldPair, IsInStep, PairUnread, PairFault, PairDone, PairFails}
-use Rattle.pk_mirrorwords.specs.PairPages.{keys_after, IsListed, GoesOn, PageFails}
+use Rattle.pk_mirrorwords.specs.PairPages.{keys_after, IsListed, ListGoesOn, PageFails}
 
 -- ---- lines of a page
 
@@ -123,7 +123,7 @@ module _ (p : PortState) (last : Option Key) (text : List ℕ) (listed : IsListe
         omega (arith, wide, few, most, all, one, two)
 
     pub goes_some : (next : Key) (new : List ℕ) → 0 < length page → next ≡ slice_index_or page (length page - 1) [] → new ≡ text ++ key_lines page → length new ≤ length text + 33 * length page
-        → IsText next → keys_left (Some next) < keys_left last → GoesOn p last (Some next) text new
+        → IsText next → keys_left (Some next) < keys_left last → ListGoesOn p last (Some next) text new
     goes_some next new some is added short is_text falls = (
       record {
         lines = λ m told.
@@ -140,7 +140,7 @@ module _ (p : PortState) (last : Option Key) (text : List ℕ) (listed : IsListe
       falls,
     )
 
-  pub goes_none : (more : Bool) → more ≡ false → Follows p (key_or_none last) more → GoesOn p last None text text
+  pub goes_none : (more : Bool) → more ≡ false → Follows p (key_or_none last) more → ListGoesOn p last None text text
   goes_none more stop follows m told =
       let (front, split, lines, most) = listed.lines m told in
       let none : keys_after last m ≡ [] = left_above p.shape last m (sized m told) ∙ none_follow (above (key_or_none last) (keys m)) (sym stop ∙ follows m told) in
@@ -218,7 +218,7 @@ module _ {P Q : Type 0} (stateP : P → PortState) (tookP : P → List Command �
     ]
 
     pub paging_goes : (next : Key) → (mirror.split ≡ false → StaysUnlessPort after (stateP mid) (stateP first') (stateQ halfway) (stateQ second')) → IsToldPair after (stateP first') (stateQ second')
-        → GoesOn (stateP mid) last (Some next) text new → IsPaging first first' second second' after new (Some next)
+        → ListGoesOn (stateP mid) last (Some next) text new → IsPaging first first' second second' after new (Some next)
     paging_goes next stays pair goes = record {
       took_first = asking_more tookP bothP first mid first' h.took_first p;
       took_second = asking_more tookQ bothQ second halfway second' h.took_second q;
@@ -230,7 +230,7 @@ module _ {P Q : Type 0} (stateP : P → PortState) (tookP : P → List Command �
       text = λ k e. subst IsText (let is : next ≡ k = cc in is) goes.1;
     }
 
-    pub paging_ends : (m : Map) → (stateP first).map ≡ Some m → (stateQ second).map ≡ Some m → GoesOn (stateP mid) last None text new → PairDone list (stateP first) (stateP first') (stateQ second') m new
+    pub paging_ends : (m : Map) → (stateP first).map ≡ Some m → (stateQ second).map ≡ Some m → ListGoesOn (stateP mid) last None text new → PairDone list (stateP first) (stateP first') (stateQ second') m new
     paging_ends m told too goes = record {
       spelled = goes m (h.same_first ∙ told);
       first_left = keeps.first_keeps ∙ h.same_first ∙ told;
@@ -265,8 +265,8 @@ pub retrieves_ask : {P : Type 0} (took : P → List Command → P → Type 0) (p
 retrieves_ask took p q key size (cs, inl none, t) = (cs, subst AreAsking (sym none) tt, t)
 retrieves_ask took p q key size (cs, inr one, t) = (cs, subst AreAsking (sym one) (inr (key, size, refl), tt), t)
 
-pub goes_as : (p : PortState) (o last f f' : Option Key) (old new : List ℕ) → o ≡ last → f ≡ f' → GoesOn p o f old new → GoesOn p last f' old new
-goes_as p o last f f' old new e g h = subst (λ (x : Option Key). GoesOn p x f' old new) e (subst (λ (x : Option Key). GoesOn p o x old new) g h)
+pub goes_as : (p : PortState) (o last f f' : Option Key) (old new : List ℕ) → o ≡ last → f ≡ f' → ListGoesOn p o f old new → ListGoesOn p last f' old new
+goes_as p o last f f' old new e g h = subst (λ (x : Option Key). ListGoesOn p x f' old new) e (subst (λ (x : Option Key). ListGoesOn p o x old new) g h)
 
 pub listed_at : (p q : PortState) (o last : Option Key) (text : List ℕ) → o ≡ last → q.map ≡ p.map → IsListed p last text → IsListed q o text
 listed_at p q o last text e same h = listed_as p q o text same (subst (λ (x : Option Key). IsListed p x text) (sym e) h)

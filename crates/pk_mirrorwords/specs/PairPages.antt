@@ -24,9 +24,9 @@ pub record IsListed (first : PortState) (last : Option Key) (text : List ℕ) : 
   pub lines : (m : Map) → first.map ≡ Some m → (front : List Key) × (keys m ≡ front ++ keys_after last m) × (text ≡ key_lines front) × (length text ≤ LINE_BYTES * length front)
 
 -- Either all keys are listed, or those up to a later one.
-abbrev pub GoesOn : PortState → Option Key → Option Key → List ℕ → List ℕ → Type 0
-GoesOn first last None old new = (m : Map) → first.map ≡ Some m → new ≡ key_lines (keys m)
-GoesOn first last (Some next) old new = IsListed first (Some next) new × IsText next × (keys_left (Some next) < keys_left last)
+abbrev pub ListGoesOn : PortState → Option Key → Option Key → List ℕ → List ℕ → Type 0
+ListGoesOn first last None old new = (m : Map) → first.map ≡ Some m → new ≡ key_lines (keys m)
+ListGoesOn first last (Some next) old new = IsListed first (Some next) new × IsText next × (keys_left (Some next) < keys_left last)
 
 -- why a page has no answer
 abbrev pub PageFails : Mirrored → PortState → PortState → PortState → PortState → MirrorError → Type 0

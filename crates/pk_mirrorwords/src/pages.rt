@@ -14,7 +14,7 @@ ghost use Rattle.pk_mirror.specs.Pair.{Mirrored};
 ghost use Rattle.pk_mirror.specs.Ranks.{IsText, keys_left};
 ghost use Rattle.pk_mirrorwords.specs.PairTasks.{list};
 ghost use Rattle.pk_mirrorwords.specs.PairAnswers.{IsToldPair, IsInStep, PairDone, PairFails};
-ghost use Rattle.pk_mirrorwords.specs.PairPages.{IsListed, GoesOn, PageFails};
+ghost use Rattle.pk_mirrorwords.specs.PairPages.{IsListed, ListGoesOn, PageFails};
 
 use pk_base::{Key, Shape};
 use pk_host::{KeyPage, Port};
@@ -50,7 +50,7 @@ fn add_page<P: Port, Q: Port>(
     requires from { (key : List ℕ) → option_copied last ≡ Some key → IsText key }
     requires room { LINE_BYTES * limit shape.now ≤ text.old.room }
     requires listed { IsListed (P.state first.old) (option_copied last) text.old.items }
-    ensures goes { IfOk result (λ next. GoesOn (P.state first.old) (option_copied last.entry) next
+    ensures goes { IfOk result (λ next. ListGoesOn (P.state first.old) (option_copied last.entry) next
         text.old.items text.new.items) }
     ensures pair { IsToldPair mirror.new (P.state first.new) (Q.state second.new) }
     ensures keeps { KeepsMaps (P.state first.old) (P.state first.new) (Q.state second.old)

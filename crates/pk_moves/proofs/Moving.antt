@@ -27,7 +27,7 @@ use Rattle.pk_steps.specs.Under.{IsNamed, counting, places}
 use Rattle.pk_steps.proofs.Untouched.{values_under, erases}
 use Rattle.pk_steps.proofs.Places.{In, in_value, value_in, not_of, any_in_back, all_of, few_blocks}
 use Rattle.pk_steps.proofs.Committing.{commits, commits_pair, commit_done}
-use Rattle.pk_moves.specs.Moves.{entries_of, moved, AreCopies, CanMove, Moves, PlacesMove, MovesCommit, MovesPair, MovesCommitted, Copies}
+use Rattle.pk_moves.specs.Moves.{entries_of, moved, AreCopies, CanMove, MovesLeaveMap, PlacesMove, MovesCommit, MovesPair, MovesCommitted, Copies}
 use Rattle.pk_steps.proofs.Counting.{sorted_read}
 use Rattle.pk_moves.proofs.Moved.{put_same, page_moved, differ_moved, HaveLength, length_moved}
 
@@ -124,7 +124,7 @@ fits_moved shape flash extra root found moves blocks can is =
     all_at p (x ∷ xs) k all (inl e) = subst (λ y. T (p y)) (sym e) (left_part (p x) (list_all p xs) all)
     all_at p (x ∷ xs) k all (inr is) = all_at p xs k (right_part (p x) (list_all p xs) all) is
 
-pub moves_stay : Moves
+pub moves_stay : MovesLeaveMap
 unfolding map_under
 moves_stay shape flash extra top found m moves blocks under can = record { is_top = under.is_top; is_found = under.is_found; is_map = is_map }
   where

@@ -56,8 +56,8 @@ pub record CanMove (shape : Shape) (flash : Flash) (extra : List Entry) (root : 
   pub room : length (firsts (found.newest ++ (extra ++ entries_of moves))) ≤ buffer shape
 
 -- the entries that name the copies leave the map
-abbrev pub Moves : Type 0
-Moves =
+abbrev pub MovesLeaveMap : Type 0
+MovesLeaveMap =
     (shape : Shape) (flash : Flash) (extra : List Entry) (top : ℕ × Root) (found : Found) (m : Map) (moves : List (Key × Place)) (blocks : List ℕ)
     → IsUnder shape flash extra top found m → CanMove shape flash extra top.1 found moves blocks
     → IsUnder shape flash (extra ++ entries_of moves) top found m

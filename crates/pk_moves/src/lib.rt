@@ -2,7 +2,7 @@
 //! journal says so.
 #![tactic(auto)]
 
-ghost use Rattle.pk_moves.specs.Moves.{Copies, Moves, PlacesMove, PlacesStay, MovesCommit, MovesPair, MovesCommitted};
+ghost use Rattle.pk_moves.specs.Moves.{Copies, MovesLeaveMap, PlacesMove, PlacesStay, MovesCommit, MovesPair, MovesCommitted};
 ghost use Rattle.pk_moves.specs.Victims.{LieInOthers, NoneLeft, OneIsSparse, FitOnePage, LeavesRoom};
 
 /// A page that is copied to a block that nobody reads leaves the map.
@@ -12,7 +12,7 @@ pub fn copies()
 
 /// Entries that name copies of values leave the map, wherever the programs that commit them are cut.
 pub fn moves()
-    ensures moves { Moves }
+    ensures moves { MovesLeaveMap }
     ensures places { PlacesMove }
     ensures stay { PlacesStay }
     ensures commit { MovesCommit }

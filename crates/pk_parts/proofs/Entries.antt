@@ -37,7 +37,7 @@ use Rattle.pk_data.specs.declared.span.Span.{Span}
 use Rattle.pk_live.specs.Values.{Values}
 use Rattle.pk_data.specs.State.{DataState, with_head, with_heads}
 use Rattle.pk_data.specs.Placed.{HoldsValues, ValuesOnFlash, without}
-use Rattle.pk_data.specs.Entries.{span_of, span_if_some, heads_without, Held, Moves}
+use Rattle.pk_data.specs.Entries.{span_of, span_if_some, heads_without, ValueHeld, ValueMoves}
 use Rattle.pk_gc.specs.Standing.{ReclaimOnFlash}
 use Rattle.pk_data.specs.Laws.{value_blocks}
 use Rattle.pk_data.proofs.Lists.{found_page, found_place}
@@ -135,7 +135,7 @@ module _ (d : Parts) (flash : Flash) (m : Map) (key : Key) (value : List ℕ) (p
   abbrev es : List (Key × Place)
   es = places p.found d.log.pending
 
-  pub puts_moves : (o : Option Span) (n : Span) → o ≡ span_if_some d.log.shape old → n ≡ span_of d.log.shape place → Moves d.space o n
+  pub puts_moves : (o : Option Span) (n : Span) → o ≡ span_if_some d.log.shape old → n ≡ span_of d.log.shape place → ValueMoves d.space o n
   puts_moves o n o_is n_is = record {
     shape = d.log.shape;
     pool = d.pool;
@@ -217,7 +217,7 @@ put_stands_at : (d : Parts) (flash : Flash) (m : Map) (key : Key) (value : List 
     → (log : LogState) (space : DataState) (keys : ℕ) (o : Option Span) (n : Span) → Noted d (key, Some (placed_at page (length value))) log
     → o ≡ span_if_some d.log.shape old → n ≡ span_of d.log.shape (placed_at page (length value))
     → space ≡ with_head (with_heads d.space (heads_without o d.space.live.heads)) n.page n.count
-    → ((mv : Moves d.space o n) → ValuesOnFlash mv.shape space mv.pool mv.outputs mv.flash (put key_cmp mv.key mv.place mv.es))
+    → ((mv : ValueMoves d.space o n) → ValuesOnFlash mv.shape space mv.pool mv.outputs mv.flash (put key_cmp mv.key mv.place mv.es))
     → keys ≡ more_keys d.keys old
     → StandsFor (record d { log = log; space = space; keys = keys }) d.log.shape flash (insert m key value)
 unfolding puts_moves
@@ -240,7 +240,7 @@ pub put_stands : (d : Parts) (shape : Shape) (flash : Flash) (m : Map) (key : Ke
     → (log : LogState) (space : DataState) (keys : ℕ) (o : Option Span) (n : Span) → Noted d (key, Some (placed_at page len)) log
     → o ≡ span_if_some d.log.shape old → n ≡ span_of d.log.shape (placed_at page len)
     → space ≡ with_head (with_heads d.space (heads_without o d.space.live.heads)) n.page n.count
-    → ((mv : Moves d.space o n) → ValuesOnFlash mv.shape space mv.pool mv.outputs mv.flash (put key_cmp mv.key mv.place mv.es))
+    → ((mv : ValueMoves d.space o n) → ValuesOnFlash mv.shape space mv.pool mv.outputs mv.flash (put key_cmp mv.key mv.place mv.es))
     → keys ≡ more_keys d.keys old
     → StandsFor (record d { log = log; space = space; keys = keys }) shape flash (insert m key value)
 put_stands d shape flash m key value page len old is_len p log space keys o n noted o_is n_is space_is moved keys_are =
@@ -253,7 +253,7 @@ put_stands d shape flash m key value page len old is_len p log space keys o n no
 
 -- what the calls need
 pub put_moves : (d : Parts) (flash : Flash) (m : Map) (key : Key) (value : List ℕ) (page len : ℕ) (old : Option Place) → length value ≡ len → Puts d d.log.shape flash m key value page old
-    → (o : Option Span) (n : Span) → o ≡ span_if_some d.log.shape old → n ≡ span_of d.log.shape (placed_at page len) → Moves d.space o n
+    → (o : Option Span) (n : Span) → o ≡ span_if_some d.log.shape old → n ≡ span_of d.log.shape (placed_at page len) → ValueMoves d.space o n
 put_moves d flash m key value page len old is_len p o n o_is n_is =
     puts_moves d flash m key value page old p o n o_is (subst (λ (l : ℕ). n ≡ span_of d.log.shape (placed_at page l)) (sym is_len) n_is)
 
@@ -278,7 +278,7 @@ module _ (d : Parts) (flash : Flash) (m : Map) (key : Key) (old : Place) (p : Dr
   abbrev values_before : List (Key × Place)
   values_before = places p.found d.log.pending
 
-  pub drops_held : (n : Span) → n ≡ span_of d.log.shape old → Held d.space n
+  pub drops_held : (n : Span) → n ≡ span_of d.log.shape old → ValueHeld d.space n
   drops_held n n_is = record {
     shape = d.log.shape;
     pool = d.pool;
@@ -325,7 +325,7 @@ module _ (d : Parts) (flash : Flash) (m : Map) (key : Key) (old : Place) (p : Dr
 gone_stands_at : (d : Parts) (flash : Flash) (m : Map) (key : Key) (old : Place) → Drops d d.log.shape flash m key old
     → (log : LogState) (space : DataState) (n : Span) → Noted d (key, None) log → n ≡ span_of d.log.shape old
     → space ≡ with_head d.space n.page 0
-    → ((h : Held d.space n) → ValuesOnFlash h.shape space h.pool h.outputs h.flash (without h.key h.es))
+    → ((h : ValueHeld d.space n) → ValuesOnFlash h.shape space h.pool h.outputs h.flash (without h.key h.es))
     → StandsFor (record d { log = log; space = space; keys = d.keys - 1 }) d.log.shape flash (remove m key)
 unfolding drops_held
 gone_stands_at d flash m key old p log space n noted n_is space_is removed =
@@ -344,7 +344,7 @@ gone_stands_at d flash m key old p log space n noted n_is space_is removed =
 pub gone_stands : (d : Parts) (shape : Shape) (flash : Flash) (m : Map) (key : Key) (old : Place) → Drops d shape flash m key old
     → (log : LogState) (space : DataState) (n : Span) → Noted d (key, None) log → n ≡ span_of d.log.shape old
     → space ≡ with_head d.space n.page 0
-    → ((h : Held d.space n) → ValuesOnFlash h.shape space h.pool h.outputs h.flash (without h.key h.es))
+    → ((h : ValueHeld d.space n) → ValuesOnFlash h.shape space h.pool h.outputs h.flash (without h.key h.es))
     → StandsFor (record d { log = log; space = space; keys = d.keys - 1 }) shape flash (remove m key)
 gone_stands d shape flash m key old p log space n noted n_is space_is removed =
     let is : d.log.shape ≡ shape = p.with.shape_is in

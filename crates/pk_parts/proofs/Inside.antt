@@ -41,7 +41,7 @@ use Rattle.pk_schedule.proofs.Backlogs.{some_due}
 use Rattle.pk_parts.specs.Parts.{Parts, frames_of, index_of, outputs_of}
 use Rattle.pk_parts.specs.Agreeing.{DriveOnFlashWith}
 use Rattle.pk_parts.specs.Moves.{StandsFor, Keeps, KeepsAll, KeepsBetween, KeepsAllBetween, BreaksAll, LeavesValues}
-use Rattle.pk_parts.specs.Reclaiming.{Holds, HoldsAll, FailsAll}
+use Rattle.pk_parts.specs.Reclaiming.{ReclaimHolds, HoldsAll, FailsAll}
 use Rattle.pk_parts.specs.Emptying.{Came, ReadsUpTo, OnRunning, MayEmpty, MergesOnce, FreezesOnce, merges_left, merges_due}
 use Rattle.pk_parts.specs.Staying.{Stays}
 use Rattle.pk_parts.proofs.Standing.{same_found}
@@ -102,7 +102,7 @@ module _ (d : Parts) (old : BoardState) (may : MayEmpty d old) where
   -- wherever it is cut
   pub moved_holds : (x : Index) (new : BoardState) → IsReady new d.log.shape → x.log.epoch.half ≡ false → Moves (index_of d) old x new → HoldsAll d (with_index d x) old new
   moved_holds x new ready epoch moves shape m stands =
-      let P : Shape → Type 0 = λ s. StandsFor d s old.pages m → Holds (with_index d x) s m old new in
+      let P : Shape → Type 0 = λ s. StandsFor d s old.pages m → ReclaimHolds (with_index d x) s m old new in
       subst P stands.with.shape_is (λ there.
       let is = moves (frames_of d) there.top there.found m (may_work m there) in
       record {

@@ -23,7 +23,7 @@ use Rattle.pk_gc.specs.Stepping.{runs_in}
 use Rattle.pk_schedule.specs.Steps.{has_no_merge}
 use Rattle.pk_parts.specs.Parts.{Parts, counts_of, index_of, sight_of, is_reclaim_due, may_freeze, has_moves, is_half}
 use Rattle.pk_parts.specs.Moves.{StandsFor}
-use Rattle.pk_parts.specs.Reclaiming.{MayReclaim, Holds, Lessens, DoesReclaim, Waits, CannotRead, FailsAll, is_tight_for}
+use Rattle.pk_parts.specs.Reclaiming.{MayReclaim, ReclaimHolds, Lessens, DoesReclaim, Waits, CannotRead, FailsAll, is_tight_for}
 use Rattle.pk_parts.specs.Ticking.{MayTick, Advances, WantsReclaim, WantsFreeze}
 use Rattle.pk_parts.proofs.Unchanging.{agrees_ready}
 use Rattle.pk_parts.proofs.SpaceSteps.{leaves_stay, unread_stays}
@@ -88,7 +88,7 @@ module _ (d : Parts) (old : BoardState) (m : MayTick d old) (none_half : is_half
     worked_advances : (d' : Parts) → Lessens d d' old new → d'.log.pending ≡ [] → NoFault old new → IsShared d.pool.shape d.pool.states
         → (sight_of d').work < (sight_of d).work → Advances d d' old new Worked
     worked_advances d' made none sound shared less =
-        let there : Holds d' d.log.shape m.agrees.all old new = made.holds d.log.shape m.agrees.all its in
+        let there : ReclaimHolds d' d.log.shape m.agrees.all old new = made.holds d.log.shape m.agrees.all its in
         let stays = leaves_stay d d' made.leaves in
         let most = blocks_between d' d.log.shape new.pages m.agrees.all there.stands in
         let least = blocks_full d old.pages m.agrees.all its wants in

@@ -25,7 +25,7 @@ use Rattle.pk_gc.specs.Stepping.{runs_in}
 use Rattle.pk_parts.specs.Parts.{Parts, outputs_of, block_if_open}
 use Rattle.pk_parts.specs.Moves.{StandsFor}
 use Rattle.pk_parts.specs.Placing.{PlacesValue}
-use Rattle.pk_parts.specs.Staying.{StaysFresh, SameBlocks, Stays, StaysOrOpens, StaysOrFrees}
+use Rattle.pk_parts.specs.Staying.{StaysFresh, SameUse, Stays, StaysOrOpens, StaysOrFrees}
 
 -- ---- no step
 
@@ -49,7 +49,7 @@ fresh_then a b c first second = record {
   ];
 }
 
-blocks_then : (a b c : Parts) → SameBlocks a b → SameBlocks b c → SameBlocks a c
+blocks_then : (a b c : Parts) → SameUse a b → SameUse b c → SameUse a c
 blocks_then a b c first second = record { used = second.used ∙ first.used; open_same = second.open_same ∙ first.open_same }
 
 pub stays_then : (a b c : Parts) → Stays a b → Stays b c → Stays a c

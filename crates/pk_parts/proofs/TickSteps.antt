@@ -18,7 +18,7 @@ use Rattle.pk_call.specs.declared.types.Ticked.TheVariants.{Worked, Fault}
 use Rattle.pk_parts.specs.Parts.{Parts, frames_of, sight_of, is_half}
 use Rattle.pk_parts.specs.Moves.{StandsFor, StandsBetween}
 use Rattle.pk_parts.specs.Staying.{StaysOrFrees}
-use Rattle.pk_parts.specs.Reclaiming.{Holds, HoldsAll, FailsAll}
+use Rattle.pk_parts.specs.Reclaiming.{ReclaimHolds, HoldsAll, FailsAll}
 use Rattle.pk_parts.specs.Ticking.{MayTick, Advances}
 use Rattle.pk_parts.proofs.Unchanging.{for_its_map, agrees_ready}
 use Rattle.pk_parts.proofs.Halves.{stands as whole_stands}
@@ -44,7 +44,7 @@ module _ (d : Parts) (old : BoardState) (m : MayTick d old) where
   its_whole none = whole_stands d d.log.shape old.pages m.agrees.all its_stand none
 
   -- of a drive of which no pair is half made
-  pub whole_holds : (d' : Parts) (new : BoardState) → is_half d ≡ false → HoldsAll d d' old new → Holds d' d.log.shape m.agrees.all old new
+  pub whole_holds : (d' : Parts) (new : BoardState) → is_half d ≡ false → HoldsAll d d' old new → ReclaimHolds d' d.log.shape m.agrees.all old new
   whole_holds d' new none holds = holds d.log.shape m.agrees.all (its_whole none)
 
   pub whole_fails : (d' : Parts) (new : BoardState) → is_half d ≡ false → FailsAll d old new → Goes d.log.shape old new (CrashFinds d.log.shape background old.pages m.agrees.all)
@@ -56,7 +56,7 @@ module _ (d : Parts) (old : BoardState) (m : MayTick d old) where
     grown grows = subst (λ o. Grows (shape_or_none o) old.pages new.pages) (sym (agrees_ready d old m.agrees).shape_is) grows
 
     -- a step that worked: the map is unchanged, and less work remains
-    pub made_advances : (is_half d ≡ true → is_half d' ≡ false) → Grows d.log.shape old.pages new.pages → (IsIdle d.log.shape old.pages (sight_of d) → ⊥) → d'.log.pending ≡ [] → Holds d' d.log.shape m.agrees.all old new
+    pub made_advances : (is_half d ≡ true → is_half d' ≡ false) → Grows d.log.shape old.pages new.pages → (IsIdle d.log.shape old.pages (sight_of d) → ⊥) → d'.log.pending ≡ [] → ReclaimHolds d' d.log.shape m.agrees.all old new
         → NoFault old new → frames_of d' ≡ frames_of d → d'.stopped ≡ d.stopped → StaysOrFrees d d'
         → d'.log.root.number ≤ d.log.root.number + 1 → (sight_of d').work < (sight_of d).work → Advances d d' old new Worked
     made_advances finishes grows busy none here sound frames stopped frees number less =

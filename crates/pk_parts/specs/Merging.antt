@@ -25,7 +25,7 @@ pub record Merges (before after : Parts) (old new : BoardState) : Type 0 where
   pub less : (sight_of after).work < (sight_of before).work
 
 -- No merge was left to do, and nothing changed.
-pub record Rests (before after : Parts) (old new : BoardState) : Type 0 where
+pub record NothingMerged (before after : Parts) (old new : BoardState) : Type 0 where
   pub none : has_no_merge (index_of before) ≡ true
   pub same : after ≡ before
   pub board : new ≡ old
@@ -33,7 +33,7 @@ pub record Rests (before after : Parts) (old new : BoardState) : Type 0 where
 -- what a step of the merges did
 abbrev pub DoesMerge : Parts → Parts → BoardState → BoardState → Stepped → Type 0
 DoesMerge before after old new Worked = Merges before after old new
-DoesMerge before after old new Idle = Rests before after old new
+DoesMerge before after old new Idle = NothingMerged before after old new
 
 -- A read failed: only the job of the merge differs, and the step can be made again.
 pub record CannotMerge (before after : Parts) (old new : BoardState) : Type 0 where

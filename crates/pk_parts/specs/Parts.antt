@@ -60,13 +60,13 @@ abbrev pub is_half : Parts → Bool
 is_half d = repeats_next d.log.next || commits_in d.reclaim.phase
 
 -- Blocks that running jobs hold and the root does not name: for the journal, for meta pages, and for values.
-pub record Held : Type 0 where
+pub record HeldBlocks : Type 0 where
   pub journal : List ℕ
   pub metas : List ℕ
   pub values : List ℕ
 
 -- those that a freeze has taken, those of a merge's output, and those of a reclaim
-abbrev pub held_of : Parts → Held
+abbrev pub held_of : Parts → HeldBlocks
 held_of d = record {
   journal = taken_by d.schedule.freeze;
   metas = (output d.schedule).blocks;

@@ -36,13 +36,13 @@ pub record MayReclaim (d : Parts) (board : BoardState) : Type 0 where
 -- ---- the map
 
 -- The drive represents the map on the flash afterwards, with a pair half made or not, and wherever the step is cut, the flash holds it.
-pub record Holds (after : Parts) (shape : Shape) (m : Map) (old new : BoardState) : Type 0 where
+pub record ReclaimHolds (after : Parts) (shape : Shape) (m : Map) (old new : BoardState) : Type 0 where
   pub stands : StandsBetween after shape new.pages m
   pub cuts : Reaches shape old new (CrashFinds shape background old.pages m)
 
 -- for every map that it represented
 abbrev pub HoldsAll : Parts → Parts → BoardState → BoardState → Type 0
-HoldsAll before after old new = (shape : Shape) (m : Map) → StandsFor before shape old.pages m → Holds after shape m old new
+HoldsAll before after old new = (shape : Shape) (m : Map) → StandsFor before shape old.pages m → ReclaimHolds after shape m old new
 
 -- the same of a step that stopped the drive
 abbrev pub FailsAll : Parts → BoardState → BoardState → Type 0
@@ -81,7 +81,7 @@ RunsOn (Commits victim) before after = HasSpace (space_of after)
 RunsOn (GivesBack victim) before after = HasSpace (space_of after)
 
 -- A block was given back, and no reclaim runs.
-pub record Ends (before after : Parts) : Type 0 where
+pub record ReclaimEnded (before after : Parts) : Type 0 where
   pub idle : after.reclaim.phase ≡ Idle
   pub given : used_by Values after.pool.states + 1 ≡ used_by Values before.pool.states
   pub from : RoomBehind before.reclaim.phase (space_of before) (space_of after)
@@ -97,7 +97,7 @@ pub record Waits (before after : Parts) (old new : BoardState) : Type 0 where
 abbrev pub DoesReclaim : Parts → Parts → BoardState → BoardState → Reclaimed → Type 0
 DoesReclaim before after old new Worked = Lessens before after old new × RunsOn after.reclaim.phase before after
 DoesReclaim before after old new NeedsFreeze = Waits before after old new
-DoesReclaim before after old new Ended = Lessens before after old new × Ends before after
+DoesReclaim before after old new Ended = Lessens before after old new × ReclaimEnded before after
 
 -- A read failed: no more differs than the bytes of a page, and the step can be made again.
 pub record CannotRead (before after : Parts) (old new : BoardState) : Type 0 where

@@ -12,7 +12,7 @@ pub record StaysFresh (before after : Parts) : Type 0 where
   pub begun : (after.log.root.epoch ≡ before.log.root.epoch) ⊎ (after.log.epoch.takes_more ≡ true)
 
 -- As many blocks are in use, and the same one takes the next value.
-pub record SameBlocks (before after : Parts) : Type 0 where
+pub record SameUse (before after : Parts) : Type 0 where
   pub used : (counts_of after).blocks ≡ (counts_of before).blocks
   pub open_same : block_if_open after.space.open_block ≡ block_if_open before.space.open_block
 
@@ -25,7 +25,7 @@ pub record OpensOne (before after : Parts) (count : ℕ) : Type 0 where
 -- a step that places no value
 pub record Stays (before after : Parts) : Type 0 where
   pub fresh : StaysFresh before after
-  pub blocks : SameBlocks before after
+  pub blocks : SameUse before after
 
 -- The open block had no room for n pages, and reclaims made it: no more blocks are in use.
 pub record MakesRoom (before after : Parts) (count : ℕ) : Type 0 where
@@ -35,7 +35,7 @@ pub record MakesRoom (before after : Parts) (count : ℕ) : Type 0 where
 -- a step that may place a value of n pages
 pub record StaysOrOpens (before after : Parts) (count : ℕ) : Type 0 where
   pub fresh : StaysFresh before after
-  pub blocks : SameBlocks before after ⊎ (OpensOne before after count ⊎ MakesRoom before after count)
+  pub blocks : SameUse before after ⊎ (OpensOne before after count ⊎ MakesRoom before after count)
 
 -- a background step: no more blocks are in use
 pub record StaysOrFrees (before after : Parts) : Type 0 where

@@ -21,7 +21,7 @@ use Rattle.pk_call.specs.Exec.{most_installs, IsValue}
 use Rattle.pk_call.specs.Meter.{reads_after}
 use Rattle.pk_serve.specs.Port.{Submitted, Submits, SubmitStops}
 use Rattle.pk_host.specs.Good.{IsGood, IsHanded, holding}
-use Rattle.pk_host.specs.Port.{Steps, Replies, room_of}
+use Rattle.pk_host.specs.Port.{PortSteps, Replies, room_of}
 use Rattle.pk_host.proofs.LeftLemmas.{good_left}
 use Rattle.pk_host.proofs.DataLemmas.{data_fit}
 use Rattle.pk_port.specs.Ready.{Ready, Fits}
@@ -104,7 +104,7 @@ module _ (agrees : Option Shape → Flash → Type 0) (shape : Shape) (old : Boa
         result_size = field;
         answers = λ m told.
             let same : ready.map ≡ m = ok_same ready.map m (sym ready_holds ∙ ok_told _ m told) in
-            let T : Map → Type 0 = λ x. Steps (seen shape old before) (seen shape new behind) c rep x in
+            let T : Map → Type 0 = λ x. PortSteps (seen shape old before) (seen shape new behind) c rep x in
             subst T same (record {
               within = record { sized = ready.good.sized; few = ready.good.few };
               frames = d.counts.frames;

@@ -25,7 +25,7 @@ use Rattle.pk_data.specs.Placed.{IsOpenIn}
 use Rattle.pk_log.specs.State.{LogState}
 use Rattle.pk_reclaim.specs.Hands.{hands_of}
 use Rattle.pk_reclaim.specs.Space.{Space, space}
-use Rattle.pk_reclaim.specs.Steps.{Moves, Does}
+use Rattle.pk_reclaim.specs.Steps.{ReclaimMoves, Does}
 use Rattle.pk_reclaim.proofs.Stepping.{Somewhere}
 use Rattle.pk_reclaim.proofs.Whole.{Below, Whole, whole}
 
@@ -105,7 +105,7 @@ module _ (log : LogState) (values : DataState) (pool pool' : Blocks) (job job' :
   small_open shape (Some o) p flash is_shape open_is =
       (omega (arith, open_is.exists, is_shape.blocks_most), omega (arith, open_is.within, is_shape.block_most))
 
-  small_moved : Somewhere (space log values pool job) old → Moves (space log values pool job) old (space log' values' pool' job') new → IsSmall front'
+  small_moved : Somewhere (space log values pool job) old → ReclaimMoves (space log values pool job) old (space log' values' pool' job') new → IsSmall front'
   small_moved s moves =
       let stands = (moves s.top s.found s.m s.may).stands in
       small_open log.shape front' pool' new.pages stands.placed.is_shape stands.placed.open_is

@@ -20,13 +20,13 @@ use Rattle.pk_gc.specs.declared.reclaimed.Reclaimed.{Reclaimed}
 use Rattle.pk_gc.specs.declared.reclaimed.Reclaimed.TheVariants.{Worked, NeedsFreeze, Ended}
 use Rattle.pk_gc.specs.State.{JobState, target}
 use Rattle.pk_gc.specs.Committing.{entries_left}
-use Rattle.pk_gc.specs.Stepping.{Hands, StepsIn, GoesOn}
+use Rattle.pk_gc.specs.Stepping.{Hands, StepsIn, ReclaimGoesOn}
 use Rattle.pk_gc.specs.Breaking.{BreaksIn, FailsToRead}
 use Rattle.pk_data.specs.State.{DataState}
 use Rattle.pk_reclaim.specs.Hands.{hands_of}
 use Rattle.pk_log.specs.State.{LogState}
 use Rattle.pk_reclaim.specs.Space.{Space, space}
-use Rattle.pk_reclaim.specs.Steps.{KeepsLog, Unread, Breaks}
+use Rattle.pk_reclaim.specs.Steps.{KeepsLog, Unread, ReclaimBroken}
 use Rattle.pk_reclaim.proofs.Ready.{job_in, space_in}
 use Rattle.pk_reclaim.proofs.Boards.{Sound, Failed, SameRoots, sound_none, sound_read, sound_program, sound_erase, failed_read, failed_program, failed_erase, only_read, roots_low, program_low}
 use Rattle.pk_reclaim.proofs.Given.{same_parts}
@@ -64,7 +64,7 @@ module _ (log log' : LogState) (values values' : DataState) (pool pool' : Blocks
   same_kept : log'.active ≡ log.active → log'.epoch ≡ log.epoch → KeepsParts
   same_kept active epoch = record { active = keeps_entries log.active log'.active log.active.entries active; epoch = keeps_used log.epoch log'.epoch log.epoch.used log.epoch.half epoch }
 
-  goes_kept : (c : Course) (r : Reclaimed) → GoesOn c (job_in log moves entries page (Copies c)) hands old job' hands' new r → KeepsParts
+  goes_kept : (c : Course) (r : Reclaimed) → ReclaimGoesOn c (job_in log moves entries page (Copies c)) hands old job' hands' new r → KeepsParts
   goes_kept c r (inl on) = let parts = same_parts values values' pool pool' log.active log'.active log.epoch log'.epoch on.1 in same_kept parts.active parts.epoch
   goes_kept c Worked (inr t) = record {
     active = keeps_entries log.active log'.active _ (ap (λ (h : Hands). h.active) t.finishes.hands);
@@ -92,7 +92,7 @@ module _ (log log' : LogState) (values values' : DataState) (pool pool' : Blocks
   idle_sound NeedsFreeze steps = absurd steps.0
   idle_sound Ended steps = sound_none old new steps.0.same
 
-  goes_sound : (c : Course) (r : Reclaimed) → GoesOn c (job_in log moves entries page (Copies c)) hands old job' hands' new r → Sound old new
+  goes_sound : (c : Course) (r : Reclaimed) → ReclaimGoesOn c (job_in log moves entries page (Copies c)) hands old job' hands' new r → Sound old new
   goes_sound c r (inl on) = elim on.2 [
     | inl p ↦ sound_program old new (target log.shape c) page p.board
     | inr reads ↦ elim reads [ inl next ↦ sound_read old new next.board | inr begins ↦ sound_read old new begins.board ]
@@ -131,7 +131,7 @@ module _ (log log' : LogState) (values values' : DataState) (pool pool' : Blocks
     reading_stops : {X : Type 0} → Reading ≡ Stopped → X
     reading_stops e = cc
 
-    broken_copy : (c : Course) → (BreaksIn (Copies c) (job_in log moves entries page (Copies c)) hands old new Stopped) → Breaks (before (Copies c)) old new × Stops old new
+    broken_copy : (c : Course) → (BreaksIn (Copies c) (job_in log moves entries page (Copies c)) hands old new Stopped) → ReclaimBroken (before (Copies c)) old new × Stops old new
     broken_copy c (inl read) = reading_stops (sym read.fault)
     broken_copy c (inr (inl copy)) = (
       λ top found m may. copy_breaks log values pool moves entries page old new top found m ready c may.stands Stopped copy,
@@ -142,7 +142,7 @@ module _ (log log' : LogState) (values values' : DataState) (pool pool' : Blocks
       stops_program old new (next_page log.epoch) (next_bytes log.epoch (entries_left values.live.heads moves)) commit.adds.fails.failed,
     )
 
-    pub broken_in : (phase : Phase) → BreaksIn phase (job_in log moves entries page phase) hands old new Stopped → Breaks (before phase) old new × Stops old new
+    pub broken_in : (phase : Phase) → BreaksIn phase (job_in log moves entries page phase) hands old new Stopped → ReclaimBroken (before phase) old new × Stops old new
     broken_in Idle b = (λ top found m may. erase_breaks log values pool moves entries page old new top found m ready shared may.stands b.1, stops_erase old new b.1.block b.1.failed)
     broken_in (Copies c) b = broken_copy c b
     broken_in (Commits victim) b = (

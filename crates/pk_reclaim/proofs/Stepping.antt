@@ -19,7 +19,7 @@ use Rattle.pk_gc.specs.declared.moves.Move.{Move}
 use Rattle.pk_gc.specs.declared.reclaimed.Reclaimed.{Reclaimed}
 use Rattle.pk_gc.specs.declared.reclaimed.Reclaimed.TheVariants.{Worked, NeedsFreeze, Ended}
 use Rattle.pk_gc.specs.State.{JobState, left_in}
-use Rattle.pk_gc.specs.Stepping.{Hands, CanStep, StepsIn, Tries, GoesOn, ProgramsHeld, ReadsNext, BeginsValue, runs_in}
+use Rattle.pk_gc.specs.Stepping.{Hands, CanStep, StepsIn, Tries, ReclaimGoesOn, ProgramsHeld, ReadsNext, BeginsValue, runs_in}
 use Rattle.pk_gc.proofs.Lowering.{step_lowers}
 use Rattle.pk_data.specs.State.{DataState}
 use Rattle.pk_reclaim.specs.Hands.{hands_of}
@@ -176,7 +176,7 @@ module _ (log log' : LogState) (values values' : DataState) (pool pool' : Blocks
           room = end_room log log' values values' pool pool' c moves entries page old new s.top s.found s.m s.may.stands log_is t.whole t.dead job' t.finishes;
         }
 
-    copies_does : (r : Reclaimed) → GoesOn c (job_in log moves entries page (Copies c)) hands old job' hands' new r → Does (before (Copies c)) old after new r
+    copies_does : (r : Reclaimed) → ReclaimGoesOn c (job_in log moves entries page (Copies c)) hands old job' hands' new r → Does (before (Copies c)) old after new r
     copies_does r (inl on) = subst (λ (x : Reclaimed). Does (before (Copies c)) old after new x) (sym on.0) (goes_worked on.1 on.2 (inl (refl, on.1, on.2)))
     copies_does r (inr t) = ends_does r t
 

@@ -19,7 +19,7 @@ use Rattle.pk_data.specs.State.{DataState}
 use Rattle.pk_reclaim.specs.Hands.{hands_of}
 use Rattle.pk_log.specs.State.{LogState}
 use Rattle.pk_reclaim.specs.Space.{Space, space}
-use Rattle.pk_reclaim.specs.Steps.{Moves, Does, Unread, Breaks, KeepsLog}
+use Rattle.pk_reclaim.specs.Steps.{ReclaimMoves, Does, Unread, ReclaimBroken, KeepsLog}
 use Rattle.pk_reclaim.proofs.Boards.{SameRoots, roots_stay}
 use Rattle.pk_reclaim.proofs.Ready.{job_in, can_step_in}
 use Rattle.pk_reclaim.proofs.Stepping.{Somewhere, does_in}
@@ -61,7 +61,7 @@ pub record Whole (log log' : LogState) (values values' : DataState) (pool pool' 
   pub same_log : KeepsLog (space log values pool job) (space log' values' pool' job')
   pub same_roots : SameRoots log.shape old new
   pub unread : result ≡ Err Reading → Unread (space log values pool job) old (space log' values' pool' job') new
-  pub broken : result ≡ Err Stopped → Breaks (space log values pool job) old new × Stops old new
+  pub broken : result ≡ Err Stopped → ReclaimBroken (space log values pool job) old new × Stops old new
   pub sound : OnOk result (NoFault old new)
   pub calls : AtMostOneCall old new
   pub only : OnlyFlash old new
@@ -82,7 +82,7 @@ module _ (log log' : LogState) (values values' : DataState) (pool pool' : Blocks
   told : IsReady old log.shape → IsReady new log.shape → new.shape ≡ old.shape
   told ready then = then.shape_is ∙ sym ready.shape_is
 
-  roots_moved : IsReady old log.shape → IsReady new log.shape → Somewhere x old → Moves x old x' new → log'.shape ≡ log.shape → SameRoots log.shape old new
+  roots_moved : IsReady old log.shape → IsReady new log.shape → Somewhere x old → ReclaimMoves x old x' new → log'.shape ≡ log.shape → SameRoots log.shape old new
   roots_moved ready then s moves same =
       let stands = (moves s.top s.found s.m s.may).stands in
       roots_stay log.shape old new ready (told ready then)
@@ -131,7 +131,7 @@ module _ (log log' : LogState) (values values' : DataState) (pool pool' : Blocks
             (unread_in log log' values values' pool pool' job.moves job.entries job.page old new job' b.ready b.then_ready b.shared job.phase
             (subst (λ (f : Fault). BreaksBelow (job_in log job.moves job.entries job.page job.phase) hands old new f) reading breaks) b.kept (b.kept_values reading) b.kept_pool job_kept);
         broken = λ same.
-            subst (λ (j : JobState). Breaks (space log values pool j) old new × Stops old new) (sym is)
+            subst (λ (j : JobState). ReclaimBroken (space log values pool j) old new × Stops old new) (sym is)
             (broken_in log log' values values' pool pool' job.moves job.entries job.page old new job' b.ready b.then_ready b.shared job.phase
             (subst (λ (f : Fault). BreaksBelow (job_in log job.moves job.entries job.page job.phase) hands old new f) (same_answer e Stopped same) breaks));
         sound = tt;

@@ -68,8 +68,8 @@ pub record SpaceMoves (x : Space) (old : BoardState) (top : ℕ × Root) (found 
   pub cuts : Reaches x.log.shape old new (CrashFinds x.log.shape background old.pages m)
 
 -- for whatever is there
-abbrev pub Moves : Space → BoardState → Space → BoardState → Type 0
-Moves x old x' new = (top : ℕ × Root) (found : Found) (m : Map) → MayReclaim x old.pages top found m → SpaceMoves x old top found m x' new
+abbrev pub ReclaimMoves : Space → BoardState → Space → BoardState → Type 0
+ReclaimMoves x old x' new = (top : ℕ × Root) (found : Found) (m : Map) → MayReclaim x old.pages top found m → SpaceMoves x old top found m x' new
 
 -- of the log only the entries of the active buffer and the commits of the newest epoch may differ
 abbrev pub KeepsLog : Space → Space → Type 0
@@ -116,7 +116,7 @@ LogIn (GivesBack victim) x x' = Unit {0}
 
 -- A step was made of a reclaim that runs now.
 pub record Works (x : Space) (old : BoardState) (x' : Space) (new : BoardState) : Type 0 where
-  pub moves : Moves x old x' new
+  pub moves : ReclaimMoves x old x' new
   pub falls : Falls x x'
   pub runs : runs_in x'.job.phase ≡ true
   pub log : LogIn x'.job.phase x x'
@@ -131,8 +131,8 @@ RoomBehind (Commits victim) x x' = ⊥
 RoomBehind (GivesBack victim) x x' = (x'.log ≡ x.log) × (x'.values ≡ x.values)
 
 -- A block was given back, and no reclaim runs now.
-pub record Ends (x : Space) (old : BoardState) (x' : Space) (new : BoardState) : Type 0 where
-  pub moves : Moves x old x' new
+pub record SpaceReclaimEnded (x : Space) (old : BoardState) (x' : Space) (new : BoardState) : Type 0 where
+  pub moves : ReclaimMoves x old x' new
   pub falls : Falls x x'
   pub idle : x'.job.phase ≡ Idle
   pub given : used_by Values x'.pool.states + 1 ≡ used_by Values x.pool.states
@@ -150,7 +150,7 @@ pub record WantsFreeze (x : Space) (old : BoardState) (x' : Space) (new : BoardS
 abbrev pub Does : Space → BoardState → Space → BoardState → Reclaimed → Type 0
 Does x old x' new Worked = Works x old x' new
 Does x old x' new NeedsFreeze = WantsFreeze x old x' new
-Does x old x' new Ended = Ends x old x' new
+Does x old x' new Ended = SpaceReclaimEnded x old x' new
 
 -- ---- a call failed
 
@@ -163,7 +163,7 @@ pub record Unread (x : Space) (old : BoardState) (x' : Space) (new : BoardState)
   pub flash : Rose old.flash_faults new.flash_faults
 
 -- a program or an erase failed: the map is the same, wherever it was cut
-abbrev pub Breaks : Space → BoardState → BoardState → Type 0
-Breaks x old new =
+abbrev pub ReclaimBroken : Space → BoardState → BoardState → Type 0
+ReclaimBroken x old new =
     (top : ℕ × Root) (found : Found) (m : Map) → MayReclaim x old.pages top found m
     → Goes x.log.shape old new (CrashFinds x.log.shape background old.pages m)

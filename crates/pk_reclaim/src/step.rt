@@ -9,7 +9,7 @@ ghost use Rattle.pk_model.specs.Found.{Found};
 ghost use Rattle.pk_model.specs.Growth.{Grows};
 ghost use Rattle.pk_model.specs.Wear.{roots};
 ghost use Rattle.pk_reclaim.specs.Space.{MayReclaim, space};
-ghost use Rattle.pk_reclaim.specs.Steps.{Does, Unread, Breaks, KeepsLog, RepeatsIn};
+ghost use Rattle.pk_reclaim.specs.Steps.{Does, Unread, ReclaimBroken, KeepsLog, RepeatsIn};
 
 use pk_data::Data;
 use pk_gc::{ReclaimJob, Reclaimed};
@@ -54,7 +54,7 @@ pub fn reclaim_step<B: Nand, A: Region>(
     // A call failed.
     ensures unread { result ≡ Err Reading → Unread (space log.old values.old pool.old job.old)
         (B.state board.old) (space log.new values.new pool.new job.new) (B.state board.new) }
-    ensures broken { result ≡ Err Stopped → Breaks (space log.old values.old pool.old job.old)
+    ensures broken { result ≡ Err Stopped → ReclaimBroken (space log.old values.old pool.old job.old)
         (B.state board.old) (B.state board.new) × Stops (B.state board.old) (B.state board.new) }
 
     // The board.

@@ -8,7 +8,7 @@ use Rattle.pk_base.specs.Fields.{u16_at, u32_at, u64_at, zeros, unlike, unless}
 use Rattle.pk_base.specs.Shape.{Shape, IsShape, page_entries, cap, caps, run_blocks}
 use Rattle.pk_base.proofs.Tables.{◌⊕◌, first_none, true_unless, stands_unlike, stands_number, Stand, AreSized, spelled_stand}
 use Rattle.pk_rootfmt.specs.Root.{Root, root_bytes, root_at, root_page, is_root, u16s_at, parts}
-use Rattle.pk_rootfmt.specs.Fault.{magic, is_epoch, is_run_count, shape_checks, number_checks, list_checks, listed, blocks_fault, shape_fault, number_fault, list_fault, root_fault}
+use Rattle.pk_rootfmt.specs.Fault.{root_magic, is_epoch, is_run_count, shape_checks, number_checks, list_checks, listed, blocks_fault, shape_fault, number_fault, list_fault, root_fault}
 use Rattle.pk_rootfmt.specs.Held.{total}
 use Rattle.pk_rootfmt.proofs.BlockLemmas.{both_true, length-numbers, numbers_again, parts_again, are_blocks, are_other, check_from_others}
 use Rattle.pk_rootfmt.proofs.RoomLemmas.{page_room, runs_most, entries_small}
@@ -209,7 +209,7 @@ module _ (g : Shape) (shape : IsShape g) (number epoch : ℕ) (newest older : Li
         let block_most = shape.block_most in
         let blocks_most = shape.blocks_most in
         first_none (shape_checks g page) (
-        stands_unlike 0 magic (drop 8 page) page row.0
+        stands_unlike 0 root_magic (drop 8 page) page row.0
         ⊕ equal_unless 8 (u16_at page 8) 2 (stands_number 2 8 2 (drop 10 page) page row.1.0 (omega arith))
         ⊕ equal_unless 10 (u16_at page 10) g.block_pages (stands_number 2 10 g.block_pages (drop 12 page) page row.1.1.0 (omega arith))
         ⊕ equal_unless 12 (u32_at page 12) g.page_bytes (stands_number 4 12 g.page_bytes (drop 16 page) page row.1.1.1.0 (omega arith))

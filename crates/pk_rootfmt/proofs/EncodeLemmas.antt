@@ -5,7 +5,7 @@ use Rattle.std.proofs.lemmas.List.{append_assoc, append-nil, take_all, take-appe
 use Rattle.pk_base.specs.Fields.{u16, u32, u64, spelled, zeros}
 use Rattle.pk_base.specs.Shape.{Shape, IsShape}
 use Rattle.pk_rootfmt.specs.Root.{Root, root_bytes, is_root, parts}
-use Rattle.pk_rootfmt.specs.Fault.{magic}
+use Rattle.pk_rootfmt.specs.Fault.{root_magic}
 use Rattle.pk_rootfmt.specs.Held.{total}
 use Rattle.pk_rootfmt.proofs.BlockLemmas.{parts_same, parts_joined}
 use Rattle.pk_rootfmt.proofs.PageLemmas.{before_blocks, rows_root}
@@ -16,7 +16,7 @@ flat_append [] ys = refl
 flat_append (x ∷ xs) ys = ap (λ (r : List ℕ). u16 x ++ r) (flat_append xs ys) ∙ sym (append_assoc (u16 x) (flat_map u16 xs) (flat_map u16 ys))
 
 pub encoded : (g : Shape) (number epoch : ℕ) (newest older : List ℕ) (a b c d : ℕ) (runs : List (List ℕ))
-    → spelled (magic ∷ u16 2 ∷ u16 g.block_pages ∷ u32 g.page_bytes ∷ u16 g.blocks ∷ u16 (length (newest ++ older)) ∷ zeros 4 ∷ u64 number ∷ u64 epoch ∷ flat_map u32 (a ∷ b ∷ c ∷ d ∷ []) ∷ zeros 8 ∷ [])
+    → spelled (root_magic ∷ u16 2 ∷ u16 g.block_pages ∷ u32 g.page_bytes ∷ u16 g.blocks ∷ u16 (length (newest ++ older)) ∷ zeros 4 ∷ u64 number ∷ u64 epoch ∷ flat_map u32 (a ∷ b ∷ c ∷ d ∷ []) ∷ zeros 8 ∷ [])
     ++ flat_map u16 (newest ++ older) ++ flat_map u16 (concat runs) ++ zeros (g.page_bytes - (64 + 2 * length (newest ++ older) + 2 * length (concat runs)))
     ≡ root_bytes g (record { number = number; epoch = epoch; newest = newest; older = older; counts = a ∷ b ∷ c ∷ d ∷ []; runs = runs })
 encoded g number epoch newest older a b c d runs =
@@ -45,7 +45,7 @@ length_two xs = omega (arith, length-append (take 2 xs) (drop 2 xs), ap length (
 -- what is written of epochs and runs into this many bytes
 abbrev pub written : Shape → ℕ → ℕ → ℕ → List ℕ → List ℕ → List ℕ → List ℕ
 written g size number epoch epochs counts runs =
-    spelled (magic ∷ u16 2 ∷ u16 g.block_pages ∷ u32 g.page_bytes ∷ u16 g.blocks ∷ u16 (length epochs) ∷ zeros 4 ∷ u64 number ∷ u64 epoch ∷ flat_map u32 counts ∷ zeros 8 ∷ [])
+    spelled (root_magic ∷ u16 2 ∷ u16 g.block_pages ∷ u32 g.page_bytes ∷ u16 g.blocks ∷ u16 (length epochs) ∷ zeros 4 ∷ u64 number ∷ u64 epoch ∷ flat_map u32 counts ∷ zeros 8 ∷ [])
     ++ flat_map u16 epochs ++ flat_map u16 runs ++ zeros (size - (64 + 2 * length epochs + 2 * length runs))
 
 module _ (g : Shape) (number epoch : ℕ) (epochs counts sizes items : List ℕ) where

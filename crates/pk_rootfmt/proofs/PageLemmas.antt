@@ -9,7 +9,7 @@ use Rattle.pk_base.specs.Fields.{u16, u32, u64, u16_at, u32_at, u64_at, spelled,
 use Rattle.pk_base.specs.Shape.{Shape, IsShape, run_blocks, meta_blocks}
 use Rattle.pk_base.proofs.Tables.{◌⊕◌, fields_of, AllNone, all_none, unless_true, unlike_stands, number_stands, number_fits, Stand, stand_spelled}
 use Rattle.pk_rootfmt.specs.Root.{Root, named, root_bytes, root_at, root_page, is_root, is_number, has_runs, differ, u16s_at, parts}
-use Rattle.pk_rootfmt.specs.Fault.{magic, is_epoch, is_run_count, shape_checks, number_checks, list_checks, listed, shape_fault, number_fault, list_fault}
+use Rattle.pk_rootfmt.specs.Fault.{root_magic, is_epoch, is_run_count, shape_checks, number_checks, list_checks, listed, shape_fault, number_fault, list_fault}
 use Rattle.pk_rootfmt.specs.Held.{total}
 use Rattle.pk_rootfmt.proofs.BlockLemmas.{both_true, length-u16s, length-numbers, numbers_stand, numbers_split, parts_lengths, parts_joined, are_blocks, Others, others_from_check}
 use Rattle.pk_rootfmt.proofs.RoomLemmas.{page_room, runs_most}
@@ -86,14 +86,14 @@ same_bytes (x ∷ xs) (y ∷ ys) e =
 
 abbrev pub rows : Shape → ℕ → ℕ → ℕ → ℕ → ℕ → ℕ → ℕ → ℕ → List ℕ → List (ℕ × List ℕ)
 rows g journal number epoch a b c d n blocks =
-    (8, magic) ∷ (2, u16 2) ∷ (2, u16 g.block_pages) ∷ (4, u32 g.page_bytes) ∷ (2, u16 g.blocks) ∷ (2, u16 journal) ∷ (4, zeros 4)
+    (8, root_magic) ∷ (2, u16 2) ∷ (2, u16 g.block_pages) ∷ (4, u32 g.page_bytes) ∷ (2, u16 g.blocks) ∷ (2, u16 journal) ∷ (4, zeros 4)
     ∷ (8, u64 number) ∷ (8, u64 epoch) ∷ (4, u32 a) ∷ (4, u32 b) ∷ (4, u32 c) ∷ (4, u32 d) ∷ (8, zeros 8)
     ∷ (2 * n, flat_map u16 blocks) ∷ (g.page_bytes - (64 + 2 * n), zeros (g.page_bytes - (64 + 2 * n))) ∷ []
 
 -- what precedes the blocks, and they after it
 abbrev pub before_blocks : Shape → ℕ → ℕ → ℕ → ℕ → ℕ → ℕ → ℕ → List ℕ → List ℕ
 before_blocks g journal number epoch a b c d rest =
-    magic ++ u16 2 ++ u16 g.block_pages ++ u32 g.page_bytes ++ u16 g.blocks ++ u16 journal ++ zeros 4 ++ u64 number ++ u64 epoch
+    root_magic ++ u16 2 ++ u16 g.block_pages ++ u32 g.page_bytes ++ u16 g.blocks ++ u16 journal ++ zeros 4 ++ u64 number ++ u64 epoch
     ++ u32 a ++ u32 b ++ u32 c ++ u32 d ++ zeros 8 ++ rest
 
 before_length : (g : Shape) (journal number epoch a b c d : ℕ) (rest : List ℕ) → length (before_blocks g journal number epoch a b c d rest) ≡ 64 + length rest
@@ -230,7 +230,7 @@ module _ (g : Shape) (page : List ℕ) (fits : (i : ℕ) → get_or page i 0 < 2
         let pad : length (zeros (g.page_bytes - (64 + 2 * n))) ≡ g.page_bytes - (64 + 2 * n) = length-replicate _ 0 in
         let numbers = numbers_stand n (drop 64 page) (λ i. rw (get_or-drop 64 page i 0) (fits (64 + i))) (omega (arith, room, length-drop 64 page)) in
         let tail = unlike_stands (64 + 2 * n) (zeros (g.page_bytes - (64 + 2 * n))) page three.1.0 (omega (arith, room)) in
-        unlike_stands 0 magic page one.0 (omega arith)
+        unlike_stands 0 root_magic page one.0 (omega arith)
         ⊕ (number_stands 2 8 page fits (omega arith) ∙ ap (λ (k : ℕ). u16 k ++ drop 10 page) (equal (u16_at page 8) 2 (unless_true 8 _ one.1.0)))
         ⊕ (number_stands 2 10 page fits (omega arith) ∙ ap (λ (k : ℕ). u16 k ++ drop 12 page) (equal (u16_at page 10) g.block_pages (unless_true 10 _ one.1.1.0)))
         ⊕ (number_stands 4 12 page fits (omega arith) ∙ ap (λ (k : ℕ). u32 k ++ drop 16 page) (equal (u32_at page 12) g.page_bytes (unless_true 12 _ one.1.1.1.0)))

@@ -8,8 +8,8 @@ use Rattle.pk_base.specs.Shape.{Shape, page_entries, cap, run_blocks}
 use Rattle.pk_rootfmt.specs.Root.{u16s_at}
 
 -- PINKROOT
-abbrev pub magic : List ℕ
-magic = 80 ∷ 73 ∷ 78 ∷ 75 ∷ 82 ∷ 79 ∷ 79 ∷ 84 ∷ []
+abbrev pub root_magic : List ℕ
+root_magic = 80 ∷ 73 ∷ 78 ∷ 75 ∷ 82 ∷ 79 ∷ 79 ∷ 84 ∷ []
 
 -- a block after the root blocks that none of the blocks before is
 abbrev pub is_other_block : Shape → List ℕ → ℕ → Bool
@@ -32,7 +32,7 @@ module _ (shape : Shape) (page : List ℕ) where
   -- the fields before the numbers in order, each with its place
   abbrev pub shape_checks : List (Option ℕ)
   shape_checks =
-      unlike 0 magic page ∷ unless 8 (u16_at page 8 == VERSION) ∷ unless 10 (u16_at page 10 == shape.block_pages) ∷ unless 12 (u32_at page 12 == shape.page_bytes)
+      unlike 0 root_magic page ∷ unless 8 (u16_at page 8 == VERSION) ∷ unless 10 (u16_at page 10 == shape.block_pages) ∷ unless 12 (u32_at page 12 == shape.page_bytes)
       ∷ unless 16 (u16_at page 16 == shape.blocks) ∷ unless 18 (u16_at page 18 == EPOCH_BLOCKS || u16_at page 18 == 2 * EPOCH_BLOCKS) ∷ unlike 20 (zeros 4) page ∷ []
 
   -- the numbers of the root, of its newest epoch and of the entries of its runs

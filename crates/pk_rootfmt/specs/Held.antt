@@ -46,5 +46,5 @@ pub record HasRoom (shape : Shape) (journal : ℕ) (epochs counts sizes blocks :
   pub fits : total sizes ≤ meta_blocks shape
 
 -- the page of a root is read as the root
-abbrev pub ReadsBack : Type 0
-ReadsBack = (shape : Shape) (root : Root) → IsShape shape → is_root shape root ≡ true → root_page shape (root_bytes shape root) ≡ Some root
+abbrev pub RootReadsBack : Type 0
+RootReadsBack = (shape : Shape) (root : Root) → IsShape shape → is_root shape root ≡ true → root_page shape (root_bytes shape root) ≡ Some root

@@ -3,8 +3,8 @@ ghost use Rattle.std.specs.Prelude.{◌≡◌, ◌+◌, ◌-◌, ◌*◌, ◌≤
 ghost use Rattle.std.specs.List.{flat_map};
 ghost use Rattle.pk_base.specs.Fields.{spelled, zeros as zeros_of, u16 as two_bytes, u32 as four_bytes, u64 as eight_bytes};
 ghost use Rattle.pk_rootfmt.specs.Root.{root_bytes, is_root};
-ghost use Rattle.pk_rootfmt.specs.Fault.{magic};
-ghost use Rattle.pk_rootfmt.specs.Held.{first as first_root, ReadsBack};
+ghost use Rattle.pk_rootfmt.specs.Fault.{root_magic};
+ghost use Rattle.pk_rootfmt.specs.Held.{first as first_root, RootReadsBack};
 
 use crate::check::MAGIC;
 use crate::copy::put_blocks;
@@ -33,7 +33,7 @@ pub(crate) fn put_numbers(
     into: &mut [u8],
 )
     requires { LIST_FROM ≤ length into.old }
-    ensures front { take LIST_FROM into.new ≡ spelled (magic ∷ two_bytes VERSION
+    ensures front { take LIST_FROM into.new ≡ spelled (root_magic ∷ two_bytes VERSION
         ∷ two_bytes shape.now.block_pages ∷ four_bytes shape.now.page_bytes
         ∷ two_bytes shape.now.blocks ∷ two_bytes journal ∷ zeros_of 4 ∷ eight_bytes number
         ∷ eight_bytes epoch ∷ flat_map four_bytes entries.now ∷ zeros_of 8 ∷ []) }
@@ -65,7 +65,7 @@ pub(crate) fn put_page(
 )
     requires small { length epochs.now ≤ 4 }
     requires fits { LIST_FROM + 2 * length epochs.now + 2 * length runs.now ≤ length into.old }
-    ensures { into.new ≡ spelled (magic ∷ two_bytes VERSION ∷ two_bytes shape.now.block_pages
+    ensures { into.new ≡ spelled (root_magic ∷ two_bytes VERSION ∷ two_bytes shape.now.block_pages
         ∷ four_bytes shape.now.page_bytes ∷ two_bytes shape.now.blocks
         ∷ two_bytes (length epochs.now) ∷ zeros_of 4 ∷ eight_bytes number ∷ eight_bytes epoch
         ∷ flat_map four_bytes entries.now ∷ zeros_of 8 ∷ []) ++ flat_map two_bytes epochs.now
@@ -100,5 +100,5 @@ pub fn first(shape: &Shape, into: &mut [u8])
 
 /// The page of a root of the grammar is read as the root.
 pub fn reads_back()
-    ensures { ReadsBack }
+    ensures { RootReadsBack }
 {}

@@ -17,7 +17,7 @@ use Rattle.pk_nand.specs.BoardState.{BoardState}
 use Rattle.pk_nand.specs.Calls.{IsReady, after_read, ReadFailed}
 use Rattle.pk_pin.specs.Frames.{Frames, frame_of}
 use Rattle.pk_run.specs.Kept.{Kept, IsKept, IsPinned, IsFrameOf, RunOnFlash, page_of, after_look, most_pages}
-use Rattle.pk_run.specs.Search.{IsFound, BeginsAbove, BeginsUpTo, IsBeforeAll, IsPageFor, Looks}
+use Rattle.pk_run.specs.Search.{IsFound, BeginsAbove, BeginsUpTo, IsBeforeAll, IsPageFor, RunLooks}
 use Rattle.pk_run.proofs.Orders.{find_piece, find_nowhere, absent, present, sorted_drop, sorted_take}
 use Rattle.pk_run.proofs.Pieces.{HasPiece, pieces, share}
 

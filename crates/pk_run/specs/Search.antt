@@ -32,8 +32,8 @@ pub record IsPageFor (key : Key) (firsts : List Key) (p : ℕ) : Type 0 where
   pub next : BeginsAbove key firsts (suc p)
 
 -- No page may have the key, and nothing was called; or one may, and it was looked at.
-abbrev pub Looks : Kept → Key → BoardState → BoardState → Type 0
-Looks r key old new = (IsBeforeAll key r.firsts × (new ≡ old)) ⊎ ((p : ℕ) × IsPageFor key r.firsts p × (new ≡ after_look r.leases old))
+abbrev pub RunLooks : Kept → Key → BoardState → BoardState → Type 0
+RunLooks r key old new = (IsBeforeAll key r.firsts × (new ≡ old)) ⊎ ((p : ℕ) × IsPageFor key r.firsts p × (new ≡ after_look r.leases old))
 
 -- ---- inside
 

@@ -8,7 +8,7 @@ ghost use Rattle.pk_nand.specs.Calls.{IsReady, after_read, ReadFailed};
 ghost use Rattle.pk_nand.specs.declared.types.Fault.TheVariants.{Reading};
 ghost use Rattle.pk_pin.specs.Frames.{Frames};
 ghost use Rattle.pk_run.specs.Kept.{Kept, IsKept, IsPinned, RunOnFlash, IsNext, empty, page_of, most_pages, most_blocks, with_page, after_look};
-ghost use Rattle.pk_run.specs.Search.{IsBeforeAll, IsFound, IsPageFor, Looks};
+ghost use Rattle.pk_run.specs.Search.{IsBeforeAll, IsFound, IsPageFor, RunLooks};
 
 use crate::search::page_for;
 use pk_base::{Entry, Key, Shape};
@@ -260,7 +260,7 @@ impl<A: Allocator> Run<A> {
         ensures found { IfOk result (λ found. (es : List EntrySpec)
             → RunOnFlash self.now (B.state board.old).pages arena.now es
             → IsFound key.now es found) }
-        ensures looks { OnOk result (Looks self.now key.now (B.state board.old)
+        ensures looks { OnOk result (RunLooks self.now key.now (B.state board.old)
             (B.state board.new)) }
         ensures calls { OnOk result ((B.state board.new ≡ B.state board.old)
             ⊎ (B.state board.new ≡ after_read (B.state board.old))) }

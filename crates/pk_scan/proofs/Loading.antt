@@ -24,7 +24,7 @@ use Rattle.pk_run.proofs.Pieces.{share, meta_next}
 use Rattle.pk_scan.specs.declared.errors.PageError.{PageError}
 use Rattle.pk_scan.specs.declared.errors.PageError.TheVariants.{Damaged, Fault}
 use Rattle.pk_level.specs.Arenas.{IsPinnedIf}
-use Rattle.pk_scan.specs.Runs.{AllExist, HasRun, ComesTo, NotRead, LeasedMore, LoadsPages, AwaitsPages, AwaitsPage, IsLast, GoesOn, listed, PageAdded, PageTaken, PageRefused}
+use Rattle.pk_scan.specs.Runs.{AllExist, HasRun, ComesTo, NotRead, LeasedMore, LoadsPages, AwaitsPages, AwaitsPage, IsLast, RunGoesOn, listed, PageAdded, PageTaken, PageRefused}
 use Rattle.pk_scan.specs.Board.{StaysReady}
 use Rattle.pk_scan.proofs.Boards.{rest_reads, rest_not_read, stays_ready_behind}
 use Rattle.std.proofs.lemmas.Grind.{div_ceil_times}
@@ -61,7 +61,7 @@ pub page_taken : (pins : Bool) (flash : Flash) (before after : Frames) (old new 
     → ((level index : ℕ) (es : List Entry) → IsMetaPage old.shape bytes level index es → option_map key_of (slice_get es 0) ≡ Some first)
     → ((level index : ℕ) (es : List Entry) → IsMetaPage old.shape bytes level index es → option_map key_of (slice_get es (many - 1)) ≡ Some last)
     → ((flash : Flash) (arena : Frames) (es more : List Entry) → RunOnFlash old flash arena es → IsNext old flash arena es more first lease → length more ≡ many → RunOnFlash new flash arena (es ++ more))
-    → RunOnFlash old flash before es → (more : List Entry) × GoesOn old.shape old.level (length old.firsts) many es bytes more
+    → RunOnFlash old flash before es → (more : List Entry) × RunGoesOn old.shape old.level (length old.firsts) many es bytes more
     → PageTaken flash after old new es many last
 page_taken pins flash before after old new es many first last lease bytes least most fits some here pinned keeps begins ends pushed stands (more, goes) =
     let held = meta_held old.shape old.level (length old.firsts) many bytes more least most fits goes.holds in
@@ -159,7 +159,7 @@ module _ (shape : Shape) (level count : ℕ) (blocks : List ℕ) (pins : Bool) (
     page_is : page_of r (length r.firsts) ≡ page_in shape blocks i
     page_is = rw (l.shape_is, l.blocks_are, l.pages) refl
 
-    goes_is : (many : ℕ) (bytes : List ℕ) (more : List Entry) → GoesOn r.shape r.level (length r.firsts) many l.es bytes more ≡ GoesOn shape level i many l.es bytes more
+    goes_is : (many : ℕ) (bytes : List ℕ) (more : List Entry) → RunGoesOn r.shape r.level (length r.firsts) many l.es bytes more ≡ RunGoesOn shape level i many l.es bytes more
     goes_is many bytes more = rw (l.shape_is, l.level_is, l.pages) refl
 
     -- what remains: this page and the others
@@ -238,7 +238,7 @@ module _ (shape : Shape) (level count : ℕ) (blocks : List ℕ) (pins : Bool) (
     Loading-next new frames' r' key many least most fits some inside share_is read added taken_now =
         let taken = subst (λ (f : Flash). PageTaken f frames' r r' l.es many key) pages_stay taken_now in
         let one : suc i ≡ i + 1 = omega arith in
-        let goes : GoesOn shape level i many l.es taken.bytes taken.more = subst (λ (X : Type 0). X) (goes_is many taken.bytes taken.more) taken.goes_on in
+        let goes : RunGoesOn shape level i many l.es taken.bytes taken.more = subst (λ (X : Type 0). X) (goes_is many taken.bytes taken.more) taken.goes_on in
         let holds : meta_entries shape level i (share shape count i) taken.bytes ≡ Some taken.more = subst (λ (n : ℕ). meta_entries shape level i n taken.bytes ≡ Some taken.more) share_is goes.holds in
         let here : page_at old.pages (page_in shape blocks i) ≡ whole taken.bytes = subst (λ (p : ℕ). page_at old.pages p ≡ whole taken.bytes) page_is taken.here in
         let full = full_so_far some inside in
@@ -264,10 +264,10 @@ module _ (shape : Shape) (level count : ℕ) (blocks : List ℕ) (pins : Bool) (
     pub Loading-refused : (new : BoardState) (many : ℕ) (e : PageError) → i < run_pages shape count → many ≡ share shape count i → PageRefused now new r l.es many e → NotRead shape level count blocks old new e
     Loading-refused new many (Damaged page) inside share_is refused =
         let one : suc i ≡ i + 1 = omega arith in
-        let none : (bytes : List ℕ) (more : List Entry) → page_at old.pages (page_in shape blocks i) ≡ whole bytes → GoesOn shape level i (share shape count i) l.es bytes more → ⊥ =
+        let none : (bytes : List ℕ) (more : List Entry) → page_at old.pages (page_in shape blocks i) ≡ whole bytes → RunGoesOn shape level i (share shape count i) l.es bytes more → ⊥ =
         λ bytes more here goes.
         refused.2 bytes more (ap (λ (f : Flash). page_at f (page_of r (length r.firsts))) pages_stay ∙ ap (page_at old.pages) page_is ∙ here)
-        (subst (λ (X : Type 0). X) (sym (goes_is many bytes more)) (subst (λ (n : ℕ). GoesOn shape level i n l.es bytes more) (sym share_is) goes)) in
+        (subst (λ (X : Type 0). X) (sym (goes_is many bytes more)) (subst (λ (n : ℕ). RunGoesOn shape level i n l.es bytes more) (sym share_is) goes)) in
         record {
           index = i;
           within = inside;

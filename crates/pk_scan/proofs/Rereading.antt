@@ -12,7 +12,7 @@ use Rattle.pk_base.specs.Refusal.{damaged}
 use Rattle.pk_meta.specs.Page.{meta_entries}
 use Rattle.pk_meta.specs.Run.{meta}
 use Rattle.pk_run.proofs.Pieces.{share}
-use Rattle.pk_scan.specs.Runs.{IsLast, are_put, GoesOn}
+use Rattle.pk_scan.specs.Runs.{IsLast, are_put, RunGoesOn}
 
 of_true : (b : Bool) → b ≡ true → T b
 of_true true e = tt
@@ -20,7 +20,7 @@ of_true false e = cc
 
 -- no entries of the page follow those before: it refuses
 pub meta_refused : (shape : Shape) (level count index : ℕ) (before : List Entry) (p : ℕ) (page : Page) (pages : NumberedPages)
-    → ((bytes : List ℕ) (more : List Entry) → page ≡ whole bytes → GoesOn shape level index (share shape count index) before bytes more → ⊥)
+    → ((bytes : List ℕ) (more : List Entry) → page ≡ whole bytes → RunGoesOn shape level index (share shape count index) before bytes more → ⊥)
     → meta shape level count index before ((p, page) ∷ pages) ≡ Err (damaged p)
 meta_refused shape level count index before p erased pages none = refl
 meta_refused shape level count index before p torn pages none = refl

@@ -11,7 +11,7 @@ use Rattle.pk_segfmt.proofs.StoredLemmas.{charge_some}
 use Rattle.pk_pin.specs.Frames.{Frames}
 use Rattle.pk_run.specs.Kept.{Kept}
 use Rattle.pk_walk.specs.Visible.{visible, is_wanted, wanted}
-use Rattle.pk_walk.specs.Walking.{Walk, IsLeft, Gives}
+use Rattle.pk_walk.specs.Walking.{Walk, IsLeft, WalkGives}
 use Rattle.pk_walk.proofs.Walks.{one_of_each}
 use Rattle.pk_model.proofs.ValueSets.{fits_parts}
 use Rattle.pk_scan.proofs.RunPages.{of_true}
@@ -136,7 +136,7 @@ module _ (shape : Shape) (flash : Flash) (arena : Frames) (runs : List Kept) (ac
       omega (arith, few, some, many)
 
 -- what an answer of the walk says of what remained
-pub gives_put : (key : Key) (page len : ℕ) (rest later : List (Key × Place)) → Gives (Some (Put key page len)) rest later → rest ≡ (key, place page len) ∷ later
+pub gives_put : (key : Key) (page len : ℕ) (rest later : List (Key × Place)) → WalkGives (Some (Put key page len)) rest later → rest ≡ (key, place page len) ∷ later
 gives_put key page len [] later g = let none : ◌≡◌ {A = Option RustEntry} (Some (Put key page len)) None = g.0 in cc
 gives_put key page len (x ∷ rest) later g =
     let same_key : key ≡ x.0 = ap (λ (e : Entry). e.0) g.0 in
@@ -144,11 +144,11 @@ gives_put key page len (x ∷ rest) later g =
     let same_place : place page len ≡ x.1 = cc in
     λ i. (sym same_key i, sym same_place i) ∷ sym g.1 i
 
-pub gives_gone : (key : Key) (rest later : List (Key × Place)) → Gives (Some (Gone key)) rest later → ⊥
+pub gives_gone : (key : Key) (rest later : List (Key × Place)) → WalkGives (Some (Gone key)) rest later → ⊥
 gives_gone key [] later g = let none : ◌≡◌ {A = Option RustEntry} (Some (Gone key)) None = g.0 in cc
 gives_gone key (x ∷ rest) later g = let some : ◌≡◌ {A = Option Place} None (Some x.1) = ap (λ (e : Entry). e.1) g.0 in cc
 
-pub gives_none : (rest later : List (Key × Place)) → Gives None rest later → rest ≡ []
+pub gives_none : (rest later : List (Key × Place)) → WalkGives None rest later → rest ≡ []
 gives_none [] later g = refl
 gives_none (x ∷ rest) later g = absurd g
 
@@ -163,14 +163,14 @@ module _ (shape : Shape) (flash : Flash) (arena : Frames) (runs : List Kept) (ac
     here : left_after walk at t.rest
     here = subst (λ (f : Flash). left_after walk f t.rest) (sym same) t.left
 
-    pub put_next : (key : Key) (page len : ℕ) → after ≡ flash → ((rest : List (Key × Place)) → left_after walk at rest → (later : List (Key × Place)) × Gives (Some (Put key page len)) rest later × left_after walk' after later)
+    pub put_next : (key : Key) (page len : ℕ) → after ≡ flash → ((rest : List (Key × Place)) → left_after walk at rest → (later : List (Key × Place)) × WalkGives (Some (Put key page len)) rest later × left_after walk' after later)
         → (later : List (Key × Place)) × (t.rest ≡ (key, place page len) ∷ later) × left_after walk' flash later
     put_next key page len still gives = let g = gives t.rest here in (g.0, gives_put key page len t.rest g.0 g.1, subst (λ (f : Flash). left_after walk' f g.0) still g.2)
 
-    pub gone_next : (key : Key) → ((rest : List (Key × Place)) → left_after walk at rest → (later : List (Key × Place)) × Gives (Some (Gone key)) rest later × left_after walk' after later) → ⊥
+    pub gone_next : (key : Key) → ((rest : List (Key × Place)) → left_after walk at rest → (later : List (Key × Place)) × WalkGives (Some (Gone key)) rest later × left_after walk' after later) → ⊥
     gone_next key gives = let g = gives t.rest here in gives_gone key t.rest g.0 g.1
 
-    pub none_next : ((rest : List (Key × Place)) → left_after walk at rest → (later : List (Key × Place)) × Gives None rest later × left_after walk' after later) → t.rest ≡ []
+    pub none_next : ((rest : List (Key × Place)) → left_after walk at rest → (later : List (Key × Place)) × WalkGives None rest later × left_after walk' after later) → t.rest ≡ []
     none_next gives = let g = gives t.rest here in gives_none t.rest g.0 g.1
 
   module _ (key : Key) (at : Place) (later : List (Key × Place)) (split : t.rest ≡ (key, at) ∷ later) where

@@ -44,7 +44,7 @@ use Rattle.pk_scan.specs.declared.contents.Found.{Found as Opened}
 use Rattle.pk_scan.specs.declared.contents.Memory.{Memory as Working}
 use Rattle.pk_scan.specs.Adopts.{HasOwners}
 use Rattle.pk_scan.specs.Opened.{FoundOnFlash}
-use Rattle.pk_scan.specs.Reads.{opened, reads_under, list_reads, value_reads, pages_of_runs, run_reads}
+use Rattle.pk_scan.specs.Reads.{opening_reads, reads_under, list_reads, value_reads, pages_of_runs, run_reads}
 use Rattle.pk_jrn.specs.Replays.{epoch_reads}
 use Rattle.pk_scan.proofs.Boards.{reads_sum}
 use Rattle.pk_scan.proofs.RunReads.{run_reads_are}
@@ -177,17 +177,17 @@ module _ {A : Type 0} (shape : Shape) (flash : Flash) (frames : ℕ) (f : Opened
         keys_are = keys_are;
       }
 
-  opened_is : opened shape flash frames ≡ root_pages shape + epoch_reads shape (page_at flash) f.root.root.older + epoch_reads shape (page_at flash) f.root.root.newest + run_reads shape (pinned shape frames) 1 f.root.root.counts + value_reads shape (places found [])
-  unfolding opened reads_under
+  opened_is : opening_reads shape flash frames ≡ root_pages shape + epoch_reads shape (page_at flash) f.root.root.older + epoch_reads shape (page_at flash) f.root.root.newest + run_reads shape (pinned shape frames) 1 f.root.root.counts + value_reads shape (places found [])
+  unfolding opening_reads reads_under
   opened_is = rw (top, held.finds) refl
 
   -- what was read, part by part
-  pub opened_reads : (old now new : BoardState) → now ≡ after_reads (root_pages shape + list_reads shape (page_at flash) f.root.root) old → new ≡ after_reads (most_read f.levels.runs + value_reads shape (places found [])) now → new ≡ after_reads (opened shape flash frames) old
+  pub opened_reads : (old now new : BoardState) → now ≡ after_reads (root_pages shape + list_reads shape (page_at flash) f.root.root) old → new ≡ after_reads (most_read f.levels.runs + value_reads shape (places found [])) now → new ≡ after_reads (opening_reads shape flash frames) old
   opened_reads old now new first second =
       let root = f.root.root in
       let runs = run_reads_are shape flash f.arena f.levels.pinned 1 f.levels.runs found.runs root.runs root.counts held.stand held.run_blocks held.run_frames in
       let pins = ap (λ (n : ℕ). run_reads shape n 1 root.counts) pinned_is in
-      reads_sum old now new (root_pages shape + list_reads shape (page_at flash) root) (most_read f.levels.runs + value_reads shape (places found [])) (opened shape flash frames)
+      reads_sum old now new (root_pages shape + list_reads shape (page_at flash) root) (most_read f.levels.runs + value_reads shape (places found [])) (opening_reads shape flash frames)
       (sum (root_pages shape) (epoch_reads shape (page_at flash) root.older) (epoch_reads shape (page_at flash) root.newest) (pages_of_runs shape root.counts) (most_read f.levels.runs) (run_reads shape (pinned shape frames) 1 root.counts)
       (value_reads shape (places found [])) (runs ∙ pins) ∙ sym opened_is) first second
     where
@@ -275,7 +275,7 @@ module _ {A : Type 0} (shape a : Shape) (f : Opened A) (is : a ≡ shape) (root_
         (subst (λ (s : Shape). used_by for_values pool.states ≡ length (blocks_with s (all_pages s (places found [])))) shape_is values_are) keys keys_are
 
     pub scan_reads : (new : BoardState) → now ≡ after_reads (root_pages before.root.shape + list_reads before.root.shape (page_at old.pages) f.root.root) old
-        → new ≡ after_reads (most_read f.levels.runs + value_reads f.root.shape (places found [])) now → new ≡ after_reads (opened shape old.pages frames) old
+        → new ≡ after_reads (most_read f.levels.runs + value_reads f.root.shape (places found [])) now → new ≡ after_reads (opening_reads shape old.pages frames) old
     scan_reads new first second =
         opened_reads shape old.pages frames f found held_here top_here pinned_here live (values_here live values) old now new
         (subst (λ (s : Shape). now ≡ after_reads (root_pages s + list_reads s (page_at old.pages) f.root.root) old) from_before first)

@@ -48,5 +48,5 @@ reads_if_root shape at frames None = 0
 reads_if_root shape at frames (Some top) = reads_if_found shape at frames top.1 (found_under shape at top.1)
 
 -- how many pages an opening with this many frames reads of a flash that holds a map
-unfoldable pub opened : Shape → Flash → ℕ → ℕ
-opened shape flash frames = reads_if_root shape (page_at flash) frames (newest_root shape (page_at flash))
+unfoldable pub opening_reads : Shape → Flash → ℕ → ℕ
+opening_reads shape flash frames = reads_if_root shape (page_at flash) frames (newest_root shape (page_at flash))

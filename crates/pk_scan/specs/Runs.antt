@@ -136,7 +136,7 @@ abbrev pub are_put : List Entry → Bool
 are_put es = list_all (λ e. is_some e.1) es
 
 -- The page of this level and index has n entries, which follow those before.
-pub record GoesOn (shape : Shape) (level index many : ℕ) (before : List Entry) (bytes : List ℕ) (more : List Entry) : Type 0 where
+pub record RunGoesOn (shape : Shape) (level index many : ℕ) (before : List Entry) (bytes : List ℕ) (more : List Entry) : Type 0 where
   pub holds : meta_entries shape level index many bytes ≡ Some more
   pub rising : T (is_sorted key_cmp (before ++ more))
   -- the deepest run keeps no deleted keys
@@ -144,8 +144,8 @@ pub record GoesOn (shape : Shape) (level index many : ℕ) (before : List Entry)
 
 -- whether some entries go on so
 abbrev pub GoesOnOr : Shape → ℕ → ℕ → ℕ → List Entry → List ℕ → Bool → Type 0
-GoesOnOr shape level index many before bytes true = (more : List Entry) × GoesOn shape level index many before bytes more
-GoesOnOr shape level index many before bytes false = (more : List Entry) → GoesOn shape level index many before bytes more → ⊥
+GoesOnOr shape level index many before bytes true = (more : List Entry) × RunGoesOn shape level index many before bytes more
+GoesOnOr shape level index many before bytes false = (more : List Entry) → RunGoesOn shape level index many before bytes more → ⊥
 
 -- the frame of a page, if it has one, as a list
 abbrev pub listed : Option ℕ → List ℕ
@@ -165,7 +165,7 @@ pub record PageTaken (flash : Flash) (after : Frames) (old new : Kept) (es : Lis
   pub bytes : List ℕ
   pub more : List Entry
   pub here : page_at flash (page_of old (length old.firsts)) ≡ whole bytes
-  pub goes_on : GoesOn old.shape old.level (length old.firsts) many es bytes more
+  pub goes_on : RunGoesOn old.shape old.level (length old.firsts) many es bytes more
   pub stands : RunOnFlash new flash after (es ++ more)
   pub ends : IsLast (Some last) (es ++ more)
 
@@ -173,5 +173,5 @@ pub record PageTaken (flash : Flash) (after : Frames) (old new : Kept) (es : Lis
 abbrev pub PageRefused : BoardState → BoardState → Kept → List Entry → ℕ → PageError → Type 0
 PageRefused old new r es many (Damaged page) =
     (page ≡ page_of r (length r.firsts)) × (new ≡ after_read old)
-    × ((bytes : List ℕ) (more : List Entry) → page_at old.pages (page_of r (length r.firsts)) ≡ whole bytes → GoesOn r.shape r.level (length r.firsts) many es bytes more → ⊥)
+    × ((bytes : List ℕ) (more : List Entry) → page_at old.pages (page_of r (length r.firsts)) ≡ whole bytes → RunGoesOn r.shape r.level (length r.firsts) many es bytes more → ⊥)
 PageRefused old new r es many Fault = ReadFailed old new (page_of r (length r.firsts))

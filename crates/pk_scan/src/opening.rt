@@ -12,7 +12,7 @@ ghost use Rattle.pk_scan.specs.Adopts.{RootOwned};
 ghost use Rattle.pk_scan.specs.Opened.{FoundOnFlash};
 ghost use Rattle.pk_nand.specs.Effects.{OnlyReading};
 ghost use Rattle.pk_scan.specs.Opening.{NotOpened, PartNotOpened};
-ghost use Rattle.pk_scan.specs.Reads.{list_reads, opened};
+ghost use Rattle.pk_scan.specs.Reads.{list_reads, opening_reads};
 ghost use Rattle.pk_scan.specs.Board.{StaysReady};
 ghost use Rattle.pk_scan.specs.Memory.{AwaitsLists, AwaitsValues, FindsLists, FindsValues, HoldsLists};
 
@@ -154,9 +154,9 @@ pub fn scan<B: Nand, A: Region>(
 ) -> Result<Found<A>, OpenError>
     requires ready { IsReady (B.state board.old) shape }
     requires frames { frames ≤ 16384 }
-    ensures opened { IfOk result (λ f. FoundOnFlash shape (B.state board.old).pages frames f) }
+    ensures opening_reads { IfOk result (λ f. FoundOnFlash shape (B.state board.old).pages frames f) }
     ensures reads { OnOk result (B.state board.new
-        ≡ after_reads (opened shape (B.state board.old).pages frames) (B.state board.old)) }
+        ≡ after_reads (opening_reads shape (B.state board.old).pages frames) (B.state board.old)) }
     ensures err { IfErr result (λ e. NotOpened shape (B.state board.old) (B.state board.new) e) }
     ensures rest { OnlyReading (B.state board.old) (B.state board.new) }
 {

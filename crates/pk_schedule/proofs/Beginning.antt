@@ -47,7 +47,7 @@ use Rattle.pk_merge.specs.Jobs.{Job, JobRuns, IsIdle, begun, pins, output_of, wi
 use Rattle.pk_compact.specs.FreezeSteps.{install_steps}
 use Rattle.pk_schedule.specs.declared.phase.Phase.{Phase}
 use Rattle.pk_schedule.specs.declared.phase.Phase.TheVariants.{Idle, Running}
-use Rattle.pk_schedule.specs.Index.{Index, IndexOnFlash, IsDue, MergesInto, MergeRuns, MergeStands, behind, output, source_at, entries_at, IsSettled}
+use Rattle.pk_schedule.specs.Index.{Index, IndexOnFlash, IsDue, MergesInto, MergeRuns, MergeStands, referred, output, source_at, entries_at, IsSettled}
 use Rattle.pk_schedule.specs.Steps.{MayWork, IndexMoves, LessIsLeft, merge_left, backlog_of}
 use Rattle.pk_schedule.specs.Sources.{ShowsSame}
 use Rattle.pk_schedule.proofs.Carried.{Shown, shown, job_carried, left_same}
@@ -59,10 +59,10 @@ use Rattle.pk_schedule.proofs.Backlogs.{installs_most}
 
 -- the source, for a buffer and runs in any memory
 abbrev pub source_in : (X : Type 0) → Index → ℕ → Source X
-source_in X x level = if level == 1 then Frozen (behind x.log.frozen) else Run (behind (run_of x.levels (level - 1)))
+source_in X x level = if level == 1 then Frozen (referred x.log.frozen) else Run (referred (run_of x.levels (level - 1)))
 
 pub in_shows : (X : Type 0) (x : Index) (level : ℕ) → ShowsSame (source_in X x level) (source_at x level)
-in_shows X x level = elim (level == 1) as (λ b. ShowsSame {X = X} {Y = Unit {0}} (if b then Frozen (behind x.log.frozen) else Run (behind (run_of x.levels (level - 1)))) (if b then Frozen (behind x.log.frozen) else Run (behind (run_of x.levels (level - 1))))) [ true ↦ refl | false ↦ refl ]
+in_shows X x level = elim (level == 1) as (λ b. ShowsSame {X = X} {Y = Unit {0}} (if b then Frozen (referred x.log.frozen) else Run (referred (run_of x.levels (level - 1)))) (if b then Frozen (referred x.log.frozen) else Run (referred (run_of x.levels (level - 1))))) [ true ↦ refl | false ↦ refl ]
 
 -- ---- what the choice of a level says
 
@@ -214,15 +214,15 @@ module _ (x : Index) (frames : ℕ) (old : BoardState) (top : ℕ × Root) (foun
       more (suc (suc l)) h e = omega arith
 
   module _ (X : Type 0) where
-    has_of : (b : Bool) (f : Table) (r : Kept) (gs : List Entry) → RunOnFlash r old.pages x.arena gs → Has {X = X} (if b then Frozen (behind f) else Run (behind r)) old.pages x.arena (if b then f.entries else gs)
+    has_of : (b : Bool) (f : Table) (r : Kept) (gs : List Entry) → RunOnFlash r old.pages x.arena gs → Has {X = X} (if b then Frozen (referred f) else Run (referred r)) old.pages x.arena (if b then f.entries else gs)
     has_of true f r gs s = refl
     has_of false f r gs s = s
 
-    of_of : (b : Bool) (f : Table) (r : Kept) → (b ≡ false → r.shape ≡ x.log.shape) → IsOf {X = X} x.log.shape (if b then Frozen (behind f) else Run (behind r))
+    of_of : (b : Bool) (f : Table) (r : Kept) → (b ≡ false → r.shape ≡ x.log.shape) → IsOf {X = X} x.log.shape (if b then Frozen (referred f) else Run (referred r))
     of_of true f r e = tt
     of_of false f r e = e refl
 
-    meta_of : (b : Bool) (f : Table) (r : Kept) → AreMeta x.pool r.blocks → AreMeta x.pool (blocks_in {X = X} (if b then Frozen (behind f) else Run (behind r)))
+    meta_of : (b : Bool) (f : Table) (r : Kept) → AreMeta x.pool r.blocks → AreMeta x.pool (blocks_in {X = X} (if b then Frozen (referred f) else Run (referred r)))
     meta_of true f r all = λ i y got. absurd (let z : ⊥ = cc in z)
     meta_of false f r all = all
 
@@ -276,7 +276,7 @@ module _ (x : Index) (frames : ℕ) (old : BoardState) (top : ℕ × Root) (foun
   pages_few : pages_in (source_at x level) ≤ cap x.log.shape (level - 1)
   pages_few = of_pages (level == 1) refl
     where
-      of_pages : (b : Bool) → (level == 1) ≡ b → pages_in {X = Unit {0}} (if b then Frozen (behind x.log.frozen) else Run (behind (run_of x.levels (level - 1)))) ≤ cap x.log.shape (level - 1)
+      of_pages : (b : Bool) → (level == 1) ≡ b → pages_in {X = Unit {0}} (if b then Frozen (referred x.log.frozen) else Run (referred (run_of x.levels (level - 1)))) ≤ cap x.log.shape (level - 1)
       of_pages true e = omega arith
       of_pages false e = (fit (level - 1) (more level low e) (let h = high in omega (arith, h))).pages
         where

@@ -39,7 +39,7 @@ use Rattle.pk_compact.specs.declared.freezing.FreezeJob.TheVariants.{Idle as NoF
 use Rattle.pk_compact.proofs.TakingOne.{all_in}
 use Rattle.pk_log.specs.State.{LogState}
 use Rattle.pk_log.specs.Logs.{LogOnFlash}
-use Rattle.pk_log.specs.FreezeSteps.{begun, CanStep, LogGoesOn, LogFrozen, LogSteps, LogStepBreaks}
+use Rattle.pk_log.specs.FreezeSteps.{freeze_begun, CanStep, LogGoesOn, LogFrozen, LogSteps, LogStepBreaks}
 use Rattle.pk_log.proofs.Buffers.{none_of_firsts, tells_some}
 use Rattle.pk_schedule.specs.declared.phase.Phase.TheVariants.{Idle}
 use Rattle.pk_schedule.specs.Index.{Index, IndexOnFlash, MergeStands, IsSettled, HalfStands, settled}
@@ -239,7 +239,7 @@ module _ (x : Index) (frames : ℕ) (old : BoardState) (top : ℕ × Root) (foun
       then_root = frozen_root top.1 found f.first f.second
 
       abbrev then_log : LogState
-      then_log = begun x.log then_root log'.next (f.first ∷ f.second ∷ [])
+      then_log = freeze_begun x.log then_root log'.next (f.first ∷ f.second ∷ [])
 
       abbrev over_index : Index
       over_index = record x { log = then_log; pool = pool'; schedule = record x.schedule { freeze = NoFreeze } }
@@ -428,7 +428,7 @@ module _ (x : Index) (none : has_no_merge x ≡ true) (shared : IsShared x.pool.
   made true steps frames top found m may =
       let f = steps top found m (can_step x frames old top found m may none) in
       let P : LogState → FreezeJob → Type 0 = λ l j. IndexMoves x frames old found m (stepped_index x l pool' j) new × Freezes x (stepped_index x l pool' j) in
-      let there : LogState = begun x.log (frozen_root top.1 found f.first f.second) log'.next (f.first ∷ f.second ∷ []) in
+      let there : LogState = freeze_begun x.log (frozen_root top.1 found f.first f.second) log'.next (f.first ∷ f.second ∷ []) in
       subst (λ l. P l job') (sym f.begun_is) (subst (λ j. P there j) (sym f.idle) (went_over x frames old top found m may none shared pool' new log' job' f))
   made false steps frames top found m may =
       let on = steps top found m (can_step x frames old top found m may none) in

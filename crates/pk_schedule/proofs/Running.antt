@@ -44,7 +44,7 @@ use Rattle.pk_merge.specs.Steps.{Acts, Fails}
 use Rattle.pk_merge.specs.Elsewhere.{IsForOutput, LeavesRuns, LeavesLeases}
 use Rattle.pk_merge.specs.Jobs.{Job, JobRuns, pins, output_of}
 use Rattle.pk_merge.proofs.Places.{block_there, block_of_page}
-use Rattle.pk_compact.specs.Laws.{IsUnread, Leaves}
+use Rattle.pk_compact.specs.Laws.{IsUnread, CallLeaves}
 use Rattle.pk_compact.specs.FreezeSteps.{IsTaken, taken_by}
 use Rattle.pk_compact.proofs.Touching.{program_unread, erase_unread}
 use Rattle.pk_log.specs.Laws.{SameNamed}
@@ -119,23 +119,23 @@ module _ (x : Index) (frames : ℕ) (old : BoardState) (top : ℕ × Root) (foun
       abbrev Holds : Flash → List ℕ → Type 0
       Holds = CrashFinds x.log.shape background old.pages m
 
-      pub same_leaves : new.shape ≡ old.shape → new.pages ≡ old.pages → new.trail ≡ old.trail → new.posted ≡ old.posted → Leaves x.log.shape old top found m new
+      pub same_leaves : new.shape ≡ old.shape → new.pages ≡ old.pages → new.trail ≡ old.trail → new.posted ≡ old.posted → CallLeaves x.log.shape old top found m new
       same_leaves shape pages trail posted = record {
         under = subst (λ (f : Flash). IsUnder x.log.shape f [] top found m) (sym pages) may.under;
         cuts = ([], Reached-start old new Holds shape pages trail posted (refl, under_reads x.log.shape old.pages [] top found m may.under), tt);
       }
 
-      none_leaves : new ≡ old → Leaves x.log.shape old top found m new
+      none_leaves : new ≡ old → CallLeaves x.log.shape old top found m new
       none_leaves e = same_leaves (ap (λ (b : BoardState). b.shape) e) (ap (λ (b : BoardState). b.pages) e) (ap (λ (b : BoardState). b.trail) e) (ap (λ (b : BoardState). b.posted) e)
 
-      read_leaves : new ≡ after_read old → Leaves x.log.shape old top found m new
+      read_leaves : new ≡ after_read old → CallLeaves x.log.shape old top found m new
       read_leaves e = same_leaves (ap (λ (b : BoardState). b.shape) e) (ap (λ (b : BoardState). b.pages) e) (ap (λ (b : BoardState). b.trail) e) (ap (λ (b : BoardState). b.posted) e)
 
-      look_leaves : (leases : List ℕ) → new ≡ after_look leases old → Leaves x.log.shape old top found m new
+      look_leaves : (leases : List ℕ) → new ≡ after_look leases old → CallLeaves x.log.shape old top found m new
       look_leaves [] e = read_leaves e
       look_leaves (l ∷ ls) e = none_leaves e
 
-      source_leaves : {X : Type 0} (source : Source X) → new ≡ after_look_at source old → Leaves x.log.shape old top found m new
+      source_leaves : {X : Type 0} (source : Source X) → new ≡ after_look_at source old → CallLeaves x.log.shape old top found m new
       source_leaves (Frozen b) e = none_leaves e
       source_leaves (Run r) e = look_leaves r.now.leases e
 
@@ -159,7 +159,7 @@ module _ (x : Index) (frames : ℕ) (old : BoardState) (top : ℕ × Root) (foun
         place : length out.firsts ≢ length out.blocks * out.shape.block_pages → length out.firsts < length out.blocks * out.shape.block_pages
         place ne = let within = r.merging.stands.within in omega (arith, within, ne)
 
-        pub job_leaves : (next : Next) (out' : Kept) (j' : Merger) (pool' : Blocks) (arena' : Frames) → Tells source target out j next → Acts source target (pins x.schedule.job) out j x.pool old arena next out' j' pool' new arena' → Leaves x.log.shape old top found m new
+        pub job_leaves : (next : Next) (out' : Kept) (j' : Merger) (pool' : Blocks) (arena' : Frames) → Tells source target out j next → Acts source target (pins x.schedule.job) out j x.pool old arena next out' j' pool' new arena' → CallLeaves x.log.shape old top found m new
         job_leaves LoadSource out' j' pool' arena' t (l, o, p, a) = source_leaves source l.board
         job_leaves LoadTarget out' j' pool' arena' t (l, o, p, a) = look_leaves target.leases l.board
         job_leaves Gather out' j' pool' arena' t (e, o, p, q, a) = none_leaves e
@@ -214,7 +214,7 @@ module _ (x : Index) (frames : ℕ) (old : BoardState) (top : ℕ × Root) (foun
 
     module _ (new : BoardState) (phase : Phase) (job : Job) (pool : Blocks) (arena : Frames)
         (is_job : job ≡ record x.schedule.job { output = job.output; merger = job.merger })
-        (grew : Grew x.pool out pool (output_of job)) (end : SameEnd x.pool out old.pages new.pages) (leaves : Leaves x.log.shape old top found m new)
+        (grew : Grew x.pool out pool (output_of job)) (end : SameEnd x.pool out old.pages new.pages) (leaves : CallLeaves x.log.shape old top found m new)
         (same_frames : length arena.used ≡ length x.arena.used) (leases : LeavesLeases out x.arena (output_of job) arena)
         (others : LeavesRuns x.pool out old.pages x.arena new.pages arena)
         (runs : JobRuns (source_at x level) (run_of x.levels level) job pool new.pages arena (entries_at x found level) (run_at found.runs level)) where

@@ -38,7 +38,7 @@ use Rattle.pk_merge.specs.Elsewhere.{LeavesRuns, LeavesLeases, StepReaches, Step
 use Rattle.pk_merge.specs.Remaining.{steps_left, LowersTo}
 use Rattle.pk_merge.specs.Jobs.{Job, JobRuns, RunsOn, Completes, pins, output_of}
 use Rattle.pk_merge.proofs.Leasing.{kept_leases}
-use Rattle.pk_compact.specs.Laws.{Leaves}
+use Rattle.pk_compact.specs.Laws.{CallLeaves}
 use Rattle.pk_compact.proofs.NextRoot.{roots_same}
 use Rattle.pk_compact.proofs.Numbering.{same_front}
 use Rattle.pk_compact.specs.FreezeSteps.{install_steps}
@@ -158,7 +158,7 @@ module _ (x : Index) (frames : ℕ) (old : BoardState) (top : ℕ × Root) (foun
       pub end : SameEnd x.pool out old.pages new.pages
       end = reached_end x.pool out old new cuts
 
-      leaves : Leaves x.log.shape old top found m new
+      leaves : CallLeaves x.log.shape old top found m new
       leaves = job_leaves x frames old top found m may shared ready level into new source target x.schedule.job.merger x.arena es fs job_now.running steps.next (output_of job) steps.between pool arena steps.tells steps.acts
 
       abbrev pub behind : Phase → Index
@@ -285,7 +285,7 @@ module _ (x : Index) (frames : ℕ) (old : BoardState) (top : ℕ × Root) (foun
       again_grew : Grew x.pool out pool (output_of job)
       again_grew = inl (same_pool, ap (λ (r : Kept). r.blocks) out_same)
 
-      again_leaves : Leaves x.log.shape old top found m new
+      again_leaves : CallLeaves x.log.shape old top found m new
       again_leaves = same_leaves x frames old top found m may shared ready level into new (ap (λ (b : BoardState). b.shape) only) (ap (λ (b : BoardState). b.pages) only) (ap (λ (b : BoardState). b.trail) only) (ap (λ (b : BoardState). b.posted) only)
 
       not_done : IsDone (source_at x level) target job.merger → ⊥

@@ -71,14 +71,14 @@ index log levels arena pool schedule = record {
 -- ---- what a merge is made of
 
 -- a reference to this value
-abbrev pub behind : {X : Type 0} → X → Bor X
-behind x = record { ref_ptr = (0, 0); now = x }
+abbrev pub referred : {X : Type 0} → X → Bor X
+referred x = record { ref_ptr = (0, 0); now = x }
 
 -- the source of a merge into this level: the frozen buffer, or the run above
 abbrev pub source_at : Index → ℕ → Source (Unit {0})
 source_at x level =
-    if level == 1 then Frozen (behind x.log.frozen)
-    else Run (behind (run_of x.levels (level - 1)))
+    if level == 1 then Frozen (referred x.log.frozen)
+    else Run (referred (run_of x.levels (level - 1)))
 
 -- its entries, rising by key
 abbrev pub entries_at : Index → Found → ℕ → List Entry

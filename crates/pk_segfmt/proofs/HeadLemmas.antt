@@ -10,11 +10,11 @@ use Rattle.pk_base.proofs.ShapeLemmas.{greatest_most}
 use Rattle.pk_base.proofs.Tables.{◌⊕◌, field_none, none_field, AllNone, all_none, first_none, unless_true, true_unless, unlike_stands, stands_byte, stands_unlike, number_stands, stands_number, Stand, AreSized, stand_spelled, spelled_stand, padded_stands, stands_padded, length-padded}
 use Rattle.pk_segfmt.specs.declared.found.Head.{Head}
 use Rattle.pk_segfmt.specs.declared.found.BadHead.{BadHead}
-use Rattle.pk_segfmt.specs.Head.{magic, IsHead, head_checks, head_fault}
+use Rattle.pk_segfmt.specs.Head.{value_magic, IsHead, head_checks, head_fault}
 use Rattle.pk_segfmt.specs.Value.{head_bytes}
 
 rows : List ℕ → ℕ → List (ℕ × List ℕ)
-rows key len = (1, length key ∷ []) ∷ (1, 68 ∷ []) ∷ (2, zeros 2) ∷ (16, padded 16 key) ∷ (4, u32 len) ∷ (8, magic) ∷ []
+rows key len = (1, length key ∷ []) ∷ (1, 68 ∷ []) ∷ (2, zeros 2) ∷ (16, padded 16 key) ∷ (4, u32 len) ∷ (8, value_magic) ∷ []
 
 module _ (g : Shape) (bytes : List ℕ) (sized : length bytes ≡ 32) (good : head_fault g bytes ≡ None) where
   abbrev size : ℕ
@@ -53,7 +53,7 @@ module _ (g : Shape) (bytes : List ℕ) (sized : length bytes ≡ 32) (good : he
       ⊕ unlike_stands 2 (zeros 2) bytes passed.1.1.0 (omega arith)
       ⊕ padded_stands 4 16 size bytes size_fits.1 (omega arith) (field_none 4 (unlike (4 + size) (zeros (20 - (4 + size))) bytes) passed.1.1.1.0)
       ⊕ number_stands 4 20 bytes fits (omega arith)
-      ⊕ unlike_stands 24 magic bytes passed.1.1.1.1.1.0 (omega arith)
+      ⊕ unlike_stands 24 value_magic bytes passed.1.1.1.1.1.0 (omega arith)
       ⊕ drop_all 32 bytes (omega arith) in
       (record { is_key = key_is; short = grind (arith, nat_tests) }, stand_spelled 0 (rows key (number_at 4 20 bytes)) bytes row)
 
@@ -84,7 +84,7 @@ head_again g bytes key len shape is e =
           ⊕ stands_unlike 2 (zeros 2) (drop 4 bytes) bytes row.1.1.0
           ⊕ rw size_is (none_field 4 (unlike (4 + length key) (zeros (20 - (4 + length key))) bytes) pad.0)
           ⊕ true_unless 20 _ (rw len_is (grind (arith, nat_tests, is.short)))
-          ⊕ stands_unlike 24 magic (drop 32 bytes) bytes row.1.1.1.1.1.0
+          ⊕ stands_unlike 24 value_magic (drop 32 bytes) bytes row.1.1.1.1.1.0
           ⊕ tt);
       key_read = rw size_is pad.1;
       len_read = len_is;

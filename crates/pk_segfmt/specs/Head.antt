@@ -7,8 +7,8 @@ use Rattle.pk_base.specs.Key.{Key, IsKey}
 use Rattle.pk_segfmt.specs.declared.heads.TheConstants.{KIND}
 
 -- PINKDATA
-abbrev pub magic : List ℕ
-magic = 80 ∷ 73 ∷ 78 ∷ 75 ∷ 68 ∷ 65 ∷ 84 ∷ 65 ∷ []
+abbrev pub value_magic : List ℕ
+value_magic = 80 ∷ 73 ∷ 78 ∷ 75 ∷ 68 ∷ 65 ∷ 84 ∷ 65 ∷ []
 
 -- what a head can hold
 pub record IsHead (shape : Shape) (key : Key) (len : ℕ) : Type 0 where
@@ -20,7 +20,7 @@ abbrev pub head_checks : Shape → List ℕ → List (Option ℕ)
 head_checks shape bytes =
     let size : ℕ = slice_index bytes 0 in
     unless 0 (nat_le 1 size && nat_le size KEY_BYTES) ∷ unlike 1 (KIND ∷ []) bytes ∷ unlike 2 (zeros 2) bytes
-    ∷ field 4 (unlike (4 + size) (zeros (20 - (4 + size))) bytes) ∷ unless 20 (nat_le (number_at 4 20 bytes) (greatest shape)) ∷ unlike 24 magic bytes ∷ []
+    ∷ field 4 (unlike (4 + size) (zeros (20 - (4 + size))) bytes) ∷ unless 20 (nat_le (number_at 4 20 bytes) (greatest shape)) ∷ unlike 24 value_magic bytes ∷ []
 
 -- the first byte of the first wrong field of a head
 unfoldable pub head_fault : Shape → List ℕ → Option ℕ

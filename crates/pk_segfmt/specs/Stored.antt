@@ -21,8 +21,8 @@ abbrev pub AreFull : Shape → (ℕ → Page) → Type 0
 AreFull shape at = (page : ℕ) (bytes : List ℕ) → at page ≡ whole bytes → length bytes ≡ shape.page_bytes
 
 -- if the pages of a value are there, the reading of a flash finds the value
-abbrev pub ReadsBack : Type 0
-ReadsBack =
+abbrev pub ValueReadsBack : Type 0
+ValueReadsBack =
     (shape : Shape) (at : ℕ → Page) (key : Key) (page : ℕ) (value : List ℕ) → IsShape shape → IsHead shape key (length value) → IsStored shape at key page value
     → value_at shape at key (record { page = page; len = length value }) ≡ Ok value
 

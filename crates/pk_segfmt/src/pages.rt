@@ -3,7 +3,7 @@ ghost use Rattle.std.specs.Prelude.{◌≡◌, ◌<◌, ◌≤◌, ◌+◌, ◌-
 ghost use Rattle.pk_base.specs.Fields.{padded};
 ghost use Rattle.pk_base.specs.Shape.{greatest, charge};
 ghost use Rattle.pk_segfmt.specs.Value.{head_bytes};
-ghost use Rattle.pk_segfmt.specs.Stored.{page_of, ReadsBack, StandsWhereRead, BeginsWithHead};
+ghost use Rattle.pk_segfmt.specs.Stored.{page_of, ValueReadsBack, StandsWhereRead, BeginsWithHead};
 
 use crate::heads::put_head;
 use pk_base::{HEAD_BYTES, Key, Shape, put_padded};
@@ -46,7 +46,7 @@ pub fn page(shape: &Shape, key: &Key, value: &[u8], i: u32, into: &mut [u8])
 
 /// If the pages of a value are there, the reading of a flash finds the value.
 pub fn reads_back()
-    ensures { ReadsBack }
+    ensures { ValueReadsBack }
 {}
 
 /// If the reading of a flash finds a value, its pages are there.

@@ -16,9 +16,9 @@ use Rattle.pk_model.specs.Growth.{Goes}
 use Rattle.pk_model.specs.Wear.{is_worn, roots}
 use Rattle.pk_model.proofs.Growing.{Goes-reaches, weaken_went}
 use Rattle.pk_serve.specs.Ends.{IsFault}
-use Rattle.pk_serve.specs.Serving.{Serving, Answered, KeptAt, installs, Flushed, Breaks}
+use Rattle.pk_serve.specs.Serving.{Serving, Answered, KeptAt, installs, Flushed, ServingBroken}
 use Rattle.pk_model.specs.Kept.{rise}
-use Rattle.pk_serve.specs.Input.{Spells, IsPart, behind}
+use Rattle.pk_serve.specs.Input.{Spells, IsPart, script_after}
 use Rattle.pk_serve.specs.Loop.{Finished, Failed, Finish, Ends}
 use Rattle.pk_serve.specs.Calling.{calls_of, most_calls_of_all}
 use Rattle.pk_serve.specs.Run.{Served, ServedBy, KeepsScript, KeepsSome, Answers, ServedSome, Causes, CallsWithin}
@@ -63,7 +63,7 @@ module _ (shape : Shape) (frames : ℕ) (start : Map) (a b c : BoardState) (d e 
   Finish-closed Output flushed worn sound f = absurd (sound tt)
   Finish-closed Flash flushed worn sound f = absurd (sound tt)
 
-  broken : (part : List ℕ) (fault : End) → Breaks b c d held fault → Finished shape frames start a b d held part → Failed shape frames start a c fault
+  broken : (part : List ℕ) (fault : End) → ServingBroken b c d held fault → Finished shape frames start a b d held part → Failed shape frames start a c fault
   broken part fault breaks f =
       let T : List ℕ → Type 0 = λ t. Serving shape frames start a b d t f.all f.m in
       let r = breaks shape frames start a [] f.all f.m (subst T (sym (append-nil held)) f.serving) in
@@ -85,7 +85,7 @@ module _ (shape : Shape) (frames : ℕ) (start : Map) (a b c : BoardState) (d e 
   as_finish Output f = f
   as_finish Flash f = f
 
-  pub Finish-broken : (end fault : End) → Breaks b c d held fault → (IsFault end → ⊥) → Finish shape frames start a b d held end → Finish shape frames start a c e [] fault
+  pub Finish-broken : (end fault : End) → ServingBroken b c d held fault → (IsFault end → ⊥) → Finish shape frames start a b d held end → Finish shape frames start a c e [] fault
   Finish-broken Done fault breaks sound f = as_finish fault (broken [] fault breaks f.finished)
   Finish-broken Truncated fault breaks sound f = as_finish fault (broken f.part fault breaks f.finished)
   Finish-broken Input fault breaks sound f = as_finish fault (broken f.part fault breaks f.finished)
@@ -112,15 +112,15 @@ pub told : (o : Option (List ℕ)) (xs input : List ℕ) → Some input ≡ put_
 told None xs input e = absurd (let h : Some input ≡ None = e in cc)
 told (Some left) xs input e = (left, refl, (let h : Some input ≡ Some (xs ++ left) = e in cc))
 
-pub script_is : (bytes part left input : List ℕ) (cs : List Command) → Spells bytes cs → input ≡ (bytes ++ part) ++ left → script input ≡ behind cs (script (part ++ left))
+pub script_is : (bytes part left input : List ℕ) (cs : List Command) → Spells bytes cs → input ≡ (bytes ++ part) ++ left → script input ≡ script_after cs (script (part ++ left))
 script_is bytes part left input cs spells e = ap script (e ∙ append_assoc bytes part left) ∙ spells (part ++ left)
 
 pub script_none : script [] ≡ ([], [])
 script_none = IsPart-entry [] (omega arith)
 
 -- these commands and these bytes
-pub script_of : (cs : List Command) (part rest : List ℕ) (s : List Command × List ℕ) → s ≡ behind cs (script rest) → rest ≡ part → IsPart part → s ≡ (cs, part)
-script_of cs part rest s e same is = e ∙ (ap (λ r. behind cs (script r)) same ∙ (ap (behind cs) is ∙ ap (λ l. (l, part)) (append-nil cs)))
+pub script_of : (cs : List Command) (part rest : List ℕ) (s : List Command × List ℕ) → s ≡ script_after cs (script rest) → rest ≡ part → IsPart part → s ≡ (cs, part)
+script_of cs part rest s e same is = e ∙ (ap (λ r. script_after cs (script r)) same ∙ (ap (script_after cs) is ∙ ap (λ l. (l, part)) (append-nil cs)))
 
 -- these bytes are these commands
 pub script_whole : (bytes : List ℕ) (cs : List Command) → Spells bytes cs → script bytes ≡ (cs, [])

@@ -17,7 +17,7 @@ use Rattle.pk_model.specs.Reading.{reading}
 use Rattle.pk_model.specs.Script.{script, commands_in, begins_whole}
 use Rattle.pk_model.specs.Kept.{AtMost, rise}
 use Rattle.pk_model.specs.Sight.{Sight}
-use Rattle.pk_call.specs.Exec.{most_installs, most_roots}
+use Rattle.pk_call.specs.Exec.{most_installs, most_store_roots}
 use Rattle.pk_model.specs.Wear.{is_worn, roots}
 use Rattle.pk_serve.specs.Serving.{installs}
 use Rattle.pk_serve.specs.Run.{Served}
@@ -27,7 +27,7 @@ use Rattle.pk_serve.specs.declared.end.End.TheVariants.{Done, Truncated, Input, 
 use Rattle.pk_call.specs.Meter.{meter}
 use Rattle.pk_serve.proofs.Counting.{faults-one, metered-roots}
 use Rattle.pk_serve.specs.Ends.{IsFault}
-use Rattle.pk_serve.specs.Input.{behind}
+use Rattle.pk_serve.specs.Input.{script_after}
 use Rattle.pk_serve.specs.Loop.{Ends, Finish}
 use Rattle.pk_serve.proofs.Closing.{told, script_is, front_none, served_by, size_of}
 
@@ -66,14 +66,14 @@ none_counted before now k none h = by (nat_le last_count now) refl h
 
 -- ---- roots
 
-installs_few : (cs : List Command) → installs cs ≤ ticks cs + most_roots * length cs
+installs_few : (cs : List Command) → installs cs ≤ ticks cs + most_store_roots * length cs
 installs_few [] = omega arith
 installs_few (c ∷ cs) =
     let rest = installs_few cs in
-    let one : most_installs c.opcode c.size ≤ (if c.opcode == 0xC0 then c.size else 0) + most_roots = by (c.opcode == 0xC0) in
+    let one : most_installs c.opcode c.size ≤ (if c.opcode == 0xC0 then c.size else 0) + most_store_roots = by (c.opcode == 0xC0) in
     omega (arith, rest, one)
   where
-    by : (b : Bool) → (if b then c.size else most_roots) ≤ (if b then c.size else 0) + most_roots
+    by : (b : Bool) → (if b then c.size else most_store_roots) ≤ (if b then c.size else 0) + most_store_roots
     by true = omega arith
     by false = omega arith
 
@@ -116,7 +116,7 @@ module _ (shape : Shape) (frames : ℕ) (start : Map) (a b : BoardState) (d : Si
       record { served = s.served; are = s.are; ran = subst R e r.0; posted = s.posted; holds = subst H e s.holds }
 
   -- another command begins in a script that is whole: there are more commands
-  one_more : (bytes part left : List ℕ) (cs : List Command) → part ≢ [] → script input ≡ behind cs (script (part ++ left)) → length cs + 1 ≤ length (script input).0
+  one_more : (bytes part left : List ℕ) (cs : List Command) → part ≢ [] → script input ≡ script_after cs (script (part ++ left)) → length cs + 1 ≤ length (script input).0
   one_more bytes part left cs some e =
       let whole : (script (part ++ left)).1 ≡ [] = sym (ap (λ s. s.1) e) ∙ ok.whole in
       let n : length (script input).0 ≡ length cs + length (script (part ++ left)).0 = ap (λ s. length s.0) e ∙ length-append cs (script (part ++ left)).0 in
@@ -135,7 +135,7 @@ module _ (shape : Shape) (frames : ℕ) (start : Map) (a b : BoardState) (d : Si
   completed Worn closed x =
       let f = x.finished in
       let i = told b.input (f.bytes ++ x.part) input (sym is ∙ f.input) in
-      let e : script input ≡ behind (commands f.all) (script (x.part ++ i.0)) = script_is f.bytes x.part i.0 input (commands f.all) f.spells i.2 in
+      let e : script input ≡ script_after (commands f.all) (script (x.part ++ i.0)) = script_is f.bytes x.part i.0 input (commands f.all) f.spells i.2 in
       let more = one_more f.bytes x.part i.0 (commands f.all) x.some e in
       let n : length (commands f.all) ≡ length f.all = size_of shape frames start a b d x.part f in
       let t : ticks (script input).0 ≡ ticks (commands f.all) + ticks (script (x.part ++ i.0)).0 = ap (λ s. ticks s.0) e ∙ ticks-append (commands f.all) (script (x.part ++ i.0)).0 in

@@ -5,7 +5,7 @@ use Rattle.pk_model.specs.Script.{script}
 use Rattle.pk_model.specs.Sight.{Sight}
 use Rattle.pk_model.specs.Wear.{is_worn}
 use Rattle.pk_serve.specs.Ends.{IsFault}
-use Rattle.pk_serve.specs.Input.{Advances, NoEntry, Quits}
+use Rattle.pk_serve.specs.Input.{InputAdvances, NoEntry, Quits}
 use Rattle.pk_nand.specs.Calls.{put_back, AtEnd}
 use Rattle.pk_serve.specs.Loop.{most_entries}
 use Rattle.pk_serve.specs.Script.{Consumed, Consumes, SaysOfScript}
@@ -29,7 +29,7 @@ module _ (a b c : BoardState) (taken : ℕ) (w : Consumed a b taken []) where
   plain : a.input ≡ put_back w.bytes b.input
   plain = w.input ∙ ap (λ t. put_back t b.input) (append-nil w.bytes)
 
-  pub consumed-next : (d e : Sight) (held now_held : List ℕ) → Advances b c d e held now_held taken → Consumed a c (taken + 1) []
+  pub consumed-next : (d e : Sight) (held now_held : List ℕ) → InputAdvances b c d e held now_held taken → Consumed a c (taken + 1) []
   consumed-next d e held now_held n = record {
     cs = w.cs ++ n.c ∷ [];
     bytes = w.bytes ++ n.bytes;

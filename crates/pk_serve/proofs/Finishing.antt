@@ -10,7 +10,7 @@ use Rattle.pk_model.specs.Run.{Exchange}
 use Rattle.pk_model.specs.Sight.{Sight}
 use Rattle.pk_call.specs.Seen.{reply_of}
 use Rattle.pk_call.specs.declared.types.Outcome.{Outcome}
-use Rattle.pk_serve.specs.Serving.{Serving, Flushed, Breaks, Posts, PostBreaks, Keeps}
+use Rattle.pk_serve.specs.Serving.{Serving, Flushed, ServingBroken, Posts, PostBreaks, Keeps}
 use Rattle.pk_serve.specs.declared.end.End.{End}
 
 pub bytes_of-push : (heads : List (List ℕ)) (head : List ℕ) → bytes_of (heads ++ head ∷ []) ≡ bytes_of heads ++ head
@@ -36,7 +36,7 @@ keeps_held b d heads now_heads head more none is shape frames start a all m w =
 
 module _ (b c : BoardState) (d e : Sight) (heads head more : List ℕ) where
   -- the commit, or a post of what is held, failed
-  pub breaks_held : (end : End) → Breaks b c d heads end → Breaks b c d (heads ++ (head ++ more)) end
+  pub breaks_held : (end : End) → ServingBroken b c d heads end → ServingBroken b c d (heads ++ (head ++ more)) end
   breaks_held end breaks shape frames start a behind all m w =
       let T : List ℕ → Type 0 = λ t. Serving shape frames start a b d t all m in
       breaks shape frames start a ((head ++ more) ++ behind) all m (subst T (append_assoc heads (head ++ more) behind) w)
@@ -57,10 +57,10 @@ module _ (b c : BoardState) (d e : Sight) (heads head more : List ℕ) where
         let U : List ℕ → Type 0 = λ t. Serving shape frames start a c e t all m in
         subst U (append_assoc head more behind) (flushed shape frames start a ((head ++ more) ++ behind) all m (subst T (append_assoc heads (head ++ more) behind) w))
 
-    pub breaks_head : (f : BoardState) (end : End) → PostBreaks c f head end → Breaks b f d (heads ++ (head ++ more)) end
+    pub breaks_head : (f : BoardState) (end : End) → PostBreaks c f head end → ServingBroken b f d (heads ++ (head ++ more)) end
     breaks_head f end breaks shape frames start a behind all m w = breaks e none shape frames start a (more ++ behind) all m (behind_held shape frames start a behind all m w)
 
-    pub breaks_data : (f g : BoardState) (end : End) → Posts c f head → PostBreaks f g more end → Breaks b g d (heads ++ (head ++ more)) end
+    pub breaks_data : (f g : BoardState) (end : End) → Posts c f head → PostBreaks f g more end → ServingBroken b g d (heads ++ (head ++ more)) end
     breaks_data f g end p breaks shape frames start a behind all m w =
         breaks e none shape frames start a behind all m (p e none shape frames start a (more ++ behind) all m (behind_held shape frames start a behind all m w))
 
@@ -69,5 +69,5 @@ module _ (b c : BoardState) (d e : Sight) (heads head more : List ℕ) where
 pub keeps_record : (b c : BoardState) (d e : Sight) (held last reply bytes : List ℕ) → reply ≡ bytes → Keeps b c d e (held ++ bytes) last → Keeps b c d e (held ++ reply) last
 keeps_record b c d e held last reply bytes is keeps = let T : List ℕ → Type 0 = λ t. Keeps b c d e (held ++ t) last in subst T (sym is) keeps
 
-pub breaks_record : (b c : BoardState) (d : Sight) (held reply bytes : List ℕ) (end : End) → reply ≡ bytes → Breaks b c d (held ++ bytes) end → Breaks b c d (held ++ reply) end
-breaks_record b c d held reply bytes end is breaks = let T : List ℕ → Type 0 = λ t. Breaks b c d (held ++ t) end in subst T (sym is) breaks
+pub breaks_record : (b c : BoardState) (d : Sight) (held reply bytes : List ℕ) (end : End) → reply ≡ bytes → ServingBroken b c d (held ++ bytes) end → ServingBroken b c d (held ++ reply) end
+breaks_record b c d held reply bytes end is breaks = let T : List ℕ → Type 0 = λ t. ServingBroken b c d (held ++ t) end in subst T (sym is) breaks

@@ -12,7 +12,7 @@ use Rattle.pk_model.specs.Crashes.{commit}
 use Rattle.pk_call.specs.Call.{KeepsMap, CallReaches, CallGoes}
 use Rattle.pk_call.specs.Commit.{CommitPrograms}
 use Rattle.pk_serve.specs.Calling.{owed}
-use Rattle.pk_serve.specs.Serving.{Serving, Flushed, Breaks, Posts, PostBreaks}
+use Rattle.pk_serve.specs.Serving.{Serving, Flushed, ServingBroken, Posts, PostBreaks}
 use Rattle.pk_serve.specs.declared.end.End.{End}
 use Rattle.pk_serve.specs.declared.end.End.TheVariants.{Output, Flash}
 use Rattle.pk_serve.proofs.Calling.{commit_calls}
@@ -53,7 +53,7 @@ breaks_second b c d xs ys more whole end is p q drive idle shape frames start a 
 -- ---- a commit
 
 pub commit-breaks : (b c : BoardState) (drive : Sight) (heads : List ℕ) → CallGoes b c drive commit → c.read_faults ≡ b.read_faults → c.reads ≡ b.reads → Rose b.stop_faults c.stop_faults
-    → (drive.pending ≡ [] → c ≡ b) → CommitPrograms 1 b c drive → Breaks b c drive heads Flash
+    → (drive.pending ≡ [] → c ≡ b) → CommitPrograms 1 b c drive → ServingBroken b c drive heads Flash
 commit-breaks b c drive heads went reading read rose idle programs shape frames start a behind all m w =
     let calls = commit_calls b c drive.pending idle (programs shape frames m w.stands) in
     (Cutoff-commit shape frames start a b drive (heads ++ behind) all m w c (went shape frames m w.stands) reading read calls, rose_from w.no_faults.stop rose)
@@ -71,5 +71,5 @@ module _ (b c : BoardState) (drive after : Sight) (reaches : CallReaches b c dri
   pub flushes : (d : BoardState) (heads : List ℕ) → Posts c d heads → Flushed b d drive after heads
   flushes d heads posts shape frames start a behind all m w = posts after none shape frames start a behind all m (committed shape frames start a (heads ++ behind) all m w)
 
-  pub flush-breaks : (d : BoardState) (heads : List ℕ) (end : End) → PostBreaks c d heads end → Breaks b d drive heads end
+  pub flush-breaks : (d : BoardState) (heads : List ℕ) (end : End) → PostBreaks c d heads end → ServingBroken b d drive heads end
   flush-breaks d heads end breaks shape frames start a behind all m w = breaks after none shape frames start a behind all m (committed shape frames start a (heads ++ behind) all m w)

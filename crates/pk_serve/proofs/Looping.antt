@@ -11,7 +11,7 @@ use Rattle.pk_call.specs.Drive.{HoldsMap}
 use Rattle.pk_model.specs.Wear.{is_worn}
 use Rattle.pk_serve.specs.Ends.{IsFault}
 use Rattle.pk_serve.specs.Serving.{Serving}
-use Rattle.pk_serve.specs.Input.{Spells, Advances, Fails, NoEntry, Quits}
+use Rattle.pk_serve.specs.Input.{Spells, InputAdvances, Fails, NoEntry, Quits}
 use Rattle.pk_serve.specs.Loop.{Looping, Finished, Failed, Finish, most_entries}
 use Rattle.pk_nand.specs.Calls.{put_back}
 use Rattle.pk_serve.specs.declared.end.End.{End}
@@ -35,7 +35,7 @@ Looping-start shape frames start a drive held empty stands none =
     }
 
 module _ (shape : Shape) (frames : ℕ) (start : Map) (a b c : BoardState) (d e : Sight) (held now_held : List ℕ) (taken : ℕ) (w : Looping shape frames start a b d held taken) where
-  pub Looping-next : taken < most_entries → Advances b c d e held now_held taken → Looping shape frames start a c e now_held (taken + 1)
+  pub Looping-next : taken < most_entries → InputAdvances b c d e held now_held taken → Looping shape frames start a c e now_held (taken + 1)
   Looping-next few n =
       let x = n.serves shape frames start a w.all w.m w.count w.serving in
       let S : List Command → Type 0 = λ l. Spells (w.bytes ++ n.bytes) l in

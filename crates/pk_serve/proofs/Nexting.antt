@@ -13,10 +13,10 @@ use Rattle.pk_model.specs.Script.{value_follows as value_bytes}
 use Rattle.pk_model.specs.Run.{Exchange}
 use Rattle.pk_model.specs.Sight.{Sight}
 use Rattle.pk_call.specs.Exec.{IsValue}
-use Rattle.pk_serve.specs.Serving.{Serving, Serves, Stops}
+use Rattle.pk_serve.specs.Serving.{Serving, CommandServed, Stops}
 use Rattle.pk_serve.specs.declared.end.End.{End}
 use Rattle.pk_serve.specs.Ends.{IsFault}
-use Rattle.pk_serve.specs.Input.{TookFailed, Entered, Valued, NoValue, Advances, Fails, BreaksOff, FailsAt, NoEntry, Quits}
+use Rattle.pk_serve.specs.Input.{TookFailed, Entered, Valued, NoValue, InputAdvances, Fails, BreaksOff, FailsAt, NoEntry, Quits}
 use Rattle.pk_nand.specs.Calls.{put_back}
 use Rattle.pk_serve.proofs.Serves.{Serving-inputs}
 use Rattle.pk_serve.proofs.Scripts.{taken-append, Spells-one, IsPart-value}
@@ -35,7 +35,7 @@ module _ (a m b : BoardState) (before : Sight) (same : m ≡ record a { input = 
       let T : BoardState → Type 0 = λ x. Serving shape frames start s x before held all map in
       subst T (sym same) (Serving-inputs shape frames start s a before held all map w m.input a.in_faults)
 
-  serves_too : (after : Sight) (held now_held : List ℕ) (taken : ℕ) (c : Command) → Serves m b before after held now_held taken c → Serves a b before after held now_held taken c
+  serves_too : (after : Sight) (held now_held : List ℕ) (taken : ℕ) (c : Command) → CommandServed m b before after held now_held taken c → CommandServed a b before after held now_held taken c
   serves_too after held now_held taken c h shape frames start s all map size w = h shape frames start s all map size (serving_too shape frames start s held all map w)
 
   stops_too : (held : List ℕ) (taken : ℕ) (end : End) (c : Command) → Stops m b before held taken end c → Stops a b before held taken end c
@@ -46,8 +46,8 @@ module _ (a m n : BoardState) (entry : List ℕ) (entered : Entered a m entry) (
     taken_all : a.input ≡ put_back (entry ++ valued.value) b.input
     taken_all = taken-append a.input m.input n.input entry valued.value entered.input valued.input ∙ ap (put_back (entry ++ valued.value)) (sym same)
 
-    pub Advances-one : (after : Sight) (now_held : List ℕ) → ((v : List ℕ) → IsValue shape r.opcode r.size handed v → Serves n b before after held now_held taken (command_seen r v)) → Advances a b before after held now_held taken
-    Advances-one after now_held serves = record {
+    pub InputAdvances-one : (after : Sight) (now_held : List ℕ) → ((v : List ℕ) → IsValue shape r.opcode r.size handed v → CommandServed n b before after held now_held taken (command_seen r v)) → InputAdvances a b before after held now_held taken
+    InputAdvances-one after now_held serves = record {
       bytes = entry ++ valued.value;
       c = command_seen r valued.value;
       input = taken_all;

@@ -6,7 +6,7 @@ use Rattle.std.proofs.Common.{get_or, ◌*◌}
 use Rattle.byteorder.specs.Endian.{little_from}
 use Rattle.pk_nvme.specs.Command.{Command, command}
 use Rattle.pk_model.specs.Script.{script, commands_in, begins_whole, first_command, value_follows}
-use Rattle.pk_serve.specs.Input.{behind, Spells, IsPart}
+use Rattle.pk_serve.specs.Input.{script_after, Spells, IsPart}
 use Rattle.pk_nand.specs.Calls.{put_back}
 
 pub put_back-append : (xs ys : List ℕ) (o : Option (List ℕ)) → put_back xs (put_back ys o) ≡ put_back (xs ++ ys) o
@@ -34,13 +34,13 @@ enough (suc n) (suc m) bytes hn hm =
     ap (λ rest. if begins_whole bytes then (first_command bytes ∷ rest.0, rest.1) else ([], bytes)) same
 
 -- a whole command at the start
-whole : (bytes : List ℕ) → begins_whole bytes ≡ true → script bytes ≡ behind (first_command bytes ∷ []) (script (drop (64 + value_follows bytes) bytes))
+whole : (bytes : List ℕ) → begins_whole bytes ≡ true → script bytes ≡ script_after (first_command bytes ∷ []) (script (drop (64 + value_follows bytes) bytes))
 unfolding script
 whole bytes e =
     let rest : List ℕ = drop (64 + value_follows bytes) bytes in
     enough (length bytes) (suc (length bytes)) bytes (omega arith) (omega arith)
     ∙ (ap (λ b. if b then (first_command bytes ∷ (commands_in (length bytes) (drop (64 + value_follows bytes) bytes)).0, (commands_in (length bytes) (drop (64 + value_follows bytes) bytes)).1) else ([], bytes)) e
-    ∙ ap (λ r. behind (first_command bytes ∷ []) r)
+    ∙ ap (λ r. script_after (first_command bytes ∷ []) r)
     (enough (length bytes) (length (drop (64 + value_follows bytes) bytes)) (drop (64 + value_follows bytes) bytes) (omega (arith, length-drop (64 + value_follows bytes) bytes)) (omega arith)))
 
 -- none at the start
@@ -55,7 +55,7 @@ Spells-none left = refl
 
 pub Spells-append : (xs ys : List ℕ) (cs ds : List Command) → Spells xs cs → Spells ys ds → Spells (xs ++ ys) (cs ++ ds)
 Spells-append xs ys cs ds p q left =
-    ap script (append_assoc xs ys left) ∙ (p (ys ++ left) ∙ (ap (behind cs) (q left) ∙ ap (λ l. (l, (script left).1)) (sym (append_assoc cs ds (script left).0))))
+    ap script (append_assoc xs ys left) ∙ (p (ys ++ left) ∙ (ap (script_after cs) (q left) ∙ ap (λ l. (l, (script left).1)) (sym (append_assoc cs ds (script left).0))))
 
 -- ---- one command
 
@@ -103,11 +103,11 @@ module _ (entry v left : List ℕ) (size : length entry ≡ 64) (count : length 
       let e = behind_entry in
       drop_at (entry ++ v) left (64 + value_follows ((entry ++ v) ++ left)) (omega (arith, length-append entry v, e))
 
-  one_command : script ((entry ++ v) ++ left) ≡ behind (command entry v ∷ []) (script left)
-  one_command = whole ((entry ++ v) ++ left) begins ∙ (λ k. behind (first_is k ∷ []) (script (rest_is k)))
+  one_command : script ((entry ++ v) ++ left) ≡ script_after (command entry v ∷ []) (script left)
+  one_command = whole ((entry ++ v) ++ left) begins ∙ (λ k. script_after (first_is k ∷ []) (script (rest_is k)))
 
 pub Spells-one : (entry v : List ℕ) (c : Command) → length entry ≡ 64 → length v ≡ value_follows entry → c ≡ command entry v → Spells (entry ++ v) (c ∷ [])
-Spells-one entry v c size count is left = one_command entry v left size count ∙ ap (λ d. behind (d ∷ []) (script left)) (sym is)
+Spells-one entry v c size count is left = one_command entry v left size count ∙ ap (λ d. script_after (d ∷ []) (script left)) (sym is)
 
 not_left : (a b : Bool) → a ≡ false → (a && b) ≡ false
 not_left a b p = ap (λ x. x && b) p

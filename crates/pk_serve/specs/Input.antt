@@ -11,17 +11,17 @@ use Rattle.pk_model.specs.Wear.{is_worn}
 use Rattle.pk_call.specs.Exec.{IsValue}
 use Rattle.pk_serve.specs.Ends.{IsFault}
 use Rattle.pk_serve.specs.Part.{IsHanded}
-use Rattle.pk_serve.specs.Serving.{Serves, Stops}
+use Rattle.pk_serve.specs.Serving.{CommandServed, Stops}
 use Rattle.pk_serve.specs.declared.end.End.{End}
 use Rattle.pk_serve.specs.declared.end.End.TheVariants.{Done, Truncated, Input, Output, Flash, Worn}
 
 -- a script after these commands
-abbrev pub behind : List Command → (List Command × List ℕ) → (List Command × List ℕ)
-behind cs rest = (cs ++ rest.0, rest.1)
+abbrev pub script_after : List Command → (List Command × List ℕ) → (List Command × List ℕ)
+script_after cs rest = (cs ++ rest.0, rest.1)
 
 -- the bytes are these commands, whatever follows
 abbrev pub Spells : List ℕ → List Command → Type 0
-Spells bytes cs = (left : List ℕ) → script (bytes ++ left) ≡ behind cs (script left)
+Spells bytes cs = (left : List ℕ) → script (bytes ++ left) ≡ script_after cs (script left)
 
 -- no whole command is in the bytes
 abbrev pub IsPart : List ℕ → Type 0
@@ -34,12 +34,12 @@ pub record Left (old new : BoardState) (part : List ℕ) : Type 0 where
   pub rest : new ≡ record old { input = new.input; in_faults = new.in_faults }
 
 -- a command was taken and served
-pub record Advances (old new : BoardState) (before after : Sight) (held now_held : List ℕ) (taken : ℕ) : Type 0 where
+pub record InputAdvances (old new : BoardState) (before after : Sight) (held now_held : List ℕ) (taken : ℕ) : Type 0 where
   pub bytes : List ℕ
   pub c : Command
   pub input : old.input ≡ put_back bytes new.input
   pub spells : Spells bytes (c ∷ [])
-  pub serves : Serves old new before after held now_held taken c
+  pub serves : CommandServed old new before after held now_held taken c
 
 -- a command was taken, and serving ended in it
 pub record Fails (old new : BoardState) (before : Sight) (held : List ℕ) (taken : ℕ) (end : End) : Type 0 where
@@ -51,7 +51,7 @@ pub record Fails (old new : BoardState) (before : Sight) (held : List ℕ) (take
   pub stops : Stops old new before held taken end c
 
 -- the input is read to its end
-pub record Finds (old new : BoardState) : Type 0 where
+pub record FindsEnd (old new : BoardState) : Type 0 where
   pub left : Left old new []
   pub same : new.in_faults ≡ old.in_faults
   pub at_end : AtEnd new.input
@@ -79,7 +79,7 @@ pub record RefusesMore (old new : BoardState) : Type 0 where
 
 -- how no command was taken; none if no more are to be taken
 abbrev pub NoEntry : BoardState → BoardState → Bool → End → Type 0
-NoEntry old new no_more Done = Finds old new
+NoEntry old new no_more Done = FindsEnd old new
 NoEntry old new no_more Truncated = BreaksOff old new × (no_more ≡ false)
 NoEntry old new no_more Input = (f : FailsAt old new) × (f.part ≢ [] → no_more ≡ false)
 NoEntry old new no_more Output = ⊥

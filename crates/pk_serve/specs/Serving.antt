@@ -77,22 +77,22 @@ Flushed old new before after bytes =
     → Serving shape frames start a old before (bytes ++ behind) all m → Serving shape frames start a new after behind all m
 
 -- A call ends the run while these bytes are held: what was served is kept.
-abbrev pub Breaks : BoardState → BoardState → Sight → List ℕ → End → Type 0
-Breaks old new before bytes end =
+abbrev pub ServingBroken : BoardState → BoardState → Sight → List ℕ → End → Type 0
+ServingBroken old new before bytes end =
     (shape : Shape) (frames : ℕ) (start : Map) (a : BoardState) (behind : List ℕ) (all : List Exchange) (m : Map)
     → Serving shape frames start a old before (bytes ++ behind) all m → Cutoff shape frames start a new (commands all) × HasCause a new end
 
 -- The output or the flash failed while these bytes were held: its count of faults shows it, and what was served is kept.
 pub record FailsHolding (old new : BoardState) (before : Sight) (held : List ℕ) (end : End) : Type 0 where
   pub fault : Faulted old new end
-  pub breaks : Breaks old new before held end
+  pub breaks : ServingBroken old new before held end
 
 -- A drive with nothing pending posts these bytes.
 abbrev pub Posts : BoardState → BoardState → List ℕ → Type 0
 Posts old new bytes = (drive : Sight) → drive.pending ≡ [] → Flushed old new drive drive bytes
 
 abbrev pub PostBreaks : BoardState → BoardState → List ℕ → End → Type 0
-PostBreaks old new bytes end = (drive : Sight) → drive.pending ≡ [] → Breaks old new drive bytes end
+PostBreaks old new bytes end = (drive : Sight) → drive.pending ≡ [] → ServingBroken old new drive bytes end
 
 -- A call changes what is held from one to the other: what was served is unchanged.
 abbrev pub Keeps : BoardState → BoardState → Sight → Sight → List ℕ → List ℕ → Type 0
@@ -113,8 +113,8 @@ pub record Next (shape : Shape) (frames : ℕ) (start : Map) (a b : BoardState) 
   pub serving : Serving shape frames start a b drive unposted (all ++ x ∷ []) m
 
 -- A call serves a command after this many were taken.
-abbrev pub Serves : BoardState → BoardState → Sight → Sight → List ℕ → List ℕ → ℕ → Command → Type 0
-Serves old new before after held now_held taken c =
+abbrev pub CommandServed : BoardState → BoardState → Sight → Sight → List ℕ → List ℕ → ℕ → Command → Type 0
+CommandServed old new before after held now_held taken c =
     (shape : Shape) (frames : ℕ) (start : Map) (a : BoardState) (all : List Exchange) (m : Map)
     → taken ≡ length all → Serving shape frames start a old before held all m → Next shape frames start a new after now_held all m c
 

@@ -5,7 +5,7 @@ ghost use Rattle.std.specs.Prelude.{◌≡◌, ◌<◌, ◌⊎◌, ℕ, List, []
 ghost use Rattle.pk_queue.specs.Queue.{bytes_of};
 ghost use Rattle.pk_serve.specs.Ends.{IsFault, Blames};
 ghost use Rattle.pk_serve.specs.Part.{IsRunning, CanRun, HasBuffers, KeepsRunning, SameSizes};
-ghost use Rattle.pk_serve.specs.Input.{Advances, Quits};
+ghost use Rattle.pk_serve.specs.Input.{InputAdvances, Quits};
 ghost use Rattle.pk_serve.specs.Script.{Runs};
 ghost use Rattle.pk_serve.specs.Loop.{most_entries};
 
@@ -41,7 +41,7 @@ pub fn serve_next<D: Engine, B: Board>(
         ((B.state board.new).in_faults ≡ (B.state board.old).in_faults) }
 
     // The command that was served.
-    ensures advances { OnOk result (Advances (B.state board.old) (B.state board.new)
+    ensures advances { OnOk result (InputAdvances (B.state board.old) (B.state board.new)
         (D.sight drive.old) (D.sight drive.new) (bytes_of held.old.heads) (bytes_of held.new.heads)
         taken) }
 

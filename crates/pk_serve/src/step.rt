@@ -7,7 +7,7 @@ ghost use Rattle.pk_call.specs.Seen.{reply_of};
 ghost use Rattle.pk_call.specs.Exec.{IsValue};
 ghost use Rattle.pk_serve.specs.Ends.{NoFaults};
 ghost use Rattle.pk_serve.specs.Part.{IsRunning, CanServe, IsHanded, HasRoom, KeepsRunning, Faulted, TakesNone, InstallsNone, OnlyGives, SameRoom};
-ghost use Rattle.pk_serve.specs.Serving.{Flushed, FailsHolding, Posts, PostBreaks, Keeps, Serves, Stops};
+ghost use Rattle.pk_serve.specs.Serving.{Flushed, FailsHolding, Posts, PostBreaks, Keeps, CommandServed, Stops};
 ghost use Rattle.pk_serve.specs.Loop.{most_entries};
 ghost use Rattle.pk_nvme.specs.declared.opcode.TheConstants.{TICK};
 
@@ -232,7 +232,7 @@ pub fn serve_one<D: Engine, B: Board>(
     // The command, with the value of which these bytes were passed.
     ensures serves { OnOk result ((v : List ℕ)
         → IsValue shape.now entry.now.request.opcode entry.now.request.size value.now v
-        → Serves (B.state board.old) (B.state board.new) (D.sight drive.old) (D.sight drive.new)
+        → CommandServed (B.state board.old) (B.state board.new) (D.sight drive.old) (D.sight drive.new)
         (bytes_of held.old.heads) (bytes_of held.new.heads) entry.now.before
         (command_of entry.now.request v)) }
 

@@ -21,7 +21,7 @@ use Rattle.pk_model.proofs.Merges.{placed_sorted}
 use Rattle.pk_model.proofs.Live.{live-pages}
 use Rattle.pk_model.proofs.HeldMap.{nothing_fits, none_of_empty}
 use Rattle.pk_steps.specs.Under.{counting, places}
-use Rattle.pk_steps.specs.Lookups.{IsValueOf, Finds, FoundIn, Counts}
+use Rattle.pk_steps.specs.Lookups.{IsValueOf, LookupFinds, FoundIn, Counts}
 use Rattle.pk_steps.proofs.Untouched.{values_under}
 
 value_of : (shape : Shape) (flash : Flash) (q : Key) (e : Option (Option Place)) (value : Option (List ℕ)) → Has shape (page_at flash) q (flat e) value → IsValueOf shape flash q e value
@@ -29,7 +29,7 @@ value_of shape flash q None value is = is
 value_of shape flash q (Some None) value is = is
 value_of shape flash q (Some (Some place)) value is = is
 
-pub finds : Finds
+pub finds : LookupFinds
 finds shape flash pending top found m key under = value_of shape flash key (find key_cmp key (entries_in_order found pending)) (get m key) (map_under_get shape (page_at flash) top.1 found pending m under.is_map key)
 
 -- ---- lists one after another

@@ -25,7 +25,7 @@ use Rattle.pk_model.proofs.Entries.{counting_all, journal_are, meta_are}
 use Rattle.pk_model.proofs.ValueSets.{values_sound, values_complete, fits_parts, parts_fit, is_true}
 use Rattle.pk_model.proofs.HeldMap.{nothing_fits}
 use Rattle.pk_steps.specs.Under.{IsUnder, places}
-use Rattle.pk_steps.specs.Roots.{frozen_root, frozen, Freezes}
+use Rattle.pk_steps.specs.Roots.{frozen_root, frozen, FreezeLeavesMap}
 use Rattle.pk_steps.proofs.Untouched.{Values, values_under, value_page_whole, not_erased}
 use Rattle.pk_steps.proofs.Places.{In, in_append, any_in_back, all_of, in_value, not_of}
 
@@ -166,7 +166,7 @@ module _ (shape : Shape) (flash new : Flash) (top : ℕ × Root) (found : Found)
       let room : nat_le 0 (buffer shape) ≡ true = is_true _ (le→leb 0 (buffer shape) (omega arith)) in
       rw (room, again) (λ i. Ok (values.whole_map i))
 
-pub freezes : Freezes
+pub freezes : FreezeLeavesMap
 freezes shape flash new top page found m first second is_shape before none_older valid is_top same are_erased =
     let is_valid = subst T (sym valid) tt in
     let found_there = is_found shape flash new top found m first second is_shape before none_older is_valid same are_erased in

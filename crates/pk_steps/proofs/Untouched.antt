@@ -21,7 +21,7 @@ use Rattle.pk_model.proofs.SamePages.{newest_root_same, found_same, map_under_sa
 use Rattle.pk_model.proofs.StrangePages.{bind_ok, some_ok}
 use Rattle.pk_model.proofs.Lookups.{values_step, passed}
 use Rattle.pk_steps.specs.Under.{IsUnder, IsValuePage, places}
-use Rattle.pk_steps.specs.Reads.{ReadsUnder, UnderReads, Same, Programs, Erases}
+use Rattle.pk_steps.specs.Reads.{ReadsUnder, UnderReads, Same, ProgramsUnread, Erases}
 
 pub reads_under : ReadsUnder
 unfolding reading_of
@@ -119,7 +119,7 @@ in_or_out first count k =
     below : (a b : ℕ) → nat_le a b ≡ false → b < a
     below a b e = leb-false a b e
 
-pub programs : Programs
+pub programs : ProgramsUnread
 programs shape flash cut extra top found m first count is_shape under behind are_erased unnamed outside =
     same shape flash cut extra top found m is_shape under (λ k is. elim (in_or_out first count k) [
       | inl low ↦ outside.below k low

@@ -22,8 +22,8 @@ IsValueOf shape flash key None value = value ≡ None
 IsValueOf shape flash key (Some None) value = value ≡ None
 IsValueOf shape flash key (Some (Some place)) value = (v : List ℕ) × (value_at shape (page_at flash) key place ≡ Ok v) × (value ≡ Some v)
 
-abbrev pub Finds : Type 0
-Finds =
+abbrev pub LookupFinds : Type 0
+LookupFinds =
     (shape : Shape) (flash : Flash) (pending : List Entry) (top : ℕ × Root) (found : Found) (m : Map) (key : Key) → IsUnder shape flash pending top found m
     → IsValueOf shape flash key (find key_cmp key (entries_in_order found pending)) (get m key)
 

@@ -27,8 +27,8 @@ Same =
     → IsUnder shape cut extra top found m
 
 -- erased pages after the root blocks, in no block that the root names, whatever became of them
-abbrev pub Programs : Type 0
-Programs =
+abbrev pub ProgramsUnread : Type 0
+ProgramsUnread =
     (shape : Shape) (flash cut : Flash) (extra : List Entry) (top : ℕ × Root) (found : Found) (m : Map) (first count : ℕ) → IsShape shape → IsUnder shape flash extra top found m
     → root_pages shape ≤ first
     → ((k : ℕ) → first ≤ k → k < first + count → page_at flash k ≡ erased)

@@ -46,8 +46,8 @@ abbrev pub frozen : Found → Found
 frozen found = record found { newest = []; older = found.newest }
 
 -- a freeze whose root is installed leaves the map, and is a step of the tree
-abbrev pub Freezes : Type 0
-Freezes =
+abbrev pub FreezeLeavesMap : Type 0
+FreezeLeavesMap =
     (shape : Shape) (flash new : Flash) (top : ℕ × Root) (page : ℕ) (found : Found) (m : Map) (first second : ℕ) → IsShape shape
     → IsUnder shape flash [] top found m → found.older ≡ []
     → is_root shape (frozen_root top.1 found first second) ≡ true

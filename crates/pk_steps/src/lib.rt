@@ -2,10 +2,10 @@
 //! function that does nothing. A drive's calls cite them, and unfold no reading.
 #![tactic(auto)]
 
-ghost use Rattle.pk_steps.specs.Reads.{ReadsUnder, UnderReads, Same, Programs, Erases};
+ghost use Rattle.pk_steps.specs.Reads.{ReadsUnder, UnderReads, Same, ProgramsUnread, Erases};
 ghost use Rattle.pk_steps.specs.Stores.{Stores, Deletes, Fits};
-ghost use Rattle.pk_steps.specs.Lookups.{Finds, FoundIn, Counts};
-ghost use Rattle.pk_steps.specs.Roots.{Commits, CommitsPair, Committed, Freezes};
+ghost use Rattle.pk_steps.specs.Lookups.{LookupFinds, FoundIn, Counts};
+ghost use Rattle.pk_steps.specs.Roots.{Commits, CommitsPair, Committed, FreezeLeavesMap};
 ghost use Rattle.pk_steps.specs.Next.{Installed, Installs};
 ghost use Rattle.pk_steps.specs.Freezing.{Frozen};
 ghost use Rattle.pk_steps.specs.Merging.{Merged, MergedGrammar, MergedStill, Freed, FreedCounted};
@@ -21,7 +21,7 @@ pub fn reading()
 /// may be erased, and at every cut the same is under the same root.
 pub fn unread()
     ensures same { Same }
-    ensures programs { Programs }
+    ensures programs { ProgramsUnread }
     ensures erases { Erases }
 {}
 
@@ -34,7 +34,7 @@ pub fn entries()
 
 /// The entry that counts says what the map has, and the entries that count say how much it holds.
 pub fn lookups()
-    ensures finds { Finds }
+    ensures finds { LookupFinds }
     ensures found_in { FoundIn }
     ensures counts { Counts }
 {}
@@ -44,7 +44,7 @@ pub fn roots()
     ensures commits { Commits }
     ensures pair { CommitsPair }
     ensures committed { Committed }
-    ensures freezes { Freezes }
+    ensures freezes { FreezeLeavesMap }
 {}
 
 /// A root that may follow the newest one does not change the map, at any cut of its install and

@@ -8,7 +8,7 @@ use Rattle.pk_nand.specs.Calls.{after_post, PostFailed, put_back, AtEnd}
 use Rattle.pk_text.specs.Written.{ended}
 use Rattle.pk_text.specs.Assembled.{onto_first, lines, line_given, lines_given, assembled_from}
 use Rattle.pk_text.specs.Turns.{TurnsFrom}
-use Rattle.pk_text.specs.Steps.{ahead, Moved, Advances, Fed, Nexted, IsLine, LineTaken, NoLine, Gives, GivesNot, Stops}
+use Rattle.pk_text.specs.Steps.{ahead, Moved, TextAdvances, Fed, Nexted, IsLine, LineTaken, NoLine, LineGives, GivesNot, Stops}
 use Rattle.pk_text.specs.declared.end.TextEnd.{TextEnd}
 use Rattle.pk_text.specs.declared.end.TextEnd.TheVariants.{Done, Truncated, Input, Output, TooMany, BadLine}
 use Rattle.pk_text.proofs.Feeding.{Fed-more, Fed-end}
@@ -72,19 +72,19 @@ says-long number line long = let e : nat_lt 2200000 (length line) ≡ true = gri
 
 -- ---- steps
 
-pub Gives-nothing : (number : ℕ) (line : List ℕ) (a : BoardState) → says number line ≡ Some nothing → Gives number line number a a
-Gives-nothing number line a e = record { out = []; spells = λ more. ap (λ o. line_given o number more) e; input = refl; moved = Moved-none a }
+pub LineGives-nothing : (number : ℕ) (line : List ℕ) (a : BoardState) → says number line ≡ Some nothing → LineGives number line number a a
+LineGives-nothing number line a e = record { out = []; spells = λ more. ap (λ o. line_given o number more) e; input = refl; moved = Moved-none a }
 
-pub Gives-entry : (number : ℕ) (line e bytes : List ℕ) (a b : BoardState) → says number line ≡ Some (entry e bytes) → b ≡ after_post a (e ++ bytes) → Gives number line (number + 1) a b
-Gives-entry number line e bytes a b said posted = record {
+pub LineGives-entry : (number : ℕ) (line e bytes : List ℕ) (a b : BoardState) → says number line ≡ Some (entry e bytes) → b ≡ after_post a (e ++ bytes) → LineGives number line (number + 1) a b
+LineGives-entry number line e bytes a b said posted = record {
   out = e ++ bytes;
   spells = λ more. ap (λ o. line_given o number more) said;
   input = ap (λ s. s.input) posted;
   moved = Moved-post a b (e ++ bytes) posted;
 }
 
-pub Line-advances : (taken number next : ℕ) (p q line : List ℕ) (a b c : BoardState) → taken < 4294967295 → LineTaken p q a b line true → Gives number line next b c
-    → Advances (assembled_from taken number) (assembled_from (suc taken) next) (ahead p a) (ahead q c) a c
+pub Line-advances : (taken number next : ℕ) (p q line : List ℕ) (a b c : BoardState) → taken < 4294967295 → LineTaken p q a b line true → LineGives number line next b c
+    → TextAdvances (assembled_from taken number) (assembled_from (suc taken) next) (ahead p a) (ahead q c) a c
 Line-advances taken number next p q line a b c few found given = record {
   bytes = line ++ 10 ∷ [];
   out = given.out;
@@ -120,7 +120,7 @@ found_line p q line a b false h = record {
   moved = h.1.moved;
 }
 
-pub Line-last : (taken number next : ℕ) (p q line : List ℕ) (a b c : BoardState) → taken < 4294967295 → LineTaken p q a b line false → Gives number line next b c
+pub Line-last : (taken number next : ℕ) (p q line : List ℕ) (a b c : BoardState) → taken < 4294967295 → LineTaken p q a b line false → LineGives number line next b c
     → TurnsFrom (assembled_from taken number) (ahead p a) a c Done
 Line-last taken number next p q line a b c few h given =
     let m : Moved a c given.out = Moved-then a b c [] given.out h.1.moved given.moved in
@@ -200,17 +200,17 @@ entry_said (Some nothing) e h = cc
 entry_said (Some (entry e' bytes)) e h = let same : e' ≡ e = cc in ap (λ x. Some (entry x bytes)) same
 entry_said None e h = cc
 
-pub Gives-none : (number : ℕ) (line : List ℕ) (a : BoardState) → option_map entry_in (says number line) ≡ Some None → Gives number line number a a
-Gives-none number line a h = Gives-nothing number line a (nothing_said (says number line) h)
+pub LineGives-none : (number : ℕ) (line : List ℕ) (a : BoardState) → option_map entry_in (says number line) ≡ Some None → LineGives number line number a a
+LineGives-none number line a h = LineGives-nothing number line a (nothing_said (says number line) h)
 
-pub Gives-some : (number : ℕ) (line e bytes : List ℕ) (a b : BoardState) → option_map entry_in (says number line) ≡ Some (Some e) → bytes ≡ bytes_in (says number line) → b ≡ after_post a (e ++ bytes)
-    → Gives number line (number + 1) a b
-Gives-some number line e bytes a b h same posted =
-    Gives-entry number line e (bytes_in (says number line)) a b (entry_said (says number line) e h) (posted ∙ ap (λ t. after_post a (e ++ t)) same)
+pub LineGives-some : (number : ℕ) (line e bytes : List ℕ) (a b : BoardState) → option_map entry_in (says number line) ≡ Some (Some e) → bytes ≡ bytes_in (says number line) → b ≡ after_post a (e ++ bytes)
+    → LineGives number line (number + 1) a b
+LineGives-some number line e bytes a b h same posted =
+    LineGives-entry number line e (bytes_in (says number line)) a b (entry_said (says number line) e h) (posted ∙ ap (λ t. after_post a (e ++ t)) same)
 
-pub Gives-failed : (number : ℕ) (line e bytes : List ℕ) (a b : BoardState) → option_map entry_in (says number line) ≡ Some (Some e) → bytes ≡ bytes_in (says number line) → PostFailed a b (e ++ bytes)
+pub LineGives-failed : (number : ℕ) (line e bytes : List ℕ) (a b : BoardState) → option_map entry_in (says number line) ≡ Some (Some e) → bytes ≡ bytes_in (says number line) → PostFailed a b (e ++ bytes)
     → GivesNot number line a b Output
-Gives-failed number line e bytes a b h same f =
+LineGives-failed number line e bytes a b h same f =
     let T : List ℕ → Type 0 = λ t. PostFailed a b (e ++ t) in
     (e, bytes_in (says number line), entry_said (says number line) e h, subst T same f)
 
@@ -240,18 +240,18 @@ pub some_of : (xs : List ℕ) → (xs ≡ [] → ⊥) → 0 < length xs
 some_of [] h = absurd (h refl)
 some_of (x ∷ xs) h = omega arith
 
-pub Line-advances_as : (taken number next : ℕ) (p q line l : List ℕ) (a b c : BoardState) (whole : Bool) → taken < 4294967295 → LineTaken p q a b line whole → whole ≡ true → l ≡ line → Gives number l next b c
-    → Advances (assembled_from taken number) (assembled_from (suc taken) next) (ahead p a) (ahead q c) a c
+pub Line-advances_as : (taken number next : ℕ) (p q line l : List ℕ) (a b c : BoardState) (whole : Bool) → taken < 4294967295 → LineTaken p q a b line whole → whole ≡ true → l ≡ line → LineGives number l next b c
+    → TextAdvances (assembled_from taken number) (assembled_from (suc taken) next) (ahead p a) (ahead q c) a c
 Line-advances_as taken number next p q line l a b c whole few h e same given =
     let T : Bool → Type 0 = λ w. LineTaken p q a b line w in
-    let U : List ℕ → Type 0 = λ x. Gives number x next b c in
+    let U : List ℕ → Type 0 = λ x. LineGives number x next b c in
     Line-advances taken number next p q line a b c few (subst T e h) (subst U same given)
 
-pub Line-last_as : (taken number next : ℕ) (p q line l : List ℕ) (a b c : BoardState) (whole : Bool) → taken < 4294967295 → LineTaken p q a b line whole → whole ≡ false → l ≡ line → Gives number l next b c
+pub Line-last_as : (taken number next : ℕ) (p q line l : List ℕ) (a b c : BoardState) (whole : Bool) → taken < 4294967295 → LineTaken p q a b line whole → whole ≡ false → l ≡ line → LineGives number l next b c
     → TurnsFrom (assembled_from taken number) (ahead p a) a c Done
 Line-last_as taken number next p q line l a b c whole few h e same given =
     let T : Bool → Type 0 = λ w. LineTaken p q a b line w in
-    let U : List ℕ → Type 0 = λ x. Gives number x next b c in
+    let U : List ℕ → Type 0 = λ x. LineGives number x next b c in
     Line-last taken number next p q line a b c few (subst T e h) (subst U same given)
 
 pub Line-not_as : (taken number : ℕ) (p q line l : List ℕ) (a b c : BoardState) (whole : Bool) (end : TextEnd) → taken < 4294967295 → LineTaken p q a b line whole → l ≡ line → GivesNot number l b c end

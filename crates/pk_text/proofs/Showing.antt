@@ -14,7 +14,7 @@ use Rattle.pk_nand.specs.Calls.{after_post, PostFailed, put_back}
 use Rattle.pk_text.specs.Written.{Written, ended, before}
 use Rattle.pk_text.specs.Records.{cut_short, data_shown, head_shown, record_shown, records_shown, shown_from}
 use Rattle.pk_text.specs.Turns.{TurnsFrom}
-use Rattle.pk_text.specs.Steps.{ahead, Advances, Fed, IsOver, Filled, HeadTaken, Stops}
+use Rattle.pk_text.specs.Steps.{ahead, TextAdvances, Fed, IsOver, Filled, HeadTaken, Stops}
 use Rattle.pk_text.specs.declared.end.TextEnd.{TextEnd}
 use Rattle.pk_text.specs.declared.end.TextEnd.TheVariants.{Done, Truncated, Output, TooMany}
 use Rattle.pk_text.proofs.Turning.{not_false, put_back-nil, before-before, Moved-none, Moved-then, Moved-post, known, known_is, told-back, none_ahead, Turns-output, Turns-stop, all_posted}
@@ -148,7 +148,7 @@ whole_record law taken head bytes rest few size whole =
 -- ---- steps
 
 pub Head-advances : (taken : ℕ) (p q head : List ℕ) (a b : BoardState) → taken < 4294967295 → HeadTaken p q a b head true
-    → Advances (shown_from taken) (head_shown head (shown_from (suc taken))) (ahead p a) (ahead q b) a b
+    → TextAdvances (shown_from taken) (head_shown head (shown_from (suc taken))) (ahead p a) (ahead q b) a b
 Head-advances taken p q head a b few h = record {
   bytes = head;
   out = [];
@@ -182,7 +182,7 @@ Head-part taken p q head a b few some h =
     }
 
 pub Front-advances : (size : ℕ) (more : List ℕ → Written) (p head : List ℕ) (a b : BoardState) → size ≡ u32_at head 20 → b ≡ after_post a (shown_head head)
-    → Advances (head_shown head more) (data_shown size more) (ahead p a) (ahead p b) a b
+    → TextAdvances (head_shown head more) (data_shown size more) (ahead p a) (ahead p b) a b
 Front-advances size more p head a b same posted = record {
   bytes = [];
   out = shown_head head;
@@ -196,7 +196,7 @@ Front-failed more p head a b f =
     Turns-output (head_shown head more) (ahead p a) (known (ahead p a)) a a b (shown_head head) (data_shown (u32_at head 20) more (known (ahead p a))) (known_is (ahead p a)) (Moved-none a) f refl
 
 pub Data-advances : (left count : ℕ) (more : List ℕ → Written) (p q : List ℕ) (a b c : BoardState) → Fed p q a b [] → count ≤ length q → count ≤ left → c ≡ after_post b (hex_text (take count q))
-    → Advances (data_shown left more) (data_shown (left - count) more) (ahead p a) (ahead (drop count q) c) a c
+    → TextAdvances (data_shown left more) (data_shown (left - count) more) (ahead p a) (ahead (drop count q) c) a c
 Data-advances left count more p q a b c fed fits few posted =
     let size : length (take count q) ≡ count = length-take-le count q fits in
     let used = Fed-used p q count a b fed in
@@ -229,7 +229,7 @@ Data-part left more p q a b some fed over = record {
   ends = (all_posted a b (data_shown left more []) [] Truncated fed.moved (data_none left more some), over.at_end);
 }
 
-pub End-advances : (more : List ℕ → Written) (p : List ℕ) (a b : BoardState) → b ≡ after_post a (codes "\n") → Advances (data_shown 0 more) more (ahead p a) (ahead p b) a b
+pub End-advances : (more : List ℕ → Written) (p : List ℕ) (a b : BoardState) → b ≡ after_post a (codes "\n") → TextAdvances (data_shown 0 more) more (ahead p a) (ahead p b) a b
 End-advances more p a b posted = record {
   bytes = [];
   out = codes "\n";
@@ -278,10 +278,10 @@ pub Data-part_as : (left : ℕ) (more : List ℕ → Written) (p q : List ℕ) (
 Data-part_as left more p q a b r some h e = let T : Bool → Type 0 = λ x. Filled p q a b x in let f = subst T e h in Data-part left more p q a b some f.0 f.1
 
 pub Data-advances_as : (left count : ℕ) (more : List ℕ → Written) (p q q' piece : List ℕ) (a b c : BoardState) (r : Bool) → Filled p q a b r → r ≡ true → count ≤ length q → count ≤ left → piece ≡ take count q → q' ≡ drop count q
-    → c ≡ after_post b (hex_text piece) → Advances (data_shown left more) (data_shown (left - count) more) (ahead p a) (ahead q' c) a c
+    → c ≡ after_post b (hex_text piece) → TextAdvances (data_shown left more) (data_shown (left - count) more) (ahead p a) (ahead q' c) a c
 Data-advances_as left count more p q q' piece a b c r h e fits few is is' posted =
     let T : Bool → Type 0 = λ x. Filled p q a b x in
-    let U : List ℕ → Type 0 = λ x. Advances (data_shown left more) (data_shown (left - count) more) (ahead p a) (ahead x c) a c in
+    let U : List ℕ → Type 0 = λ x. TextAdvances (data_shown left more) (data_shown (left - count) more) (ahead p a) (ahead x c) a c in
     subst U (sym is') (Data-advances left count more p q a b c (subst T e h).0 fits few (posted ∙ ap (λ x. after_post b (hex_text x)) is))
 
 pub Data-failed_as : (left count : ℕ) (more : List ℕ → Written) (p q piece : List ℕ) (a b c : BoardState) (r : Bool) → Filled p q a b r → r ≡ true → count ≤ length q → count ≤ left → piece ≡ take count q
@@ -292,7 +292,7 @@ Data-failed_as left count more p q piece a b c r h e fits few is f =
     Data-failed left count more p q a b c (subst T e h).0 fits few (subst U is f)
 
 pub Head-advances_as : (taken : ℕ) (p q head : List ℕ) (a b : BoardState) (r : Bool) → taken < 4294967295 → HeadTaken p q a b head r → r ≡ true
-    → Advances (shown_from taken) (head_shown head (shown_from (suc taken))) (ahead p a) (ahead q b) a b
+    → TextAdvances (shown_from taken) (head_shown head (shown_from (suc taken))) (ahead p a) (ahead q b) a b
 Head-advances_as taken p q head a b r few h e = let T : Bool → Type 0 = λ x. HeadTaken p q a b head x in Head-advances taken p q head a b few (subst T e h)
 
 pub Head-part_as : (taken : ℕ) (p q head : List ℕ) (a b : BoardState) (r : Bool) → taken < 4294967295 → 0 < length head → HeadTaken p q a b head r → r ≡ false → TurnsFrom (shown_from taken) (ahead p a) a b Truncated

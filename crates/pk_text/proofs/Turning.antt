@@ -5,8 +5,8 @@ use Rattle.pk_nand.specs.BoardState.{BoardState}
 use Rattle.pk_nand.specs.Calls.{Rose, longer, after_post, PostFailed, put_back, AtEnd}
 use Rattle.pk_nand.proofs.Resting.{Rests-same, Rests-then, Rests-post, Rests-post_failed}
 use Rattle.pk_text.specs.Written.{Written, ended, before}
-use Rattle.pk_text.specs.Turns.{Touched, IsFront, IsAll, Ends, TurnsFrom, Turns}
-use Rattle.pk_text.specs.Steps.{ahead, Moved, Advances, Fed, IsOver, FeedFailed, Nexted, Stops}
+use Rattle.pk_text.specs.Turns.{Touched, IsFront, IsAll, TextEnds, TurnsFrom, Turns}
+use Rattle.pk_text.specs.Steps.{ahead, Moved, TextAdvances, Fed, IsOver, FeedFailed, Nexted, Stops}
 use Rattle.pk_text.specs.declared.end.TextEnd.{TextEnd}
 use Rattle.pk_text.specs.declared.end.TextEnd.TheVariants.{Done, Truncated, Input, Output, TooMany, BadLine}
 
@@ -159,17 +159,17 @@ Failed-then a b c m f = record {
 
 -- ---- runs
 
-pub Advances-none : (f : List ℕ → Written) (o : Option (List ℕ)) (a : BoardState) → Advances f f o o a a
-Advances-none f o a = record { bytes = []; out = []; came = put_back-nil o; spells = λ rest. refl; moved = Moved-none a }
+pub TextAdvances-none : (f : List ℕ → Written) (o : Option (List ℕ)) (a : BoardState) → TextAdvances f f o o a a
+TextAdvances-none f o a = record { bytes = []; out = []; came = put_back-nil o; spells = λ rest. refl; moved = Moved-none a }
 
 -- no byte was fetched yet
-pub Advances-empty : (f : List ℕ → Written) (pending : List ℕ) (a : BoardState) → pending ≡ [] → Advances f f (ahead [] a) (ahead pending a) a a
-Advances-empty f pending a none =
-    let T : List ℕ → Type 0 = λ p. Advances f f (ahead [] a) (ahead p a) a a in
-    subst T (sym none) (Advances-none f (ahead [] a) a)
+pub TextAdvances-empty : (f : List ℕ → Written) (pending : List ℕ) (a : BoardState) → pending ≡ [] → TextAdvances f f (ahead [] a) (ahead pending a) a a
+TextAdvances-empty f pending a none =
+    let T : List ℕ → Type 0 = λ p. TextAdvances f f (ahead [] a) (ahead p a) a a in
+    subst T (sym none) (TextAdvances-none f (ahead [] a) a)
 
-pub Advances-then : (f g h : List ℕ → Written) (u v w : Option (List ℕ)) (a b c : BoardState) → Advances f g u v a b → Advances g h v w b c → Advances f h u w a c
-Advances-then f g h u v w a b c p q = record {
+pub TextAdvances-then : (f g h : List ℕ → Written) (u v w : Option (List ℕ)) (a b c : BoardState) → TextAdvances f g u v a b → TextAdvances g h v w b c → TextAdvances f h u w a c
+TextAdvances-then f g h u v w a b c p q = record {
   bytes = p.bytes ++ q.bytes;
   out = p.out ++ q.out;
   came = taken-append u v w p.bytes q.bytes p.came q.came;
@@ -188,29 +188,29 @@ all_behind a b c w v x y end e in_same out_same h = record {
 front_behind : (w v : Written) (x y : List ℕ) → w ≡ before x v → IsFront y v.bytes → IsFront (x ++ y) w.bytes
 front_behind w v x y e h = (h.0, append_assoc x y h.0 ∙ (ap (λ t. x ++ t) h.1 ∙ sym (ap (λ (t : Written). t.bytes) e)))
 
-Ends-behind : (a b c : BoardState) (w v : Written) (x y : List ℕ) (end : TextEnd) → w ≡ before x v → b.in_faults ≡ a.in_faults → b.out_faults ≡ a.out_faults → Ends b c v y end → Ends a c w (x ++ y) end
-Ends-behind a b c w v x y Done e i o h = (all_behind a b c w v x y Done e i o h.0, h.1)
-Ends-behind a b c w v x y Truncated e i o h = (all_behind a b c w v x y Truncated e i o h.0, h.1)
-Ends-behind a b c w v x y Input e i o h = record {
+TextEnds-behind : (a b c : BoardState) (w v : Written) (x y : List ℕ) (end : TextEnd) → w ≡ before x v → b.in_faults ≡ a.in_faults → b.out_faults ≡ a.out_faults → TextEnds b c v y end → TextEnds a c w (x ++ y) end
+TextEnds-behind a b c w v x y Done e i o h = (all_behind a b c w v x y Done e i o h.0, h.1)
+TextEnds-behind a b c w v x y Truncated e i o h = (all_behind a b c w v x y Truncated e i o h.0, h.1)
+TextEnds-behind a b c w v x y Input e i o h = record {
   rose = (let T : ℕ → Type 0 = λ n. Rose n c.in_faults in subst T i h.rose);
   out_same = h.out_same ∙ o;
   front = front_behind w v x y e h.front;
 }
-Ends-behind a b c w v x y Output e i o h = record {
+TextEnds-behind a b c w v x y Output e i o h = record {
   rose = (let T : ℕ → Type 0 = λ n. Rose n c.out_faults in subst T o h.rose);
   in_same = h.in_same ∙ i;
   front = front_behind w v x y e h.front;
 }
-Ends-behind a b c w v x y TooMany e i o h = all_behind a b c w v x y TooMany e i o h
-Ends-behind a b c w v x y BadLine e i o h = all_behind a b c w v x y BadLine e i o h
+TextEnds-behind a b c w v x y TooMany e i o h = all_behind a b c w v x y TooMany e i o h
+TextEnds-behind a b c w v x y BadLine e i o h = all_behind a b c w v x y BadLine e i o h
 
-pub Turns-behind : (f g : List ℕ → Written) (u v : Option (List ℕ)) (a b c : BoardState) (end : TextEnd) → Advances f g u v a b → TurnsFrom g v b c end → TurnsFrom f u a c end
+pub Turns-behind : (f g : List ℕ → Written) (u v : Option (List ℕ)) (a b c : BoardState) (end : TextEnd) → TextAdvances f g u v a b → TurnsFrom g v b c end → TurnsFrom f u a c end
 Turns-behind f g u v a b c end p t = record {
   input = p.bytes ++ t.input;
   told = told-back u v p.bytes t.input p.came t.told;
   out = p.out ++ t.out;
   touched = Touched-then a b c p.out t.out p.moved.touched t.touched;
-  ends = Ends-behind a b c (f (p.bytes ++ t.input)) (g t.input) p.out t.out end (p.spells t.input) p.moved.in_same p.moved.out_same t.ends;
+  ends = TextEnds-behind a b c (f (p.bytes ++ t.input)) (g t.input) p.out t.out end (p.spells t.input) p.moved.in_same p.moved.out_same t.ends;
 }
 
 -- the input fails
@@ -298,8 +298,8 @@ pub not_empty : (xs : List ℕ) (r : Bool) → (IsTrue r ↔ (xs ≡ [])) → r 
 not_empty [] r h e = absurd (not_false r (h.1 refl) e)
 not_empty (x ∷ xs) r h e = omega arith
 
-pub Advances-count : (e f : ℕ → List ℕ → Written) (n : ℕ) (u v : Option (List ℕ)) (a b : BoardState) → Advances (e 0) (f (suc n)) u v a b → Advances (e 0) (f (n + 1)) u v a b
-Advances-count e f n u v a b h =
+pub TextAdvances-count : (e f : ℕ → List ℕ → Written) (n : ℕ) (u v : Option (List ℕ)) (a b : BoardState) → TextAdvances (e 0) (f (suc n)) u v a b → TextAdvances (e 0) (f (n + 1)) u v a b
+TextAdvances-count e f n u v a b h =
     let one : suc n ≡ n + 1 = omega arith in
-    let T : ℕ → Type 0 = λ k. Advances (e 0) (f k) u v a b in
+    let T : ℕ → Type 0 = λ k. TextAdvances (e 0) (f k) u v a b in
     subst T one h

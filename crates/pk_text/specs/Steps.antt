@@ -23,7 +23,7 @@ pub record Moved (old new : BoardState) (out : List ℕ) : Type 0 where
   pub out_same : new.out_faults ≡ old.out_faults
 
 -- a run that was to turn what is ahead by f took bytes and posted what they give, and is to turn the rest by g
-pub record Advances (f g : List ℕ → Written) (from to : Option (List ℕ)) (old new : BoardState) : Type 0 where
+pub record TextAdvances (f g : List ℕ → Written) (from to : Option (List ℕ)) (old new : BoardState) : Type 0 where
   pub bytes : List ℕ
   pub out : List ℕ
   pub came : from ≡ put_back bytes to
@@ -88,7 +88,7 @@ NoLine pending pending' old new line TooMany = ⊥
 NoLine pending pending' old new line BadLine = IsLine line × Fed pending pending' old new line × (MOST_LINE_BYTES < length line)
 
 -- what a line gives was posted, and the next entry has this number
-pub record Gives (number : ℕ) (line : List ℕ) (next : ℕ) (old new : BoardState) : Type 0 where
+pub record LineGives (number : ℕ) (line : List ℕ) (next : ℕ) (old new : BoardState) : Type 0 where
   pub out : List ℕ
   pub spells : (more : ℕ → Written) → line_given (says number line) number more ≡ before out (more next)
   pub input : new.input ≡ old.input

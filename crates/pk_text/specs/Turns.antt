@@ -40,13 +40,13 @@ pub record OutputFailed (old new : BoardState) (w : Written) (out : List ℕ) : 
   pub front : IsFront out w.bytes
 
 -- how a run ends that is to post this and posted these bytes
-abbrev pub Ends : BoardState → BoardState → Written → List ℕ → TextEnd → Type 0
-Ends old new w out Done = IsAll old new w out Done × AtEnd new.input
-Ends old new w out Truncated = IsAll old new w out Truncated × AtEnd new.input
-Ends old new w out Input = InputFailed old new w out
-Ends old new w out Output = OutputFailed old new w out
-Ends old new w out TooMany = IsAll old new w out TooMany
-Ends old new w out BadLine = IsAll old new w out BadLine
+abbrev pub TextEnds : BoardState → BoardState → Written → List ℕ → TextEnd → Type 0
+TextEnds old new w out Done = IsAll old new w out Done × AtEnd new.input
+TextEnds old new w out Truncated = IsAll old new w out Truncated × AtEnd new.input
+TextEnds old new w out Input = InputFailed old new w out
+TextEnds old new w out Output = OutputFailed old new w out
+TextEnds old new w out TooMany = IsAll old new w out TooMany
+TextEnds old new w out BadLine = IsAll old new w out BadLine
 
 -- A run turns an input into what this function says of it. The input is the one that is ahead, if that is recorded.
 pub record TurnsFrom (turn : List ℕ → Written) (ahead : Option (List ℕ)) (old new : BoardState) (end : TextEnd) : Type 0 where
@@ -54,7 +54,7 @@ pub record TurnsFrom (turn : List ℕ → Written) (ahead : Option (List ℕ)) (
   pub told : IfSome ahead (λ bytes. bytes ≡ input)
   pub out : List ℕ
   pub touched : Touched old new out
-  pub ends : Ends old new (turn input) out end
+  pub ends : TextEnds old new (turn input) out end
 
 -- the input is that of the board
 abbrev pub Turns : (List ℕ → Written) → BoardState → BoardState → TextEnd → Type 0

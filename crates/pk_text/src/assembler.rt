@@ -5,7 +5,7 @@ ghost use Rattle.pk_asm.specs.declared.sizes.TheConstants.{MOST_LINE_BYTES, MOST
 ghost use Rattle.pk_text.specs.Written.{most};
 ghost use Rattle.pk_text.specs.Assembled.{assembled, assembled_from};
 ghost use Rattle.pk_text.specs.Turns.{Turns, TurnsFrom};
-ghost use Rattle.pk_text.specs.Steps.{Advances, ahead};
+ghost use Rattle.pk_text.specs.Steps.{TextAdvances, ahead};
 
 use crate::TextEnd;
 use crate::feed::Feed;
@@ -64,7 +64,7 @@ impl Assembler {
         requires { number < 2 ^ 63 }
         ensures few { IfOk result (λ next. next ≤ number + 1) }
         ensures advances { IfOk result (λ next. (taken : ℕ) → taken < most
-            → Advances (assembled_from taken number) (assembled_from (suc taken) next)
+            → TextAdvances (assembled_from taken number) (assembled_from (suc taken) next)
             (ahead self.old.feed (B.state board.old)) (ahead self.new.feed (B.state board.new))
             (B.state board.old) (B.state board.new)) }
         ensures quits { IfErr result (λ end. (taken : ℕ) → taken < most

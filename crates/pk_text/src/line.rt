@@ -2,7 +2,7 @@
 ghost use Rattle.std.specs.Prelude.{◌≡◌, ◌≤◌, ◌<◌, ◌+◌, ◌^◌, ◌++◌, length, IfOk, IfErr, OnOk, OnErr};
 ghost use Rattle.pk_asm.specs.declared.sizes.TheConstants.{MOST_LINE_VALUE_BYTES};
 ghost use Rattle.pk_nand.specs.Calls.{after_post, PostFailed};
-ghost use Rattle.pk_text.specs.Steps.{LineTaken, NoLine, Gives, GivesNot};
+ghost use Rattle.pk_text.specs.Steps.{LineTaken, NoLine, LineGives, GivesNot};
 
 use crate::TextEnd;
 use crate::feed::Feed;
@@ -84,7 +84,7 @@ pub fn give_line<B: Board>(
     // What was posted, and the number of the next line.
     ensures few { IfOk result (λ next. next ≤ number + 1) }
     ensures ok { IfOk result
-        (λ next. Gives number line.now next (B.state board.old) (B.state board.new)) }
+        (λ next. LineGives number line.now next (B.state board.old) (B.state board.new)) }
     ensures err { IfErr result
         (λ end. GivesNot number line.now (B.state board.old) (B.state board.new) end) }
 {

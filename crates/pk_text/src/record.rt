@@ -8,7 +8,7 @@ ghost use Rattle.pk_text.specs.Written.{Written};
 ghost use Rattle.pk_text.specs.Records.{data_shown, head_shown};
 ghost use Rattle.pk_text.specs.Turns.{TurnsFrom};
 ghost use Rattle.pk_text.specs.declared.end.TextEnd.{TextEnd};
-ghost use Rattle.pk_text.specs.Steps.{HeadTaken, FeedFailed, Advances, ahead};
+ghost use Rattle.pk_text.specs.Steps.{HeadTaken, FeedFailed, TextAdvances, ahead};
 
 use crate::TextEnd;
 use crate::feed::Feed;
@@ -107,7 +107,7 @@ fn show_some<B: Board>(
     ensures some { IfOk result (λ count. 0 < count) }
     ensures few { IfOk result (λ count. count ≤ left) }
     ensures advances { IfOk result (λ count. (more : List ℕ → Written)
-        → Advances (data_shown left more) (data_shown (left - count) more)
+        → TextAdvances (data_shown left more) (data_shown (left - count) more)
         (ahead feed.old (B.state board.old)) (ahead feed.new (B.state board.new))
         (B.state board.old) (B.state board.new)) }
     ensures quits { IfErr result (λ end. (more : List ℕ → Written)
@@ -139,7 +139,7 @@ pub fn show_data<B: Board>(
     requires { text.old.room ≡ 2 * PIECE }
     ensures room { text.new.room ≡ text.old.room }
     ensures advances { OnOk result ((more : List ℕ → Written)
-        → Advances (data_shown size more) (data_shown 0 more)
+        → TextAdvances (data_shown size more) (data_shown 0 more)
         (ahead feed.old (B.state board.old)) (ahead feed.new (B.state board.new))
         (B.state board.old) (B.state board.new)) }
     ensures quits { IfErr result (λ end. (more : List ℕ → Written)
@@ -179,7 +179,7 @@ pub fn show_record<B: Board>(
     requires room { text.old.room ≡ 2 * PIECE }
     ensures room { text.new.room ≡ text.old.room }
     ensures advances { OnOk result ((more : List ℕ → Written)
-        → Advances (head_shown head.now.items more) more
+        → TextAdvances (head_shown head.now.items more) more
         (ahead feed.old (B.state board.old)) (ahead feed.new (B.state board.new))
         (B.state board.old) (B.state board.new)) }
     ensures quits { IfErr result (λ end. (more : List ℕ → Written)

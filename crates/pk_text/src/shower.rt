@@ -5,7 +5,7 @@ ghost use Rattle.pk_text.specs.declared.sizes.TheConstants.{PIECE};
 ghost use Rattle.pk_text.specs.Written.{most};
 ghost use Rattle.pk_text.specs.Records.{shown, shown_from};
 ghost use Rattle.pk_text.specs.Turns.{Turns, TurnsFrom};
-ghost use Rattle.pk_text.specs.Steps.{Advances, ahead};
+ghost use Rattle.pk_text.specs.Steps.{TextAdvances, ahead};
 
 use crate::TextEnd;
 use crate::feed::Feed;
@@ -59,7 +59,7 @@ impl Shower {
     // Takes a record and posts its line.
     fn show_next<B: Board>(&mut self, board: &mut B) -> Result<(), TextEnd>
         ensures advances { OnOk result ((taken : ℕ) → taken < most
-            → Advances (shown_from taken) (shown_from (suc taken))
+            → TextAdvances (shown_from taken) (shown_from (suc taken))
             (ahead self.old.feed (B.state board.old)) (ahead self.new.feed (B.state board.new))
             (B.state board.old) (B.state board.new)) }
         ensures quits { IfErr result (λ end. (taken : ℕ) → taken < most

@@ -34,7 +34,7 @@ use Rattle.pk_mirrorwords.specs.PairTasks.{PairTask, put, get, delete, list as l
 use Rattle.pk_top.specs.Words.{Word, make, serve, ask, assemble, show, word_of}
 use Rattle.pk_top.specs.PairWords.{for_pair, is_resync, pair_task_of}
 use Rattle.pk_top.proofs.Within.{short_within}
-use Rattle.pk_mirrorrun.specs.PairTold.{EitherUnread, left_by, text_by, KeptFirst, KeptSecond, PairFinished, PairEnds, most_roots, UsedRoots, PairTold}
+use Rattle.pk_mirrorrun.specs.PairTold.{EitherUnread, map_left_by, text_by, KeptFirst, KeptSecond, PairFinished, PairEnds, most_pair_roots, UsedRoots, PairTold}
 use Rattle.pk_top.specs.declared.asking.TheConstants.{WORD_FRAMES}
 use Rattle.pk_top.specs.Asks.{word_status}
 use Rattle.pk_top.specs.Ends.{open_status}
@@ -122,7 +122,7 @@ module _ (task : PairTask) (shape : Shape) (loaded new loaded' new' : BoardState
         subst (λ (s : Map). KeptFirst task (EitherUnread loaded new loaded' new') shape s flash posted) same kept
 
     pub AsksPair-told : (status : ℕ) (end : WordEnd) → status ≡ word_status end → PairTold task shape start other (behind_opening shape WORD_FRAMES loaded) new (behind_opening shape WORD_FRAMES loaded') new' end
-        → most_roots start other < 4611686018427387904 → AsksPair task shape loaded new loaded' new' status
+        → most_pair_roots start other < 4611686018427387904 → AsksPair task shape loaded new loaded' new' status
     AsksPair-told status end tells told few = record {
       kept = record {
         first = (
@@ -408,7 +408,7 @@ module _ (task : PairTask) (old new old' new' : BoardState) (status : ℕ) (shap
     (far : roots old < 4611686018427387904) (far' : roots old' < 4611686018427387904) (none : NoneRose old new) (none' : NoneRose old' new')
     (sound : Rose old.flash_faults new.flash_faults → ⊥) (sound' : Rose old'.flash_faults new'.flash_faults → ⊥) where
   abbrev IsDone : Type 0
-  IsDone = (status ≡ 0) × (new.posted ≡ longer old.posted (text_by shape task m)) × Holds shape new.pages (left_by shape task m) × Holds shape new'.pages (left_by shape task m)
+  IsDone = (status ≡ 0) × (new.posted ≡ longer old.posted (text_by shape task m)) × Holds shape new.pages (map_left_by shape task m) × Holds shape new'.pages (map_left_by shape task m)
 
   there : IsSome old.shape
   there = subst IsSome (sym has) refl
@@ -460,23 +460,23 @@ module _ (task : PairTask) (old new old' new' : BoardState) (status : ℕ) (shap
     same_start : (asked : Map) → Holds shape loaded.pages asked → asked ≡ m
     same_start asked holds = let h : ◌≡◌ {A = Result Map Refusal} (Ok asked) (Ok m) = sym holds ∙ holds_loaded in cc
 
-    not_worn_now : (asked_m asked_other : Map) → most_roots asked_m asked_other < 4611686018427387904 → UsedRoots asked_m asked_other loaded new → is_worn new ≡ true → ⊥
+    not_worn_now : (asked_m asked_other : Map) → most_pair_roots asked_m asked_other < 4611686018427387904 → UsedRoots asked_m asked_other loaded new → is_worn new ≡ true → ⊥
     not_worn_now asked_m asked_other few (inl stop) worn = none.stops (subst (λ (n : ℕ). Rose n new.stop_faults) (ap (λ (s : BoardState). s.stop_faults) found.rest) stop)
     not_worn_now asked_m asked_other few (inr used) worn =
-        worn_never (roots loaded) (roots new) (most_roots asked_m asked_other) worn used (subst (λ (n : ℕ). n < 4611686018427387904) roots_loaded far) few
+        worn_never (roots loaded) (roots new) (most_pair_roots asked_m asked_other) worn used (subst (λ (n : ℕ). n < 4611686018427387904) roots_loaded far) few
 
-    not_worn_now' : (asked_m asked_other : Map) → most_roots asked_m asked_other < 4611686018427387904 → UsedRoots asked_m asked_other loaded' new' → is_worn new' ≡ true → ⊥
+    not_worn_now' : (asked_m asked_other : Map) → most_pair_roots asked_m asked_other < 4611686018427387904 → UsedRoots asked_m asked_other loaded' new' → is_worn new' ≡ true → ⊥
     not_worn_now' asked_m asked_other few (inl stop) worn = none'.stops (subst (λ (n : ℕ). Rose n new'.stop_faults) (ap (λ (s : BoardState). s.stop_faults) found'.rest) stop)
     not_worn_now' asked_m asked_other few (inr used) worn =
-        worn_never (roots loaded') (roots new') (most_roots asked_m asked_other) worn used (subst (λ (n : ℕ). n < 4611686018427387904) roots_loaded' far') few
+        worn_never (roots loaded') (roots new') (most_pair_roots asked_m asked_other) worn used (subst (λ (n : ℕ). n < 4611686018427387904) roots_loaded' far') few
 
     done_by : (start : Map) → start ≡ m → status ≡ 0 → PairFinished task shape start (behind_opening shape WORD_FRAMES loaded) new (behind_opening shape WORD_FRAMES loaded') new' → IsDone
     done_by start same is f = elim f.says [
       | inl said ↦ (
         is,
         f.posted ∙ ap (λ (o : Option (List ℕ)). longer o f.text) (ap (λ (s : BoardState). s.posted) found.rest) ∙ ap (longer old.posted) (said.text_is ∙ ap (text_by shape task) same),
-        subst (λ (x : Map). Holds shape new.pages (left_by shape task x)) same said.first_holds,
-        subst (λ (x : Map). Holds shape new'.pages (left_by shape task x)) same said.second_holds,
+        subst (λ (x : Map). Holds shape new.pages (map_left_by shape task x)) same said.first_holds,
+        subst (λ (x : Map). Holds shape new'.pages (map_left_by shape task x)) same said.second_holds,
       )
       | inr (unread, line) ↦ absurd (elim unread [
         | inl rose ↦ none.reads (subst (λ (n : ℕ). Rose n new.read_faults) (ap (λ (s : BoardState). s.read_faults) found.rest) rose)

@@ -24,7 +24,7 @@ use Rattle.pk_nand.specs.Effects.{OnlyReading}
 use Rattle.pk_scan.specs.Opening.{NotOpened}
 use Rattle.pk_scan.specs.declared.errors.OpenError.{OpenError}
 use Rattle.pk_top.specs.Ends.{end_status, open_status}
-use Rattle.pk_top.specs.Serves.{KeptFrom, Serves, ServesAll, behind_opening}
+use Rattle.pk_top.specs.Serves.{KeptFrom, RunServes, ServesAll, behind_opening}
 use Rattle.pk_top.proofs.Completing.{all_not, servable_behind, complete_before}
 
 -- ---- a drive that was not opened
@@ -51,9 +51,9 @@ goes-none shape frames loaded new cs only =
       tt,
     )
 
-pub Serves-not : (shape : Shape) (frames : ℕ) (loaded new : BoardState) (status : ℕ) (error : OpenError) → status ≡ open_status error → NotOpened shape loaded new error → OnlyReading loaded new
-    → Serves shape frames loaded new status
-Serves-not shape frames loaded new status error tells reason only = record {
+pub RunServes-not : (shape : Shape) (frames : ℕ) (loaded new : BoardState) (status : ℕ) (error : OpenError) → status ≡ open_status error → NotOpened shape loaded new error → OnlyReading loaded new
+    → RunServes shape frames loaded new status
+RunServes-not shape frames loaded new status error tells reason only = record {
   kept = λ input told. goes-none shape frames loaded new (script input).0 only;
   kept_untold = ([], goes-none shape frames loaded new [] only);
   complete = all_not shape frames loaded new status error tells reason;
@@ -98,7 +98,7 @@ module _ (shape : Shape) (frames : ℕ) (loaded new : BoardState) (drive : Sight
       → Blames (behind_opening shape frames loaded) new end → SaysOfScript (behind_opening shape frames loaded) new end
       → KeepsScriptOf (behind_opening shape frames loaded) new drive → KeepsSomeOf (behind_opening shape frames loaded) new drive
       → Answers (behind_opening shape frames loaded) new drive end → Causes (behind_opening shape frames loaded) new drive end
-      → Completes (behind_opening shape frames loaded) new drive end → Serves shape frames loaded new status
+      → Completes (behind_opening shape frames loaded) new drive end → RunServes shape frames loaded new status
   serves-to status end tells blames says kept kept_untold served causes complete =
       let some = kept_untold shape frames start stands none in
       record {
@@ -119,12 +119,12 @@ module _ (shape : Shape) (frames : ℕ) (loaded new : BoardState) (drive : Sight
         );
       }
 
-pub Serves-opened : (shape : Shape) (frames : ℕ) (loaded opened_board new : BoardState) (drive : Sight) (status : ℕ) (end : End)
+pub RunServes-opened : (shape : Shape) (frames : ℕ) (loaded opened_board new : BoardState) (drive : Sight) (status : ℕ) (end : End)
     → opened_board ≡ behind_opening shape frames loaded → ((m : Map) × HoldsMap shape frames opened_board drive m) → drive.pending ≡ [] → status ≡ end_status end
     → Blames opened_board new end → SaysOfScript opened_board new end → KeepsScriptOf opened_board new drive → KeepsSomeOf opened_board new drive
     → Answers opened_board new drive end → Causes opened_board new drive end
-    → Completes opened_board new drive end → Serves shape frames loaded new status
-Serves-opened shape frames loaded opened_board new drive status end is stands none tells blames says kept kept_untold served causes complete =
+    → Completes opened_board new drive end → RunServes shape frames loaded new status
+RunServes-opened shape frames loaded opened_board new drive status end is stands none tells blames says kept kept_untold served causes complete =
     let T : BoardState → Type 0 = λ b. (m : Map) × HoldsMap shape frames b drive m in
     let B : BoardState → Type 0 = λ b. Blames b new end in
     let S : BoardState → Type 0 = λ b. SaysOfScript b new end in

@@ -17,7 +17,7 @@ use Rattle.pk_scan.specs.declared.errors.OpenError.{OpenError}
 use Rattle.pk_scan.specs.declared.errors.OpenError.TheVariants.{NotFormatted, Damaged, Fault as ReadFault, Memory as NoMemory}
 use Rattle.pk_top.specs.Ends.{end_status, open_status}
 use Rattle.pk_top.specs.Loads.{load_status, HasReason, LoadRefused}
-use Rattle.pk_top.specs.Serves.{ServeRun, Serves, behind_opening}
+use Rattle.pk_top.specs.Serves.{ServeRun, RunServes, behind_opening}
 use Rattle.pk_top.specs.Statuses.{GivesNothing, Untouched, FlashFailed, HasNoDrive, Tells}
 
 -- ---- one status each
@@ -180,7 +180,7 @@ module _ (shape : Shape) (old loaded new : BoardState) (found : Loaded old loade
   tells_end frames Flash blames = let T : ℕ → Type 0 = λ n. Rose n new.stop_faults in tells_flash old new 6 refl (inl (subst T (ap (λ (s : BoardState). s.stop_faults) found.rest) blames))
   tells_end frames Worn blames = tells_good old new 10 (inr (inr refl))
 
-  tells_serves : (frames status : ℕ) → Serves shape frames loaded new status → Tells old new status
+  tells_serves : (frames status : ℕ) → RunServes shape frames loaded new status → Tells old new status
   tells_serves frames status s = elim s.outcome [
     | inl n ↦ tells_not status n.error n.tells n.reason n.only_reads
     | inr e ↦ let T : ℕ → Type 0 = λ n. Tells old new n in subst T (sym e.1) (tells_end frames e.0 e.2.blames)
@@ -195,7 +195,7 @@ module _ (shape : Shape) (old loaded new : BoardState) (found : Loaded old loade
   end_memory Flash e = omega arith
   end_memory Worn e = omega arith
 
-  memory_serves : (frames status : ℕ) → Serves shape frames loaded new status → status ≡ 7 → Untouched old new
+  memory_serves : (frames status : ℕ) → RunServes shape frames loaded new status → status ≡ 7 → Untouched old new
   memory_serves frames status s is = elim s.outcome [
     | inl n ↦ wants_untouched n.error (sym n.tells ∙ is) n.reason
     | inr e ↦ absurd (end_memory e.0 (sym e.1 ∙ is))

@@ -7,7 +7,7 @@ use Rattle.pk_asm.specs.Words.{key_of}
 use Rattle.pk_words.specs.Question.{put, get, delete, has, stat}
 use Rattle.pk_wordrun.specs.Seen.{IsShortTask}
 use Rattle.pk_wordrun.specs.Tasks.{Task, list, generate}
-use Rattle.pk_top.specs.Words.{Word, make, serve, ask, question, assemble, show, make_if, make_of, serve_with, serve_of, put_with, put_of, only_key, list_of, alone, generate_of, plain_of, word_of}
+use Rattle.pk_top.specs.Words.{Word, make, serve, ask, question, assemble, show, make_if, make_of, serve_with, serve_of, put_with, put_of, only_key, list_word, alone, generate_of, plain_of, word_of}
 
 -- the frames of a word are not too many
 abbrev WordWithin : Word → Type 0
@@ -70,7 +70,7 @@ put-within (k ∷ []) = tt
 put-within (k ∷ b ∷ []) = within_bind (key_of k) _ (λ key. within_bind (bytes_of b) _ (λ bytes. put_with-within key bytes))
 put-within (k ∷ b ∷ x ∷ more) = tt
 
-list-within : (operands : List (List ℕ)) → Within (list_of operands)
+list-within : (operands : List (List ℕ)) → Within (list_word operands)
 list-within [] = tt
 list-within (k ∷ []) = within_map (λ key. ask (list (Some key))) (key_of k) (λ key. tt)
 list-within (k ∷ x ∷ more) = tt

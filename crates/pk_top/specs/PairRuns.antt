@@ -11,7 +11,7 @@ use Rattle.pk_model.specs.Wear.{is_worn, roots}
 use Rattle.pk_serve.specs.Complete.{NoneRose, far_below}
 use Rattle.pk_wordrun.specs.declared.end.WordEnd.{WordEnd}
 use Rattle.pk_mirrorwords.specs.PairTasks.{PairTask}
-use Rattle.pk_mirrorrun.specs.PairTold.{EitherUnread, left_by, text_by, KeptFirst, KeptSecond, PairEnds, UsedRoots, most_roots}
+use Rattle.pk_mirrorrun.specs.PairTold.{EitherUnread, map_left_by, text_by, KeptFirst, KeptSecond, PairEnds, UsedRoots, most_pair_roots}
 use Rattle.pk_top.specs.declared.status.TheConstants.Status.{DONE, OUTPUT, FLASH, MEMORY, NO_DRIVE, WORN}
 use Rattle.pk_top.specs.declared.asking.TheConstants.{WORD_FRAMES}
 use Rattle.pk_top.specs.Asks.{word_status}
@@ -40,7 +40,7 @@ pub record AskedPair (task : PairTask) (shape : Shape) (loaded new loaded' new' 
   pub ends : PairEnds task shape start (behind_opening shape WORD_FRAMES loaded) new (behind_opening shape WORD_FRAMES loaded') new' end
   pub first_used : UsedRoots start other loaded new
   pub second_used : UsedRoots start other loaded' new'
-  pub few : most_roots start other < far_below
+  pub few : most_pair_roots start other < far_below
 
 -- The first drive was not opened, and the second not tried; or the second was not.
 abbrev pub NotOpenedPair : Shape → BoardState → BoardState → BoardState → BoardState → ℕ → Type 0
@@ -123,5 +123,5 @@ PairWhole task old new old' new' status =
     (shape : Shape) (m other : Map) → old.shape ≡ Some shape → old'.shape ≡ Some shape → Holds shape old.pages m → Holds shape old'.pages other
     → roots old < far_below → roots old' < far_below → NoneRose old new → NoneRose old' new'
     → (Rose old.flash_faults new.flash_faults → ⊥) → (Rose old'.flash_faults new'.flash_faults → ⊥)
-    → ((status ≡ DONE.0) × (new.posted ≡ longer old.posted (text_by shape task m)) × Holds shape new.pages (left_by shape task m) × Holds shape new'.pages (left_by shape task m))
+    → ((status ≡ DONE.0) × (new.posted ≡ longer old.posted (text_by shape task m)) × Holds shape new.pages (map_left_by shape task m) × Holds shape new'.pages (map_left_by shape task m))
     ⊎ ((status ≡ MEMORY.0) × Untouched old new × Untouched old' new')

@@ -16,7 +16,7 @@ use Rattle.pk_serve.specs.Run.{ServedBy, ServedSome}
 use Rattle.pk_serve.specs.Complete.{IsServable, Complete}
 use Rattle.pk_serve.specs.Script.{Says}
 use Rattle.pk_serve.specs.declared.end.End.{End}
-use Rattle.pk_scan.specs.Reads.{opened}
+use Rattle.pk_scan.specs.Reads.{opening_reads}
 use Rattle.pk_scan.specs.Opening.{NotOpened}
 use Rattle.pk_nand.specs.Effects.{OnlyReading}
 use Rattle.pk_scan.specs.declared.errors.OpenError.{OpenError}
@@ -52,7 +52,7 @@ pub record NotServed (shape : Shape) (loaded new : BoardState) (status : ℕ) : 
 
 -- the board after the reads of opening
 abbrev pub behind_opening : Shape → ℕ → BoardState → BoardState
-behind_opening shape frames loaded = after_reads (opened shape loaded.pages frames) loaded
+behind_opening shape frames loaded = after_reads (opening_reads shape loaded.pages frames) loaded
 
 -- The drive was opened, and served its map to this end.
 pub record ServedTo (shape : Shape) (frames : ℕ) (loaded new : BoardState) (end : End) : Type 0 where
@@ -80,7 +80,7 @@ ServesWhole frames old new status = (shape : Shape) → old.shape ≡ Some shape
 -- ---- a run
 
 -- What was done on an image of this shape, from its load on.
-pub record Serves (shape : Shape) (frames : ℕ) (loaded new : BoardState) (status : ℕ) : Type 0 where
+pub record RunServes (shape : Shape) (frames : ℕ) (loaded new : BoardState) (status : ℕ) : Type 0 where
   pub kept : KeepsScript shape frames loaded new
   pub kept_untold : KeepsSome shape frames loaded new
   pub complete : ServesAll shape frames loaded new status
@@ -91,7 +91,7 @@ pub record ServesFound (frames : ℕ) (old new : BoardState) (status : ℕ) : Ty
   pub shape : Shape
   pub loaded : BoardState
   pub found : Loaded old loaded (Some shape)
-  pub serves : Serves shape frames loaded new status
+  pub serves : RunServes shape frames loaded new status
 
 -- Memory for the words was missing and nothing was done; or the load was refused; or it found no image; or it found one.
 abbrev pub ServeRun : ℕ → BoardState → BoardState → ℕ → Type 0

@@ -62,10 +62,10 @@ abbrev pub only_key : List (List ℕ) → Option (List ℕ)
 only_key (k ∷ []) = key_of k
 only_key _ = None
 
-abbrev pub list_of : List (List ℕ) → Option Word
-list_of [] = Some (ask (list None))
-list_of (k ∷ []) = option_map (λ key. ask (list (Some key))) (key_of k)
-list_of _ = None
+abbrev pub list_word : List (List ℕ) → Option Word
+list_word [] = Some (ask (list None))
+list_word (k ∷ []) = option_map (λ key. ask (list (Some key))) (key_of k)
+list_word _ = None
 
 -- a form of the name alone
 abbrev pub alone : Word → List (List ℕ) → Option Word
@@ -87,7 +87,7 @@ plain_of name operands =
     if bytes_eq name (codes "get") then option_map (λ key. question (get key)) (only_key operands) else
     if bytes_eq name (codes "del") then option_map (λ key. question (delete key)) (only_key operands) else
     if bytes_eq name (codes "has") then option_map (λ key. question (has key)) (only_key operands) else
-    if bytes_eq name (codes "list") then list_of operands else
+    if bytes_eq name (codes "list") then list_word operands else
     if bytes_eq name (codes "stat") then alone (question stat) operands else
     if bytes_eq name (codes "asm") then alone assemble operands else
     if bytes_eq name (codes "show") then alone show operands else

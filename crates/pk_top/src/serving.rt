@@ -2,7 +2,7 @@
 ghost use Rattle.std.specs.Prelude.{◌≡◌, ◌≤◌};
 ghost use Rattle.pk_nand.specs.Calls.{IsReady};
 ghost use Rattle.pk_top.specs.Ends.{end_status, open_status};
-ghost use Rattle.pk_top.specs.Serves.{ServeRun, Serves};
+ghost use Rattle.pk_top.specs.Serves.{ServeRun, RunServes};
 ghost use Rattle.pk_top.specs.Statuses.{Tells};
 ghost use Rattle.pk_top.specs.declared.words.TheConstants.{MOST_FRAMES};
 
@@ -44,7 +44,7 @@ pub fn of_open_error(error: OpenError) -> Status
 fn serve_image<B: Board>(alloc: Global, shape: Shape, frames: u32, board: &mut B) -> Status
     requires ready { IsReady (B.state board.old) shape }
     requires frames { frames ≤ MOST_FRAMES }
-    ensures { Serves shape frames (B.state board.old) (B.state board.new) result.0 }
+    ensures { RunServes shape frames (B.state board.old) (B.state board.new) result.0 }
 {
     let Ok(mut server) = Server::new(alloc, shape) else {
         return Status::MEMORY;

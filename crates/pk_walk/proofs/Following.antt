@@ -23,7 +23,7 @@ use Rattle.pk_run.proofs.Lookups.{first_is, page_starts, holds_piece, no_leases}
 use Rattle.pk_walk.specs.declared.position.Position.{Position}
 use Rattle.pk_walk.specs.declared.position.Position.TheVariants.{Above}
 use Rattle.pk_walk.specs.Visible.{is_wanted, wanted, WantsFrom}
-use Rattle.pk_walk.specs.Heads.{Head, IsNext, behind, held}
+use Rattle.pk_walk.specs.Heads.{Head, IsNext, head_after, held}
 use Rattle.pk_walk.specs.Walking.{Cursor, Follows, HasPassed, Reads, ReadsAll, at_start, read_of}
 use Rattle.pk_walk.specs.Steps.{MayLoad, StaysAt, bytes_in, seen_bytes}
 use Rattle.pk_model.proofs.MapLemmas.{key_antisymm}
@@ -191,7 +191,7 @@ stays_failed flash r c d p is same before kept = record {
 
 -- fewer keys are wanted
 above_held : (position : Position) (key : Key) (es : List Entry) (n : ℕ) (h : Head) → T (is_wanted position key) → ((e : Entry) → h ≡ Some (Some e) → key_cmp e.0 key ≡ Less → ⊥)
-    → wanted (is_wanted position) es ≡ held h ++ wanted (is_wanted position) (drop n es) → wanted (is_wanted (Above key)) es ≡ held (behind key h) ++ wanted (is_wanted (Above key)) (drop n es)
+    → wanted (is_wanted position) es ≡ held h ++ wanted (is_wanted position) (drop n es) → wanted (is_wanted (Above key)) es ≡ held (head_after key h) ++ wanted (is_wanted (Above key)) (drop n es)
 above_held position key es n None one high left = narrowed_behind (is_wanted (Above key)) (is_wanted position) es n (above_is_narrower position key one) left
 above_held position key es n (Some None) one high left = narrowed_behind (is_wanted (Above key)) (is_wanted position) es n (above_is_narrower position key one) left
 above_held position key es n (Some (Some e)) one high left =
@@ -206,7 +206,7 @@ above_held position key es n (Some (Some e)) one high left =
       | Greater ↦ λ p. ap (λ (xs : List Entry). e ∷ xs) rest
     ] refl
 
-behind_ended : (key : Key) (h : Head) → behind key h ≡ Some None → h ≡ Some None
+behind_ended : (key : Key) (h : Head) → head_after key h ≡ Some None → h ≡ Some None
 behind_ended key None e = cc
 behind_ended key (Some None) e = refl
 behind_ended key (Some (Some x)) e = absurd (neither (is_eq (key_cmp x.0 key)) e)
@@ -216,7 +216,7 @@ behind_ended key (Some (Some x)) e = absurd (neither (is_eq (key_cmp x.0 key)) e
     neither false e = cc
 
 -- what is next stays so
-next_behind : (position : Position) (key : Key) (h : Head) (e : Entry) → is_some h ≡ true → IsNext position h e → IsNext (Above key) (behind key h) e
+next_behind : (position : Position) (key : Key) (h : Head) (e : Entry) → is_some h ≡ true → IsNext position h e → IsNext (Above key) (head_after key h) e
 next_behind position key None e known next = cc
 next_behind position key (Some None) e known next = tt
 next_behind position key (Some (Some x)) e known next =
@@ -230,7 +230,7 @@ next_behind position key (Some (Some x)) e known next =
     above_it low = subst (λ (o : Ordering). T (is_gt o)) (sym (turned key e.0 Less low)) tt
 
 pub Follows-above : (flash : Flash) (r : Kept) (es : List Entry) (position : Position) (c : Cursor) → Follows flash r es position c → (key : Key) → T (is_wanted position key)
-    → ((e : Entry) → c.head ≡ Some (Some e) → key_cmp e.0 key ≡ Less → ⊥) → is_some c.head ≡ true → Follows flash r es (Above key) (record c { head = behind key c.head })
+    → ((e : Entry) → c.head ≡ Some (Some e) → key_cmp e.0 key ≡ Less → ⊥) → is_some c.head ≡ true → Follows flash r es (Above key) (record c { head = head_after key c.head })
 Follows-above flash r es position c f key one high known = record {
   pages = f.pages;
   behind = f.behind;

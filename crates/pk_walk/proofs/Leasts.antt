@@ -9,7 +9,7 @@ use Rattle.pk_base.specs.Key.{Key, key_cmp}
 use Rattle.pk_base.specs.Entry.{Entry}
 use Rattle.pk_model.proofs.MapLemmas.{key_total, key_antisymm}
 use Rattle.pk_walk.specs.Visible.{lesser}
-use Rattle.pk_walk.specs.Heads.{Head, behind, entry_in, least_of, let_go, order_of}
+use Rattle.pk_walk.specs.Heads.{Head, head_after, entry_in, least_of, let_go, order_of}
 use Rattle.pk_walk.proofs.Merging.{turned}
 
 -- ---- the lesser of two
@@ -55,7 +55,7 @@ least_more (x ∷ hs) h = ap (lesser (entry_in x)) (least_more hs h) ∙ sym (le
 
 abbrev pub Goes : Option Entry → Head → Head → Type 0
 Goes None h k = k ≡ h
-Goes (Some e) h k = k ≡ behind e.0 h
+Goes (Some e) h k = k ≡ head_after e.0 h
 
 abbrev pub GoEach : Option Entry → List Head → List Head → Type 0
 GoEach a [] [] = ⊤
@@ -74,7 +74,7 @@ pub record Takes (hs ks : List Head) (a : Option Entry) : Type 0 where
   pub least : a ≡ least_of hs
   pub go : GoEach a hs ks
 
-itself : (e : Entry) → None ≡ behind e.0 (Some (Some e))
+itself : (e : Entry) → None ≡ head_after e.0 (Some (Some e))
 itself e = sym (ap (λ (o : Ordering). if is_eq o then None else Some (Some e)) (tied_itself key_total e.0))
 
 taken : (h : Head) → Goes (entry_in h) h (let_go h)
@@ -96,7 +96,7 @@ above_both (Some x) (Some y) e gt =
       | Greater ↦ λ p gt. (turned e.0 x.0 Less (key_total.trans e.0 y.0 x.0 (turned y.0 e.0 Greater gt) (turned x.0 y.0 Greater p)), gt)
     ] refl gt
 
-stays : (h : Head) (e : Entry) → order_of (entry_in h) (Some e) ≡ Greater → h ≡ behind e.0 h
+stays : (h : Head) (e : Entry) → order_of (entry_in h) (Some e) ≡ Greater → h ≡ head_after e.0 h
 stays None e gt = refl
 stays (Some None) e gt = refl
 stays (Some (Some y)) e gt = sym (ap (λ (o : Ordering). if is_eq o then None else Some (Some y)) gt)
@@ -126,7 +126,7 @@ take_last hs h o is gt = record {
     others (Some None) gt = absurd (never (least_of hs) gt)
     others (Some (Some e)) gt = all_stay hs e gt
 
-less_or_equal : (o : Ordering) (h : Head) (y e : Entry) → key_cmp e.0 y.0 ≡ o → is_gt o ≡ false → (if is_eq o then None else Some (Some y)) ≡ behind e.0 (Some (Some y))
+less_or_equal : (o : Ordering) (h : Head) (y e : Entry) → key_cmp e.0 y.0 ≡ o → is_gt o ≡ false → (if is_eq o then None else Some (Some y)) ≡ head_after e.0 (Some (Some y))
 less_or_equal Less h y e is not_gt = sym (ap (λ (p : Ordering). if is_eq p then None else Some (Some y)) (turned e.0 y.0 Less is))
 less_or_equal Equal h y e is not_gt = sym (ap (λ (p : Ordering). if is_eq p then None else Some (Some y)) (turned e.0 y.0 Equal is))
 less_or_equal Greater h y e is not_gt = cc

@@ -20,7 +20,7 @@ use Rattle.pk_walk.specs.declared.position.Position.{Position}
 use Rattle.pk_walk.specs.Visible.{is_wanted, wanted}
 use Rattle.pk_walk.specs.Heads.{Head, IsNext, held}
 use Rattle.pk_walk.specs.Walking.{Cursor, Follows}
-use Rattle.pk_walk.specs.Steps.{HasPage, IsFirstWanted, Moves, bytes_in}
+use Rattle.pk_walk.specs.Steps.{HasPage, IsFirstWanted, CursorMoves, bytes_in}
 use Rattle.pk_walk.proofs.Wanting.{passed_by}
 use Rattle.pk_walk.proofs.Following.{entries_some, entry_within, get_taken, get_dropped, holds, not_ended, sought_left}
 
@@ -117,7 +117,7 @@ module _ (r : Kept) (flash : Flash) (arena : Frames) (es : List Entry) (is : IsS
 
   -- ---- a move in the page
 
-  module _ (position : Position) (d : Cursor) (found : Bool) (m : Moves position (bytes_in r arena c) c d found) where
+  module _ (position : Position) (d : Cursor) (found : Bool) (m : CursorMoves position (bytes_in r arena c) c d found) where
     -- as the run has it
     first : IsFirstWanted position (bytes_in r arena c) (c.place % size) m.to
     first = subst (λ (g : Shape). IsFirstWanted position (bytes_in r arena c) (c.place % page_entries g) m.to) at.shape m.first
@@ -229,7 +229,7 @@ module _ (r : Kept) (flash : Flash) (arena : Frames) (es : List Entry) (is : IsS
 -- ---- as the cursor goes there
 
 pub moves_to : (position : Position) (page : List ℕ) (b : Cursor) (n to count : ℕ) → n ≡ page_entries b.shape → IsFirstWanted position page (b.place % page_entries b.shape) to → count ≡ number_at 2 10 page
-    → Moves position page b (record b { place = b.place - b.place % n + to }) (nat_lt to count)
+    → CursorMoves position page b (record b { place = b.place - b.place % n + to }) (nat_lt to count)
 moves_to position page b n to count size first is = record {
   to = to;
   first = first;

@@ -16,7 +16,7 @@ use Rattle.pk_level.proofs.Looking.{reads_more}
 use Rattle.pk_walk.specs.declared.position.Position.{Position}
 use Rattle.pk_walk.specs.Visible.{is_wanted, wanted, first_of}
 use Rattle.pk_walk.specs.Walking.{Cursor, Follows, HasPassed, Reads, ReadsAll, ReadsFail, SkipsNoPage, read_of}
-use Rattle.pk_walk.specs.Steps.{FailsToShow, FindsIn, GoesOn, IsAt, Looks, Moves, StaysAt, bytes_in}
+use Rattle.pk_walk.specs.Steps.{FailsToShow, FindsIn, GoesOn, IsAt, CursorLooks, CursorMoves, StaysAt, bytes_in}
 use Rattle.pk_walk.proofs.Wanting.{first_here, none_here}
 use Rattle.pk_walk.proofs.Following.{HasPassed-kept, all_come, sought_left}
 use Rattle.pk_walk.proofs.Moving.{AtPage, entry_here, found_at, found_wanted, moved_follows, moved_left, moved_sought, moved_within}
@@ -111,7 +111,7 @@ module _ (r : Kept) (arena : Frames) (position : Position) (old : BoardState) (f
     Seeking-end es s past = none_here (is_wanted position) es c.place (omega (arith, s.many, past)) (any_left es s)
 
     -- a page was looked at, and the cursor has its bytes
-    pub Seeking-looked : (next : BoardState) (d : Cursor) → StaysAt now.pages r c d → Looks r arena now next c d → Seeking r arena position old next first d
+    pub Seeking-looked : (next : BoardState) (d : Cursor) → StaysAt now.pages r c d → CursorLooks r arena now next c d → Seeking r arena position old next first d
     Seeking-looked next d stays looks = record {
       es = at.es;
       stands = at.stands;
@@ -126,7 +126,7 @@ module _ (r : Kept) (arena : Frames) (position : Position) (old : BoardState) (f
     }
 
     -- it is the page of its place
-    pub looked_page : (next : BoardState) (d : Cursor) → first.shape ≡ r.shape → c.place < r.count → StaysAt now.pages r c d → Looks r arena now next c d → AtPage r old.pages arena d
+    pub looked_page : (next : BoardState) (d : Cursor) → first.shape ≡ r.shape → c.place < r.count → StaysAt now.pages r c d → CursorLooks r arena now next c d → AtPage r old.pages arena d
     looked_page next d same inside stays looks =
         let place : c.place ≡ d.place = sym (ap (λ (x : Cursor). x.place) stays.place) in
         record {
@@ -177,7 +177,7 @@ module _ (r : Kept) (arena : Frames) (position : Position) (old : BoardState) (f
     }
 
     -- the cursor has the page of its place, and goes on in it
-    module _ (is : IsShape r.shape) (kept : IsKept r) (here : AtPage r old.pages arena c) (d : Cursor) (found : Bool) (m : Moves position (bytes_in r arena c) c d found) where
+    module _ (is : IsShape r.shape) (kept : IsKept r) (here : AtPage r old.pages arena c) (d : Cursor) (found : Bool) (m : CursorMoves position (bytes_in r arena c) c d found) where
       same_loaded : c.loaded ≡ d.loaded
       same_loaded = sym (ap (λ (x : Cursor). x.loaded) m.cursor)
 

@@ -25,8 +25,8 @@ use Rattle.pk_model.proofs.Lookups.{firsts_sorted}
 use Rattle.pk_walk.specs.declared.position.Position.{Position}
 use Rattle.pk_walk.specs.declared.position.Position.TheVariants.{First, Above}
 use Rattle.pk_walk.specs.Visible.{visible, behind_found, is_wanted, wanted, first_of, lesser, least_first}
-use Rattle.pk_walk.specs.Heads.{Head, Shows, behind, entry_in, held, known_as, least_of, order_of}
-use Rattle.pk_walk.specs.Walking.{Cursor, Tops, Walk, IsWalk, AreOfShape, FollowEach, ShowBoth, cursors_behind, none_known, tops_behind, HasPassed, IsLeft, Gives, Passes, Reads, ReadsAll, ReadsFail, SkipsNoPage, SkipsNone, all_left, all_at_start, read_of, pages_read, most_read}
+use Rattle.pk_walk.specs.Heads.{Head, Shows, head_after, entry_in, held, known_as, least_of, order_of}
+use Rattle.pk_walk.specs.Walking.{Cursor, Tops, Walk, IsWalk, AreOfShape, FollowEach, ShowBoth, cursors_behind, none_known, tops_behind, HasPassed, IsLeft, WalkGives, Passes, Reads, ReadsAll, ReadsFail, SkipsNoPage, SkipsNone, all_left, all_at_start, read_of, pages_read, most_read}
 use Rattle.pk_walk.specs.Steps.{AreKnown, Comes, GoBehind, GoOn, HasNone, IsKnown, ShowsEach, WalksOn, first_left, heads_in, heads_of}
 use Rattle.pk_walk.proofs.Merging.{EachSorted, first_of_lists}
 use Rattle.pk_walk.proofs.Wanting.{above_is_narrower, behind_first, first_wanted, narrowed, none_here, none_wanted, placed_wanted}
@@ -154,7 +154,7 @@ no_entry : (e : Entry) → ◌≡◌ {A = Option Entry} None (Some e) → ⊥
 no_entry e is = cc
 
 -- what is known of a buffer stays right
-step_shows : (position : Position) (key : Key) (es : List Entry) (h : Head) → T (is_wanted position key) → NotBelow key (entry_in h) → Shows es position h → Shows es (Above key) (behind key h)
+step_shows : (position : Position) (key : Key) (es : List Entry) (h : Head) → T (is_wanted position key) → NotBelow key (entry_in h) → Shows es position h → Shows es (Above key) (head_after key h)
 step_shows position key es None one low shows = tt
 step_shows position key es (Some None) one low shows =
     let v : Key → Bool = is_wanted (Above key) in
@@ -466,18 +466,18 @@ module _ (rs : List Kept) (arena : Frames) (active frozen : List Entry) (shape :
         → ((ess : List (List Entry)) → RunsOnFlash now.pages arena rs ess → Passes (Some e) (all_left w.position (active ∷ frozen ∷ ess)) (all_left v.position (active ∷ frozen ∷ ess)))
         → ((ess : List (List Entry)) → RunsOnFlash now.pages arena rs ess → FollowEach now.pages rs ess v.position v.cursors × ShowBoth active frozen v.position v.tops)
         → (rest : List (Key × Place)) → IsLeft first old.pages arena rs active frozen rest
-        → (later : List (Key × Place)) × Gives (Some e) rest later × IsLeft v next.pages arena rs active frozen later
+        → (later : List (Key × Place)) × WalkGives (Some e) rest later × IsLeft v next.pages arena rs active frozen later
     Walking-gives next v e there pages passes follow rest left = (
       placed (all_left v.position lists),
-      subst (λ (xs : List (Key × Place)). Gives (Some e) xs (placed (all_left v.position lists))) (sym (rest_is rest left)) (given (all_left w.position lists) (all_left v.position lists) (passes at.ess stand_now)),
+      subst (λ (xs : List (Key × Place)). WalkGives (Some e) xs (placed (all_left v.position lists))) (sym (rest_is rest left)) (given (all_left w.position lists) (all_left v.position lists) (passes at.ess stand_now)),
       left_next next v pages (follow at.ess stand_now),
     )
       where
-        given_one : (x : Entry) → is_some x.1 ≡ true → seen e ≡ x → (xs ys : List Entry) → ys ≡ xs → Gives (Some e) (placed (x ∷ xs)) (placed ys)
+        given_one : (x : Entry) → is_some x.1 ≡ true → seen e ≡ x → (xs ys : List Entry) → ys ≡ xs → WalkGives (Some e) (placed (x ∷ xs)) (placed ys)
         given_one (key, Some place) some is xs ys same = (is, ap placed same)
         given_one (key, None) none is xs ys same = cc
 
-        given : (xs ys : List Entry) → Passes (Some e) xs ys → Gives (Some e) (placed xs) (placed ys)
+        given : (xs ys : List Entry) → Passes (Some e) xs ys → WalkGives (Some e) (placed xs) (placed ys)
         given [] ys p = cc
         given (x ∷ xs) ys p = given_one x (ap (λ (y : Entry). is_some y.1) (sym p.0) ∙ there) p.0 xs ys p.1
 
@@ -486,14 +486,14 @@ module _ (rs : List Kept) (arena : Frames) (active frozen : List Entry) (shape :
         → ((ess : List (List Entry)) → RunsOnFlash now.pages arena rs ess → Passes None (all_left w.position (active ∷ frozen ∷ ess)) (all_left v.position (active ∷ frozen ∷ ess)))
         → ((ess : List (List Entry)) → RunsOnFlash now.pages arena rs ess → FollowEach now.pages rs ess v.position v.cursors × ShowBoth active frozen v.position v.tops)
         → (rest : List (Key × Place)) → IsLeft first old.pages arena rs active frozen rest
-        → (later : List (Key × Place)) × Gives None rest later × IsLeft v next.pages arena rs active frozen later
+        → (later : List (Key × Place)) × WalkGives None rest later × IsLeft v next.pages arena rs active frozen later
     Walking-ends next v pages passes follow rest left = (
       placed (all_left v.position lists),
-      subst (λ (xs : List (Key × Place)). Gives None xs (placed (all_left v.position lists))) (sym (rest_is rest left)) (ended (all_left w.position lists) (all_left v.position lists) (passes at.ess stand_now)),
+      subst (λ (xs : List (Key × Place)). WalkGives None xs (placed (all_left v.position lists))) (sym (rest_is rest left)) (ended (all_left w.position lists) (all_left v.position lists) (passes at.ess stand_now)),
       left_next next v pages (follow at.ess stand_now),
     )
       where
-        ended : (xs ys : List Entry) → Passes None xs ys → Gives None (placed xs) (placed ys)
+        ended : (xs ys : List Entry) → Passes None xs ys → WalkGives None (placed xs) (placed ys)
         ended [] ys p = (refl, ap placed p.1)
         ended (x ∷ xs) ys p = absurd p
 

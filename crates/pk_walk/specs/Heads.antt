@@ -44,10 +44,10 @@ let_go (Some None) = Some None
 let_go (Some (Some e)) = None
 
 -- and if the walk moves past a key that is not above it
-abbrev pub behind : Key → Head → Head
-behind key None = None
-behind key (Some None) = Some None
-behind key (Some (Some e)) = if is_eq (key_cmp e.0 key) then None else Some (Some e)
+abbrev pub head_after : Key → Head → Head
+head_after key None = None
+head_after key (Some None) = Some None
+head_after key (Some (Some e)) = if is_eq (key_cmp e.0 key) then None else Some (Some e)
 
 -- what is known is right
 abbrev pub Shows : List Entry → Position → Head → Type 0

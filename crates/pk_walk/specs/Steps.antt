@@ -68,7 +68,7 @@ pub record StaysAt (flash : Flash) (r : Kept) (c d : Cursor) : Type 0 where
   pub follows : (es : List Entry) (position : Position) → Follows flash r es position c → Follows flash r es position d
 
 -- The cursor has the page of its place; it was read at most once, and exactly once if none was skipped.
-pub record Looks (r : Kept) (arena : Frames) (old new : BoardState) (c d : Cursor) : Type 0 where
+pub record CursorLooks (r : Kept) (arena : Frames) (old new : BoardState) (c d : Cursor) : Type 0 where
   pub page : page_at old.pages (page_of r (c.place / page_entries r.shape)) ≡ whole (bytes_in r arena d)
   pub loaded : d.loaded ≡ suc (c.place / page_entries r.shape)
   pub here : d.place < d.loaded * page_entries d.shape
@@ -88,7 +88,7 @@ pub record IsFirstWanted (position : Position) (page : List ℕ) (from place : �
   pub at : place < number_at 2 10 page → is_wanted position (cell_key (cell_at (HEAD_BYTES + ENTRY_BYTES * place) page)) ≡ true
 
 -- The cursor went on in its page, of these bytes, to the first wanted entry from its place on, or, if none was found, past the last.
-pub record Moves (position : Position) (page : List ℕ) (c d : Cursor) (found : Bool) : Type 0 where
+pub record CursorMoves (position : Position) (page : List ℕ) (c d : Cursor) (found : Bool) : Type 0 where
   pub to : ℕ
   pub first : IsFirstWanted position page (c.place % page_entries c.shape) to
   pub cursor : d ≡ record c { place = c.place - c.place % page_entries c.shape + to }

@@ -16,7 +16,7 @@ use Rattle.pk_run.specs.Kept.{Kept, page_of}
 use Rattle.pk_level.specs.Levels.{RunsOnFlash}
 use Rattle.pk_walk.specs.Visible.{visible, is_wanted, wanted}
 use Rattle.pk_walk.specs.declared.buffers.Tops.{Tops as RustTops}
-use Rattle.pk_walk.specs.Heads.{Head, IsNext, Shows, behind, held, seen_head}
+use Rattle.pk_walk.specs.Heads.{Head, IsNext, Shows, head_after, held, seen_head}
 use Rattle.pk_walk.specs.declared.position.Position.{Position}
 use Rattle.pk_walk.specs.declared.position.Position.TheVariants.{First, From, Above}
 
@@ -42,7 +42,7 @@ all_at_start (c ∷ cs) = at_start c ∷ all_at_start cs
 -- if the walk moves past a key that is not above what the cursors have
 abbrev pub cursors_behind : Key → List Cursor → List Cursor
 cursors_behind key [] = []
-cursors_behind key (c ∷ cs) = record c { head = behind key c.head } ∷ cursors_behind key cs
+cursors_behind key (c ∷ cs) = record c { head = head_after key c.head } ∷ cursors_behind key cs
 
 -- what is known of the first wanted entries of the two write buffers
 pub record Tops : Type 0 where
@@ -59,7 +59,7 @@ none_known = record { active = None; frozen = None }
 
 -- if the walk moves past a key that is not above them
 abbrev pub tops_behind : Key → Tops → Tops
-tops_behind key t = record { active = behind key t.active; frozen = behind key t.frozen }
+tops_behind key t = record { active = head_after key t.active; frozen = head_after key t.frozen }
 
 -- the keys that were returned are before a position; the write buffers, and a cursor in each of the four runs
 pub record Walk : Type 0 where
@@ -74,8 +74,8 @@ first_position None = First
 first_position (Some key) = From key
 
 -- at the start of a walk from this position
-abbrev pub begun : Walk → Position → Walk
-begun w position = record w { position = position; tops = none_known; cursors = all_at_start w.cursors }
+abbrev pub walk_begun : Walk → Position → Walk
+walk_begun w position = record w { position = position; tops = none_known; cursors = all_at_start w.cursors }
 
 -- each cursor is for runs of this shape
 abbrev pub AreOfShape : Shape → List Cursor → Type 0
@@ -138,10 +138,10 @@ pub record IsLeft (w : Walk) (flash : Flash) (arena : Frames) (runs : List Kept)
   pub is : rest ≡ wanted (is_wanted w.position) (visible (active ∷ frozen ∷ ess))
 
 -- the first of them was answered, or that there is none; and these remain
-abbrev pub Gives : Option RustEntry → List (Key × Place) → List (Key × Place) → Type 0
-Gives found [] later = (found ≡ None) × (later ≡ [])
-Gives None (x ∷ rest) later = ⊥
-Gives (Some e) (x ∷ rest) later = (entry e ≡ put_entry x.0 x.1) × (later ≡ rest)
+abbrev pub WalkGives : Option RustEntry → List (Key × Place) → List (Key × Place) → Type 0
+WalkGives found [] later = (found ≡ None) × (later ≡ [])
+WalkGives None (x ∷ rest) later = ⊥
+WalkGives (Some e) (x ∷ rest) later = (entry e ≡ put_entry x.0 x.1) × (later ≡ rest)
 
 -- ---- reads
 

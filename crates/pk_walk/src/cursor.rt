@@ -14,7 +14,7 @@ ghost use Rattle.pk_run.specs.Kept.{RunOnFlash, page_of};
 ghost use Rattle.pk_walk.specs.declared.position.Position.{Position as PositionSpec};
 ghost use Rattle.pk_walk.specs.Heads.{entry_in, let_go, seen_head};
 ghost use Rattle.pk_walk.specs.Visible.{behind_found};
-ghost use Rattle.pk_walk.specs.Steps.{FailsToLoad, FailsToShow, HasPage, IsFirstWanted, Loads, Looks, MayLoad, Moves, StaysAt, bytes_in, holding};
+ghost use Rattle.pk_walk.specs.Steps.{FailsToLoad, FailsToShow, HasPage, IsFirstWanted, Loads, CursorLooks, MayLoad, CursorMoves, StaysAt, bytes_in, holding};
 ghost use Rattle.pk_walk.specs.Walking.{Follows, HasPassed, SkipsNoPage, at_start};
 
 use crate::begin::begins_at;
@@ -251,7 +251,7 @@ impl<A: Allocator> Cursor<A> {
         requires exists { self.old.place < run.now.count }
 
         // The page of the place.
-        ensures looks { OnOk result (Looks run.now arena.now (B.state board.old)
+        ensures looks { OnOk result (CursorLooks run.now arena.now (B.state board.old)
             (B.state board.new) self.old self.new) }
 
         // The cursor stays at its place in any case, and only a read fails.
@@ -309,7 +309,7 @@ impl<A: Allocator> Cursor<A> {
         requires page { HasPage run.now arena.now self.old }
         requires fits { self.old.place - self.old.place % page_entries self.old.shape
             + number_at 2 10 (bytes_in run.now arena.now self.old) < 4294967296 }
-        ensures { Moves position.now (bytes_in run.now arena.now self.old) self.old self.new
+        ensures { CursorMoves position.now (bytes_in run.now arena.now self.old) self.old self.new
             result }
     {
         let before = self.place % self.shape.entries();

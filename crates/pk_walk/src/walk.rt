@@ -13,7 +13,7 @@ ghost use Rattle.pk_level.specs.Levels.{RunsOnFlash};
 ghost use Rattle.pk_walk.specs.declared.position.Position.TheVariants.{First};
 ghost use Rattle.pk_walk.specs.Steps.{AreKnown, Comes, GoOn, ShowsEach, WalksOn};
 ghost use Rattle.pk_walk.specs.Visible.{is_wanted, visible, wanted};
-ghost use Rattle.pk_walk.specs.Walking.{FollowEach, Gives, IsLeft, IsWalk, Reads, ReadsAll, ReadsFail, ShowBoth, SkipsNone, AreOfShape, begun, first_position, most_read, pages_read, seen_tops};
+ghost use Rattle.pk_walk.specs.Walking.{FollowEach, WalkGives, IsLeft, IsWalk, Reads, ReadsAll, ReadsFail, ShowBoth, SkipsNone, AreOfShape, walk_begun, first_position, most_read, pages_read, seen_tops};
 
 use crate::buffers::Tops;
 use crate::cursors::Cursors;
@@ -77,7 +77,7 @@ impl<A: Region> Walk<A> {
     /// A walk that is at the first key of all. All its memory is taken here: the bytes of four pages.
     pub fn new(alloc: A, shape: Shape) -> Result<Walk<A>, AllocError>
         ensures shape { IfOk result (λ w. w.shape ≡ shape) }
-        ensures begun { IfOk result (λ w. w ≡ begun w First) }
+        ensures walk_begun { IfOk result (λ w. w ≡ walk_begun w First) }
         ensures left { IfOk result (λ w. (flash : Flash) (arena : Frames) (runs : List Kept)
             (active frozen : List EntrySpec) (ess : List (List EntrySpec))
             → RunsOnFlash flash arena runs ess
@@ -105,7 +105,7 @@ impl<A: Region> Walk<A> {
 
     /// Begins a walk at the first key that is not below this one, or at the first of all.
     pub fn start(&mut self, from: Option<&Key>)
-        ensures begun { self.new ≡ begun self.old (first_position (option_copied from.entry)) }
+        ensures walk_begun { self.new ≡ walk_begun self.old (first_position (option_copied from.entry)) }
         ensures left { (flash : Flash) (arena : Frames) (runs : List Kept)
             (active frozen : List EntrySpec) (ess : List (List EntrySpec))
             → RunsOnFlash flash arena runs ess
@@ -213,7 +213,7 @@ impl<A: Region> Walk<A> {
         // The next key that is there.
         ensures gives { IfOk result (λ found. (rest : List (KeySpec × Place))
             → IsLeft self.old (B.state board.old).pages arena.now levels.now.runs active.now.entries
-            frozen.now.entries rest → (later : List (KeySpec × Place)) × Gives found rest later
+            frozen.now.entries rest → (later : List (KeySpec × Place)) × WalkGives found rest later
             × IsLeft self.new (B.state board.new).pages arena.now levels.now.runs active.now.entries
             frozen.now.entries later) }
 

@@ -25,7 +25,7 @@ use Rattle.pk_host.proofs.PageLemmas.{next_page}
 use Rattle.pk_host.proofs.CommandLemmas.{keyed_fault, exist_by}
 use Rattle.pk_words.specs.declared.listing.ListPosition.TheVariants.{From, After}
 use Rattle.pk_words.specs.Lines.{key_line, key_lines, status_line, failed_line}
-use Rattle.pk_words.specs.Listing.{IsText, keys_left, behind, pieces_left, Continues, Ends}
+use Rattle.pk_words.specs.Listing.{IsText, keys_left, position_after, pieces_left, Continues, ListEnds}
 use Rattle.pk_words.proofs.RankLemmas.{after_first, after_key}
 
 -- ---- keys that are not below a key: the key itself, if it exists, and those above it
@@ -125,7 +125,7 @@ none_below [] h = refl
 none_below ([] ∷ ks) h = absurd (let some = h.0.some in omega (arith, some))
 none_below ((x ∷ k) ∷ ks) h = ap (λ (xs : List Key). (x ∷ k) ∷ xs) (none_below ks h.1)
 
-pub left_behind : (p : PortState) (o : Option Key) (m : Map) → TellsKeys p → p.map ≡ Some m → keys_left (behind o) m ≡ above (key_or_none o) (keys m)
+pub left_behind : (p : PortState) (o : Option Key) (m : Map) → TellsKeys p → p.map ≡ Some m → keys_left (position_after o) m ≡ above (key_or_none o) (keys m)
 left_behind p None m known told = none_below (keys m) (known m told)
 left_behind p (Some key) m known told = refl
 
@@ -145,7 +145,7 @@ parts [] some = absurd (omega (arith, some))
 parts (x ∷ xs) some = snoc_of x xs
 
 pub falls_behind : (o : Option Key) (page : List Key) (p : Key) → 0 < length page → p ≡ slice_index_or page (length page - 1) [] → IsText p → ((k : Key) → o ≡ Some k → IsText k)
-    → AllByRecursion (IsBelow (key_or_none o)) page → pieces_left (After p) < pieces_left (behind o)
+    → AllByRecursion (IsBelow (key_or_none o)) page → pieces_left (After p) < pieces_left (position_after o)
 falls_behind None page p some last is_text text above_all_of = after_first p
 falls_behind (Some k) page p some last is_text text higher =
     let (front, q, e) = parts page some in
@@ -154,7 +154,7 @@ falls_behind (Some k) page p some last is_text text higher =
     after_key k p (text k refl) is_text (subst (IsBelow k) same below)
 
 pub says_page : (old : PortState) (o : Option Key) (page : List Key) (p : Key) (text : List ℕ) → 0 < length page → p ≡ slice_index_or page (length page - 1) [] → IsText p
-    → ((k : Key) → o ≡ Some k → IsText k) → AllByRecursion (IsBelow (key_or_none o)) page → Pages old (key_or_none o) page → TellsKeys old → text ≡ key_lines page → Continues old (behind o) (After p) text
+    → ((k : Key) → o ≡ Some k → IsText k) → AllByRecursion (IsBelow (key_or_none o)) page → Pages old (key_or_none o) page → TellsKeys old → text ≡ key_lines page → Continues old (position_after o) (After p) text
 says_page old o page p text some last is_text from_text higher read known spelled = record {
   lines = λ m told.
       let (front, q, e) = parts page some in
@@ -172,7 +172,7 @@ none_follow : (xs : List Key) → false ≡ nat_lt 0 (length xs) → xs ≡ []
 none_follow [] e = refl
 none_follow (x ∷ xs) e = absurd (let clash : false ≡ true = e ∙ le-leb 1 (length (x ∷ xs)) (omega arith) in cc)
 
-pub says_end : (old new : PortState) (o : Option Key) (more : Bool) (text : List ℕ) → more ≡ false → Follows old (key_or_none o) more → TellsKeys old → text ≡ [] → Ends old new (behind o) text
+pub says_end : (old new : PortState) (o : Option Key) (more : Bool) (text : List ℕ) → more ≡ false → Follows old (key_or_none o) more → TellsKeys old → text ≡ [] → ListEnds old new (position_after o) text
 says_end old new o more text stop follows known none m told =
     inl (none, left_behind old o m known told ∙ none_follow (above (key_or_none o) (keys m)) (sym stop ∙ follows m told))
 
@@ -218,7 +218,7 @@ refused_same s t h = cc
 
 -- why a look at a key has no answer
 pub exist_failed : (old new : PortState) (key : Key) (error : HostError) (status : ℕ) (text : List ℕ) → error ≡ Refused status → IsKey key → Gives old new (exist_of key) existed (Err error)
-    → text ≡ status_line status → Ends old new (From key) text
+    → text ≡ status_line status → ListEnds old new (From key) text
 exist_failed old new key error status text is is_key (inr fault) spelled m told = absurd (let clash : Refused status ≡ Port = sym is ∙ err_same error Port fault.0 in cc)
 exist_failed old new key error status text is is_key (inl (a, x, e)) spelled m told =
     elim (a.status == 0) as (λ b. (a.status == 0) ≡ b → ◌≡◌ {A = Result Bool HostError} (Err error) (if b then Ok true else if a.status == KEY_DOES_NOT_EXIST then Ok false else Err (Refused a.status)) → Found old new key text m) [

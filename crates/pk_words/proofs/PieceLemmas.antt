@@ -10,7 +10,7 @@ use Rattle.pk_words.specs.declared.listing.ListPosition.{ListPosition}
 use Rattle.pk_words.specs.Lines.{key_line, key_lines}
 use Rattle.pk_words.specs.Says.{SaysKeys}
 use Rattle.pk_words.specs.Said.{Said}
-use Rattle.pk_words.specs.Listing.{Continues, Ends, Listed, keys_left, start_at}
+use Rattle.pk_words.specs.Listing.{Continues, ListEnds, Listed, keys_left, start_at}
 
 pub listed_begins : (from : Option Key) (p : PortState) → Listed from p p (start_at from) []
 listed_begins None p = record { leaves = λ m told. told; lines = λ m told. ([], refl, refl) }
@@ -29,7 +29,7 @@ listed_goes from start now next place place' text piece h c stays = record {
       );
 }
 
-pub listed_ends : (from : Option Key) (start now new : PortState) (place : ListPosition) (text piece : List ℕ) → Listed from start now place text → Ends now new place piece → Leaves now new (λ m. m)
+pub listed_ends : (from : Option Key) (start now new : PortState) (place : ListPosition) (text piece : List ℕ) → Listed from start now place text → ListEnds now new place piece → Leaves now new (λ m. m)
     → start.read_faults ≤ now.read_faults → Said (SaysKeys from) start new (text ++ piece)
 listed_ends from start now new place text piece h ends stays up m told =
     let (front, is, split) = h.lines m told in

@@ -20,7 +20,7 @@ use Rattle.pk_host.specs.Calls.{Gives, Fetches, IsFront, IsCause, IsRefusal, ret
 use Rattle.pk_host.proofs.CallLemmas.{leaves_map}
 use Rattle.pk_host.proofs.CauseLemmas.{retrieve_cause}
 use Rattle.pk_words.specs.Lines.{status_line, value_line}
-use Rattle.pk_words.specs.Says.{SaysStatus, SaysValue, Finds}
+use Rattle.pk_words.specs.Says.{SaysStatus, SaysValue, SaysFound}
 use Rattle.pk_words.specs.Said.{Said, IsStatus}
 
 -- a word that says how its command was answered
@@ -70,7 +70,7 @@ err_same e f h = cc
 module _ (old new : PortState) (key : Key) (size : ℕ) where
   -- what is found on the port's map
   found_on : (text : List ℕ) (r : Result (Option ℕ) HostError) → Gives old new (retrieve_of key size) retrieved r → (r ≡ Err Port → ⊥)
-      → ((m : Map) → IsMap old.shape m → old.map ≡ Some m → Finds (Rose old.read_faults new.read_faults) (value_line (get m key)) text) → Said (SaysValue key) old new text
+      → ((m : Map) → IsMap old.shape m → old.map ≡ Some m → SaysFound (Rose old.read_faults new.read_faults) (value_line (get m key)) text) → Said (SaysValue key) old new text
   found_on text r (inr fault) not_port found m told = absurd (not_port fault.0)
   found_on text r (inl (a, x, e)) not_port found m told =
       let s = x.answers m told in record {

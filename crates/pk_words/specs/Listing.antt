@@ -27,9 +27,9 @@ start_at None = First
 start_at (Some key) = From key
 
 -- after a key, or at the first key of all
-abbrev pub behind : Option Key → ListPosition
-behind None = First
-behind (Some key) = After key
+abbrev pub position_after : Option Key → ListPosition
+position_after None = First
+position_after (Some key) = After key
 
 -- the command that a list goes on with
 abbrev pub asked_at : ListPosition → Command
@@ -71,14 +71,14 @@ pub record Continues (old : PortState) (place next : ListPosition) (text : List 
   pub falls : pieces_left next < pieces_left place
 
 -- no key remains, or a read failed, which is said
-abbrev pub Ends : PortState → PortState → ListPosition → List ℕ → Type 0
-Ends old new place text =
+abbrev pub ListEnds : PortState → PortState → ListPosition → List ℕ → Type 0
+ListEnds old new place text =
     (m : Map) → old.map ≡ Some m → ((text ≡ []) × (keys_left place m ≡ [])) ⊎ (Rose old.read_faults new.read_faults × (text ≡ failed_line))
 
 -- a list goes on at the next place, or it has ended
 abbrev pub Piece : PortState → PortState → ListPosition → Option ListPosition → List ℕ → Type 0
 Piece old new place (Some next) text = Continues old place next text
-Piece old new place None text = Ends old new place text
+Piece old new place None text = ListEnds old new place text
 
 -- ---- all pieces
 

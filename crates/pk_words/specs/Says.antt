@@ -23,12 +23,12 @@ pub record SaysStatus (c : Command) (failed : Type 0) (shape : Shape) (most fram
   pub spelled : text ≡ status_line reply.status
 
 -- a text that was found, or that a read failed
-abbrev pub Finds : Type 0 → List ℕ → List ℕ → Type 0
-Finds failed found text = (text ≡ found) ⊎ (failed × (text ≡ failed_line))
+abbrev pub SaysFound : Type 0 → List ℕ → List ℕ → Type 0
+SaysFound failed found text = (text ≡ found) ⊎ (failed × (text ≡ failed_line))
 
 -- the whole value of a key
 abbrev pub SaysValue : Key → Saying
-SaysValue key failed shape most frames m text m' = (m' ≡ m) × Finds failed (value_line (get m key)) text
+SaysValue key failed shape most frames m text m' = (m' ≡ m) × SaysFound failed (value_line (get m key)) text
 
 -- the keys of a map that are not below this one, or all of them
 abbrev pub wanted_keys : Option Key → Map → List Key
@@ -48,4 +48,4 @@ pub record SaysNumbers (failed : Type 0) (shape : Shape) (most frames : ℕ) (m 
   pub same : m' ≡ m
   pub own : List ℕ
   pub eleven : length own ≡ 11
-  pub found : Finds failed (report_lines (report_bytes shape most frames m own)) text
+  pub found : SaysFound failed (report_lines (report_bytes shape most frames m own)) text

@@ -6,7 +6,7 @@ ghost use Rattle.pk_nand.specs.Calls.{Rose};
 ghost use Rattle.pk_nvme.specs.Bytes.{RoomyList};
 ghost use Rattle.pk_nvme.specs.Command.{key_or_none};
 ghost use Rattle.pk_host.specs.Calls.{Leaves, exist_of, list_of};
-ghost use Rattle.pk_words.specs.Listing.{Piece, IsText, asked_at, behind, start_at};
+ghost use Rattle.pk_words.specs.Listing.{Piece, IsText, asked_at, position_after, start_at};
 ghost use Rattle.pk_words.specs.declared.listing.ListPosition.TheVariants.{From};
 ghost use Rattle.pk_words.specs.Said.{Spoken};
 
@@ -103,7 +103,7 @@ impl Words {
     ) -> Result<Option<ListPosition>, PortFault>
         requires { (key : List ℕ) → option_copied from ≡ Some key → IsText key }
         ensures piece { IfOk result (λ next. Piece (P.state port.old) (P.state port.new)
-            (behind (option_copied from.entry)) next self.new.text) }
+            (position_after (option_copied from.entry)) next self.new.text) }
         ensures leaves { Leaves (P.state port.old) (P.state port.new) (λ m. m) }
         ensures fault { OnErr result
             (Rose (P.state port.old).port_faults (P.state port.new).port_faults) }

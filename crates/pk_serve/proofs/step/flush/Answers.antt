@@ -1,6 +1,6 @@
 use Rattle.std.proofs.Common.{ℕ, List, subst}
 use Rattle.pk_queue.specs.Queue.{bytes_of}
-use Rattle.pk_serve.specs.Serving.{Breaks, Flushed}
+use Rattle.pk_serve.specs.Serving.{ServingBroken, Flushed}
 use Rattle.pk_serve.proofs.Giving.{commit-breaks, flushes, flush-breaks}
 use Rattle.pk_serve.proofs.Blaming.{quiet-then, quiet-flash}
 use Rattle.pk_serve.proofs.Parting.{running-still, faulted-then}
@@ -17,7 +17,7 @@ returns-in-Err-clause-fails g c =
 pub returns-in-Err-give_all-clause-fails : goal.returns-in-Err-give_all-clause-fails
 returns-in-Err-give_all-clause-fails g c =
     let e = c.in-Ok.ensures in
-    let T : List (List ℕ) → Type 0 = λ t. Breaks (g.B.Nand.state c.args.board.now) (g.B.Nand.state c.give_all.new.board) (g.D.Engine.sight c.args.drive.now) (bytes_of t) c.in-Err-give_all.end in
+    let T : List (List ℕ) → Type 0 = λ t. ServingBroken (g.B.Nand.state c.args.board.now) (g.B.Nand.state c.give_all.new.board) (g.D.Engine.sight c.args.drive.now) (bytes_of t) c.in-Err-give_all.end in
     record {
       fault = faulted-then (g.B.Nand.state c.args.board.now) (g.B.Nand.state c.commit.new.board) (g.B.Nand.state c.give_all.new.board) c.in-Err-give_all.end (quiet-flash _ _ e.rest e.no_stop) c.in-Err-give_all.ensures.fault;
       breaks = subst T c.held-2.ensures (flush-breaks _ _ _ _ e.cuts e.stands e.rest e.read_faults e.no_stop e.reads e.installs (λ none. (e.idle none).1) e.program e.none _ (bytes_of c.held-2.result.now) c.in-Err-give_all.end c.in-Err-give_all.ensures.breaks);

@@ -1,7 +1,7 @@
 use Rattle.std.proofs.Common.{◌≡◌, ℕ, List}
 use Rattle.pk_text.specs.Written.{Written}
 use Rattle.pk_text.specs.Records.{data_shown}
-use Rattle.pk_text.specs.Steps.{Advances, ahead}
+use Rattle.pk_text.specs.Steps.{TextAdvances, ahead}
 use Rattle.pk_text.proofs.record.show_data.Given as goal
 
 abbrev pub invariant-loop-left : goal.invariant-loop-left
@@ -10,7 +10,7 @@ invariant-loop-left g l =
     let b = g.B.Nand.state l.board in
     record {
       room : l.text.room ≡ 8192;
-      advances : (more : List ℕ → Written) → Advances (data_shown l.size more) (data_shown l.left more) (ahead l.initial.feed a) (ahead l.feed b) a b;
+      advances : (more : List ℕ → Written) → TextAdvances (data_shown l.size more) (data_shown l.left more) (ahead l.initial.feed a) (ahead l.feed b) a b;
     }
 
 abbrev pub decreases-loop-left : goal.decreases-loop-left

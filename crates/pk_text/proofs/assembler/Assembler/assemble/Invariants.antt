@@ -1,6 +1,6 @@
 use Rattle.std.proofs.Common.{◌≤◌, ◌+◌, []}
 use Rattle.pk_text.specs.Assembled.{assembled_from}
-use Rattle.pk_text.specs.Steps.{Advances, ahead}
+use Rattle.pk_text.specs.Steps.{TextAdvances, ahead}
 use Rattle.pk_text.proofs.assembler.Assembler.assemble.Given as goal
 
 abbrev pub invariant-loop-taken : goal.invariant-loop-taken
@@ -9,5 +9,5 @@ invariant-loop-taken g l =
     let b = g.B.Nand.state l.board in
     record {
       few : l.number ≤ l._taken + 1;
-      advances : Advances (assembled_from 0 1) (assembled_from l._taken l.number) (ahead [] a) (ahead l.self.feed b) a b;
+      advances : TextAdvances (assembled_from 0 1) (assembled_from l._taken l.number) (ahead [] a) (ahead l.self.feed b) a b;
     }
