@@ -10,7 +10,7 @@ use std::alloc::Global;
 use std::process::Abort;
 use std::test::*;
 
-// A made drive of 64 blocks whose only root has this number, which begins at byte 24 of the page.
+// A made drive of 64 blocks whose root, the only one, has this number, which stands at its byte 24.
 fn made_with_number(rt: &impl Abort, alloc: Global, number: u64) -> Vec<PageState> {
     let mut pages = left(rt, alloc, &made(rt, alloc, MAKE_WORKED));
     let Some(PageState::Whole(bytes)) = pages.get(0) else {
