@@ -19,7 +19,7 @@ use Rattle.pk_gc.specs.declared.reclaimed.Reclaimed.TheVariants.{Worked, NeedsFr
 use Rattle.pk_gc.specs.State.{JobState}
 use Rattle.pk_gc.specs.Victims.{Chooses}
 use Rattle.pk_gc.specs.Stepping.{Hands, Steps}
-use Rattle.pk_gc.specs.Breaking.{BreaksIn, Breaks as BreaksBelow}
+use Rattle.pk_gc.specs.Breaking.{BreaksIn, JobBroken as BreaksBelow}
 use Rattle.pk_data.specs.State.{DataState, IsSmall}
 use Rattle.pk_data.specs.Placed.{IsOpenIn}
 use Rattle.pk_log.specs.State.{LogState}

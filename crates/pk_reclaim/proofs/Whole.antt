@@ -14,7 +14,7 @@ use Rattle.pk_gc.specs.declared.reclaimed.Reclaimed.{Reclaimed}
 use Rattle.pk_gc.specs.declared.reclaimed.Reclaimed.TheVariants.{Worked, NeedsFreeze, Ended}
 use Rattle.pk_gc.specs.State.{JobState}
 use Rattle.pk_gc.specs.Stepping.{Hands, CanStep, Steps}
-use Rattle.pk_gc.specs.Breaking.{Breaks as BreaksBelow}
+use Rattle.pk_gc.specs.Breaking.{JobBroken as BreaksBelow}
 use Rattle.pk_data.specs.State.{DataState}
 use Rattle.pk_reclaim.specs.Hands.{hands_of}
 use Rattle.pk_log.specs.State.{LogState}
