@@ -10,16 +10,26 @@ use std::alloc::Global;
 use std::process::Abort;
 use std::test::*;
 
-// A made drive of 64 blocks whose root, the only one, has this number, which stands at its byte 24.
-fn made_with_number(rt: &impl Abort, alloc: Global, number: u64) -> Vec<PageState> {
-    let mut pages = left(rt, alloc, &made(rt, alloc, MAKE_WORKED));
-    let Some(PageState::Whole(bytes)) = pages.get(0) else {
+// A page of a root with this number in place of its own, which begins at byte 24.
+fn numbered(rt: &impl Abort, alloc: Global, page: &PageState, number: u64) -> PageState {
+    let PageState::Whole(bytes) = page else {
         panic!(rt; "a root");
     };
     let mut root = bytes.bytes().to_vec(alloc).expect(rt, "memory");
     assert!(rt; root.len() >= 32, "a root");
     root[24..32].copy_from_slice(&number.to_le_bytes());
-    pages[0] = PageState::Whole(PageBytes::of(root));
+    PageState::Whole(PageBytes::of(root))
+}
+
+// A made drive of 64 blocks whose root, the only one, has this number in both of its pages.
+fn made_with_number(rt: &impl Abort, alloc: Global, number: u64) -> Vec<PageState> {
+    let mut pages = left(rt, alloc, &made(rt, alloc, MAKE_WORKED));
+    for page in 0..2usize {
+        match pages.get_mut(page) {
+            Some(state) => *state = numbered(rt, alloc, state, number),
+            None => panic!(rt; "a root"),
+        }
+    }
     pages
 }
 
