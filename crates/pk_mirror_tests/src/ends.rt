@@ -128,7 +128,8 @@ fn full(rt: &impl Abort, alloc: Global, keys: [u8; 6]) -> Vec<PageState> {
 }
 
 /// A second drive that is full of other keys is made equal to a full first; a store that the first refuses for want of space is not
-/// asked of the second, and a value gives way to another of its size.
+/// asked of the second; a value gives way to another of as many pages, of which none has fewer than two, and a new key has room after a
+/// Delete.
 #[test]
 fn full_drives(rt: HostRuntime) {
     let alloc = rt.alloc();
@@ -147,6 +148,8 @@ fn full_drives(rt: HostRuntime) {
     }
     let images = said(&rt, alloc, &images, "list", b"61\n62\n63\n64\n65\n66\n");
     let images = said(&rt, alloc, &images, "put 61 00", b"ok\n");
+    let images = said(&rt, alloc, &images, "put 67 -", b"refused 81\n");
+    let images = said(&rt, alloc, &images, "del 62", b"ok\n");
     let images = said(&rt, alloc, &images, "put 67 -", b"ok\n");
     same_alone(&rt, alloc, &images, "list");
 }
