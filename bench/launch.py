@@ -72,6 +72,13 @@ def causes(folder, image):
         text = bytearray(whole.read())
         text[40] = 3
         it.write(text)
+    older = folder + '/older'
+    with open(image, 'rb') as whole, open(older, 'wb') as it:
+        text = bytearray(whole.read())
+        for root in range(32 + 16 * 64, 32 + 16 * 64 + 32 * 512, 512):
+            if text[root:root + 8] == b'PINKROOT':
+                text[root + 8] = 1
+        it.write(text)
     shape = ['512', '16', '64']
     says([folder + '/no/d.img', 'make', *shape], 6, f'there is no folder {folder}/no')
     says([folder, 'make', *shape], 6, 'is a folder')
@@ -81,6 +88,7 @@ def causes(folder, image):
     says([junk, 'make', *shape], 8, 'is no image of a drive: remove it, or name another file')
     says([cut, 'list'], 8, 'has 300000 bytes, and by its head it should have 525344')
     says([damaged, 'list'], 8, 'is damaged, or its making was broken off: see pinkctl check')
+    says([older, 'list'], 8, 'has version 1 of the format, and this program opens version 2')
     says([image, 'make', *shape], 9, 'there is an image already: remove')
     launcher, program = serving(image)
     says([image, 'list'], 6, f'is in use by process {program} (')
