@@ -2,12 +2,12 @@
 use Rattle.std.proofs.Common.{◌≡◌, ◌⊎◌, inl, inr, ℕ, List, [], Option, Some, None, Result, Ok, refl, sym, ◌∙◌, ap, subst, arith}
 use Rattle.pk_base.specs.Entry.{Entry}
 use Rattle.pk_base.specs.Map.{Map}
-use Rattle.pk_base.specs.Page.{Flash}
+use Rattle.pk_base.specs.Page.{Flash, IsFlash}
 use Rattle.pk_base.specs.Refusal.{Refusal}
 use Rattle.pk_base.specs.Shape.{Shape}
 use Rattle.pk_nvme.specs.Command.{Command}
 use Rattle.pk_nand.specs.BoardState.{BoardState}
-use Rattle.pk_nand.specs.Calls.{Rose, Loaded}
+use Rattle.pk_nand.specs.Calls.{Rose, Loaded, IsReady}
 use Rattle.pk_nand.specs.Effects.{OnlyReading}
 use Rattle.pk_nand.specs.Resting.{RestsFlash}
 use Rattle.pk_nand.proofs.Reaching.{Reached-start, Went-reached}
@@ -131,6 +131,12 @@ pub own_frames : (shape shape' : Shape) (frames : ℕ) (b : BoardState) (d : Sig
 own_frames shape shape' frames b d same stands =
     let T : Shape → Type 0 = λ s. (m : Map) × HoldsMap s d.counts.frames b d m in
     subst T (sym same) (stands.0, record { shape_is = stands.1.shape_is; frames_is = refl; map_is = stands.1.map_is })
+
+-- a board that was only read is as ready as before
+pub ready_behind : (shape shape' : Shape) (a b : BoardState) → shape' ≡ shape → IsReady a shape → OnlyReading a b → IsReady b shape'
+ready_behind shape shape' a b same ready only =
+    let now : IsReady b shape = record { shape_is = ap (λ (s : BoardState). s.shape) only ∙ ready.shape_is; flash = subst (λ (f : Flash). IsFlash shape f) (sym (ap (λ (s : BoardState). s.pages) only)) ready.flash } in
+    subst (λ (s : Shape). IsReady b s) (sym same) now
 
 -- ---- what the status says
 

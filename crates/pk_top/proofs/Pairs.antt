@@ -5,7 +5,7 @@ use Rattle.std.specs.FinMap.{len, entries, len-entries}
 use Rattle.pk_base.specs.Entry.{Entry}
 use Rattle.pk_base.specs.Key.{Key}
 use Rattle.pk_base.specs.Map.{Map}
-use Rattle.pk_base.specs.Page.{Flash, IsFlash}
+use Rattle.pk_base.specs.Page.{Flash}
 use Rattle.pk_base.specs.Refusal.{Refusal, not_formatted, damaged}
 use Rattle.pk_base.specs.Shape.{Shape, IsShape, limit}
 use Rattle.pk_nand.specs.BoardState.{BoardState, shape_or_none}
@@ -58,12 +58,6 @@ few_keys shape b m is law ready held =
     let size = len-entries m in
     let names = names_len (entries m) in
     omega (arith, most, pages, few, size, names)
-
--- a board that was only read is as ready as before
-pub ready_behind : (shape shape' : Shape) (a b : BoardState) → shape' ≡ shape → IsReady a shape → OnlyReading a b → IsReady b shape'
-ready_behind shape shape' a b same ready only =
-    let now : IsReady b shape = record { shape_is = ap (λ (s : BoardState). s.shape) only ∙ ready.shape_is; flash = subst (λ (f : Flash). IsFlash shape f) (sym (ap (λ (s : BoardState). s.pages) only)) ready.flash } in
-    subst (λ (s : Shape). IsReady b s) (sym same) now
 
 -- ---- what was done on two images
 

@@ -5,8 +5,8 @@ use Rattle.pk_model.specs.Reading.{Holds}
 use Rattle.pk_parts.specs.Parts.{sight_of}
 use Rattle.pk_mirrorwords.specs.PairTasks.{seen}
 use Rattle.pk_mirrorrun.specs.PairTold.{PairTold}
-use Rattle.pk_top.proofs.Asked.{own_frames}
-use Rattle.pk_top.proofs.Pairs.{AsksPair-memory, AsksPair-first, AsksPair-second, AsksPair-opened, ready_behind}
+use Rattle.pk_top.proofs.Asked.{own_frames, ready_behind}
+use Rattle.pk_top.proofs.Pairs.{AsksPair-memory, AsksPair-first, AsksPair-second, AsksPair-opened}
 use Rattle.pk_top.proofs.pairing.ask_images.Goals as goal
 
 pub returns-in_default : goal.returns-in_default
