@@ -1,5 +1,6 @@
 use Rattle.std.proofs.Common.{◌∙◌, ◌+◌, ◌-◌, ◌/◌, ℕ, arith, sym, subst}
-use Rattle.pk_meta.proofs.FindLemmas.{Narrowed, place_key, to_right, to_left, nowhere, same_key, all_of}
+use Rattle.pk_meta.proofs.FindLemmas.{Narrowed, place_key, to_right, to_left, nowhere, all_of}
+use Rattle.pk_base.proofs.KeyLemmas.{same_key}
 use Rattle.pk_meta.proofs.halving.place_of.Goals as goal
 
 pub loop-low-preserved-in-Less : goal.loop-low-preserved-in-Less
