@@ -1,10 +1,9 @@
 -- A List meets the contract of a drive.
-use Rattle.std.proofs.Common.{◌≡◌, inl, inr, ℕ, ◌-◌, min, refl, sym, ap, subst, ◌∙◌, arith, Bool, true, false, List, [], ◌∷◌, take, Option, Some, None, Result, Ok}
+use Rattle.std.proofs.Common.{◌≡◌, inl, inr, ℕ, ◌-◌, min, refl, sym, ap, subst, ◌∙◌, arith, Bool, true, false, List, [], ◌∷◌, take, Option, Some, None}
 use Rattle.pk_base.specs.Shape.{Shape, limit}
 use Rattle.pk_base.specs.Page.{Flash}
 use Rattle.pk_base.specs.Entry.{Entry}
 use Rattle.pk_base.specs.Map.{Map, keys_from}
-use Rattle.pk_base.specs.Refusal.{Refusal}
 use Rattle.pk_nvme.specs.declared.request.Request.{Request}
 use Rattle.pk_nvme.specs.Seen.{command_of}
 use Rattle.pk_nvme.specs.Command.{Command, key}
@@ -31,12 +30,10 @@ use Rattle.pk_parts.specs.Agreeing.{DriveOnFlash}
 use Rattle.pk_core.specs.Done.{Does}
 use Rattle.pk_index.specs.Listed.{keys_there, ListsInto}
 use Rattle.pk_core.proofs.Replies.{keys_listed}
+use Rattle.pk_base.proofs.Logic.{ok_same}
 
 some_same : (x y : Shape) → ◌≡◌ {A = Option Shape} (Some x) (Some y) → x ≡ y
 some_same x y e = cc
-
-ok_same : (x y : Map) → ◌≡◌ {A = Result Map Refusal} (Ok x) (Ok y) → x ≡ y
-ok_same x y e = cc
 
 not_both : (b : Bool) → b ≡ false → b ≡ true → ⊥
 not_both true e f = cc

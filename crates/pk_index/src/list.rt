@@ -1,5 +1,5 @@
 //! The keys of a List, as a walk gives them.
-ghost use Rattle.std.specs.Prelude.{◌≡◌, ◌+◌, ◌-◌, ◌%◌, ◌≤◌, ◌<◌, List, [], ◌∷◌, ◌++◌, length, replicate, take, min, None, false, IfOk, IfErr, OnOk, OnErr};
+ghost use Rattle.std.specs.Prelude.{◌≡◌, ◌+◌, ◌-◌, ◌≤◌, ◌<◌, List, [], ◌∷◌, ◌++◌, length, replicate, take, min, None, false, IfOk, IfErr, OnOk, OnErr};
 ghost use Rattle.pk_base.specs.Key.{Key as KeySpec, IsKey};
 ghost use Rattle.pk_base.specs.Entry.{Entry as EntrySpec, Place};
 ghost use Rattle.pk_base.specs.Page.{Flash};
@@ -21,6 +21,7 @@ use pk_base::{KEY_BYTES, Key, put_text, put_u16, put_u32, put_zeros};
 use pk_call::Outcome;
 use pk_level::Levels;
 use pk_log::Log;
+use pk_model::listed_size;
 use pk_nand::{Fault, Nand};
 use pk_nvme::limits::{COUNT_BYTES, MOST_LIST_BYTES};
 use pk_nvme::status::{SUCCESSFUL_COMPLETION, UNRECOVERED_ERROR};
@@ -28,16 +29,6 @@ use pk_nvme::{Request, fill_behind};
 use pk_pin::PinArena;
 use pk_region::Region;
 use pk_walk::Walk;
-
-// The bytes of a listed key: its length, itself and zeros up to a multiple of four.
-#[inline(always)]
-fn listed_size(key: &[u8]) -> usize
-    requires { IsKey key.now }
-    ensures size { result ≡ length (listed key.now) }
-    ensures few { result ≤ 24 }
-{
-    2 + key.len() + fill_behind(key.len())
-}
 
 // Writes a length of two bytes, the key, and zeros up to a multiple of four bytes.
 #[inline(always)]

@@ -1,9 +1,8 @@
 //! The data of a List, written key by key.
-ghost use Rattle.std.specs.Prelude.{◌≡◌, ◌≤◌, ◌<◌, ◌^◌, ◌+◌, ◌-◌, ◌%◌, ◌++◌, length, [], false, IfOk};
+ghost use Rattle.std.specs.Prelude.{◌≡◌, ◌≤◌, ◌<◌, ◌^◌, ◌+◌, ◌-◌, ◌++◌, length, [], false, IfOk};
 ghost use Rattle.std.specs.Option.{option_copied};
 ghost use Rattle.std.specs.Ordering.{is_lt};
 ghost use Rattle.pk_base.specs.Key.{IsKey, key_cmp};
-ghost use Rattle.pk_base.specs.Fields.{u16 as u16_bytes};
 ghost use Rattle.pk_model.specs.Answer.{listed as listed_bytes};
 ghost use Rattle.pk_nvme.specs.Command.{key_or_none};
 ghost use Rattle.pk_model.specs.Listing.{offered, offered_from};
@@ -107,9 +106,11 @@ fn is_before(key: &Key, from: Option<&Key>) -> bool
 }
 
 /// The bytes of a listed key: its length, itself and zeros up to a multiple of four.
-fn listed_size(key: &[u8]) -> usize
+#[inline(always)]
+pub fn listed_size(key: &[u8]) -> usize
     requires { IsKey key.now }
-    ensures { result ≡ length (listed_bytes key.now) }
+    ensures size { result ≡ length (listed_bytes key.now) }
+    ensures most { result ≤ 21 }
 {
     2 + key.len() + fill_behind(key.len())
 }

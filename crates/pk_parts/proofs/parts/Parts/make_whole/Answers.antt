@@ -1,5 +1,5 @@
 use Rattle.std.proofs.Common.{sym, refl, ◌∙◌}
-use Rattle.pk_parts.proofs.Halves.{not_both}
+use Rattle.pk_base.proofs.Logic.{not_both}
 use Rattle.pk_parts.proofs.parts.Parts.make_whole.Goals as goal
 
 pub finish_half-requires : goal.finish_half-requires
