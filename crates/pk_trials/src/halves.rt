@@ -171,7 +171,7 @@ fn check_cuts(rt: &impl Abort, alloc: Global, asked: &Asked) -> u32 {
 
 // The session of these commands on these pages, which is to answer each with success. What a Store reads that finishes a merge or a reclaim
 // is its own.
-fn asked(
+fn session_with(
     rt: &impl Abort,
     alloc: Global,
     pages: Vec<PageState>,
@@ -221,7 +221,7 @@ fn merging(rt: &impl Abort, alloc: Global, steps: u32) -> Asked {
     ];
     let before = [Some(OLD), None, None, None, None, None];
     let pages = pages_left(rt, alloc, &first);
-    asked(
+    session_with(
         rt,
         alloc,
         pages,
@@ -267,7 +267,7 @@ const FILLING: [Ask; 8] = [
 fn reclaiming(rt: &impl Abort, alloc: Global, steps: u32) -> Asked {
     let asks = [Ask::Tick(steps), Ask::Store(0x63, NEW), Ask::Flush];
     let pages = made(rt, alloc, &MAKE_SMALL);
-    asked(
+    session_with(
         rt,
         alloc,
         pages,
