@@ -1,5 +1,5 @@
 -- Keys that a walk gives, listed one after another.
-use Rattle.std.proofs.Common.{◌≡◌, ℕ, ◌+◌, ◌-◌, ◌<◌, ◌≤◌, refl, sym, ap, subst, ◌∙◌, arith, Bool, true, false, not, nat_le, List, [], ◌∷◌, ◌++◌, length, take, drop, flat_map, if◌then◌else◌, Option, Some, None, T, leb-false, leb→le, ◌==◌, eqb→eq}
+use Rattle.std.proofs.Common.{◌≡◌, ℕ, ◌+◌, ◌-◌, ◌<◌, ◌≤◌, refl, sym, ap, subst, ◌∙◌, arith, Bool, true, false, not, nat_le, List, [], ◌∷◌, ◌++◌, length, take, drop, flat_map, if◌then◌else◌, Option, Some, None, T, leb-false, leb→le, ◌==◌}
 use Rattle.std.specs.Ordering.{is_lt}
 use Rattle.std.proofs.lemmas.List.{append_assoc, append-nil, flat_map_more, drop-append-le, length-take-le, drop-take, length-append}
 use Rattle.std.proofs.Math.Seq.{take-add}
@@ -18,13 +18,13 @@ use Rattle.pk_run.specs.Kept.{Kept}
 use Rattle.pk_level.proofs.Looking.{reads_more}
 use Rattle.pk_model.specs.Answer.{listed, fitting, list_bytes}
 use Rattle.pk_walk.specs.declared.position.Position.{Position}
-use Rattle.pk_walk.specs.declared.position.Position.TheVariants.{First, From}
+use Rattle.pk_walk.specs.declared.position.Position.TheVariants.{From}
 use Rattle.pk_walk.specs.Visible.{visible, is_wanted, wanted}
 use Rattle.pk_walk.specs.Walking.{Walk, IsLeft, WalkGives, Reads, ReadsFail, pages_read, most_read}
 use Rattle.pk_walk.proofs.Walks.{one_of_each}
 use Rattle.pk_walk.proofs.Seeking.{Reads-none, Reads-more}
 use Rattle.pk_index.specs.declared.filled.Filled.{Filled}
-use Rattle.pk_index.specs.Listed.{keys_of, not_below, keys_there, OffersKey, OffersFirst, Lists, ListsAll}
+use Rattle.pk_index.specs.Listed.{keys_of, not_below, keys_there, least_in, OffersKey, OffersFirst, Lists, ListsAll}
 
 -- ---- one more key, or none
 
@@ -151,37 +151,20 @@ keys_wanted from (e ∷ es) =
       | false ↦ ap (λ (ks : List Key). e.0 ∷ ks) (keys_wanted from es)
     ]
 
--- no key is below the empty one
-none_below : (k : Key) → is_lt (key_cmp k []) ≡ false
-none_below [] = refl
-none_below (x ∷ xs) = refl
+-- the key at which a walk begins, by whether there are bytes
+pub least_of_none : (space : ℕ) (bytes : List ℕ) → true ≡ (length bytes == 0) → space ∷ 0 ∷ [] ≡ least_in space bytes
+least_of_none space [] e = refl
+least_of_none space (b ∷ bytes) e = cc
 
-keys_all : (es : List (Key × Place)) → keys_of (wanted (is_wanted First) es) ≡ not_below [] (keys_of es)
-keys_all [] = refl
-keys_all (e ∷ es) = ap (λ (ks : List Key). e.0 ∷ ks) (keys_all es) ∙ ap (λ (b : Bool). if not b then e.0 ∷ not_below [] (keys_of es) else not_below [] (keys_of es)) (sym (none_below e.0))
-
-empty_key : (from : Key) → length from ≡ 0 → from ≡ []
-empty_key [] e = refl
-empty_key (x ∷ xs) e = cc
-
-pub is_empty_key : (from : Key) → true ≡ (length from == 0) → length from ≡ 0
-is_empty_key from e = eqb→eq (length from) 0 (subst T e tt)
+pub least_of_some : (space : ℕ) (bytes : List ℕ) → false ≡ (length bytes == 0) → space ∷ bytes ≡ least_in space bytes
+least_of_some space [] e = cc
+least_of_some space (b ∷ bytes) e = refl
 
 pub left_from : (w : Walk) (from : Key) (flash : Flash) (arena : Frames) (rs : List Kept) (active frozen : List Entry) (ess : List (List Entry)) → w.position ≡ From from
     → IsLeft w flash arena rs active frozen (wanted (is_wanted w.position) (visible (active ∷ frozen ∷ ess)))
     → (rest : List (Key × Place)) × IsLeft w flash arena rs active frozen rest × (keys_of rest ≡ keys_there from (active ∷ frozen ∷ ess))
 left_from w from flash arena rs active frozen ess at left =
     (wanted (is_wanted w.position) (visible (active ∷ frozen ∷ ess)), left, ap (λ (p : Position). keys_of (wanted (is_wanted p) (visible (active ∷ frozen ∷ ess)))) at ∙ keys_wanted from (visible (active ∷ frozen ∷ ess)))
-
-pub left_first : (w : Walk) (from : Key) (flash : Flash) (arena : Frames) (rs : List Kept) (active frozen : List Entry) (ess : List (List Entry)) → w.position ≡ First → length from ≡ 0
-    → IsLeft w flash arena rs active frozen (wanted (is_wanted w.position) (visible (active ∷ frozen ∷ ess)))
-    → (rest : List (Key × Place)) × IsLeft w flash arena rs active frozen rest × (keys_of rest ≡ keys_there from (active ∷ frozen ∷ ess))
-left_first w from flash arena rs active frozen ess at none left = (
-  wanted (is_wanted w.position) (visible (active ∷ frozen ∷ ess)),
-  left,
-  ap (λ (p : Position). keys_of (wanted (is_wanted p) (visible (active ∷ frozen ∷ ess)))) at ∙ keys_all (visible (active ∷ frozen ∷ ess))
-      ∙ ap (λ (k : Key). keys_there k (active ∷ frozen ∷ ess)) (sym (empty_key from none)),
-)
 
 -- the key of the entry that the walk gave was offered
 pub gives_key : (into new : List ℕ) (at : Filled) (room : ℕ) (e : RustEntry) (key : Key) (next : Option Filled) (rest later : List (Key × Place)) → key ≡ key_of (seen e) → WalkGives (Some e) rest later → OffersKey into at room key next new

@@ -3,7 +3,7 @@ use Rattle.std.specs.Prelude.{◌≡◌, ◌⊎◌, false, ℕ, ◌+◌, ◌-◌
 use Rattle.std.specs.Ordering.{is_lt}
 use Rattle.pk_nvme.specs.declared.limits.TheConstants.{COUNT_BYTES, MOST_LIST_BYTES}
 use Rattle.pk_nvme.specs.declared.status.TheConstants.{SUCCESSFUL_COMPLETION, UNRECOVERED_ERROR}
-use Rattle.pk_base.specs.Key.{Key, key_cmp}
+use Rattle.pk_base.specs.Key.{Key, key_cmp, bytes_of}
 use Rattle.pk_base.specs.Entry.{Entry, Place}
 use Rattle.pk_nand.specs.BoardState.{BoardState}
 use Rattle.pk_nand.specs.Calls.{IsReady, Rose, last_count}
@@ -14,7 +14,8 @@ use Rattle.pk_log.specs.State.{LogState}
 use Rattle.pk_nand.specs.Effects.{NoFault}
 use Rattle.pk_call.specs.Meter.{reads_after}
 use Rattle.pk_call.specs.declared.types.Outcome.{Outcome}
-use Rattle.pk_model.specs.Answer.{listed, fitting}
+use Rattle.pk_nvme.specs.Command.{Command}
+use Rattle.pk_model.specs.Answer.{listed, item_bytes, fitting}
 use Rattle.pk_walk.specs.Visible.{visible}
 use Rattle.pk_index.specs.declared.filled.Filled.{Filled}
 
@@ -30,11 +31,24 @@ not_below from ks = filter (λ k. not (is_lt (key_cmp k from))) ks
 abbrev pub keys_there : Key → List (List Entry) → List Key
 keys_there from lists = not_below from (keys_of (visible lists))
 
--- One more key was written, or there is no room for it.
+-- the least key of a namespace that is not below these bytes: each key has a byte
+abbrev pub least_in : ℕ → List ℕ → Key
+least_in space [] = space ∷ 0 ∷ []
+least_in space (b ∷ bytes) = space ∷ b ∷ bytes
+
+-- the key at which a List begins
+abbrev pub first_listed : Command → Key
+first_listed c = least_in c.namespace (take c.key_len c.key_bytes)
+
+-- One more key of these bytes was written, or there is no room for it.
+abbrev pub OffersBytes : List ℕ → Filled → ℕ → List ℕ → Option Filled → List ℕ → Type 0
+OffersBytes old at room bytes None new = (room - at.end < length (item_bytes bytes)) × (new ≡ old)
+OffersBytes old at room bytes (Some next) new =
+    (next ≡ record at { end = at.end + length (item_bytes bytes); count = at.count + 1 }) × (next.end ≤ room) × (take next.end new ≡ take at.end old ++ item_bytes bytes)
+
+-- the same of a key
 abbrev pub OffersKey : List ℕ → Filled → ℕ → Key → Option Filled → List ℕ → Type 0
-OffersKey old at room key None new = (room - at.end < length (listed key)) × (new ≡ old)
-OffersKey old at room key (Some next) new =
-    (next ≡ record at { end = at.end + length (listed key); count = at.count + 1 }) × (next.end ≤ room) × (take next.end new ≡ take at.end old ++ listed key)
+OffersKey old at room key next new = OffersBytes old at room (bytes_of key) next new
 
 -- the same of the first key that remains, if there is one; and these remain
 abbrev pub OffersFirst : List ℕ → Filled → ℕ → List (Key × Place) → Option Filled → List ℕ → List (Key × Place) → Type 0

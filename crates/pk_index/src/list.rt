@@ -1,6 +1,7 @@
 //! The keys of a List, as a walk gives them.
 ghost use Rattle.std.specs.Prelude.{◌≡◌, ◌+◌, ◌-◌, ◌%◌, ◌≤◌, ◌<◌, List, [], ◌∷◌, ◌++◌, length, replicate, take, min, None, false, IfOk, IfErr, OnOk, OnErr};
-ghost use Rattle.pk_base.specs.Key.{Key as KeySpec, IsKey};
+ghost use Rattle.pk_base.specs.declared.sizes.TheConstants.{KEY_BYTES, MOST_SPACES};
+ghost use Rattle.pk_base.specs.Key.{Key as KeySpec};
 ghost use Rattle.pk_base.specs.Entry.{Entry as EntrySpec, Place};
 ghost use Rattle.pk_base.specs.Page.{Flash};
 ghost use Rattle.pk_nand.specs.declared.types.Fault.TheVariants.{Reading};
@@ -8,10 +9,9 @@ ghost use Rattle.pk_pin.specs.Frames.{Frames};
 ghost use Rattle.pk_run.specs.Kept.{Kept};
 ghost use Rattle.pk_level.specs.Levels.{RunsOnFlash};
 ghost use Rattle.pk_walk.specs.Walking.{IsLeft, Reads, ReadsFail, pages_read, most_read};
-ghost use Rattle.pk_nvme.specs.Command.{key as key_in};
 ghost use Rattle.pk_nvme.specs.Seen.{command_of};
-ghost use Rattle.pk_model.specs.Answer.{listed, fitting, list_bytes};
-ghost use Rattle.pk_index.specs.Listed.{OffersKey, OffersNext, IsFilled, MayList, MayWalk, Walked, ListsAll, ListsInto, keys_of, keys_there};
+ghost use Rattle.pk_model.specs.Answer.{item_bytes, fitting, list_bytes};
+ghost use Rattle.pk_index.specs.Listed.{OffersBytes, OffersKey, OffersNext, IsFilled, MayList, MayWalk, Walked, ListsAll, ListsInto, keys_of, keys_there, least_in, first_listed};
 ghost use Rattle.pk_base.specs.Shape.{most_calls};
 ghost use Rattle.pk_call.specs.Calling.{FewCalls};
 
@@ -32,8 +32,8 @@ use pk_walk::Walk;
 // The bytes of a listed key: its length, itself and zeros up to a multiple of four.
 #[inline(always)]
 fn listed_size(key: &[u8]) -> usize
-    requires { IsKey key.now }
-    ensures size { result ≡ length (listed key.now) }
+    requires { length key.now ≤ KEY_BYTES }
+    ensures size { result ≡ length (item_bytes key.now) }
     ensures few { result ≤ 24 }
 {
     2 + key.len() + fill_behind(key.len())
@@ -42,10 +42,10 @@ fn listed_size(key: &[u8]) -> usize
 // Writes a length of two bytes, the key, and zeros up to a multiple of four bytes.
 #[inline(always)]
 fn put_listed(into: &mut [u8], at: usize, key: &[u8])
-    requires key { IsKey key.now }
-    requires room { at + length (listed key.now) ≤ length into.old }
-    ensures front { take (at + length (listed key.now)) into.new
-        ≡ take at into.old ++ listed key.now }
+    requires key { length key.now ≤ KEY_BYTES }
+    requires room { at + length (item_bytes key.now) ≤ length into.old }
+    ensures front { take (at + length (item_bytes key.now)) into.new
+        ≡ take at into.old ++ item_bytes key.now }
     ensures len { length into.new ≡ length into.old }
 {
     let len = key.len();
@@ -99,9 +99,9 @@ fn put_key(into: &mut [u8], at: Filled, key: &Key) -> Option<Filled>
 // Writes the bytes of one more key, if they fit into the room.
 #[inline(always)]
 fn put_one(into: &mut [u8], at: Filled, key: &[u8]) -> Option<Filled>
-    requires key { IsKey key.now }
+    requires key { length key.now ≤ KEY_BYTES }
     requires filled { IsFilled at (length into.old) }
-    ensures offers { OffersKey into.old at at.room key.now result into.new }
+    ensures offers { OffersBytes into.old at at.room key.now result into.new }
     ensures len { length into.new ≡ length into.old }
 {
     let size = listed_size(key);
@@ -192,21 +192,22 @@ fn put_left<B: Nand, A: Region>(
     }
 }
 
-// Begins a walk at a key; at the first key of all if this one is empty.
-fn start_walk<A: Region>(walk: &mut Walk<A>, from: &[u8])
+// Begins a walk at a key of these bytes; at the least of the namespace if there are none.
+fn start_walk<A: Region>(walk: &mut Walk<A>, space: u8, from: &[u8])
     requires key { length from.now ≤ KEY_BYTES }
+    requires space { 1 ≤ space × space ≤ MOST_SPACES }
     ensures shape { walk.new.shape ≡ walk.old.shape }
     ensures left { (flash : Flash) (arena : Frames) (runs : List Kept)
         (active frozen : List EntrySpec) (ess : List (List EntrySpec))
         → RunsOnFlash flash arena runs ess → (rest : List (KeySpec × Place))
         × IsLeft walk.new flash arena runs active frozen rest
-        × (keys_of rest ≡ keys_there from.now (active ∷ frozen ∷ ess)) }
+        × (keys_of rest ≡ keys_there (least_in space from.now) (active ∷ frozen ∷ ess)) }
     ensures none_read { (runs : List Kept) → pages_read runs walk.new.cursors ≡ 0 }
 {
     if from.is_empty() {
-        walk.start(None);
+        walk.start(Some(&Key::of(space, &[0])));
     } else {
-        walk.start(Some(&Key::of(from)));
+        walk.start(Some(&Key::of(space, from)));
     }
 }
 
@@ -223,7 +224,7 @@ fn few_pages<A: Region>(levels: &Levels<A>)
 }
 
 /// Returns a List that passed the checks that read it alone: the number of keys that exist from the
-/// one that it names on, and as many of them as fit into its size, of which no more than
+/// one that it names on, or from the least of its namespace if it names none, and as many of them as fit into its size, of which no more than
 /// `MOST_LIST_BYTES` count; `UNRECOVERED_ERROR` without data if a read fails.
 pub fn answer_list<B: Nand, A: Region>(
     walk: &mut Walk<A>,
@@ -237,6 +238,7 @@ pub fn answer_list<B: Nand, A: Region>(
     // The board, the parts and the request.
     requires may { MayList walk.old (B.state board.old) levels.now arena.now }
     requires key { request.now.key_len ≤ KEY_BYTES }
+    requires space { 1 ≤ request.now.namespace × request.now.namespace ≤ MOST_SPACES }
     requires some { COUNT_BYTES ≤ request.now.size }
     requires room { MOST_LIST_BYTES ≤ length into.old }
 
@@ -245,7 +247,7 @@ pub fn answer_list<B: Nand, A: Region>(
         → RunsOnFlash (B.state board.old).pages arena.now levels.now.runs ess
         → ListsInto (B.state board.old) (B.state board.new) result into.new
         (list_bytes (fitting (min request.now.size MOST_LIST_BYTES - COUNT_BYTES)
-        (keys_there (key_in (command_of request.now []))
+        (keys_there (first_listed (command_of request.now []))
         (log.now.active.entries ∷ log.now.frozen.entries ∷ ess)))) }
     ensures few { FewCalls (most_calls levels.now.shape) (B.state board.old) (B.state board.new) }
     ensures fits { result.data_len ≤ length into.new }
@@ -257,7 +259,11 @@ pub fn answer_list<B: Nand, A: Region>(
     few_pages(levels);
     let before = reads_so_far(board);
     let room = request.size.min(MOST_LIST_BYTES);
-    start_walk(walk, &request.key[..request.key_len as usize]);
+    start_walk(
+        walk,
+        request.namespace as u8,
+        &request.key[..request.key_len as usize],
+    );
     match put_left(walk, board, levels, arena, log, room, into) {
         Ok(at) => {
             put_u32(into, 0, at.count);

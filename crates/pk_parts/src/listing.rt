@@ -4,12 +4,11 @@ ghost use Rattle.pk_base.specs.Entry.{Entry};
 ghost use Rattle.pk_base.specs.declared.sizes.TheConstants.{KEY_BYTES};
 ghost use Rattle.pk_base.specs.Shape.{most_calls};
 ghost use Rattle.pk_level.specs.Levels.{RunsOnFlash};
-ghost use Rattle.pk_nvme.specs.Command.{key as key_in};
 ghost use Rattle.pk_nvme.specs.declared.limits.TheConstants.{COUNT_BYTES, MOST_LIST_BYTES};
 ghost use Rattle.pk_nvme.specs.Seen.{command_of};
 ghost use Rattle.pk_model.specs.Answer.{fitting, list_bytes};
 ghost use Rattle.pk_call.specs.Calling.{FewCalls};
-ghost use Rattle.pk_index.specs.Listed.{ListsInto, keys_there};
+ghost use Rattle.pk_index.specs.Listed.{ListsInto, first_listed, keys_there};
 ghost use Rattle.pk_parts.specs.Agreeing.{DriveOnFlash};
 
 use crate::parts::Parts;
@@ -33,6 +32,7 @@ impl<A: Region> Parts<A> {
         requires agrees { DriveOnFlash self.old (B.state board.old).shape
             (B.state board.old).pages }
         requires key { request.now.key_len ≤ KEY_BYTES }
+        requires space { 1 ≤ request.now.namespace × request.now.namespace ≤ MOST_SPACES }
         requires some { COUNT_BYTES ≤ request.now.size }
         requires room { MOST_LIST_BYTES ≤ length into.old }
 
@@ -41,7 +41,7 @@ impl<A: Region> Parts<A> {
             → RunsOnFlash (B.state board.old).pages self.old.arena self.old.levels.runs ess
             → ListsInto (B.state board.old) (B.state board.new) result into.new
             (list_bytes (fitting (min request.now.size MOST_LIST_BYTES - COUNT_BYTES)
-            (keys_there (key_in (command_of request.now []))
+            (keys_there (first_listed (command_of request.now []))
             (self.old.log.active.entries ∷ self.old.log.frozen.entries ∷ ess)))) }
         ensures few { FewCalls (most_calls self.old.levels.shape) (B.state board.old)
             (B.state board.new) }

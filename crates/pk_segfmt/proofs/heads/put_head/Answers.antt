@@ -7,7 +7,7 @@ use Rattle.pk_segfmt.proofs.heads.put_head.Goals as goal
 
 -- the rows of a head's table
 abbrev rows : ℕ → List ℕ → ℕ → List (List ℕ)
-rows len bytes space = (length bytes ∷ []) ∷ (0x44 ∷ []) ∷ ((space - 1) ∷ []) ∷ zeros 1 ∷ padded 16 bytes ∷ u32 len ∷ magic ∷ []
+rows len bytes space = (length bytes ∷ []) ∷ (0x44 ∷ []) ∷ ((space - 1) ∷ []) ∷ zeros 1 ∷ padded 16 bytes ∷ u32 len ∷ value_magic ∷ []
 
 pub returns-clause-front : goal.returns-clause-front
 unfolding head_bytes
