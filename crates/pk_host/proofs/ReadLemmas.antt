@@ -2,7 +2,7 @@
 use Rattle.std.proofs.Common.{◌≡◌, ℕ, zero, suc, ◌+◌, ◌-◌, ◌*◌, ◌≤◌, ◌<◌, min, if◌then◌else◌, List, [], ◌∷◌, ◌++◌, length, drop, true, false, Some, None, refl, sym, ap, ◌∙◌, arith, append_assoc}
 use Rattle.std.proofs.lemmas.List.{append-nil, drop-drop}
 use Rattle.std.specs.Ordering.{is_lt}
-use Rattle.pk_base.specs.Key.{Key, key_cmp}
+use Rattle.pk_base.specs.Key.{Key, IsKey, key_cmp}
 use Rattle.pk_base.specs.Fields.{u32_at}
 use Rattle.pk_model.specs.Answer.{listed}
 use Rattle.pk_host.specs.declared.sizes.TheConstants.{MOST_KEYS}
@@ -14,6 +14,11 @@ pub record IsReading (bytes from : List ℕ) (count i at : ℕ) (each : List Key
   pub place : at ≤ 4 + 21 * i
   pub most : length each ≤ i
   pub rest : each ++ above from (keys_in (count - i) (drop at bytes)) ≡ above from (keys_of bytes)
+
+-- each key is above none
+pub above_none : (k : Key) → IsKey k → true ≡ is_lt (key_cmp [] k)
+above_none [] h = absurd (let some = h.some in omega (arith, some))
+above_none (n ∷ bytes) h = refl
 
 above-cons : (from k : Key) (ks : List Key) → above from (k ∷ ks) ≡ above from (k ∷ []) ++ above from ks
 above-cons from k ks = elim (is_lt (key_cmp from k)) as (λ b. (if b then k ∷ above from ks else above from ks) ≡ (if b then k ∷ [] else []) ++ above from ks) [ true ↦ refl | false ↦ refl ]

@@ -1,7 +1,7 @@
 //! The keys from one on.
 ghost use Rattle.std.specs.Prelude.{◌≡◌, ◌-◌, ◌≤◌, List, [], ◌∷◌, length, min};
 ghost use Rattle.pk_base.specs.Entry.{Entry};
-ghost use Rattle.pk_base.specs.declared.sizes.TheConstants.{KEY_BYTES};
+ghost use Rattle.pk_base.specs.declared.sizes.TheConstants.{KEY_BYTES, MOST_SPACES};
 ghost use Rattle.pk_base.specs.Shape.{most_calls};
 ghost use Rattle.pk_level.specs.Levels.{RunsOnFlash};
 ghost use Rattle.pk_nvme.specs.declared.limits.TheConstants.{COUNT_BYTES, MOST_LIST_BYTES};
