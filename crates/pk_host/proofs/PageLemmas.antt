@@ -66,8 +66,8 @@ not_refused (Some n) e z = cc
 
 -- no key is below the least of its namespace, nor below none
 first_below : (n : ℕ) (bytes : List ℕ) → 1 ≤ n → is_lt (key_cmp (n ∷ bytes) (1 ∷ [])) ≡ false
-first_below n [] some = let no : nat_lt n 1 ≡ false = grind (arith, nat_tests) in rw no (elim (n == 1) as (λ e. is_lt (ordering_then (if e then Equal else Greater) Equal) ≡ false) [ | true ↦ refl | false ↦ refl ])
-first_below n (b ∷ bytes) some = let no : nat_lt n 1 ≡ false = grind (arith, nat_tests) in rw no (elim (n == 1) as (λ e. is_lt (ordering_then (if e then Equal else Greater) Greater) ≡ false) [ | true ↦ refl | false ↦ refl ])
+first_below n [] some = let no : nat_lt n 1 ≡ false = grind (arith, nat_tests) in rw no (elim (n == 1) as (λ e. is_lt (ordering_then (if e then Equal else Greater) Equal) ≡ false) [ true ↦ refl | false ↦ refl ])
+first_below n (b ∷ bytes) some = let no : nat_lt n 1 ≡ false = grind (arith, nat_tests) in rw no (elim (n == 1) as (λ e. is_lt (ordering_then (if e then Equal else Greater) Greater) ≡ false) [ true ↦ refl | false ↦ refl ])
 
 all_from : (ks : List Key) → AllByRecursion IsKey ks → filter (λ k. not (is_lt (key_cmp k (1 ∷ [])))) ks ≡ filter (λ k. not (is_lt (key_cmp k []))) ks
 all_from [] h = refl
