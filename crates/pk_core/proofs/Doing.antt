@@ -73,8 +73,10 @@ module _ (d : Parts) (old new : BoardState) (r : Request) (o : Outcome) (into : 
       (subst (λ (s : Shape). AllByRecursion (IsStorable s) d.log.pending) a.with.shape_is a.with.index.logs.pending_are)
       (under_reads a.shape old.pages d.log.pending a.top a.found a.all a.with.pending)).0
 
-  bytes_are : list_bytes (fitting (min r.size 65536 - 4) (keys_there (first_listed c) (d.log.active.entries ∷ d.log.frozen.entries ∷ a.found.runs))) ≡ list_bytes (fitting (min c.size 65536 - 4) (keys_from (key c) a.all))
-  bytes_are = ap (λ ks. list_bytes (fitting (min r.size 65536 - 4) ks)) (keys_listed (settled_parts d) a.shape old.pages a.top a.found a.without a.all (first_listed c) a.with ∙ keys_begun a.shape a.all c.namespace (take c.key_len c.key_bytes) held)
+  bytes_are : list_bytes (fitting (min r.size 65536 - 4) (keys_there (first_listed c) (d.log.active.entries ∷ d.log.frozen.entries ∷ a.found.runs)))
+      ≡ list_bytes (fitting (min c.size 65536 - 4) (keys_from (key c) a.all))
+  bytes_are = ap (λ ks. list_bytes (fitting (min r.size 65536 - 4) ks))
+      (keys_listed (settled_parts d) a.shape old.pages a.top a.found a.without a.all (first_listed c) a.with ∙ keys_begun a.shape a.all c.namespace (take c.key_len c.key_bytes) held)
 
   stepped : (frames : ℕ) → Step a.shape frames a.all c (reply_of o into) a.all
   stepped frames =

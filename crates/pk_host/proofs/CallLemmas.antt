@@ -35,20 +35,35 @@ module _ (old new : PortState) (k : Key) (k' : List ℕ) (same : k' ≡ bytes_of
   for_key : (of : List ℕ → Command) → Replies old new (of k') a → Replies old new (of (bytes_of k)) a
   for_key of x = subst (λ (q : List ℕ). Replies old new (of q) a) same x
 
+  for_delete : Replies old new (of_bytes DELETE k' 0 0 []) a → Replies old new (delete_of k) a
+  for_delete x = for_key (λ q. of_bytes DELETE q 0 0 []) x
+
+  for_exist : Replies old new (of_bytes EXIST k' 0 0 []) a → Replies old new (exist_of k) a
+  for_exist x = for_key (λ q. of_bytes EXIST q 0 0 []) x
+
+  key_is : (opcode : ℕ) → key (of_key opcode k 0 0 []) ≡ k
+  key_is opcode = key-of_key opcode k 0 0 [] h
+
   pub delete_tests : (r : Result Bool HostError) → Replies old new (of_bytes DELETE k' 0 0 []) a → r ≡ existed a → IfOk r (λ b. Tests old k b)
   delete_tests r x e = found_cases true false a r (λ b. Tests old k b) e
-      (λ zero m told. let s = (for_key (λ q. of_bytes DELETE q 0 0 []) x).answers m told in sym (there old.shape old.limit s.frames m (delete_of k) Delete a s.left refl (delete_by old.shape old.limit m k h) zero s.stepped).0 ∙ ap (contains_key m) (key-of_key DELETE k 0 0 [] h))
-      (λ none m told. let s = (for_key (λ q. of_bytes DELETE q 0 0 []) x).answers m told in sym (missing old.shape old.limit s.frames m (delete_of k) Delete a s.left refl (delete_by old.shape old.limit m k h) (λ own. refl) none s.stepped).0 ∙ ap (contains_key m) (key-of_key DELETE k 0 0 [] h))
+      (λ zero m told. let s = (for_delete x).answers m told in
+      sym (there old.shape old.limit s.frames m (delete_of k) Delete a s.left refl (delete_by old.shape old.limit m k h) zero s.stepped).0 ∙ ap (contains_key m) (key_is DELETE))
+      (λ none m told. let s = (for_delete x).answers m told in
+      sym (missing old.shape old.limit s.frames m (delete_of k) Delete a s.left refl (delete_by old.shape old.limit m k h) (λ own. refl) none s.stepped).0 ∙ ap (contains_key m) (key_is DELETE))
 
   pub delete_leaves : (r : Result Bool HostError) → Replies old new (of_bytes DELETE k' 0 0 []) a → r ≡ existed a → IfOk r (λ b. Deletes old new k b)
   delete_leaves r x e = found_cases true false a r (λ b. Deletes old new k b) e
-      (λ zero m told. let s = (for_key (λ q. of_bytes DELETE q 0 0 []) x).answers m told in s.told ∙ ap (λ (n : Map). Some n) ((there old.shape old.limit s.frames m (delete_of k) Delete a s.left refl (delete_by old.shape old.limit m k h) zero s.stepped).1.leaves ∙ ap (remove m) (key-of_key DELETE k 0 0 [] h)))
-      (λ none m told. let s = (for_key (λ q. of_bytes DELETE q 0 0 []) x).answers m told in s.told ∙ ap (λ (n : Map). Some n) (missing old.shape old.limit s.frames m (delete_of k) Delete a s.left refl (delete_by old.shape old.limit m k h) (λ own. refl) none s.stepped).1)
+      (λ zero m told. let s = (for_delete x).answers m told in
+      s.told ∙ ap (λ (n : Map). Some n) ((there old.shape old.limit s.frames m (delete_of k) Delete a s.left refl (delete_by old.shape old.limit m k h) zero s.stepped).1.leaves ∙ ap (remove m) (key_is DELETE)))
+      (λ none m told. let s = (for_delete x).answers m told in
+      s.told ∙ ap (λ (n : Map). Some n) (missing old.shape old.limit s.frames m (delete_of k) Delete a s.left refl (delete_by old.shape old.limit m k h) (λ own. refl) none s.stepped).1)
 
   pub exist_tests : (r : Result Bool HostError) → Replies old new (of_bytes EXIST k' 0 0 []) a → r ≡ existed a → IfOk r (λ b. Tests old k b)
   exist_tests r x e = found_cases true false a r (λ b. Tests old k b) e
-      (λ zero m told. let s = (for_key (λ q. of_bytes EXIST q 0 0 []) x).answers m told in sym (there old.shape old.limit s.frames m (exist_of k) Exist a s.left refl (exist_by old.shape old.limit m k h) zero s.stepped).0 ∙ ap (contains_key m) (key-of_key EXIST k 0 0 [] h))
-      (λ none m told. let s = (for_key (λ q. of_bytes EXIST q 0 0 []) x).answers m told in sym (missing old.shape old.limit s.frames m (exist_of k) Exist a s.left refl (exist_by old.shape old.limit m k h) (λ own. refl) none s.stepped).0 ∙ ap (contains_key m) (key-of_key EXIST k 0 0 [] h))
+      (λ zero m told. let s = (for_exist x).answers m told in
+      sym (there old.shape old.limit s.frames m (exist_of k) Exist a s.left refl (exist_by old.shape old.limit m k h) zero s.stepped).0 ∙ ap (contains_key m) (key_is EXIST))
+      (λ none m told. let s = (for_exist x).answers m told in
+      sym (missing old.shape old.limit s.frames m (exist_of k) Exist a s.left refl (exist_by old.shape old.limit m k h) (λ own. refl) none s.stepped).0 ∙ ap (contains_key m) (key_is EXIST))
 
   pub store_leaves : (value : List ℕ) (options : ℕ) → Replies old new (of_bytes STORE k' (length value) options value) a → a.status ≡ 0 → Leaves old new (λ m. insert m k value)
   store_leaves value options x zero m told =

@@ -66,8 +66,12 @@ not_refused (Some n) e z = cc
 
 -- no key is below the least of its namespace, nor below none
 first_below : (n : ℕ) (bytes : List ℕ) → 1 ≤ n → is_lt (key_cmp (n ∷ bytes) (1 ∷ [])) ≡ false
-first_below n [] some = let no : nat_lt n 1 ≡ false = grind (arith, nat_tests) in rw no (elim (n == 1) as (λ e. is_lt (ordering_then (if e then Equal else Greater) Equal) ≡ false) [ true ↦ refl | false ↦ refl ])
-first_below n (b ∷ bytes) some = let no : nat_lt n 1 ≡ false = grind (arith, nat_tests) in rw no (elim (n == 1) as (λ e. is_lt (ordering_then (if e then Equal else Greater) Greater) ≡ false) [ true ↦ refl | false ↦ refl ])
+first_below n [] some =
+    let no : nat_lt n 1 ≡ false = grind (arith, nat_tests) in
+    rw no (elim (n == 1) as (λ e. is_lt (ordering_then (if e then Equal else Greater) Equal) ≡ false) [ true ↦ refl | false ↦ refl ])
+first_below n (b ∷ bytes) some =
+    let no : nat_lt n 1 ≡ false = grind (arith, nat_tests) in
+    rw no (elim (n == 1) as (λ e. is_lt (ordering_then (if e then Equal else Greater) Greater) ≡ false) [ true ↦ refl | false ↦ refl ])
 
 all_from : (ks : List Key) → AllByRecursion IsKey ks → filter (λ k. not (is_lt (key_cmp k (1 ∷ [])))) ks ≡ filter (λ k. not (is_lt (key_cmp k []))) ks
 all_from [] h = refl
@@ -89,11 +93,13 @@ page_read old new from a each short start x zero read m told =
     let none = not_refused (refused old.shape old.limit m (list_of from)) (list_by old.shape old.limit m from short) in
     let served = success_served old.shape old.limit s.frames m (list_of from) ListKeys a s.left refl none zero s.stepped in
     let bytes : a.data_bytes ≡ list_bytes (fitting list_room (keys_from (key (list_of from)) m)) = ap (λ (r : Reply). r.data_bytes) served.replied in
-    read ∙ ap (λ (xs : List ℕ). above from (keys_of xs)) (bytes ∙ ap (λ (q : Key). list_bytes (fitting list_room (keys_from q m))) (key_named LIST from MOST_LIST_BYTES 0 []) ∙ ap (λ (ks : List Key). list_bytes (fitting list_room ks)) (keys_started old.shape m from start s.within.sized))
+    read ∙ ap (λ (xs : List ℕ). above from (keys_of xs)) (bytes ∙ ap (λ (q : Key). list_bytes (fitting list_room (keys_from q m))) (key_named LIST from MOST_LIST_BYTES 0 [])
+    ∙ ap (λ (ks : List Key). list_bytes (fitting list_room ks)) (keys_started old.shape m from start s.within.sized))
     ∙ ap (above from) (read_back old.shape m from s.within.sized)
 
 -- a List for the bytes of a key, or for none
-pub for_start : (old new : PortState) (from : Key) (bytes : List ℕ) (a : Reply) → bytes ≡ bytes_of from → Replies old new (of_bytes LIST bytes MOST_LIST_BYTES 0 []) a → Replies old new (list_of from) a
+pub for_start : (old new : PortState) (from : Key) (bytes : List ℕ) (a : Reply) → bytes ≡ bytes_of from
+    → Replies old new (of_bytes LIST bytes MOST_LIST_BYTES 0 []) a → Replies old new (list_of from) a
 for_start old new from bytes a same x = subst (λ (q : List ℕ). Replies old new (of_bytes LIST q MOST_LIST_BYTES 0 []) a) same x
 
 pub start_short : (from : Key) (bytes : List ℕ) → bytes ≡ bytes_of from → length bytes ≤ 16 → length (bytes_of from) ≤ 16
@@ -167,7 +173,8 @@ same_some [] rest all none e = ap (λ (xs : List Key). nat_lt 0 (length xs)) (sy
 same_some (k ∷ page) rest all none e =
     le-leb 1 (length (k ∷ page)) (omega arith) ∙ sym (ap (λ (xs : List Key). nat_lt 0 (length xs)) e ∙ le-leb 1 (length (k ∷ page ++ rest)) (omega arith))
 
-pub follows_read : (old new : PortState) (from : Key) (a : Reply) (each : List Key) (r : Result Bool HostError) → length (bytes_of from) ≤ 16 → IsStart from → Replies old new (list_of from) a → a.status ≡ 0
+pub follows_read : (old new : PortState) (from : Key) (a : Reply) (each : List Key) (r : Result Bool HostError) → length (bytes_of from) ≤ 16
+    → IsStart from → Replies old new (list_of from) a → a.status ≡ 0
     → each ≡ above from (keys_of a.data_bytes) → r ≡ Ok (nat_lt 0 (length each)) → IfOk r (λ more. Follows old from more)
 follows_read old new from a each r short start x zero read is = subst (λ y. IfOk y (λ more. Follows old from more)) (sym is) (λ m told.
     let page = page_read old new from a each short start x zero read m told in

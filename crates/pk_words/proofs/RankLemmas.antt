@@ -67,4 +67,5 @@ long (n ∷ bytes) is = let most = is.most in omega (arith, most)
 
 pub after_key : (from key : Key) → IsText from → IsText key → IsBelow from key → pieces_after key < pieces_after from
 unfolding pieces_after
-after_key from key f k below = less_left (257 ^ 17) (rank 17 from) (rank 17 key) (rank_rises 17 from key (long from f.is_key) (long key k.is_key) f.bytes k.bytes below) (rank_fits 17 key (long key k.is_key) k.bytes)
+after_key from key f k below = less_left (257 ^ 17) (rank 17 from) (rank 17 key)
+    (rank_rises 17 from key (long from f.is_key) (long key k.is_key) f.bytes k.bytes below) (rank_fits 17 key (long key k.is_key) k.bytes)
