@@ -9,6 +9,7 @@ ghost use Rattle.pk_parts.specs.Changes.{CanPut, CanTake, StepPuts, StepTakes, P
 ghost use Rattle.pk_parts.specs.Emptying.{OnRunning};
 ghost use Rattle.pk_parts.specs.Spacing.{needs};
 ghost use Rattle.pk_parts.specs.Staying.{Stays, StaysOrOpens, IsNoted};
+ghost use Rattle.pk_parts.specs.Stopping.{StoppedOn};
 ghost use Rattle.pk_call.specs.Moving.{commits_for};
 ghost use Rattle.pk_parts.specs.Programming.{Programs, FillsQuietly, PutsQuietly, TakesQuietly, ReadsQuietly};
 
@@ -43,6 +44,7 @@ impl<A: Region> Parts<A> {
             (B.state board.new)) }
         ensures calls { FewCalls (place_calls (pages_for self.old value.now)
             + commit_calls) (B.state board.old) (B.state board.new) }
+        ensures stops { StoppedOn self.new result }
     {
         let shape = self.shape();
         // so that the number of bytes is known to fit
@@ -52,7 +54,7 @@ impl<A: Region> Parts<A> {
                 self.note_put(key, page, value.len() as u32, old);
                 self.commit_if_full(board)
             }
-            Err(fault) => Err(fault),
+            Err(fault) => Err(self.fail(fault)),
         }
     }
 
@@ -84,10 +86,11 @@ impl<A: Region> Parts<A> {
         ensures spends { Spends (put_calls self.old.log.shape
             (pages_for self.old value.now)) room_roots (B.state board.old)
             (B.state board.new) }
+        ensures stops { StoppedOn self.new result }
     {
         match self.make_room(board, &key) {
             Ok(()) => self.put_with_room(board, key, value, old),
-            Err(fault) => Err(fault),
+            Err(fault) => Err(self.fail(fault)),
         }
     }
 
@@ -105,6 +108,7 @@ impl<A: Region> Parts<A> {
             (commits_for self.old.log.shape (sight_of self.old)) (B.state board.old)
             (B.state board.new)) }
         ensures calls { FewCalls commit_calls (B.state board.old) (B.state board.new) }
+        ensures stops { StoppedOn self.new result }
     {
         self.note_gone(key, old);
         self.commit_if_full(board)
@@ -127,10 +131,11 @@ impl<A: Region> Parts<A> {
             (B.state board.new)) }
         ensures spends { Spends (room_calls self.old.log.shape + commit_calls) room_roots
             (B.state board.old) (B.state board.new) }
+        ensures stops { StoppedOn self.new result }
     {
         match self.make_room(board, &key) {
             Ok(()) => self.take_with_room(board, key, old),
-            Err(fault) => Err(fault),
+            Err(fault) => Err(self.fail(fault)),
         }
     }
 }

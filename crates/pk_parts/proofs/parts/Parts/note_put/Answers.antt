@@ -32,7 +32,7 @@ returns-clause-stands g c shape flash m value is_len puts =
 
 pub returns-clause-moves : goal.returns-clause-moves
 returns-clause-moves g c =
-    rw (← c.self.view_is) (note_stays (record { log = c.self.inside.log; levels = c.self.inside.levels; arena = c.self.inside.arena; schedule = c.self.inside.schedule; space = c.self.inside.space; reclaim = c.self.inside.reclaim; pool = c.self.inside.pool; keys = c.self.inside.keys; stopped = c.self.inside.stopped }) _ c.push.new.self c.replace.new.self c.more_keys-self-inside.result c.push.ensures.pushed (ap (λ s. s.open_block) c.replace.ensures.moved))
+    rw (← c.self.view_is) (note_stays (record { log = c.self.inside.log; levels = c.self.inside.levels; arena = c.self.inside.arena; schedule = c.self.inside.schedule; space = c.self.inside.space; reclaim = c.self.inside.reclaim; pool = c.self.inside.pool; keys = c.self.inside.keys; stopped = c.self.inside.stopped; walk = c.self.inside.walk }) _ c.push.new.self c.replace.new.self c.more_keys-self-inside.result c.push.ensures.pushed (ap (λ s. s.open_block) c.replace.ensures.moved))
 
 pub returns-clause-noted : goal.returns-clause-noted
 returns-clause-noted g c =

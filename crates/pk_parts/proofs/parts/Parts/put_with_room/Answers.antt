@@ -8,6 +8,7 @@ use Rattle.pk_parts.specs.Moves.{KeepsAll, BreaksAll}
 use Rattle.pk_parts.specs.Noting.{IsPlaced}
 use Rattle.pk_parts.specs.Changes.{PutsAll, FailsToPut}
 use Rattle.pk_parts.proofs.Putting.{some_puts, some_put, put_changed, put_failed, put_broken}
+use Rattle.pk_parts.proofs.Stopping.{breaks_step, fails_stopped}
 use Rattle.pk_parts.proofs.Steps.{later, stays_committed}
 use Rattle.pk_parts.proofs.Staying.{opens_then, opens_then_ok}
 use Rattle.pk_parts.proofs.Noted.{noted_after_ok}
@@ -70,9 +71,10 @@ returns-in-Err-clause-step g c =
     let s0 = (g.B.Nand.state c.args.board.now) in
     let s1 = (g.B.Nand.state c.place_value.new.board) in
     let a = c.args.self.now in
-    Step-broken _ (λ page. IsPlaced a c.place_value.new.self s0 s1 c.args.key c.args.value.now page) (λ (u : Unit). PutsAll a c.place_value.new.self s0 s1 c.args.key c.args.value.now c.args.old)
+    breaks_step c.in-Err.fault c.fail.result c.place_value.new.self c.fail.new.self c.fail.ensures.same c.fail.ensures.rest (λ (u : Unit). PutsAll a c.place_value.new.self s0 s1 c.args.key c.args.value.now c.args.old) _ _ _ _ _ _
+    (Step-broken _ (λ page. IsPlaced a c.place_value.new.self s0 s1 c.args.key c.args.value.now page) (λ (u : Unit). PutsAll a c.place_value.new.self s0 s1 c.args.key c.args.value.now c.args.old)
     (BreaksAll a s0 s1) (FailsToPut a s0 s1 c.args.key c.args.value.now c.args.old) a.log.shape 0 0 s0 s1 (omega arith)
-    (λ broken. put_broken a s0 s1 c.args.key c.args.value.now c.args.old c.requires.can.ready broken) c.in-Err.ensures.step
+    (λ broken. put_broken a s0 s1 c.args.key c.args.value.now c.args.old c.requires.can.ready broken) c.in-Err.ensures.step)
 
 pub returns-in-Ok-clause-opens : goal.returns-in-Ok-clause-opens
 returns-in-Ok-clause-opens g c =
@@ -94,3 +96,6 @@ returns-in-Ok-clause-calls g c = few_then _ _ _ _ _ c.place_value.ensures.calls 
 
 pub returns-in-Err-clause-calls : goal.returns-in-Err-clause-calls
 returns-in-Err-clause-calls g c = few_within _ _ _ _ (omega arith) c.place_value.ensures.calls
+
+pub returns-in-Err-clause-stops : goal.returns-in-Err-clause-stops
+returns-in-Err-clause-stops g c = fails_stopped c.in-Err.fault c.fail.result c.place_value.new.self c.fail.new.self c.fail.ensures.same c.fail.ensures.rest
