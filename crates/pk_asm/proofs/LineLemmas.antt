@@ -6,7 +6,7 @@ use Rattle.pk_nvme.specs.Bytes.{RoomyList}
 use Rattle.pk_asm.specs.Words.{words}
 use Rattle.pk_asm.specs.Form.{form_entry}
 use Rattle.pk_asm.specs.declared.form.Form.{Form}
-use Rattle.pk_asm.specs.Line.{named_of, says, entry_said, entry, entry_in, bytes_in, brought}
+use Rattle.pk_asm.specs.Line.{named_of, says, entry_said, entry, entry_in, line_bytes, brought}
 
 -- a line that is no comment, and not too long
 pub says_entry : (number : ℕ) (line : List ℕ) → length line ≤ 2200000 → (length line == 0 || get_or line 0 0 == 35) ≡ false
@@ -28,7 +28,7 @@ pub entry_none : (said : Option (List ℕ × List ℕ)) → None ≡ option_map 
 entry_none (Some s) h = cc
 entry_none None h = refl
 
-pub bytes_said : (said : Option (List ℕ × List ℕ)) → brought said ≡ bytes_in (option_map (λ s. entry s.0 s.1) said)
+pub bytes_said : (said : Option (List ℕ × List ℕ)) → brought said ≡ line_bytes (option_map (λ s. entry s.0 s.1) said)
 bytes_said (Some (e, bytes)) = refl
 bytes_said None = refl
 

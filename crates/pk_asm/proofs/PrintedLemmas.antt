@@ -13,7 +13,7 @@ use Rattle.pk_asm.specs.Printed.{behind_blanks, line_of, form_line, raw_line, ca
 use Rattle.pk_asm.specs.declared.form.Form.{Form}
 use Rattle.pk_asm.specs.declared.form.Form.TheVariants.{Store, Retrieve, Delete, Exist, ListFrom, Flush, Report, Tick}
 use Rattle.pk_asm.proofs.LineLemmas.{says_entry, said_named}
-use Rattle.pk_asm.proofs.TextLemmas.{words-line_of, entry_of-text, bytes_of-text, free_hex, free_bytes}
+use Rattle.pk_asm.proofs.TextLemmas.{words-line_of, hex_entry-text, bytes_of-text, free_hex, free_bytes}
 use Rattle.pk_asm.proofs.FormLemmas.{IsForm, named_is, form_name, form_operands, form_words-parts, name_free, operands_free, form_said}
 use Rattle.pk_asm.proofs.ReadLemmas.{candidate_of, candidate_is}
 
@@ -80,7 +80,7 @@ says_raw number e bytes sized of_bytes fits short =
     let operands : List (List ℕ) = hex_text e ∷ bytes_text bytes ∷ [] in
     let line : List ℕ = raw_line e bytes in
     let split : words line ≡ codes "raw" ∷ operands = words-line_of (codes "raw") operands refl (free_hex e, (free_bytes bytes, tt)) in
-    let raw : raw_of operands ≡ Some (e, bytes) = rw (entry_of-text e sized of_bytes, bytes_of-text bytes fits) refl in
+    let raw : raw_of operands ≡ Some (e, bytes) = rw (hex_entry-text e sized of_bytes, bytes_of-text bytes fits) refl in
     says_entry number line short (begun _ _ refl)
     ∙ ap (option_map (λ (said : List ℕ × List ℕ). entry said.0 said.1)) (ap (entry_said number) split ∙ raw)
 

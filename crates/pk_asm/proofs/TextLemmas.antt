@@ -17,7 +17,7 @@ use Rattle.hex.proofs.HexLemmas.{length-encode_with, decode_of-encode_lower, dec
 use Rattle.pk_base.specs.Fields.{AreBytes}
 use Rattle.pk_base.specs.Key.{IsKey}
 use Rattle.pk_nvme.specs.Text.{is_number, number_of, number_text, hex_text, bytes_text, some_bytes_of, bytes_of}
-use Rattle.pk_asm.specs.Words.{words, key_of, entry_of}
+use Rattle.pk_asm.specs.Words.{words, key_of, hex_entry}
 use Rattle.pk_asm.specs.Line.{from_of}
 use Rattle.pk_asm.specs.Printed.{line_of, from_text}
 
@@ -67,8 +67,8 @@ key_of-text key is_key fits =
     let short : nat_le (length (hex_text key)) 32 ≡ true = grind (arith, nat_tests) in
     rw short (some_bytes_of-text key some fits)
 
-pub entry_of-text : (e : List ℕ) → length e ≡ 64 → AreBytes e → entry_of (hex_text e) ≡ Some e
-entry_of-text e sized fits =
+pub hex_entry-text : (e : List ℕ) → length e ≡ 64 → AreBytes e → hex_entry (hex_text e) ≡ Some e
+hex_entry-text e sized fits =
     let digits = length-encode_with lower_digits e in
     let short : (length (hex_text e) == 128) ≡ true = grind (arith, nat_tests) in
     rw short (some_bytes_of-text e (omega arith) fits)

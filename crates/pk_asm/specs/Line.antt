@@ -2,7 +2,7 @@
 use Rattle.std.specs.Prelude.{ℕ, ◌==◌, ◌||◌, nat_lt, if◌then◌else◌, List, [], ◌∷◌, length, slice_index, Option, Some, None, option_map, option_and_then, codes, bytes_eq}
 use Rattle.pk_nvme.specs.declared.options.TheConstants.{IF_EXISTS, IF_ABSENT, BOTH}
 use Rattle.pk_nvme.specs.Text.{number_of, bytes_of}
-use Rattle.pk_asm.specs.Words.{words, key_of, entry_of}
+use Rattle.pk_asm.specs.Words.{words, key_of, hex_entry}
 use Rattle.pk_asm.specs.Form.{form_entry}
 use Rattle.pk_asm.specs.declared.sizes.TheConstants.{MOST_LINE_BYTES}
 use Rattle.pk_asm.specs.declared.form.Form.{Form}
@@ -92,7 +92,7 @@ raw_with e b = do
   Some (entry, bytes)
 
 abbrev pub raw_of : List (List ℕ) → Option (List ℕ × List ℕ)
-raw_of (e ∷ b ∷ []) = raw_with (entry_of e) (bytes_of b)
+raw_of (e ∷ b ∷ []) = raw_with (hex_entry e) (bytes_of b)
 raw_of _ = None
 
 -- ---- whole lines
@@ -126,10 +126,10 @@ abbrev pub entry_in : Line → Option (List ℕ)
 entry_in nothing = None
 entry_in (entry e bytes) = Some e
 
-abbrev pub bytes_in : Option Line → List ℕ
-bytes_in None = []
-bytes_in (Some nothing) = []
-bytes_in (Some (entry e bytes)) = bytes
+abbrev pub line_bytes : Option Line → List ℕ
+line_bytes None = []
+line_bytes (Some nothing) = []
+line_bytes (Some (entry e bytes)) = bytes
 
 -- the bytes that come with something, if there is something
 abbrev pub brought : {A : Type 0} → Option (A × List ℕ) → List ℕ

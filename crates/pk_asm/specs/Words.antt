@@ -18,5 +18,5 @@ abbrev pub key_of : List ℕ → Option (List ℕ)
 key_of word = if nat_le (length word) (2 * KEY_BYTES) then some_bytes_of word else None
 
 -- the entry that a word of hexadecimal digits is, two for each byte
-abbrev pub entry_of : List ℕ → Option (List ℕ)
-entry_of word = if length word == 2 * SUBMISSION_BYTES then some_bytes_of word else None
+abbrev pub hex_entry : List ℕ → Option (List ℕ)
+hex_entry word = if length word == 2 * SUBMISSION_BYTES then some_bytes_of word else None

@@ -6,7 +6,7 @@ ghost use Rattle.std.specs.Str.Parse.{digits_value};
 ghost use Rattle.std.specs.Result.{result_ok};
 ghost use Rattle.hex.specs.Hex.{decode_of, hex_digit_value, pair_value};
 ghost use Rattle.pk_nvme.specs.Text.{is_number as is_number_text, number_of, some_bytes_of, bytes_of};
-ghost use Rattle.pk_asm.specs.Words.{key_of, entry_of};
+ghost use Rattle.pk_asm.specs.Words.{key_of, hex_entry};
 
 use hex::FromHex;
 use pk_base::{KEY_BYTES, Key};
@@ -81,7 +81,7 @@ pub fn key(word: &[u8]) -> Option<Key>
 
 /// The entry that a word of hexadecimal digits is, two for each of its bytes.
 pub fn entry_word(word: &[u8]) -> Option<[u8; SUBMISSION_BYTES]>
-    ensures { result ≡ entry_of word.now }
+    ensures { result ≡ hex_entry word.now }
 {
     match <[u8; SUBMISSION_BYTES] as FromHex>::from_hex(word) {
         Ok(entry) => Some(entry),

@@ -11,7 +11,7 @@ use Rattle.pk_nand.specs.Seen.{answer, state, states}
 use Rattle.pk_nand.specs.Calls.{filled}
 use Rattle.pk_nand.specs.declared.types.PageState.{PageState}
 use Rattle.pk_nand.specs.declared.types.PageRead.{PageRead}
-use Rattle.pk_dump.specs.Pages.{IsFull, AreFull, read_as}
+use Rattle.pk_dump.specs.Pages.{IsFullPage, AreFull, read_as}
 
 -- what a read finds and leaves in the buffer is the page
 pub read_as-answer : (page : Page) (old : List ℕ) → read_as (answer page) (filled page old) ≡ page
@@ -23,7 +23,7 @@ pub page_read : (page seen : Page) (old new : List ℕ) (found : PageRead) → f
 page_read page seen old new found is left seen_is = rw (is, left) at seen_is ∙ read_as-answer page old
 
 -- a page of a flash is full
-pub full_page : (shape : Shape) (flash : Flash) (at : ℕ) (page : Page) → IsFlash shape flash → page ≡ page_at flash at → IsFull shape page
+pub full_page : (shape : Shape) (flash : Flash) (at : ℕ) (page : Page) → IsFlash shape flash → page ≡ page_at flash at → IsFullPage shape page
 full_page shape flash at page fits is bytes whole_is = (fits.full at bytes (sym is ∙ whole_is)).0
 
 -- ---- one page after another
@@ -34,9 +34,9 @@ states_next pages p flash k inside so_far is =
     map-append state pages (p ∷ []) ∙ ap (λ (xs : Flash). xs ++ state p ∷ []) so_far ∙ ap (λ (x : Page). take k flash ++ x ∷ []) (is ∙ unwrap_or-slice_get flash k torn)
     ∙ sym (take_next flash k torn inside) ∙ ap (λ (n : ℕ). take n flash) (sym (add-one k))
 
-pub full_next : (shape : Shape) (pages : List PageState) (p : PageState) → AreFull shape pages → IsFull shape (state p) → AreFull shape (pages ++ p ∷ [])
-full_next shape pages p full one = All-append (λ page. IsFull shape (state page)) pages (p ∷ []) full alone
+pub full_next : (shape : Shape) (pages : List PageState) (p : PageState) → AreFull shape pages → IsFullPage shape (state p) → AreFull shape (pages ++ p ∷ [])
+full_next shape pages p full one = All-append (λ page. IsFullPage shape (state page)) pages (p ∷ []) full alone
   where
-    alone : All (λ page. IsFull shape (state page)) (p ∷ [])
+    alone : All (λ page. IsFullPage shape (state page)) (p ∷ [])
     alone zero d inside = one
     alone (suc k) d inside = absurd (omega (arith, inside))

@@ -8,12 +8,12 @@ use Rattle.pk_nand.specs.declared.types.PageState.{PageState}
 use Rattle.pk_nand.specs.Seen.{state}
 
 -- if the page is whole it has the bytes of a page
-abbrev pub IsFull : Shape → Page → Type 0
-IsFull shape page = (bytes : List ℕ) → page ≡ whole bytes → length bytes ≡ shape.page_bytes
+abbrev pub IsFullPage : Shape → Page → Type 0
+IsFullPage shape page = (bytes : List ℕ) → page ≡ whole bytes → length bytes ≡ shape.page_bytes
 
 -- each page that is whole has the bytes of a page
 abbrev pub AreFull : Shape → List PageState → Type 0
-AreFull shape pages = All (λ page. IsFull shape (state page)) pages
+AreFull shape pages = All (λ page. IsFullPage shape (state page)) pages
 
 -- the page that a read found, whose bytes are in the buffer if it is whole
 abbrev pub read_as : PageRead → List ℕ → Page

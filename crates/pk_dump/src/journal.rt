@@ -3,7 +3,7 @@ ghost use Rattle.std.specs.Prelude.{◌≡◌, ◌⊎◌, ◌<◌, length, Match
 ghost use Rattle.pk_base.specs.Page.{whole};
 ghost use Rattle.pk_base.specs.Shape.{epoch_commits};
 ghost use Rattle.pk_nand.specs.Seen.{state};
-ghost use Rattle.pk_dump.specs.Pages.{IsFull, AreFull};
+ghost use Rattle.pk_dump.specs.Pages.{IsFullPage, AreFull};
 ghost use Rattle.pk_dump.specs.Holds.{HoldsCommit};
 ghost use Rattle.pk_dump.specs.Named.{newest_named, older_named};
 
@@ -75,7 +75,7 @@ fn commit_of(shape: &Shape, number: u64, index: u32, bytes: &[u8]) -> Held
 
 /// What this page is as the commit of this index in the epoch of this number.
 fn commit_in(shape: &Shape, number: u64, index: u32, page: &PageState) -> Held
-    requires full { IsFull shape.now (state page.now) }
+    requires full { IsFullPage shape.now (state page.now) }
     requires index { index < epoch_commits shape.now }
     ensures { HoldsCommit shape.now number index (state page.now) result }
 {
@@ -93,7 +93,7 @@ fn tell_entries(
     shape: &Shape,
     page: &PageState,
 ) -> Result<(), AllocError>
-    requires { IsFull shape.now (state page.now) }
+    requires { IsFullPage shape.now (state page.now) }
 {
     let PageState::Whole(bytes) = page else {
         return Ok(());
@@ -125,7 +125,7 @@ fn tell_commit(
     at: u32,
     page: &PageState,
 ) -> Result<bool, AllocError>
-    requires full { IsFull shape.now (state page.now) }
+    requires full { IsFullPage shape.now (state page.now) }
     requires index { index < epoch_commits shape.now }
 {
     let held = commit_in(shape, number, index, page);

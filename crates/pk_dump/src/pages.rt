@@ -5,7 +5,7 @@ ghost use Rattle.pk_base.specs.Page.{page_at};
 ghost use Rattle.pk_nand.specs.Calls.{IsReady};
 ghost use Rattle.pk_nand.specs.Seen.{state, states};
 ghost use Rattle.pk_scan.specs.Board.{StaysReady};
-ghost use Rattle.pk_dump.specs.Pages.{IsFull, AreFull, read_as};
+ghost use Rattle.pk_dump.specs.Pages.{IsFullPage, AreFull, read_as};
 
 use crate::errors::DumpError;
 use pk_base::Shape;
@@ -49,7 +49,7 @@ fn read_page<B: Nand>(
 
     // The page as it is.
     ensures found { IfOk result (λ p. state p ≡ page_at (B.state board.old).pages page) }
-    ensures full { IfOk result (λ p. IsFull shape.now (state p)) }
+    ensures full { IfOk result (λ p. IsFullPage shape.now (state p)) }
 
     // Either way board and buffer may be used again.
     ensures board { StaysReady shape.now (B.state board.old) (B.state board.new) }

@@ -2,7 +2,7 @@
 ghost use Rattle.std.specs.Prelude.{◌≡◌, ◌≤◌, None, Some, MatchBool};
 ghost use Rattle.pk_nand.specs.Seen.{state};
 ghost use Rattle.pk_rootfmt.specs.Newest.{root_of};
-ghost use Rattle.pk_dump.specs.Pages.{IsFull, AreFull};
+ghost use Rattle.pk_dump.specs.Pages.{IsFullPage, AreFull};
 
 use crate::form::Form;
 use crate::words::{tell_blocks, tell_pair};
@@ -14,7 +14,7 @@ use std::fmt::Write;
 
 /// Takes the root of a page, and returns whether there is one; without one the root is unchanged.
 fn root_in<A: Allocator>(root: &mut Root<A>, page: &PageState) -> bool
-    requires { IsFull root.old.shape (state page.now) }
+    requires { IsFullPage root.old.shape (state page.now) }
     ensures found { MatchBool result (root_of root.old.shape (state page.now) ≡ Some root.new.root)
         (root_of root.old.shape (state page.now) ≡ None) }
     ensures shape { root.new.shape ≡ root.old.shape }

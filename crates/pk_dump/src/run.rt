@@ -2,7 +2,7 @@
 ghost use Rattle.std.specs.Prelude.{◌≡◌, ◌≤◌, ◌<◌, length};
 ghost use Rattle.pk_base.specs.Page.{whole};
 ghost use Rattle.pk_nand.specs.Seen.{state};
-ghost use Rattle.pk_dump.specs.Pages.{IsFull, AreFull};
+ghost use Rattle.pk_dump.specs.Pages.{IsFullPage, AreFull};
 ghost use Rattle.pk_dump.specs.Holds.{HoldsRunPage};
 ghost use Rattle.pk_dump.specs.Named.{wanted_of};
 
@@ -61,7 +61,7 @@ fn run_page_of(shape: &Shape, wanted: Wanted, bytes: &[u8]) -> Held
 
 /// What this page is as this page of a run.
 fn run_page_in(shape: &Shape, wanted: Wanted, page: &PageState) -> Held
-    requires full { IsFull shape.now (state page.now) }
+    requires full { IsFullPage shape.now (state page.now) }
     requires level { 1 ≤ wanted.level × wanted.level ≤ LEVELS }
     ensures { HoldsRunPage shape.now wanted (state page.now) result }
 {
@@ -79,7 +79,7 @@ fn tell_entries(
     shape: &Shape,
     page: &PageState,
 ) -> Result<(), AllocError>
-    requires { IsFull shape.now (state page.now) }
+    requires { IsFullPage shape.now (state page.now) }
 {
     let PageState::Whole(bytes) = page else {
         return Ok(());
@@ -102,7 +102,7 @@ fn tell_page(
     at: u32,
     page: &PageState,
 ) -> Result<(), AllocError>
-    requires full { IsFull shape.now (state page.now) }
+    requires full { IsFullPage shape.now (state page.now) }
     requires level { 1 ≤ wanted.level × wanted.level ≤ LEVELS }
 {
     let held = run_page_in(shape, wanted, page);

@@ -9,12 +9,12 @@ use Rattle.pk_nand.specs.BoardState.{shape_or_none}
 use Rattle.pk_image.specs.Image.{bad_state}
 use Rattle.pk_file.specs.declared.slot.Slot.{Slot}
 use Rattle.pk_file.specs.declared.slot.Slot.TheVariants.{Erased, Whole, Torn}
-use Rattle.pk_file.specs.Slots.{page_of, pages_of, byte_by, bytes_of, Fits, AllFit}
+use Rattle.pk_file.specs.Slots.{slot_page, pages_of, byte_by, state_bytes, SlotFits, AllFit}
 use Rattle.pk_file.specs.Extents.{extent_of, extents_of}
 
 -- slots of the right number and size are the pages of a flash
 pub flash_of : (shape : Shape) (slots : List Slot) → length slots ≡ page_count shape → AllFit shape slots → IsFlash shape (pages_of slots)
-flash_of shape slots count fit = record { size = length-map slots page_of ∙ count; full = fit }
+flash_of shape slots count fit = record { size = length-map slots slot_page ∙ count; full = fit }
 
 -- a page that is read fits into a buffer of a page
 pub room_for : (slots : List Slot) (at n : ℕ) (bytes : List ℕ) → (shape : Shape) × (n ≡ shape.page_bytes) × AllFit shape slots → page_at (pages_of slots) at ≡ whole bytes → n ≡ length bytes
@@ -35,10 +35,10 @@ states_stop bytes i h large =
 
 -- ---- slots that are written and added
 
-pub erased_fits : (shape : Shape) (s : Slot) → page_of s ≡ erased → Fits shape s
+pub erased_fits : (shape : Shape) (s : Slot) → slot_page s ≡ erased → SlotFits shape s
 erased_fits shape s is bytes e = cc
 
-pub torn_fits : (shape : Shape) (s : Slot) → page_of s ≡ torn → Fits shape s
+pub torn_fits : (shape : Shape) (s : Slot) → slot_page s ≡ torn → SlotFits shape s
 torn_fits shape s is bytes e = cc
 
 pub whole_fits : (shape : Shape) (own bytes : List ℕ) → own ≡ bytes → IsPage shape bytes → (b : List ℕ) → whole own ≡ whole b → IsPage shape b
@@ -54,29 +54,29 @@ pub erased_fit : (shape : Shape) (slots : List Slot) (n : ℕ) → pages_of slot
 erased_fit shape slots n all k bytes e = let P : Flash → Type 0 = λ f. page_at f k ≡ whole bytes in absurd (none_whole n k bytes (subst P all e))
 
 -- the page at the place of a slot is its own
-pub page_here : (slots : List Slot) (i : ℕ) (s : Slot) → i < length slots → s ≡ get_or slots i s → page_at (pages_of slots) i ≡ page_of s
+pub page_here : (slots : List Slot) (i : ℕ) (s : Slot) → i < length slots → s ≡ get_or slots i s → page_at (pages_of slots) i ≡ slot_page s
 page_here [] i s inside is = absurd (omega (arith, inside))
-page_here (x ∷ slots) zero s inside is = ap page_of (sym is)
+page_here (x ∷ slots) zero s inside is = ap slot_page (sym is)
 page_here (x ∷ slots) (suc i) s inside is = page_here slots i s (omega (arith, inside)) is
 
-pub fit_set : (shape : Shape) (slots : List Slot) (i : ℕ) (s : Slot) → AllFit shape slots → Fits shape s → AllFit shape (slice_set slots i s)
+pub fit_set : (shape : Shape) (slots : List Slot) (i : ℕ) (s : Slot) → AllFit shape slots → SlotFits shape s → AllFit shape (slice_set slots i s)
 fit_set shape [] i s fit own k bytes e = fit k bytes e
 fit_set shape (x ∷ slots) zero s fit own zero bytes e = own bytes e
 fit_set shape (x ∷ slots) zero s fit own (suc k) bytes e = fit (suc k) bytes e
 fit_set shape (x ∷ slots) (suc i) s fit own zero bytes e = fit zero bytes e
 fit_set shape (x ∷ slots) (suc i) s fit own (suc k) bytes e = fit_set shape slots i s (λ j b h. fit (suc j) b h) own k bytes e
 
-pub fit_more : (shape : Shape) (slots : List Slot) (s : Slot) → AllFit shape slots → Fits shape s → AllFit shape (slots ++ s ∷ [])
+pub fit_more : (shape : Shape) (slots : List Slot) (s : Slot) → AllFit shape slots → SlotFits shape s → AllFit shape (slots ++ s ∷ [])
 fit_more shape [] s fit own zero bytes e = own bytes e
 fit_more shape [] s fit own (suc k) bytes e = cc
 fit_more shape (x ∷ slots) s fit own zero bytes e = fit zero bytes e
 fit_more shape (x ∷ slots) s fit own (suc k) bytes e = fit_more shape slots s (λ j b h. fit (suc j) b h) own k bytes e
 
-bytes_pushed : (slots : List Slot) (s : Slot) → bytes_of (slots ++ s ∷ []) ≡ bytes_of slots ++ byte_by s ∷ []
+bytes_pushed : (slots : List Slot) (s : Slot) → state_bytes (slots ++ s ∷ []) ≡ state_bytes slots ++ byte_by s ∷ []
 bytes_pushed [] s = refl
 bytes_pushed (x ∷ slots) s = ap (λ (l : List ℕ). byte_by x ∷ l) (bytes_pushed slots s)
 
-pub bytes_more : (slots : List Slot) (s : Slot) (states : List ℕ) (i : ℕ) → i < length states → bytes_of slots ≡ take i states → byte_by s ≡ get_or states i 0 → bytes_of (slots ++ s ∷ []) ≡ take (i + 1) states
+pub bytes_more : (slots : List Slot) (s : Slot) (states : List ℕ) (i : ℕ) → i < length states → state_bytes slots ≡ take i states → byte_by s ≡ get_or states i 0 → state_bytes (slots ++ s ∷ []) ≡ take (i + 1) states
 bytes_more slots s states i h before own = bytes_pushed slots s ∙ (λ j. before j ++ own j ∷ []) ∙ sym (take_more states i 0 h)
 
 pub byte_small : (s : Slot) (byte : ℕ) → byte_by s ≡ byte → byte < 3

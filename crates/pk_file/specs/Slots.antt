@@ -7,13 +7,13 @@ use Rattle.pk_file.specs.declared.slot.Slot.{Slot}
 use Rattle.pk_file.specs.declared.slot.Slot.TheVariants.{Erased, Whole, Torn}
 use Rattle.pk_file.specs.Trims.{bytes_in}
 
-abbrev pub page_of : Slot → Page
-page_of (Erased extent) = erased
-page_of (Whole kept) = whole (bytes_in kept)
-page_of (Torn extent) = torn
+abbrev pub slot_page : Slot → Page
+slot_page (Erased extent) = erased
+slot_page (Whole kept) = whole (bytes_in kept)
+slot_page (Torn extent) = torn
 
 abbrev pub pages_of : List Slot → Flash
-pages_of slots = map page_of slots
+pages_of slots = map slot_page slots
 
 -- the byte that says the state of a page in an image file
 abbrev pub byte_by : Slot → ℕ
@@ -22,12 +22,12 @@ byte_by (Whole kept) = WHOLE
 byte_by (Torn extent) = TORN
 
 -- the state bytes of slots
-abbrev pub bytes_of : List Slot → List ℕ
-bytes_of slots = map byte_by slots
+abbrev pub state_bytes : List Slot → List ℕ
+state_bytes slots = map byte_by slots
 
 -- a Whole slot has the bytes of a page
-abbrev pub Fits : Shape → Slot → Type 0
-Fits shape slot = (bytes : List ℕ) → page_of slot ≡ whole bytes → IsPage shape bytes
+abbrev pub SlotFits : Shape → Slot → Type 0
+SlotFits shape slot = (bytes : List ℕ) → slot_page slot ≡ whole bytes → IsPage shape bytes
 
 -- each Whole one of them has the bytes of a page
 abbrev pub AllFit : Shape → List Slot → Type 0

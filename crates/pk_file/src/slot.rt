@@ -1,7 +1,7 @@
 //! A page in memory, and how far its bytes in the file may differ from zero.
 ghost use Rattle.std.specs.Prelude.{◌≡◌};
 ghost use Rattle.pk_base.specs.Page.{erased, torn};
-ghost use Rattle.pk_file.specs.Slots.{page_of};
+ghost use Rattle.pk_file.specs.Slots.{slot_page};
 ghost use Rattle.pk_file.specs.Trims.{ZerosFrom};
 ghost use Rattle.pk_file.specs.Extents.{extent_of, StaysWithin};
 
@@ -30,7 +30,7 @@ impl Slot {
 
     /// The page when it is erased, which leaves its bytes in the file.
     pub fn erased(&self) -> Slot
-        ensures page { page_of result ≡ erased }
+        ensures page { slot_page result ≡ erased }
         ensures extent { extent_of result ≡ extent_of self.now }
     {
         Slot::Erased {
@@ -41,7 +41,7 @@ impl Slot {
     /// The page when a program of these bytes broke off, of which only zeros follow the first `front`.
     pub fn torn(&self, bytes: &[u8], front: usize) -> Slot
         requires { ZerosFrom front bytes.now }
-        ensures page { page_of result ≡ torn }
+        ensures page { slot_page result ≡ torn }
         ensures extent { StaysWithin (extent_of self.now) bytes.now (extent_of result) }
     {
         let _ = bytes;

@@ -9,7 +9,7 @@ ghost use Rattle.pk_nand.specs.declared.types.LoadFault.{LoadFault};
 ghost use Rattle.pk_image.specs.declared.head.TheConstants.{HEADER_BYTES};
 ghost use Rattle.pk_image.specs.declared.tag.TheConstants.{TORN};
 ghost use Rattle.pk_image.specs.Image.{bad_state, byte_of};
-ghost use Rattle.pk_file.specs.Slots.{byte_by, page_of, pages_of, bytes_of, Fits, AllFit, ErasedRow};
+ghost use Rattle.pk_file.specs.Slots.{byte_by, slot_page, pages_of, state_bytes, SlotFits, AllFit, ErasedRow};
 ghost use Rattle.pk_file.specs.Extents.{extent_of, extents_of};
 
 use crate::page_reader::PageReader;
@@ -69,7 +69,7 @@ fn slot_in(
     requires exists { page < length states.now }
     ensures shape { reader.new.shape ≡ reader.old.shape }
     ensures state { IfOk result (λ slot. byte_by slot ≡ slice_index states.now page) }
-    ensures fit { IfOk result (λ slot. Fits reader.old.shape slot) }
+    ensures fit { IfOk result (λ slot. SlotFits reader.old.shape slot) }
     ensures bad { (at : ℕ) → result ≡ Err (LoadFault.BadImage at)
         → (TORN < slice_index states.now page) × (at ≡ HEADER_BYTES + page) }
 {
@@ -95,7 +95,7 @@ pub fn slots_of(
     states: &[u8],
 ) -> Result<Vec<Slot>, LoadFault>
     requires { length states.now ≡ spec.page_count reader.old.shape }
-    ensures states { IfOk result (λ v. bytes_of v.items ≡ states.now) }
+    ensures states { IfOk result (λ v. state_bytes v.items ≡ states.now) }
     ensures fit { IfOk result (λ v. AllFit reader.old.shape v.items) }
     ensures bad { (at : ℕ) → result ≡ Err (LoadFault.BadImage at)
         → bad_state HEADER_BYTES states.now ≡ Some at }
@@ -137,11 +137,11 @@ pub fn read_slot(slots: &Vec<Slot>, page: usize, into: &mut [u8]) -> PageRead
 pub fn set_slot(slots: &mut Vec<Slot>, page: usize, slot: Slot)
     requires { page < length slots.old.items }
     ensures pages { pages_of slots.new.items
-        ≡ slice_set (pages_of slots.old.items) page (page_of slot) }
+        ≡ slice_set (pages_of slots.old.items) page (slot_page slot) }
     ensures extents { extents_of slots.new.items
         ≡ slice_set (extents_of slots.old.items) page (extent_of slot) }
     ensures count { length slots.new.items ≡ length slots.old.items }
-    ensures fit { (shape : spec.Shape) → AllFit shape slots.old.items → Fits shape slot
+    ensures fit { (shape : spec.Shape) → AllFit shape slots.old.items → SlotFits shape slot
         → AllFit shape slots.new.items }
 {
     slots[page] = slot;

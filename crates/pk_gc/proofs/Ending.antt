@@ -21,7 +21,7 @@ use Rattle.pk_live.specs.Lives.{head_of}
 use Rattle.pk_moves.specs.Moves.{AreApart, entries_of}
 use Rattle.pk_gc.specs.declared.course.Course.{Course}
 use Rattle.pk_gc.specs.declared.moves.Move.{Move}
-use Rattle.pk_gc.specs.State.{JobState, source, placed_at, new_place, entry_of, is_left, left_of, is_new, heads_behind, entries_behind, heads_all, CanGo, CanGoAll}
+use Rattle.pk_gc.specs.State.{JobState, source, placed_at, new_place, moved_entry, is_left, left_of, is_new, heads_behind, entries_behind, heads_all, CanGo, CanGoAll}
 use Rattle.pk_gc.specs.Running.{AreInOrder, IsMove, IsRunning}
 use Rattle.pk_gc.specs.Committing.{entries_left, HasRoom}
 use Rattle.pk_gc.specs.Stepping.{Hands}
@@ -214,15 +214,15 @@ module _ (n victim output : ℕ) (other : victim ≢ output) where
     room : (length es < cap) ⊎ IsSome (find key_cmp m.key es)
     others : length (put key_cmp m.key (Some (new_place m)) es) + count_by (is_new (put key_cmp m.key (Some (new_place m)) es)) (entries_left heads ms) ≤ cap
 
-  one_goes : (cap : ℕ) (heads : List ℕ) (es : List Entry) (m : Move) (ms : List Move) → T (is_sorted key_cmp es) → length es + count_by (is_new es) (entry_of m ∷ entries_left heads ms) ≤ cap → OneGoes cap heads es m ms
+  one_goes : (cap : ℕ) (heads : List ℕ) (es : List Entry) (m : Move) (ms : List Move) → T (is_sorted key_cmp es) → length es + count_by (is_new es) (moved_entry m ∷ entries_left heads ms) ≤ cap → OneGoes cap heads es m ms
   one_goes cap heads es m ms rising fits =
-      let all = sum_by-cons (λ y. cond (is_new es y) 1 0) (entry_of m) (entries_left heads ms) in
+      let all = sum_by-cons (λ y. cond (is_new es y) 1 0) (moved_entry m) (entries_left heads ms) in
       let less = fewer_new es m.key (Some (new_place m)) (entries_left heads ms) in
       let size = length-put key_cmp key_total m.key (Some (new_place m)) es rising in
       by_find (find key_cmp m.key es) refl all less size
     where
       by_find : (o : Option (Option Place)) → find key_cmp m.key es ≡ o
-          → count_by (is_new es) (entry_of m ∷ entries_left heads ms) ≡ cond (is_none (find key_cmp m.key es)) 1 0 + count_by (is_new es) (entries_left heads ms)
+          → count_by (is_new es) (moved_entry m ∷ entries_left heads ms) ≡ cond (is_none (find key_cmp m.key es)) 1 0 + count_by (is_new es) (entries_left heads ms)
           → count_by (is_new (put key_cmp m.key (Some (new_place m)) es)) (entries_left heads ms) ≤ count_by (is_new es) (entries_left heads ms)
           → length (put key_cmp m.key (Some (new_place m)) es) ≡ cond (is_some (find key_cmp m.key es)) (length es) (length es + 1)
           → OneGoes cap heads es m ms
@@ -242,7 +242,7 @@ module _ (n victim output : ℕ) (other : victim ≢ output) where
     where
       now : CanGo n cap heads es m
       now left =
-          let fits_left : length es + count_by (is_new es) (entry_of m ∷ entries_left heads ms) ≤ cap = subst (λ b. length es + count_by (is_new es) (entries_of (placed_at (cond b (m ∷ left_of heads ms) (left_of heads ms)))) ≤ cap) left fits in
+          let fits_left : length es + count_by (is_new es) (moved_entry m ∷ entries_left heads ms) ≤ cap = subst (λ b. length es + count_by (is_new es) (entries_of (placed_at (cond b (m ∷ left_of heads ms) (left_of heads ms)))) ≤ cap) left fits in
           let one = one_goes cap heads es m ms rising fits_left in
           (set.0.from_is left, get-set_other heads m.from m.to 0 (λ same. from_not_to m blocks.0 (sym same)) ∙ set.0.to_is, set.0.inside, one.room)
 
@@ -251,7 +251,7 @@ module _ (n victim output : ℕ) (other : victim ≢ output) where
 
       by_left : (b : Bool) → is_left heads m ≡ b → T (is_sorted key_cmp (cond b (put key_cmp m.key (Some (new_place m)) es) es)) × (length (cond b (put key_cmp m.key (Some (new_place m)) es) es) + count_by (is_new (cond b (put key_cmp m.key (Some (new_place m)) es) es)) (entries_left heads ms) ≤ cap)
       by_left true is =
-          let fits_left : length es + count_by (is_new es) (entry_of m ∷ entries_left heads ms) ≤ cap = subst (λ b. length es + count_by (is_new es) (entries_of (placed_at (cond b (m ∷ left_of heads ms) (left_of heads ms)))) ≤ cap) is fits in
+          let fits_left : length es + count_by (is_new es) (moved_entry m ∷ entries_left heads ms) ≤ cap = subst (λ b. length es + count_by (is_new es) (entries_of (placed_at (cond b (m ∷ left_of heads ms) (left_of heads ms)))) ≤ cap) is fits in
           (is_sorted-put key_cmp key_total m.key (Some (new_place m)) es rising, (one_goes cap heads es m ms rising fits_left).others)
       by_left false is = (rising, subst (λ b. length es + count_by (is_new es) (entries_of (placed_at (cond b (m ∷ left_of heads ms) (left_of heads ms)))) ≤ cap) is fits)
 

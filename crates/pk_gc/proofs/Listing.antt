@@ -6,7 +6,7 @@ use Rattle.pk_live.specs.Values.{Values}
 use Rattle.pk_buf.specs.Table.{Table}
 use Rattle.pk_moves.specs.Moves.{entries_of}
 use Rattle.pk_gc.specs.declared.moves.Move.{Move}
-use Rattle.pk_gc.specs.State.{entry_of, placed_at, is_left, left_of, heads_behind, entries_behind, heads_all, entries_all}
+use Rattle.pk_gc.specs.State.{moved_entry, placed_at, is_left, left_of, heads_behind, entries_behind, heads_all, entries_all}
 
 abbrev pub entries_left : List ℕ → List Move → List Entry
 entries_left heads ms = entries_of (placed_at (left_of heads ms))
@@ -15,7 +15,7 @@ pub left_push : (heads : List ℕ) (ms : List Move) (m : Move) → entries_left 
 left_push heads [] m = refl
 left_push heads (x ∷ ms) m =
     elim (is_left heads x) as (λ b. entries_of (placed_at (cond b (x ∷ left_of heads (ms ++ m ∷ [])) (left_of heads (ms ++ m ∷ [])))) ≡ entries_of (placed_at (cond b (x ∷ left_of heads ms) (left_of heads ms))) ++ entries_left heads (m ∷ [])) [
-      | true ↦ ap (λ (es : List Entry). entry_of x ∷ es) (left_push heads ms m)
+      | true ↦ ap (λ (es : List Entry). moved_entry x ∷ es) (left_push heads ms m)
       | false ↦ left_push heads ms m
     ]
 

@@ -15,7 +15,7 @@ use Rattle.pk_gc.specs.State.{JobState, CanGoAll, heads_all, source}
 use Rattle.pk_gc.specs.Victims.{AreDead}
 use Rattle.pk_gc.specs.Committing.{BecameOf, Adds, Refuses, entries_left}
 use Rattle.pk_gc.specs.Stepping.{Hands, CanEnd, Finishes, moved_in, handed_over, victim_given}
-use Rattle.pk_gc.specs.Asking.{CanFinish, Finished, IsBehindCommit}
+use Rattle.pk_gc.specs.Asking.{CanFinish, ReclaimFinished, IsBehindCommit}
 
 -- ---- the search for the next head
 
@@ -97,7 +97,7 @@ module _ (c : Course) (job : JobState) (h : Hands) (old : BoardState) (epoch : J
     -- commit and end together finish the reclaim, if the commit left this job
     pub finishes : (committed : Committed) (kept : JobState) → CommitsIn committed
         → IsBehindCommit committed c.victim (entries_left h.live.heads job.moves) job kept
-        → Finished committed c kept (record h { epoch = epoch }) job' h' r → FinishesIn r
+        → ReclaimFinished committed c kept (record h { epoch = epoch }) job' h' r → FinishesIn r
     finishes None kept commits same done =
         let rests : record h { epoch = epoch } ≡ h = λ i. record h { epoch = commits.1.kept i } in
         subst FinishesIn (sym done.0) (record {

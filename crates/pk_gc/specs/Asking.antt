@@ -48,8 +48,8 @@ pub record MayCopy (c : Course) (job : JobState) (flash : Flash) : Type 0 where
   pub runs : IsRunning job.shape c job.moves job.page flash es
 
 -- a copy that runs does so with this course and page, too, after what was done to the flash
-abbrev pub RunsOn : Course → JobState → Flash → Course → List ℕ → Flash → Type 0
-RunsOn c job flash c' page' flash' =
+abbrev pub ReclaimRunsOn : Course → JobState → Flash → Course → List ℕ → Flash → Type 0
+ReclaimRunsOn c job flash c' page' flash' =
     (es : List (Key × Place)) → IsRunning job.shape c job.moves job.page flash es
     → IsRunning job.shape c' job.moves page' flash' es
 
@@ -125,10 +125,10 @@ pub record CanFinish (committed : Committed) (c : Course) (job : JobState) (live
   pub open_exists : MatchOption front (Unit {0}) (λ o. o.block < length live.closed)
 
 -- what the end made of job and parts, by what became of the moves
-abbrev pub Finished : Committed → Course → JobState → Hands → JobState → Hands → Reclaimed → Type 0
-Finished NoneLeft c job h job' h' r =
+abbrev pub ReclaimFinished : Committed → Course → JobState → Hands → JobState → Hands → Reclaimed → Type 0
+ReclaimFinished NoneLeft c job h job' h' r =
     (r ≡ Ended) × (job' ≡ record job { phase = Idle; entries = [] })
     × (h' ≡ victim_given c.victim (handed_over c h))
-Finished NoRoom c job h job' h' r = (r ≡ NeedsFreeze) × (job' ≡ job) × (h' ≡ h)
-Finished All c job h job' h' r =
+ReclaimFinished NoRoom c job h job' h' r = (r ≡ NeedsFreeze) × (job' ≡ job) × (h' ≡ h)
+ReclaimFinished All c job h job' h' r =
     (r ≡ Worked) × (job' ≡ job) × (h' ≡ handed_over c (moved_in job h))

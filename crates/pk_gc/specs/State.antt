@@ -37,8 +37,8 @@ placed_at [] = []
 placed_at (m ∷ ms) = (m.key, new_place m) ∷ placed_at ms
 
 -- the entry that names the new place
-abbrev pub entry_of : Move → Entry
-entry_of m = put_entry m.key (new_place m)
+abbrev pub moved_entry : Move → Entry
+moved_entry m = put_entry m.key (new_place m)
 
 -- a value begins at the old place still
 abbrev pub is_left : List ℕ → Move → Bool

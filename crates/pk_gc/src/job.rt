@@ -24,7 +24,7 @@ ghost use Rattle.pk_gc.specs.Committing.{BecameOf, entries_left};
 ghost use Rattle.pk_gc.specs.Stepping.{CanStep, Steps, ProgramsHeld, IsHalfCommitted, runs_in};
 ghost use Rattle.pk_gc.specs.Breaking.{JobBroken, FailsToCopy};
 ghost use Rattle.pk_gc.specs.Asking.{MayStart, MayCopy, MayBegin, ReadsFirst, CannotRead};
-ghost use Rattle.pk_gc.specs.Asking.{IsEpoch, CannotAdd, IsBehindCommit, CanFinish, Finished, RunsOn, hands_of};
+ghost use Rattle.pk_gc.specs.Asking.{IsEpoch, CannotAdd, IsBehindCommit, CanFinish, ReclaimFinished, ReclaimRunsOn, hands_of};
 
 use crate::course::{Course, Phase};
 use crate::moves::{Move, apply, fill_left, new_keys};
@@ -352,7 +352,7 @@ impl<A: Region> ReclaimJob<A> {
               page = self.new.page;
             }) }
         ensures board { OnOk result (B.state board.new ≡ after_read (B.state board.old)) }
-        ensures runs { OnOk result (RunsOn course self.old (B.state board.old).pages
+        ensures runs { OnOk result (ReclaimRunsOn course self.old (B.state board.old).pages
             (read_next course) self.new.page (B.state board.new).pages) }
 
         // Or this failed.
@@ -384,7 +384,7 @@ impl<A: Region> ReclaimJob<A> {
         ensures worked { IfOk result (λ r. r ≡ Worked) }
         ensures programs { OnOk result (ProgramsHeld course self.old (B.state board.old) self.new
             (B.state board.new)) }
-        ensures runs { OnOk result (RunsOn course self.old (B.state board.old).pages
+        ensures runs { OnOk result (ReclaimRunsOn course self.old (B.state board.old).pages
             (programmed course) self.old.page (B.state board.new).pages) }
 
         // Or this failed.
@@ -522,7 +522,7 @@ impl<A: Region> ReclaimJob<A> {
         front: &mut Option<OpenBlock>,
     ) -> Reclaimed
         requires can { CanFinish committed course self.old live.old front.old pool.old active.old }
-        ensures finished { (epoch : JournalEpoch) → Finished committed course self.old
+        ensures finished { (epoch : JournalEpoch) → ReclaimFinished committed course self.old
             (hands_of live.old front.old pool.old active.old epoch) self.new
             (hands_of live.new front.new pool.new active.new epoch) result }
         ensures shape { self.new.shape ≡ self.old.shape }

@@ -1,7 +1,7 @@
 //! The values that a reclaim copied.
 ghost use Rattle.std.specs.Prelude.{◌≡◌, ◌+◌, ◌<◌, ◌≤◌, ◌++◌, ◌∷◌, [], length, vec_capacity, count_by};
 ghost use Rattle.pk_base.specs.Seen.{entry as seen, entries as seen_all};
-ghost use Rattle.pk_gc.specs.State.{entry_of, is_new, heads_behind, entries_behind};
+ghost use Rattle.pk_gc.specs.State.{moved_entry, is_new, heads_behind, entries_behind};
 ghost use Rattle.pk_gc.specs.State.{heads_all, entries_all, CanGo, CanGoAll};
 ghost use Rattle.pk_gc.specs.Committing.{entries_left};
 
@@ -25,7 +25,7 @@ pub struct Move {
 impl Move {
     /// The entry that names the new place.
     pub fn entry(&self) -> Entry
-        ensures { seen result ≡ entry_of self.now }
+        ensures { seen result ≡ moved_entry self.now }
     {
         Entry::Put {
             key: self.key.copy(),

@@ -25,7 +25,7 @@ use Rattle.pk_merge.specs.declared.source.Source.TheVariants.{Frozen, Run}
 use Rattle.pk_merge.specs.Cursors.{Cursor, Follows, own_page}
 use Rattle.pk_merge.specs.Sources.{Has, FollowsIn, IsOf, blocks_in}
 use Rattle.pk_merge.specs.Merging.{Merger, StandsIn}
-use Rattle.pk_merge.specs.Outputs.{AreMeta, AreApart, IsOutput, OthersStand, next_bytes}
+use Rattle.pk_merge.specs.Outputs.{AreMeta, BlocksApart, IsOutput, OthersStand, next_bytes}
 use Rattle.pk_merge.proofs.Places.{apart, rest, block_there, page_of_place, other_page}
 
 -- a run's pages are the same, and it is as before
@@ -181,7 +181,7 @@ output_with pool out b old new is shape spare exists same erased_all meta within
 
 module _ (out : Kept) (more : List Entry) (old new : BoardState) (before after : Frames) (is : IsShape out.shape) (inside : length out.firsts < length out.blocks * out.shape.block_pages)
     (program : new ≡ after_program old (page_of out (length out.firsts)) (next_bytes out more)) (others : OthersStand out old.pages before new.pages after) where
-  pub moves_by_program : (r : Kept) (any : List Entry) → RunOnFlash r old.pages before any → r.shape ≡ out.shape → AreApart r.blocks out.blocks → Moves r old.pages new.pages before after
+  pub moves_by_program : (r : Kept) (any : List Entry) → RunOnFlash r old.pages before any → r.shape ≡ out.shape → BlocksApart r.blocks out.blocks → Moves r old.pages new.pages before after
   moves_by_program r any st shape apart_from =
       let some : 0 < out.shape.block_pages = let least : 8 ≤ out.shape.block_pages = is.block_least in omega arith in
       let pages : new.pages ≡ set old.pages (page_of out (length out.firsts)) (whole (next_bytes out more)) = ap (λ (b : BoardState). b.pages) program in (
@@ -194,6 +194,6 @@ module _ (out : Kept) (more : List Entry) (old new : BoardState) (before after :
         λ es s. others r es apart_from shape s,
       )
 
-  pub source_by_program : {X : Type 0} (source : Source X) (es : List Entry) → Has source old.pages before es → IsOf out.shape source → AreApart (blocks_in source) out.blocks → MovesIn source old.pages new.pages before after
+  pub source_by_program : {X : Type 0} (source : Source X) (es : List Entry) → Has source old.pages before es → IsOf out.shape source → BlocksApart (blocks_in source) out.blocks → MovesIn source old.pages new.pages before after
   source_by_program (Frozen x) es has of apart_from = tt
   source_by_program (Run r) es has of apart_from = moves_by_program r.now es has of apart_from

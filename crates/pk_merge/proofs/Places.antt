@@ -11,7 +11,7 @@ use Rattle.pk_nand.specs.Calls.{InOrder}
 use Rattle.pk_pin.specs.Frames.{Frames}
 use Rattle.pk_run.specs.Kept.{Kept, IsKept, RunOnFlash, page_of}
 use Rattle.pk_run.proofs.Lookups.{page_stands}
-use Rattle.pk_merge.specs.Outputs.{IsOutput, AreApart}
+use Rattle.pk_merge.specs.Outputs.{IsOutput, BlocksApart}
 
 -- the rows of block a end if those of a later block begin, or before
 pub apart : (a b n : ℕ) → a < b → a * n + n ≤ b * n
@@ -53,7 +53,7 @@ module _ (shape : Shape) (some : 0 < shape.block_pages) (blocks : List ℕ) wher
       sym (div-add-mod' j n) ∙ (λ k. quotients k * n + rests k) ∙ div-add-mod' i n
 
 -- nor have those of two lists of blocks that are apart
-pub other_page : (shape : Shape) (some : 0 < shape.block_pages) (blocks others : List ℕ) (i j : ℕ) → AreApart others blocks → i < length blocks * shape.block_pages → j < length others * shape.block_pages
+pub other_page : (shape : Shape) (some : 0 < shape.block_pages) (blocks others : List ℕ) (i j : ℕ) → BlocksApart others blocks → i < length blocks * shape.block_pages → j < length others * shape.block_pages
     → page_in shape others j ≡ page_in shape blocks i → ⊥
 other_page shape some blocks others i j apart inside small same =
     let n : ℕ = shape.block_pages in

@@ -22,7 +22,7 @@ use Rattle.pk_nand.proofs.Writing.{SameOutside-set}
 use Rattle.pk_pin.specs.Frames.{Frames, leased, KeepsPage}
 use Rattle.pk_run.specs.Kept.{Kept, IsNext, IsPinnedAlike, RunOnFlash, page_of, with_page}
 use Rattle.pk_run.proofs.Others.{RunOnFlash-outside, RunOnFlash-taken, RunOnFlash-filled}
-use Rattle.pk_merge.specs.Outputs.{AreApart, IsOutput, ProgramsPage, OthersStand, next_bytes, SameButNext}
+use Rattle.pk_merge.specs.Outputs.{BlocksApart, IsOutput, ProgramsPage, OthersStand, next_bytes, SameButNext}
 use Rattle.pk_merge.proofs.Overs.{left_part, right_part}
 use Rattle.pk_merge.proofs.Places.{only_index, other_page}
 use Rattle.pk_level.specs.Arenas.{IsPinnedIf}
@@ -89,7 +89,7 @@ module _ (r : Kept) (flash : Flash) (is : IsShape r.shape) (inside : length r.fi
   flash' = set flash next (whole bytes)
 
   -- another run
-  pub others_stand : (arena : Frames) (other : Kept) (es : List Entry) → AreApart other.blocks r.blocks → other.shape ≡ r.shape → RunOnFlash other flash arena es → RunOnFlash other flash' arena es
+  pub others_stand : (arena : Frames) (other : Kept) (es : List Entry) → BlocksApart other.blocks r.blocks → other.shape ≡ r.shape → RunOnFlash other flash arena es → RunOnFlash other flash' arena es
   others_stand arena other es apart same s =
       RunOnFlash-outside other flash flash' arena es next 1 (nothing_else flash next bytes)
       (λ j h. beside (page_of other j) next (λ e.

@@ -8,7 +8,7 @@ use Rattle.pk_pool.specs.Blocks.{Blocks}
 use Rattle.pk_run.specs.Kept.{Kept, IsKept, most_pages, most_blocks}
 use Rattle.pk_merge.specs.declared.source.Source.{Source}
 use Rattle.pk_merge.specs.Merging.{Merger, IsDone}
-use Rattle.pk_merge.specs.Running.{merged, Running, IsWhole}
+use Rattle.pk_merge.specs.Running.{merged, Running, IsOutputWhole}
 use Rattle.pk_merge.specs.Steps.{Steps}
 use Rattle.pk_merge.specs.Remaining.{LowersTo}
 use Rattle.pk_merge.specs.Elsewhere.{StepReaches, LeavesRuns}
@@ -26,7 +26,7 @@ module _ {X : Type 0} (source : Source X) (target : Kept) (pins : Bool) (out : K
   pub same_level : out'.level ≡ out.level
   same_level = acts_level source target pins out m pool old before s.next out' s.between pool' new after s.acts
 
-  pub whole : IsDone source target m' → IsWhole pins out' new.pages after (merged out'.level es fs)
+  pub whole : IsDone source target m' → IsOutputWhole pins out' new.pages after (merged out'.level es fs)
   whole done = stands_done source target pins out' m' pool' new.pages after es fs (subst IsShape (sym r.shapes.of_target ∙ runs_on.shapes.of_target) is) done runs_on
 
   pub lowers_rest : (pages blocks : ℕ) → run_pages out.shape (length (merged out.level es fs)) ≤ pages → run_blocks out.shape (length (merged out.level es fs)) ≤ blocks

@@ -24,8 +24,8 @@ use Rattle.pk_merge.specs.declared.next.Next.TheVariants.{LoadSource, LoadTarget
 use Rattle.pk_merge.specs.Cursors.{Follows}
 use Rattle.pk_merge.specs.Sources.{FollowsIn, IsOf, blocks_in, after_look_at}
 use Rattle.pk_merge.specs.Merging.{Merger, left, StandsIn, GoesOn, HasNextPage, IsAtEnd, IsDone, Tells}
-use Rattle.pk_merge.specs.Outputs.{AreMeta, AreApart, IsOutput, TakesBlock, ProgramsPage, next_bytes}
-use Rattle.pk_merge.specs.Running.{merged, Running, HasNoSpare, IsWhole}
+use Rattle.pk_merge.specs.Outputs.{AreMeta, BlocksApart, IsOutput, TakesBlock, ProgramsPage, next_bytes}
+use Rattle.pk_merge.specs.Running.{merged, Running, HasNoSpare, IsOutputWhole}
 use Rattle.pk_merge.proofs.Telling.{many_in, drop_end}
 use Rattle.pk_merge.proofs.Places.{block_there, rest}
 use Rattle.pk_merge.proofs.Programming.{pinned_page}
@@ -162,7 +162,7 @@ module _ {X : Type 0} (source : Source X) (target : Kept) (pins : Bool) (out : K
         | inl here ↦ meta_more out.blocks r.blocks.own i x here
         | inr last ↦ rw last.1 (elim t.spare [ inl free ↦ set_is pool.states b Free (Owned Meta) free | inr ready ↦ set_is pool.states b Ready (Owned Meta) ready ])
       ] in
-      let apart_more : (blocks : List ℕ) → AreMeta pool blocks → AreApart blocks out.blocks → AreApart blocks (out.blocks ++ b ∷ []) = λ blocks meta apart i j x got had. elim (from_more out.blocks b j x had) [
+      let apart_more : (blocks : List ℕ) → AreMeta pool blocks → BlocksApart blocks out.blocks → BlocksApart blocks (out.blocks ++ b ∷ []) = λ blocks meta apart i j x got had. elim (from_more out.blocks b j x had) [
         | inl here ↦ apart i j x got here
         | inr last ↦ spare_apart pool blocks b i t.spare meta (got ∙ ap (λ (y : ℕ). Some y) last.1)
       ] in
@@ -302,7 +302,7 @@ acts_level source target pins out m pool old before Program out' m' pool' new af
 
 -- at the end the output represents the whole merge, in as many blocks as it needs
 pub stands_done : {X : Type 0} (source : Source X) (target : Kept) (pins : Bool) (out : Kept) (m : Merger) (pool : Blocks) (flash : Flash) (arena : Frames) (es fs : List Entry) → IsShape out.shape → IsDone source target m
-    → Running source target pins out m pool flash arena es fs → IsWhole pins out flash arena (merged out.level es fs)
+    → Running source target pins out m pool flash arena es fs → IsOutputWhole pins out flash arena (merged out.level es fs)
 stands_done source target pins out m pool flash arena es fs is done r =
     let g = r.merging in
     let none : m.gathered ++ left out.level es fs m ≡ [] = ap (λ (xs : List Entry). xs ++ left out.level es fs m) done.1 ∙ left_end source target flash arena es fs m out.level g.cursors done.0 in

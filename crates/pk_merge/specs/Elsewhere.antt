@@ -10,7 +10,7 @@ use Rattle.pk_pool.specs.declared.state.BlockState.TheVariants.{Owned}
 use Rattle.pk_pool.specs.Blocks.{Blocks, PoolOnFlash, IsSpare, used_by}
 use Rattle.pk_pool.specs.Taking.{ReachesIn, WentIn}
 use Rattle.pk_run.specs.Kept.{Kept, RunOnFlash}
-use Rattle.pk_merge.specs.Outputs.{AreMeta, AreApart}
+use Rattle.pk_merge.specs.Outputs.{AreMeta, BlocksApart}
 
 -- nothing was called, or a page was read
 abbrev pub IsLook : BoardState → BoardState → Type 0
@@ -30,7 +30,7 @@ StepWent pool out old new = (b : ℕ) × IsForOutput pool out b × WentIn out.sh
 -- A run of the same shape, whose blocks are owned for meta pages and none of the output's, is as before.
 abbrev pub LeavesRuns : Blocks → Kept → Flash → Frames → Flash → Frames → Type 0
 LeavesRuns pool out old before new after =
-    (other : Kept) (es : List Entry) → other.shape ≡ out.shape → AreMeta pool other.blocks → AreApart other.blocks out.blocks → RunOnFlash other old before es → RunOnFlash other new after es
+    (other : Kept) (es : List Entry) → other.shape ≡ out.shape → AreMeta pool other.blocks → BlocksApart other.blocks out.blocks → RunOnFlash other old before es → RunOnFlash other new after es
 
 -- The leases of the arena are those of the output and others, which are unchanged.
 abbrev pub LeavesLeases : Kept → Frames → Kept → Frames → Type 0

@@ -9,7 +9,7 @@ use Rattle.pk_run.specs.Kept.{Kept, RunOnFlash, empty}
 use Rattle.pk_merge.specs.declared.source.Source.{Source}
 use Rattle.pk_merge.specs.Merging.{Merger, restarted}
 use Rattle.pk_merge.specs.Outputs.{AreMeta}
-use Rattle.pk_merge.specs.Running.{Running, IsWhole, merged}
+use Rattle.pk_merge.specs.Running.{Running, IsOutputWhole, merged}
 use Rattle.pk_merge.specs.Remaining.{LowersTo}
 
 -- how many levels have frames for their pages, the level of the target or 0, the output, the state of the merge, and a run for each level but those
@@ -72,7 +72,7 @@ module _ {X : Type 0} (source : Source X) (target : Kept) where
   -- and if it is done its output is complete
   abbrev pub Completes : Job → Blocks → Flash → Frames → Job → Flash → Frames → Bool → Type 0
   Completes j pool old before j' new after done =
-      IsTrue done → (es fs : List Entry) → JobRuns source target j pool old before es fs → IsWhole (pins j) (output_of j') new after (merged (output_of j').level es fs)
+      IsTrue done → (es fs : List Entry) → JobRuns source target j pool old before es fs → IsOutputWhole (pins j) (output_of j') new after (merged (output_of j').level es fs)
 
   -- a step lowers what remains for the pages and blocks of the whole output, or for more
   abbrev pub LowersRest : Job → Blocks → Flash → Frames → Job → Blocks → Type 0

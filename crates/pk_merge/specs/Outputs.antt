@@ -26,8 +26,8 @@ abbrev pub AreMeta : Blocks → List ℕ → Type 0
 AreMeta pool blocks = (i b : ℕ) → slice_get blocks i ≡ Some b → slice_get pool.states b ≡ Some (Owned Meta)
 
 -- no block of the one list is one of the other
-abbrev pub AreApart : List ℕ → List ℕ → Type 0
-AreApart blocks others = (i j b : ℕ) → slice_get blocks i ≡ Some b → slice_get others j ≡ Some b → ⊥
+abbrev pub BlocksApart : List ℕ → List ℕ → Type 0
+BlocksApart blocks others = (i j b : ℕ) → slice_get blocks i ≡ Some b → slice_get others j ≡ Some b → ⊥
 
 -- Its blocks are different, and exist; the pages of them that it has not reached are Erased.
 pub record IsOutput (r : Kept) (flash : Flash) : Type 0 where
@@ -64,7 +64,7 @@ next_bytes r more = meta_bytes r.shape r.level (length r.firsts) more
 
 -- a run whose blocks are none of the output's is as before
 abbrev pub OthersStand : Kept → Flash → Frames → Flash → Frames → Type 0
-OthersStand r old before new after = (other : Kept) (es : List Entry) → AreApart other.blocks r.blocks → other.shape ≡ r.shape → RunOnFlash other old before es → RunOnFlash other new after es
+OthersStand r old before new after = (other : Kept) (es : List Entry) → BlocksApart other.blocks r.blocks → other.shape ≡ r.shape → RunOnFlash other old before es → RunOnFlash other new after es
 
 -- wherever the program of its next page is cut, no page outside the pair of that page differs
 abbrev pub SameButNext : Kept → Flash → Flash → Type 0

@@ -17,7 +17,7 @@ use Rattle.pk_level.specs.Arenas.{IsPinnedIf}
 use Rattle.pk_merge.specs.declared.source.Source.{Source}
 use Rattle.pk_merge.specs.Sources.{blocks_in, Has, IsOf}
 use Rattle.pk_merge.specs.Merging.{Merger, left, StandsIn}
-use Rattle.pk_merge.specs.Outputs.{AreMeta, AreApart, IsOutput}
+use Rattle.pk_merge.specs.Outputs.{AreMeta, BlocksApart, IsOutput}
 
 -- the whole output of a merge into a run of this level
 abbrev pub merged : ℕ → List Entry → List Entry → List Entry
@@ -40,7 +40,7 @@ abbrev pub HasNoSpare : Kept → Merger → Type 0
 HasNoSpare out m = length out.blocks * out.shape.block_pages < length out.firsts + out.shape.block_pages + min 1 (length m.gathered)
 
 -- The output is complete, with all its entries, in as many blocks as these need, and in frames if it is pinned.
-pub record IsWhole (pins : Bool) (out : Kept) (flash : Flash) (arena : Frames) (all : List Entry) : Type 0 where
+pub record IsOutputWhole (pins : Bool) (out : Kept) (flash : Flash) (arena : Frames) (all : List Entry) : Type 0 where
   pub stands : RunOnFlash out flash arena all
   pub blocks : length out.blocks ≡ run_blocks out.shape out.count
   pub pinned : IsPinnedIf pins out
@@ -62,8 +62,8 @@ module _ {X : Type 0} (source : Source X) (target : Kept) where
     pub own : AreMeta pool out.blocks
     pub of_source : AreMeta pool (blocks_in source)
     pub of_target : AreMeta pool target.blocks
-    pub from_source : AreApart (blocks_in source) out.blocks
-    pub from_target : AreApart target.blocks out.blocks
+    pub from_source : BlocksApart (blocks_in source) out.blocks
+    pub from_target : BlocksApart target.blocks out.blocks
     pub room : used_by Meta pool.states + run_blocks out.shape count ≤ quota_of pool.shape Meta + length out.blocks
 
   -- all are for a flash of the same shape

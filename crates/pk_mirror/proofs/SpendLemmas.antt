@@ -13,7 +13,7 @@ use Rattle.pk_host.specs.declared.types.StoreRule.TheVariants.{Any}
 use Rattle.pk_mirror.specs.Causes.{OnlyAsks, AreAsking}
 use Rattle.pk_mirror.specs.Agreement.{NoOther, AreAny, IsPart}
 use Rattle.pk_mirror.specs.Visits.{Visits, VisitsAll}
-use Rattle.pk_mirror.specs.Spending.{OnlyLooks, LooksOr, count_of, AreOfResync, Spent, Spending, Deleted, Deleting, Stored, Storing}
+use Rattle.pk_mirror.specs.Spending.{OnlyLooks, LooksOr, opcode_count, AreOfResync, Spent, Spending, Deleted, Deleting, Stored, Storing}
 use Rattle.pk_mirror.proofs.MapLemmas.{part_insert, len_of_part, some_len, some_same}
 use Rattle.pk_mirror.proofs.KeyLemmas.{found_some}
 
@@ -27,7 +27,7 @@ only_map : (P Q : Command → Type 0) → ((c : Command) → P c → Q c) → (c
 only_map P Q f [] h = tt
 only_map P Q f (c ∷ cs) h = (f c h.0, only_map P Q f cs h.1)
 
-count_both : (opcode : ℕ) (cs ds : List Command) → count_of opcode (cs ++ ds) ≡ count_of opcode cs + count_of opcode ds
+count_both : (opcode : ℕ) (cs ds : List Command) → opcode_count opcode (cs ++ ds) ≡ opcode_count opcode cs + opcode_count opcode ds
 count_both opcode [] ds = omega arith
 count_both opcode (c ∷ cs) ds = let e = count_both opcode cs ds in omega (arith, e)
 
@@ -38,7 +38,7 @@ IsOther opcode c = (c.opcode == opcode) ≡ false
 one_if : Bool → ℕ
 one_if b = if b then 1 else 0
 
-count_none : (opcode : ℕ) (cs : List Command) → AllByRecursion (IsOther opcode) cs → count_of opcode cs ≡ 0
+count_none : (opcode : ℕ) (cs : List Command) → AllByRecursion (IsOther opcode) cs → opcode_count opcode cs ≡ 0
 unfolding one_if
 count_none opcode [] h = refl
 count_none opcode (c ∷ cs) h =

@@ -20,16 +20,16 @@ abbrev pub LooksOr : ℕ → Command → Type 0
 LooksOr opcode c = OnlyLooks c ⊎ (c.opcode ≡ opcode)
 
 -- how many of the commands have this opcode
-abbrev pub count_of : ℕ → List Command → ℕ
-count_of opcode [] = 0
-count_of opcode (c ∷ cs) = (if c.opcode == opcode then 1 else 0) + count_of opcode cs
+abbrev pub opcode_count : ℕ → List Command → ℕ
+opcode_count opcode [] = 0
+opcode_count opcode (c ∷ cs) = (if c.opcode == opcode then 1 else 0) + opcode_count opcode cs
 
 -- What a resync asks of the second drive: it looks, deletes and stores. If the maps are known, it deletes at most as many keys as the second has,
 -- and stores at most as many as the first has.
 pub record AreOfResync (first second : PortState) (cs : List Command) : Type 0 where
   pub only : AllByRecursion (λ c. LooksOr DELETE c ⊎ (c.opcode ≡ STORE)) cs
-  pub deletes : (a b : Map) → first.map ≡ Some a → second.map ≡ Some b → count_of DELETE cs ≤ len b
-  pub stores : (a b : Map) → first.map ≡ Some a → second.map ≡ Some b → count_of STORE cs ≤ len a
+  pub deletes : (a b : Map) → first.map ≡ Some a → second.map ≡ Some b → opcode_count DELETE cs ≤ len b
+  pub stores : (a b : Map) → first.map ≡ Some a → second.map ≡ Some b → opcode_count STORE cs ≤ len a
 
 -- ---- one phase
 
@@ -37,12 +37,12 @@ module _ (Keeps : Map → Map → Type 0) (room : Map → Map → ℕ) (opcode :
   -- All was done: each command of this opcode took something of the room that the maps leave for it.
   pub record Spent (first second second' : PortState) (cs : List Command) : Type 0 where
     pub only : AllByRecursion (LooksOr opcode) cs
-    pub left : (a b b' : Map) → first.map ≡ Some a → second.map ≡ Some b → second'.map ≡ Some b' → Keeps a b → count_of opcode cs + room a b' ≤ room a b
+    pub left : (a b b' : Map) → first.map ≡ Some a → second.map ≡ Some b → second'.map ≡ Some b' → Keeps a b → opcode_count opcode cs + room a b' ≤ room a b
 
   -- At any exit: no more of them than there was room for.
   pub record Spending (first second : PortState) (cs : List Command) : Type 0 where
     pub only : AllByRecursion (LooksOr opcode) cs
-    pub most : (a b : Map) → first.map ≡ Some a → second.map ≡ Some b → Keeps a b → count_of opcode cs ≤ room a b
+    pub most : (a b : Map) → first.map ≡ Some a → second.map ≡ Some b → Keeps a b → opcode_count opcode cs ≤ room a b
 
 -- the keys that the second has, each of which is deleted at most once
 abbrev pub to_delete : Map → Map → ℕ

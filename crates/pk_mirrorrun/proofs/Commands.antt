@@ -17,7 +17,7 @@ use Rattle.pk_host.specs.Port.{PortState, LeftBySome}
 use Rattle.pk_host.specs.TookLaws.{left_both}
 use Rattle.pk_port.specs.Chained.{installs_of, installs}
 use Rattle.pk_mirror.specs.Causes.{OnlyAsks, AreAsking}
-use Rattle.pk_mirror.specs.Spending.{OnlyLooks, LooksOr, count_of}
+use Rattle.pk_mirror.specs.Spending.{OnlyLooks, LooksOr, opcode_count}
 use Rattle.pk_mirror.proofs.AskLemmas.{same_after}
 use Rattle.pk_mirrorwords.specs.PairTasks.{PairTask, put, get, delete, list, resync, change_of, after_change}
 use Rattle.pk_mirrorwords.specs.PairAnswers.{AreChange, AreOfFirst, AreOfPair, AreOfSecond}
@@ -81,7 +81,7 @@ one_installs c (inl (inl looks)) = let none = looks_none c looks in omega (arith
 one_installs c (inl (inr e)) = by_opcode c.opcode c.size (inl e)
 one_installs c (inr e) = by_opcode c.opcode c.size (inr e)
 
-few_installs : (cs : List Command) → AreOfPair cs → installs cs ≤ 10 * (count_of DELETE cs + count_of STORE cs)
+few_installs : (cs : List Command) → AreOfPair cs → installs cs ≤ 10 * (opcode_count DELETE cs + opcode_count STORE cs)
 few_installs [] h = omega arith
 few_installs (c ∷ cs) h = let one = one_installs c h.0 in let rest = few_installs cs h.1 in omega (arith, one, rest)
 

@@ -15,7 +15,7 @@ use Rattle.pk_mirror.specs.declared.error.MirrorError.{MirrorError}
 use Rattle.pk_mirror.specs.declared.error.MirrorError.TheVariants.{Refused, Port, Split}
 use Rattle.pk_mirror.specs.Pair.{Mirrored, IsPair}
 use Rattle.pk_mirror.specs.Causes.{OnlyAsks, AreAsking, IsCause, IsReadError}
-use Rattle.pk_mirror.specs.Spending.{LooksOr, count_of, AreOfResync}
+use Rattle.pk_mirror.specs.Spending.{LooksOr, opcode_count, AreOfResync}
 use Rattle.pk_mirrorwords.specs.PairTasks.{PairTask, put, get, delete, list, resync, change_of, text_of, map_left}
 use Rattle.pk_mirrorwords.specs.PairAnswers.{IsToldPair, IsInStep, PairDone, PairSaid, PairFails, ResyncFails, AreChange, AreOfFirst, AreOfPair, HaveOneChange, AreOfSecond}
 use Rattle.pk_mirrorwords.proofs.Paging.{unread_later, fault_later}
@@ -29,7 +29,7 @@ pair_both : (cs ds : List Command) → AreOfPair cs → AreOfPair ds → AreOfPa
 pair_both [] ds h g = g
 pair_both (c ∷ cs) ds h g = (h.0, pair_both cs ds h.1 g)
 
-count_both : (opcode : ℕ) (cs ds : List Command) → count_of opcode (cs ++ ds) ≡ count_of opcode cs + count_of opcode ds
+count_both : (opcode : ℕ) (cs ds : List Command) → opcode_count opcode (cs ++ ds) ≡ opcode_count opcode cs + opcode_count opcode ds
 count_both opcode [] ds = omega arith
 count_both opcode (c ∷ cs) ds = let e = count_both opcode cs ds in omega (arith, e)
 
@@ -46,7 +46,7 @@ unfolding one_if
 asks_count c (inl (from, e)) = (ap (λ (d : Command). one_if DELETE d.opcode) e, ap (λ (d : Command). one_if STORE d.opcode) e)
 asks_count c (inr (key, size, e)) = (ap (λ (d : Command). one_if DELETE d.opcode) e, ap (λ (d : Command). one_if STORE d.opcode) e)
 
-asking_count : (cs : List Command) → AreAsking cs → (count_of DELETE cs + count_of STORE cs ≡ 0) × AreOfPair cs
+asking_count : (cs : List Command) → AreAsking cs → (opcode_count DELETE cs + opcode_count STORE cs ≡ 0) × AreOfPair cs
 asking_count [] h = (refl, tt)
 asking_count (c ∷ cs) h =
     let (d, s) = asks_count c h.0 in

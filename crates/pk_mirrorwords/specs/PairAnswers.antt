@@ -13,7 +13,7 @@ use Rattle.pk_host.specs.Calls.{AtMostOne}
 use Rattle.pk_words.specs.Lines.{failed_line, status_line}
 use Rattle.pk_mirror.specs.Pair.{Mirrored, IsPair}
 use Rattle.pk_mirror.specs.Causes.{AreAsking}
-use Rattle.pk_mirror.specs.Spending.{LooksOr, count_of}
+use Rattle.pk_mirror.specs.Spending.{LooksOr, opcode_count}
 use Rattle.pk_mirror.specs.declared.error.MirrorError.{MirrorError}
 use Rattle.pk_mirror.specs.declared.error.MirrorError.TheVariants.{Refused, Port, Split}
 use Rattle.pk_mirrorwords.specs.PairTasks.{PairTask, change_of, map_left, text_of}
@@ -85,9 +85,9 @@ AreOfPair cs = AllByRecursion (λ c. LooksOr DELETE c ⊎ (c.opcode ≡ STORE)) 
 -- at most one that deletes or stores
 pub record HaveOneChange (cs : List Command) : Type 0 where
   pub only : AreOfPair cs
-  pub few : count_of DELETE cs + count_of STORE cs ≤ 1
+  pub few : opcode_count DELETE cs + opcode_count STORE cs ≤ 1
 
 -- On the second drive: at most a Delete of each key that it has, a Store of each that the first has, and the word's own command.
 pub record AreOfSecond (first second : PortState) (cs : List Command) : Type 0 where
   pub only : AreOfPair cs
-  pub few : (m other : Map) → first.map ≡ Some m → second.map ≡ Some other → count_of DELETE cs + count_of STORE cs ≤ len m + len other + 1
+  pub few : (m other : Map) → first.map ≡ Some m → second.map ≡ Some other → opcode_count DELETE cs + opcode_count STORE cs ≤ len m + len other + 1

@@ -19,7 +19,7 @@ use Rattle.pk_gc.specs.declared.reclaimed.Reclaimed.TheVariants.{Worked, NeedsFr
 use Rattle.pk_gc.specs.State.{JobState}
 use Rattle.pk_gc.specs.Victims.{Chooses}
 use Rattle.pk_gc.specs.Stepping.{Hands, Steps}
-use Rattle.pk_gc.specs.Breaking.{BreaksIn, Breaks as BreaksBelow}
+use Rattle.pk_gc.specs.Breaking.{BreaksIn, JobBroken}
 use Rattle.pk_data.specs.State.{DataState, IsSmall}
 use Rattle.pk_data.specs.Placed.{IsOpenIn}
 use Rattle.pk_log.specs.State.{LogState}
@@ -47,7 +47,7 @@ module _ (log : LogState) (values : DataState) (pool pool' : Blocks) (job job' :
     pub where_is : Somewhere (space log values pool job) old
     pub shape : job'.shape ≡ job.shape
     pub steps : IfOk result (λ r. Steps job hands old job' (hands_of values' pool' active' epoch') new r)
-    pub breaks : IfErr result (λ e. BreaksBelow job hands old new e)
+    pub breaks : IfErr result (λ e. JobBroken job hands old new e)
     pub kept : OnErr result (job' ≡ record job { page = job'.page })
     pub kept_parts : OnErr result ((live'.heads ≡ values.live.heads) × (pool' ≡ pool) × (active' ≡ log.active) × (epoch' ≡ log.epoch))
     pub kept_values : OnErr result ((front' ≡ values.open_block) × (live' ≡ values.live)
@@ -60,7 +60,7 @@ module _ (log : LogState) (values : DataState) (pool pool' : Blocks) (job job' :
   idle_stops (Commits victim) e is b = cc
   idle_stops (GivesBack victim) e is b = absurd b
 
-  values_kept : (e : Fault) → BreaksBelow job hands old new e → (front' ≡ values.open_block) × (live' ≡ values.live)
+  values_kept : (e : Fault) → JobBroken job hands old new e → (front' ≡ values.open_block) × (live' ≡ values.live)
       ⊎ (job.phase ≡ Idle) × (victim : ℕ) × Chooses job.shape values.live values.open_block live' front' victim → e ≡ Reading → values' ≡ values
   values_kept e b (inl same) reading = λ i. record { live = same.1 i; open_block = same.0 i }
   values_kept e b (inr chose) reading = let stops = idle_stops job.phase e chose.0 b in cc

@@ -14,7 +14,7 @@ use Rattle.pk_gc.specs.declared.reclaimed.Reclaimed.{Reclaimed}
 use Rattle.pk_gc.specs.declared.reclaimed.Reclaimed.TheVariants.{Worked, NeedsFreeze, Ended}
 use Rattle.pk_gc.specs.State.{JobState}
 use Rattle.pk_gc.specs.Stepping.{Hands, CanStep, Steps}
-use Rattle.pk_gc.specs.Breaking.{Breaks as BreaksBelow}
+use Rattle.pk_gc.specs.Breaking.{JobBroken}
 use Rattle.pk_data.specs.State.{DataState}
 use Rattle.pk_reclaim.specs.Hands.{hands_of}
 use Rattle.pk_log.specs.State.{LogState}
@@ -49,7 +49,7 @@ pub record Below (log log' : LogState) (values values' : DataState) (pool pool' 
   pub rest : log' ≡ record log { active = log'.active; epoch = log'.epoch }
   pub shape : job'.shape ≡ job.shape
   pub steps : IfOk result (λ r. Steps job (hands_of values pool log.active log.epoch) old job' (hands_of values' pool' log'.active log'.epoch) new r)
-  pub breaks : IfErr result (λ e. BreaksBelow job (hands_of values pool log.active log.epoch) old new e)
+  pub breaks : IfErr result (λ e. JobBroken job (hands_of values pool log.active log.epoch) old new e)
   pub kept : OnErr result (log' ≡ log)
   pub kept_job : OnErr result (job' ≡ record job { page = job'.page })
   pub kept_pool : OnErr result (pool' ≡ pool)
@@ -118,7 +118,7 @@ module _ (log log' : LogState) (values values' : DataState) (pool pool' : Blocks
   of_failure e b =
       let is = job_is log job b.where_is.may.stands.reclaim.shape_is in
       let there = subst (λ (j : JobState). Somewhere (space log values pool j) old) is b.where_is in
-      let breaks = subst (λ (j : JobState). BreaksBelow j hands old new e) is b.breaks in
+      let breaks = subst (λ (j : JobState). JobBroken j hands old new e) is b.breaks in
       let failed = failed_in log log' values values' pool pool' job.moves job.entries job.page old new job' job.phase e breaks in
       let job_kept : job' ≡ job_in log job.moves job.entries job'.page job.phase = b.kept_job ∙ (λ i. record (is i) { page = job'.page }) in
       record {
@@ -129,11 +129,11 @@ module _ (log log' : LogState) (values values' : DataState) (pool pool' : Blocks
             let reading = same_answer e Reading same in
             subst (λ (j : JobState). Unread (space log values pool j) old x' new) (sym is)
             (unread_in log log' values values' pool pool' job.moves job.entries job.page old new job' b.ready b.then_ready b.shared job.phase
-            (subst (λ (f : Fault). BreaksBelow (job_in log job.moves job.entries job.page job.phase) hands old new f) reading breaks) b.kept (b.kept_values reading) b.kept_pool job_kept);
+            (subst (λ (f : Fault). JobBroken (job_in log job.moves job.entries job.page job.phase) hands old new f) reading breaks) b.kept (b.kept_values reading) b.kept_pool job_kept);
         broken = λ same.
             subst (λ (j : JobState). ReclaimBroken (space log values pool j) old new × Stops old new) (sym is)
             (broken_in log log' values values' pool pool' job.moves job.entries job.page old new job' b.ready b.then_ready b.shared job.phase
-            (subst (λ (f : Fault). BreaksBelow (job_in log job.moves job.entries job.page job.phase) hands old new f) (same_answer e Stopped same) breaks));
+            (subst (λ (f : Fault). JobBroken (job_in log job.moves job.entries job.page job.phase) hands old new f) (same_answer e Stopped same) breaks));
         sound = tt;
         calls = failed.calls;
         only = failed.rest;

@@ -24,7 +24,7 @@ use Rattle.pk_run.proofs.Pieces.{share, meta_next}
 use Rattle.pk_scan.specs.declared.errors.PageError.{PageError}
 use Rattle.pk_scan.specs.declared.errors.PageError.TheVariants.{Damaged, Fault}
 use Rattle.pk_level.specs.Arenas.{IsPinnedIf}
-use Rattle.pk_scan.specs.Runs.{AllExist, HasRun, ComesTo, NotRead, LeasedMore, LoadsPages, AwaitsPages, AwaitsPage, IsLast, RunGoesOn, listed, PageAdded, PageTaken, PageRefused}
+use Rattle.pk_scan.specs.Runs.{RunBlocksExist, HasRun, ComesTo, NotRead, LeasedMore, LoadsPages, AwaitsPages, AwaitsPage, IsLast, RunGoesOn, listed, PageAdded, PageTaken, PageRefused}
 use Rattle.pk_scan.specs.Board.{StaysReady}
 use Rattle.pk_scan.proofs.Boards.{rest_reads, rest_not_read, stays_ready_behind}
 use Rattle.std.proofs.lemmas.Grind.{div_ceil_times}
@@ -38,7 +38,7 @@ size_some shape is = let page : 512 ≤ shape.page_bytes = is.page_least in omeg
 -- ---- one page
 
 -- a page of the run's blocks is a page of the flash
-pub page_exists : (r : Kept) (flash : Flash) (i : ℕ) → IsShape r.shape → IsFlash r.shape flash → AllExist r.shape r.blocks → i < length r.blocks * r.shape.block_pages → page_of r i < length flash
+pub page_exists : (r : Kept) (flash : Flash) (i : ℕ) → IsShape r.shape → IsFlash r.shape flash → RunBlocksExist r.shape r.blocks → i < length r.blocks * r.shape.block_pages → page_of r i < length flash
 page_exists r flash i is full exist inside =
     let n : ℕ = r.shape.block_pages in
     let some : 0 < n = let least : 8 ≤ n = is.block_least in omega arith in
@@ -197,7 +197,7 @@ module _ (shape : Shape) (level count : ℕ) (blocks : List ℕ) (pins : Bool) (
         omega (arith, all, same, inside)
 
     -- all that the next page asks for
-    pub page_awaited : (many : ℕ) → 0 < size → 0 < shape.block_pages → i < run_pages shape count → many ≡ min (count - r.count) size → AllExist shape blocks → count ≤ cap shape level * size → length blocks ≡ run_blocks shape count
+    pub page_awaited : (many : ℕ) → 0 < size → 0 < shape.block_pages → i < run_pages shape count → many ≡ min (count - r.count) size → RunBlocksExist shape blocks → count ≤ cap shape level * size → length blocks ≡ run_blocks shape count
         → arena.page_bytes ≡ shape.page_bytes → (pins ≡ true → run_pages shape count ≤ free_frames arena) → AwaitsPage pins many frames r
     page_awaited many some positive inside is exist few places page free = record {
       exist = rw (l.shape_is, l.blocks_are) exist;
@@ -345,7 +345,7 @@ empty_stands r flash arena is none = subst (λ (k : Kept). RunOnFlash k flash ar
 
 -- a run that had nothing and got its blocks awaits their pages
 pub awaits_pages : (r r' : Kept) (blocks : List ℕ) (pins : Bool) (count : ℕ) (flash : Flash) (arena : Frames) → IsShape r.shape → r ≡ empty r.shape r.level → r' ≡ record r { blocks = r.blocks ++ blocks }
-    → AllExist r.shape blocks → count ≤ cap r.shape r.level * page_entries r.shape → length blocks ≡ run_blocks r.shape count
+    → RunBlocksExist r.shape blocks → count ≤ cap r.shape r.level * page_entries r.shape → length blocks ≡ run_blocks r.shape count
     → arena.page_bytes ≡ r.shape.page_bytes → (pins ≡ true → run_pages r.shape count ≤ free_frames arena) → RunOnFlash r' flash arena [] → AwaitsPages pins count flash arena r'
 awaits_pages r r' blocks pins count flash arena is none added exist few places page free stands =
     let no_blocks : r.blocks ≡ [] = ap (λ (k : Kept). k.blocks) none in

@@ -10,7 +10,7 @@ use Rattle.pk_rootfmt.specs.Root.{Root, is_root}
 use Rattle.pk_rootfmt.specs.Held.{two_of, older_of}
 use Rattle.pk_rootfmt.proofs.PageLemmas.{Parts, root_parts}
 use Rattle.pk_jrn.specs.Epochs.{AllExist as EpochExists}
-use Rattle.pk_scan.specs.Runs.{AllExist}
+use Rattle.pk_scan.specs.Runs.{RunBlocksExist}
 use Rattle.pk_scan.proofs.Naming.{HasFour, has_four, four_runs, two_is, older_is}
 
 front_true : (a b : Bool) → (a && b) ≡ true → a ≡ true
@@ -44,12 +44,12 @@ module _ (p : ℕ → Bool) where
   all_in (ys ∷ xss) zero xs e got = let same : ys ≡ xs = cc in sym (ap (list_all p) same) ∙ all_front ys (concat xss) e
   all_in (ys ∷ xss) (suc n) xs e got = all_in xss n xs (all_back ys (concat xss) e) got
 
-exist : (shape : Shape) (bs : List ℕ) → list_all (λ b. nat_le 2 b && nat_lt b shape.blocks) bs ≡ true → AllExist shape bs
+exist : (shape : Shape) (bs : List ℕ) → list_all (λ b. nat_le 2 b && nat_lt b shape.blocks) bs ≡ true → RunBlocksExist shape bs
 exist shape [] e n h = absurd (omega (arith, h))
 exist shape (b ∷ bs) e zero h = below b shape.blocks (back_true (nat_le 2 b) (nat_lt b shape.blocks) (front_true (nat_le 2 b && nat_lt b shape.blocks) (list_all (λ b. nat_le 2 b && nat_lt b shape.blocks) bs) e))
 exist shape (b ∷ bs) e (suc n) h = exist shape bs (back_true (nat_le 2 b && nat_lt b shape.blocks) (list_all (λ b. nat_le 2 b && nat_lt b shape.blocks) bs) e) n (omega (arith, h))
 
-two_exist : (shape : Shape) (bs : List ℕ) → length bs ≡ 2 → AllExist shape bs → EpochExists shape bs
+two_exist : (shape : Shape) (bs : List ℕ) → length bs ≡ 2 → RunBlocksExist shape bs → EpochExists shape bs
 two_exist shape bs two each n h = each n (omega (arith, two, h))
 
 few_at : (size : ℕ) (counts caps : List ℕ) (n : ℕ) → list_all (λ p. nat_le p.0 (p.1 * size)) (zip counts caps) ≡ true → n < length counts → n < length caps → get_or counts n 0 ≤ get_or caps n 0 * size
@@ -112,5 +112,5 @@ module _ (shape : Shape) (root : Root) (e : is_root shape root ≡ true) where
   pub level_blocks : (level : ℕ) (bs : List ℕ) → slice_get root.runs (level - 1) ≡ Some bs → length bs ≡ run_blocks shape (slice_index root.counts (level - 1))
   level_blocks level bs got = sized_at (run_blocks shape) root.counts root.runs (level - 1) bs four.sizes got
 
-  pub level_exist : (level : ℕ) (bs : List ℕ) → slice_get root.runs (level - 1) ≡ Some bs → AllExist shape bs
+  pub level_exist : (level : ℕ) (bs : List ℕ) → slice_get root.runs (level - 1) ≡ Some bs → RunBlocksExist shape bs
   level_exist level bs got = exist shape bs (all_in is_block root.runs (level - 1) bs (all_back is_block (root.newest ++ root.older) (concat root.runs) parts.blocks) got)

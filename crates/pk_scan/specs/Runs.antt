@@ -22,8 +22,8 @@ use Rattle.pk_scan.specs.declared.errors.PageError.{PageError}
 use Rattle.pk_scan.specs.declared.errors.PageError.TheVariants.{Damaged, Fault}
 
 -- each of these is a block of the flash
-abbrev pub AllExist : Shape → List ℕ → Type 0
-AllExist shape blocks = (n : ℕ) → n < length blocks → slice_index blocks n < shape.blocks
+abbrev pub RunBlocksExist : Shape → List ℕ → Type 0
+RunBlocksExist shape blocks = (n : ℕ) → n < length blocks → slice_index blocks n < shape.blocks
 
 module _ (shape : Shape) (level count : ℕ) (blocks : List ℕ) where
   -- The reading of the run finds entries, and what is in memory represents them.
@@ -79,7 +79,7 @@ pub record MayLoadRun (pins : Bool) (count : ℕ) (blocks : List ℕ) (arena : F
   pub is_empty : r ≡ empty r.shape r.level
   pub few : count ≤ cap r.shape r.level * page_entries r.shape
   pub places : length blocks ≡ run_blocks r.shape count
-  pub exist : AllExist r.shape blocks
+  pub exist : RunBlocksExist r.shape blocks
   pub page_bytes : arena.page_bytes ≡ r.shape.page_bytes
   pub free : pins ≡ true → run_pages r.shape count ≤ free_frames arena
 
@@ -99,7 +99,7 @@ pub record LoadsPages (pins : Bool) (flash : Flash) (blocks : List ℕ) (before 
 
 -- The run has the blocks of n entries, and none of their pages yet; if frames are needed, enough are free.
 pub record AwaitsPages (pins : Bool) (count : ℕ) (flash : Flash) (arena : Frames) (r : Kept) : Type 0 where
-  pub exist : AllExist r.shape r.blocks
+  pub exist : RunBlocksExist r.shape r.blocks
   pub few : count ≤ cap r.shape r.level * page_entries r.shape
   pub places : length r.blocks ≡ run_blocks r.shape count
   pub no_entries : r.count ≡ 0
@@ -112,7 +112,7 @@ pub record AwaitsPages (pins : Bool) (count : ℕ) (flash : Flash) (arena : Fram
 -- The run may take a next page with n entries: all pages before are full, it has room and a block for one more, and if a frame is
 -- needed one is free.
 pub record AwaitsPage (pins : Bool) (many : ℕ) (arena : Frames) (r : Kept) : Type 0 where
-  pub exist : AllExist r.shape r.blocks
+  pub exist : RunBlocksExist r.shape r.blocks
   pub within : length r.firsts < length r.blocks * r.shape.block_pages
   pub room : length r.firsts < most_pages r
   pub full : r.count ≡ length r.firsts * page_entries r.shape

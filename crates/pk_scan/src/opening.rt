@@ -154,7 +154,7 @@ pub fn scan<B: Nand, A: Region>(
 ) -> Result<Found<A>, OpenError>
     requires ready { IsReady (B.state board.old) shape }
     requires frames { frames ≤ 16384 }
-    ensures opening_reads { IfOk result (λ f. FoundOnFlash shape (B.state board.old).pages frames f) }
+    ensures opened { IfOk result (λ f. FoundOnFlash shape (B.state board.old).pages frames f) }
     ensures reads { OnOk result (B.state board.new
         ≡ after_reads (opening_reads shape (B.state board.old).pages frames) (B.state board.old)) }
     ensures err { IfErr result (λ e. NotOpened shape (B.state board.old) (B.state board.new) e) }

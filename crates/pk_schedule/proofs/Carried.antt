@@ -12,7 +12,7 @@ use Rattle.pk_merge.specs.declared.source.Source.TheVariants.{Frozen, Run}
 use Rattle.pk_merge.specs.Cursors.{Cursor, Follows}
 use Rattle.pk_merge.specs.Sources.{count_of, pages_in, blocks_in, Has, FollowsIn, wants_page_in, IsOf}
 use Rattle.pk_merge.specs.Merging.{Merger, IsDone, can_gather}
-use Rattle.pk_merge.specs.Outputs.{AreMeta, AreApart}
+use Rattle.pk_merge.specs.Outputs.{AreMeta, BlocksApart}
 use Rattle.pk_merge.specs.Running.{Running}
 use Rattle.pk_merge.specs.Jobs.{Job, JobRuns}
 use Rattle.pk_merge.specs.Remaining.{steps_left}
@@ -77,7 +77,7 @@ module _ {X Y : Type 0} (source : Source X) (s : Source Y) (is : Shown source s)
           own = r.blocks.own;
           of_source = subst (λ (bs : List ℕ). AreMeta pool bs) (sym is.blocks) r.blocks.of_source;
           of_target = r.blocks.of_target;
-          from_source = subst (λ (bs : List ℕ). AreApart bs out.blocks) (sym is.blocks) r.blocks.from_source;
+          from_source = subst (λ (bs : List ℕ). BlocksApart bs out.blocks) (sym is.blocks) r.blocks.from_source;
           from_target = r.blocks.from_target;
           room = r.blocks.room;
         };

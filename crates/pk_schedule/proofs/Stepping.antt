@@ -32,7 +32,7 @@ use Rattle.pk_merge.specs.declared.source.Source.TheVariants.{Frozen, Run}
 use Rattle.pk_merge.specs.Cursors.{Cursor}
 use Rattle.pk_merge.specs.Sources.{wants_page_in}
 use Rattle.pk_merge.specs.Merging.{Merger, IsDone, can_gather}
-use Rattle.pk_merge.specs.Running.{IsWhole, merged}
+use Rattle.pk_merge.specs.Running.{IsOutputWhole, merged}
 use Rattle.pk_merge.specs.Steps.{Steps, Fails, FailsToRead}
 use Rattle.pk_merge.specs.Elsewhere.{LeavesRuns, LeavesLeases, StepReaches, StepWent}
 use Rattle.pk_merge.specs.Remaining.{steps_left, LowersTo}
@@ -180,11 +180,11 @@ module _ (x : Index) (frames : ℕ) (old : BoardState) (top : ℕ × Root) (foun
       -- its output is whole
       pub completes : Completes source target x.schedule.job x.pool old.pages x.arena job new.pages arena true → IndexMoves x frames old found m (behind (Ready level)) new
       completes whole =
-          let all : IsWhole (pins x.schedule.job) (output_of job) new.pages arena (merged (output_of job).level es fs) = whole refl es fs job_now in
+          let all : IsOutputWhole (pins x.schedule.job) (output_of job) new.pages arena (merged (output_of job).level es fs) = whole refl es fs job_now in
           let is : (output_of job).level ≡ level = (into_behind (Ready level)).output_level in
           let its : merged (output_of job).level es fs ≡ whole_output level found = ap (λ (l : ℕ). merged l es fs) is ∙ output_same x found level stands.logs.frozen_is in
           let pinned : pins x.schedule.job ≡ pins job = sym (ap (λ (j : Job). pins j) is_job) in
-          moves_to (Ready level) (record { into = into_behind (Ready level); whole = subst (λ (b : Bool). IsWhole b (output_of job) new.pages arena (whole_output level found)) pinned (subst (λ (xs : List Entry). IsWhole (pins x.schedule.job) (output_of job) new.pages arena xs) its all) })
+          moves_to (Ready level) (record { into = into_behind (Ready level); whole = subst (λ (b : Bool). IsOutputWhole b (output_of job) new.pages arena (whole_output level found)) pinned (subst (λ (xs : List Entry). IsOutputWhole (pins x.schedule.job) (output_of job) new.pages arena xs) its all) })
 
       -- ---- what remains
 

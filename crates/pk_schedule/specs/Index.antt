@@ -24,7 +24,7 @@ use Rattle.pk_merge.specs.declared.source.Source.{Source}
 use Rattle.pk_merge.specs.declared.source.Source.TheVariants.{Frozen, Run}
 use Rattle.pk_merge.specs.Jobs.{Job, JobRuns, IsIdle, all_spare, without, pins, output_of}
 use Rattle.pk_merge.specs.Merging.{IsDone}
-use Rattle.pk_merge.specs.Running.{IsWhole}
+use Rattle.pk_merge.specs.Running.{IsOutputWhole}
 use Rattle.pk_compact.specs.declared.freezing.FreezeJob.{FreezeJob}
 use Rattle.pk_compact.specs.FreezeSteps.{IsTaken, taken_by}
 use Rattle.pk_compact.specs.Installing.{IsHalf}
@@ -121,7 +121,7 @@ pub record MergeRuns (x : Index) (flash : Flash) (root : Root) (found : Found)
 pub record MergeWaits (x : Index) (flash : Flash) (root : Root) (found : Found)
     (level : ℕ) : Type 0 where
   pub into : MergesInto x root found level
-  pub whole : IsWhole (pins x.schedule.job) (output x.schedule) flash x.arena
+  pub whole : IsOutputWhole (pins x.schedule.job) (output x.schedule) flash x.arena
       (whole_output level found)
 
 -- the merge is as far as its phase says

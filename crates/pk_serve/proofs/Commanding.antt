@@ -17,7 +17,7 @@ use Rattle.pk_call.specs.Exec.{ExecStands, most_installs}
 use Rattle.pk_model.proofs.Growing.{weaken_went}
 use Rattle.pk_call.specs.Calling.{FewCalls, most_calls_of}
 use Rattle.pk_nand.specs.BoardState.{shape_of}
-use Rattle.pk_serve.specs.Serving.{Serving, Answered, Cutoff, Next, ServingBroken, Keeps, CommandServed, Stops, KeptAt}
+use Rattle.pk_serve.specs.Serving.{Serving, Answered, Cutoff, Next, ServingBroken, Keeps, CommandServed, CommandStops, KeptAt}
 use Rattle.pk_model.specs.Kept.{rise}
 use Rattle.pk_serve.specs.declared.end.End.{End}
 use Rattle.pk_serve.specs.declared.end.End.TheVariants.{Flash as FlashFailed}
@@ -65,7 +65,7 @@ bare : (shape : Shape) (frames : ℕ) (start : Map) (a b : BoardState) (d : Sigh
 bare shape frames start a b d held all m w = let T : List ℕ → Type 0 = λ t. Serving shape frames start a b d t all m in subst T (sym (append-nil held)) w
 
 -- it fails before the command
-pub stops_before : (b c : BoardState) (d : Sight) (held : List ℕ) (taken : ℕ) (end : End) (cmd : Command) → ServingBroken b c d held end → Stops b c d held taken end cmd
+pub stops_before : (b c : BoardState) (d : Sight) (held : List ℕ) (taken : ℕ) (end : End) (cmd : Command) → ServingBroken b c d held end → CommandStops b c d held taken end cmd
 stops_before b c d held taken end cmd h shape frames start a all m size w =
     let r = h shape frames start a [] all m (bare shape frames start a b d held all m w) in
     (cutoff-more shape frames start a c (commands all) (cmd ∷ []) r.0, r.1)
@@ -73,7 +73,7 @@ stops_before b c d held taken end cmd h shape frames start a all m size w =
 module _ (b c f : BoardState) (d e : Sight) (held now_held : List ℕ) (taken : ℕ) (cmd : Command) (keeps : Keeps b c d e held now_held) where
   -- the command stops the drive
   pub stops_in : CallGoes c f e (command cmd) → c.read_faults ≤ f.read_faults → (reads : ℕ) → f.reads ≡ reads_after c.reads reads → Rose c.stop_faults f.stop_faults
-      → FewCalls (most_calls_of (shape_of c) cmd.opcode cmd.size) c f → Stops b f d held taken FlashFailed cmd
+      → FewCalls (most_calls_of (shape_of c) cmd.opcode cmd.size) c f → CommandStops b f d held taken FlashFailed cmd
   stops_in went up reads read rose calls shape frames start a all m size w =
       let v = keeps shape frames start a all m w in
       (Cutoff-exec shape frames start a c e now_held all m v f cmd (went shape frames m v.stands) up reads read (command_calls shape c f cmd.opcode cmd.size v.stands.shape_is calls), rose_from v.no_faults.stop rose)
@@ -95,7 +95,7 @@ module _ (b c f : BoardState) (d e : Sight) (held now_held : List ℕ) (taken : 
         let n = executed shape frames start a all m size w in
         record { x = n.x; is = n.is; m = n.m; step = n.step; serving = more shape frames start a (all ++ n.x ∷ []) n.m n.serving }
 
-    pub stops_behind : (h : BoardState) (end : End) → ServingBroken f h g (now_held ++ reply_record count cmd.cid rep reads) end → Stops b h d held taken end cmd
+    pub stops_behind : (h : BoardState) (end : End) → ServingBroken f h g (now_held ++ reply_record count cmd.cid rep reads) end → CommandStops b h d held taken end cmd
     stops_behind h end more shape frames start a all m size w =
         let n = executed shape frames start a all m size w in
         let r = more shape frames start a [] (all ++ n.x ∷ []) n.m (bare shape frames start a f g (now_held ++ reply_record count cmd.cid rep reads) (all ++ n.x ∷ []) n.m n.serving) in

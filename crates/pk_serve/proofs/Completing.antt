@@ -21,7 +21,7 @@ use Rattle.pk_call.specs.Exec.{most_installs, most_store_roots}
 use Rattle.pk_model.specs.Wear.{is_worn, roots}
 use Rattle.pk_serve.specs.Serving.{installs}
 use Rattle.pk_serve.specs.Run.{Served}
-use Rattle.pk_serve.specs.Complete.{ticks, Complete, IsServable, Completes}
+use Rattle.pk_serve.specs.Complete.{ticks, Complete, IsServable, RunCompletes}
 use Rattle.pk_serve.specs.declared.end.End.{End}
 use Rattle.pk_serve.specs.declared.end.End.TheVariants.{Done, Truncated, Input, Output, Flash, Worn}
 use Rattle.pk_call.specs.Meter.{meter}
@@ -144,5 +144,5 @@ module _ (shape : Shape) (frames : ℕ) (start : Map) (a b : BoardState) (d : Si
         | inr worn ↦ unworn a b (commands f.all) (metered-roots f.all (meter a) (meter b) f.serving.metered) ok.far_from_worn (omega (arith, t, ok.few_ticks)) (omega (arith, more, ok.few)) worn
       ])
 
-pub completes : (a b : BoardState) (before after : Sight) (end : End) → Ends a b before after [] end → IsFault end ⊎ (after.pending ≡ []) → Completes a b before end
+pub completes : (a b : BoardState) (before after : Sight) (end : End) → Ends a b before after [] end → IsFault end ⊎ (after.pending ≡ []) → RunCompletes a b before end
 completes a b before after end h closed shape frames start stands none input is ok = completed shape frames start a b after input is ok end closed (h shape frames start stands none)

@@ -11,7 +11,7 @@ use Rattle.pk_call.specs.Drive.{HoldsMap}
 use Rattle.pk_model.specs.Wear.{is_worn}
 use Rattle.pk_serve.specs.Ends.{IsFault}
 use Rattle.pk_serve.specs.Serving.{Serving}
-use Rattle.pk_serve.specs.Input.{Spells, InputAdvances, Fails, NoEntry, Quits}
+use Rattle.pk_serve.specs.Input.{Spells, InputAdvances, InputFails, NoEntry, Quits}
 use Rattle.pk_serve.specs.Loop.{Looping, Finished, Failed, Finish, most_entries}
 use Rattle.pk_nand.specs.Calls.{put_back}
 use Rattle.pk_serve.specs.declared.end.End.{End}
@@ -67,7 +67,7 @@ module _ (shape : Shape) (frames : ℕ) (start : Map) (a b c : BoardState) (d e 
       }
 
   -- it fails in a command
-  failed : (end : End) → Fails b c d held taken end → Failed shape frames start a c end
+  failed : (end : End) → InputFails b c d held taken end → Failed shape frames start a c end
   failed end f =
       let r = f.stops shape frames start a w.all w.m w.count w.serving in
       record {
@@ -121,7 +121,7 @@ module _ (shape : Shape) (frames : ℕ) (start : Map) (a b c : BoardState) (d e 
         same = ap (λ s. s.in_faults) k.rest ∙ same;
       }
 
-  command_failed : (end : End) → Fails b c d held taken end → Finish shape frames start a c e now_held end
+  command_failed : (end : End) → InputFails b c d held taken end → Finish shape frames start a c e now_held end
   command_failed Done f = absurd (failed Done f).cause
   command_failed Truncated f = absurd (failed Truncated f).cause
   command_failed Input f = absurd (failed Input f).cause

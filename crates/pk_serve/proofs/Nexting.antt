@@ -13,10 +13,10 @@ use Rattle.pk_model.specs.Script.{value_follows as value_bytes}
 use Rattle.pk_model.specs.Run.{Exchange}
 use Rattle.pk_model.specs.Sight.{Sight}
 use Rattle.pk_call.specs.Exec.{IsValue}
-use Rattle.pk_serve.specs.Serving.{Serving, CommandServed, Stops}
+use Rattle.pk_serve.specs.Serving.{Serving, CommandServed, CommandStops}
 use Rattle.pk_serve.specs.declared.end.End.{End}
 use Rattle.pk_serve.specs.Ends.{IsFault}
-use Rattle.pk_serve.specs.Input.{TookFailed, Entered, Valued, NoValue, InputAdvances, Fails, BreaksOff, FailsAt, NoEntry, Quits}
+use Rattle.pk_serve.specs.Input.{TookFailed, Entered, Valued, NoValue, InputAdvances, InputFails, BreaksOff, FailsAt, NoEntry, Quits}
 use Rattle.pk_nand.specs.Calls.{put_back}
 use Rattle.pk_serve.proofs.Serves.{Serving-inputs}
 use Rattle.pk_serve.proofs.Scripts.{taken-append, Spells-one, IsPart-value}
@@ -38,7 +38,7 @@ module _ (a m b : BoardState) (before : Sight) (same : m ≡ record a { input = 
   serves_too : (after : Sight) (held now_held : List ℕ) (taken : ℕ) (c : Command) → CommandServed m b before after held now_held taken c → CommandServed a b before after held now_held taken c
   serves_too after held now_held taken c h shape frames start s all map size w = h shape frames start s all map size (serving_too shape frames start s held all map w)
 
-  stops_too : (held : List ℕ) (taken : ℕ) (end : End) (c : Command) → Stops m b before held taken end c → Stops a b before held taken end c
+  stops_too : (held : List ℕ) (taken : ℕ) (end : End) (c : Command) → CommandStops m b before held taken end c → CommandStops a b before held taken end c
   stops_too held taken end c h shape frames start s all map size w = h shape frames start s all map size (serving_too shape frames start s held all map w)
 
 module _ (a m n : BoardState) (entry : List ℕ) (entered : Entered a m entry) (size : length entry ≡ 64) (r : Request) (parsed : (v : List ℕ) → command_seen r v ≡ command entry v) where
@@ -55,8 +55,8 @@ module _ (a m n : BoardState) (entry : List ℕ) (entered : Entered a m entry) (
       serves = serves_too a n b before (input_too a m n entered.rest valued.rest) after held now_held taken (command_seen r valued.value) (serves valued.value valued.is_value);
     }
 
-    pub Fails-one : (end : End) → IsFault end → ((v : List ℕ) → IsValue shape r.opcode r.size handed v → Stops n b before held taken end (command_seen r v)) → Fails a b before held taken end
-    Fails-one end fault stops = record {
+    pub InputFails-one : (end : End) → IsFault end → ((v : List ℕ) → IsValue shape r.opcode r.size handed v → CommandStops n b before held taken end (command_seen r v)) → InputFails a b before held taken end
+    InputFails-one end fault stops = record {
       bytes = entry ++ valued.value;
       c = command_seen r valued.value;
       input = taken_all;

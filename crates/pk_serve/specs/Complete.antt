@@ -54,8 +54,8 @@ pub record IsServable (a b : BoardState) (cs : List Command) (rest : List ℕ) :
   pub few_ticks : ticks cs < ticks_below
   pub none_rose : NoneRose a b
 
-abbrev pub Completes : BoardState → BoardState → Sight → End → Type 0
-Completes a b before end =
+abbrev pub RunCompletes : BoardState → BoardState → Sight → End → Type 0
+RunCompletes a b before end =
     (shape : Shape) (frames : ℕ) (start : Map) → HoldsMap shape frames a before start → before.pending ≡ []
     → (input : List ℕ) → a.input ≡ Some input → IsServable a b (script input).0 (script input).1
     → (end ≡ Done) × Complete shape frames start a b (script input).0

@@ -11,7 +11,7 @@ use Rattle.pk_model.specs.Wear.{is_worn}
 use Rattle.pk_call.specs.Exec.{IsValue}
 use Rattle.pk_serve.specs.Ends.{IsFault}
 use Rattle.pk_serve.specs.Part.{IsHanded}
-use Rattle.pk_serve.specs.Serving.{CommandServed, Stops}
+use Rattle.pk_serve.specs.Serving.{CommandServed, CommandStops}
 use Rattle.pk_serve.specs.declared.end.End.{End}
 use Rattle.pk_serve.specs.declared.end.End.TheVariants.{Done, Truncated, Input, Output, Flash, Worn}
 
@@ -42,13 +42,13 @@ pub record InputAdvances (old new : BoardState) (before after : Sight) (held now
   pub serves : CommandServed old new before after held now_held taken c
 
 -- a command was taken, and serving ended in it
-pub record Fails (old new : BoardState) (before : Sight) (held : List ℕ) (taken : ℕ) (end : End) : Type 0 where
+pub record InputFails (old new : BoardState) (before : Sight) (held : List ℕ) (taken : ℕ) (end : End) : Type 0 where
   pub bytes : List ℕ
   pub c : Command
   pub input : old.input ≡ put_back bytes new.input
   pub spells : Spells bytes (c ∷ [])
   pub fault : IsFault end
-  pub stops : Stops old new before held taken end c
+  pub stops : CommandStops old new before held taken end c
 
 -- the input is read to its end
 pub record FindsEnd (old new : BoardState) : Type 0 where
@@ -140,4 +140,4 @@ pub record NoValue (old new : BoardState) (opcode size : ℕ) : Type 0 where
 
 -- how a command was not served
 abbrev pub Quits : BoardState → BoardState → Sight → List ℕ → ℕ → End → Type 0
-Quits old new before held taken end = NoEntry old new (is_worn old) end ⊎ Fails old new before held taken end
+Quits old new before held taken end = NoEntry old new (is_worn old) end ⊎ InputFails old new before held taken end

@@ -119,7 +119,7 @@ CommandServed old new before after held now_held taken c =
     → taken ≡ length all → Serving shape frames start a old before held all m → Next shape frames start a new after now_held all m c
 
 -- A call ends the run in a command after this many were taken.
-abbrev pub Stops : BoardState → BoardState → Sight → List ℕ → ℕ → End → Command → Type 0
-Stops old new before held taken end c =
+abbrev pub CommandStops : BoardState → BoardState → Sight → List ℕ → ℕ → End → Command → Type 0
+CommandStops old new before held taken end c =
     (shape : Shape) (frames : ℕ) (start : Map) (a : BoardState) (all : List Exchange) (m : Map)
     → taken ≡ length all → Serving shape frames start a old before held all m → Cutoff shape frames start a new (commands all ++ c ∷ []) × HasCause a new end

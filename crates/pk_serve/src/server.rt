@@ -1,7 +1,7 @@
 //! What serving needs besides the drive and the board.
 ghost use Rattle.std.specs.Prelude.{◌≡◌, ◌⊎◌, [], false, IfOk, Some};
 ghost use Rattle.pk_serve.specs.Ends.{IsFault, Blames};
-ghost use Rattle.pk_serve.specs.Complete.{Completes};
+ghost use Rattle.pk_serve.specs.Complete.{RunCompletes};
 ghost use Rattle.pk_serve.specs.Script.{SaysOfScript};
 ghost use Rattle.pk_serve.specs.Run.{KeepsScript, KeepsSome, Answers, Causes, CallsWithin};
 
@@ -68,7 +68,7 @@ impl Server {
         ensures says { SaysOfScript (B.state board.old) (B.state board.new) result }
         ensures causes { Causes (B.state board.old) (B.state board.new) (D.sight drive.old)
             result }
-        ensures complete { Completes (B.state board.old) (B.state board.new) (D.sight drive.old)
+        ensures complete { RunCompletes (B.state board.old) (B.state board.new) (D.sight drive.old)
             result }
 
         // The commands that were kept, wherever it was cut, and those that were answered.

@@ -7,7 +7,7 @@ ghost use Rattle.pk_call.specs.Seen.{reply_of};
 ghost use Rattle.pk_call.specs.Exec.{IsValue};
 ghost use Rattle.pk_serve.specs.Ends.{NoFaults};
 ghost use Rattle.pk_serve.specs.Part.{IsRunning, CanServe, IsHanded, HasRoom, KeepsRunning, Faulted, TakesNone, InstallsNone, OnlyGives, SameRoom};
-ghost use Rattle.pk_serve.specs.Serving.{Flushed, FailsHolding, Posts, PostBreaks, Keeps, CommandServed, Stops};
+ghost use Rattle.pk_serve.specs.Serving.{Flushed, FailsHolding, Posts, PostBreaks, Keeps, CommandServed, CommandStops};
 ghost use Rattle.pk_serve.specs.Loop.{most_entries};
 ghost use Rattle.pk_nvme.specs.declared.opcode.TheConstants.{TICK};
 
@@ -240,7 +240,7 @@ pub fn serve_one<D: Engine, B: Board>(
     ensures fault { IfErr result (Faulted (B.state board.old) (B.state board.new)) }
     ensures stops { IfErr result (λ end. (v : List ℕ)
         → IsValue shape.now entry.now.request.opcode entry.now.request.size value.now v
-        → Stops (B.state board.old) (B.state board.new) (D.sight drive.old)
+        → CommandStops (B.state board.old) (B.state board.new) (D.sight drive.old)
         (bytes_of held.old.heads) entry.now.before end (command_of entry.now.request v)) }
 {
     match prepare(drive, board, held, &entry.request) {

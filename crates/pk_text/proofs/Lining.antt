@@ -2,13 +2,13 @@
 use Rattle.std.proofs.Common.{◌≡◌, ℕ, suc, ◌<◌, ◌≤◌, ◌+◌, Bool, true, false, List, [], ◌∷◌, ◌++◌, length, refl, sym, ◌∙◌, ap, subst, arith, append_assoc, append-nil, length-append, Option, Some, None}
 use Rattle.std.specs.Prelude.{nat_lt, nat_le, ◌==◌, if◌then◌else◌, IfSome, option_map}
 use Rattle.std.proofs.lemmas.Bool.Decides.{nat_tests}
-use Rattle.pk_asm.specs.Line.{Line, nothing, entry, says, entry_in, bytes_in}
+use Rattle.pk_asm.specs.Line.{Line, nothing, entry, says, entry_in, line_bytes}
 use Rattle.pk_nand.specs.BoardState.{BoardState}
 use Rattle.pk_nand.specs.Calls.{after_post, PostFailed, put_back, AtEnd}
 use Rattle.pk_text.specs.Written.{ended}
 use Rattle.pk_text.specs.Assembled.{onto_first, lines, line_given, lines_given, assembled_from}
 use Rattle.pk_text.specs.Turns.{TurnsFrom}
-use Rattle.pk_text.specs.Steps.{ahead, Moved, TextAdvances, Fed, Nexted, IsLine, LineTaken, NoLine, LineGives, GivesNot, Stops}
+use Rattle.pk_text.specs.Steps.{ahead, Moved, TextAdvances, Fed, Nexted, IsLine, LineTaken, NoLine, LineGives, GivesNot, TextStops}
 use Rattle.pk_text.specs.declared.end.TextEnd.{TextEnd}
 use Rattle.pk_text.specs.declared.end.TextEnd.TheVariants.{Done, Truncated, Input, Output, TooMany, BadLine}
 use Rattle.pk_text.proofs.Feeding.{Fed-more, Fed-end}
@@ -184,7 +184,7 @@ No-line taken number p q line a b BadLine few h =
           ∙ ap (λ o. line_given o number (λ n. lines_given (suc taken) n l.tail)) (says-long number (line ++ l.more) (omega (arith, h.2, length-append line l.more)))));
     }
 
-pub Lines-stop : (taken number : ℕ) (p q : List ℕ) (a b : BoardState) (end : TextEnd) → 4294967295 ≤ taken → Stops p q a b end → TurnsFrom (assembled_from taken number) (ahead p a) a b end
+pub Lines-stop : (taken number : ℕ) (p q : List ℕ) (a b : BoardState) (end : TextEnd) → 4294967295 ≤ taken → TextStops p q a b end → TurnsFrom (assembled_from taken number) (ahead p a) a b end
 Lines-stop taken number p q a b end full h = Turns-stop (assembled_from taken number) p q a b end refl
     (λ byte rest. let s = some-line byte rest (byte == 10) refl in ap (lines_given taken number) s.2 ∙ too_many taken number s.0 s.1 full) h
 
@@ -195,7 +195,7 @@ nothing_said (Some nothing) h = refl
 nothing_said (Some (entry e bytes)) h = cc
 nothing_said None h = cc
 
-entry_said : (o : Option Line) (e : List ℕ) → option_map entry_in o ≡ Some (Some e) → o ≡ Some (entry e (bytes_in o))
+entry_said : (o : Option Line) (e : List ℕ) → option_map entry_in o ≡ Some (Some e) → o ≡ Some (entry e (line_bytes o))
 entry_said (Some nothing) e h = cc
 entry_said (Some (entry e' bytes)) e h = let same : e' ≡ e = cc in ap (λ x. Some (entry x bytes)) same
 entry_said None e h = cc
@@ -203,16 +203,16 @@ entry_said None e h = cc
 pub LineGives-none : (number : ℕ) (line : List ℕ) (a : BoardState) → option_map entry_in (says number line) ≡ Some None → LineGives number line number a a
 LineGives-none number line a h = LineGives-nothing number line a (nothing_said (says number line) h)
 
-pub LineGives-some : (number : ℕ) (line e bytes : List ℕ) (a b : BoardState) → option_map entry_in (says number line) ≡ Some (Some e) → bytes ≡ bytes_in (says number line) → b ≡ after_post a (e ++ bytes)
+pub LineGives-some : (number : ℕ) (line e bytes : List ℕ) (a b : BoardState) → option_map entry_in (says number line) ≡ Some (Some e) → bytes ≡ line_bytes (says number line) → b ≡ after_post a (e ++ bytes)
     → LineGives number line (number + 1) a b
 LineGives-some number line e bytes a b h same posted =
-    LineGives-entry number line e (bytes_in (says number line)) a b (entry_said (says number line) e h) (posted ∙ ap (λ t. after_post a (e ++ t)) same)
+    LineGives-entry number line e (line_bytes (says number line)) a b (entry_said (says number line) e h) (posted ∙ ap (λ t. after_post a (e ++ t)) same)
 
-pub LineGives-failed : (number : ℕ) (line e bytes : List ℕ) (a b : BoardState) → option_map entry_in (says number line) ≡ Some (Some e) → bytes ≡ bytes_in (says number line) → PostFailed a b (e ++ bytes)
+pub LineGives-failed : (number : ℕ) (line e bytes : List ℕ) (a b : BoardState) → option_map entry_in (says number line) ≡ Some (Some e) → bytes ≡ line_bytes (says number line) → PostFailed a b (e ++ bytes)
     → GivesNot number line a b Output
 LineGives-failed number line e bytes a b h same f =
     let T : List ℕ → Type 0 = λ t. PostFailed a b (e ++ t) in
-    (e, bytes_in (says number line), entry_said (says number line) e h, subst T same f)
+    (e, line_bytes (says number line), entry_said (says number line) e h, subst T same f)
 
 -- ---- byte by byte
 

@@ -14,7 +14,7 @@ use Rattle.pk_nand.specs.Calls.{after_post, PostFailed, put_back}
 use Rattle.pk_text.specs.Written.{Written, ended, before}
 use Rattle.pk_text.specs.Records.{cut_short, data_shown, head_shown, record_shown, records_shown, shown_from}
 use Rattle.pk_text.specs.Turns.{TurnsFrom}
-use Rattle.pk_text.specs.Steps.{ahead, TextAdvances, Fed, IsOver, Filled, HeadTaken, Stops}
+use Rattle.pk_text.specs.Steps.{ahead, TextAdvances, Fed, IsOver, Filled, HeadTaken, TextStops}
 use Rattle.pk_text.specs.declared.end.TextEnd.{TextEnd}
 use Rattle.pk_text.specs.declared.end.TextEnd.TheVariants.{Done, Truncated, Output, TooMany}
 use Rattle.pk_text.proofs.Turning.{not_false, put_back-nil, before-before, Moved-none, Moved-then, Moved-post, known, known_is, told-back, none_ahead, Turns-output, Turns-stop, all_posted}
@@ -242,7 +242,7 @@ pub End-failed : (more : List ℕ → Written) (p : List ℕ) (a b : BoardState)
 End-failed more p a b f =
     Turns-output (data_shown 0 more) (ahead p a) (known (ahead p a)) a a b (codes "\n") (more (known (ahead p a))) (known_is (ahead p a)) (Moved-none a) f (data_end more (known (ahead p a)))
 
-pub Records-stop : (taken : ℕ) (p q : List ℕ) (a b : BoardState) (end : TextEnd) → 4294967295 ≤ taken → Stops p q a b end → TurnsFrom (shown_from taken) (ahead p a) a b end
+pub Records-stop : (taken : ℕ) (p q : List ℕ) (a b : BoardState) (end : TextEnd) → 4294967295 ≤ taken → TextStops p q a b end → TurnsFrom (shown_from taken) (ahead p a) a b end
 Records-stop taken p q a b end full h = Turns-stop (shown_from taken) p q a b end refl (λ byte rest. too_many taken byte rest full) h
 
 -- ---- how long the start of a line is

@@ -5,8 +5,8 @@ use Rattle.pk_nand.specs.BoardState.{BoardState}
 use Rattle.pk_nand.specs.Calls.{Rose, longer, after_post, PostFailed, put_back, AtEnd}
 use Rattle.pk_nand.proofs.Resting.{Rests-same, Rests-then, Rests-post, Rests-post_failed}
 use Rattle.pk_text.specs.Written.{Written, ended, before}
-use Rattle.pk_text.specs.Turns.{Touched, IsFront, IsAll, TextEnds, TurnsFrom, Turns}
-use Rattle.pk_text.specs.Steps.{ahead, Moved, TextAdvances, Fed, IsOver, FeedFailed, Nexted, Stops}
+use Rattle.pk_text.specs.Turns.{Touched, IsTextPrefix, IsAll, TextEnds, TurnsFrom, Turns}
+use Rattle.pk_text.specs.Steps.{ahead, Moved, TextAdvances, Fed, IsOver, FeedFailed, Nexted, TextStops}
 use Rattle.pk_text.specs.declared.end.TextEnd.{TextEnd}
 use Rattle.pk_text.specs.declared.end.TextEnd.TheVariants.{Done, Truncated, Input, Output, TooMany, BadLine}
 
@@ -185,7 +185,7 @@ all_behind a b c w v x y end e in_same out_same h = record {
   out_same = h.out_same ∙ out_same;
 }
 
-front_behind : (w v : Written) (x y : List ℕ) → w ≡ before x v → IsFront y v.bytes → IsFront (x ++ y) w.bytes
+front_behind : (w v : Written) (x y : List ℕ) → w ≡ before x v → IsTextPrefix y v.bytes → IsTextPrefix (x ++ y) w.bytes
 front_behind w v x y e h = (h.0, append_assoc x y h.0 ∙ (ap (λ t. x ++ t) h.1 ∙ sym (ap (λ (t : Written). t.bytes) e)))
 
 TextEnds-behind : (a b c : BoardState) (w v : Written) (x y : List ℕ) (end : TextEnd) → w ≡ before x v → b.in_faults ≡ a.in_faults → b.out_faults ≡ a.out_faults → TextEnds b c v y end → TextEnds a c w (x ++ y) end
@@ -248,7 +248,7 @@ all_posted a b w out end m e = record {
 }
 
 -- no more is to be taken
-pub Turns-stop : (f : List ℕ → Written) (p q : List ℕ) (a b : BoardState) (end : TextEnd) → f [] ≡ ended Done → ((byte : ℕ) (rest : List ℕ) → f (byte ∷ rest) ≡ ended TooMany) → Stops p q a b end
+pub Turns-stop : (f : List ℕ → Written) (p q : List ℕ) (a b : BoardState) (end : TextEnd) → f [] ≡ ended Done → ((byte : ℕ) (rest : List ℕ) → f (byte ∷ rest) ≡ ended TooMany) → TextStops p q a b end
     → TurnsFrom f (ahead p a) a b end
 Turns-stop f p q a b Done none some h = record {
   input = [];

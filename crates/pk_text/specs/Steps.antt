@@ -59,13 +59,13 @@ Nexted pending pending' old new None = Fed pending pending' old new [] × IsOver
 Nexted pending pending' old new (Some byte) = Fed pending pending' old new (byte ∷ [])
 
 -- how a run ends that is to take no more
-abbrev pub Stops : List ℕ → List ℕ → BoardState → BoardState → TextEnd → Type 0
-Stops pending pending' old new Done = Fed pending pending' old new [] × IsOver pending' new
-Stops pending pending' old new Truncated = ⊥
-Stops pending pending' old new Input = FeedFailed old new
-Stops pending pending' old new Output = ⊥
-Stops pending pending' old new TooMany = (byte : ℕ) × Fed pending pending' old new (byte ∷ [])
-Stops pending pending' old new BadLine = ⊥
+abbrev pub TextStops : List ℕ → List ℕ → BoardState → BoardState → TextEnd → Type 0
+TextStops pending pending' old new Done = Fed pending pending' old new [] × IsOver pending' new
+TextStops pending pending' old new Truncated = ⊥
+TextStops pending pending' old new Input = FeedFailed old new
+TextStops pending pending' old new Output = ⊥
+TextStops pending pending' old new TooMany = (byte : ℕ) × Fed pending pending' old new (byte ∷ [])
+TextStops pending pending' old new BadLine = ⊥
 
 -- ---- lines
 

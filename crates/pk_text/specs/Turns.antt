@@ -17,8 +17,8 @@ pub record Touched (old new : BoardState) (out : List ℕ) : Type 0 where
   pub rest : new ≡ record old { input = new.input; posted = new.posted; trail = new.trail; in_faults = new.in_faults; out_faults = new.out_faults }
 
 -- the bytes are a prefix of the whole
-abbrev pub IsFront : List ℕ → List ℕ → Type 0
-IsFront out whole = (more : List ℕ) × (out ++ more ≡ whole)
+abbrev pub IsTextPrefix : List ℕ → List ℕ → Type 0
+IsTextPrefix out whole = (more : List ℕ) × (out ++ more ≡ whole)
 
 -- all was posted, and the run ended as the input says, without a fault of the host
 pub record IsAll (old new : BoardState) (w : Written) (out : List ℕ) (end : TextEnd) : Type 0 where
@@ -31,13 +31,13 @@ pub record IsAll (old new : BoardState) (w : Written) (out : List ℕ) (end : Te
 pub record InputFailed (old new : BoardState) (w : Written) (out : List ℕ) : Type 0 where
   pub rose : Rose old.in_faults new.in_faults
   pub out_same : new.out_faults ≡ old.out_faults
-  pub front : IsFront out w.bytes
+  pub front : IsTextPrefix out w.bytes
 
 -- the output failed, after a prefix of what is posted
 pub record OutputFailed (old new : BoardState) (w : Written) (out : List ℕ) : Type 0 where
   pub rose : Rose old.out_faults new.out_faults
   pub in_same : new.in_faults ≡ old.in_faults
-  pub front : IsFront out w.bytes
+  pub front : IsTextPrefix out w.bytes
 
 -- how a run ends that is to post this and posted these bytes
 abbrev pub TextEnds : BoardState → BoardState → Written → List ℕ → TextEnd → Type 0

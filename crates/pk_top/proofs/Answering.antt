@@ -16,7 +16,7 @@ use Rattle.pk_scan.specs.declared.errors.OpenError.{OpenError}
 use Rattle.pk_scan.specs.declared.errors.OpenError.TheVariants.{NotFormatted, Damaged, Fault as ReadFault, Memory as NoMemory}
 use Rattle.pk_wordrun.specs.Tasks.{Task, answer, list, generate, SaysTask}
 use Rattle.pk_wordrun.specs.Seen.{IsShortTask}
-use Rattle.pk_wordrun.specs.Told.{EndsBy, Finished, most_roots}
+use Rattle.pk_wordrun.specs.Told.{EndsBy, WordDone, most_roots}
 use Rattle.pk_wordrun.specs.declared.end.WordEnd.{WordEnd}
 use Rattle.pk_wordrun.specs.declared.end.WordEnd.TheVariants.{Done, Output, Flash as FlashFailed, Worn}
 use Rattle.pk_top.specs.Asks.{word_status, AskedTo, Asks, AsksAll, AsksWhole, AsksFound, AskRun}
@@ -41,9 +41,9 @@ worn_never : (before behind more : ℕ) → nat_le 9223372036854775808 behind �
 worn_never before behind more worn used far few = grind (arith, nat_tests, worn, used, far, few)
 
 module _ (task : Task) (few : most_roots task < 4611686018427387904) (shape : Shape) (loaded new : BoardState) where
-  finished : (start m : Map) → start ≡ m → Finished task shape WORD_FRAMES start (behind_opening shape WORD_FRAMES loaded) new → Finished task shape WORD_FRAMES m loaded new
+  finished : (start m : Map) → start ≡ m → WordDone task shape WORD_FRAMES start (behind_opening shape WORD_FRAMES loaded) new → WordDone task shape WORD_FRAMES m loaded new
   finished start m same f =
-      let T : Map → Type 0 = λ s. Finished task shape WORD_FRAMES s loaded new in
+      let T : Map → Type 0 = λ s. WordDone task shape WORD_FRAMES s loaded new in
       subst T same (record { left = f.left; text = f.text; says = f.says; posted = f.posted; holds = f.holds; sound = record { output = f.sound.output; stop = f.sound.stop } })
 
   by_end : (status : ℕ) (end : WordEnd) → status ≡ word_status end → AskedTo task shape loaded new end → AsksAll task shape loaded new status
@@ -79,7 +79,7 @@ module _ (task : Task) (few : most_roots task < 4611686018427387904) (old new : 
     same_shape : loaded.shape ≡ old.shape
     same_shape = (found.held some).1
 
-    finished_loaded : (start : Map) → Finished task shape WORD_FRAMES start loaded new → Finished task shape WORD_FRAMES start old new
+    finished_loaded : (start : Map) → WordDone task shape WORD_FRAMES start loaded new → WordDone task shape WORD_FRAMES start old new
     finished_loaded start f =
         let R : ℕ → Type 0 = λ n. SaysTask task n new.read_faults shape WORD_FRAMES start f.text f.left in
         record {

@@ -15,7 +15,7 @@ use Rattle.pk_call.specs.Drive.{HoldsMap}
 use Rattle.pk_model.specs.Growth.{Goes}
 use Rattle.pk_serve.specs.Ends.{Blames}
 use Rattle.pk_serve.specs.Run.{KeepsScript as KeepsScriptOf, KeepsSome as KeepsSomeOf, Answers, Causes}
-use Rattle.pk_serve.specs.Complete.{Completes}
+use Rattle.pk_serve.specs.Complete.{RunCompletes}
 use Rattle.pk_serve.specs.Script.{SaysOfScript}
 use Rattle.pk_serve.specs.Serving.{KeptAt}
 use Rattle.pk_serve.specs.declared.end.End.{End}
@@ -87,7 +87,7 @@ module _ (shape : Shape) (frames : ℕ) (loaded new : BoardState) (drive : Sight
     goes.2,
   )
 
-  all-opened : (status : ℕ) (end : End) → status ≡ end_status end → Completes (behind_opening shape frames loaded) new drive end → ServesAll shape frames loaded new status
+  all-opened : (status : ℕ) (end : End) → status ≡ end_status end → RunCompletes (behind_opening shape frames loaded) new drive end → ServesAll shape frames loaded new status
   all-opened status end tells complete m holds input told ok sound =
       let held : Holds shape loaded.pages start = start-held in
       let same : start ≡ m = cc in
@@ -98,7 +98,7 @@ module _ (shape : Shape) (frames : ℕ) (loaded new : BoardState) (drive : Sight
       → Blames (behind_opening shape frames loaded) new end → SaysOfScript (behind_opening shape frames loaded) new end
       → KeepsScriptOf (behind_opening shape frames loaded) new drive → KeepsSomeOf (behind_opening shape frames loaded) new drive
       → Answers (behind_opening shape frames loaded) new drive end → Causes (behind_opening shape frames loaded) new drive end
-      → Completes (behind_opening shape frames loaded) new drive end → RunServes shape frames loaded new status
+      → RunCompletes (behind_opening shape frames loaded) new drive end → RunServes shape frames loaded new status
   serves-to status end tells blames says kept kept_untold served causes complete =
       let some = kept_untold shape frames start stands none in
       record {
@@ -123,7 +123,7 @@ pub RunServes-opened : (shape : Shape) (frames : ℕ) (loaded opened_board new :
     → opened_board ≡ behind_opening shape frames loaded → ((m : Map) × HoldsMap shape frames opened_board drive m) → drive.pending ≡ [] → status ≡ end_status end
     → Blames opened_board new end → SaysOfScript opened_board new end → KeepsScriptOf opened_board new drive → KeepsSomeOf opened_board new drive
     → Answers opened_board new drive end → Causes opened_board new drive end
-    → Completes opened_board new drive end → RunServes shape frames loaded new status
+    → RunCompletes opened_board new drive end → RunServes shape frames loaded new status
 RunServes-opened shape frames loaded opened_board new drive status end is stands none tells blames says kept kept_untold served causes complete =
     let T : BoardState → Type 0 = λ b. (m : Map) × HoldsMap shape frames b drive m in
     let B : BoardState → Type 0 = λ b. Blames b new end in
@@ -132,6 +132,6 @@ RunServes-opened shape frames loaded opened_board new drive status end is stands
     let U : BoardState → Type 0 = λ b. KeepsSomeOf b new drive in
     let A : BoardState → Type 0 = λ b. Answers b new drive end in
     let C : BoardState → Type 0 = λ b. Causes b new drive end in
-    let W : BoardState → Type 0 = λ b. Completes b new drive end in
+    let W : BoardState → Type 0 = λ b. RunCompletes b new drive end in
     let at : T (behind_opening shape frames loaded) = subst T is stands in
     serves-to shape frames loaded new drive at.0 at.1 none status end tells (subst B is blames) (subst S is says) (subst K is kept) (subst U is kept_untold) (subst A is served) (subst C is causes) (subst W is complete)

@@ -11,7 +11,7 @@ use Rattle.pk_model.specs.Reading.{Holds}
 use Rattle.pk_model.specs.Wear.{roots}
 use Rattle.pk_serve.specs.Complete.{NoneRose, far_below}
 use Rattle.pk_wordrun.specs.Tasks.{Task, only_asks, SaysTask, KeptTask}
-use Rattle.pk_wordrun.specs.Told.{EndsBy, Finished, most_roots}
+use Rattle.pk_wordrun.specs.Told.{EndsBy, WordDone, most_roots}
 use Rattle.pk_wordrun.specs.declared.end.WordEnd.{WordEnd}
 use Rattle.pk_wordrun.specs.declared.end.WordEnd.TheVariants.{Done, Output, Flash as FlashFailed, Worn}
 use Rattle.pk_top.specs.declared.status.TheConstants.Status.{DONE, OUTPUT, FLASH, MEMORY, NO_DRIVE, WORN}
@@ -65,7 +65,7 @@ AskRun task old new status =
 abbrev pub AsksAll : Task → Shape → BoardState → BoardState → ℕ → Type 0
 AsksAll task shape loaded new status =
     (start : Map) → Holds shape loaded.pages start → roots loaded < far_below → NoneRose loaded new → (Rose loaded.flash_faults new.flash_faults → ⊥)
-    → ((status ≡ DONE.0) × Finished task shape WORD_FRAMES start loaded new) ⊎ ((status ≡ MEMORY.0) × Untouched loaded new)
+    → ((status ≡ DONE.0) × WordDone task shape WORD_FRAMES start loaded new) ⊎ ((status ≡ MEMORY.0) × Untouched loaded new)
 
 -- the same of a board that holds its pages from the start
 abbrev pub AsksWhole : Task → BoardState → BoardState → ℕ → Type 0

@@ -23,7 +23,7 @@ use Rattle.pk_run.proofs.Lookups.{first_is, page_starts, holds_piece, no_leases}
 use Rattle.pk_walk.specs.declared.position.Position.{Position}
 use Rattle.pk_walk.specs.declared.position.Position.TheVariants.{Above}
 use Rattle.pk_walk.specs.Visible.{is_wanted, wanted, WantsFrom}
-use Rattle.pk_walk.specs.Heads.{Head, IsNext, head_after, held}
+use Rattle.pk_walk.specs.Heads.{Head, IsNextWanted, head_after, held}
 use Rattle.pk_walk.specs.Walking.{Cursor, Follows, HasPassed, Reads, ReadsAll, at_start, read_of}
 use Rattle.pk_walk.specs.Steps.{MayLoad, StaysAt, bytes_in, seen_bytes}
 use Rattle.pk_model.proofs.MapLemmas.{key_antisymm}
@@ -216,11 +216,11 @@ behind_ended key (Some (Some x)) e = absurd (neither (is_eq (key_cmp x.0 key)) e
     neither false e = cc
 
 -- what is next stays so
-next_behind : (position : Position) (key : Key) (h : Head) (e : Entry) → is_some h ≡ true → IsNext position h e → IsNext (Above key) (head_after key h) e
+next_behind : (position : Position) (key : Key) (h : Head) (e : Entry) → is_some h ≡ true → IsNextWanted position h e → IsNextWanted (Above key) (head_after key h) e
 next_behind position key None e known next = cc
 next_behind position key (Some None) e known next = tt
 next_behind position key (Some (Some x)) e known next =
-    elim (key_cmp x.0 key) as (λ o. key_cmp x.0 key ≡ o → IsNext (Above key) (if is_eq o then None else Some (Some x)) e) [
+    elim (key_cmp x.0 key) as (λ o. key_cmp x.0 key ≡ o → IsNextWanted (Above key) (if is_eq o then None else Some (Some x)) e) [
       | Less ↦ λ p. next
       | Equal ↦ λ p. above_it (subst (λ (k : Key). key_cmp k e.0 ≡ Less) (key_antisymm x.0 key p) next)
       | Greater ↦ λ p. next

@@ -16,7 +16,7 @@ use Rattle.pk_pin.specs.Frames.{Frames}
 use Rattle.pk_run.specs.Kept.{Kept, IsKept, RunOnFlash, page_of}
 use Rattle.pk_walk.specs.declared.position.Position.{Position}
 use Rattle.pk_walk.specs.Visible.{is_wanted, wanted, first_of}
-use Rattle.pk_walk.specs.Heads.{Head, IsNext}
+use Rattle.pk_walk.specs.Heads.{Head, IsNextWanted}
 use Rattle.pk_walk.specs.Walking.{Cursor, Follows, read_of}
 use Rattle.pk_walk.specs.Steps.{FindsIn, GoesOn, IsAt, ShowsIn, bytes_in, holding}
 use Rattle.pk_walk.proofs.Wanting.{above_at, dropped, first_here, first_wanted, same_entry}
@@ -147,7 +147,7 @@ module _ (r : Kept) (arena : Frames) (position : Position) (old : BoardState) (c
       first : Some (seen e) ≡ first_of (wanted (is_wanted position) es)
       first =
           let next = (f.sure ready.0).1 c.place (seen e) (omega arith) (there es s) in
-          let one : T (is_wanted position (seen e).0) = subst (λ (h : Head). IsNext position h (seen e)) sought next in
+          let one : T (is_wanted position (seen e).0) = subst (λ (h : Head). IsNextWanted position h (seen e)) sought next in
           first_here (is_wanted position) es c.place (seen e) (there es s) (is_true _ one) (sought_left old.pages r es position c f sought)
 
 -- if it is not known it has to be looked for

@@ -18,7 +18,7 @@ use Rattle.pk_pin.specs.Frames.{Frames}
 use Rattle.pk_run.specs.Kept.{Kept, IsKept, RunOnFlash, page_of}
 use Rattle.pk_walk.specs.declared.position.Position.{Position}
 use Rattle.pk_walk.specs.Visible.{is_wanted, wanted}
-use Rattle.pk_walk.specs.Heads.{Head, IsNext, held}
+use Rattle.pk_walk.specs.Heads.{Head, IsNextWanted, held}
 use Rattle.pk_walk.specs.Walking.{Cursor, Follows}
 use Rattle.pk_walk.specs.Steps.{HasPage, IsFirstWanted, CursorMoves, bytes_in}
 use Rattle.pk_walk.proofs.Wanting.{passed_by}
@@ -189,7 +189,7 @@ module _ (r : Kept) (flash : Flash) (arena : Frames) (es : List Entry) (is : IsS
           let forth = moved_forth in
           let loaded = same_loaded in
           let some = before.0 in
-          (omega (arith, some, loaded), λ i e le got. subst (λ (h : Head). IsNext position h e) (sym (ap (λ (x : Cursor). x.head) m.cursor)) (before.1 i e (omega (arith, forth, le)) got));
+          (omega (arith, some, loaded), λ i e le got. subst (λ (h : Head). IsNextWanted position h e) (sym (ap (λ (x : Cursor). x.head) m.cursor)) (before.1 i e (omega (arith, forth, le)) got));
     }
 
     -- if a wanted entry was found it has the page of its place still

@@ -55,10 +55,10 @@ Shows es position None = ⊤
 Shows es position (Some found) = found ≡ first_of (wanted (is_wanted position) es)
 
 -- the entry is wanted next, or after the one that is known
-abbrev pub IsNext : Position → Head → Entry → Type 0
-IsNext position None e = T (is_wanted position e.0)
-IsNext position (Some None) e = ⊤
-IsNext position (Some (Some first)) e = key_cmp first.0 e.0 ≡ Less
+abbrev pub IsNextWanted : Position → Head → Entry → Type 0
+IsNextWanted position None e = T (is_wanted position e.0)
+IsNextWanted position (Some None) e = ⊤
+IsNextWanted position (Some (Some first)) e = key_cmp first.0 e.0 ≡ Less
 
 -- ---- several
 

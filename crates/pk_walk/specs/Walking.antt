@@ -16,7 +16,7 @@ use Rattle.pk_run.specs.Kept.{Kept, page_of}
 use Rattle.pk_level.specs.Levels.{RunsOnFlash}
 use Rattle.pk_walk.specs.Visible.{visible, is_wanted, wanted}
 use Rattle.pk_walk.specs.declared.buffers.Tops.{Tops as RustTops}
-use Rattle.pk_walk.specs.Heads.{Head, IsNext, Shows, head_after, held, seen_head}
+use Rattle.pk_walk.specs.Heads.{Head, IsNextWanted, Shows, head_after, held, seen_head}
 use Rattle.pk_walk.specs.declared.position.Position.{Position}
 use Rattle.pk_walk.specs.declared.position.Position.TheVariants.{First, From, Above}
 
@@ -96,7 +96,7 @@ pub record Follows (flash : Flash) (r : Kept) (es : List Entry) (position : Posi
   pub holds : r.leases ≡ [] → c.loaded ≡ suc (c.place / page_entries r.shape) → page_at flash (page_of r (c.place / page_entries r.shape)) ≡ whole c.bytes
   pub left : wanted (is_wanted position) es ≡ held c.head ++ wanted (is_wanted position) (drop c.place es)
   pub ended : c.head ≡ Some None → r.count ≤ c.place
-  pub sure : c.has_found ≡ true → (0 < c.loaded) × ((i : ℕ) (e : Entry) → c.place ≤ i → slice_get es i ≡ Some e → IsNext position c.head e)
+  pub sure : c.has_found ≡ true → (0 < c.loaded) × ((i : ℕ) (e : Entry) → c.place ≤ i → slice_get es i ≡ Some e → IsNextWanted position c.head e)
 
 -- the cursors follow the runs of the levels, one each
 abbrev pub FollowEach : Flash → List Kept → List (List Entry) → Position → List Cursor → Type 0

@@ -19,7 +19,7 @@ use Rattle.pk_port.specs.Steps.{Mounted, seen, Serves, Stops, Fails, HasCause}
 use Rattle.pk_port.specs.declared.halt.Halt.{Halt}
 use Rattle.pk_port.specs.declared.halt.Halt.TheVariants.{Stopped, Worn as UsedUp}
 use Rattle.pk_port.proofs.Growing.{asked-none, asked-next, asked-stops, asked-posts, asked-post_failed, went-silent}
-use Rattle.pk_words.specs.Question.{Question, command_of, Answers}
+use Rattle.pk_words.specs.Question.{Question, command_of, QuestionAnswers}
 use Rattle.pk_words.specs.Said.{Said}
 use Rattle.pk_wordrun.specs.Ends.{end_of}
 use Rattle.pk_wordrun.specs.Tasks.{answer, SaysTask, KeptTask}
@@ -82,14 +82,14 @@ module _ (q : Question) (shape : Shape) (start : Map) (old new : Mounted) (has :
   asked : (x : Exchange) → Serves shape old new (command_of shape q) x → Asked shape old.frames start old.board new.board cs
   asked x s = asked-next shape start old.board [] old new (command_of shape q) (asked-none shape old.frames start old.board has holds) x s
 
-  says-left : (w : Asked shape old.frames start old.board new.board cs) (text : List ℕ) → Said (Answers q) (seen shape old.board 0) (seen shape new.board 0) text → says_now text w.left
+  says-left : (w : Asked shape old.frames start old.board new.board cs) (text : List ℕ) → Said (QuestionAnswers q) (seen shape old.board 0) (seen shape new.board 0) text → says_now text w.left
   says-left w text said =
       let s = said start (ap result_ok holds) in
       let same : s.left ≡ w.left = some_same s.left w.left (sym s.told ∙ ap result_ok w.held) in
-      let T : Map → Type 0 = λ m. Answers q (Rose old.board.read_faults new.board.read_faults) shape (limit shape) s.frames start text m in
+      let T : Map → Type 0 = λ m. QuestionAnswers q (Rose old.board.read_faults new.board.read_faults) shape (limit shape) s.frames start text m in
       (s.frames, subst T same s.says)
 
-  module _ (x : Exchange) (s : Serves shape old new (command_of shape q) x) (text : List ℕ) (said : Said (Answers q) (seen shape old.board 0) (seen shape new.board 0) text) where
+  module _ (x : Exchange) (s : Serves shape old new (command_of shape q) x) (text : List ℕ) (said : Said (QuestionAnswers q) (seen shape old.board 0) (seen shape new.board 0) text) where
     -- the text went out
     told-posted : Told (answer q) shape old.frames start old.board (after_post new.board text) Done
     told-posted =

@@ -9,7 +9,7 @@ use Rattle.pk_model.specs.Kept.{rise}
 use Rattle.pk_model.specs.Reading.{Holds}
 use Rattle.pk_gen.specs.Workload.{workload}
 use Rattle.pk_port.specs.Asking.{KeptWord}
-use Rattle.pk_words.specs.Question.{Question, put, get, delete, has, stat, command_of, Answers}
+use Rattle.pk_words.specs.Question.{Question, put, get, delete, has, stat, command_of, QuestionAnswers}
 use Rattle.pk_words.specs.Says.{SaysKeys}
 use Rattle.pk_wordrun.specs.Summary.{SaysSummary}
 
@@ -35,7 +35,7 @@ only_asks (generate begin count) = false
 
 -- what the answer to a question says on some drive; that a read failed is said only if the count of failed reads rose
 abbrev pub SaysAnswer : Question → ℕ → ℕ → Shape → Map → List ℕ → Map → Type 0
-SaysAnswer q before behind shape m text m' = (frames : ℕ) × Answers q (Rose before behind) shape (limit shape) frames m text m'
+SaysAnswer q before behind shape m text m' = (frames : ℕ) × QuestionAnswers q (Rose before behind) shape (limit shape) frames m text m'
 
 -- What a word says, from map to map, on a drive with this many frames, if the count of failed reads went from one number to another.
 abbrev pub SaysTask : Task → ℕ → ℕ → Shape → ℕ → Map → List ℕ → Map → Type 0

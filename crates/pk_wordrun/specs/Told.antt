@@ -14,7 +14,7 @@ use Rattle.pk_wordrun.specs.declared.end.WordEnd.{WordEnd}
 use Rattle.pk_wordrun.specs.declared.end.WordEnd.TheVariants.{Done, Output, Flash, Worn}
 
 -- The word is done: its text went out, and the flash holds the map that it leaves.
-pub record Finished (task : Task) (shape : Shape) (frames : ℕ) (start : Map) (a b : BoardState) : Type 0 where
+pub record WordDone (task : Task) (shape : Shape) (frames : ℕ) (start : Map) (a b : BoardState) : Type 0 where
   pub left : Map
   pub text : List ℕ
   pub says : SaysTask task a.read_faults b.read_faults shape frames start text left
@@ -24,7 +24,7 @@ pub record Finished (task : Task) (shape : Shape) (frames : ℕ) (start : Map) (
 
 -- how it ended, and why
 abbrev pub EndsBy : Task → Shape → ℕ → Map → BoardState → BoardState → WordEnd → Type 0
-EndsBy task shape frames start a b Done = Finished task shape frames start a b
+EndsBy task shape frames start a b Done = WordDone task shape frames start a b
 EndsBy task shape frames start a b Output = Rose a.out_faults b.out_faults
 EndsBy task shape frames start a b Flash = Rose a.stop_faults b.stop_faults
 EndsBy task shape frames start a b Worn = (is_worn b ≡ true) × NoFaults a b

@@ -1,6 +1,6 @@
 //! One question to a drive.
 ghost use Rattle.std.specs.Prelude.{◌≡◌, length, OnOk};
-ghost use Rattle.pk_words.specs.Question.{seen, command_of, IsShort, Answers};
+ghost use Rattle.pk_words.specs.Question.{seen, command_of, IsShort, QuestionAnswers};
 ghost use Rattle.pk_words.specs.Said.{Said, Spoken};
 ghost use Rattle.pk_port.specs.Ready.{Fits, HasRoom};
 ghost use Rattle.pk_port.specs.Steps.{mount, seen as seen_on};
@@ -34,7 +34,7 @@ pub fn ask<D: Engine, B: Nand>(
         result }
 
     // The text.
-    ensures said { OnOk result (Said (Answers (seen question.now))
+    ensures said { OnOk result (Said (QuestionAnswers (seen question.now))
         (seen_on shape (B.state board.old) 0) (seen_on shape (B.state board.new) 0)
         words.new.text) }
     ensures shape { words.new.shape ≡ shape }

@@ -41,9 +41,9 @@ IsShort (has key) = Unit {0}
 IsShort stat = Unit {0}
 
 -- what it says of the map that it finds, and which map it leaves
-abbrev pub Answers : Question → Saying
-Answers (put key value) = SaysStatus (store_of key value Any)
-Answers (get key) = SaysValue key
-Answers (delete key) = SaysStatus (delete_of key)
-Answers (has key) = SaysStatus (exist_of key)
-Answers stat = SaysNumbers
+abbrev pub QuestionAnswers : Question → Saying
+QuestionAnswers (put key value) = SaysStatus (store_of key value Any)
+QuestionAnswers (get key) = SaysValue key
+QuestionAnswers (delete key) = SaysStatus (delete_of key)
+QuestionAnswers (has key) = SaysStatus (exist_of key)
+QuestionAnswers stat = SaysNumbers

@@ -1,7 +1,7 @@
 //! The words of one command each.
 ghost use Rattle.std.specs.Prelude.{◌≡◌, [], ◌∷◌, OnOk, OnErr};
 ghost use Rattle.pk_nand.specs.Calls.{Rose};
-ghost use Rattle.pk_words.specs.Question.{seen, command_of, IsShort, Answers};
+ghost use Rattle.pk_words.specs.Question.{seen, command_of, IsShort, QuestionAnswers};
 ghost use Rattle.pk_words.specs.Said.{Said, Spoken};
 
 use crate::words::Words;
@@ -29,7 +29,7 @@ impl Words {
     pub fn answer<P: Port>(&mut self, port: &mut P, question: &Question) -> Result<(), PortFault>
         requires { IsShort (seen question.now) }
         ensures said { OnOk result ((P.state port.old).shape ≡ self.old.shape
-            → Said (Answers (seen question.now)) (P.state port.old) (P.state port.new)
+            → Said (QuestionAnswers (seen question.now)) (P.state port.old) (P.state port.new)
             self.new.text) }
         ensures fault { OnErr result
             (Rose (P.state port.old).port_faults (P.state port.new).port_faults) }

@@ -1,7 +1,7 @@
 use Rattle.std.proofs.Common.{◌∙◌, Option, sym, ap, arith}
 use Rattle.std.specs.Prelude.{option_map}
 use Rattle.pk_nvme.specs.Bytes.{RoomyList}
-use Rattle.pk_asm.specs.Line.{Line, entry_in, bytes_in, entry_said}
+use Rattle.pk_asm.specs.Line.{Line, entry_in, line_bytes, entry_said}
 use Rattle.pk_asm.specs.Words.{words}
 use Rattle.pk_asm.proofs.LineLemmas.{says_entry, no_comment, entry_some, entry_none, bytes_said, emptied}
 use Rattle.pk_asm.proofs.assemble.assemble_line.Goals as goal
@@ -15,7 +15,7 @@ pub returns-in-Some-clause-value : goal.returns-in-Some-clause-value
 returns-in-Some-clause-value c =
     let said = says_entry c.args.number c.args.line.now (omega arith) (no_comment c.args.line.now (sym c.is_empty.ensures ∙ c.if-is_empty.false) c.if-line-eq35.false) in
     c.entry_said.ensures.value
-    ∙ emptied _ c.args.value.now.room c.clear.new.self _ (bytes_said (entry_said c.args.number (words c.args.line.now)) ∙ ap bytes_in (sym said)) (ap (λ (b : RoomyList). b.room) c.clear.ensures)
+    ∙ emptied _ c.args.value.now.room c.clear.new.self _ (bytes_said (entry_said c.args.number (words c.args.line.now)) ∙ ap line_bytes (sym said)) (ap (λ (b : RoomyList). b.room) c.clear.ensures)
 
 pub returns-in-None-clause-exact : goal.returns-in-None-clause-exact
 returns-in-None-clause-exact c =
@@ -26,4 +26,4 @@ pub returns-in-None-clause-value : goal.returns-in-None-clause-value
 returns-in-None-clause-value c =
     let said = says_entry c.args.number c.args.line.now (omega arith) (no_comment c.args.line.now (sym c.is_empty.ensures ∙ c.if-is_empty.false) c.if-line-eq35.false) in
     c.entry_said.ensures.value
-    ∙ emptied _ c.args.value.now.room c.clear.new.self _ (bytes_said (entry_said c.args.number (words c.args.line.now)) ∙ ap bytes_in (sym said)) (ap (λ (b : RoomyList). b.room) c.clear.ensures)
+    ∙ emptied _ c.args.value.now.room c.clear.new.self _ (bytes_said (entry_said c.args.number (words c.args.line.now)) ∙ ap line_bytes (sym said)) (ap (λ (b : RoomyList). b.room) c.clear.ensures)

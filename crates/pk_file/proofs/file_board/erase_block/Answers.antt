@@ -1,6 +1,6 @@
 use Rattle.std.proofs.Common.{◌≤◌, ◌∙◌, ℕ, arith}
 use Rattle.std.proofs.lemmas.List.{length-map}
-use Rattle.pk_file.specs.Slots.{pages_of, page_of}
+use Rattle.pk_file.specs.Slots.{pages_of, slot_page}
 use Rattle.pk_file.proofs.Rows.{erase_left, erase_done}
 use Rattle.pk_file.proofs.file_board.erase_block.Goals as goal
 
@@ -10,7 +10,7 @@ returns-then-cleared-clause-pages c =
     let done : ℕ = c.erase_pages-cleared.result.count in
     let all : count ≤ done = let e = c.erase_pages-cleared.ensures.all c.if-cleared.true in omega (arith, e) in
     erase_done c.args.shape.now c.in-Some-Some.shape c.in-Some-Some.is-1 c.block_pages-count.ensures.shape c.args.block count done (pages_of c.args.slots.now.items) (pages_of c.erase_slots.new.slots.items)
-    c.block_pages-count.ensures.value c.erase_pages-cleared.ensures.most all c.requires.exists (length-map c.args.slots.now.items page_of ∙ c.requires.count) c.erase_slots.ensures.pages
+    c.block_pages-count.ensures.value c.erase_pages-cleared.ensures.most all c.requires.exists (length-map c.args.slots.now.items slot_page ∙ c.requires.count) c.erase_slots.ensures.pages
 
 pub returns-clause-left : goal.returns-clause-left
 returns-clause-left c =

@@ -1,7 +1,7 @@
 use Rattle.std.proofs.Common.{◌≡◌, ◌∙◌, ◌+◌, ◌<◌, ℕ, arith, ap, sym, subst, slice_set}
 use Rattle.std.proofs.lemmas.List.{length-map}
 use Rattle.pk_base.specs.Page.{Page, Flash, erased}
-use Rattle.pk_file.specs.Slots.{pages_of, page_of, ErasedRow}
+use Rattle.pk_file.specs.Slots.{pages_of, slot_page, ErasedRow}
 use Rattle.pk_file.proofs.Rows.{row_more}
 use Rattle.pk_file.proofs.Slotting.{erased_fits, same_extent}
 use Rattle.pk_file.proofs.slots.erase_slots.Goals as goal
@@ -13,7 +13,7 @@ loop-i-preserved c =
     let now = c.loop-i.slots.items in
     let P : Flash → Type 0 = λ f. ErasedRow first (i + 1) (pages_of c.args.slots.now.items) f in
     let Q : ℕ → Type 0 = λ n. first + i < n in
-    let room = subst Q (sym (length-map now page_of)) (omega (arith, c.loop-i.invariant.count, c.requires, c.loop-i-test.true)) in
+    let room = subst Q (sym (length-map now slot_page)) (omega (arith, c.loop-i.invariant.count, c.requires, c.loop-i-test.true)) in
     let here = c.set_slot.ensures.pages ∙ ap (λ (p : Page). slice_set (pages_of now) (first + i) p) c.erased-slot.ensures.page in
     record {
       pages = subst P (sym here) (row_more first i (pages_of c.args.slots.now.items) (pages_of now) room c.loop-i.invariant.pages);

@@ -2,7 +2,7 @@ use Rattle.std.proofs.Common.{◌∙◌, length, ap, sym}
 use Rattle.pk_base.specs.Page.{Page}
 use Rattle.pk_nand.specs.Calls.{filled}
 use Rattle.pk_nand.specs.Seen.{answer}
-use Rattle.pk_file.specs.Slots.{page_of}
+use Rattle.pk_file.specs.Slots.{slot_page}
 use Rattle.pk_file.specs.Trims.{bytes_in}
 use Rattle.pk_file.proofs.Slotting.{page_here, room_for}
 use Rattle.pk_file.proofs.slots.read_slot.Goals as goal
@@ -10,34 +10,34 @@ use Rattle.pk_file.proofs.slots.read_slot.Goals as goal
 pub fill-requires : goal.fill-requires
 fill-requires c =
     let here = page_here c.args.slots.now.items c.args.page c.index.result.now c.requires.exists c.index.ensures in
-    room_for c.args.slots.now.items c.args.page (length c.args.into.now) (bytes_in c.in-Whole.kept) c.requires.full (here ∙ ap page_of c.in-Whole.is)
+    room_for c.args.slots.now.items c.args.page (length c.args.into.now) (bytes_in c.in-Whole.kept) c.requires.full (here ∙ ap slot_page c.in-Whole.is)
 
 pub returns-in-Erased-clause-found : goal.returns-in-Erased-clause-found
 returns-in-Erased-clause-found c =
     let here = page_here c.args.slots.now.items c.args.page c.index.result.now c.requires.exists c.index.ensures in
-    sym (ap answer (here ∙ ap page_of c.in-Erased.is))
+    sym (ap answer (here ∙ ap slot_page c.in-Erased.is))
 
 pub returns-in-Erased-clause-bytes : goal.returns-in-Erased-clause-bytes
 returns-in-Erased-clause-bytes c =
     let here = page_here c.args.slots.now.items c.args.page c.index.result.now c.requires.exists c.index.ensures in
-    sym (ap (λ (p : Page). filled p c.args.into.now) (here ∙ ap page_of c.in-Erased.is))
+    sym (ap (λ (p : Page). filled p c.args.into.now) (here ∙ ap slot_page c.in-Erased.is))
 
 pub returns-in-Torn-clause-found : goal.returns-in-Torn-clause-found
 returns-in-Torn-clause-found c =
     let here = page_here c.args.slots.now.items c.args.page c.index.result.now c.requires.exists c.index.ensures in
-    sym (ap answer (here ∙ ap page_of c.in-Torn.is))
+    sym (ap answer (here ∙ ap slot_page c.in-Torn.is))
 
 pub returns-in-Torn-clause-bytes : goal.returns-in-Torn-clause-bytes
 returns-in-Torn-clause-bytes c =
     let here = page_here c.args.slots.now.items c.args.page c.index.result.now c.requires.exists c.index.ensures in
-    sym (ap (λ (p : Page). filled p c.args.into.now) (here ∙ ap page_of c.in-Torn.is))
+    sym (ap (λ (p : Page). filled p c.args.into.now) (here ∙ ap slot_page c.in-Torn.is))
 
 pub returns-in-Whole-clause-found : goal.returns-in-Whole-clause-found
 returns-in-Whole-clause-found c =
     let here = page_here c.args.slots.now.items c.args.page c.index.result.now c.requires.exists c.index.ensures in
-    sym (ap answer (here ∙ ap page_of c.in-Whole.is))
+    sym (ap answer (here ∙ ap slot_page c.in-Whole.is))
 
 pub returns-in-Whole-clause-bytes : goal.returns-in-Whole-clause-bytes
 returns-in-Whole-clause-bytes c =
     let here = page_here c.args.slots.now.items c.args.page c.index.result.now c.requires.exists c.index.ensures in
-    c.fill.ensures ∙ sym (ap (λ (p : Page). filled p c.args.into.now) (here ∙ ap page_of c.in-Whole.is))
+    c.fill.ensures ∙ sym (ap (λ (p : Page). filled p c.args.into.now) (here ∙ ap slot_page c.in-Whole.is))

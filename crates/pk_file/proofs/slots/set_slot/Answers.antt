@@ -1,11 +1,11 @@
 use Rattle.std.proofs.lemmas.List.{map-set}
-use Rattle.pk_file.specs.Slots.{page_of}
+use Rattle.pk_file.specs.Slots.{slot_page}
 use Rattle.pk_file.specs.Extents.{extent_of}
 use Rattle.pk_file.proofs.Slotting.{fit_set}
 use Rattle.pk_file.proofs.slots.set_slot.Goals as goal
 
 pub returns-clause-pages : goal.returns-clause-pages
-returns-clause-pages c = map-set page_of _ _ _
+returns-clause-pages c = map-set slot_page _ _ _
 
 pub returns-clause-extents : goal.returns-clause-extents
 returns-clause-extents c = map-set extent_of _ _ _

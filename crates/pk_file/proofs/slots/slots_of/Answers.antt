@@ -1,7 +1,7 @@
 use Rattle.std.proofs.Common.{◌≡◌, ◌∙◌, ◌+◌, ◌<◌, length, List, ℕ, take, sym, subst, arith}
 use Rattle.pk_base.specs.Shape.{Shape}
 use Rattle.pk_file.specs.declared.slot.Slot.{Slot}
-use Rattle.pk_file.specs.Slots.{bytes_of, Fits, AllFit}
+use Rattle.pk_file.specs.Slots.{state_bytes, SlotFits, AllFit}
 use Rattle.pk_file.proofs.Slotting.{bytes_more, fit_more, byte_small, states_next}
 use Rattle.pk_file.proofs.slots.slots_of.Goals as goal
 
@@ -11,9 +11,9 @@ loop-i-preserved c =
     let states : List ℕ = c.args.states.now in
     let shape : Shape = c.args.reader.now.shape in
     let i : ℕ = c.loop-i.i in
-    let P : List Slot → Type 0 = λ all. bytes_of all ≡ take (i + 1) states in
+    let P : List Slot → Type 0 = λ all. state_bytes all ≡ take (i + 1) states in
     let Q : List Slot → Type 0 = λ all. AllFit shape all in
-    let R : Shape → Type 0 = λ s. Fits s slot in
+    let R : Shape → Type 0 = λ s. SlotFits s slot in
     let room : i < length states = omega (arith, c.loop-i-test.true, c.requires, c.page_count-i-end.ensures.value) in
     record {
       shape = c.slot_in.ensures.shape ∙ c.loop-i.invariant.shape;

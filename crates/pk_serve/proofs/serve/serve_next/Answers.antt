@@ -1,7 +1,7 @@
 use Rattle.std.proofs.Common.{inl, inr, sym, ◌∙◌}
 use Rattle.pk_queue.specs.Queue.{bytes_of}
 use Rattle.pk_serve.specs.declared.end.End.TheVariants.{Truncated, Input}
-use Rattle.pk_serve.proofs.Nexting.{Advances-one, Fails-one, BreaksOff-value, FailsAt-value, worn_is, Quits-entry}
+use Rattle.pk_serve.proofs.Nexting.{InputAdvances-one, InputFails-one, BreaksOff-value, FailsAt-value, worn_is, Quits-entry}
 use Rattle.pk_serve.proofs.Blaming.{quiet-entry, quiet-value, quiet-no_value, blames-cause, blames-then, blames-value, blames-entry}
 use Rattle.pk_serve.proofs.Parting.{runs_on-then}
 use Rattle.pk_serve.proofs.serve.serve_next.Goals as goal
@@ -9,12 +9,12 @@ use Rattle.pk_serve.proofs.serve.serve_next.Goals as goal
 pub returns-in-Ok-serve_one-clause-advances : goal.returns-in-Ok-serve_one-clause-advances
 returns-in-Ok-serve_one-clause-advances g c =
     let valued = rw c.in-Some.is at c.in-Ok-take_value.ensures.ok in
-    Advances-one _ _ _ _ c.in-Ok.ensures.ok c.in-Ok.ensures.len c.of-request.result c.of-request.ensures _ _ valued _ _ _ _ c.in-Ok-serve_one.ensures.rest.input _ _ c.in-Ok-serve_one.ensures.serves
+    InputAdvances-one _ _ _ _ c.in-Ok.ensures.ok c.in-Ok.ensures.len c.of-request.result c.of-request.ensures _ _ valued _ _ _ _ c.in-Ok-serve_one.ensures.rest.input _ _ c.in-Ok-serve_one.ensures.serves
 
 pub returns-in-Err-serve_one-clause-quits : goal.returns-in-Err-serve_one-clause-quits
 returns-in-Err-serve_one-clause-quits g c =
     let valued = rw c.in-Some.is at c.in-Ok-take_value.ensures.ok in
-    inr (Fails-one _ _ _ _ c.in-Ok.ensures.ok c.in-Ok.ensures.len c.of-request.result c.of-request.ensures _ _ valued _ _ _ _ c.in-Err-serve_one.ensures.rest.input _ c.in-Err-serve_one.ensures.fault.fault c.in-Err-serve_one.ensures.stops)
+    inr (InputFails-one _ _ _ _ c.in-Ok.ensures.ok c.in-Ok.ensures.len c.of-request.result c.of-request.ensures _ _ valued _ _ _ _ c.in-Err-serve_one.ensures.rest.input _ c.in-Err-serve_one.ensures.fault.fault c.in-Err-serve_one.ensures.stops)
 
 pub returns-in-None-clause-quits : goal.returns-in-None-clause-quits
 returns-in-None-clause-quits g c =

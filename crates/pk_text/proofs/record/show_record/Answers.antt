@@ -3,7 +3,7 @@ use Rattle.pk_text.specs.Written.{Written}
 use Rattle.pk_text.specs.Records.{head_shown}
 use Rattle.pk_text.specs.Turns.{TurnsFrom}
 use Rattle.pk_text.specs.Steps.{ahead}
-use Rattle.pk_text.proofs.Turning.{Advances-then, Turns-behind, on_ok, if_err}
+use Rattle.pk_text.proofs.Turning.{TextAdvances-then, Turns-behind, on_ok, if_err}
 use Rattle.pk_text.proofs.Showing.{Front-advances, Front-failed, End-advances, End-failed}
 use Rattle.pk_text.proofs.record.show_record.Goals as goal
 
@@ -13,8 +13,8 @@ returns-in-Err-clause-quits g c = λ more. Front-failed more c.args.feed.now c.a
 pub returns-in-Ok-show_data-clause-advances : goal.returns-in-Ok-show_data-clause-advances
 returns-in-Ok-show_data-clause-advances g c =
     on_ok c.end_line.result (λ posted. λ more.
-    Advances-then _ _ _ _ _ _ _ _ _
-    (Advances-then _ _ _ _ _ _ _ _ _ (Front-advances c.in-Ok.size more c.args.feed.now c.args.head.now.items _ _ c.in-Ok.ensures.size c.in-Ok.ensures.ok) (c.in-Ok-show_data.ensures.advances more))
+    TextAdvances-then _ _ _ _ _ _ _ _ _
+    (TextAdvances-then _ _ _ _ _ _ _ _ _ (Front-advances c.in-Ok.size more c.args.feed.now c.args.head.now.items _ _ c.in-Ok.ensures.size c.in-Ok.ensures.ok) (c.in-Ok-show_data.ensures.advances more))
     (End-advances more _ _ _ posted))
     c.end_line.ensures.ok
 
@@ -25,7 +25,7 @@ returns-in-Ok-show_data-clause-quits g c =
     c.end_line.result c.end_line.ensures.kind c.end_line.ensures.err
     (λ f. λ more.
     Turns-behind _ _ _ _ _ _ _ _
-    (Advances-then _ _ _ _ _ _ _ _ _ (Front-advances c.in-Ok.size more c.args.feed.now c.args.head.now.items _ _ c.in-Ok.ensures.size c.in-Ok.ensures.ok) (c.in-Ok-show_data.ensures.advances more))
+    (TextAdvances-then _ _ _ _ _ _ _ _ _ (Front-advances c.in-Ok.size more c.args.feed.now c.args.head.now.items _ _ c.in-Ok.ensures.size c.in-Ok.ensures.ok) (c.in-Ok-show_data.ensures.advances more))
     (End-failed more _ _ _ f))
 
 pub returns-in-Err-show_data-clause-quits : goal.returns-in-Err-show_data-clause-quits

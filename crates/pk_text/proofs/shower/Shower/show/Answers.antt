@@ -1,6 +1,6 @@
 use Rattle.std.proofs.Common.{arith}
 use Rattle.pk_text.specs.Records.{shown_from, shown}
-use Rattle.pk_text.proofs.Turning.{Advances-empty, Advances-then, Advances-count, Turns-behind, Turns-all}
+use Rattle.pk_text.proofs.Turning.{TextAdvances-empty, TextAdvances-then, TextAdvances-count, Turns-behind, Turns-all}
 use Rattle.pk_text.proofs.Showing.{Records-stop}
 use Rattle.pk_text.proofs.shower.Shower.show.Goals as goal
 
@@ -9,10 +9,10 @@ returns-in-Err g c = Turns-all shown _ _ _ (Turns-behind _ _ _ _ _ _ _ _ c.loop-
 
 pub loop-taken-preserved : goal.loop-taken-preserved
 loop-taken-preserved g c =
-    Advances-count shown_from shown_from c.loop-taken._taken _ _ _ _ (Advances-then _ _ _ _ _ _ _ _ _ c.loop-taken.invariant (c.in-Ok.ensures.advances c.loop-taken._taken (omega arith)))
+    TextAdvances-count shown_from shown_from c.loop-taken._taken _ _ _ _ (TextAdvances-then _ _ _ _ _ _ _ _ _ c.loop-taken.invariant (c.in-Ok.ensures.advances c.loop-taken._taken (omega arith)))
 
 pub returns : goal.returns
 returns g c = Turns-all shown _ _ _ (Turns-behind _ _ _ _ _ _ _ _ c.loop-taken.invariant (Records-stop c.loop-taken._taken _ _ _ _ _ (omega arith) c.stop.ensures))
 
 pub loop-taken-init : goal.loop-taken-init
-loop-taken-init g c = Advances-empty (shown_from 0) _ _ c.clear.ensures
+loop-taken-init g c = TextAdvances-empty (shown_from 0) _ _ c.clear.ensures

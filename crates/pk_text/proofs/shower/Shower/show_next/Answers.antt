@@ -1,13 +1,13 @@
 use Rattle.std.proofs.Common.{suc}
 use Rattle.pk_text.specs.Records.{shown_from}
-use Rattle.pk_text.proofs.Turning.{Advances-then, Turns-behind, Turns-input, on_ok, if_err_map, not_empty}
+use Rattle.pk_text.proofs.Turning.{TextAdvances-then, Turns-behind, Turns-input, on_ok, if_err_map, not_empty}
 use Rattle.pk_text.proofs.Showing.{Head-advances_as, Head-part_as}
 use Rattle.pk_text.proofs.shower.Shower.show_next.Goals as goal
 
 pub returns-in-Ok-true-clause-advances : goal.returns-in-Ok-true-clause-advances
 returns-in-Ok-true-clause-advances g c =
     on_ok c.show_record.result (λ shown. λ taken few.
-    Advances-then _ _ _ _ _ _ _ _ _ (Head-advances_as taken _ _ c.take_head.new.head.items _ _ c.in-Ok-true.field-0 few c.in-Ok-true.ensures.ok c.in-Ok-true.field-0-test) (shown (shown_from (suc taken))))
+    TextAdvances-then _ _ _ _ _ _ _ _ _ (Head-advances_as taken _ _ c.take_head.new.head.items _ _ c.in-Ok-true.field-0 few c.in-Ok-true.ensures.ok c.in-Ok-true.field-0-test) (shown (shown_from (suc taken))))
     c.show_record.ensures.advances
 
 pub returns-in-Ok-true-clause-quits : goal.returns-in-Ok-true-clause-quits
