@@ -17,7 +17,7 @@ use Rattle.pk_steps.proofs.Counting.{counts}
 use Rattle.pk_walk.specs.Visible.{visible}
 use Rattle.pk_parts.specs.Parts.{Parts}
 use Rattle.pk_parts.specs.Agreeing.{DriveOnFlashWith}
-use Rattle.pk_index.specs.Listed.{keys_of, not_below, keys_there}
+use Rattle.pk_index.specs.Keys.{keys_of, not_below, keys_there}
 
 -- ---- the keys that are there
 

@@ -1,5 +1,5 @@
 //! The commands that change the map.
-ghost use Rattle.std.specs.Prelude.{◌≡◌, ◌≤◌, ◌+◌, ◌-◌, ℕ, is_some, sum, List, [], length, false, true, None, Some, MatchOption};
+ghost use Rattle.std.specs.Prelude.{◌≡◌, ◌≤◌, ◌+◌, ◌-◌, ℕ, is_some, sum, List, [], length, false, true, None, Some, Err, MatchOption};
 ghost use Rattle.pk_base.specs.Fields.{AreBytes};
 ghost use Rattle.pk_base.specs.Key.{IsKey};
 ghost use Rattle.pk_base.specs.Shape as spec;
@@ -7,7 +7,7 @@ ghost use Rattle.pk_nvme.specs.Command.{key as key_in};
 ghost use Rattle.pk_nvme.specs.Seen.{command_of};
 ghost use Rattle.pk_model.specs.Answer.{store_fault as store_fault_of};
 ghost use Rattle.pk_core.specs.Done.{Executes};
-ghost use Rattle.pk_core.specs.Serving.{IsServable, IsCounted, outcome_for, stopped_by, pages_at as pages_at_by};
+ghost use Rattle.pk_core.specs.Serving.{IsServable, IsCounted, outcome_for, pages_at as pages_at_by};
 ghost use Rattle.pk_nvme.specs.declared.opcode.TheConstants.{STORE, DELETE};
 ghost use Rattle.pk_work.specs.Calls.{commit_calls, pair_calls, room_calls, room_roots, store_roots};
 ghost use Rattle.pk_parts.specs.Costs.{Spends, space_and_put_calls};
@@ -17,11 +17,11 @@ ghost use Rattle.pk_core.specs.Programming.{QuietStore, QuietDelete};
 ghost use Rattle.pk_core.specs.LookedUp.{IsLookedUp, StoresOver, DeletesAt};
 ghost use Rattle.pk_nvme.specs.declared.status.TheConstants.{SUCCESSFUL_COMPLETION};
 
+use crate::counts::reads_since;
 use crate::quiet::{refusal, served};
 use crate::storing::{put_whole, take_whole};
 use pk_base::{Key, Place, Shape};
 use pk_call::Outcome;
-use pk_index::reads_since;
 use pk_model::early::store_fault;
 use pk_nand::{Fault, Nand};
 use pk_nvme::Request;
@@ -55,38 +55,26 @@ fn known(key: &Key)
     are_bytes(key.bytes());
 }
 
-// An unrecovered error that stopped the drive, after this many reads.
-fn stopping(reads: u32) -> Outcome
-    ensures { result ≡ record {
-      status = UNRECOVERED_ERROR;
-      result = 0;
-      data_len = 0;
-      reads = reads;
-      stopped = true;
-    } }
+// An unrecovered error, after this many reads. A fault that is not one of a read stopped the drive.
+fn failed(fault: Fault, reads: u32) -> Outcome
+    ensures { result ≡ outcome_for (Err fault) reads }
 {
     Outcome {
         status: UNRECOVERED_ERROR,
         result: 0,
         data_len: 0,
         reads,
-        stopped: true,
+        stopped: fault == Fault::Stopped,
     }
 }
 
-// The result of a change of the map, after this many reads. A call that failed for good stops the
-// drive.
-fn changed<A: Region>(parts: &mut Parts<A>, answer: Result<(), Fault>, reads: u32) -> Outcome
-    ensures told { result ≡ outcome_for answer reads }
-    ensures rest { parts.new ≡ stopped_by parts.old answer }
+// The result of a change of the map, after this many reads.
+fn changed(answer: Result<(), Fault>, reads: u32) -> Outcome
+    ensures { result ≡ outcome_for answer reads }
 {
     match answer {
         Ok(()) => served(0, 0, reads),
-        Err(Fault::Reading) => refusal(UNRECOVERED_ERROR, reads),
-        Err(Fault::Stopped) => {
-            parts.set_stopped();
-            stopping(reads)
-        }
+        Err(fault) => failed(fault, reads),
     }
 }
 
@@ -142,7 +130,7 @@ fn store_over<B: Nand, A: Region>(
         Some(status) => refusal(status, reads_since(board, before)),
         None => {
             let answer = put_whole(parts, board, key, value, old);
-            changed(parts, answer, reads_since(board, before))
+            changed(answer, reads_since(board, before))
         }
     }
 }
@@ -218,7 +206,7 @@ fn delete_at<B: Nand, A: Region>(
         None => refusal(KEY_DOES_NOT_EXIST, reads_since(board, before)),
         Some(place) => {
             let answer = take_whole(parts, board, key, place);
-            changed(parts, answer, reads_since(board, before))
+            changed(answer, reads_since(board, before))
         }
     }
 }

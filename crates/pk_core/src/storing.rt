@@ -8,6 +8,7 @@ ghost use Rattle.pk_work.specs.Calls.{commit_calls, lookup_calls, pair_calls, ro
 ghost use Rattle.pk_parts.specs.Changes.{CanPut, StaysBetween};
 ghost use Rattle.pk_parts.specs.Emptying.{OnRunning};
 ghost use Rattle.pk_parts.specs.Staying.{Stays, StaysOrOpens, IsNoted};
+ghost use Rattle.pk_parts.specs.Stopping.{StoppedOn};
 ghost use Rattle.pk_core.specs.Spacing.{CanStore, StoresOrReads, store_most};
 ghost use Rattle.pk_parts.specs.Spacing.{needs};
 ghost use Rattle.pk_core.specs.Programming.{ReadsNone};
@@ -41,6 +42,7 @@ fn put_found<B: Nand, A: Region>(
     ensures spends { Spends (lookup_calls + put_calls parts.old.log.shape
         (pages_for parts.old value.now)) room_roots (B.state board.old)
         (B.state board.new) }
+    ensures stops { StoppedOn parts.new result }
 {
     let _ = board.read_count();
     let _ = key.bytes();
@@ -73,6 +75,7 @@ fn put_behind_reclaims<B: Nand, A: Region>(
     ensures spends { Spends (space_and_put_calls parts.old.log.shape
         (pages_for parts.old value.now)) store_roots (B.state board.old)
         (B.state board.new) }
+    ensures stops { StoppedOn parts.new result }
 {
     let shape = parts.shape();
     // so that the number of bytes is known to fit
@@ -110,6 +113,7 @@ pub(crate) fn put_with_space<B: Nand, A: Region>(
     ensures spends { Spends (space_and_put_calls parts.old.log.shape
         (pages_for parts.old value.now)) store_roots (B.state board.old)
         (B.state board.new) }
+    ensures stops { StoppedOn parts.new result }
     ensures programs { OnOk result (PutsQuietly parts.old key
         (pages_for parts.old value.now) (B.state board.old)
         (B.state board.new)) }
@@ -141,10 +145,10 @@ pub(crate) fn put_whole<B: Nand, A: Region>(
     requires can { CanPutBetween parts.old (B.state board.old) key value.now old }
     requires unworn { is_worn (B.state board.old) ≡ false }
 
-    // The map, and then the drive beside it: no pair is half made.
+    // The map, and then the drive itself.
     ensures step { StoresWhole parts.old parts.new (store_most parts.old.log.shape)
         (B.state board.old) (B.state board.new) key value.now result }
-    ensures whole { OnRunning (is_half parts.new ≡ false) result }
+    ensures stops { StoppedOn parts.new result }
     ensures stays { OnRunning (StaysBetween parts.old parts.new) result }
     ensures opens { OnRunning (StaysOrOpens parts.old parts.new
         (pages_for parts.old value.now)) result }
@@ -179,10 +183,10 @@ pub(crate) fn take_whole<B: Nand, A: Region>(
     requires can { CanTakeBetween parts.old (B.state board.old) key old }
     requires number { NumbersLast (room_calls parts.old.log.shape) (B.state board.old) }
 
-    // The map, and then the drive beside it: no pair is half made.
+    // The map, and then the drive itself.
     ensures step { TakesWhole parts.old parts.new (room_calls parts.old.log.shape)
         (B.state board.old) (B.state board.new) key old result }
-    ensures whole { OnRunning (is_half parts.new ≡ false) result }
+    ensures stops { StoppedOn parts.new result }
     ensures stays { OnRunning (StaysBetween parts.old parts.new) result }
     ensures moves { OnRunning (Stays parts.old parts.new) result }
     ensures spends { Spends (pair_calls + (room_calls parts.old.log.shape + commit_calls))
