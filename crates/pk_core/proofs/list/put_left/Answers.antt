@@ -22,9 +22,9 @@ loop-next-smaller g c =
 pub loop-next-preserved : goal.loop-next-preserved
 loop-next-preserved g c = record {
   fills =
-    fills_more c.args.parts.now (g.B.Nand.state c.args.board.now) c.args.room c.args.into.now (g.B.Nand.state c.loop-next.board) c.loop-next.parts c.loop-next.into c.loop-next.at c.loop-next.invariant.fills c.loop-next.invariant.rest
-    c.requires.room.1 (g.B.Nand.state c.put_next.new.board) c.put_next.new.parts.walk (Some c.in-Ok-Some.next) c.put_next.new.into
-    (rw c.in-Ok-Some.field-0-is at c.in-Ok-Some.ensures.offers) c.in-Ok-Some.next refl c.in-Ok-Some.ensures.walked c.in-Ok-Some.ensures.reads c.in-Ok-Some.ensures.len;
+      fills_more c.args.parts.now (g.B.Nand.state c.args.board.now) c.args.room c.args.into.now (g.B.Nand.state c.loop-next.board) c.loop-next.parts c.loop-next.into c.loop-next.at c.loop-next.invariant.fills c.loop-next.invariant.rest
+      c.requires.room.1 (g.B.Nand.state c.put_next.new.board) c.put_next.new.parts.walk (Some c.in-Ok-Some.next) c.put_next.new.into
+      (rw c.in-Ok-Some.field-0-is at c.in-Ok-Some.ensures.offers) c.in-Ok-Some.next refl c.in-Ok-Some.ensures.walked c.in-Ok-Some.ensures.reads c.in-Ok-Some.ensures.len;
   rest = walks_on c.args.parts.now c.loop-next.parts c.put_next.new.parts c.loop-next.invariant.rest c.in-Ok-Some.ensures.rest;
 }
 
@@ -32,8 +32,8 @@ pub returns-in-Ok-None-clause-lists : goal.returns-in-Ok-None-clause-lists
 returns-in-Ok-None-clause-lists g c = (
   c.loop-next.invariant.fills.within,
   fills_end c.args.parts.now (g.B.Nand.state c.args.board.now) c.args.room c.args.into.now (g.B.Nand.state c.loop-next.board) c.loop-next.parts c.loop-next.into c.loop-next.at c.loop-next.invariant.fills c.loop-next.invariant.rest
-    c.requires.room.1 (g.B.Nand.state c.put_next.new.board) c.put_next.new.parts.walk None c.put_next.new.into
-    (rw c.in-Ok-None.field-0-is at c.in-Ok-None.ensures.offers) refl,
+      c.requires.room.1 (g.B.Nand.state c.put_next.new.board) c.put_next.new.parts.walk None c.put_next.new.into
+      (rw c.in-Ok-None.field-0-is at c.in-Ok-None.ensures.offers) refl,
 )
 
 pub returns-in-Ok-None-clause-reads : goal.returns-in-Ok-None-clause-reads
