@@ -28,4 +28,4 @@ pub returns-else-pending-entries-clause-calls : goal.returns-else-pending-entrie
 returns-else-pending-entries-clause-calls g c = few_same _ (g.B.Nand.state c.args.board.now) _ refl
 
 pub returns-then-pending-entries-clause-stops : goal.returns-then-pending-entries-clause-stops
-returns-then-pending-entries-clause-stops g c = stopped_kept c.commit_pending.result _ _ c.commit_pending.ensures.kept
+returns-then-pending-entries-clause-stops g c = stopped_kept c.commit_pending.result c.args.self.now c.commit_pending.new.self c.commit_pending.ensures.kept

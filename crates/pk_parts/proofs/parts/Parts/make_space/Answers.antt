@@ -60,4 +60,4 @@ returns-in-Err-clause-spends g c =
     spends_still most room_roots s0 s1 (few_within commit_calls most s0 s1 (omega arith) (few_commit a.log.pending s0 s1 e.program e.idle)) e.step.roots_few
 
 pub returns-in-Err-clause-stops : goal.returns-in-Err-clause-stops
-returns-in-Err-clause-stops g c = stopped_kept (Err c.in-Err.fault) c.args.self.now _ c.in-Err.ensures.kept
+returns-in-Err-clause-stops g c = stopped_kept (Err c.in-Err.fault) c.args.self.now c.commit_pending.new.self c.in-Err.ensures.kept
