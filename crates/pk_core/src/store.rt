@@ -78,11 +78,17 @@ fn changed(answer: Result<(), Fault>, reads: u32) -> Outcome
     }
 }
 
-// The check of a Store that fails on the map, if the key has its value at this place.
-fn fault_of_store<A: Region>(parts: &Parts<A>, request: &Request, old: &Option<Place>) -> Option<u8>
+// The check of a Store of `count` pages that fails on the map, if the key has its value at this
+// place.
+fn fault_of_store<A: Region>(
+    parts: &Parts<A>,
+    request: &Request,
+    old: &Option<Place>,
+    count: u32,
+) -> Option<u8>
     requires old_short { MatchOption old.now (Unit {0})
         (λ p. p.len ≤ spec.greatest parts.now.log.shape) }
-    requires short { request.now.size ≤ spec.greatest parts.now.log.shape }
+    requires counted { count ≡ spec.charge parts.now.log.shape request.now.size }
     ensures { result ≡ store_fault_of (command_of request.now []) (is_some old.now)
         (sum parts.now.space.live.heads - pages_at_by parts.now.log.shape old.now
         + spec.charge parts.now.log.shape request.now.size) (spec.limit parts.now.log.shape) }
@@ -90,7 +96,7 @@ fn fault_of_store<A: Region>(parts: &Parts<A>, request: &Request, old: &Option<P
     let shape = parts.shape();
     let held = pages_at(&shape, old);
     let left = parts.total().saturating_sub(held);
-    let live = left as u64 + shape.charge(request.size) as u64;
+    let live = left as u64 + count as u64;
     store_fault(request, old.is_some(), live, shape.limit() as u64)
 }
 
@@ -126,10 +132,11 @@ fn store_over<B: Nand, A: Region>(
         (B.state board.new) }
 {
     known(&key);
-    match fault_of_store(parts, request, &old) {
+    let count = parts.shape().charge(request.size);
+    match fault_of_store(parts, request, &old, count) {
         Some(status) => refusal(status, reads_since(board, before)),
         None => {
-            let answer = put_whole(parts, board, key, value, old);
+            let answer = put_whole(parts, board, key, value, old, count);
             changed(answer, reads_since(board, before))
         }
     }

@@ -19,16 +19,18 @@ use pk_nand::{Fault, Nand};
 use pk_region::Region;
 
 impl<A: Region> Parts<A> {
-    // Writes a value for a key that has room, notes its place, and commits if the journal page is
-    // full.
+    // Writes a value of `count` pages for a key that has room, notes its place, and commits if the
+    // journal page is full.
     fn put_with_room<B: Nand>(
         &mut self,
         board: &mut B,
         key: Key,
         value: &[u8],
         old: Option<Place>,
+        count: u32,
     ) -> Result<(), Fault>
-        requires can { CanPut self.old (B.state board.old) key value.now old }
+        requires can { CanPut self.old (B.state board.old) key value.now old
+            × (count ≡ pages_for self.old value.now) }
         requires no_freeze { needs_freeze_for self.old.log key ≡ false }
         requires room { needs (pages_for self.old value.now) self.old ≡ false }
 
@@ -51,23 +53,26 @@ impl<A: Region> Parts<A> {
         let _ = shape.greatest();
         match self.place_value(board, &key, value) {
             Ok(page) => {
-                self.note_put(key, page, value.len() as u32, old);
+                self.note_put(key, page, value.len() as u32, count, old);
                 self.commit_if_full(board)
             }
             Err(fault) => Err(self.fail(fault)),
         }
     }
 
-    /// A key gets this value, in place of the one at `old`. `Reading` if a read of a merge fails,
-    /// which had to make room: the map is unchanged. `Stopped` if a program or an erase fails.
+    /// A key gets this value of `count` pages, in place of the one at `old`. `Reading` if a read of
+    /// a merge fails, which had to make room: the map is unchanged. `Stopped` if a program or an
+    /// erase fails.
     pub fn put<B: Nand>(
         &mut self,
         board: &mut B,
         key: Key,
         value: &[u8],
         old: Option<Place>,
+        count: u32,
     ) -> Result<(), Fault>
-        requires can { CanPut self.old (B.state board.old) key value.now old }
+        requires can { CanPut self.old (B.state board.old) key value.now old
+            × (count ≡ pages_for self.old value.now) }
         requires room { needs (pages_for self.old value.now) self.old ≡ false }
         requires number { NumbersLast (room_calls self.old.log.shape) (B.state board.old) }
 
@@ -89,7 +94,7 @@ impl<A: Region> Parts<A> {
         ensures stops { StoppedOn self.new result }
     {
         match self.make_room(board, &key) {
-            Ok(()) => self.put_with_room(board, key, value, old),
+            Ok(()) => self.put_with_room(board, key, value, old, count),
             Err(fault) => Err(self.fail(fault)),
         }
     }

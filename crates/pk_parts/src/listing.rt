@@ -68,12 +68,6 @@ impl<A: Region> Parts<A> {
         // What is unchanged.
         ensures rest { self.new ≡ record self.old { walk = self.new.walk } }
     {
-        next_key(
-            &mut self.walk,
-            board,
-            &self.levels,
-            &self.arena,
-            &self.log,
-        )
+        next_key(&mut self.walk, board, &self.levels, &self.arena, &self.log)
     }
 }

@@ -21,7 +21,7 @@ fault_of_store-requires-clause-old_short g c = let r = c.requires.looked_up in s
 pub put_whole-answer-requires-clause-can : goal.put_whole-answer-requires-clause-can
 put_whole-answer-requires-clause-can g c =
     let r = c.requires.looked_up in
-    can_put c.args.parts.now (g.B.Nand.state c.args.board.now) c.args.request.now c.args.value.now c.args.key c.args.old r.servable c.requires.opcode c.requires.whole r.named c.known.ensures.key c.known.ensures.bytes r.looks (sym c.fault_of_store.ensures ∙ c.in-None.is)
+    (can_put c.args.parts.now (g.B.Nand.state c.args.board.now) c.args.request.now c.args.value.now c.args.key c.args.old r.servable c.requires.opcode c.requires.whole r.named c.known.ensures.key c.known.ensures.bytes r.looks (sym c.fault_of_store.ensures ∙ c.in-None.is), c.charge-count.ensures.value ∙ (λ i. charge (c.shape.ensures i) (sym c.requires.whole i)))
 
 pub reads_since-requires-in-None-clause-few : goal.reads_since-requires-in-None-clause-few
 reads_since-requires-in-None-clause-few g c =
@@ -71,3 +71,6 @@ returns-in-None-clause-spends g c =
     let r = c.requires.looked_up in
     let can = can_put c.args.parts.now (g.B.Nand.state c.args.board.now) c.args.request.now c.args.value.now c.args.key c.args.old r.servable c.requires.opcode c.requires.whole r.named c.known.ensures.key c.known.ensures.bytes r.looks (sym c.fault_of_store.ensures ∙ c.in-None.is) in
     spends_stored c.args.parts.now.log.shape (length c.args.value.now) _ _ r.servable.agrees.with.index.logs.is_shape can.short c.put_whole-answer.ensures.spends
+
+pub fault_of_store-requires-clause-counted : goal.fault_of_store-requires-clause-counted
+fault_of_store-requires-clause-counted g c = c.charge-count.ensures.value ∙ ap (λ s. charge s c.args.request.now.size) c.shape.ensures

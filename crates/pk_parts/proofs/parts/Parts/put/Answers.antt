@@ -1,4 +1,4 @@
-use Rattle.std.proofs.Common.{ap, ◌≤◌, length, Err, arith}
+use Rattle.std.proofs.Common.{◌∙◌, sym, ap, ◌≤◌, length, Err, arith}
 use Rattle.pk_base.specs.Shape.{charge}
 use Rattle.pk_parts.specs.Parts.{Parts}
 use Rattle.pk_parts.specs.Changes.{StaysBetween}
@@ -15,12 +15,12 @@ use Rattle.pk_parts.proofs.StoreCalls.{spends_put}
 use Rattle.pk_parts.proofs.parts.Parts.put.Goals as goal
 
 pub make_room-requires-clause-may : goal.make_room-requires-clause-may
-make_room-requires-clause-may g c = record { ready = c.requires.can.ready; stands = (c.requires.can.may.0, c.requires.can.may.1.stands) }
+make_room-requires-clause-may g c = record { ready = c.requires.can.0.ready; stands = (c.requires.can.0.may.0, c.requires.can.0.may.1.stands) }
 
 pub put_with_room-requires-clause-can : goal.put_with_room-requires-clause-can
 put_with_room-requires-clause-can g c =
     let e = c.in-Ok.ensures in
-    can_put_after c.args.self.now c.make_room.new.self _ (g.B.Nand.state c.args.board.now) (g.B.Nand.state c.make_room.new.board) tt e.leaves e.pending e.step c.args.key c.args.value.now c.args.old c.requires.can
+    (can_put_after c.args.self.now c.make_room.new.self _ (g.B.Nand.state c.args.board.now) (g.B.Nand.state c.make_room.new.board) tt e.leaves e.pending e.step c.args.key c.args.value.now c.args.old c.requires.can.0, c.requires.can.1 ∙ ap (λ s. charge s (length c.args.value.now)) (sym e.leaves.same_shape))
 
 pub put_with_room-requires-clause-room : goal.put_with_room-requires-clause-room
 put_with_room-requires-clause-room g c =
@@ -31,7 +31,7 @@ pub returns-in-Ok-clause-step : goal.returns-in-Ok-clause-step
 returns-in-Ok-clause-step g c =
     let e = c.in-Ok.ensures in
     step_puts_later c.args.self.now c.make_room.new.self _ (g.B.Nand.state c.args.board.now) (g.B.Nand.state c.make_room.new.board) tt e.leaves e.pending e.step c.put_with_room.result c.put_with_room.new.self (g.B.Nand.state c.put_with_room.new.board)
-    c.requires.can.ready c.args.key c.args.value.now c.args.old c.put_with_room.ensures.step
+    c.requires.can.0.ready c.args.key c.args.value.now c.args.old c.put_with_room.ensures.step
 
 pub returns-in-Ok-clause-stays : goal.returns-in-Ok-clause-stays
 returns-in-Ok-clause-stays g c =
@@ -55,7 +55,7 @@ returns-in-Ok-clause-quiet g c = put_reads_none c.put_with_room.result c.args.se
 pub returns-in-Err-clause-step : goal.returns-in-Err-clause-step
 returns-in-Err-clause-step g c =
     fails_step c.in-Err.fault c.fail.result c.make_room.new.self c.fail.new.self c.fail.ensures.same c.fail.ensures.rest _ _ (λ e. KeepsAll c.args.self.now e (g.B.Nand.state c.args.board.now) (g.B.Nand.state c.make_room.new.board)) _ _ _ _ _
-    (put_failed_before c.in-Err.fault c.args.self.now c.make_room.new.self _ (g.B.Nand.state c.args.board.now) (g.B.Nand.state c.make_room.new.board) c.requires.can.ready c.in-Err.ensures.step c.args.key c.args.value.now c.args.old)
+    (put_failed_before c.in-Err.fault c.args.self.now c.make_room.new.self _ (g.B.Nand.state c.args.board.now) (g.B.Nand.state c.make_room.new.board) c.requires.can.0.ready c.in-Err.ensures.step c.args.key c.args.value.now c.args.old)
 
 pub returns-in-Err-clause-stays : goal.returns-in-Err-clause-stays
 returns-in-Err-clause-stays g c =
@@ -63,7 +63,7 @@ returns-in-Err-clause-stays g c =
     let a = c.args.self.now in
     let b = c.make_room.new.self in
     fails_running c.in-Err.fault c.fail.result c.make_room.new.self c.fail.new.self c.fail.ensures.same c.fail.ensures.rest (λ x. StaysBetween c.args.self.now x)
-    (running_failed Unit Unit (LeavesValues a b × (length b.log.pending ≤ length a.log.pending)) (StaysBetween a b) c.in-Err.fault (λ is. stays_kept a b is.0 is.1 c.requires.can.few) (running_both {T = Unit {0}} (LeavesValues a b) (length b.log.pending ≤ length a.log.pending) (Err c.in-Err.fault) e.leaves e.pending))
+    (running_failed Unit Unit (LeavesValues a b × (length b.log.pending ≤ length a.log.pending)) (StaysBetween a b) c.in-Err.fault (λ is. stays_kept a b is.0 is.1 c.requires.can.0.few) (running_both {T = Unit {0}} (LeavesValues a b) (length b.log.pending ≤ length a.log.pending) (Err c.in-Err.fault) e.leaves e.pending))
 
 pub returns-in-Err-clause-opens : goal.returns-in-Err-clause-opens
 returns-in-Err-clause-opens g c =
