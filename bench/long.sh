@@ -2,8 +2,8 @@
 # Runs trials of whole sessions that take longer than the gate gives a test, and prints how many cuts each made and how long it took:
 # the first reclaim of a full drive of 64 blocks, cut at every mark, and so the session after each cut; and on the three smallest shapes
 # three consecutive sessions, the first of which begins with a freeze, with merges into each of the four levels and a freeze, or with a
-# reclaim and a freeze inside it. Each mark is interrupted in three ways, an erase in four; of the marks of the later sessions one of
-# every EVERY is cut, and the next cut goes on from there. It is not part of the gate.
+# reclaim and a freeze inside it. A program is interrupted in three ways, that of the second page of a pair in six, an erase in four; of
+# the marks of the later sessions one of every EVERY is cut, and the next cut goes on from there. It is not part of the gate.
 #
 # It works on a copy of the sources, in which these are the tests of a crate. They are proved, over the libraries in out/, which ./pink and
 # `rt check` leave (what is missing there is proved first), and run as they are built, at full speed.

@@ -67,7 +67,7 @@ fn from(word: &[u8]) -> Option<Option<Key>>
 }
 
 fn list(operands: Operands) -> Option<Form>
-    ensures { result ≡ spec.list_of (words_in operands.entry) }
+    ensures { result ≡ spec.list_form (words_in operands.entry) }
 {
     match operands {
         Operands::Two(word, size) => {
@@ -262,7 +262,7 @@ pub fn assemble_line(
         (λ entry. option_map spec.entry_in (spec.says number line.now) ≡ Some entry)
         (λ _. spec.says number line.now ≡ None) }
     ensures value { value.new
-        ≡ record value.old { items = spec.bytes_in (spec.says number line.now) } }
+        ≡ record value.old { items = spec.line_bytes (spec.says number line.now) } }
 {
     value.clear();
     if line.len() > MOST_LINE_BYTES {

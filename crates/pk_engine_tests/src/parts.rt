@@ -1,4 +1,5 @@
 //! Parts of an engine that take memory of their own when they are made, and none afterwards.
+ghost use Rattle.std.specs.Prelude.{◌≡◌, false, IfOk};
 ghost use Rattle.pk_base.specs.Fields.{AreBytes};
 ghost use Rattle.pk_base.specs.Key.{IsKey};
 
@@ -82,8 +83,10 @@ fn log_in(heap: &LocalHeap, shape: Shape) -> Result<[usize; 2], AllocError> {
     Ok([used, heap.used()])
 }
 
-// A log without entries, whose epoch has no page.
-fn empty_log<A: Region>(alloc: A, shape: Shape) -> Result<Log<A>, AllocError> {
+// A log without entries, whose epoch has no commit.
+fn empty_log<A: Region>(alloc: A, shape: Shape) -> Result<Log<A>, AllocError>
+    ensures whole { IfOk result (λ l. l.epoch.half ≡ false) }
+{
     let root = Root::new(alloc, shape)?;
     let active = Buffer::new(alloc, shape)?;
     let frozen = Buffer::new(alloc, shape)?;
@@ -98,7 +101,9 @@ fn empty_log<A: Region>(alloc: A, shape: Shape) -> Result<Log<A>, AllocError> {
 }
 
 // Deletes keys, up to the first that needs a commit before it.
-fn fill<A: Region>(log: &mut Log<A>) {
+fn fill<A: Region>(log: &mut Log<A>)
+    requires whole { log.old.epoch.half ≡ false }
+{
     for i in 0..20u8 {
         delete(log, &[i]);
     }
@@ -107,6 +112,8 @@ fn fill<A: Region>(log: &mut Log<A>) {
 // Adds an entry that deletes the key, unless that needs a freeze or a commit before it.
 fn delete<A: Region>(log: &mut Log<A>, bytes: &[u8])
     requires key { IsKey bytes.now }
+    requires whole { log.old.epoch.half ≡ false }
+    ensures whole { log.new.epoch.half ≡ false }
 {
     let key = Key::of(bytes);
     if log.pending() < log.root().shape().entries() && !log.needs_freeze(&key) {

@@ -245,7 +245,7 @@ fn known(trial: &Trial, behind: &Behind, number: u32, mark: usize) -> Result<Bef
     })
 }
 
-// Adds the cuts at this mark: in some ways, or in one of them by turns, which go on with this number.
+// Adds the cuts at this mark: in some ways, or in the one whose turn it is.
 fn push_cuts(
     into: &mut Vec<Interrupted>,
     mark: usize,
@@ -257,7 +257,7 @@ fn push_cuts(
         return Ok(());
     }
     if !all {
-        let way = mark.wrapping_add(turn) % ways;
+        let way = turn % ways;
         into.push(Interrupted { mark, way })?;
         return Ok(());
     }
@@ -282,16 +282,22 @@ fn cuts(
 ) -> Result<Vec<Interrupted>, AllocError> {
     let mut cuts = Vec::new(alloc);
     for mark in 0..flash.marks().saturating_add(1) {
-        if is_one(mark, turn, every) {
-            push_cuts(&mut cuts, mark, ways_at(alloc, flash, mark)?, turn, all)?;
+        if let Some(way) = turn_at(mark, turn, every) {
+            push_cuts(&mut cuts, mark, ways_at(alloc, flash, mark)?, way, all)?;
         }
     }
     Ok(cuts)
 }
 
-// Whether this mark is one of those that are cut.
-fn is_one(mark: usize, turn: usize, every: usize) -> bool {
-    every > 0 && mark.wrapping_add(turn) % every == 0
+// The turn of this mark if it is one of those that are cut, one in `every`. These have turns one after another, so that each way is
+// tried, whatever the number of ways is.
+fn turn_at(mark: usize, turn: usize, every: usize) -> Option<usize> {
+    let at = mark.wrapping_add(turn);
+    if every > 0 && at % every == 0 {
+        Some(at / every)
+    } else {
+        None
+    }
 }
 
 fn pages_at(alloc: Global, flash: &Flash, at: &Interrupted) -> Result<Vec<PageState>, Fail> {

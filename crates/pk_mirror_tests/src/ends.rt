@@ -10,16 +10,26 @@ use std::alloc::Global;
 use std::process::Abort;
 use std::test::*;
 
-// A made drive of 64 blocks whose root, the only one, has this number, which stands at its byte 24.
-fn made_with_number(rt: &impl Abort, alloc: Global, number: u64) -> Vec<PageState> {
-    let mut pages = left(rt, alloc, &made(rt, alloc, MAKE_WORKED));
-    let Some(PageState::Whole(bytes)) = pages.get(0) else {
+// A page of a root with this number in place of its own, which begins at byte 24.
+fn numbered(rt: &impl Abort, alloc: Global, page: &PageState, number: u64) -> PageState {
+    let PageState::Whole(bytes) = page else {
         panic!(rt; "a root");
     };
     let mut root = bytes.bytes().to_vec(alloc).expect(rt, "memory");
     assert!(rt; root.len() >= 32, "a root");
     root[24..32].copy_from_slice(&number.to_le_bytes());
-    pages[0] = PageState::Whole(PageBytes::of(root));
+    PageState::Whole(PageBytes::of(root))
+}
+
+// A made drive of 64 blocks whose root, the only one, has this number in both of its pages.
+fn made_with_number(rt: &impl Abort, alloc: Global, number: u64) -> Vec<PageState> {
+    let mut pages = left(rt, alloc, &made(rt, alloc, MAKE_WORKED));
+    for page in 0..2usize {
+        match pages.get_mut(page) {
+            Some(state) => *state = numbered(rt, alloc, state, number),
+            None => panic!(rt; "a root"),
+        }
+    }
     pages
 }
 
@@ -118,7 +128,8 @@ fn full(rt: &impl Abort, alloc: Global, keys: [u8; 6]) -> Vec<PageState> {
 }
 
 /// A second drive that is full of other keys is made equal to a full first; a store that the first refuses for want of space is not
-/// asked of the second, and a value gives way to another of its size.
+/// asked of the second; a value gives way to another of as many pages, of which none has fewer than two, and a new key has room after a
+/// Delete.
 #[test]
 fn full_drives(rt: HostRuntime) {
     let alloc = rt.alloc();
@@ -137,6 +148,8 @@ fn full_drives(rt: HostRuntime) {
     }
     let images = said(&rt, alloc, &images, "list", b"61\n62\n63\n64\n65\n66\n");
     let images = said(&rt, alloc, &images, "put 61 00", b"ok\n");
+    let images = said(&rt, alloc, &images, "put 67 -", b"refused 81\n");
+    let images = said(&rt, alloc, &images, "del 62", b"ok\n");
     let images = said(&rt, alloc, &images, "put 67 -", b"ok\n");
     same_alone(&rt, alloc, &images, "list");
 }

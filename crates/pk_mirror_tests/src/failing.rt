@@ -5,17 +5,29 @@ use crate::pairs::{
     Change, DELETE, Half, PUT, RESYNC, Ran, different, images_of, mended, mended_to_either,
     run_failing, run_over,
 };
-use pk_flash::{Flash, Left};
+use pk_flash::{Flash, Left, PageLeft};
+use pk_sessions::ways::{Kind, kind_of};
 use std::alloc::Global;
 use std::process::Abort;
 use std::test::*;
 
-// What a failing call leaves, by its number.
+// What a failing call leaves, by its number; after the first three, a program of the second page of a pair, whose first page is Torn besides.
 fn way(number: u8) -> Left {
     match number {
         0 => Left::Untouched,
         1 => Left::Torn,
-        _ => Left::Done,
+        2 => Left::Done,
+        3 => Left::WithEven(PageLeft::Untouched),
+        4 => Left::WithEven(PageLeft::Torn),
+        _ => Left::WithEven(PageLeft::Done),
+    }
+}
+
+// In how many ways the last call of a board that left a mark can fail.
+fn ways_of_last(flash: &Flash) -> u8 {
+    match flash.marks().checked_sub(1) {
+        Some(last) if kind_of(flash, last) == Kind::Second => 6,
+        _ => 3,
     }
 }
 
@@ -71,8 +83,9 @@ fn each_failing(rt: &impl Abort, alloc: Global, half: Half, change: &Change) {
     for call in 0..calls(quiet.of(half)) {
         let ran = failing(rt, alloc, half, change, call, 0);
         if !was_read(&ran, half) {
-            failing(rt, alloc, half, change, call, 1);
-            failing(rt, alloc, half, change, call, 2);
+            for number in 1..ways_of_last(ran.of(half)) {
+                failing(rt, alloc, half, change, call, number);
+            }
         }
     }
 }

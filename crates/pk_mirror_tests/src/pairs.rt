@@ -17,7 +17,7 @@ pub const MAKE_WORKED: &str = "make 512 16 64";
 // Enough for any run of these trials.
 const ROOM: Room = Room {
     posted: 4096,
-    marks: 100,
+    marks: 200,
 };
 
 /// The pages of two drives of one shape.

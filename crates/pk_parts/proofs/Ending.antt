@@ -174,7 +174,7 @@ module _ (d : Parts) (x' : Space) (old new : BoardState) (keeps : KeepsLog (spac
 
 -- ---- the program failed
 
-fails_commit : (d : Parts) (old new : BoardState) → steps.Breaks (space_of d) old new → commits_in d.reclaim.phase ≡ true → (shape : Shape) (m : Map) → StandsBetween d shape old.pages m
+fails_commit : (d : Parts) (old new : BoardState) → steps.ReclaimBroken (space_of d) old new → commits_in d.reclaim.phase ≡ true → (shape : Shape) (m : Map) → StandsBetween d shape old.pages m
     → Goes shape old new (CrashFinds shape background old.pages m)
 fails_commit d old new breaks commits shape m s =
     let P : Shape → Type 0 = λ t. StandsBetween d t old.pages m → Goes t old new (CrashFinds t background old.pages m) in
@@ -203,7 +203,7 @@ module _ (d : Parts) (x' : Space) (old new : BoardState) (may : MayCommit d old)
   pub commit_ended : (r : Reclaimed) (result : Result Reclaimed Fault) → steps.Does (space_of d) old x' new r → NoFault old new → RepeatsIn d.reclaim.phase old new result → FinishesCommitOr d (over_space d x') old new (Ok tt)
   commit_ended r result does sound repeats = ended_at r does sound (one_program result repeats)
 
-  failed_at : (e : Fault) (result : Result Reclaimed Fault) → result ≡ Err e → (result ≡ Err Stopped → steps.Breaks (space_of d) old new × Stops old new) → RepeatsIn d.reclaim.phase old new result
+  failed_at : (e : Fault) (result : Result Reclaimed Fault) → result ≡ Err e → (result ≡ Err Stopped → steps.ReclaimBroken (space_of d) old new × Stops old new) → RepeatsIn d.reclaim.phase old new result
       → FinishesCommitOr d (over_space d x') old new (Err e)
   failed_at Reading result is broken repeats = absurd (not_read result repeats is)
   failed_at Stopped result is broken repeats =
@@ -213,6 +213,6 @@ module _ (d : Parts) (x' : Space) (old new : BoardState) (may : MayCommit d old)
         record { fails = fails_commit d old new both.0 commits; stops = both.1; program = one_program result repeats; no_root = omega (arith, same_roots); ready = ready },
       )
 
-  pub commit_failed : (e : Fault) (result : Result Reclaimed Fault) → result ≡ Err e → (result ≡ Err Stopped → steps.Breaks (space_of d) old new × Stops old new) → RepeatsIn d.reclaim.phase old new result
+  pub commit_failed : (e : Fault) (result : Result Reclaimed Fault) → result ≡ Err e → (result ≡ Err Stopped → steps.ReclaimBroken (space_of d) old new × Stops old new) → RepeatsIn d.reclaim.phase old new result
       → FinishesCommitOr d (over_space d x') old new (Err e)
   commit_failed e result is broken repeats = failed_at e result is broken repeats

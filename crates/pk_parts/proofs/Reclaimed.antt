@@ -180,7 +180,7 @@ module _ (d : Parts) (x' : Space) (keeps : KeepsLog (space_of d) x') (flash : Fl
   course_then = course_at x'.job.phase refl stands.half
 
 -- every map that it represented
-pub holds_all : (d : Parts) (x' : Space) (old new : BoardState) → MayReclaim d old → KeepsLog (space_of d) x' → IsReady new d.log.shape → steps.Moves (space_of d) old x' new → HoldsAll d (over_space d x') old new
+pub holds_all : (d : Parts) (x' : Space) (old new : BoardState) → MayReclaim d old → KeepsLog (space_of d) x' → IsReady new d.log.shape → steps.ReclaimMoves (space_of d) old x' new → HoldsAll d (over_space d x') old new
 holds_all d x' old new may keeps ready moves shape m was =
     let now = moves was.top was.found m (may_for d old shape m may was) in
     record {
@@ -197,7 +197,7 @@ holds_all d x' old new may keeps ready moves shape m was =
       cuts = subst (λ t. Reaches t old new (CrashFinds t background old.pages m)) was.with.shape_is now.cuts;
     }
 
-pub fails_all : (d : Parts) (old new : BoardState) → MayReclaim d old → steps.Breaks (space_of d) old new → FailsAll d old new
+pub fails_all : (d : Parts) (old new : BoardState) → MayReclaim d old → steps.ReclaimBroken (space_of d) old new → FailsAll d old new
 fails_all d old new may breaks shape m was =
     subst (λ t. Goes t old new (CrashFinds t background old.pages m)) was.with.shape_is (breaks was.top was.found m (may_for d old shape m may was))
 
@@ -207,7 +207,7 @@ false_true : false ≡ true → ⊥
 false_true e = cc
 
 module _ (d : Parts) (x' : Space) (old new : BoardState) (may : MayReclaim d old) (keeps : KeepsLog (space_of d) x') (ready : IsReady new d.log.shape) where
-  lessens : steps.Moves (space_of d) old x' new → spaces.Falls (space_of d) x' → Lessens d (over_space d x') old new
+  lessens : steps.ReclaimMoves (space_of d) old x' new → spaces.Falls (space_of d) x' → Lessens d (over_space d x') old new
   lessens moves falls = record { holds = holds_all d x' old new may keeps ready moves; leaves = leaves_index d x' keeps; falls = falls }
 
   runs_on : (p : Phase) → runs_in p ≡ true → steps.RoomIn p x' → steps.LogIn p (space_of d) x' → RunsOn p d (over_space d x')
@@ -282,7 +282,7 @@ cannot_read d x' old new may u =
 -- ---- by the fault
 
 pub fails_if : (d : Parts) (x' : Space) (old new : BoardState) → MayReclaim d old → (result : Result Reclaimed Fault) → (result ≡ Err Reading → steps.Unread (space_of d) old x' new)
-    → (result ≡ Err Stopped → steps.Breaks (space_of d) old new × Stops old new) → IfErr result (λ e. FailsReclaim d (over_space d x') old new e)
+    → (result ≡ Err Stopped → steps.ReclaimBroken (space_of d) old new × Stops old new) → IfErr result (λ e. FailsReclaim d (over_space d x') old new e)
 fails_if d x' old new may (Ok r) unread broken = tt
 fails_if d x' old new may (Err Reading) unread broken = cannot_read d x' old new may (unread refl)
 fails_if d x' old new may (Err Stopped) unread broken = let is = broken refl in (fails_all d old new may is.0, is.1)

@@ -150,7 +150,7 @@ fn has(operands: &[&str]) -> Option<Word>
 }
 
 fn list(operands: &[&str]) -> Option<Word>
-    ensures { option_map seen result ≡ spec.list_of (map (λ w. w.now) operands.now) }
+    ensures { option_map seen result ≡ spec.list_word (map (λ w. w.now) operands.now) }
 {
     match operands {
         [] => Some(Word::Ask(Task::List(None))),
