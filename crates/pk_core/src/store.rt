@@ -55,16 +55,32 @@ fn known(key: &Key)
     are_bytes(key.bytes());
 }
 
-// An unrecovered error, after this many reads. A fault that is not one of a read stopped the drive.
-fn failed(fault: Fault, reads: u32) -> Outcome
-    ensures { result ≡ outcome_for (Err fault) reads }
+// An unrecovered error that stopped the drive, after this many reads.
+fn stopping(reads: u32) -> Outcome
+    ensures { result ≡ record {
+      status = UNRECOVERED_ERROR;
+      result = 0;
+      data_len = 0;
+      reads = reads;
+      stopped = true;
+    } }
 {
     Outcome {
         status: UNRECOVERED_ERROR,
         result: 0,
         data_len: 0,
         reads,
-        stopped: fault == Fault::Stopped,
+        stopped: true,
+    }
+}
+
+// The result of a change that failed, after this many reads.
+fn failed(fault: Fault, reads: u32) -> Outcome
+    ensures { result ≡ outcome_for (Err fault) reads }
+{
+    match fault {
+        Fault::Reading => refusal(UNRECOVERED_ERROR, reads),
+        Fault::Stopped => stopping(reads),
     }
 }
 
