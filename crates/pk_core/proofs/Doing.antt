@@ -31,8 +31,15 @@ use Rattle.pk_model.specs.Wear.{roots}
 use Rattle.pk_call.specs.declared.types.Outcome.{Outcome}
 use Rattle.pk_parts.specs.Parts.{Parts, sight_of, settled_parts}
 use Rattle.pk_parts.specs.Agreeing.{DriveOnFlash}
-use Rattle.pk_core.specs.Done.{Does}
-use Rattle.pk_index.specs.Listed.{first_listed, keys_there, ListsInto}
+use Rattle.pk_base.specs.Shape.{most_calls}
+use Rattle.pk_call.specs.Calling.{FewCalls}
+use Rattle.pk_core.specs.Done.{Does, Executes}
+use Rattle.pk_core.specs.Quiet.{OnlyLooks}
+use Rattle.pk_core.specs.Serving.{IsServable}
+use Rattle.pk_core.proofs.Callings.{few_of_shape}
+use Rattle.pk_core.proofs.Executing.{executes_walked}
+use Rattle.pk_index.specs.Keys.{keys_there}
+use Rattle.pk_core.specs.Listed.{first_listed, ListsInto}
 use Rattle.pk_core.proofs.Replies.{keys_begun, keys_listed}
 
 some_same : (x y : Shape) → ◌≡◌ {A = Option Shape} (Some x) (Some y) → x ≡ y
@@ -160,3 +167,9 @@ module _ (d : Parts) (old new : BoardState) (r : Request) (o : Outcome) (into : 
 
   pub list_agrees : DriveOnFlash d new.shape new.pages
   list_agrees = subst (λ (s : Option Shape). DriveOnFlash d s new.pages) (sym same_shape) (subst (λ (f : Flash). DriveOnFlash d old.shape f) (sym same_pages) a)
+
+  pub list_executes : (e : Parts) → IsServable d old r → e ≡ record d { walk = e.walk } → Executes d e old new c o into o.reads
+  list_executes e s same = executes_walked d e old new r c o into o.reads s same list_pages list_runs list_does
+
+  pub list_only : (e : Parts) → e ≡ record d { walk = e.walk } → FewCalls (most_calls d.levels.shape) old new → OnlyLooks d e old new
+  list_only e same few = record { same = same; rest = list_reading; few = few_of_shape d old new a few }

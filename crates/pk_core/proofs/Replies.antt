@@ -1,5 +1,5 @@
 -- The keys that a List gives are those of the map.
-use Rattle.std.proofs.Common.{◌≡◌, ℕ, refl, sym, ap, subst, ◌∙◌, not, List, [], ◌∷◌, ◌++◌, map, reverse, Option, if◌then◌else◌}
+use Rattle.std.proofs.Common.{◌≡◌, ℕ, zero, suc, ◌≤◌, refl, sym, ap, subst, ◌∙◌, not, List, [], ◌∷◌, ◌++◌, length, take, map, reverse, Option, if◌then◌else◌, arith}
 use Rattle.std.specs.List.{flat_map, AllByRecursion}
 use Rattle.std.specs.Ordering.{is_lt}
 use Rattle.std.specs.FinMap.{entries}
@@ -21,7 +21,8 @@ use Rattle.pk_steps.proofs.Counting.{counts}
 use Rattle.pk_walk.specs.Visible.{visible}
 use Rattle.pk_parts.specs.Parts.{Parts}
 use Rattle.pk_parts.specs.Agreeing.{DriveOnFlashWith}
-use Rattle.pk_index.specs.Listed.{keys_of, least_in, not_below, keys_there}
+use Rattle.pk_index.specs.Keys.{keys_of, not_below, keys_there}
+use Rattle.pk_core.specs.Listed.{least_in}
 
 -- ---- the keys that are there
 
@@ -51,6 +52,15 @@ keys_listed d shape flash top found without all from with =
     ∙ ap (not_below from) (sym (counts shape flash d.log.pending top found all is_shape with.is_flash with.pending).keys_are)
 
 -- ---- the keys from the least of a namespace on
+
+pub least_of_none : (space n : ℕ) (bytes : List ℕ) → n ≡ 0 → space ∷ 0 ∷ [] ≡ least_in space (take n bytes)
+least_of_none space zero bytes e = refl
+least_of_none space (suc n) bytes e = absurd (omega (arith, e))
+
+pub least_of_some : (space n : ℕ) (bytes : List ℕ) → 1 ≤ n → 1 ≤ length bytes → space ∷ take n bytes ≡ least_in space (take n bytes)
+least_of_some space zero bytes some full = absurd (omega (arith, some))
+least_of_some space (suc n) [] some full = absurd (omega (arith, full))
+least_of_some space (suc n) (b ∷ bytes) some full = refl
 
 not_lower : (space : ℕ) (bytes : List ℕ) (key : Key) → IsKey key → is_lt (key_cmp key (least_in space bytes)) ≡ is_lt (key_cmp key (space ∷ bytes))
 not_lower space [] key is = least_key space key is

@@ -14,7 +14,7 @@ pub(crate) fn reads_so_far<B: Nand>(board: &B) -> u64
 }
 
 /// How many pages a board read since it had this count of reads.
-pub fn reads_since<B: Nand>(board: &B, before: u64) -> u32
+pub(crate) fn reads_since<B: Nand>(board: &B, before: u64) -> u32
     requires up { before ≤ (B.state board.now).reads }
     requires few { (B.state board.now).reads - before < 2 ^ 32 }
     ensures reads { result ≡ (B.state board.now).reads - before }

@@ -17,19 +17,7 @@ use Rattle.pk_call.specs.declared.types.Outcome.{Outcome}
 use Rattle.pk_nvme.specs.Command.{Command}
 use Rattle.pk_model.specs.Answer.{listed, item_bytes, fitting}
 use Rattle.pk_walk.specs.Visible.{visible}
-use Rattle.pk_index.specs.declared.filled.Filled.{Filled}
-
--- these keys without their places
-abbrev pub keys_of : List (Key × Place) → List Key
-keys_of es = map (λ e. e.0) es
-
--- those of them that are not below this one
-abbrev pub not_below : Key → List Key → List Key
-not_below from ks = filter (λ k. not (is_lt (key_cmp k from))) ks
-
--- the keys that are there in the lists of entries and are not below this one
-abbrev pub keys_there : Key → List (List Entry) → List Key
-keys_there from lists = not_below from (keys_of (visible lists))
+use Rattle.pk_core.specs.declared.filled.Filled.{Filled}
 
 -- the least key of a namespace that is not below these bytes: each key has a byte
 abbrev pub least_in : ℕ → List ℕ → Key
@@ -61,25 +49,6 @@ pub record IsFilled (at : Filled) (size : ℕ) : Type 0 where
   pub few : at.count ≤ at.end
   pub small : at.room ≤ MOST_LIST_BYTES
   pub enough : at.room ≤ size
-
--- what a List asks of the board and of the parts that it goes over
-pub record MayList (walk : Walk) (board : BoardState) (levels : Levels) (arena : Frames) : Type 0 where
-  pub ready : IsReady board levels.shape
-  pub same_shape : walk.shape ≡ levels.shape
-  pub stand : (ess : List (List Entry)) × RunsOnFlash board.pages arena levels.runs ess
-
--- what a walk asks of them, and of the log
-pub record MayWalk (walk : Walk) (board : BoardState) (levels : Levels) (arena : Frames) (log : LogState) : Type 0 where
-  pub ready : IsReady board levels.shape
-  pub same_shape : walk.shape ≡ levels.shape
-  pub left : (rest : List (Key × Place)) × IsLeft walk board.pages arena levels.runs log.active.entries log.frozen.entries rest
-
--- it read no more pages than the runs have, and changed none
-pub record Walked (before after : Walk) (old new : BoardState) (levels : Levels) : Type 0 where
-  pub same_shape : after.shape ≡ before.shape
-  pub pages : new.pages ≡ old.pages
-  pub ready : IsReady new levels.shape
-  pub few_read : pages_read levels.runs after.cursors ≤ most_read levels.runs
 
 -- whatever remained: the first key of it was written, or there is no room for it
 abbrev pub OffersNext : Walk → Walk → BoardState → BoardState → Levels → Frames → LogState → Filled → Option Filled → List ℕ → List ℕ → Type 0

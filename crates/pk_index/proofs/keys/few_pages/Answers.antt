@@ -1,7 +1,6 @@
 use Rattle.std.proofs.Common.{arith}
-use Rattle.pk_index.proofs.Replies.{few_kept, few_of_four}
-use Rattle.pk_index.proofs.Callings.{few_of_caps, few_of_levels}
-use Rattle.pk_index.proofs.list.few_pages.Goals as goal
+use Rattle.pk_index.proofs.Walks.{few_kept, few_of_four, few_of_caps, few_of_levels}
+use Rattle.pk_index.proofs.keys.few_pages.Goals as goal
 
 pub returns-clause-few : goal.returns-clause-few
 returns-clause-few g c =
