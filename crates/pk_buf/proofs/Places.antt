@@ -1,11 +1,10 @@
 -- A list with rising keys: the place of a key, and an entry written there.
-use Rattle.std.proofs.Common.{◌≡◌, ℕ, zero, suc, ◌+◌, ◌<◌, ◌≤◌, Bool, true, false, ◌&&◌, T, List, [], ◌∷◌, length, take, drop, get_or, set, refl, ap, sym, subst, ◌∙◌, arith, ◌⊎◌, inl, inr, Option, Some, None, IsSome, Ordering, Less, Equal, Greater, length-set}
+use Rattle.std.proofs.Common.{◌≡◌, ℕ, zero, suc, ◌+◌, ◌<◌, ◌≤◌, Bool, true, false, T, List, [], ◌∷◌, length, take, drop, get_or, set, refl, ap, sym, ◌∙◌, arith, ◌⊎◌, inl, inr, Option, Some, None, IsSome, Ordering, Less, Equal, Greater, length-set}
 use Rattle.std.specs.Prelude.{slice_get}
 use Rattle.std.specs.List.{AllWithin, insert, refill, take-map, drop-map}
 use Rattle.std.specs.List.Sorted.{IsPartitionedBy, IsPartitionPoint}
 use Rattle.std.specs.Option.{option_map}
-use Rattle.std.specs.Ordering.{is_lt, is_eq, ordering_reverse}
-use Rattle.std.specs.FinMap.{slice_cmp-IsAntisymmetric, nat_cmp-IsAntisymmetric}
+use Rattle.std.specs.Ordering.{is_lt}
 use Rattle.std.specs.FinMap.Entries.{put, find, is_sorted, below_all}
 use Rattle.std.proofs.lemmas.Cmp.{nat_list_cmp_total}
 use Rattle.std.proofs.lemmas.Option.{slice_get-get_or, slice_get_past, slice_get-map}
@@ -17,56 +16,13 @@ use Rattle.pk_base.specs.Key.{Key, key_cmp}
 use Rattle.pk_base.specs.Entry.{Entry, Place}
 use Rattle.pk_buf.specs.declared.slot.Slot.{Slot}
 use Rattle.pk_buf.specs.Table.{Table, is_below, has_key, place_of, has_at, content, contents}
+use Rattle.pk_base.proofs.Logic.{is_true, left_part, right_part, lt_less, equal}
+use Rattle.pk_base.proofs.KeyLemmas.{same_key, turned, below_less, missing}
 
 -- ---- the order of keys
 
-left_part : (a b : Bool) → T (a && b) → T a
-left_part true b p = tt
-left_part false b p = p
-
-right_part : (a b : Bool) → T (a && b) → T b
-right_part true b p = p
-right_part false b p = absurd p
-
-both : (a b : Bool) → T a → T b → T (a && b)
-both true b p q = q
-both false b p q = p
-
-is_true : (b : Bool) → T b → b ≡ true
-is_true true p = refl
-is_true false p = absurd p
-
-less : (o : Ordering) → is_lt o ≡ true → o ≡ Less
-less Less h = refl
-less Equal h = absurd (false≢true h)
-less Greater h = absurd (false≢true h)
-
-equal : (o : Ordering) → is_eq o ≡ true → o ≡ Equal
-equal Less h = absurd (false≢true h)
-equal Equal h = refl
-equal Greater h = absurd (false≢true h)
-
-same_key : (a b : Key) → key_cmp a b ≡ Equal → a ≡ b
-same_key = slice_cmp-IsAntisymmetric nat_cmp-IsAntisymmetric
-
-turned : (a b : Key) (o : Ordering) → key_cmp a b ≡ o → key_cmp b a ≡ ordering_reverse o
-turned a b o q = nat_list_cmp_total.antisymm b a ∙ ap ordering_reverse q
-
 lt_trans : (a b c : Key) → is_lt (key_cmp a b) ≡ true → is_lt (key_cmp b c) ≡ true → is_lt (key_cmp a c) ≡ true
-lt_trans a b c p q = rw (nat_list_cmp_total.trans a b c (less _ p) (less _ q)) refl
-
--- what is above a key is above a smaller one
-below_less : (a b : Key) (es : List Entry) → key_cmp a b ≡ Less → T (below_all key_cmp b es) → T (below_all key_cmp a es)
-below_less a b [] p h = tt
-below_less a b (e ∷ es) p h =
-    both _ _ (subst T (sym (lt_trans a b e.0 (ap is_lt p) (is_true _ (left_part _ _ h)))) tt) (below_less a b es p (right_part _ _ h))
-
--- a key below all others is not found
-missing : (k : Key) (es : List Entry) → T (below_all key_cmp k es) → find key_cmp k es ≡ None
-missing k [] h = refl
-missing k (e ∷ es) h =
-    let up : key_cmp k e.0 ≡ Less = less _ (is_true _ (left_part _ _ h)) in
-    rw up (missing k es (right_part _ _ h))
+lt_trans a b c p q = rw (nat_list_cmp_total.trans a b c (lt_less _ p) (lt_less _ q)) refl
 
 -- ---- slots in the order of their keys
 

@@ -15,7 +15,6 @@ use Rattle.pk_nand.specs.declared.types.Fault.TheVariants.{Stopped}
 use Rattle.pk_nand.proofs.Effects.{works_program, stops_program}
 use Rattle.pk_nand.proofs.Pairing.{IsPairCut-cut, IsPairCut-done}
 use Rattle.pk_rootfmt.specs.Root.{Root, root_bytes, is_root}
-use Rattle.pk_rootfmt.specs.Newest.{newest_root}
 use Rattle.pk_model.specs.Found.{Found}
 use Rattle.pk_model.specs.Laws.{IsInstall}
 use Rattle.pk_model.specs.Growth.{Grows, Reaches, Goes}
@@ -37,7 +36,7 @@ use Rattle.pk_compact.proofs.Growing.{program_calls, program_failed_calls}
 use Rattle.pk_compact.proofs.NextRoot.{number_of_top}
 use Rattle.pk_compact.proofs.Numbering.{repeat_number}
 use Rattle.pk_model.proofs.Commits.{root_valid}
-use Rattle.pk_model.proofs.ValueSets.{is_true}
+use Rattle.pk_base.proofs.Logic.{is_true}
 
 -- the page whose second one is next
 abbrev again_page : Next → ℕ

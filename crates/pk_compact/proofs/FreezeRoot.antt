@@ -15,7 +15,6 @@ use Rattle.pk_rootfmt.specs.Held.{Held, two_of}
 use Rattle.pk_model.specs.Found.{Found}
 use Rattle.pk_model.proofs.SamePages.{any_front}
 use Rattle.pk_model.proofs.Commits.{any_behind, apart, member, injective, differ_front, values_apart, is_any_back}
-use Rattle.pk_model.proofs.ValueSets.{is_true}
 use Rattle.pk_pool.specs.declared.state.BlockState.TheVariants.{Owned}
 use Rattle.pk_pool.specs.Blocks.{given_back, Blocks, IsShared, IsSpare, PoolOnFlash}
 use Rattle.pk_pool.specs.Unready.{unready}
@@ -41,6 +40,7 @@ use Rattle.pk_compact.proofs.Grammar.{next_is_root}
 use Rattle.pk_compact.proofs.Installing.{epoch_erased, erased_behind}
 use Rattle.pk_compact.proofs.NextRoot.{programs_whole}
 use Rattle.pk_compact.proofs.TakingOne.{all_more, is_shape, valid, grammar, spare_behind}
+use Rattle.pk_base.proofs.Logic.{is_true}
 
 -- an erase leaves one step less, and no block differs
 one_fewer : (next next' : Next) (u : ℕ) → programs_next next' ≡ true → erases_next next ≡ true → Lowers (steps_of (freeze_rest 2 (install_steps next))) u (steps_of (freeze_rest 2 (install_steps next'))) u

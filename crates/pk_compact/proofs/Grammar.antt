@@ -1,13 +1,14 @@
 -- The root of a freeze is one of the grammar.
-use Rattle.std.proofs.Common.{◌≡◌, inl, inr, ℕ, ◌+◌, ◌<◌, ◌≤◌, refl, sym, ap, subst, ◌∙◌, arith, Bool, true, false, not, ◌&&◌, ◌||◌, T, List, [], ◌∷◌, ◌++◌, length, nat_le, nat_lt, ◌==◌, leb→le, le→leb, eqb→eq, append-nil}
+use Rattle.std.proofs.Common.{◌≡◌, inl, inr, ℕ, ◌+◌, ◌<◌, ◌≤◌, sym, ap, subst, ◌∙◌, arith, Bool, true, false, not, ◌&&◌, ◌||◌, T, List, [], ◌∷◌, ◌++◌, length, nat_le, nat_lt, ◌==◌, leb→le, le→leb, eqb→eq, append-nil}
 use Rattle.std.specs.List.{list_any, list_all, concat}
 use Rattle.pk_base.specs.Shape.{Shape}
 use Rattle.pk_rootfmt.specs.Root.{Root, named, is_root, is_number, has_runs, differ}
-use Rattle.pk_model.proofs.Commits.{right_part, both, any_behind}
+use Rattle.pk_model.proofs.Commits.{any_behind}
 use Rattle.pk_model.proofs.RootAlone.{all_back}
-use Rattle.pk_steps.proofs.Places.{In, not_of}
+use Rattle.pk_steps.proofs.Places.{In, not_of, any_in, differ_back}
 use Rattle.pk_compact.specs.Freezing.{AreTwo}
 use Rattle.pk_compact.specs.Steps.{next_root}
+use Rattle.pk_base.proofs.Logic.{both}
 
 -- ---- tests one after another
 
@@ -64,19 +65,8 @@ known shape root is =
 
 -- ---- two more blocks at the start
 
-any_in : (x : ℕ) (xs : List ℕ) → T (list_any (λ c. x == c) xs) → In x xs
-any_in x [] t = absurd t
-any_in x (y ∷ xs) t = elim (x == y) as (λ b. (x == y) ≡ b → T (b || list_any (λ c. x == c) xs) → In x (y ∷ xs)) [
-  | true ↦ λ e _. inl (eqb→eq x y (subst T (sym e) tt))
-  | false ↦ λ e rest. inr (any_in x xs rest)
-] refl t
-
 differs_in_front : (x : ℕ) (xs : List ℕ) → (In x xs → ⊥) → T (differ xs) → T (differ (x ∷ xs))
 differs_in_front x xs new d = both (not (list_any (λ c. x == c) xs)) (differ xs) (not_of (list_any (λ c. x == c) xs) (λ t. new (any_in x xs t))) d
-
-differ_back : (xs ys : List ℕ) → T (differ (xs ++ ys)) → T (differ ys)
-differ_back [] ys d = d
-differ_back (x ∷ xs) ys d = differ_back xs ys (right_part (not (list_any (λ c. x == c) (xs ++ ys))) (differ (xs ++ ys)) d)
 
 module _ (shape : Shape) (first second : ℕ) (two : AreTwo shape first second) where
   two_inside : (rest : List ℕ) → T (list_all (in_flash shape) rest) → T (list_all (in_flash shape) (first ∷ second ∷ rest))

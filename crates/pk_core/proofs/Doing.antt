@@ -1,11 +1,10 @@
 -- A List meets the contract of a drive.
-use Rattle.std.proofs.Common.{◌≡◌, inl, inr, ℕ, ◌-◌, min, refl, sym, ap, subst, ◌∙◌, arith, Bool, true, false, List, [], ◌∷◌, take, Option, Some, None, Result, Ok}
+use Rattle.std.proofs.Common.{◌≡◌, inl, inr, ℕ, ◌-◌, min, refl, sym, ap, subst, ◌∙◌, arith, Bool, true, false, List, [], ◌∷◌, take, Option, Some, None}
 use Rattle.std.specs.List.{AllByRecursion}
 use Rattle.pk_base.specs.Shape.{Shape, IsShape, limit}
 use Rattle.pk_base.specs.Page.{Flash}
 use Rattle.pk_base.specs.Entry.{Entry}
 use Rattle.pk_base.specs.Map.{Map, IsMap, keys_from}
-use Rattle.pk_base.specs.Refusal.{Refusal}
 use Rattle.pk_nvme.specs.declared.request.Request.{Request}
 use Rattle.pk_nvme.specs.Seen.{command_of}
 use Rattle.pk_nvme.specs.Command.{Command, key}
@@ -41,12 +40,10 @@ use Rattle.pk_core.proofs.Executing.{executes_walked}
 use Rattle.pk_index.specs.Keys.{keys_there}
 use Rattle.pk_core.specs.Listed.{first_listed, ListsInto}
 use Rattle.pk_core.proofs.Replies.{keys_begun, keys_listed}
+use Rattle.pk_base.proofs.Logic.{ok_same}
 
 some_same : (x y : Shape) → ◌≡◌ {A = Option Shape} (Some x) (Some y) → x ≡ y
 some_same x y e = cc
-
-ok_same : (x y : Map) → ◌≡◌ {A = Result Map Refusal} (Ok x) (Ok y) → x ≡ y
-ok_same x y e = cc
 
 not_both : (b : Bool) → b ≡ false → b ≡ true → ⊥
 not_both true e f = cc

@@ -13,7 +13,7 @@ use Rattle.pk_core.specs.Agreeing.{DriveOnFlashBetween}
 use Rattle.pk_parts.specs.Agreeing.{DriveOnFlash}
 use Rattle.pk_core.specs.Done.{Does, Executes}
 use Rattle.pk_core.specs.Serving.{IsServable}
-use Rattle.pk_parts.proofs.Rooming.{entries_some}
+use Rattle.pk_base.proofs.ShapeLemmas.{entries_some}
 
 -- one that did not change the drive and the pages of its board
 pub executes_quiet : (d e : Parts) (old new : BoardState) (r : Request) (c : Command) (o : Outcome) (into : List ℕ) (reads : ℕ) → IsServable d old r → e ≡ d → new.pages ≡ old.pages → o.stopped ≡ false

@@ -20,7 +20,7 @@ use Rattle.pk_model.specs.Reading.{Holds, map_under, reading_of}
 use Rattle.pk_model.specs.Laws.{IsWholePage}
 use Rattle.pk_model.proofs.Roots.{newest_complete, inside}
 use Rattle.pk_model.proofs.Commits.{ends}
-use Rattle.pk_model.proofs.ValueSets.{is_true}
+use Rattle.pk_base.proofs.Logic.{is_true}
 
 -- what is found under the first root
 abbrev nothing : Found

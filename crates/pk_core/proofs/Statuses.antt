@@ -9,9 +9,7 @@ use Rattle.pk_nvme.specs.Opcode.{op_of}
 use Rattle.pk_model.specs.Answer.{check, is_namespace, is_key_length, size_fault, fault_of, early}
 use Rattle.pk_model.proofs.Machines.{store_check}
 use Rattle.pk_call.specs.declared.types.Outcome.{Outcome}
-
-some_same : (x y : ℕ) → ◌≡◌ {A = Option ℕ} (Some x) (Some y) → x ≡ y
-some_same x y e = cc
+use Rattle.pk_base.proofs.Logic.{some_same}
 
 none_some : (x : ℕ) → ◌≡◌ {A = Option ℕ} None (Some x) → ⊥
 none_some x e = cc

@@ -1,5 +1,5 @@
 -- A drive that agrees with its flash is steady: its numbers are those of what is on the flash.
-use Rattle.std.proofs.Common.{◌≡◌, ◌≢◌, inl, inr, ℕ, ◌+◌, ◌*◌, ◌/◌, ◌<◌, ◌≤◌, refl, sym, ap, subst, ◌∙◌, arith, Bool, true, false, T, List, [], ◌∷◌, ◌++◌, length, map, Option, Some, None}
+use Rattle.std.proofs.Common.{◌≡◌, ◌≢◌, inl, inr, ℕ, ◌+◌, ◌*◌, ◌/◌, ◌<◌, ◌≤◌, refl, sym, ap, subst, ◌∙◌, arith, true, false, List, [], ◌∷◌, ◌++◌, length, map, Option, Some, None}
 use Rattle.std.specs.Prelude.{slice_get, slice_index_or, count_by, MatchOption, IfSome, ◌%◌, ◌&&◌, not}
 use Rattle.std.specs.List.{concat}
 use Rattle.std.proofs.Common.{div-add-mod', mod-lt}
@@ -10,7 +10,7 @@ use Rattle.pk_base.specs.Entry.{Entry}
 use Rattle.pk_base.specs.Map.{Map}
 use Rattle.pk_base.specs.Firsts.{firsts}
 use Rattle.pk_base.specs.Merge.{next_merge}
-use Rattle.pk_base.proofs.ShapeLemmas.{block_pages_positive}
+use Rattle.pk_base.proofs.ShapeLemmas.{block_pages_positive, entries_some}
 use Rattle.pk_buf.specs.Table.{Table}
 use Rattle.pk_rootfmt.specs.Root.{Root, differ}
 use Rattle.pk_plan.specs.declared.owner.Owner.{Owner}
@@ -54,8 +54,8 @@ use Rattle.pk_core.specs.Agreeing.{DriveOnFlashBetween}
 use Rattle.pk_parts.specs.Agreeing.{DriveOnFlashWith, DriveOnFlash}
 use Rattle.pk_core.proofs.Leased.{leased_are}
 use Rattle.pk_core.proofs.Seen.{seen_same}
-use Rattle.pk_parts.proofs.Rooming.{entries_some}
 use Rattle.pk_core.proofs.Places.{blocks_from, many_blocks, has_state, blocks_differ, block_in, all_in}
+use Rattle.pk_base.proofs.Logic.{is_true, some_same}
 
 -- ---- the blocks that are erased
 
@@ -84,10 +84,6 @@ some_block x y e = cc
 open_is_owned : (shape : Shape) (pool : Blocks) (flash : Flash) (o : Option OpenBlock) (b : ℕ) → MatchOption o (Unit {0}) (λ x. IsOpenIn shape pool flash x) → block_if_open o ≡ Some b → HoldsValues pool b
 open_is_owned shape pool flash None b is e = cc
 open_is_owned shape pool flash (Some o) b is e = subst (HoldsValues pool) (some_block o.block b e) is.owned
-
-is_true : (b : Bool) → T b → b ≡ true
-is_true true t = refl
-is_true false t = absurd t
 
 -- a block that is one for values has a state that says so
 for_values_told : (o : Option BlockState) → is_for_values o ≡ true → (s : BlockState) × (o ≡ Some s) × (is_owned_by Values s ≡ true)
@@ -237,20 +233,17 @@ module _ (d : Parts) (shape : Shape) (flash : Flash) (top : ℕ × Root) (found 
 
 -- ---- between two commands
 
-told_same : (a b : Shape) → ◌≡◌ {A = Option Shape} (Some a) (Some b) → a ≡ b
-told_same a b e = cc
-
 -- bounded work remains, whatever is pending
 pub few_left : (d : Parts) (told : Option Shape) (shape : Shape) (flash : Flash) → DriveOnFlash d told flash → told ≡ Some shape → (sight_of d).work < most_work shape
 few_left d told shape flash a told_is =
     let there : (sight_of (settled_parts d)).work < most_work a.shape = work_is (settled_parts d) a.shape flash a.top a.found a.without a.all a.with in
     let here : (sight_of d).work < most_work a.shape = subst (λ (x : Sight). x.work < most_work a.shape) (seen_same d told flash a) there in
-    subst (λ s. (sight_of d).work < most_work s) (told_same a.shape shape (sym a.told_is ∙ told_is)) here
+    subst (λ s. (sight_of d).work < most_work s) (some_same a.shape shape (sym a.told_is ∙ told_is)) here
 
 pub between_steady : (d : Parts) (told : Option Shape) (shape : Shape) (flash : Flash) → DriveOnFlashBetween d told flash → told ≡ Some shape → IsShared d.pool.shape d.pool.states → IsSteady shape flash (sight_of d)
 between_steady d told shape flash is told_is shared =
     let a = is.0 in
-    let same : a.shape ≡ shape = told_same a.shape shape (sym a.told_is ∙ told_is) in
+    let same : a.shape ≡ shape = some_same a.shape shape (sym a.told_is ∙ told_is) in
     let few : length d.log.pending < page_entries a.shape = subst (λ s. length d.log.pending < page_entries s) a.with.shape_is is.1 in
     let there : IsSteady a.shape flash (sight_of (settled_parts d)) = agrees_steady (settled_parts d) a.shape flash a.top a.found a.without a.all a.with (shared_freed d.pool.shape d.pool.states shared) few in
     let here : IsSteady a.shape flash (sight_of d) = subst (IsSteady a.shape flash) (seen_same d told flash a) there in

@@ -24,7 +24,7 @@ use Rattle.pk_rootfmt.specs.Root.{Root}
 use Rattle.pk_rootfmt.specs.Newest.{newest_root}
 use Rattle.pk_model.specs.Wear.{number_of, root_number, roots, is_worn}
 use Rattle.pk_call.specs.Drive.{HoldsMap}
-use Rattle.pk_nand.specs.Effects.{OnlyFlash, NoFault, AtMostOneCall}
+use Rattle.pk_nand.specs.Effects.{NoFault, AtMostOneCall}
 use Rattle.pk_model.specs.Crashes.{CrashFinds, background, command}
 use Rattle.pk_call.specs.Exec.{most_installs}
 use Rattle.pk_call.specs.Seen.{stopped_by, reply_of}
@@ -45,6 +45,7 @@ use Rattle.pk_core.proofs.Staying.{frees_then}
 use Rattle.pk_parts.proofs.Staying.{stays_same, stays_frees}
 use Rattle.pk_parts.proofs.Callings.{few_more, spends_same, spends_within}
 use Rattle.pk_parts.proofs.Ticking.{yes_no}
+use Rattle.pk_nand.proofs.Effects.{only_then}
 
 -- the drive agrees with its board after this many steps, of which none failed
 pub record Ongoing (first : Parts) (old : BoardState) (d : Parts) (board : BoardState) (made : ℕ) : Type 0 where
@@ -81,21 +82,6 @@ steps_none old s few none = record {
 }
 
 -- ---- one more step
-
-pub only_then : (a b c : BoardState) → OnlyFlash a b → OnlyFlash b c → OnlyFlash a c
-only_then a b c first second =
-    let T : BoardState → Type 0 = λ s. c ≡ record s {
-      pages = c.pages;
-      trail = c.trail;
-      reads = c.reads;
-      programs = c.programs;
-      erases = c.erases;
-      flash_faults = c.flash_faults;
-      read_faults = c.read_faults;
-      stop_faults = c.stop_faults;
-      failed_at = c.failed_at;
-    } in
-    subst T first second
 
 record OneRead (a b : BoardState) : Type 0 where
   few : b.reads ≤ last_count

@@ -40,12 +40,12 @@ use Rattle.pk_parts.proofs.Changing.{kept_goes}
 use Rattle.pk_parts.proofs.Keeping.{board_has}
 use Rattle.pk_parts.proofs.Putting.{later_reaches, later_goes}
 use Rattle.pk_parts.proofs.ReadSteps.{Passes, passes_none, reading_then, reading_failed, running_says}
-use Rattle.pk_parts.proofs.Rooming.{entries_some}
 use Rattle.pk_parts.proofs.SameMaps.{same_of, same_unread, passes_moved, SameMapAll-then}
 use Rattle.pk_parts.proofs.SpaceSteps.{wanted_full}
 use Rattle.pk_parts.proofs.Standing.{found_once, agrees_so}
 use Rattle.pk_parts.proofs.Staying.{fresh_then}
 use Rattle.pk_parts.proofs.Stored.{blocks_most, blocks_at}
+use Rattle.pk_base.proofs.ShapeLemmas.{entries_some}
 
 true_false : true ≡ false → ⊥
 true_false e = cc

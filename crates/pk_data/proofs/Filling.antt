@@ -19,9 +19,8 @@ use Rattle.pk_pool.specs.Blocks.{Blocks, PoolOnFlash, IsSpare, used_by, with_sta
 use Rattle.pk_nand.specs.Calls.{IsErasedBlock}
 use Rattle.pk_pool.specs.Taking.{SameButBlock, ReachesIn, WentIn, FailsToErase}
 use Rattle.pk_pool.proofs.States.{get-set_other, set_is}
-use Rattle.pk_pool.proofs.Fitting.{block_of, apart, even_start, PoolOnFlash-outside, owned_not_ready}
+use Rattle.pk_pool.proofs.Fitting.{block_of, even_start, PoolOnFlash-outside, owned_not_ready}
 use Rattle.pk_live.specs.Values.{Values}
-use Rattle.pk_model.proofs.ValueSets.{is_true}
 use Rattle.pk_steps.specs.Under.{IsValuePage}
 use Rattle.pk_live.specs.declared.open_block.OpenBlock.{OpenBlock}
 use Rattle.pk_live.specs.OpenBlocks.{closed_with}
@@ -31,6 +30,8 @@ use Rattle.pk_data.specs.Reserving.{IsReserved, WritesNext, IsFreeOf}
 use Rattle.pk_data.specs.Entries.{IsInOpen}
 use Rattle.pk_data.specs.Laws.{SameValues}
 use Rattle.pk_data.proofs.Unchanged.{flash_elsewhere}
+use Rattle.pk_base.proofs.Logic.{is_true}
+use Rattle.pk_base.proofs.BlockLemmas.{apart}
 
 abbrev state_of : Values → Option OpenBlock → DataState
 state_of live open_block = record { live = live; open_block = open_block }

@@ -1,7 +1,6 @@
 -- Keys with places: one entry more, and one less.
 use Rattle.std.proofs.Common.{◌≡◌, ◌⊎◌, inl, inr, ℕ, ◌+◌, true, false, not, cond, T, List, [], ◌∷◌, ◌++◌, Some, None, refl, sym, ap, subst, ◌∙◌, arith, ◌==◌}
 use Rattle.std.specs.List.{AllByRecursion}
-use Rattle.std.specs.declared.cmp.Ordering.{Ordering}
 use Rattle.std.specs.declared.cmp.Ordering.TheVariants.{Less, Equal, Greater}
 use Rattle.std.specs.Ordering.{is_lt, is_eq, eq_by_cmp}
 use Rattle.std.specs.Cmp.{tied_itself}
@@ -16,17 +15,13 @@ use Rattle.pk_segfmt.proofs.StoredLemmas.{charge_some}
 use Rattle.pk_rootfmt.specs.Root.{differ}
 use Rattle.pk_model.specs.Values.{all_pages}
 use Rattle.pk_model.specs.Laws.{IsPageOf}
-use Rattle.pk_model.proofs.MapLemmas.{key_total, key_antisymm, left_part, right_part, below_less}
+use Rattle.pk_model.proofs.MapLemmas.{key_total, key_antisymm, below_less}
 use Rattle.pk_model.proofs.Commits.{apart, rest_differs}
 use Rattle.pk_steps.specs.Under.{IsValuePage}
 use Rattle.pk_steps.proofs.Places.{range_in, value_in}
 use Rattle.pk_live.specs.Lives.{head_of}
 use Rattle.pk_data.specs.Placed.{AreApart, without}
-
-less : (r : Ordering) → T (is_lt r) → r ≡ Less
-less Less p = refl
-less Equal p = absurd p
-less Greater p = absurd p
+use Rattle.pk_base.proofs.Logic.{left_part, right_part, less}
 
 -- ---- keys
 

@@ -14,7 +14,7 @@ use Rattle.pk_base.specs.Entry.{Place}
 use Rattle.pk_base.specs.EntryBytes.{IsPlace}
 use Rattle.pk_segfmt.proofs.StoredLemmas.{charge_some}
 use Rattle.pk_pool.specs.Blocks.{Blocks}
-use Rattle.pk_pool.proofs.Fitting.{block_of, apart}
+use Rattle.pk_pool.proofs.Fitting.{block_of}
 use Rattle.pk_model.specs.Values.{all_pages}
 use Rattle.pk_model.specs.Laws.{IsPageOf}
 use Rattle.pk_steps.specs.Under.{IsValuePage}
@@ -27,6 +27,7 @@ use Rattle.pk_data.specs.Placed.{ValuesOnFlash, IsOpenIn, IsOutput, IsNotOpen, H
 use Rattle.pk_data.specs.Entries.{span_if_some, heads_without, ValueHeld, ValueMoves}
 use Rattle.pk_data.proofs.Lists.{put_without, nothing_out, find_gone, page_put, page_without, found_place, head_none, head_found}
 use Rattle.pk_data.proofs.Heads.{AreLive, live_removed, live_added}
+use Rattle.pk_base.proofs.BlockLemmas.{apart}
 
 -- pages that were written into a block for values
 pub record InBlock (shape : Shape) (pool : Blocks) (outputs : List ℕ) (flash : Flash) (place : Place) : Type 0 where

@@ -12,7 +12,7 @@ use Rattle.pk_nand.proofs.Leaving.{page_at-slice_set, page_at-slice_set_same}
 use Rattle.pk_nand.specs.Calls.{InOrder}
 use Rattle.std.proofs.Math.Nat.{mul_comm}
 use Rattle.std.proofs.lemmas.Nat.{div-add-mod', div-mul-add}
-use Rattle.pk_pool.proofs.Fitting.{apart, in_block, even_start}
+use Rattle.pk_pool.proofs.Fitting.{in_block, even_start}
 use Rattle.pk_base.proofs.ShapeLemmas.{block_pages_positive, charge_even}
 use Rattle.pk_gc.specs.declared.course.Course.{Course}
 use Rattle.pk_gc.specs.declared.moves.Move.{Move}
@@ -22,6 +22,7 @@ use Rattle.pk_segfmt.proofs.StoredLemmas.{charge_some}
 use Rattle.pk_model.specs.Laws.{AnyByRecursion}
 use Rattle.pk_steps.specs.Under.{IsValuePage}
 use Rattle.pk_moves.specs.Moves.{AreApart}
+use Rattle.pk_base.proofs.BlockLemmas.{apart}
 
 -- pages of two blocks differ
 pub disjoint : (n v o k p : ℕ) → v ≢ o → v * n ≤ k → k < v * n + n → o * n ≤ p → p < o * n + n → k ≡ p → ⊥

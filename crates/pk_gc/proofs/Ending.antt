@@ -28,11 +28,13 @@ use Rattle.pk_gc.specs.Stepping.{Hands}
 use Rattle.pk_gc.specs.Ending.{CanGive, GivesUp}
 use Rattle.pk_gc.proofs.Copying.{disjoint}
 use Rattle.pk_gc.proofs.Finishing.{begins}
-use Rattle.pk_pool.proofs.Fitting.{apart, block_of}
+use Rattle.pk_pool.proofs.Fitting.{block_of}
 use Rattle.std.proofs.Math.Nat.{mul_comm}
 use Rattle.std.proofs.lemmas.List.{get_or-drop}
 use Rattle.pk_live.specs.Values.{block_sum}
 use Rattle.pk_plan.specs.declared.owner.Owner.TheVariants.{Values as for_values}
+use Rattle.pk_base.proofs.BlockLemmas.{apart}
+use Rattle.pk_moves.proofs.Emptying.{found_page}
 
 -- a head other than those of a move is unchanged
 stays : (heads : List ℕ) (m : Move) (k : ℕ) → k ≢ m.from → k ≢ m.to → slice_get (heads_behind heads m) k ≡ slice_get heads k
@@ -66,14 +68,6 @@ sum_none (suc n) (x ∷ xs) none =
     omega (arith, all, rest, here)
 
 -- ---- heads of values
-
-pub found_page : (shape : Shape) (key : Key) (place : Place) (es : List (Key × Place)) (k : ℕ) → find key_cmp key es ≡ Some place → IsPageOf shape k place → IsValuePage shape es k
-found_page shape key place [] k found is = cc
-found_page shape key place (e ∷ es) k found is =
-    elim (eq_by_cmp key_cmp key e.0) as (λ b. cond b (Some e.1) (find key_cmp key es) ≡ Some place → IsValuePage shape (e ∷ es) k) [
-      | true ↦ λ f. let same : e.1 ≡ place = cc in inl (subst (λ p. IsPageOf shape k p) (sym same) is)
-      | false ↦ λ f. inr (found_page shape key place es k f is)
-    ] found
 
 module _ (shape : Shape) (is_shape : IsShape shape) where
   first_page : (place : Place) → IsPageOf shape place.page place

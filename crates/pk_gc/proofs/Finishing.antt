@@ -14,7 +14,7 @@ use Rattle.pk_base.proofs.ShapeLemmas.{block_pages_positive}
 use Rattle.pk_segfmt.proofs.StoredLemmas.{charge_some}
 use Rattle.pk_rootfmt.specs.Root.{named}
 use Rattle.pk_model.specs.Laws.{AnyByRecursion}
-use Rattle.pk_model.proofs.MapLemmas.{key_total, left_part, right_part, missing}
+use Rattle.pk_model.proofs.MapLemmas.{key_total, missing}
 use Rattle.pk_model.proofs.Lookups.{same_key}
 use Rattle.pk_steps.specs.Under.{IsValuePage, places}
 use Rattle.pk_pool.proofs.Fitting.{in_block, block_of}
@@ -28,6 +28,7 @@ use Rattle.pk_gc.specs.declared.moves.Move.{Move}
 use Rattle.pk_gc.specs.State.{placed_at, new_place, is_left, left_of, source}
 use Rattle.pk_gc.specs.Running.{IsMove}
 use Rattle.pk_gc.specs.Copied.{IsCopied, Empties, MayMove}
+use Rattle.pk_base.proofs.Logic.{left_part, right_part}
 
 -- ---- heads and values
 

@@ -28,7 +28,7 @@ use Rattle.pk_host.proofs.RisingLemmas.{above-append, above_split, above_above, 
 
 -- ---- Lists leave the map
 
-map_after_same : (shape : Shape) (most : ℕ) (m : Map) (c : Command) (k : Opcode) → op_of c.opcode ≡ Some k → effect m c (Some k) ≡ m → map_after shape most m c ≡ m
+pub map_after_same : (shape : Shape) (most : ℕ) (m : Map) (c : Command) (k : Opcode) → op_of c.opcode ≡ Some k → effect m c (Some k) ≡ m → map_after shape most m c ≡ m
 unfolding map_after
 map_after_same shape most m c k is stays = elim (refused shape most m c) as (λ r. refused shape most m c ≡ r → map_after shape most m c ≡ m) [
   | None ↦ λ e. (let left : map_after shape most m c ≡ effect m c (Some k) = rw (e, is) refl in left ∙ stays)
@@ -222,11 +222,11 @@ listing_goes start now next all page all' from h at pages leaves whole = record 
       ∙ add_page m all page from (pages m (h.leaves m told)) at (ap (λ (q : Key). all ++ above q (keys m)) at ∙ h.listed_keys m told);
 }
 
-nothing_above : (xs : List Key) → false ≡ nat_lt 0 (length xs) → xs ≡ []
+pub nothing_above : (xs : List Key) → false ≡ nat_lt 0 (length xs) → xs ≡ []
 nothing_above [] e = refl
 nothing_above (x ∷ xs) e = absurd (let clash : false ≡ true = e ∙ le-leb 1 (length (x ∷ xs)) (omega arith) in cc)
 
-all_above_none : (ks : List Key) → AllByRecursion IsKey ks → above [] ks ≡ ks
+pub all_above_none : (ks : List Key) → AllByRecursion IsKey ks → above [] ks ≡ ks
 all_above_none [] h = refl
 all_above_none ([] ∷ ks) h = absurd (let some = h.0.some in omega (arith, some))
 all_above_none ((x ∷ k) ∷ ks) h = ap (λ (xs : List Key). (x ∷ k) ∷ xs) (all_above_none ks h.1)

@@ -11,9 +11,7 @@ use Rattle.pk_jrnfmt.specs.Page.{journal_entries}
 use Rattle.pk_jrnfmt.specs.Epoch.{journal, epoch}
 use Rattle.pk_jrn.specs.Laws.{SameBlocks}
 use Rattle.pk_jrn.proofs.Places.{commit_same}
-
-pub ok_same : {A : Type 0} (x y : A) → ◌≡◌ {A = Result A Refusal} (Ok x) (Ok y) → x ≡ y
-ok_same x y e = cc
+use Rattle.pk_base.proofs.Logic.{ok_same}
 
 -- a step that gave something, and what followed
 bind_ok : {A B : Type 0} (r : Result A Refusal) (f : A → Result B Refusal) (b : B) → r >>= f ≡ Ok b → (a : A) × (r ≡ Ok a) × (f a ≡ Ok b)

@@ -1,7 +1,6 @@
 -- The pages of an epoch's two blocks.
-use Rattle.std.proofs.Common.{◌≡◌, ◌≢◌, ℕ, suc, ◌+◌, ◌-◌, ◌*◌, ◌/◌, ◌%◌, ◌<◌, ◌≤◌, refl, sym, ap, subst, ◌∙◌, arith, List, Bool, true, false, if◌then◌else◌, div-add-mod', mul-le-mul_right, inl, inr}
+use Rattle.std.proofs.Common.{◌≡◌, ◌≢◌, ℕ, ◌+◌, ◌-◌, ◌*◌, ◌/◌, ◌%◌, ◌<◌, ◌≤◌, refl, sym, ap, subst, ◌∙◌, arith, List, Bool, true, false, if◌then◌else◌, div-add-mod', inl, inr}
 use Rattle.std.specs.Prelude.{slice_index}
-use Rattle.std.proofs.Math.Nat.{suc-mul}
 use Rattle.std.proofs.lemmas.Nat.{div-mul-add, mod-mul-add}
 use Rattle.std.proofs.lemmas.Bool.{cases_lt}
 use Rattle.pk_base.specs.Shape.{Shape, IsShape, epoch_pages, epoch_commits, page_count}
@@ -12,10 +11,7 @@ use Rattle.pk_nand.specs.Calls.{InOrder}
 use Rattle.pk_nand.specs.Crash.{SameOutside}
 use Rattle.pk_jrn.specs.Epochs.{JournalEpoch, EpochOnFlash, AllExist, AreErased, next_page, pages_of}
 use Rattle.pk_jrn.specs.Laws.{SameBlocks}
-
--- the rows of block a end if those of a later block begin, or before
-pub apart : (a b n : ℕ) → a < b → a * n + n ≤ b * n
-apart a b n h = omega (arith, mul-le-mul_right {m = suc a} {n = b} n (omega arith), suc-mul a n)
+use Rattle.pk_base.proofs.BlockLemmas.{apart}
 
 module _ (shape : Shape) (blocks : List ℕ) where
   -- the page of an index, by its block and its place in it

@@ -11,6 +11,7 @@ use Rattle.pk_base.specs.Entry.{Entry, Place}
 use Rattle.pk_base.specs.declared.entry.Entry.{Entry as RustEntry}
 use Rattle.pk_base.specs.Firsts.{firsts}
 use Rattle.pk_jrn.specs.Replays.{puts}
+use Rattle.pk_base.proofs.KeyLemmas.{firsts_sorted}
 
 key_antisymm : IsAntisymmetric key_cmp
 key_antisymm = slice_cmp-IsAntisymmetric nat_cmp-IsAntisymmetric
@@ -33,10 +34,6 @@ puts_are_firsts before (e ∷ es) =
     ap (puts es) (sym one) ∙ puts_are_firsts (before ++ e ∷ []) es ∙ ap (λ x. firsts (reverse x)) (append_assoc before (e ∷ []) es)
 
 -- ---- a table grows
-
-pub firsts_sorted : (es : List Entry) → T (is_sorted key_cmp (firsts es))
-firsts_sorted [] = tt
-firsts_sorted (e ∷ es) = is_sorted-put key_cmp nat_list_cmp_total e.0 e.1 (firsts es) (firsts_sorted es)
 
 pub puts_sorted : (es table : List Entry) → T (is_sorted key_cmp table) → T (is_sorted key_cmp (puts es table))
 puts_sorted [] table up = up

@@ -15,11 +15,9 @@ use Rattle.pk_run.specs.Kept.{Kept, IsKept, RunOnFlash, page_of}
 use Rattle.pk_run.proofs.Lookups.{holds_piece}
 use Rattle.pk_run.proofs.Orders.{slice_get-drop}
 use Rattle.pk_merge.specs.Cursors.{Cursor, Follows, at_start, passed, own_page, wants_page}
+use Rattle.pk_base.proofs.ShapeLemmas.{entries_some}
 
 -- ---- numbers
-
-pub entries_some : (shape : Shape) → IsShape shape → 0 < page_entries shape
-entries_some shape is = let page : 512 ≤ shape.page_bytes = is.page_least in omega arith
 
 -- the page of a later place is not an earlier one
 later_page : (place size : ℕ) → 0 < size → place / size ≤ suc place / size

@@ -26,7 +26,8 @@ use Rattle.pk_merge.specs.Cursors.{Cursor, Follows, own_page}
 use Rattle.pk_merge.specs.Sources.{Has, FollowsIn, IsOf, blocks_in}
 use Rattle.pk_merge.specs.Merging.{Merger, StandsIn}
 use Rattle.pk_merge.specs.Outputs.{AreMeta, BlocksApart, IsOutput, OthersStand, next_bytes}
-use Rattle.pk_merge.proofs.Places.{apart, rest, block_there, page_of_place, other_page}
+use Rattle.pk_merge.proofs.Places.{rest, block_there, page_of_place, other_page}
+use Rattle.pk_base.proofs.BlockLemmas.{apart}
 
 -- a run's pages are the same, and it is as before
 abbrev pub Moves : Kept → Flash → Flash → Frames → Frames → Type 0

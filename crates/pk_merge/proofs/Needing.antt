@@ -20,9 +20,10 @@ use Rattle.pk_merge.specs.declared.source.Source.{Source}
 use Rattle.pk_merge.specs.Merging.{Merger, left}
 use Rattle.pk_merge.specs.Outputs.{MayProgram}
 use Rattle.pk_merge.specs.Running.{merged, CanStand, Merging, HasBlocks, HasFrames}
-use Rattle.pk_merge.proofs.Following.{entries_some}
-use Rattle.pk_merge.proofs.Overs.{left_part, right_part, both, output_sorted, output_deepest, output_all, all_left, all_right}
+use Rattle.pk_merge.proofs.Overs.{output_sorted, output_deepest, output_all, all_left, all_right}
 use Rattle.pk_merge.proofs.Programming.{sorted_rises}
+use Rattle.pk_base.proofs.Logic.{left_part, right_part, both}
+use Rattle.pk_base.proofs.ShapeLemmas.{entries_some}
 
 -- ---- numbers
 

@@ -1,7 +1,6 @@
 -- The pages of a run's blocks.
-use Rattle.std.proofs.Common.{◌≡◌, ℕ, suc, ◌+◌, ◌-◌, ◌*◌, ◌/◌, ◌%◌, ◌<◌, ◌≤◌, sym, ap, subst, ◌∙◌, arith, List, length, slice_get, Some, mod-lt, div-add-mod', div-lt_iff_lt-mul, mul-le-mul_right}
+use Rattle.std.proofs.Common.{◌≡◌, ℕ, ◌+◌, ◌-◌, ◌*◌, ◌/◌, ◌%◌, ◌<◌, ◌≤◌, sym, ap, subst, ◌∙◌, arith, List, length, slice_get, Some, mod-lt, div-add-mod', div-lt_iff_lt-mul}
 use Rattle.std.specs.Prelude.{slice_index}
-use Rattle.std.proofs.Math.Nat.{suc-mul}
 use Rattle.std.proofs.lemmas.Nat.{div-mul-add, mod-mul-add}
 use Rattle.std.proofs.lemmas.Option.{slice_get-get_or}
 use Rattle.pk_base.specs.Shape.{Shape, IsShape, page_count}
@@ -12,10 +11,7 @@ use Rattle.pk_pin.specs.Frames.{Frames}
 use Rattle.pk_run.specs.Kept.{Kept, IsKept, RunOnFlash, page_of}
 use Rattle.pk_run.proofs.Lookups.{page_stands}
 use Rattle.pk_merge.specs.Outputs.{IsOutput, BlocksApart}
-
--- the rows of block a end if those of a later block begin, or before
-pub apart : (a b n : ℕ) → a < b → a * n + n ≤ b * n
-apart a b n h = omega (arith, mul-le-mul_right {m = suc a} {n = b} n (omega arith), suc-mul a n)
+use Rattle.pk_base.proofs.BlockLemmas.{apart}
 
 same_rest : (x y n r s : ℕ) → x ≡ y → x * n + r ≡ y * n + s → r ≡ s
 same_rest x y n r s e same = let f : x * n ≡ y * n = ap (λ k. k * n) e in omega (arith, f, same)

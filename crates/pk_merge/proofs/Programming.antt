@@ -1,8 +1,5 @@
 -- An output to which a page or a block is added, and what this leaves of other runs.
 use Rattle.std.proofs.Common.{◌≡◌, ◌≢◌, ◌⊎◌, inl, inr, ℕ, ◌+◌, ◌*◌, ◌<◌, ◌≤◌, refl, sym, ap, subst, ◌∙◌, arith, Bool, true, false, not, ◌||◌, ◌==◌, T, is_some, List, [], ◌∷◌, ◌++◌, length, map, slice_get, get_or, set, Some, None, Option, option_map, length-append}
-use Rattle.std.specs.Ordering.{is_lt}
-use Rattle.std.specs.declared.cmp.Ordering.{Ordering}
-use Rattle.std.specs.declared.cmp.Ordering.TheVariants.{Less, Equal, Greater}
 use Rattle.std.specs.List.{list_all, AllByRecursion}
 use Rattle.std.specs.FinMap.Entries.{is_sorted, below_all}
 use Rattle.std.proofs.lemmas.Bool.{cases_lt}
@@ -23,16 +20,11 @@ use Rattle.pk_pin.specs.Frames.{Frames, leased, KeepsPage}
 use Rattle.pk_run.specs.Kept.{Kept, IsNext, IsPinnedAlike, RunOnFlash, page_of, with_page}
 use Rattle.pk_run.proofs.Others.{RunOnFlash-outside, RunOnFlash-taken, RunOnFlash-filled}
 use Rattle.pk_merge.specs.Outputs.{BlocksApart, IsOutput, ProgramsPage, OthersStand, next_bytes, SameButNext}
-use Rattle.pk_merge.proofs.Overs.{left_part, right_part}
 use Rattle.pk_merge.proofs.Places.{only_index, other_page}
 use Rattle.pk_level.specs.Arenas.{IsPinnedIf}
+use Rattle.pk_base.proofs.Logic.{left_part, right_part, less}
 
 -- ---- sorted entries rise
-
-less : (o : Ordering) → T (is_lt o) → o ≡ Less
-less Less p = refl
-less Equal p = absurd p
-less Greater p = absurd p
 
 all_below : (k : Key) (es : List Entry) → T (below_all key_cmp k es) → AllByRecursion (IsBelow k) (map key_of es)
 all_below k [] h = tt

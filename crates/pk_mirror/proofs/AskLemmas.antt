@@ -1,8 +1,7 @@
 -- What comes of a Retrieve or a List of a pair, from whose answer it is.
-use Rattle.std.proofs.Common.{◌≡◌, ◌==◌, inl, inr, ℕ, ◌≤◌, List, [], length, Bool, true, false, ◌||◌, if◌then◌else◌, nat_lt, Some, None, Result, Ok, Err, IfOk, IfErr, OnOk, refl, sym, ap, subst, ◌∙◌}
+use Rattle.std.proofs.Common.{◌≡◌, ◌==◌, inl, inr, ℕ, ◌≤◌, List, [], length, Bool, true, false, ◌||◌, if◌then◌else◌, nat_lt, Some, Result, Ok, Err, IfOk, IfErr, OnOk, refl, sym, ap, subst, ◌∙◌}
 use Rattle.std.proofs.lemmas.Bool.{eqb-true, eq-eqb}
 use Rattle.pk_base.specs.Key.{Key, IsKey, bytes_of}
-use Rattle.pk_base.specs.Shape.{Shape}
 use Rattle.pk_base.specs.Map.{Map}
 use Rattle.pk_nvme.specs.Command.{Command}
 use Rattle.pk_nvme.specs.Reply.{Reply}
@@ -10,7 +9,7 @@ use Rattle.pk_nvme.specs.Opcode.{op_of}
 use Rattle.pk_nvme.specs.declared.opcode.Opcode.{Opcode}
 use Rattle.pk_nvme.specs.declared.status.TheConstants.{UNRECOVERED_ERROR}
 use Rattle.pk_nand.specs.Calls.{Rose}
-use Rattle.pk_model.specs.Answer.{refused, map_after, effect}
+use Rattle.pk_model.specs.Answer.{refused, effect}
 use Rattle.pk_host.specs.declared.types.HostError.{HostError}
 use Rattle.pk_host.specs.declared.types.HostError.TheVariants.{Refused as HostRefused, Port as HostPort}
 use Rattle.pk_host.specs.Port.{PortState, Replies, Took}
@@ -27,22 +26,16 @@ use Rattle.pk_mirror.specs.Asks.{SecondAnswers, Asks, StaysUnlessPort, KeepsMaps
 use Rattle.pk_mirror.proofs.ReplyLemmas.{Tells, retrieved_tells, listed_tells}
 use Rattle.pk_mirror.proofs.PairLemmas.{by_map, still_pair, one_leaves, ok_never, err_by, err_never}
 use Rattle.pk_mirror.proofs.WriteLemmas.{refused_or_port, refused_by, on_refused, on_port, refused_is, on_split, true_false}
+use Rattle.pk_host.proofs.PageLemmas.{map_after_same}
 
 -- ---- a command that leaves the map
-
-pub same_after : (shape : Shape) (most : ℕ) (m : Map) (c : Command) (k : Opcode) → op_of c.opcode ≡ Some k → effect m c (Some k) ≡ m → map_after shape most m c ≡ m
-unfolding map_after
-same_after shape most m c k is stays = elim (refused shape most m c) as (λ r. refused shape most m c ≡ r → map_after shape most m c ≡ m) [
-  | None ↦ λ e. (let left : map_after shape most m c ≡ effect m c (Some k) = rw (e, is) refl in left ∙ stays)
-  | Some s ↦ λ e. rw e refl
-] refl
 
 pub one_keeps : (old new : PortState) (c : Command) (k : Opcode) (cs : List Command) → op_of c.opcode ≡ Some k → ((m : Map) → effect m c (Some k) ≡ m) → AtMostOne c cs → Took old new cs → new.map ≡ old.map
 one_keeps old new c k cs is stays one t = by_map old.map (new.map ≡ old.map)
     (λ none. t.untold none ∙ sym none)
     (λ m told. elim (one_leaves old new c cs one t m told) as (λ x. new.map ≡ old.map) [
       | inl same ↦ same ∙ sym told
-      | inr after ↦ after ∙ ap (λ (n : Map). Some n) (same_after old.shape old.limit m c k is (stays m)) ∙ sym told
+      | inr after ↦ after ∙ ap (λ (n : Map). Some n) (map_after_same old.shape old.limit m c k is (stays m)) ∙ sym told
     ])
 
 -- ---- a refusal reports a failed read

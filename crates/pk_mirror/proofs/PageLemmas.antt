@@ -1,6 +1,6 @@
 -- Pages of keys that are visited, one after another.
 use Rattle.std.proofs.Common.{◌≡◌, inl, inr, ◌==◌, ℕ, ◌-◌, ◌<◌, ◌≤◌, if◌then◌else◌, nat_lt, List, [], ◌∷◌, ◌++◌, length, filter, slice_index_or, Bool, true, false, Option, Some, None, is_some, Result, Ok, Err, IfErr, refl, sym, ap, subst, ◌∙◌, arith, length-append}
-use Rattle.std.proofs.lemmas.Bool.{le-leb, ltb-true}
+use Rattle.std.proofs.lemmas.Bool.{ltb-true}
 use Rattle.std.specs.List.{AllByRecursion}
 use Rattle.std.specs.Ordering.{is_lt}
 use Rattle.std.specs.FinMap.{get, keys}
@@ -12,7 +12,7 @@ use Rattle.pk_host.specs.declared.types.HostError.TheVariants.{Refused as HostRe
 use Rattle.pk_host.specs.Port.{PortState, Took}
 use Rattle.pk_host.specs.Calls.{Gives, TookSome}
 use Rattle.pk_host.specs.Listing.{above, page_after, Pages, Follows, TellsKeys, listed_by}
-use Rattle.pk_host.proofs.PageLemmas.{next_page}
+use Rattle.pk_host.proofs.PageLemmas.{next_page, nothing_above}
 use Rattle.pk_host.proofs.RisingLemmas.{are_above, all_middle, snoc_of}
 use Rattle.pk_mirror.specs.Ranks.{IsText, keys_left}
 use Rattle.pk_mirror.specs.declared.error.MirrorError.{MirrorError}
@@ -58,10 +58,6 @@ parts (x ∷ xs) next some last =
 pub above_none : (k : Key) → IsKey k → is_lt (key_cmp [] k) ≡ true
 above_none [] h = absurd (let some = h.some in omega (arith, some))
 above_none (x ∷ k) h = refl
-
-pub none_follow : (xs : List Key) → false ≡ nat_lt 0 (length xs) → xs ≡ []
-none_follow [] e = refl
-none_follow (x ∷ xs) e = absurd (let clash : false ≡ true = e ∙ le-leb 1 (length (x ∷ xs)) (omega arith) in cc)
 
 -- a page that was given has a key
 pub page_some : (old new : PortState) (c : Command) (page : List Key) (more : Bool) → more ≡ true → Gives old new c (listed_by page) (Ok more) → 0 < length page
@@ -128,7 +124,7 @@ module _ (Keeps : Map → Map → Type 0) (Done : Map → Map → Key → Type 0
   turns_none more stop follows too a b ea eb keeps up =
       let (l, el, lacks) = listed a b ea eb keeps in
       let from : Key = key_or_none last in
-      let none : above from (keys l) ≡ [] = none_follow (above from (keys l)) (sym stop ∙ follows l el) in
+      let none : above from (keys l) ≡ [] = nothing_above (above from (keys l)) (sym stop ∙ follows l el) in
       let each = of_filter (λ k. is_lt (key_cmp from k)) (λ k. ⊥) (keys l) (subst (AllByRecursion (λ k. ⊥)) (sym none) tt) in (
         b,
         too ∙ eb,

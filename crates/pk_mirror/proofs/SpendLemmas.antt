@@ -14,8 +14,9 @@ use Rattle.pk_mirror.specs.Causes.{OnlyAsks, AreAsking}
 use Rattle.pk_mirror.specs.Agreement.{NoOther, AreAny, IsPart}
 use Rattle.pk_mirror.specs.Visits.{Visits, VisitsAll}
 use Rattle.pk_mirror.specs.Spending.{OnlyLooks, LooksOr, opcode_count, AreOfResync, Spent, Spending, Deleted, Deleting, Stored, Storing}
-use Rattle.pk_mirror.proofs.MapLemmas.{part_insert, len_of_part, some_len, some_same}
+use Rattle.pk_mirror.proofs.MapLemmas.{part_insert, len_of_part, some_len}
 use Rattle.pk_mirror.proofs.KeyLemmas.{found_some}
+use Rattle.pk_base.proofs.Logic.{some_same}
 
 -- ---- lists of commands
 

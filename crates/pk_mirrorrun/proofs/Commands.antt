@@ -18,10 +18,10 @@ use Rattle.pk_host.specs.TookLaws.{left_both}
 use Rattle.pk_port.specs.Chained.{installs_of, installs}
 use Rattle.pk_mirror.specs.Causes.{OnlyAsks, AreAsking}
 use Rattle.pk_mirror.specs.Spending.{OnlyLooks, LooksOr, opcode_count}
-use Rattle.pk_mirror.proofs.AskLemmas.{same_after}
 use Rattle.pk_mirrorwords.specs.PairTasks.{PairTask, put, get, delete, list, resync, change_of, after_change}
 use Rattle.pk_mirrorwords.specs.PairAnswers.{AreChange, AreOfFirst, AreOfPair, AreOfSecond}
 use Rattle.pk_mirrorrun.specs.PairTold.{map_left_by, most_pair_roots}
+use Rattle.pk_host.proofs.PageLemmas.{map_after_same}
 
 -- ---- maps
 
@@ -38,8 +38,8 @@ none_left shape most m [] = refl
 none_left shape most m (c ∷ cs) = inl (none_left shape most m cs)
 
 asks_keep : (shape : Shape) (most : ℕ) (m : Map) (c : Command) → OnlyAsks c → map_after shape most m c ≡ m
-asks_keep shape most m c (inl (from, e)) = same_after shape most m c ListKeys (ap (λ (d : Command). op_of d.opcode) e) refl
-asks_keep shape most m c (inr (key, size, e)) = same_after shape most m c Retrieve (ap (λ (d : Command). op_of d.opcode) e) refl
+asks_keep shape most m c (inl (from, e)) = map_after_same shape most m c ListKeys (ap (λ (d : Command). op_of d.opcode) e) refl
+asks_keep shape most m c (inr (key, size, e)) = map_after_same shape most m c Retrieve (ap (λ (d : Command). op_of d.opcode) e) refl
 
 asks_left : (shape : Shape) (most : ℕ) (m m' : Map) (asks change : List Command) → AreAsking asks → LeftBySome shape most m (asks ++ change) m' → LeftBySome shape most m change m'
 asks_left shape most m m' [] change are h = h

@@ -33,9 +33,7 @@ use Rattle.pk_mirrorwords.specs.PairTasks.{PairTask}
 use Rattle.pk_mirrorwords.specs.PairAnswers.{PairSaid, PairFault, AreOfFirst, AreOfSecond}
 use Rattle.pk_mirrorrun.specs.PairTold.{EitherUnread, map_left_by, text_by, Walk, BothWalked, end_by, KeptFirst, KeptSecond, PairAnswered, PairEnds, most_pair_roots, UsedRoots, PairTold}
 use Rattle.pk_mirrorrun.proofs.Commands.{kept_first, first_installs, second_installs}
-
-some_same : {X : Type 0} (x y : X) → ◌≡◌ {A = Option X} (Some x) (Some y) → x ≡ y
-some_same x y e = cc
+use Rattle.pk_base.proofs.Logic.{some_same}
 
 -- ---- one drive
 

@@ -16,7 +16,7 @@ use Rattle.pk_host.specs.declared.types.HostError.{HostError}
 use Rattle.pk_host.specs.Port.{PortState, Took}
 use Rattle.pk_host.specs.Calls.{Gives, TookSome, AtMostOne, list_of, retrieve_of}
 use Rattle.pk_host.specs.Listing.{above, Pages, Follows, listed_by}
-use Rattle.pk_host.proofs.PageLemmas.{next_page}
+use Rattle.pk_host.proofs.PageLemmas.{next_page, nothing_above, all_above_none}
 use Rattle.pk_words.specs.Lines.{key_line, key_lines}
 use Rattle.pk_words.proofs.LineLemmas.{one_more}
 use Rattle.pk_mirror.specs.Ranks.{IsText, keys_left}
@@ -29,7 +29,7 @@ use Rattle.pk_mirror.specs.Causes.{Decides, IsCause, IsReadError, AreAsking}
 use Rattle.pk_mirror.specs.Asks.{Asks, KeepsMaps, StaysUnlessPort}
 use Rattle.pk_mirror.proofs.PairLemmas.{rose_later}
 use Rattle.pk_mirror.proofs.VisitLemmas.{asking_none, asking_more}
-use Rattle.pk_mirror.proofs.PageLemmas.{parts, none_follow, page_some}
+use Rattle.pk_mirror.proofs.PageLemmas.{parts, page_some}
 use Rattle.pk_mirrorwords.specs.PairTasks.{list}
 use Rattle.pk_mirrorwords.specs.PairAnswers.{IsToldPair, IsInStep, PairUnread, PairFault, PairDone, PairFails}
 use Rattle.pk_mirrorwords.specs.PairPages.{keys_after, IsListed, ListGoesOn, PageFails}
@@ -88,18 +88,12 @@ asked_some old new p p' q q' c page more given w = elim w [
   | inr (inr f) ↦ page_some q q' c page more given (subst (λ (r : Result Bool HostError). Gives q q' c (listed_by page) r) (decides_ok Second f.answer more f.decides) f.gives)
 ]
 
--- all keys are above none
-all_above : (ks : List Key) → AllByRecursion IsKey ks → above [] ks ≡ ks
-all_above [] h = refl
-all_above ([] ∷ ks) h = absurd (let some = h.0.some in omega (arith, some))
-all_above ((x ∷ k) ∷ ks) h = ap (λ (l : List Key). (x ∷ k) ∷ l) (all_above ks h.1)
-
 names_known : (es : List (Key × List ℕ)) → AllByRecursion (λ e. IsKey e.0 × AreBytes e.0) es → AllByRecursion IsKey (map (λ e. e.0) es)
 names_known [] h = tt
 names_known (e ∷ es) h = (h.0.0, names_known es h.1)
 
 left_above : (shape : Shape) (last : Option Key) (m : Map) → IsMap shape m → keys_after last m ≡ above (key_or_none last) (keys m)
-left_above shape None m is = sym (all_above (keys m) (names_known (entries m) is.keys))
+left_above shape None m is = sym (all_above_none (keys m) (names_known (entries m) is.keys))
 left_above shape (Some key) m is = refl
 
 module _ (p : PortState) (last : Option Key) (text : List ℕ) (listed : IsListed p last text) (sized : (m : Map) → p.map ≡ Some m → IsMap p.shape m) where
@@ -143,7 +137,7 @@ module _ (p : PortState) (last : Option Key) (text : List ℕ) (listed : IsListe
   pub goes_none : (more : Bool) → more ≡ false → Follows p (key_or_none last) more → ListGoesOn p last None text text
   goes_none more stop follows m told =
       let (front, split, lines, most) = listed.lines m told in
-      let none : keys_after last m ≡ [] = left_above p.shape last m (sized m told) ∙ none_follow (above (key_or_none last) (keys m)) (sym stop ∙ follows m told) in
+      let none : keys_after last m ≡ [] = left_above p.shape last m (sized m told) ∙ nothing_above (above (key_or_none last) (keys m)) (sym stop ∙ follows m told) in
       lines ∙ ap key_lines (sym (split ∙ ap (λ (ks : List Key). front ++ ks) none ∙ append-nil front))
 
 -- before the first page

@@ -31,9 +31,6 @@ use Rattle.pk_mirror.proofs.MapLemmas.{value_fits}
 use Rattle.pk_mirrorwords.specs.PairTasks.{PairTask, status_by, answered_line, text_of, map_left}
 use Rattle.pk_mirrorwords.specs.PairAnswers.{PairDone, PairFails}
 
-some_same : {X : Type 0} (x y : X) → ◌≡◌ {A = Option X} (Some x) (Some y) → x ≡ y
-some_same x y e = cc
-
 refused_same : (s t : Side) (n k : ℕ) → Refused s n ≡ Refused t k → n ≡ k
 refused_same s t n k e = cc
 

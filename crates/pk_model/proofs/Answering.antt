@@ -11,6 +11,7 @@ use Rattle.pk_nvme.specs.Opcode.{op_of}
 use Rattle.pk_nvme.specs.declared.opcode.Opcode.{Opcode}
 use Rattle.pk_nvme.specs.declared.opcode.Opcode.TheVariants.{Store, List as ListKeys}
 use Rattle.pk_model.specs.Answer.{check, is_namespace, is_key_length, size_fault, fault_of, early, late_of, refused, reply, reply_of, map_after, effect}
+use Rattle.pk_base.proofs.Logic.{both_true}
 
 module _ (shape : Shape) (most frames : ℕ) (m : Map) (own : List ℕ) (c : Command) where
   -- it is refused
@@ -49,11 +50,6 @@ first_none (Some s) q h = cc
 check_none : (b : Bool) (s : ℕ) → check b s ≡ None → IsTrue b
 check_none true s h = refl
 check_none false s h = cc
-
-both_true : (a b : Bool) → a && b ≡ true → (a ≡ true) × (b ≡ true)
-both_true true true h = (refl, refl)
-both_true true false h = cc
-both_true false b h = cc
 
 -- the size of a command that passed has the bounds of its kind
 passed_size : (shape : Shape) (c : Command) (k : Opcode) → op_of c.opcode ≡ Some k → early shape c ≡ None → size_fault shape k c.size ≡ None

@@ -19,11 +19,12 @@ use Rattle.pk_segfmt.specs.Value.{value_pages}
 use Rattle.pk_segfmt.proofs.StoredLemmas.{charge_some}
 use Rattle.pk_model.specs.Values.{all_pages}
 use Rattle.pk_model.specs.Laws.{AnyByRecursion, IsPageOf}
-use Rattle.pk_model.proofs.MapLemmas.{key_total, left_part, right_part, missing}
+use Rattle.pk_model.proofs.MapLemmas.{key_total, missing}
 use Rattle.pk_model.proofs.Lookups.{same_key}
 use Rattle.pk_steps.specs.Under.{IsValuePage}
 use Rattle.pk_moves.specs.Moves.{moved}
 use Rattle.pk_moves.specs.Victims.{exchanged, AreMoved, LieInOthers, NoneLeft, OneIsSparse, FitOnePage, LeavesRoom}
+use Rattle.pk_base.proofs.Logic.{left_part, right_part}
 
 -- ---- keys that are found
 
@@ -89,7 +90,7 @@ found_in P key place (e ∷ es) all found =
       | false ↦ λ f. found_in P key place es all.1 f
     ] found
 
-found_page : (shape : Shape) (key : Key) (place : Place) (es : List (Key × Place)) (k : ℕ) → find key_cmp key es ≡ Some place → IsPageOf shape k place → IsValuePage shape es k
+pub found_page : (shape : Shape) (key : Key) (place : Place) (es : List (Key × Place)) (k : ℕ) → find key_cmp key es ≡ Some place → IsPageOf shape k place → IsValuePage shape es k
 found_page shape key place [] k found is = cc
 found_page shape key place (e ∷ es) k found is =
     elim (eq_by_cmp key_cmp key e.0) as (λ b. cond b (Some e.1) (find key_cmp key es) ≡ Some place → IsValuePage shape (e ∷ es) k) [

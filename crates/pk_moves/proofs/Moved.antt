@@ -12,12 +12,13 @@ use Rattle.pk_segfmt.specs.Value.{value_pages}
 use Rattle.pk_rootfmt.specs.Root.{differ}
 use Rattle.pk_model.specs.Values.{all_pages}
 use Rattle.pk_model.specs.Laws.{IsPageOf}
-use Rattle.pk_model.proofs.MapLemmas.{key_total, missing, below_less, left_part, right_part}
+use Rattle.pk_model.proofs.MapLemmas.{key_total, missing, below_less}
 use Rattle.pk_model.proofs.Commits.{apart, rest_differs}
 use Rattle.pk_model.proofs.Lookups.{same_key}
 use Rattle.pk_steps.specs.Under.{IsValuePage}
 use Rattle.pk_steps.proofs.Places.{differ_append, differ_range, value_in, in_value, range_in, in_range}
 use Rattle.pk_moves.specs.Moves.{moved, AreApart}
+use Rattle.pk_base.proofs.Logic.{left_part, right_part}
 
 -- a key that is there is put over itself
 pub put_same : {X : Type 0} (k : Key) (x : X) (es : List (Key × X)) → T (is_sorted key_cmp es) → find key_cmp k es ≡ Some x → put key_cmp k x es ≡ es

@@ -16,20 +16,21 @@ use Rattle.pk_rootfmt.specs.Root.{Root, named}
 use Rattle.pk_model.specs.Found.{Found, entries_in_order}
 use Rattle.pk_model.specs.Values.{placed, fits, values_of, all_pages}
 use Rattle.pk_model.specs.Reading.{map_under}
-use Rattle.pk_model.proofs.MapLemmas.{left_part, right_part}
 use Rattle.pk_model.proofs.StrangePages.{bind_ok}
-use Rattle.pk_model.proofs.Lookups.{firsts_sorted, Has, find-values, passed}
-use Rattle.pk_model.proofs.ValueSets.{values_sound, values_complete, Reads, fits_parts, parts_fit, is_true}
+use Rattle.pk_model.proofs.Lookups.{Has, find-values}
+use Rattle.pk_model.proofs.ValueSets.{values_sound, values_complete, Reads, fits_parts, parts_fit}
 use Rattle.pk_model.proofs.Stores.{placed-put, reads-put, entries_in_order-push}
 use Rattle.pk_model.proofs.Merges.{placed_sorted}
 use Rattle.pk_model.proofs.HeldMap.{nothing_fits}
-use Rattle.pk_steps.specs.Under.{IsNamed, counting, places}
+use Rattle.pk_steps.specs.Under.{counting, places}
 use Rattle.pk_steps.proofs.Untouched.{values_under, erases}
 use Rattle.pk_steps.proofs.Places.{In, in_value, value_in, not_of, any_in_back, all_of, few_blocks}
 use Rattle.pk_steps.proofs.Committing.{commits, commits_pair, commit_done}
 use Rattle.pk_moves.specs.Moves.{entries_of, moved, AreCopies, CanMove, MovesLeaveMap, PlacesMove, MovesCommit, MovesPair, MovesCommitted, Copies}
 use Rattle.pk_steps.proofs.Counting.{sorted_read}
 use Rattle.pk_moves.proofs.Moved.{put_same, page_moved, differ_moved, HaveLength, length_moved}
+use Rattle.pk_base.proofs.Logic.{is_true, left_part, right_part, passed}
+use Rattle.pk_base.proofs.KeyLemmas.{firsts_sorted}
 
 -- ---- a copy is read as the value
 

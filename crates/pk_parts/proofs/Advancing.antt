@@ -24,10 +24,11 @@ use Rattle.pk_gc.specs.Stepping.{runs_in}
 use Rattle.pk_parts.specs.Parts.{Parts, index_of, sight_of, is_half, is_reclaim_due}
 use Rattle.pk_parts.specs.Agreeing.{DriveOnFlashWith, DriveOnFlash, IsWhole}
 use Rattle.pk_parts.specs.Ticking.{MayTick, Advances, WantsReclaim, wants_reclaim}
-use Rattle.pk_parts.proofs.Halves.{whole_of, not_both}
+use Rattle.pk_parts.proofs.Halves.{whole_of}
 use Rattle.pk_parts.proofs.Unchanging.{own_whole}
 use Rattle.pk_parts.proofs.Staying.{stays_same, stays_frees, step_stays}
 use Rattle.pk_parts.proofs.Ticking.{ticks_nothing, ticks_failed, step_agrees, step_ticks, step_lowers, kept_drive, busy_spare, idle_fine, stopped_idle, stopped_worked, worked_idle}
+use Rattle.pk_base.proofs.Logic.{not_both}
 
 -- ---- answers
 

@@ -6,8 +6,6 @@ use Rattle.pk_base.specs.Shape.{Shape, buffer, epoch_commits}
 use Rattle.pk_base.proofs.ShapeLemmas.{block_pages_positive}
 use Rattle.pk_buf.specs.Table.{Table}
 use Rattle.pk_jrn.specs.Epochs.{left_of}
-use Rattle.pk_root.specs.declared.next.Next.{Next}
-use Rattle.pk_root.specs.declared.next.Next.TheVariants.{Erase, Program, Again}
 use Rattle.pk_log.specs.State.{LogState, needs_freeze}
 use Rattle.pk_log.specs.Logs.{LogOnFlash}
 use Rattle.pk_work.specs.Backlog.{is_tight}
@@ -17,7 +15,6 @@ use Rattle.pk_nand.specs.BoardState.{BoardState}
 use Rattle.pk_nand.specs.Calls.{IsReady}
 use Rattle.pk_model.specs.Wear.{roots}
 use Rattle.pk_model.proofs.Steps.{RootsUpTo-le, Step-broken}
-use Rattle.pk_compact.specs.FreezeSteps.{install_steps}
 use Rattle.pk_work.specs.Rest.{whole_freeze}
 use Rattle.pk_work.specs.Work.{emptying, repeating}
 use Rattle.pk_work.specs.Calls.{room_calls, room_roots, commit_calls}
@@ -37,7 +34,7 @@ use Rattle.pk_parts.proofs.Rooming.{stands_after}
 use Rattle.pk_parts.proofs.Staying.{stays_same, stays_then}
 use Rattle.pk_parts.proofs.Steps.{none_step, keeps_later, may_after, leaves_none, leaves_twice}
 use Rattle.pk_parts.proofs.Freezing.{no_need, left_some, frozen_is_room}
-use Rattle.pk_schedule.proofs.Backlogs.{index_backlog}
+use Rattle.pk_schedule.proofs.Backlogs.{index_backlog, installs_most}
 use Rattle.pk_parts.proofs.Callings.{few_none, few_within, few_then, spends_within, spends_then}
 use Rattle.pk_parts.proofs.ReadSteps.{Passes, passes_none, step_passes, reading_passes, reads_nothing, reading_failed, reading_then, reading_end}
 
@@ -210,14 +207,9 @@ ongoing_begin a s0 may none none_merges = record {
   stays = stays_same a a refl;
 }
 
-few_installs : (next : Next) → install_steps next ≤ 3
-few_installs (Erase beside) = omega arith
-few_installs (Program page) = omega arith
-few_installs (Again page) = omega arith
-
 -- it has few steps
 freeze_few : (d : Parts) → freeze_left_of d ≤ 7
-freeze_few d = let few = few_installs d.log.next in omega (arith, few)
+freeze_few d = let few = installs_most d.log.next in omega (arith, few)
 
 -- ended steps of it, whatever they answered
 ended_keeps : {T : Type 0} (x : T) (b c : Parts) (k : ℕ) (s1 s2 : BoardState) → StepKeeps b c k s1 s2 (Ok x) → StepKeeps {T = Unit {0}} b c k s1 s2 (Ok tt)

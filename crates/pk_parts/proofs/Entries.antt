@@ -1,26 +1,23 @@
 -- Entries that wait for a commit: what the drive represents after them.
-use Rattle.std.proofs.Common.{◌≡◌, inl, inr, ℕ, ◌+◌, ◌-◌, ◌*◌, ◌/◌, ◌<◌, ◌≤◌, refl, sym, ap, subst, ◌∙◌, arith, true, cond, T, List, [], ◌∷◌, ◌++◌, length, Option, Some, None, Ok, length-append, is_some}
-use Rattle.std.proofs.lemmas.List.FromFn.{length-range_with_len}
-use Rattle.std.proofs.Math.Nat.{mul-le-mul_right}
+use Rattle.std.proofs.Common.{◌≡◌, inl, inr, ℕ, ◌+◌, ◌-◌, ◌/◌, ◌<◌, ◌≤◌, refl, sym, ap, subst, ◌∙◌, arith, true, cond, T, List, [], ◌∷◌, ◌++◌, length, Option, Some, None, Ok, is_some}
 use Rattle.std.specs.Prelude.{MatchOption, slice_set}
 use Rattle.std.specs.Ordering as order
 use Rattle.std.specs.Cmp.{tied_itself}
 use Rattle.std.specs.FinMap.{insert, remove, entries, entries-insert}
 use Rattle.std.specs.FinMap.Entries.{put, find, is_sorted, find-put, length-put, length_without}
 use Rattle.pk_base.specs.Key.{Key, key_cmp}
-use Rattle.pk_base.specs.Shape.{Shape, IsShape, charge, greatest, buffer, limit, data_blocks, dense}
+use Rattle.pk_base.specs.Shape.{Shape, IsShape, charge, greatest, buffer, data_blocks}
 use Rattle.pk_base.specs.Page.{Flash, page_at}
 use Rattle.pk_base.specs.Entry.{Entry, Place}
 use Rattle.pk_base.specs.Firsts.{firsts}
 use Rattle.pk_base.specs.Map.{Map, live, pages_in}
-use Rattle.pk_segfmt.specs.Value.{value_pages, value_at}
+use Rattle.pk_segfmt.specs.Value.{value_at}
 use Rattle.pk_segfmt.proofs.StoredLemmas.{charge_some}
 use Rattle.pk_rootfmt.specs.Root.{Root, named}
 use Rattle.pk_model.specs.Found.{Found, entries_in_order}
 use Rattle.pk_model.specs.Values.{placed, fits, all_pages}
 use Rattle.pk_model.specs.Laws.{AnyByRecursion, IsPageOf}
 use Rattle.pk_model.proofs.MapLemmas.{key_total}
-use Rattle.pk_model.proofs.Lookups.{firsts_sorted}
 use Rattle.pk_model.proofs.ValueSets.{values_sound, fits_parts}
 use Rattle.pk_model.proofs.Stores.{placed-put, reads-put, entries_in_order-push}
 use Rattle.pk_model.proofs.Merges.{placed_sorted}
@@ -50,30 +47,15 @@ use Rattle.pk_schedule.proofs.Keeping.{index_pushed}
 use Rattle.pk_parts.proofs.Halves.{whole_like}
 use Rattle.pk_parts.proofs.Reclaiming.{reclaim_stored, reclaim_gone, zero_fewer, replaced_fewer}
 use Rattle.pk_parts.proofs.Writing.{named_owner, journal_or_values, meta_or_values}
+use Rattle.pk_base.proofs.KeyLemmas.{firsts_sorted}
+use Rattle.pk_steps.proofs.Outputs.{values_most}
+use Rattle.pk_scan.proofs.ValuesHeld.{limit_few}
 
 -- ---- numbers
-
-few_keys : (shape : Shape) → IsShape shape → (es : List (Key × Place)) → length es ≤ length (all_pages shape es)
-few_keys shape is [] = omega arith
-few_keys shape is (e ∷ es) =
-    let rest = few_keys shape is es in
-    let some = charge_some shape is e.1.len in
-    let both = length-append (value_pages shape e.1) (all_pages shape es) in
-    let own = length-range_with_len e.1.page (charge shape e.1.len) in
-    omega (arith, rest, some, both, own)
 
 few_blocks : (shape : Shape) → IsShape shape → data_blocks shape ≤ 4096
 unfolding data_blocks
 few_blocks shape is = let most = is.blocks_most in omega (arith, most)
-
-limit_few : (shape : Shape) → IsShape shape → limit shape ≤ 1048576
-unfolding limit
-limit_few shape is =
-    let few = few_blocks shape is in
-    let pages = is.block_most in
-    let part : dense shape ≤ 256 = omega (arith, pages) in
-    let product : (data_blocks shape - 1) * dense shape ≤ 4096 * dense shape = mul-le-mul_right (dense shape) (omega (arith, few)) in
-    omega (arith, product, part)
 
 -- ---- the places before
 
@@ -93,7 +75,7 @@ module _ (d : Parts) (shape : Shape) (flash : Flash) (top : ℕ × Root) (found 
   keys_small =
       let parts = fits_parts shape (named top.1) (all_pages shape (places found d.log.pending)) (subst T (sym fit) tt) in
       let few = parts.few in
-      let keys = few_keys shape shape_is (places found d.log.pending) in
+      let keys = values_most shape shape_is (places found d.log.pending) in
       let most = limit_few shape shape_is in
       omega (arith, few, keys, most, with.keys_are)
 

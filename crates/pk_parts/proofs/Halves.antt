@@ -19,6 +19,7 @@ use Rattle.pk_schedule.specs.Index.{Index, IsSettled, HalfStands}
 use Rattle.pk_parts.specs.Parts.{Parts, index_of, settled_parts, commits_in, is_half}
 use Rattle.pk_parts.specs.Agreeing.{DriveOnFlashWith, IsWhole, IsHalfRoot, IsHalfCommit, IsHalfAtMost}
 use Rattle.pk_parts.specs.Moves.{StandsFor, StandsBetween, MayStep, MayCommit}
+use Rattle.pk_base.proofs.Logic.{not_both}
 
 true_false : true ≡ false → ⊥
 true_false e = cc
@@ -70,9 +71,6 @@ commit_half d half whole = or_then (repeats_next d.log.next) (commits_in d.recla
 
 pub is_whole : (d : Parts) → IsWhole d → is_half d ≡ false
 is_whole d whole = ap (λ (a : Bool). a || commits_in d.reclaim.phase) whole.settles.whole ∙ whole.moves
-
-pub not_both : (b : Bool) → b ≡ true → b ≡ false → ⊥
-not_both b is none = true_false (sym is ∙ none)
 
 module _ (d : Parts) (flash : Flash) (top : ℕ × Root) (found : Found) (m : Map) where
   root_repeats : IsHalfRoot d flash m → repeats_next d.log.next ≡ true

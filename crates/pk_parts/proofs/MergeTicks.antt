@@ -18,7 +18,6 @@ use Rattle.pk_parts.specs.Emptying.{MayEmpty, MergesOnce, FreezesOnce}
 use Rattle.pk_parts.specs.Reclaiming.{FailsAll}
 use Rattle.pk_parts.specs.Merging.{DoesMerge, FailsMerge, Merges, CannotMerge, FreezesOn}
 use Rattle.pk_parts.specs.Ticking.{MayTick, Advances, WantsFreeze}
-use Rattle.pk_parts.proofs.Halves.{not_both}
 use Rattle.pk_parts.proofs.Indexing.{with_index}
 use Rattle.pk_parts.proofs.Unchanging.{agrees_ready}
 use Rattle.pk_parts.proofs.Staying.{stays_frees}
@@ -29,6 +28,7 @@ use Rattle.pk_parts.proofs.Ticking.{busy_wanted}
 use Rattle.pk_pool.specs.Blocks.{IsShared}
 use Rattle.pk_nand.specs.Calls.{IsReady}
 use Rattle.pk_parts.proofs.TickSteps.{its_whole, whole_holds, whole_fails, read_grows, made_advances, unread_advances, stop_advances}
+use Rattle.pk_base.proofs.Logic.{not_both}
 
 -- ---- made by a Tick or by a command
 

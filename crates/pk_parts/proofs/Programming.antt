@@ -20,8 +20,9 @@ use Rattle.pk_call.specs.Moving.{commits_for}
 use Rattle.pk_parts.specs.Parts.{Parts, sight_of}
 use Rattle.pk_parts.specs.Moves.{StandsFor}
 use Rattle.pk_parts.specs.Placing.{PlacesValue}
-use Rattle.pk_parts.proofs.Rooming.{entries_some}
 use Rattle.pk_parts.specs.Programming.{Programs}
+use Rattle.pk_base.proofs.Logic.{not_both}
+use Rattle.pk_base.proofs.ShapeLemmas.{entries_some}
 
 -- ---- counts
 
@@ -46,10 +47,6 @@ written_programs shape key page value (suc k) board =
     let rest = written_programs shape key page value k board in
     record { programs = ap counted rest.programs; erases = rest.erases }
 
-no_yes : (b : Bool) → b ≡ true → b ≡ false → ⊥
-no_yes true e f = cc
-no_yes false e f = cc
-
 pub place_programs : (shape : Shape) (key : Key) (value : List ℕ) (d : DataState) (p : Blocks) (old : BoardState) (page : ℕ) (d' : DataState) (q : Blocks) (new : BoardState) → PlacesValue shape key value d p old page d' q new
     → fits_open shape d (charge shape (length value)) ≡ true → Programs (charge shape (length value)) old new
 place_programs shape key value d p old page d' q new is room = elim is.reserved.taken [
@@ -57,7 +54,7 @@ place_programs shape key value d p old page d' q new is room = elim is.reserved.
       let T : BoardState → Type 0 = λ b. Programs (charge shape (length value)) b new in
       let U : BoardState → Type 0 = λ b. Programs (charge shape (length value)) is.between b in
       subst T next.same_board (subst U (sym is.writes) (written_programs shape key page value (charge shape (length value)) is.between)))
-  | inr opens ↦ absurd (no_yes (fits_open shape d (charge shape (length value))) room opens.no_room)
+  | inr opens ↦ absurd (not_both (fits_open shape d (charge shape (length value))) room opens.no_room)
 ]
 
 -- ---- the steps of a Store and of a Delete
@@ -77,7 +74,7 @@ pub pushed_more : (log log' : LogState) (e : Entry) → log' ≡ pushed log e �
 pushed_more log log' e is = ap (λ (l : LogState). length l.pending) is ∙ length-append log.pending (e ∷ [])
 
 pub not_wanted_ok : {X E : Type 0} (A : Type 0) (r : Result X E) (b : Bool) → b ≡ true → OnOk r (b ≡ false → A)
-not_wanted_ok A (Ok x) b wanted = λ e. absurd (no_yes b wanted e)
+not_wanted_ok A (Ok x) b wanted = λ e. absurd (not_both b wanted e)
 not_wanted_ok A (Err e) b wanted = tt
 
 commits_one : (n m : ℕ) → n ≡ m → ◌≡◌ {A = ℕ} (if n == m then commit_programs else 0) commit_programs

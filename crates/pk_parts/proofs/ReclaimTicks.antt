@@ -30,10 +30,10 @@ use Rattle.pk_parts.proofs.SpaceSteps.{leaves_stay, unread_stays}
 use Rattle.pk_parts.proofs.Stored.{blocks_between, blocks_at}
 use Rattle.pk_parts.proofs.Ticking.{busy_reclaim}
 use Rattle.pk_parts.proofs.ReclaimWork.{worked_less, ended_less}
-use Rattle.pk_parts.proofs.Halves.{not_both}
 use Rattle.pk_parts.proofs.TickSteps.{its_whole, whole_fails, made_advances, unread_advances, stop_advances}
 use Rattle.pk_model.specs.Sight.{IsIdle}
 use Rattle.pk_pool.specs.Blocks.{IsShared}
+use Rattle.pk_base.proofs.Logic.{not_both}
 
 true_false : true ≡ false → ⊥
 true_false e = cc

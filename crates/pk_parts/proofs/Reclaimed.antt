@@ -1,7 +1,7 @@
 -- A step of a reclaim, stated for the drive.
 use Rattle.std.proofs.Common.{◌≡◌, inl, inr, ℕ, ◌/◌, [], List, length, refl, sym, ◌∙◌, ap, subst, true, false, Some, Result, Ok, Err}
-use Rattle.std.specs.Prelude.{slice_get, IfOk, IfErr, ◌++◌, ◌∷◌}
-use Rattle.std.specs.List.{concat, AllByRecursion}
+use Rattle.std.specs.Prelude.{slice_get, IfOk, IfErr, ◌++◌}
+use Rattle.std.specs.List.{concat}
 use Rattle.pk_base.specs.Shape.{Shape}
 use Rattle.pk_base.specs.Page.{Flash, IsFlash}
 use Rattle.pk_base.specs.Entry.{Entry}
@@ -34,7 +34,7 @@ use Rattle.pk_compact.specs.FreezeSteps.{IsTaken, taken_by}
 use Rattle.pk_log.specs.State.{LogState}
 use Rattle.pk_log.specs.Logs.{LogOnFlash}
 use Rattle.pk_schedule.specs.Index.{Index, IndexOnFlash, IsSettled}
-use Rattle.pk_schedule.proofs.Keeping.{KeepsTaken, index_then}
+use Rattle.pk_schedule.proofs.Keeping.{KeepsTaken, index_then, member_all}
 use Rattle.pk_reclaim.specs.Space as spaces
 use Rattle.pk_reclaim.specs.Space.{Space, SpaceOnFlash, HalfIn}
 use Rattle.pk_reclaim.specs.Steps as steps
@@ -86,12 +86,6 @@ may_for d board shape m may s = record { stands = space_stands d shape board.pag
 
 -- ---- the index after a step
 
--- what holds of each of a list
-of_each : (P : ℕ → Type 0) (xs : List ℕ) (x : ℕ) → AllByRecursion P xs → AnyByRecursion (λ c. x ≡ c) xs → P x
-of_each P [] x all is = absurd is
-of_each P (y ∷ ys) x all (inl e) = subst P (sym e) all.0
-of_each P (y ∷ ys) x all (inr is) = of_each P ys x all.1 is
-
 module _ (x : Index) (frames : ℕ) (old new : Flash) (top : ℕ × Root) (found : Found) (stands : IndexOnFlash x frames old top found) (pool' : Blocks) (others : KeepsOthers x.log.shape top.1 x.pool old pool' new) where
   at_shape : (b k : ℕ) → k / x.pool.shape.block_pages ≡ b → k / x.log.shape.block_pages ≡ b
   at_shape b k here = ap (λ (s : Shape). k / s.block_pages) (sym stands.pool_shape) ∙ here
@@ -111,7 +105,7 @@ module _ (x : Index) (frames : ℕ) (old new : Flash) (top : ℕ × Root) (found
     owned = others.journal;
     used = others.journal_used;
     same = λ b k is here.
-        let t = of_each (IsTaken x.log.shape x.pool old top.1) (taken_by x.schedule.freeze) b stands.freeze.taken is in
+        let t = member_all (IsTaken x.log.shape x.pool old top.1) (taken_by x.schedule.freeze) b stands.freeze.taken is in
         let at : k / x.log.shape.block_pages ≡ b = at_shape b k here in
         others.journal_pages k (subst (λ (n : ℕ). slice_get x.pool.states n ≡ Some (Owned Journal)) (sym at) t.owned)
         (λ newest. t.unnamed (any_front (λ c. b ≡ c) (top.1.newest ++ top.1.older) (concat top.1.runs)

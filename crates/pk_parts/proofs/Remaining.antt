@@ -25,6 +25,7 @@ use Rattle.pk_parts.specs.Parts.{Parts, index_of, sight_of, backlog_of, is_recla
 use Rattle.pk_parts.specs.Ticking.{WantsFreeze}
 use Rattle.pk_parts.proofs.Ticking.{no_merge_is, due_so}
 use Rattle.pk_parts.proofs.Indexing.{with_index}
+use Rattle.pk_base.proofs.ZeroLemmas.{some_is_not_zero}
 
 false_true : false ≡ true → ⊥
 false_true e = cc
@@ -222,9 +223,6 @@ pub freeze_wanted : (d : Parts) → WantsFreeze d → freeze_rest_of d.schedule.
 freeze_wanted d (inl some) none = absurd (some_none (freeze_left d.schedule.freeze d.log.next) (sym (freeze_some_left d.schedule.freeze d.log.next some) ∙ none))
 freeze_wanted d (inr (runs, may)) none = may
 
-not_zero : (n : ℕ) → 0 < n → (n == 0) ≡ false
-not_zero n some = grind (arith, nat_tests)
-
 -- by what a step of a freeze did
 pub freeze_less : (d : Parts) (x' : Index) → has_no_merge (index_of d) ≡ true → repeats_next d.log.next ≡ false → (freeze_rest_of d.schedule.freeze d.log.next ≡ None → may_freeze d ≡ true) → FreezeMoves (index_of d) x' ⊎ Freezes (index_of d) x'
     → used_by for_values x'.pool.states ≡ used_by for_values d.pool.states → x'.log.shape ≡ d.log.shape → IsShape d.log.shape → x'.log.epoch.shape ≡ x'.log.shape → (sight_of (with_index d x')).work < (sight_of d).work
@@ -232,5 +230,5 @@ freeze_less d x' merged was_whole wanted f many shape is epoch =
     subst (λ (s : Shape). work s (backlog_of (with_index d x')) < work d.log.shape (backlog_of d)) (sym shape) (by f)
   where
     by : FreezeMoves (index_of d) x' ⊎ Freezes (index_of d) x' → work d.log.shape (backlog_of (with_index d x')) < work d.log.shape (backlog_of d)
-    by (inl goes) = freeze_goes d x' merged was_whole wanted many shape goes (not_zero (length (taken_by x'.schedule.freeze)) goes.some)
+    by (inl goes) = freeze_goes d x' merged was_whole wanted many shape goes (some_is_not_zero (length (taken_by x'.schedule.freeze)) goes.some)
     by (inr over) = freeze_over d x' merged was_whole wanted many shape is epoch over

@@ -36,8 +36,9 @@ use Rattle.pk_parts.proofs.Halves.{not_made}
 use Rattle.pk_parts.proofs.Callings.{few_none, few_one, few_program, few_within, few_then, spends_still, spends_within}
 use Rattle.pk_parts.proofs.Inside.{one_call}
 use Rattle.pk_parts.proofs.SameMaps.{same_held, same_finished, breaks_finished, same_unread, breaks_failed, moves_kept, moves_later, moves_within, moves_none, may_moved, passes_moved, stays_none, stays_both}
-use Rattle.pk_parts.proofs.Whole.{none_then, only_then, halts_then}
+use Rattle.pk_parts.proofs.Whole.{none_then, halts_then}
 use Rattle.pk_parts.proofs.Spacing.{left_at, roots_at, AwaitsAt, works_less, works_roots, ends_less, ends_roots}
+use Rattle.pk_nand.proofs.Effects.{only_then}
 
 true_false : true ≡ false → ⊥
 true_false e = cc

@@ -26,6 +26,7 @@ use Rattle.pk_parts.specs.Parts.{Parts, outputs_of, block_if_open}
 use Rattle.pk_parts.specs.Moves.{StandsFor}
 use Rattle.pk_parts.specs.Placing.{PlacesValue}
 use Rattle.pk_parts.specs.Staying.{StaysFresh, SameUse, Stays, StaysOrOpens, StaysOrFrees}
+use Rattle.pk_base.proofs.Logic.{some_same}
 
 -- ---- no step
 
@@ -129,9 +130,6 @@ erase_stays d q old new (inl one) =
 erase_stays d q old new (inr none) = stays_same d (record d { pool = q }) (ap (λ (p : Blocks). record d { pool = p }) none.kept)
 
 -- ---- a value is placed
-
-some_same : (x y : ℕ) → ◌≡◌ {A = Option ℕ} (Some x) (Some y) → x ≡ y
-some_same x y e = cc
 
 written_block : (space : DataState) (count : ℕ) → block_if_open (with_written space count).open_block ≡ block_if_open space.open_block
 written_block space count = by space.open_block

@@ -18,11 +18,11 @@ use Rattle.pk_nand.proofs.Reaching.{Reached-start}
 use Rattle.pk_nand.proofs.Touching.{untouched_after}
 use Rattle.pk_pool.specs.declared.state.BlockState.{BlockState}
 use Rattle.pk_pool.specs.declared.state.BlockState.TheVariants.{Root as RootBlock, Free, Ready, Owned, Leaving}
-use Rattle.pk_pool.specs.Blocks.{Blocks, PoolOnFlash, IsShared, IsOwned, IsNowhere, NoneLeaves, is_root, is_free, is_ready, is_owned_by, used_by, with_state, freed, freed_state}
+use Rattle.pk_pool.specs.Blocks.{Blocks, PoolOnFlash, IsShared, IsOwned, IsNowhere, NoneLeaves, is_free, is_ready, is_owned_by, used_by, with_state, freed, freed_state}
 use Rattle.pk_pool.specs.Unready.{unready}
 use Rattle.pk_pool.specs.Taking.{ErasesOne, ErasesNone}
 use Rattle.pk_pool.proofs.States.{free_is_not_root}
-use Rattle.pk_pool.proofs.Sharing.{count-set, behind_roots}
+use Rattle.pk_pool.proofs.Sharing.{count-set, behind_roots, all_counted, none_free}
 use Rattle.pk_pool.proofs.Leaving.{shared_freed, state_after}
 use Rattle.pk_schedule.proofs.Settled.{none_leaves_set}
 use Rattle.pk_run.specs.Kept.{Kept as KeptRun, empty}
@@ -45,7 +45,7 @@ use Rattle.pk_data.specs.Placed.{HoldsValues, ValuesOnFlash, IsOpenIn}
 use Rattle.pk_live.specs.declared.open_block.OpenBlock.{OpenBlock}
 use Rattle.pk_data.proofs.Unchanged.{block_elsewhere}
 use Rattle.pk_model.specs.Growth.{Grows, Reaches, Goes}
-use Rattle.pk_model.specs.Wear.{number_of, root_number, roots}
+use Rattle.pk_model.specs.Wear.{roots}
 use Rattle.pk_call.specs.Drive.{HoldsMap}
 use Rattle.pk_nand.specs.Effects.{AtMostOneCall}
 use Rattle.pk_call.specs.Seen.{stopped_by}
@@ -61,9 +61,10 @@ use Rattle.pk_parts.specs.Ticking.{Ticks, HasNoStep, WantsReclaim, WantsFreeze}
 use Rattle.pk_parts.proofs.Reclaiming.{reclaim_elsewhere, holds_none}
 use Rattle.pk_parts.proofs.Unread.{KeepsOwners, SameRead, same_top, still_without, still_all, agrees_elsewhere}
 use Rattle.pk_parts.proofs.Stills.{IsStill, SameStill, StillCut, read_still, still_end, went_end, still_erase, still_erase_failed}
-use Rattle.pk_parts.proofs.Writing.{IsIndexed, spare_still, beside_still}
-use Rattle.pk_parts.proofs.Halves.{with_settled, whole_of, whole_like, is_whole, not_both, counted_of, pool_same}
+use Rattle.pk_parts.proofs.Writing.{IsIndexed, spare_still, beside_still, same_roots}
+use Rattle.pk_parts.proofs.Halves.{with_settled, whole_of, whole_like, is_whole, counted_of, pool_same}
 use Rattle.pk_parts.proofs.Unchanging.{own, own_whole, for_its_map}
+use Rattle.pk_base.proofs.Logic.{not_both, both_true}
 
 pub yes_no : (b : Bool) → b ≡ false → b ≡ true → ⊥
 yes_no true e f = cc
@@ -135,11 +136,6 @@ pub worked_idle : Worked ≡ Idle → ⊥
 worked_idle e = cc
 
 -- ---- a spare block is erased
-
-same_roots : (shape : Shape) (old new : BoardState) → old.shape ≡ Some shape → new.shape ≡ Some shape → newest_root shape (page_at new.pages) ≡ newest_root shape (page_at old.pages) → roots new ≡ roots old
-unfolding root_number
-same_roots shape old new has has_new same =
-    ap (λ s. root_number (shape_or_none s) new.pages) has_new ∙ ap number_of same ∙ ap (λ s. root_number (shape_or_none s) old.pages) (sym has)
 
 free_or_values : (p : Blocks) (b : ℕ) → slice_get p.states b ≡ Some Free → HoldsValues p b → ⊥
 free_or_values p b free held = cc
@@ -305,27 +301,6 @@ module _ (d : Parts) (old new : BoardState) (a : DriveOnFlash d old.shape old.pa
 
 -- ---- counts of blocks
 
-all_counted : (states : List BlockState)
-    → count_by is_root states + count_by is_free states + count_by is_ready states + used_by Journal states + used_by Meta states + used_by Values states ≡ length states
-all_counted [] = refl
-all_counted (RootBlock ∷ ss) = omega (arith, all_counted ss, sum_by-cons {X = BlockState})
-all_counted (Free ∷ ss) = omega (arith, all_counted ss, sum_by-cons {X = BlockState})
-all_counted (Ready ∷ ss) = omega (arith, all_counted ss, sum_by-cons {X = BlockState})
-all_counted (Owned Journal ∷ ss) = omega (arith, all_counted ss, sum_by-cons {X = BlockState})
-all_counted (Owned Meta ∷ ss) = omega (arith, all_counted ss, sum_by-cons {X = BlockState})
-all_counted (Owned Values ∷ ss) = omega (arith, all_counted ss, sum_by-cons {X = BlockState})
-all_counted (Leaving Journal ∷ ss) = omega (arith, all_counted ss, sum_by-cons {X = BlockState})
-all_counted (Leaving Meta ∷ ss) = omega (arith, all_counted ss, sum_by-cons {X = BlockState})
-all_counted (Leaving Values ∷ ss) = omega (arith, all_counted ss, sum_by-cons {X = BlockState})
-
-none_free : (states : List BlockState) → IsNowhere Free states → count_by is_free states ≡ 0
-none_free [] h = refl
-none_free (Free ∷ ss) h = absurd (h 0 refl)
-none_free (RootBlock ∷ ss) h = omega (arith, none_free ss (λ k. h (suc k)), sum_by-cons {X = BlockState})
-none_free (Ready ∷ ss) h = omega (arith, none_free ss (λ k. h (suc k)), sum_by-cons {X = BlockState})
-none_free (Owned o ∷ ss) h = omega (arith, none_free ss (λ k. h (suc k)), sum_by-cons {X = BlockState})
-none_free (Leaving o ∷ ss) h = omega (arith, none_free ss (λ k. h (suc k)), sum_by-cons {X = BlockState})
-
 -- a block that leaves is not erased
 pub ready_freed : (states : List BlockState) → count_by is_ready (map freed_state states) ≡ count_by is_ready states
 ready_freed [] = refl
@@ -377,11 +352,6 @@ room_is shape pool flash (Some o) is =
     ap (λ k. nat_le (most_pages shape) k) (count_free flash (o.block * n) n o.used is.within is.written is.unwritten) ∙ le_same (most_pages shape) n o.used is.within
 
 -- ---- when nothing remains to be done
-
-both_true : (a b : Bool) → a && b ≡ true → (a ≡ true) × (b ≡ true)
-both_true true true e = (refl, refl)
-both_true true false e = cc
-both_true false b e = cc
 
 between_merges : (p : Phase) → is_between p ≡ true → merging p ≡ 0
 between_merges NoMerge e = refl

@@ -18,6 +18,7 @@ use Rattle.pk_parts.specs.Agreeing.{DriveOnFlashWith, DriveOnFlash, IsWhole}
 use Rattle.pk_parts.specs.Finding.{IsPlaceIn}
 use Rattle.pk_parts.specs.Quiet.{ReadsOnly, ReadsFailing, Looks}
 use Rattle.pk_parts.proofs.Halves.{with_whole}
+use Rattle.pk_base.proofs.Logic.{some_same}
 
 -- ---- the board
 
@@ -69,9 +70,6 @@ reads_break old mid new most k n at before less failed =
 
 -- ---- the map of a drive
 
-same_some : (a b : Shape) → ◌≡◌ {A = Option Shape} (Some a) (Some b) → a ≡ b
-same_some a b e = cc
-
 pub same_ok : {E : Type 0} (x y : Map) → ◌≡◌ {A = Result Map E} (Ok x) (Ok y) → x ≡ y
 same_ok x y e = cc
 
@@ -87,7 +85,7 @@ module _ (d : Parts) (board : BoardState) (a : DriveOnFlash d board.shape board.
   -- what holds of its one map holds of every map that it represents
   pub for_its_map : (P : Shape → ℕ → Map → Type 0) → P d.log.shape (frames_of d) a.all → (shape : Shape) (frames : ℕ) (m : Map) → HoldsMap shape frames board (sight_of d) m → P shape frames m
   for_its_map P here shape frames m st =
-      let same_shape : d.log.shape ≡ shape = a.with.shape_is ∙ same_some a.shape shape (sym a.told_is ∙ st.shape_is) in
+      let same_shape : d.log.shape ≡ shape = a.with.shape_is ∙ some_same a.shape shape (sym a.told_is ∙ st.shape_is) in
       let read = under_reads d.log.shape board.pages d.log.pending a.top a.found a.all own.pending in
       let Q : Shape → Type 0 = λ s. P s frames m in
       let R : ℕ → Type 0 = λ f. P d.log.shape f m in

@@ -1,5 +1,5 @@
 -- A value that was written into a block for values: what the drive represents, at every cut and afterwards.
-use Rattle.std.proofs.Common.{◌≡◌, ◌⊎◌, inl, inr, ℕ, zero, suc, ◌+◌, ◌*◌, ◌/◌, ◌%◌, ◌<◌, ◌≤◌, refl, sym, ap, subst, ◌∙◌, arith, true, false, List, [], ◌∷◌, ◌++◌, length, Option, Some, None, Result, Ok, Err, slice_get, div-lt_iff_lt-mul}
+use Rattle.std.proofs.Common.{◌≡◌, ◌⊎◌, inl, inr, ℕ, zero, suc, ◌+◌, ◌*◌, ◌/◌, ◌%◌, ◌<◌, ◌≤◌, refl, sym, ap, subst, ◌∙◌, arith, true, false, List, [], ◌++◌, length, Option, Some, None, Result, Ok, Err, slice_get, div-lt_iff_lt-mul}
 use Rattle.std.specs.List.{concat}
 use Rattle.std.proofs.lemmas.Bool.{cases_eq, le-leb}
 use Rattle.std.proofs.lemmas.Nat.{div-add-mod'}
@@ -54,7 +54,7 @@ use Rattle.pk_schedule.proofs.Settled.{none_leaves_set}
 use Rattle.pk_parts.proofs.Halves.{whole_like}
 use Rattle.pk_parts.proofs.Standing.{found_once}
 use Rattle.pk_parts.proofs.Reclaiming.{SameButOpen, runs_or_rests, reclaim_rests, reclaim_elsewhere, not_of_open}
-use Rattle.pk_schedule.proofs.Keeping.{IsBeside}
+use Rattle.pk_schedule.proofs.Keeping.{IsBeside, any_split}
 use Rattle.pk_parts.proofs.Unread.{IsReadBy, SameRead, KeepsOwners, same_top, still_without, agrees_elsewhere}
 use Rattle.pk_parts.proofs.Stills.{IsStill, SameStill, StillCut, still_then, still_goes, still_end, went_end, still_none, still_erase, still_erase_failed, still_written, still_write_failed, works_written, stops_written}
 
@@ -83,11 +83,6 @@ journal_or_values p b is held = cc
 
 pub meta_or_values : (p : Blocks) (b : ℕ) → slice_get p.states b ≡ Some (Owned Meta) → HoldsValues p b → ⊥
 meta_or_values p b is held = cc
-
-any_split : (P : ℕ → Type 0) (xs ys : List ℕ) → AnyByRecursion P (xs ++ ys) → AnyByRecursion P xs ⊎ AnyByRecursion P ys
-any_split P [] ys is = inr is
-any_split P (x ∷ xs) ys (inl is) = inl (inl is)
-any_split P (x ∷ xs) ys (inr is) = elim (any_split P xs ys is) [ inl front ↦ inl (inr front) | inr back ↦ inr back ]
 
 -- a root block is not free
 behind_roots : (shape : Shape) (states : List BlockState) (b : ℕ) → IsShared shape states → slice_get states b ≡ Some Free → 2 ≤ b
@@ -423,7 +418,7 @@ module _ (d : Parts) (key : Key) (value : List ℕ) (old new : BoardState) (shar
 -- ---- the roots
 
 -- a board on which the newest root is the same
-same_roots : (shape : Shape) (old new : BoardState) → old.shape ≡ Some shape → new.shape ≡ Some shape → newest_root shape (page_at new.pages) ≡ newest_root shape (page_at old.pages) → roots new ≡ roots old
+pub same_roots : (shape : Shape) (old new : BoardState) → old.shape ≡ Some shape → new.shape ≡ Some shape → newest_root shape (page_at new.pages) ≡ newest_root shape (page_at old.pages) → roots new ≡ roots old
 unfolding root_number
 same_roots has_shape old new has has_new same =
     ap (λ s. root_number (shape_or_none s) new.pages) has_new ∙ ap number_of same ∙ ap (λ s. root_number (shape_or_none s) old.pages) (sym has)

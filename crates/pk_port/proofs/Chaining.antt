@@ -1,25 +1,25 @@
 -- A chain of commands through a port, folded into one run.
-use Rattle.std.proofs.Common.{◌≡◌, inl, inr, ℕ, ◌+◌, ◌≤◌, ◌⊎◌, if◌then◌else◌, List, [], ◌∷◌, ◌++◌, Option, Some, true, false, refl, sym, ap, subst, ◌∙◌, arith, append-nil, append_assoc}
+use Rattle.std.proofs.Common.{◌≡◌, inl, inr, ℕ, ◌+◌, ◌≤◌, ◌⊎◌, if◌then◌else◌, List, [], ◌∷◌, ◌++◌, Some, true, false, refl, sym, ap, subst, ◌∙◌, arith, append-nil, append_assoc}
 use Rattle.pk_base.specs.Shape.{Shape}
 use Rattle.pk_base.specs.Map.{Map}
 use Rattle.pk_nvme.specs.Command.{Command}
-use Rattle.pk_nand.specs.BoardState.{BoardState}
 use Rattle.pk_nand.specs.Calls.{Rose}
 use Rattle.pk_nand.specs.Effects.{OnlyFlash}
 use Rattle.pk_model.specs.Growth.{Goes}
 use Rattle.pk_model.specs.Kept.{rise}
 use Rattle.pk_model.specs.Reading.{Holds}
 use Rattle.pk_model.specs.Run.{Exchange}
-use Rattle.pk_model.specs.Wear.{roots, is_worn}
+use Rattle.pk_model.specs.Wear.{roots}
 use Rattle.pk_model.proofs.Growing.{weaken_went, Goes-reaches}
 use Rattle.pk_call.specs.Calling.{only_looks}
 use Rattle.pk_call.specs.Exec.{most_installs}
 use Rattle.pk_port.specs.Asking.{KeptSilently, Asked}
-use Rattle.pk_port.specs.Steps.{Mounted, Standing, Runs, Serves, Stops, HasCause, Fails, Stepped, Chain}
-use Rattle.pk_port.specs.Chained.{installs_of, installs, AllServed, WhyHalted, HaltedAt, Chained}
+use Rattle.pk_port.specs.Steps.{Mounted, Standing, Runs, Serves, Stops, HasCause, Chain}
+use Rattle.pk_port.specs.Chained.{installs_of, installs, AllServed, HaltedAt, Chained}
 use Rattle.pk_port.specs.declared.halt.Halt.{Halt}
 use Rattle.pk_port.specs.declared.halt.Halt.TheVariants.{Stopped, Worn}
-use Rattle.pk_port.proofs.Growing.{silent-more, asked-none, asked-next, asked-stops, flash-then}
+use Rattle.pk_port.proofs.Growing.{silent-more, asked-none, asked-next, asked-stops}
+use Rattle.pk_nand.proofs.Effects.{only_then}
 
 -- ---- roots
 
@@ -127,7 +127,7 @@ module _ (shape : Shape) (start : Map) (p : Standing) where
             (asked-stops shape start p.on.board done mid.on next.on c (asked_at mid done w) s);
         rose = omega (arith, up, before);
         why = inl (subst (λ (n : ℕ). Rose n next.on.board.stop_faults) w.asked.no_stop s.stop);
-        rest = flash-then p.on.board mid.on.board next.on.board w.asked.rest s.rest;
+        rest = only_then p.on.board mid.on.board next.on.board w.asked.rest s.rest;
       }
 
   -- nothing was done

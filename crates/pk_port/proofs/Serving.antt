@@ -27,13 +27,11 @@ use Rattle.pk_host.proofs.DataLemmas.{data_fit}
 use Rattle.pk_port.specs.Ready.{Ready, Fits}
 use Rattle.pk_port.specs.Steps.{mount, seen, Serves, Fails}
 use Rattle.pk_port.specs.declared.halt.Halt.TheVariants.{Stopped}
+use Rattle.pk_base.proofs.Logic.{ok_same}
 
 ok_told : (r : Result Map Refusal) (m : Map) → result_ok r ≡ Some m → r ≡ Ok m
 ok_told (Ok x) m e = cc
 ok_told (Err refusal) m e = cc
-
-ok_same : (x y : Map) → ◌≡◌ {A = Result Map Refusal} (Ok x) (Ok y) → x ≡ y
-ok_same x y e = cc
 
 -- what is passed, of a board of this shape
 pub value_on : (shape : Shape) (board : BoardState) (opcode size : ℕ) (handed value : List ℕ) → board.shape ≡ Some shape → IsValue shape opcode size handed value → IsValue (shape_of board) opcode size handed value

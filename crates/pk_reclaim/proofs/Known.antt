@@ -18,7 +18,7 @@ use Rattle.pk_model.specs.Found.{Found, found_under, entries_in_order}
 use Rattle.pk_model.specs.Values.{placed, all_pages}
 use Rattle.pk_model.proofs.Entries.{counting_all, journal_are, meta_are}
 use Rattle.pk_model.proofs.HeldMap.{nothing_fits}
-use Rattle.pk_model.proofs.Lookups.{firsts_sorted, same_key}
+use Rattle.pk_model.proofs.Lookups.{same_key}
 use Rattle.pk_model.proofs.Merges.{placed_sorted}
 use Rattle.pk_model.proofs.ValueSets.{values_sound, fits_parts}
 use Rattle.pk_steps.specs.Under.{IsUnder, counting, places}
@@ -30,6 +30,7 @@ use Rattle.pk_data.specs.State.{DataState}
 use Rattle.pk_data.specs.Placed.{ValuesOnFlash, AreApart as ApartInData}
 use Rattle.pk_data.proofs.Standing.{total_of}
 use Rattle.pk_moves.specs.Moves.{AreApart}
+use Rattle.pk_base.proofs.KeyLemmas.{firsts_sorted}
 
 -- ---- keys
 

@@ -13,7 +13,6 @@ use Rattle.pk_buf.specs.Table.{Table}
 use Rattle.pk_pool.specs.Blocks.{Blocks, used_by}
 use Rattle.pk_rootfmt.specs.Root.{Root}
 use Rattle.pk_model.specs.Found.{Found}
-use Rattle.pk_model.proofs.Lookups.{firsts_sorted}
 use Rattle.pk_steps.specs.Under.{places}
 use Rattle.pk_live.specs.Lives.{head_of}
 use Rattle.pk_gc.specs.declared.course.Course.{Course}
@@ -35,6 +34,7 @@ use Rattle.pk_reclaim.specs.Hands.{hands_of}
 use Rattle.pk_log.specs.State.{LogState}
 use Rattle.pk_reclaim.specs.Space.{Space, SpaceOnFlash, MayReclaim, IsTurn, space}
 use Rattle.pk_reclaim.proofs.Known.{keys_known, rising_known, values_known, live_few, heads_known, apart_known}
+use Rattle.pk_base.proofs.KeyLemmas.{firsts_sorted}
 
 -- ---- the open block
 

@@ -10,9 +10,10 @@ use Rattle.pk_base.proofs.Tables.{◌⊕◌, first_none, true_unless, stands_unl
 use Rattle.pk_rootfmt.specs.Root.{Root, root_bytes, root_at, root_page, is_root, u16s_at, parts}
 use Rattle.pk_rootfmt.specs.Fault.{root_magic, is_epoch, is_run_count, shape_checks, number_checks, list_checks, listed, blocks_fault, shape_fault, number_fault, list_fault, root_fault}
 use Rattle.pk_rootfmt.specs.Held.{total}
-use Rattle.pk_rootfmt.proofs.BlockLemmas.{both_true, length-numbers, numbers_again, parts_again, are_blocks, are_other, check_from_others}
+use Rattle.pk_rootfmt.proofs.BlockLemmas.{length-numbers, numbers_again, parts_again, are_blocks, are_other, check_from_others}
 use Rattle.pk_rootfmt.proofs.RoomLemmas.{page_room, runs_most, entries_small}
 use Rattle.pk_rootfmt.proofs.PageLemmas.{Parts, root_parts, by_test, bytes_same, same_bytes, rows, rows_root, journal_is, older_at, sum_four}
+use Rattle.pk_base.proofs.Logic.{both_true}
 
 append_same : (xs ys zs ws : List ℕ) → xs ++ ys ≡ zs ++ ws → length xs ≡ length zs → (xs ≡ zs) × (ys ≡ ws)
 append_same [] ys [] ws e f = (refl, e)

@@ -1,5 +1,5 @@
 -- The check of a page passes exactly the pages of roots.
-use Rattle.std.proofs.Common.{◌≡◌, ℕ, ◌+◌, ◌-◌, ◌*◌, ◌^◌, ◌<◌, ◌≤◌, Bool, true, false, List, [], ◌∷◌, ◌++◌, length, take, drop, get_or, map, refl, sym, ap, subst, ◌∙◌, arith, length-drop, get_or-drop, Some, None, T}
+use Rattle.std.proofs.Common.{◌≡◌, ℕ, ◌+◌, ◌-◌, ◌*◌, ◌^◌, ◌<◌, ◌≤◌, Bool, true, false, List, [], ◌∷◌, ◌++◌, length, take, drop, get_or, map, refl, sym, ap, subst, ◌∙◌, arith, length-drop, get_or-drop, Some, None}
 use Rattle.std.specs.Prelude.{nat_eq, nat_le, ◌==◌, ◌&&◌, ◌||◌, if◌then◌else◌, bytes_eq, sum}
 use Rattle.std.specs.List.{flat_map, concat}
 use Rattle.std.proofs.Math.Dec.{eqb_refl}
@@ -11,8 +11,9 @@ use Rattle.pk_base.proofs.Tables.{◌⊕◌, fields_of, AllNone, all_none, unles
 use Rattle.pk_rootfmt.specs.Root.{Root, named, root_bytes, root_at, root_page, is_root, is_number, has_runs, differ, u16s_at, parts}
 use Rattle.pk_rootfmt.specs.Fault.{root_magic, is_epoch, is_run_count, shape_checks, number_checks, list_checks, listed, shape_fault, number_fault, list_fault}
 use Rattle.pk_rootfmt.specs.Held.{total}
-use Rattle.pk_rootfmt.proofs.BlockLemmas.{both_true, length-u16s, length-numbers, numbers_stand, numbers_split, parts_lengths, parts_joined, are_blocks, Others, others_from_check}
+use Rattle.pk_rootfmt.proofs.BlockLemmas.{length-u16s, length-numbers, numbers_stand, numbers_split, parts_lengths, parts_joined, are_blocks, Others, others_from_check}
 use Rattle.pk_rootfmt.proofs.RoomLemmas.{page_room, runs_most}
+use Rattle.pk_base.proofs.Logic.{is_true, both_true}
 
 -- ---- tests, one after another
 
@@ -64,13 +65,9 @@ pub by_test : (b : Bool) (P : Type 0) → (b ≡ true → P) → (b ≡ false �
 by_test true P at_true at_false = at_true refl
 by_test false P at_true at_false = at_false refl
 
-yes : (b : Bool) → T b → b ≡ true
-yes true t = refl
-yes false t = absurd t
-
 pub bytes_same : (xs : List ℕ) → bytes_eq xs xs ≡ true
 bytes_same [] = refl
-bytes_same (x ∷ xs) = rw (yes (nat_eq x x) (eqb_refl x)) (bytes_same xs)
+bytes_same (x ∷ xs) = rw (is_true (nat_eq x x) (eqb_refl x)) (bytes_same xs)
 
 pub same_bytes : (xs ys : List ℕ) → bytes_eq xs ys ≡ true → xs ≡ ys
 same_bytes [] [] e = refl

@@ -1,19 +1,18 @@
 -- Runs that match a flash: what others leave of them, and another block or page.
-use Rattle.std.proofs.Common.{◌≡◌, ◌⊎◌, inl, inr, ℕ, zero, suc, ◌+◌, ◌-◌, ◌*◌, ◌/◌, ◌%◌, ◌^◌, ◌<◌, ◌≤◌, T, List, [], ◌∷◌, ◌++◌, length, slice_get, slice_index, get_or, take, drop, refl, ap, sym, subst, ◌∙◌, arith, Option, Some, None, option_map, Ok, length-append, suc-mul, mul-le-mul_right, le_refl, zero-mul, div-lt_iff_lt-mul}
+use Rattle.std.proofs.Common.{◌≡◌, ◌⊎◌, inl, inr, ℕ, zero, suc, ◌+◌, ◌-◌, ◌*◌, ◌/◌, ◌%◌, ◌<◌, ◌≤◌, List, [], ◌∷◌, ◌++◌, length, slice_get, refl, ap, sym, subst, ◌∙◌, arith, Option, Some, None, option_map, Ok, length-append, suc-mul, mul-le-mul_right, zero-mul, div-lt_iff_lt-mul}
 use Rattle.std.proofs.Math.ListN.{get_or-append}
-use Rattle.std.specs.Int.{div_ceil}
-use Rattle.std.proofs.lemmas.Grind.{div_ceil_times}
 use Rattle.std.proofs.lemmas.Bool.{cases_lt}
-use Rattle.std.proofs.lemmas.Option.{slice_get_within, slice_get_past}
-use Rattle.pk_base.specs.Key.{Key, key_cmp}
+use Rattle.std.proofs.lemmas.Option.{slice_get_within}
+use Rattle.pk_base.specs.Key.{Key}
 use Rattle.pk_base.specs.Shape.{Shape, IsShape, page_entries, run_pages}
 use Rattle.pk_base.specs.Entry.{Entry, key_of}
-use Rattle.pk_base.specs.Page.{Page, Flash, page_at, page_in, whole}
+use Rattle.pk_base.specs.Page.{Flash, page_at, page_in, whole}
 use Rattle.pk_meta.specs.Run.{run}
-use Rattle.pk_pin.specs.Frames.{Frames, IsLeased, frame_of}
-use Rattle.pk_run.specs.Kept.{Kept, empty, page_of, IsPinned, IsFrameOf, RunOnFlash, IsNext, IsPinnedAlike, with_page, with_lease}
-use Rattle.pk_run.specs.Laws.{SamePages, SameFrames, StandsElsewhere}
+use Rattle.pk_pin.specs.Frames.{Frames}
+use Rattle.pk_run.specs.Kept.{Kept, empty, page_of, IsFrameOf, RunOnFlash, IsNext, IsPinnedAlike, with_page, with_lease}
+use Rattle.pk_run.specs.Laws.{StandsElsewhere}
 use Rattle.pk_run.proofs.Pieces.{pages_are, run_same, run_more}
+use Rattle.pk_base.proofs.ShapeLemmas.{entries_some}
 
 none_within : (j : ℕ) (lease : ℕ) → slice_get [] j ≡ Some lease → ⊥
 none_within j lease got = cc
@@ -40,9 +39,6 @@ RunOnFlash-elsewhere r old new before after es pages frames s = record {
       let same = frames j lease got had.leased in
       record { leased = same.0; bytes = pages j (leased_page r old before es s j lease got) ∙ had.bytes ∙ ap (λ (bytes : List ℕ). whole bytes) (sym same.1) };
 }
-
-entries_some : (shape : Shape) → IsShape shape → 0 < page_entries shape
-entries_some shape is = let page : 512 ≤ shape.page_bytes = is.page_least in omega arith
 
 no_pages : (shape : Shape) → IsShape shape → run_pages shape 0 ≡ 0
 no_pages shape is = pages_are 0 (page_entries shape) 0 (entries_some shape is) (omega arith) (let z : 0 * page_entries shape ≡ 0 = zero-mul (page_entries shape) in omega (arith, z, entries_some shape is))

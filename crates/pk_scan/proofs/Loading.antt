@@ -30,10 +30,7 @@ use Rattle.pk_scan.proofs.Boards.{rest_reads, rest_not_read, stays_ready_behind}
 use Rattle.std.proofs.lemmas.Grind.{div_ceil_times}
 use Rattle.pk_scan.proofs.Leasing.{kept_more, leased_none, leased_more, runs_stand}
 use Rattle.pk_scan.proofs.Rereading.{meta_refused, last_of, pages_most, blocks_most, more_left, all_counted}
-
--- a page has room for entries
-pub size_some : (shape : Shape) → IsShape shape → 0 < page_entries shape
-size_some shape is = let page : 512 ≤ shape.page_bytes = is.page_least in omega arith
+use Rattle.pk_base.proofs.ShapeLemmas.{entries_some}
 
 -- ---- one page
 
@@ -332,7 +329,7 @@ block_added old mid new blocks i b got is_mid is_new =
 pub blocks_fit : (shape : Shape) (level count : ℕ) → IsShape shape → count ≤ cap shape level * page_entries shape → run_blocks shape count ≤ blocks_of shape (cap shape level)
 blocks_fit shape level count is few =
     let some : 0 < shape.block_pages = let least : 8 ≤ shape.block_pages = is.block_least in omega arith in
-    blocks_most (run_pages shape count) (cap shape level) shape.block_pages some (pages_most count (page_entries shape) (cap shape level) (size_some shape is) few)
+    blocks_most (run_pages shape count) (cap shape level) shape.block_pages some (pages_most count (page_entries shape) (cap shape level) (entries_some shape is) few)
 
 pub room_for_blocks : (r : Kept) (blocks : List ℕ) (count : ℕ) → IsShape r.shape → r ≡ empty r.shape r.level → count ≤ cap r.shape r.level * page_entries r.shape → length blocks ≡ run_blocks r.shape count
     → length r.blocks + length blocks ≤ most_blocks r

@@ -1,27 +1,11 @@
 -- Entries that rise by key, and follow others: it is enough to compare the last key with the next one.
-use Rattle.std.proofs.Common.{◌≡◌, Bool, true, false, ◌&&◌, T, List, [], ◌∷◌, ◌++◌, refl, sym, subst, Ordering, Less, Equal, Greater}
+use Rattle.std.proofs.Common.{◌≡◌, T, List, [], ◌∷◌, ◌++◌, sym, subst, Less}
 use Rattle.std.specs.Ordering.{is_lt}
 use Rattle.std.specs.FinMap.Entries.{is_sorted, below_all}
 use Rattle.std.proofs.lemmas.Cmp.{nat_list_cmp_total}
 use Rattle.pk_base.specs.Key.{Key, key_cmp}
 use Rattle.pk_base.specs.Entry.{Entry, key_of}
-
-left_part : (a b : Bool) → T (a && b) → T a
-left_part true b p = tt
-left_part false b p = p
-
-right_part : (a b : Bool) → T (a && b) → T b
-right_part true b p = p
-right_part false b p = absurd p
-
-both : (a b : Bool) → T a → T b → T (a && b)
-both true b p q = q
-both false b p q = p
-
-less : (o : Ordering) → T (is_lt o) → o ≡ Less
-less Less p = refl
-less Equal p = absurd p
-less Greater p = absurd p
+use Rattle.pk_base.proofs.Logic.{left_part, right_part, both, less}
 
 -- what is above a key is above a smaller one
 below_less : (a b : Key) (es : List Entry) → T (is_lt (key_cmp a b)) → T (below_all key_cmp b es) → T (below_all key_cmp a es)

@@ -13,16 +13,9 @@ use Rattle.pk_meta.specs.declared.BadMeta.{BadMeta}
 use Rattle.pk_meta.proofs.Reading.{meta_held, sorted_true}
 use Rattle.pk_scan.specs.Runs.{IsLast, is_behind, are_put, GoesOnOr}
 use Rattle.pk_scan.proofs.Rises.{rises_behind, lies_behind}
+use Rattle.pk_base.proofs.Logic.{of_true}
 
 -- ---- none was deleted
-
-is_true : (b : Bool) → T b → b ≡ true
-is_true true p = refl
-is_true false p = absurd p
-
-pub of_true : (b : Bool) → b ≡ true → T b
-of_true true e = tt
-of_true false e = cc
 
 pub put_next : (es : List Entry) (i : ℕ) (e : Entry) → slice_get es i ≡ Some e → is_some e.1 ≡ true → are_put (take i es) ≡ true → are_put (take (i + 1) es) ≡ true
 put_next es i e got put before = let k : i + 1 ≡ suc i = omega arith in rw k (at_suc es i got before)

@@ -2,19 +2,16 @@
 use Rattle.std.proofs.Common.{◌≡◌, ℕ, suc, ◌+◌, ◌-◌, ◌*◌, ◌≤◌, List, [], ◌∷◌, ◌++◌, length, refl, sym, ap, subst, ◌∙◌, arith, Option, Some, None, Result, Ok, Err, append-nil, append_assoc, length-append}
 use Rattle.std.specs.List.{AllByRecursion}
 use Rattle.pk_base.specs.Key.{Key}
-use Rattle.std.proofs.lemmas.List.FromFn.{length-range_with_len}
-use Rattle.pk_base.specs.Shape.{Shape, IsShape, charge, limit, dense, data_blocks}
+use Rattle.pk_base.specs.Shape.{Shape, IsShape, limit, dense, data_blocks}
 use Rattle.std.proofs.Math.Nat.{mul-le-mul_right}
 use Rattle.pk_base.specs.EntryBytes.{IsPlace}
 use Rattle.pk_segfmt.specs.Value.{value_pages}
-use Rattle.pk_segfmt.proofs.StoredLemmas.{charge_some}
 use Rattle.pk_pin.specs.Frames.{Frames}
 use Rattle.pk_run.specs.Kept.{Kept}
 use Rattle.pk_walk.specs.Visible.{visible, is_wanted, wanted}
 use Rattle.pk_walk.specs.Walking.{Walk, IsLeft, WalkGives}
 use Rattle.pk_walk.proofs.Walks.{one_of_each}
 use Rattle.pk_model.proofs.ValueSets.{fits_parts}
-use Rattle.pk_scan.proofs.RunPages.{of_true}
 use Rattle.pk_scan.proofs.Boards.{reads_both, reads_if, counted_behind}
 use Rattle.pk_base.specs.Entry.{Entry, Place}
 use Rattle.pk_base.specs.declared.entry.Entry.{Entry as RustEntry}
@@ -29,6 +26,8 @@ use Rattle.pk_scan.specs.Opening.{OnlyReads, PartNotOpened, ReadsValues, opening
 use Rattle.pk_scan.specs.declared.errors.PageError.{PageError}
 use Rattle.pk_scan.specs.declared.errors.PageError.TheVariants.{Damaged, Fault}
 use Rattle.pk_nand.specs.BoardState.{BoardState}
+use Rattle.pk_base.proofs.Logic.{of_true}
+use Rattle.pk_steps.proofs.Outputs.{values_most}
 
 -- a value of n bytes begins at this page
 abbrev pub place : ℕ → ℕ → Place
@@ -98,15 +97,6 @@ all_behind : (P : Key × Place → Type 0) (xs ys : List (Key × Place)) → All
 all_behind P [] ys all = all
 all_behind P (x ∷ xs) ys all = all_behind P xs ys all.1
 
-pages_some : (shape : Shape) → IsShape shape → (es : List (Key × Place)) → length es ≤ length (all_pages shape es)
-pages_some shape is [] = omega arith
-pages_some shape is (e ∷ es) =
-    let rest = pages_some shape is es in
-    let one = charge_some shape is e.1.len in
-    let size = length-range_with_len e.1.page (charge shape e.1.len) in
-    let both = length-append (value_pages shape e.1) (all_pages shape es) in
-    omega (arith, rest, one, size, both)
-
 few_blocks : (shape : Shape) → IsShape shape → data_blocks shape ≤ 4096
 unfolding data_blocks
 few_blocks shape is = let most = is.blocks_most in omega (arith, most)
@@ -131,7 +121,7 @@ module _ (shape : Shape) (flash : Flash) (arena : Frames) (runs : List Kept) (ac
   few_taken is walk live k t =
       let parts = fits_parts shape named (all_pages shape t.taken) (of_true (fits shape named (all_pages shape t.taken)) t.to.lives.placed_well) in
       let few = parts.few in
-      let some = pages_some shape is t.taken in
+      let some = values_most shape is t.taken in
       let many = t.many in
       omega (arith, few, some, many)
 

@@ -1,5 +1,5 @@
 -- The remaining work is within its bounds: buffers and runs by the lists under the root, and no job has more left than the whole of it.
-use Rattle.std.proofs.Common.{◌≡◌, inl, inr, ℕ, zero, suc, ◌+◌, ◌-◌, ◌*◌, ◌<◌, ◌≤◌, refl, sym, ap, subst, ◌∙◌, arith, Bool, true, false, T, ◌==◌, ◌||◌, if◌then◌else◌, List, [], ◌∷◌, length, map, Option, Some, None, Result, Ok}
+use Rattle.std.proofs.Common.{◌≡◌, inl, inr, ℕ, zero, suc, ◌+◌, ◌-◌, ◌*◌, ◌<◌, ◌≤◌, refl, sym, ap, subst, ◌∙◌, arith, Bool, true, false, T, ◌==◌, ◌||◌, if◌then◌else◌, List, [], ◌∷◌, length, map, Option, Some, None}
 use Rattle.std.specs.Prelude.{slice_index, slice_index_or, unwrap_or, IfSome, not, nat_le, zip}
 use Rattle.std.specs.List.{list_all}
 use Rattle.std.proofs.lemmas.List.Sums.{count_by-le-length}
@@ -8,7 +8,7 @@ use Rattle.pk_base.specs.Page.{Flash, page_at, page_in}
 use Rattle.pk_base.specs.Entry.{Entry}
 use Rattle.pk_base.specs.Firsts.{firsts}
 use Rattle.pk_base.specs.Merge.{room, next_merge}
-use Rattle.pk_base.specs.Refusal.{Refusal, ensure}
+use Rattle.pk_base.specs.Refusal.{ensure}
 use Rattle.pk_work.specs.Rest.{whole_merge, whole_freeze}
 use Rattle.pk_work.specs.Backlog.{IsBacklog, due_level}
 use Rattle.pk_work.proofs.Paging.{few_pages}
@@ -35,6 +35,7 @@ use Rattle.pk_schedule.specs.declared.phase.Phase.{Phase}
 use Rattle.pk_schedule.specs.declared.phase.Phase.TheVariants.{Idle, Running, Ready}
 use Rattle.pk_schedule.specs.Index.{Index, IndexOnFlash, MergeStands, MergesInto, output, source_at}
 use Rattle.pk_schedule.specs.Steps.{backlog_of, is_between, merge_left, freeze_rest_of}
+use Rattle.pk_base.proofs.Logic.{ok_same}
 
 -- ---- the runs
 
@@ -83,9 +84,6 @@ freeze_within job next = by_test (length (taken_by job) == 0)
     by_test : (b : Bool) → IfSome (if b then None else Some (freeze_left job next)) (λ left. left ≤ whole_freeze)
     by_test true = tt
     by_test false = few
-
-ok_same : (xs ys : List Entry) → ◌≡◌ {A = Result (List Entry) Refusal} (Ok xs) (Ok ys) → xs ≡ ys
-ok_same xs ys e = cc
 
 -- ---- the whole
 

@@ -31,7 +31,6 @@ use Rattle.pk_model.specs.Tree.{run_at}
 use Rattle.pk_model.proofs.Running.{Reaches-none}
 use Rattle.pk_model.proofs.Commits.{root_valid}
 use Rattle.pk_model.proofs.Roots.{newest_sound}
-use Rattle.pk_model.proofs.ValueSets.{is_true}
 use Rattle.pk_steps.proofs.Untouched.{under_reads}
 use Rattle.pk_steps.proofs.FourRuns.{IsLevel, next_is_level}
 use Rattle.pk_steps.proofs.Outputs.{output_fits}
@@ -56,6 +55,7 @@ use Rattle.pk_schedule.proofs.Entries.{output_same, frozen_many, frozen_rising, 
 use Rattle.pk_schedule.proofs.Leveled.{Fit, run_fits, run_blocks_in, frames_left}
 use Rattle.pk_schedule.proofs.Settled.{stands_settled, values_settled}
 use Rattle.pk_schedule.proofs.Backlogs.{installs_most}
+use Rattle.pk_base.proofs.Logic.{is_true}
 
 -- the source, for a buffer and runs in any memory
 abbrev pub source_in : (X : Type 0) → Index → ℕ → Source X

@@ -22,7 +22,7 @@ use Rattle.pk_level.specs.Levels.{RunsOnFlash}
 use Rattle.pk_model.specs.Found.{Found, found_under}
 use Rattle.pk_model.specs.Tree.{run_at}
 use Rattle.pk_model.proofs.MapLemmas.{key_total, key_antisymm}
-use Rattle.pk_model.proofs.Lookups.{find-firsts, firsts_sorted}
+use Rattle.pk_model.proofs.Lookups.{find-firsts}
 use Rattle.pk_model.proofs.Merges.{first_some, find-append_lists}
 use Rattle.pk_model.proofs.Entries.{epoch_all, runs_all, all_put, all_append, journal_are, meta_are}
 use Rattle.pk_model.proofs.StrangePages.{bind_ok}
@@ -30,6 +30,7 @@ use Rattle.pk_steps.specs.Merging.{output_of as whole_output}
 use Rattle.pk_steps.proofs.FourRuns.{pieces_of}
 use Rattle.pk_merge.specs.Running.{merged}
 use Rattle.pk_schedule.specs.Index.{Index, entries_at}
+use Rattle.pk_base.proofs.KeyLemmas.{firsts_sorted}
 
 -- ---- the output
 

@@ -46,11 +46,12 @@ use Rattle.pk_schedule.specs.Index.{Index, IndexOnFlash, MergeStands, IsSettled,
 use Rattle.pk_schedule.specs.Steps.{MayWork, MayFreeze, KeepsValues, IndexMoves, Moves, Breaks, FreezeMoves, Freezes, has_no_merge, is_between}
 use Rattle.pk_schedule.proofs.Giving.{GivesBack, gives_back, left_counted, TakesFor, takes_for, in_or_not, not_spare, one_owner}
 use Rattle.pk_schedule.proofs.Keeping.{RunsOnFlash-same}
-use Rattle.pk_schedule.proofs.Standing.{both_true, idle_of, apart_top, owned_beyond}
+use Rattle.pk_schedule.proofs.Standing.{idle_of, apart_top, owned_beyond}
 use Rattle.pk_root.specs.Installing.{repeats_next}
 use Rattle.pk_pool.proofs.Leaving.{left_and_freed, freed_same, freed_fits}
 use Rattle.pk_schedule.proofs.Settled.{none_leaves_set, stands_settled, values_settled}
 use Rattle.std.proofs.lemmas.Bool.{ltb-true}
+use Rattle.pk_base.proofs.Logic.{both_true}
 
 length_none : {X : Type 0} (xs : List X) → length xs ≡ 0 → xs ≡ []
 length_none [] none = refl

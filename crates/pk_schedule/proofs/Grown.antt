@@ -1,5 +1,5 @@
 -- What a step of a merge's job leaves of the pool, of pages and of frames: at most one block more for the output, and no page of another's block.
-use Rattle.std.proofs.Common.{◌≡◌, ◌≢◌, ◌⊎◌, inl, inr, ℕ, zero, suc, ◌+◌, ◌*◌, ◌/◌, ◌<◌, ◌≤◌, Bool, true, false, not, ◌||◌, ◌==◌, nat_le, leb→le, leb-false, eqb→eq, cond, T, List, [], ◌∷◌, ◌++◌, length, Option, Some, None, refl, sym, ap, subst, ◌∙◌, arith, length-append}
+use Rattle.std.proofs.Common.{◌≡◌, ◌≢◌, ◌⊎◌, inl, inr, ℕ, zero, suc, ◌+◌, ◌*◌, ◌/◌, Bool, true, false, not, ◌==◌, eqb→eq, cond, T, List, [], ◌∷◌, ◌++◌, length, Option, Some, None, refl, sym, ap, subst, ◌∙◌, arith, length-append}
 use Rattle.std.specs.Prelude.{slice_get, slice_set}
 use Rattle.std.specs.List.{list_any, concat}
 use Rattle.std.proofs.lemmas.Bool.{cases_eq}
@@ -21,7 +21,6 @@ use Rattle.pk_pool.proofs.Sharing.{count-set, used_adopted}
 use Rattle.pk_pool.proofs.Fitting.{block_of}
 use Rattle.pk_run.specs.Kept.{Kept}
 use Rattle.pk_level.specs.Levels.{RunsOnFlash, HaveBlocks}
-use Rattle.pk_model.proofs.Commits.{both}
 use Rattle.pk_model.proofs.Growing.{at_end}
 use Rattle.pk_model.proofs.SamePages.{any_front, any_back}
 use Rattle.pk_steps.proofs.Places.{In, in_append, not_of}
@@ -32,6 +31,8 @@ use Rattle.pk_merge.specs.Merging.{Merger}
 use Rattle.pk_merge.specs.Steps.{Acts}
 use Rattle.pk_merge.specs.Elsewhere.{IsForOutput, StepReaches, StepWent, LeavesRuns}
 use Rattle.pk_schedule.proofs.Settled.{none_leaves_set}
+use Rattle.pk_base.proofs.Logic.{both, or_cases}
+use Rattle.pk_steps.proofs.Untouched.{in_or_out}
 
 -- ---- lists
 
@@ -44,10 +45,6 @@ pub in_got : (xs : List ℕ) (b : ℕ) → In b xs → (i : ℕ) × (slice_get x
 in_got [] b is = absurd is
 in_got (x ∷ xs) b (inl e) = (0, ap (λ (y : ℕ). Some y) (sym e))
 in_got (x ∷ xs) b (inr is) = let r = in_got xs b is in (suc r.0, r.1)
-
-or_cases : (a b : Bool) → T (a || b) → T a ⊎ T b
-or_cases true b p = inl tt
-or_cases false b p = inr p
 
 -- elements at different places that are different
 pub differ_of : (xs : List ℕ) → ((i j b : ℕ) → slice_get xs i ≡ Some b → slice_get xs j ≡ Some b → i ≡ j) → T (differ xs)
@@ -191,16 +188,6 @@ reached_end pool out old new (inr (b, is, (marks, r))) = inr (b, is, at_end mark
 
 pub went_end : (pool : Blocks) (out : Kept) (old new : BoardState) → StepWent pool out old new → SameEnd pool out old.pages new.pages
 went_end pool out old new (b, is, (marks, r)) = inr (b, is, r.cuts new.pages _ r.stands)
-
-in_or_out : (first count k : ℕ) → (k < first) ⊎ ((first + count ≤ k) ⊎ ((first ≤ k) × (k < first + count)))
-in_or_out first count k =
-    elim (nat_le first k) as (λ b. nat_le first k ≡ b → (k < first) ⊎ ((first + count ≤ k) ⊎ ((first ≤ k) × (k < first + count)))) [
-      | false ↦ λ e. inl (leb-false first k e)
-      | true ↦ λ e. elim (nat_le (first + count) k) as (λ b. nat_le (first + count) k ≡ b → (k < first) ⊎ ((first + count ≤ k) ⊎ ((first ≤ k) × (k < first + count)))) [
-        | true ↦ λ f. inr (inl (leb→le (first + count) k (subst T (sym f) tt)))
-        | false ↦ λ f. inr (inr (leb→le first k (subst T (sym e) tt), leb-false (first + count) k f))
-      ] refl
-    ] refl
 
 pub same_page : (pool : Blocks) (out : Kept) (old new : Flash) → SameEnd pool out old new → (k : ℕ) → (IsForOutput pool out (k / out.shape.block_pages) → ⊥) → page_at new k ≡ page_at old k
 same_page pool out old new (inl e) k other = ap (λ (f : Flash). page_at f k) e

@@ -19,7 +19,6 @@ use Rattle.pk_root.specs.Installing.{programs_next, repeats_next}
 use Rattle.pk_pin.specs.Frames.{Frames}
 use Rattle.pk_model.specs.Found.{Found}
 use Rattle.pk_model.proofs.SamePages.{any_front, any_back}
-use Rattle.pk_model.proofs.ValueSets.{is_true}
 use Rattle.pk_pool.specs.declared.state.BlockState.TheVariants.{Free, Owned}
 use Rattle.pk_pool.specs.Blocks.{Blocks, IsShared, PoolOnFlash, used_by, freed}
 use Rattle.pk_pool.specs.Unready.{unready}
@@ -56,6 +55,7 @@ use Rattle.std.proofs.lemmas.Bool.{cases_lt}
 use Rattle.pk_base.specs.Firsts.{firsts}
 use Rattle.pk_base.specs.Entry.{Entry}
 use Rattle.pk_model.proofs.Commits.{member}
+use Rattle.pk_base.proofs.Logic.{is_true}
 
 not_values : (pool : Blocks) (b : ℕ) → (slice_get pool.states b ≡ Some (Owned Journal)) ⊎ (slice_get pool.states b ≡ Some (Owned Meta)) → slice_get pool.states b ≡ Some (Owned Values) → ⊥
 not_values pool b (inl journal) values = let e : Journal ≡ Values = one_owner pool Journal Values b journal values in let c : ⊥ = cc in c

@@ -92,7 +92,7 @@ pub record KeepsTaken (pool : Blocks) (taken : List ℕ) (old : Flash) (pool' : 
   pub used : used_by Journal pool'.states ≡ used_by Journal pool.states
   pub same : (b k : ℕ) → AnyByRecursion (λ c. b ≡ c) taken → k / pool.shape.block_pages ≡ b → page_at new k ≡ page_at old k
 
-any_split : (P : ℕ → Type 0) (xs ys : List ℕ) → AnyByRecursion P (xs ++ ys) → AnyByRecursion P xs ⊎ AnyByRecursion P ys
+pub any_split : (P : ℕ → Type 0) (xs ys : List ℕ) → AnyByRecursion P (xs ++ ys) → AnyByRecursion P xs ⊎ AnyByRecursion P ys
 any_split P [] ys is = inr is
 any_split P (x ∷ xs) ys (inl is) = inl (inl is)
 any_split P (x ∷ xs) ys (inr is) = elim (any_split P xs ys is) [ inl front ↦ inl (inr front) | inr back ↦ inr back ]
@@ -102,7 +102,7 @@ all_of : (P Q : ℕ → Type 0) (xs : List ℕ) → ((x : ℕ) → AnyByRecursio
 all_of P Q [] each all = tt
 all_of P Q (x ∷ xs) each all = (each x (inl refl) all.0, all_of P Q xs (λ y is. each y (inr is)) all.1)
 
-member_all : (P : ℕ → Type 0) (xs : List ℕ) (x : ℕ) → AllByRecursion P xs → AnyByRecursion (λ c. x ≡ c) xs → P x
+pub member_all : (P : ℕ → Type 0) (xs : List ℕ) (x : ℕ) → AllByRecursion P xs → AnyByRecursion (λ c. x ≡ c) xs → P x
 member_all P [] x all is = absurd is
 member_all P (y ∷ ys) x all (inl e) = subst P (sym e) all.0
 member_all P (y ∷ ys) x all (inr is) = member_all P ys x all.1 is

@@ -16,7 +16,6 @@ use Rattle.pk_pin.proofs.Leases.{times-append}
 use Rattle.pk_model.specs.Found.{Found}
 use Rattle.pk_model.specs.Tree.{merged, blocks_after}
 use Rattle.pk_model.proofs.SamePages.{any_front, any_back}
-use Rattle.pk_model.proofs.ValueSets.{is_true}
 use Rattle.pk_pool.specs.declared.state.BlockState.TheVariants.{Free}
 use Rattle.pk_pool.specs.Blocks.{Blocks, IsShared, used_by, given_back}
 use Rattle.pk_pool.specs.Unready.{unready}
@@ -40,6 +39,7 @@ use Rattle.pk_schedule.proofs.Giving.{GivesBack, gives_back, one_owner}
 use Rattle.pk_schedule.proofs.Installing.{Replaced}
 use Rattle.pk_schedule.proofs.Preparing.{output_stands, runs_stand}
 use Rattle.pk_schedule.proofs.Replacing.{RunsOnFlash-set, HaveBlocks-set, ArePinnedTo-set, RunsOnFlash-given, at_set, at_other, map_set, given_bytes, given_size}
+use Rattle.pk_base.proofs.Logic.{is_true}
 use Rattle.pk_schedule.proofs.Waiting as wait
 
 -- ---- lists after a merge

@@ -1,5 +1,5 @@
 -- A run that replaces another, in lists of runs.
-use Rattle.std.proofs.Common.{◌≡◌, inl, inr, ℕ, zero, suc, ◌+◌, ◌≤◌, ◌<◌, false, nat_le, T, List, [], ◌∷◌, length, map, slice_set, slice_index_or, Some, refl, sym, ap, subst, ◌∙◌, arith}
+use Rattle.std.proofs.Common.{◌≡◌, inl, ℕ, zero, suc, ◌+◌, ◌≤◌, ◌<◌, false, nat_le, T, List, [], ◌∷◌, length, map, slice_set, slice_index_or, Some, refl, sym, ap, subst, ◌∙◌, arith}
 use Rattle.std.specs.Prelude.{slice_get}
 use Rattle.std.proofs.lemmas.List.{length-set}
 use Rattle.std.proofs.lemmas.Option.{same_Some}
@@ -15,6 +15,7 @@ use Rattle.pk_level.specs.Arenas.{leases_of, IsPinnedIf, ArePinnedTo}
 use Rattle.pk_model.proofs.Commits.{apart, rest_differs}
 use Rattle.pk_steps.proofs.Places.{In}
 use Rattle.pk_merge.specs.Jobs.{LeavesOthers, given_all, all_spare, spare_of, without, with_spare}
+use Rattle.pk_schedule.proofs.Grown.{got_in}
 
 -- ---- what is unchanged
 
@@ -103,19 +104,14 @@ given_size arena (l ∷ ls) = length-set (given_all arena ls).used l false ∙ g
 
 -- ---- different blocks
 
-pub in_slice : (xs : List ℕ) (i b : ℕ) → slice_get xs i ≡ Some b → In b xs
-in_slice [] i b is = absurd (let x : ⊥ = cc in x)
-in_slice (x ∷ xs) zero b is = inl (sym (same_Some x b is))
-in_slice (x ∷ xs) (suc i) b is = inr (in_slice xs i b is)
-
 absent : (x : ℕ) (xs : List ℕ) → T (differ (x ∷ xs)) → (b : ℕ) → x ≡ b → In b xs → ⊥
 absent x xs d b e is = apart b (x ∷ []) xs d (inl (sym e)) is
 
 pub places_differ : (xs : List ℕ) → T (differ xs) → (i j b : ℕ) → slice_get xs i ≡ Some b → slice_get xs j ≡ Some b → i ≡ j
 places_differ [] d i j b is is' = absurd (let x : ⊥ = cc in x)
 places_differ (x ∷ xs) d zero zero b is is' = refl
-places_differ (x ∷ xs) d zero (suc j) b is is' = absurd (absent x xs d b (same_Some x b is) (in_slice xs j b is'))
-places_differ (x ∷ xs) d (suc i) zero b is is' = absurd (absent x xs d b (same_Some x b is') (in_slice xs i b is))
+places_differ (x ∷ xs) d zero (suc j) b is is' = absurd (absent x xs d b (same_Some x b is) (got_in xs j b is'))
+places_differ (x ∷ xs) d (suc i) zero b is is' = absurd (absent x xs d b (same_Some x b is') (got_in xs i b is))
 places_differ (x ∷ xs) d (suc i) (suc j) b is is' = ap suc (places_differ xs (rest_differs x xs d) i j b is is')
 
 -- runs without entries are spare, whichever is taken and put back

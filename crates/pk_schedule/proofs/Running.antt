@@ -28,7 +28,6 @@ use Rattle.pk_model.specs.Growth.{Grows, Goes}
 use Rattle.pk_model.specs.Crashes.{CrashFinds, background}
 use Rattle.pk_model.specs.Tree.{run_at}
 use Rattle.pk_model.proofs.SamePages.{any_back, newest_root_same}
-use Rattle.pk_model.proofs.ValueSets.{is_true}
 use Rattle.pk_root.specs.Laws.{SameFront}
 use Rattle.pk_steps.specs.Under.{IsUnder, IsValuePage, places}
 use Rattle.pk_steps.proofs.Untouched.{under_reads}
@@ -54,6 +53,7 @@ use Rattle.pk_schedule.specs.Index.{Index, IndexOnFlash, MergesInto, MergeStands
 use Rattle.pk_schedule.specs.Steps.{MayWork, IndexMoves}
 use Rattle.pk_schedule.proofs.Grown.{Grew, SameEnd, got_in, in_got, differ_of, owned_not_spare, grew_shape, grew_kept, grew_no_more, grew_size, grew_used, grew_meta, grew_from, same_page, runs_leave, grew_none_leaves}
 use Rattle.pk_schedule.proofs.Settled.{stands_settled, values_settled}
+use Rattle.pk_base.proofs.Logic.{is_true}
 
 -- what holds of each of a list is shown of it and the ones that remain
 all_of : (P Q : ℕ → Type 0) (xs : List ℕ) → ((x : ℕ) → P x → Q x) → AllByRecursion P xs → AllByRecursion Q xs

@@ -51,10 +51,7 @@ use Rattle.pk_schedule.proofs.Carried.{Shown, shown, same_shown, job_carried, le
 use Rattle.pk_schedule.proofs.Grown.{Grew, SameEnd, acts_grow, acts_frames, reached_end, went_end}
 use Rattle.pk_schedule.proofs.Entries.{output_same, frozen_many, counts_same}
 use Rattle.pk_schedule.proofs.Running.{job_leaves, job_breaks, same_leaves, front_same, into_then, index_then, moves_then}
-
-not_both : (b : Bool) → b ≡ true → b ≡ false → ⊥
-not_both true e f = absurd (let z : ⊥ = cc in z)
-not_both false e f = absurd (let z : ⊥ = cc in z)
+use Rattle.pk_base.proofs.Logic.{not_both}
 
 -- the fault of an answer
 pub fault_is : {Y : Type 0} (a b : Fault) → ◌≡◌ {A = Result Y Fault} (Err a) (Err b) → a ≡ b

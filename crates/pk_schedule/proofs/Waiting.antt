@@ -18,7 +18,6 @@ use Rattle.pk_pin.proofs.Leases.{times-append}
 use Rattle.pk_model.specs.Found.{Found}
 use Rattle.pk_model.proofs.Commits.{blocks_of_root, differ_front, apart}
 use Rattle.pk_model.proofs.SamePages.{any_back}
-use Rattle.pk_model.proofs.ValueSets.{is_true}
 use Rattle.pk_pool.specs.declared.state.BlockState.TheVariants.{Owned}
 use Rattle.pk_pool.specs.Blocks.{given_back, Blocks, IsShared}
 use Rattle.pk_pool.proofs.Sharing.{behind_roots, exists}
@@ -28,10 +27,10 @@ use Rattle.pk_level.specs.Levels.{Levels, IsLevels, run_of, with_run}
 use Rattle.pk_level.specs.Arenas.{leases_of, IsPinnedIf}
 use Rattle.pk_steps.specs.Merging.{IsMerged, output_of, blocks_at}
 use Rattle.pk_steps.proofs.FourRuns.{IsLevel, next_is_level}
-use Rattle.pk_steps.proofs.Freeing.{differ_back, in_one}
+use Rattle.pk_steps.proofs.Freeing.{in_one}
 use Rattle.pk_steps.proofs.NewestBlocks.{valid_root}
 use Rattle.pk_steps.proofs.Outputs.{output_fits}
-use Rattle.pk_steps.proofs.Places.{In}
+use Rattle.pk_steps.proofs.Places.{In, differ_back}
 use Rattle.pk_steps.proofs.Spelling.{merged_grammar}
 use Rattle.pk_merge.specs.Jobs.{Job, IsIdle, AreOwned, AreLeased, all_spare, held_at, taken_from, given_to, pins}
 use Rattle.pk_merge.specs.Laws.{IsFormer, done_with}
@@ -46,7 +45,9 @@ use Rattle.pk_schedule.specs.Steps.{MayWork}
 use Rattle.pk_schedule.proofs.Backlogs.{frozen_is}
 use Rattle.pk_schedule.proofs.Ended.{SecondRun, second_run}
 use Rattle.pk_schedule.proofs.Giving.{GivesBack, gives_back, one_owner}
-use Rattle.pk_schedule.proofs.Replacing.{blocks_at_level, of_level, at_other, leases_set, places_differ, in_slice}
+use Rattle.pk_schedule.proofs.Replacing.{blocks_at_level, of_level, at_other, leases_set, places_differ}
+use Rattle.pk_base.proofs.Logic.{is_true}
+use Rattle.pk_schedule.proofs.Grown.{got_in}
 
 -- ---- different runs
 
@@ -220,7 +221,7 @@ module _ (x : Index) (frames : ℕ) (old : BoardState) (top : ℕ × Root) (foun
           let told : pins job ≡ true = is_true _ (le→leb job.target job.pinned (let target = waits.into.target in omega (arith, le, pinned_is, target))) in
           subst (λ b. IsPinnedIf b out) told waits.whole.pinned;
     };
-    owned = record { meta = λ i b got. former_owned level b (in_slice (run_of x.levels level).blocks i b got); different = places_differ (run_of x.levels level).blocks (former_differs level) };
+    owned = record { meta = λ i b got. former_owned level b (got_in (run_of x.levels level).blocks i b got); different = places_differ (run_of x.levels level).blocks (former_differs level) };
     leased = are_leased x.arena [] (run_of x.levels level).leases (leases_of runs_one) rows_one;
   }
 
@@ -299,7 +300,7 @@ module _ (x : Index) (frames : ℕ) (old : BoardState) (top : ℕ × Root) (foun
           held = subst (λ j. held_at j (level - 1) ≡ Some (empty shape (level - 1))) (sym e.job_is) second.held;
           of_level = record { same_shape = sym (ap (λ (ls : Levels). ls.shape) e.levels_are ∙ may.stands.levels_shape); same_level = refl; frames = λ le. refl };
           owned = subst (λ (r : Kept). AreOwned pool' r.blocks) (sym its) (subst (λ p. AreOwned p source.blocks) (sym e.pool_is) (record {
-            meta = λ i b got. source_stays b (in_slice source.blocks i b got);
+            meta = λ i b got. source_stays b (got_in source.blocks i b got);
             different = places_differ source.blocks (former_differs (level - 1));
           }));
           leased = subst (λ (r : Kept). AreLeased arena' r.leases) (sym its) (are_leased arena' [] source.leases (leases_of runs_two) (e.leases (source.leases ++ leases_of runs_two) rows_two));

@@ -8,7 +8,7 @@ use Rattle.pk_serve.specs.Ends.{HasCause, NoFaults, IsFault, Blames}
 use Rattle.pk_serve.specs.Input.{Entered, Valued, NoValue, TookFailed, NoEntry}
 use Rattle.pk_serve.specs.declared.end.End.{End}
 use Rattle.pk_serve.specs.declared.end.End.TheVariants.{Done, Truncated, Input, Output, Flash, Worn}
-use Rattle.pk_serve.proofs.Giving.{rose_from}
+use Rattle.pk_nand.proofs.Effects.{rose_from}
 
 pub quiet-then : (a b c : BoardState) → NoFaults a b → NoFaults b c → NoFaults a c
 quiet-then a b c p q = record { output = q.output ∙ p.output; stop = q.stop ∙ p.stop }

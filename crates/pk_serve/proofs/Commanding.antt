@@ -24,7 +24,7 @@ use Rattle.pk_serve.specs.declared.end.End.TheVariants.{Flash as FlashFailed}
 use Rattle.pk_serve.proofs.Serves.{Serving-exec, Cutoff-exec, kept-more}
 use Rattle.pk_serve.proofs.Counting.{commands-push}
 use Rattle.pk_serve.proofs.Calling.{command_calls, most_calls-more}
-use Rattle.pk_serve.proofs.Giving.{rose_from}
+use Rattle.pk_nand.proofs.Effects.{rose_from}
 
 append-some : (xs ys : List Command) → xs ≢ [] → xs ++ ys ≢ []
 append-some [] ys some e = some refl

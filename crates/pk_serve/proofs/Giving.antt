@@ -17,9 +17,7 @@ use Rattle.pk_serve.specs.declared.end.End.{End}
 use Rattle.pk_serve.specs.declared.end.End.TheVariants.{Output, Flash}
 use Rattle.pk_serve.proofs.Calling.{commit_calls}
 use Rattle.pk_serve.proofs.Serves.{Serving-commit, Cutoff-commit, Serving-post, Cutoff-post}
-
-pub rose_from : {a b c : ℕ} → b ≡ a → Rose b c → Rose a c
-rose_from {a} {b} {c} e h = let T : ℕ → Type 0 = λ n. Rose n c in subst T e h
+use Rattle.pk_nand.proofs.Effects.{rose_from}
 
 -- ---- posts
 

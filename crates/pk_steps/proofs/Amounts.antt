@@ -1,17 +1,14 @@
 -- How many entries a run and an epoch have, and how many blocks hold them.
-use Rattle.std.proofs.Common.{◌≡◌, inl, inr, ℕ, zero, suc, ◌+◌, ◌-◌, ◌*◌, ◌/◌, ◌<◌, ◌≤◌, min, max, refl, sym, ap, subst, ◌∙◌, arith, Bool, true, false, not, ◌&&◌, ◌||◌, T, List, [], ◌∷◌, ◌++◌, length, map, zip, nat_le, nat_lt, ◌==◌, is_some, Some, Result, Ok, leb→le, length-append, mul-le-mul_right, add-mul, suc-mul, le_trans}
+use Rattle.std.proofs.Common.{◌≡◌, inl, inr, ℕ, zero, suc, ◌+◌, ◌-◌, ◌*◌, ◌/◌, ◌<◌, ◌≤◌, min, max, refl, sym, ap, subst, ◌∙◌, arith, Bool, true, false, not, ◌&&◌, ◌||◌, T, List, [], ◌∷◌, ◌++◌, length, map, zip, nat_le, nat_lt, ◌==◌, is_some, Some, Ok, leb→le, length-append, mul-le-mul_right, add-mul, le_trans}
 use Rattle.std.specs.Prelude.{bytes_eq}
 use Rattle.std.specs.List.{list_all, concat}
-use Rattle.std.specs.Int.{div_ceil}
-use Rattle.std.proofs.Math.Nat.{lt_of_mul-lt-mul_right}
-use Rattle.std.proofs.lemmas.Grind.{div_ceil_times}
 use Rattle.std.specs.FinMap.Entries.{is_sorted}
 use Rattle.pk_base.specs.Key.{key_cmp}
 use Rattle.pk_base.specs.Shape.{Shape, IsShape, page_entries, buffer, caps, run_pages, run_blocks, blocks_of, meta_blocks, deepest}
 use Rattle.pk_base.specs.Page.{Page, erased, whole, torn, page_in, pages_of_blocks, NumberedPages, commits_of}
 use Rattle.pk_base.specs.Entry.{Entry}
 use Rattle.pk_base.specs.EntryBytes.{entries_from}
-use Rattle.pk_base.specs.Refusal.{Refusal, damaged, ensure, some_or}
+use Rattle.pk_base.specs.Refusal.{damaged, ensure, some_or}
 use Rattle.pk_base.specs.Firsts.{firsts}
 use Rattle.pk_base.specs.Merge.{room}
 use Rattle.pk_jrnfmt.specs.Page.{journal_entries}
@@ -20,17 +17,13 @@ use Rattle.pk_meta.specs.Page.{meta_entries}
 use Rattle.pk_meta.specs.Run.{meta, run}
 use Rattle.pk_rootfmt.specs.Root.{Root, is_root, is_number, has_runs, named, differ}
 use Rattle.pk_model.proofs.StrangePages.{bind_ok, some_ok}
-use Rattle.pk_model.proofs.Lookups.{passed}
 use Rattle.pk_base.proofs.Sound.{if_some}
 use Rattle.pk_model.proofs.Live.{ceil_room}
 use Rattle.pk_model.proofs.RootAlone.{bytes_equal, third_of, head_same, tail_same}
-use Rattle.pk_model.proofs.Commits.{left_part, right_part}
-use Rattle.pk_base.proofs.ShapeLemmas.{block_pages_positive}
+use Rattle.pk_base.proofs.ShapeLemmas.{block_pages_positive, ceil_most}
 use Rattle.pk_steps.specs.Fitting.{QuotaFits}
 use Rattle.pk_steps.proofs.FourRuns.{IsLevel, four_of_root, four_of, runs_part}
-
-ok_same : {A : Type 0} (x y : A) → ◌≡◌ {A = Result A Refusal} (Ok x) (Ok y) → x ≡ y
-ok_same x y e = cc
+use Rattle.pk_base.proofs.Logic.{left_part, right_part, ok_same, passed}
 
 -- ---- entries that are read
 
@@ -128,13 +121,6 @@ within_caps shape n1 n2 n3 n4 is =
     record { one = leb→le _ _ first; two = leb→le _ _ second; three = leb→le _ _ third; four = leb→le _ _ fourth }
 
 -- ---- blocks
-
-ceil_most : (x y k : ℕ) → 0 < y → x ≤ k * y → div_ceil x y ≤ k
-ceil_most x y k some below =
-    let bounds = div_ceil_times x y some in
-    let few : div_ceil x y * y < suc k * y = let high = bounds.1 in let more = suc-mul k y in omega (arith, high, below, more) in
-    let less : div_ceil x y < suc k = lt_of_mul-lt-mul_right y few in
-    omega (arith, less)
 
 module _ (shape : Shape) (is_shape : IsShape shape) where
   entries_positive : 0 < page_entries shape

@@ -13,8 +13,7 @@ use Rattle.pk_base.specs.Map.{Map, pages_in}
 use Rattle.pk_rootfmt.specs.Root.{named}
 use Rattle.pk_model.specs.Found.{entries_in_order}
 use Rattle.pk_model.proofs.MapLemmas.{key_total}
-use Rattle.pk_model.proofs.Commits.{left_part, right_part, both}
-use Rattle.pk_model.proofs.Lookups.{flat, Has, map_under_get, find-firsts, firsts_sorted}
+use Rattle.pk_model.proofs.Lookups.{flat, Has, map_under_get, find-firsts}
 use Rattle.pk_model.proofs.ValueSets.{values_sound, Reads}
 use Rattle.pk_model.proofs.Stores.{put-below}
 use Rattle.pk_model.proofs.Merges.{placed_sorted}
@@ -23,6 +22,8 @@ use Rattle.pk_model.proofs.HeldMap.{nothing_fits, none_of_empty}
 use Rattle.pk_steps.specs.Under.{counting, places}
 use Rattle.pk_steps.specs.Lookups.{IsValueOf, LookupFinds, FoundIn, Counts}
 use Rattle.pk_steps.proofs.Untouched.{values_under}
+use Rattle.pk_base.proofs.Logic.{left_part, right_part, both}
+use Rattle.pk_base.proofs.KeyLemmas.{firsts_sorted}
 
 value_of : (shape : Shape) (flash : Flash) (q : Key) (e : Option (Option Place)) (value : Option (List ℕ)) → Has shape (page_at flash) q (flat e) value → IsValueOf shape flash q e value
 value_of shape flash q None value is = is

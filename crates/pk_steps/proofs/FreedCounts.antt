@@ -5,13 +5,13 @@ use Rattle.pk_rootfmt.specs.Root.{differ}
 use Rattle.pk_model.specs.Tree.{blocks_after}
 use Rattle.pk_model.proofs.SamePages.{any_front}
 use Rattle.pk_model.proofs.Commits.{apart, differ_front, blocks_of_root}
-use Rattle.pk_model.proofs.ValueSets.{is_true}
-use Rattle.pk_steps.proofs.Places.{In}
+use Rattle.pk_steps.proofs.Places.{In, differ_back}
 use Rattle.pk_steps.specs.Merging.{FreedCounted, blocks_at}
 use Rattle.pk_steps.proofs.FourRuns.{IsLevel, four_of_root}
 use Rattle.pk_steps.proofs.Amounts.{levels}
-use Rattle.pk_steps.proofs.Freeing.{differ_back, in_one, was_named}
+use Rattle.pk_steps.proofs.Freeing.{in_one, was_named}
 use Rattle.pk_steps.proofs.Spelling.{differ_both}
+use Rattle.pk_base.proofs.Logic.{is_true}
 
 -- ---- two consecutive runs
 

@@ -10,15 +10,11 @@ use Rattle.pk_model.proofs.Commits.{apart, rest_differs, differ_front, blocks_of
 use Rattle.pk_model.proofs.Roots.{newest_sound}
 use Rattle.pk_steps.specs.Under.{IsValuePage, places}
 use Rattle.pk_steps.proofs.Untouched.{values_under}
-use Rattle.pk_steps.proofs.Places.{In, in_append}
+use Rattle.pk_steps.proofs.Places.{In, in_append, differ_back}
 use Rattle.pk_steps.specs.Merging.{Freed, blocks_at}
 use Rattle.pk_steps.proofs.FourRuns.{IsLevel, next_is_level}
 use Rattle.pk_steps.proofs.Merging.{in_set}
 use Rattle.pk_steps.proofs.Following.{merged_next}
-
-pub differ_back : (xs ys : List ℕ) → T (differ (xs ++ ys)) → T (differ ys)
-differ_back [] ys d = d
-differ_back (x ∷ xs) ys d = differ_back xs ys (rest_differs x (xs ++ ys) d)
 
 -- a block of one run is a block of the runs
 pub in_one : (b i : ℕ) (runs : List (List ℕ)) → In b (slice_index_or runs i []) → In b (concat runs)

@@ -1,12 +1,12 @@
 -- A freeze leaves the map: the entries of the newest epoch are those of the older one.
-use Rattle.std.proofs.Common.{◌≡◌, inl, inr, ℕ, suc, ◌+◌, ◌-◌, ◌*◌, ◌/◌, ◌%◌, ◌<◌, ◌≤◌, refl, sym, ap, subst, ◌∙◌, arith, true, false, not, ◌||◌, T, List, [], ◌∷◌, ◌++◌, length, reverse, nat_le, slice_index, ◌==◌, if◌then◌else◌, Result, Ok, append-nil, mul-le-mul_right, div-add-mod', mod-lt, zero-mul, eqb→eq, le→leb}
+use Rattle.std.proofs.Common.{◌≡◌, inl, inr, ℕ, suc, ◌+◌, ◌-◌, ◌*◌, ◌/◌, ◌%◌, ◌<◌, ◌≤◌, refl, sym, ap, subst, ◌∙◌, arith, true, false, not, ◌||◌, T, List, [], ◌∷◌, ◌++◌, length, reverse, nat_le, slice_index, ◌==◌, if◌then◌else◌, Ok, append-nil, mul-le-mul_right, div-add-mod', mod-lt, zero-mul, eqb→eq, le→leb}
 use Rattle.std.proofs.lemmas.Nat.{div-mul-add}
 use Rattle.std.specs.List.{list_any, concat}
 use Rattle.pk_base.specs.Shape.{Shape, IsShape, buffer, epoch_pages}
 use Rattle.pk_base.specs.Page.{Page, Flash, page_at, erased, page_in}
 use Rattle.pk_base.specs.Entry.{Entry}
 use Rattle.pk_base.specs.EntryBytes.{IsEntry}
-use Rattle.pk_base.specs.Refusal.{Refusal, ◌>>=◌, ensure}
+use Rattle.pk_base.specs.Refusal.{ensure, ◌>>=◌}
 use Rattle.pk_base.specs.Firsts.{firsts}
 use Rattle.pk_base.specs.Map.{Map}
 use Rattle.pk_jrnfmt.specs.Epoch.{epoch}
@@ -22,27 +22,25 @@ use Rattle.pk_model.proofs.RootAlone.{found_alone, values_behind}
 use Rattle.pk_base.proofs.CommitPages.{second as next_page}
 use Rattle.pk_model.proofs.Commits.{blocks_of_root, root_valid, ends, not_read, erased_not, behind_roots, values_apart, is_any_back}
 use Rattle.pk_model.proofs.Entries.{counting_all, journal_are, meta_are}
-use Rattle.pk_model.proofs.ValueSets.{values_sound, values_complete, fits_parts, parts_fit, is_true}
+use Rattle.pk_model.proofs.ValueSets.{values_sound, values_complete, fits_parts, parts_fit}
 use Rattle.pk_model.proofs.HeldMap.{nothing_fits}
 use Rattle.pk_steps.specs.Under.{IsUnder, places}
 use Rattle.pk_steps.specs.Roots.{frozen_root, frozen, FreezeLeavesMap}
 use Rattle.pk_steps.proofs.Untouched.{Values, values_under, value_page_whole, not_erased}
 use Rattle.pk_steps.proofs.Places.{In, in_append, any_in_back, all_of, in_value, not_of}
-
-ok_same : {A : Type 0} (x y : A) → ◌≡◌ {A = Result A Refusal} (Ok x) (Ok y) → x ≡ y
-ok_same x y e = cc
+use Rattle.pk_base.proofs.Logic.{is_true, ok_same}
 
 -- a list with an element is not empty
 not_empty : (n : ℕ) → (suc n == 0) ≡ false
 not_empty n = elim (suc n == 0) as (λ b. (suc n == 0) ≡ b → b ≡ false) [ true ↦ λ e. let same : suc n ≡ 0 = eqb→eq (suc n) 0 (subst T (sym e) tt) in absurd (omega (arith, same)) | false ↦ λ e. refl ] refl
 
 -- no blocks, no entries
-no_blocks : (shape : Shape) (at : ℕ → Page) (number : ℕ) → epoch shape at number [] ≡ Ok []
+pub no_blocks : (shape : Shape) (at : ℕ → Page) (number : ℕ) → epoch shape at number [] ≡ Ok []
 unfolding epoch
 no_blocks shape at number = rw (zero-mul (shape.block_pages / 2)) refl
 
 -- the older epoch of a freeze is the newest one before, which has entries or is not named
-older_is : (shape : Shape) (at : ℕ → Page) (number : ℕ) (blocks : List ℕ) (es : List Entry) → length blocks ≡ 2 → epoch shape at number blocks ≡ Ok es
+pub older_is : (shape : Shape) (at : ℕ → Page) (number : ℕ) (blocks : List ℕ) (es : List Entry) → length blocks ≡ 2 → epoch shape at number blocks ≡ Ok es
     → (do
       found ← epoch shape at (number + 1 - 1) (if length es == 0 then [] else blocks)
       _ ← ensure (length (if length es == 0 then [] else blocks) == 0 || nat_le 1 (length found)) (page_in shape (if length es == 0 then [] else blocks) 0)

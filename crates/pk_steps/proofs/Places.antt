@@ -10,11 +10,12 @@ use Rattle.pk_segfmt.specs.Value.{value_pages}
 use Rattle.pk_rootfmt.specs.Root.{differ}
 use Rattle.pk_model.specs.Values.{fits, blocks_with, all_pages}
 use Rattle.pk_model.specs.Laws.{AnyByRecursion}
-use Rattle.pk_model.proofs.Commits.{left_part, right_part, both, refuted, rest_differs, any_behind, apart, differ_front, all_front, is_any}
+use Rattle.pk_model.proofs.Commits.{refuted, rest_differs, any_behind, apart, differ_front, all_front, is_any}
 use Rattle.pk_model.proofs.SamePages.{any_front}
-use Rattle.pk_model.proofs.ValueSets.{fits_parts, parts_fit, is_true, any_more, filter_more}
+use Rattle.pk_model.proofs.ValueSets.{fits_parts, parts_fit, any_more, filter_more}
 use Rattle.pk_steps.specs.Under.{IsValuePage}
 use Rattle.pk_steps.specs.Stores.{Fits}
+use Rattle.pk_base.proofs.Logic.{is_true, left_part, right_part, both, or_cases}
 
 abbrev pub In : ℕ → List ℕ → Type 0
 In k xs = AnyByRecursion (λ y. k ≡ y) xs
@@ -29,14 +30,10 @@ or_left : (a b : Bool) → T a → T (a || b)
 or_left true b p = tt
 or_left false b p = absurd p
 
-or_cases : (a b : Bool) → T (a || b) → T a ⊎ T b
-or_cases true b p = inl tt
-or_cases false b p = inr p
-
 eq_of : (a b : ℕ) → T (a == b) → a ≡ b
 eq_of a b t = eqb→eq a b t
 
-any_in : (x : ℕ) (xs : List ℕ) → T (list_any (λ c. x == c) xs) → In x xs
+pub any_in : (x : ℕ) (xs : List ℕ) → T (list_any (λ c. x == c) xs) → In x xs
 any_in x [] t = absurd t
 any_in x (y ∷ xs) t = elim (or_cases (x == y) (list_any (λ c. x == c) xs) t) [ inl is ↦ inl (eq_of x y is) | inr is ↦ inr (any_in x xs is) ]
 
@@ -92,10 +89,6 @@ absent x xs d is = refuted (list_any (λ c. x == c) xs) (left_part (not (list_an
 
 pub differ_cons : (x : ℕ) (xs : List ℕ) → (In x xs → ⊥) → T (differ xs) → T (differ (x ∷ xs))
 differ_cons x xs new d = both (not (list_any (λ c. x == c) xs)) (differ xs) (not_of (list_any (λ c. x == c) xs) (λ t. new (any_in x xs t))) d
-
-differ_back : (xs ys : List ℕ) → T (differ (xs ++ ys)) → T (differ ys)
-differ_back [] ys d = d
-differ_back (x ∷ xs) ys d = differ_back xs ys (rest_differs x (xs ++ ys) d)
 
 pub differ_append : (xs ys : List ℕ) → T (differ xs) → T (differ ys) → ((k : ℕ) → In k xs → In k ys → ⊥) → T (differ (xs ++ ys))
 differ_append [] ys front back none = back
@@ -161,6 +154,10 @@ abbrev pub kept : (Key → Bool) → List (Key × Place) → List (Key × Place)
 kept q es = filter (λ e. q e.0) es
 
 -- ---- the pages of values
+
+pub differ_back : (xs ys : List ℕ) → T (differ (xs ++ ys)) → T (differ ys)
+differ_back [] ys d = d
+differ_back (x ∷ xs) ys d = differ_back xs ys (rest_differs x (xs ++ ys) d)
 
 module _ (shape : Shape) where
   pub value_in : (es : List (Key × Place)) (k : ℕ) → IsValuePage shape es k → In k (all_pages shape es)

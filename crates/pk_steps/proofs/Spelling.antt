@@ -1,5 +1,5 @@
 -- The root after a merge is one of the grammar.
-use Rattle.std.proofs.Common.{◌≡◌, ◌⊎◌, inl, inr, ℕ, zero, suc, ◌+◌, ◌-◌, ◌*◌, ◌/◌, ◌%◌, ◌<◌, ◌≤◌, min, refl, sym, ap, subst, ◌∙◌, arith, Bool, true, false, not, ◌&&◌, ◌||◌, T, List, [], ◌∷◌, ◌++◌, length, map, zip, nat_le, nat_lt, ◌==◌, slice_set, if◌then◌else◌, leb→le, le→leb, append-nil, eqb→eq}
+use Rattle.std.proofs.Common.{◌≡◌, ◌⊎◌, inl, inr, ℕ, zero, suc, ◌+◌, ◌-◌, ◌*◌, ◌/◌, ◌%◌, ◌<◌, ◌≤◌, min, refl, sym, ap, subst, ◌∙◌, arith, Bool, true, false, not, ◌&&◌, ◌||◌, T, List, [], ◌∷◌, ◌++◌, length, map, zip, nat_le, nat_lt, ◌==◌, slice_set, if◌then◌else◌, leb→le, le→leb, append-nil}
 use Rattle.std.specs.Prelude.{bytes_eq}
 use Rattle.std.proofs.Math.Nat.{zero-div, zero-mod}
 use Rattle.std.proofs.lemmas.Slice.Eq.{bytes_eq-Decides}
@@ -10,14 +10,13 @@ use Rattle.pk_rootfmt.specs.Root.{Root, named, is_root, is_number, has_runs, dif
 use Rattle.pk_model.specs.Tree.{blocks_after}
 use Rattle.pk_model.proofs.SamePages.{any_front, any_back}
 use Rattle.pk_model.proofs.RootAlone.{head_same, tail_same}
-use Rattle.pk_model.proofs.Commits.{left_part, right_part, both, rest_differs, apart, differ_front, is_any}
-use Rattle.pk_model.proofs.ValueSets.{is_true}
-use Rattle.pk_steps.proofs.Places.{In, in_append, all_of, not_of}
+use Rattle.pk_model.proofs.Commits.{rest_differs, apart, differ_front, is_any}
+use Rattle.pk_steps.proofs.Places.{In, in_append, all_of, not_of, any_in, differ_back}
 use Rattle.pk_steps.specs.Merging.{merged_root, counts_after, MergedGrammar}
 use Rattle.pk_steps.proofs.FourRuns.{IsLevel, four_of, four_of_root}
 use Rattle.pk_steps.proofs.Amounts.{WithinCaps, within_caps, counted_of, levels}
 use Rattle.pk_steps.proofs.Merging.{in_set, in_after}
-use Rattle.pk_steps.proofs.Freeing.{differ_back}
+use Rattle.pk_base.proofs.Logic.{is_true, left_part, right_part, both}
 
 -- ---- tests one after another
 
@@ -55,14 +54,6 @@ all_parts true true true true true true false h is = absurd is.seven
 all_parts true true true true true true true false is = absurd is.eight
 
 -- ---- lists
-
-or_cases : (a b : Bool) → T (a || b) → T a ⊎ T b
-or_cases true b p = inl tt
-or_cases false b p = inr p
-
-any_in : (x : ℕ) (xs : List ℕ) → T (list_any (λ c. x == c) xs) → In x xs
-any_in x [] t = absurd t
-any_in x (y ∷ xs) t = elim (or_cases (x == y) (list_any (λ c. x == c) xs) t) [ inl is ↦ inl (eqb→eq x y is) | inr is ↦ inr (any_in x xs is) ]
 
 all_at_each : (p : ℕ → Bool) (xs : List ℕ) (b : ℕ) → T (list_all p xs) → In b xs → T (p b)
 all_at_each p [] b all is = absurd is

@@ -20,12 +20,13 @@ use Rattle.pk_model.proofs.Roots.{newest_sound}
 use Rattle.pk_model.proofs.RootAlone.{found_alone, values_behind}
 use Rattle.pk_model.proofs.Commits.{root_valid}
 use Rattle.pk_model.proofs.Entries.{counting_all, journal_are, meta_are}
-use Rattle.pk_model.proofs.ValueSets.{values_sound, values_complete, fits_parts, parts_fit, is_true}
+use Rattle.pk_model.proofs.ValueSets.{values_sound, values_complete, fits_parts, parts_fit}
 use Rattle.pk_model.proofs.HeldMap.{nothing_fits}
 use Rattle.pk_steps.specs.Under.{IsUnder, places}
 use Rattle.pk_steps.proofs.Untouched.{Values, values_under}
 use Rattle.pk_steps.proofs.Places.{In, all_of, any_in_back, in_value, not_of}
 use Rattle.pk_steps.specs.Next.{IsNext, Installed, Installs, tree_of}
+use Rattle.pk_base.proofs.Logic.{is_true}
 
 module _ (shape : Shape) (flash new : Flash) (extra : List Entry) (top : ℕ × Root) (found : Found) (m : Map) (is_shape : IsShape shape) (entries : AllByRecursion (IsEntry shape) extra)
     (before : IsUnder shape flash extra top found m) (behind : SameBehind shape flash new) where

@@ -1,6 +1,5 @@
 -- One more entry puts a value into the map, or takes a key out of it.
 use Rattle.std.proofs.Common.{◌≡◌, ℕ, refl, sym, ap, subst, ◌∙◌, Bool, true, false, not, cond, T, List, [], ◌∷◌, ◌++◌, length, nat_le, Option, Some, None, Ok, le→leb}
-use Rattle.std.specs.declared.cmp.Ordering.{Ordering}
 use Rattle.std.specs.declared.cmp.Ordering.TheVariants.{Less, Equal, Greater}
 use Rattle.std.specs.Ordering.{is_lt, is_eq, eq_by_cmp}
 use Rattle.std.specs.Cmp.{eq_by_cmp_equiv}
@@ -16,15 +15,15 @@ use Rattle.pk_model.specs.Found.{entries_in_order}
 use Rattle.pk_model.specs.Values.{placed, values_of}
 use Rattle.pk_model.specs.Reading.{map_under}
 use Rattle.pk_model.proofs.MapLemmas.{key_total, key_antisymm, below_less}
-use Rattle.pk_model.proofs.Commits.{left_part, right_part}
-use Rattle.pk_model.proofs.Lookups.{firsts_sorted}
-use Rattle.pk_model.proofs.ValueSets.{values_sound, values_complete, Reads, is_true}
+use Rattle.pk_model.proofs.ValueSets.{values_sound, values_complete, Reads}
 use Rattle.pk_model.proofs.Stores.{below_placed, reading-store, entries_in_order-push}
 use Rattle.pk_model.proofs.HeldMap.{nothing_fits}
 use Rattle.pk_steps.specs.Under.{counting, places}
 use Rattle.pk_steps.specs.Stores.{Stores, Deletes}
 use Rattle.pk_steps.proofs.Untouched.{values_under}
 use Rattle.pk_steps.proofs.Places.{kept, kept_fit}
+use Rattle.pk_base.proofs.Logic.{is_true, left_part, right_part, less}
+use Rattle.pk_base.proofs.KeyLemmas.{firsts_sorted}
 
 pub stores : Stores
 stores shape flash pending top found m key place value under stands room fit = record {
@@ -38,11 +37,6 @@ stores shape flash pending top found m key place value under stands room fit = r
 -- the key is another
 abbrev is_other : Key → Key → Bool
 is_other k x = not (eq_by_cmp key_cmp k x)
-
-less : (r : Ordering) → T (is_lt r) → r ≡ Less
-less Less p = refl
-less Equal p = absurd p
-less Greater p = absurd p
 
 keep_all : (k : Key) (es : List (Key × Place)) → T (below_all key_cmp k es) → kept (is_other k) es ≡ es
 keep_all k [] h = refl

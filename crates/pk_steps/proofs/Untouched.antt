@@ -19,9 +19,10 @@ use Rattle.pk_model.specs.Laws.{AnyByRecursion, IsPageOf, IsRead, IsWholePage}
 use Rattle.pk_base.proofs.ShapeLemmas.{block_pages_positive}
 use Rattle.pk_model.proofs.SamePages.{newest_root_same, found_same, map_under_same, agrees, agree_runs, any_front, any_back, any_in_concat}
 use Rattle.pk_model.proofs.StrangePages.{bind_ok, some_ok}
-use Rattle.pk_model.proofs.Lookups.{values_step, passed}
+use Rattle.pk_model.proofs.Lookups.{values_step}
 use Rattle.pk_steps.specs.Under.{IsUnder, IsValuePage, places}
 use Rattle.pk_steps.specs.Reads.{ReadsUnder, UnderReads, Same, ProgramsUnread, Erases}
+use Rattle.pk_base.proofs.Logic.{passed}
 
 pub reads_under : ReadsUnder
 unfolding reading_of
@@ -106,7 +107,7 @@ value_page_whole shape flash extra top found m under k is =
 pub not_erased : (p : Page) → IsWholePage p → p ≡ erased → ⊥
 not_erased p is e = subst IsWholePage e is
 
-in_or_out : (first count k : ℕ) → (k < first) ⊎ ((first + count ≤ k) ⊎ ((first ≤ k) × (k < first + count)))
+pub in_or_out : (first count k : ℕ) → (k < first) ⊎ ((first + count ≤ k) ⊎ ((first ≤ k) × (k < first + count)))
 in_or_out first count k =
     elim (nat_le first k) as (λ b. nat_le first k ≡ b → (k < first) ⊎ ((first + count ≤ k) ⊎ ((first ≤ k) × (k < first + count)))) [
       | false ↦ λ e. inl (below first k e)

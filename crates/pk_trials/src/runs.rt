@@ -1,10 +1,7 @@
 //! Flashes with runs on all four levels, whose pages are made by hand.
 
 use crate::damage::refused;
-use crate::steps::{
-    Pink, copied, cut, done, ended, holds, pages_left, posted, script, serve_with, worked_board,
-    wrote,
-};
+use crate::steps::{copied, cut, done, ended, holds, pages_left, posted, script, serve_with, worked_board, wrote};
 use pk_flash::{Flash, Left};
 use pk_nand::PageState;
 use pk_nvme::status::{KEY_DOES_NOT_EXIST, SUCCESSFUL_COMPLETION};

@@ -5,9 +5,7 @@ use Rattle.std.specs.declared.cmp.Ordering.{Ordering}
 use Rattle.std.specs.declared.cmp.Ordering.TheVariants.{Less, Equal, Greater}
 use Rattle.std.proofs.lemmas.Nat.{div-add-mod'}
 use Rattle.std.proofs.lemmas.List.{length-take, length-drop}
-use Rattle.std.proofs.lemmas.Grind.{div_ceil_times}
-use Rattle.std.proofs.Math.Nat.{mod-lt, div-le_of_le-mul, lt_of_mul-lt-mul_right}
-use Rattle.std.specs.Int.{div_ceil}
+use Rattle.std.proofs.Math.Nat.{mod-lt, div-le_of_le-mul}
 use Rattle.pk_base.specs.Key.{Key, key_cmp}
 use Rattle.pk_base.specs.Shape.{Shape, IsShape, page_entries}
 use Rattle.pk_base.specs.Entry.{Entry, key_of}
@@ -27,13 +25,11 @@ use Rattle.pk_walk.specs.Heads.{Head, IsNextWanted, head_after, held}
 use Rattle.pk_walk.specs.Walking.{Cursor, Follows, HasPassed, Reads, ReadsAll, at_start, read_of}
 use Rattle.pk_walk.specs.Steps.{MayLoad, StaysAt, bytes_in, seen_bytes}
 use Rattle.pk_model.proofs.MapLemmas.{key_antisymm}
-use Rattle.pk_walk.proofs.Merging.{turned}
 use Rattle.pk_walk.proofs.Wanting.{begun_at, narrowed, narrowed_behind, above_is_narrower}
+use Rattle.pk_base.proofs.KeyLemmas.{turned}
+use Rattle.pk_base.proofs.ShapeLemmas.{ceil_most, entries_some}
 
 -- ---- numbers
-
-pub entries_some : (shape : Shape) → IsShape shape → 0 < page_entries shape
-entries_some shape is = let page : 512 ≤ shape.page_bytes = is.page_least in omega arith
 
 -- the page of a place in the run exists
 pub page_exists : (r : Kept) (place : ℕ) → IsShape r.shape → IsKept r → place < r.count → place / page_entries r.shape < length r.firsts
@@ -295,12 +291,6 @@ pub head_all : (r : Kept) (c d : Cursor) (p : ℕ) (old new : BoardState) → c.
 head_all r c d p old new same page loaded every passed =
     let comes = subst (λ (shape : Shape). c.place / page_entries shape ≤ c.loaded) same (page_comes c passed) in
     subst (λ (n : ℕ). ReadsAll (read_of r.leases c.loaded) (read_of r.leases n) old new) (sym loaded) (every (omega (arith, page, comes)))
-
-ceil_most : (x y k : ℕ) → 0 < y → x ≤ k * y → div_ceil x y ≤ k
-ceil_most x y k some room =
-    let few : div_ceil x y * y < suc k * y = omega (arith, (div_ceil_times x y some).1) in
-    let less : div_ceil x y < suc k = lt_of_mul-lt-mul_right y few in
-    omega arith
 
 -- after the last entry it has passed each page
 pub all_come : (r : Kept) (flash : Flash) (arena : Frames) (es : List Entry) (position : Position) (c : Cursor) → IsShape r.shape → c.shape ≡ r.shape → RunOnFlash r flash arena es → Follows flash r es position c

@@ -20,17 +20,14 @@ use Rattle.pk_walk.specs.Heads.{Head, IsNextWanted}
 use Rattle.pk_walk.specs.Walking.{Cursor, Follows, read_of}
 use Rattle.pk_walk.specs.Steps.{FindsIn, GoesOn, IsAt, ShowsIn, bytes_in, holding}
 use Rattle.pk_walk.proofs.Wanting.{above_at, dropped, first_here, first_wanted, same_entry}
-use Rattle.pk_model.proofs.MapLemmas.{left_part, right_part}
-use Rattle.pk_walk.proofs.Following.{all_come, entries_some, page_exists, page_holds_place, page_seen, sought_left}
+use Rattle.pk_walk.proofs.Following.{all_come, page_exists, page_holds_place, page_seen, sought_left}
 use Rattle.pk_walk.proofs.Moving.{AtPage, entry_here}
 use Rattle.pk_walk.proofs.Seeking.{Reads-none, ReadsAll-none, no_answer, one_list, same_answer}
+use Rattle.pk_base.proofs.Logic.{is_true, left_part, right_part}
+use Rattle.pk_base.proofs.ShapeLemmas.{entries_some}
 
 not_none : (e : Entry) → ◌≡◌ {A = Head} (Some (Some e)) (Some None) → ⊥
 not_none e is = cc
-
-is_true : (b : Bool) → T b → b ≡ true
-is_true true p = refl
-is_true false p = absurd p
 
 -- the keys of a list rise
 rises : (es : List Entry) (n i : ℕ) (e x : Entry) → T (is_sorted key_cmp es) → n < i → slice_get es n ≡ Some e → slice_get es i ≡ Some x → key_cmp e.0 x.0 ≡ Less

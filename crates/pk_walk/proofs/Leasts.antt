@@ -10,7 +10,7 @@ use Rattle.pk_base.specs.Entry.{Entry}
 use Rattle.pk_model.proofs.MapLemmas.{key_total, key_antisymm}
 use Rattle.pk_walk.specs.Visible.{lesser}
 use Rattle.pk_walk.specs.Heads.{Head, head_after, entry_in, least_of, let_go, order_of}
-use Rattle.pk_walk.proofs.Merging.{turned}
+use Rattle.pk_base.proofs.KeyLemmas.{turned}
 
 -- ---- the lesser of two
 

@@ -4,25 +4,19 @@ use Rattle.std.specs.Prelude.{⊤}
 use Rattle.std.specs.List.{flat_map}
 use Rattle.std.specs.declared.cmp.Ordering.{Ordering}
 use Rattle.std.specs.declared.cmp.Ordering.TheVariants.{Less, Equal, Greater}
-use Rattle.std.specs.Ordering.{is_lt, is_gt, is_eq, eq_by_cmp, ordering_reverse}
+use Rattle.std.specs.Ordering.{is_lt, is_gt, is_eq, eq_by_cmp}
 use Rattle.std.specs.FinMap.Entries.{find, is_sorted, below_all}
 use Rattle.std.proofs.lemmas.Cmp.{tied_itself}
 use Rattle.pk_base.specs.Key.{Key, key_cmp}
 use Rattle.pk_base.specs.Entry.{Entry, Place}
 use Rattle.pk_base.specs.Firsts.{firsts}
-use Rattle.pk_model.proofs.MapLemmas.{key_total, key_antisymm, left_part, right_part, both, missing, below_less}
-use Rattle.pk_model.proofs.Lookups.{find-firsts, firsts_sorted}
+use Rattle.pk_model.proofs.MapLemmas.{key_total, key_antisymm, missing, below_less}
+use Rattle.pk_model.proofs.Lookups.{find-firsts}
 use Rattle.pk_walk.specs.Visible.{wanted, first_of, lesser, least_first}
+use Rattle.pk_base.proofs.Logic.{of_true, left_part, right_part, both}
+use Rattle.pk_base.proofs.KeyLemmas.{turned, firsts_sorted}
 
 -- ---- the order of keys
-
-pub less : (o : Ordering) → T (is_lt o) → o ≡ Less
-less Less p = refl
-less Equal p = absurd p
-less Greater p = absurd p
-
-pub turned : (a b : Key) (o : Ordering) → key_cmp a b ≡ o → key_cmp b a ≡ ordering_reverse o
-turned a b o q = key_total.antisymm b a ∙ ap ordering_reverse q
 
 -- a key is not below another
 abbrev pub IsNotBelow : Key → Key → Type 0
@@ -65,15 +59,12 @@ other_key w e es not_one q is =
       | Greater ↦ λ p. refl
     ] refl
 
-pub is_true : (b : Bool) → b ≡ true → T b
-is_true b e = subst T (sym e) tt
-
 -- the first wanted entry of a sorted list is its least
 pub least_of_sorted : (w : Key → Bool) (es : List Entry) → T (is_sorted key_cmp es) → IsLeast (λ q. find key_cmp q es) w (first_of (wanted w es))
 least_of_sorted w [] up = λ q is. refl
 least_of_sorted w (e ∷ es) up =
     elim (w e.0) as (λ b. w e.0 ≡ b → IsLeast (λ q. find key_cmp q (e ∷ es)) w (first_of (if b then e ∷ wanted w es else wanted w es))) [
-      | true ↦ λ p. (is_true _ p, own e es, λ q v is found. first_is_least e es (left_part _ _ up) q v found)
+      | true ↦ λ p. (of_true _ p, own e es, λ q v is found. first_is_least e es (left_part _ _ up) q v found)
       | false ↦ λ p. agree (λ q. find key_cmp q es) (λ q. find key_cmp q (e ∷ es)) w (first_of (wanted w es)) (other_key w e es p) (least_of_sorted w es (right_part _ _ up))
     ] refl
 

@@ -22,7 +22,8 @@ use Rattle.pk_walk.specs.Heads.{Head, IsNextWanted, held}
 use Rattle.pk_walk.specs.Walking.{Cursor, Follows}
 use Rattle.pk_walk.specs.Steps.{HasPage, IsFirstWanted, CursorMoves, bytes_in}
 use Rattle.pk_walk.proofs.Wanting.{passed_by}
-use Rattle.pk_walk.proofs.Following.{entries_some, entry_within, get_taken, get_dropped, holds, not_ended, sought_left}
+use Rattle.pk_walk.proofs.Following.{entry_within, get_taken, get_dropped, holds, not_ended, sought_left}
+use Rattle.pk_base.proofs.ShapeLemmas.{entries_some}
 
 -- ---- entries that are passed
 

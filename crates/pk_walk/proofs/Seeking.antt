@@ -1,10 +1,9 @@
 -- A search in a run for the first wanted entry: what holds at each step of it, and what it finds.
-use Rattle.std.proofs.Common.{◌≡◌, ℕ, suc, ◌+◌, ◌/◌, ◌%◌, ◌<◌, ◌≤◌, refl, sym, ap, subst, ◌∙◌, arith, Bool, true, List, drop, length, slice_get, Some, None, Result, Ok}
+use Rattle.std.proofs.Common.{◌≡◌, ℕ, suc, ◌+◌, ◌/◌, ◌%◌, ◌<◌, ◌≤◌, refl, sym, ap, subst, ◌∙◌, arith, Bool, true, List, drop, length, slice_get, Some, None}
 use Rattle.pk_base.specs.Shape.{IsShape, page_entries}
 use Rattle.pk_base.specs.Entry.{Entry}
 use Rattle.pk_base.specs.Seen.{entry as seen}
 use Rattle.pk_base.specs.declared.entry.Entry.{Entry as RustEntry}
-use Rattle.pk_base.specs.Refusal.{Refusal}
 use Rattle.pk_base.specs.Page.{Flash, page_at, whole}
 use Rattle.pk_meta.specs.Page.{IsMetaPage}
 use Rattle.pk_nand.specs.BoardState.{BoardState}
@@ -20,6 +19,7 @@ use Rattle.pk_walk.specs.Steps.{FailsToShow, FindsIn, GoesOn, IsAt, CursorLooks,
 use Rattle.pk_walk.proofs.Wanting.{first_here, none_here}
 use Rattle.pk_walk.proofs.Following.{HasPassed-kept, all_come, sought_left}
 use Rattle.pk_walk.proofs.Moving.{AtPage, entry_here, found_at, found_wanted, moved_follows, moved_left, moved_sought, moved_within}
+use Rattle.pk_base.proofs.Logic.{ok_same}
 
 -- ---- reads
 
@@ -55,11 +55,8 @@ ReadsFail-rest a b old new (k, page, few, failed) =
 
 -- ---- a run has one list of entries
 
-same_ok : (xs ys : List Entry) → ◌≡◌ {A = Result (List Entry) Refusal} (Ok xs) (Ok ys) → xs ≡ ys
-same_ok xs ys e = cc
-
 pub one_list : (r : Kept) (flash : Flash) (arena : Frames) (xs ys : List Entry) → RunOnFlash r flash arena xs → RunOnFlash r flash arena ys → xs ≡ ys
-one_list r flash arena xs ys s t = same_ok xs ys (sym s.read ∙ t.read)
+one_list r flash arena xs ys s t = ok_same xs ys (sym s.read ∙ t.read)
 
 -- ---- the search
 

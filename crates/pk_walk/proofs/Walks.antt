@@ -21,7 +21,6 @@ use Rattle.pk_run.specs.Kept.{Kept}
 use Rattle.pk_level.specs.Levels.{RunsOnFlash}
 use Rattle.pk_level.proofs.Looking.{reads_more}
 use Rattle.pk_model.specs.Values.{placed}
-use Rattle.pk_model.proofs.Lookups.{firsts_sorted}
 use Rattle.pk_walk.specs.declared.position.Position.{Position}
 use Rattle.pk_walk.specs.declared.position.Position.TheVariants.{First, Above}
 use Rattle.pk_walk.specs.Visible.{visible, behind_found, is_wanted, wanted, first_of, lesser, least_first}
@@ -33,6 +32,7 @@ use Rattle.pk_walk.proofs.Wanting.{above_is_narrower, behind_first, first_wanted
 use Rattle.pk_walk.proofs.Leasts.{NotBelow, NoneBelow, none_below}
 use Rattle.pk_walk.proofs.Following.{Follows-above, Follows-start}
 use Rattle.pk_walk.proofs.Seeking.{Reads-none, Reads-more, Reads-pages, ReadsAll-none, ReadsAll-more, no_answer, one_list}
+use Rattle.pk_base.proofs.KeyLemmas.{firsts_sorted}
 
 -- ---- lists of runs that match the flash
 

@@ -9,11 +9,12 @@ use Rattle.pk_base.specs.Key.{Key, key_cmp}
 use Rattle.pk_base.specs.Entry.{Entry, Place, key_of}
 use Rattle.pk_buf.specs.Table.{place_of}
 use Rattle.pk_model.specs.Values.{placed}
-use Rattle.pk_model.proofs.MapLemmas.{key_total, key_antisymm, left_part, right_part}
+use Rattle.pk_model.proofs.MapLemmas.{key_total, key_antisymm}
 use Rattle.pk_walk.specs.declared.position.Position.{Position}
 use Rattle.pk_walk.specs.declared.position.Position.TheVariants.{First, From, Above}
 use Rattle.pk_walk.specs.Visible.{is_wanted, wanted, first_of, WantsFrom}
-use Rattle.pk_walk.proofs.Merging.{less, turned, is_true}
+use Rattle.pk_base.proofs.Logic.{of_true, is_true, left_part, right_part, less, equal}
+use Rattle.pk_base.proofs.KeyLemmas.{turned}
 
 pub same_entry : (x e : Entry) → ◌≡◌ {A = Option Entry} (Some x) (Some e) → x ≡ e
 same_entry x e p = cc
@@ -32,7 +33,7 @@ narrowed v w (e ∷ es) within =
       | true ↦ λ p. ap (λ (xs : List _). if v e.0 then e ∷ xs else xs) rest
       | false ↦ λ p.
           elim (v e.0) as (λ c. v e.0 ≡ c → wanted v (wanted w es) ≡ (if c then e ∷ wanted v es else wanted v es)) [
-            | true ↦ λ q. absurd (subst T p (within e.0 (is_true _ q)))
+            | true ↦ λ q. absurd (subst T p (within e.0 (of_true _ q)))
             | false ↦ λ q. rest
           ] refl
     ] refl
@@ -176,10 +177,6 @@ all_kept w k [] kept above = refl
 all_kept w k (e ∷ es) kept above =
     ap (λ (b : Bool). if b then e ∷ wanted w es else wanted w es) (kept e.0 (less _ (left_part _ _ above))) ∙ ap (λ (xs : List Entry). e ∷ xs) (all_kept w k es kept (right_part _ _ above))
 
-true_is : (b : Bool) → T b → b ≡ true
-true_is true p = refl
-true_is false p = absurd p
-
 first_above : (w : Key → Bool) (k : Key) (es : List Entry) (e : Entry) → T (below_all key_cmp k es) → first_of (wanted w es) ≡ Some e → key_cmp k e.0 ≡ Less
 first_above w k [] e above first = absurd (no_entry e first)
 first_above w k (x ∷ es) e above first =
@@ -198,7 +195,7 @@ behind_first position (x ∷ es) e up first =
       | true ↦ λ p first.
           let same = same_entry x e first in
           let above = left_part _ _ up in
-          let all = all_kept w x.0 es (λ q low. true_is _ (upward position x.0 q low (is_true _ p))) above in
+          let all = all_kept w x.0 es (λ q low. is_true _ (upward position x.0 q low (of_true _ p))) above in
           let higher = all_kept (is_wanted (Above x.0)) x.0 es (λ q low. rw (turned x.0 q Less low) refl) above in
           let not_itself : is_gt (key_cmp x.0 x.0) ≡ false = ap is_gt (tied_itself key_total x.0) in
           subst (λ (y : Entry). x ∷ wanted w es ≡ y ∷ wanted (is_wanted (Above y.0)) (x ∷ es)) same
@@ -215,7 +212,7 @@ pub first_wanted : (w : Key → Bool) (es : List Entry) (e : Entry) → first_of
 first_wanted w [] e first = absurd (no_entry e first)
 first_wanted w (x ∷ es) e first =
     elim (w x.0) as (λ b. w x.0 ≡ b → first_of (if b then x ∷ wanted w es else wanted w es) ≡ Some e → T (w e.0)) [
-      | true ↦ λ p first. subst (λ (y : Entry). T (w y.0)) (same_entry x e first) (is_true _ p)
+      | true ↦ λ p first. subst (λ (y : Entry). T (w y.0)) (same_entry x e first) (of_true _ p)
       | false ↦ λ p first. first_wanted w es e first
     ] refl first
 
@@ -242,16 +239,11 @@ placed_wanted w ((key, None) ∷ es) =
 
 -- ---- the place of a key in a buffer, as it is found
 
-equal_is : (o : Ordering) → is_eq o ≡ true → o ≡ Equal
-equal_is Less e = cc
-equal_is Equal e = refl
-equal_is Greater e = cc
-
 pub above_here : (key : Key) (es : List Entry) (at : ℕ) (e : Entry) → T (is_sorted key_cmp es) → at ≡ place_of key es → slice_get es at ≡ Some e → is_eq (key_cmp (key_of e) key) ≡ true
     → slice_get es (at + 1) ≡ first_of (wanted (is_wanted (Above key)) es)
 above_here key es at e up is got same =
     let on : at + 1 ≡ suc at = omega arith in
-    ap (slice_get es) (on ∙ ap (λ (n : ℕ). suc n) is) ∙ first_above_itself key es e up (ap (slice_get es) (sym is) ∙ got) (equal_is _ same)
+    ap (slice_get es) (on ∙ ap (λ (n : ℕ). suc n) is) ∙ first_above_itself key es e up (ap (slice_get es) (sym is) ∙ got) (equal _ same)
 
 pub above_not_here : (key : Key) (es : List Entry) (at : ℕ) (e : Entry) → at ≡ place_of key es → slice_get es at ≡ Some e → is_eq (key_cmp (key_of e) key) ≡ false
     → slice_get es at ≡ first_of (wanted (is_wanted (Above key)) es)

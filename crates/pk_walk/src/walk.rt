@@ -1,10 +1,9 @@
 //! The walk itself.
-ghost use Rattle.std.specs.Prelude.{◌≡◌, ◌≤◌, ◌∷◌, List, length, is_some, None, IfOk, IfErr, OnOk, OnErr};
+ghost use Rattle.std.specs.Prelude.{◌≡◌, ◌≤◌, ◌∷◌, List, length, None, IfOk, IfErr, OnOk, OnErr};
 ghost use Rattle.std.specs.Option.{option_copied};
 ghost use Rattle.pk_base.specs.Entry.{Entry as EntrySpec, Place};
 ghost use Rattle.pk_base.specs.Key.{Key as KeySpec};
 ghost use Rattle.pk_base.specs.Page.{Flash};
-ghost use Rattle.pk_base.specs.Seen.{entry as seen};
 ghost use Rattle.pk_nand.specs.Calls.{IsReady};
 ghost use Rattle.pk_nand.specs.declared.types.Fault.TheVariants.{Reading};
 ghost use Rattle.pk_pin.specs.Frames.{Frames};
@@ -253,7 +252,7 @@ impl<A: Region> Walk<A> {
         loop {
             match self.step(board, arena, levels, active, frozen) {
                 Ok(Some(entry)) => {
-                    if has_place(&entry) {
+                    if entry.is_put() {
                         return Ok(Some(entry));
                     }
                 }
@@ -261,16 +260,6 @@ impl<A: Region> Walk<A> {
                 Err(fault) => return Err(fault),
             }
         }
-    }
-}
-
-// Whether the entry has a value's place, and is not one of a deleted key.
-fn has_place(entry: &Entry) -> bool
-    ensures { result ≡ is_some (seen entry.now).1 }
-{
-    match entry {
-        Entry::Put { .. } => true,
-        Entry::Gone { .. } => false,
     }
 }
 

@@ -28,8 +28,9 @@ use Rattle.pk_serve.specs.Serving.{StepWithin}
 use Rattle.pk_serve.proofs.Answering.{reply_other, answers}
 use Rattle.pk_serve.proofs.Counting.{at_most-zero, at_most-more, at_most-one, commands-push, faults-push, faults-one}
 use Rattle.pk_port.specs.Asking.{KeptSilently, Asked}
-use Rattle.pk_port.proofs.Growing.{silent-more, asked-none, flash-then}
+use Rattle.pk_port.proofs.Growing.{silent-more, asked-none}
 use Rattle.pk_wordrun.specs.Grouped.{exchange, Grouped, StoppedIn, KeepsGroup, AddsToGroup, StopsGroup}
+use Rattle.pk_nand.proofs.Effects.{only_then}
 
 -- the bound on faults for a list with one more
 few_more : (n : Option ℕ) (xs : List Exchange) (x : Exchange) (k : ℕ) → faults (x ∷ []) ≡ k → AtMost n (faults xs + k) → AtMost n (faults (xs ++ x ∷ []))
@@ -145,7 +146,7 @@ module _ (shape : Shape) (frames : ℕ) (start : Map) (a b : BoardState) (drive 
         record {
           kept = Goes-then shape so_far.0 a b (kept_then more) w.shape_is so_far.1 so_far.2 c P cuts went;
           stop = subst R w.no_stop stop;
-          rest = flash-then a b c w.rest rest;
+          rest = only_then a b c w.rest rest;
         }
 
     -- one more command was served
@@ -169,7 +170,7 @@ module _ (shape : Shape) (frames : ℕ) (start : Map) (a b : BoardState) (drive 
           reached = subst R (sym (commands-push all x)) (reaches_more (cmd ∷ []) (CrashFinds shape (command cmd) b.pages w.left) (command_cut c.read_faults up cmd) reached);
           rose = (let rose = w.rose in omega (arith, up, rose));
           no_stop = no_stop ∙ w.no_stop;
-          rest = flash-then a b c w.rest rest;
+          rest = only_then a b c w.rest rest;
         }
 
     -- one more command stopped the drive
@@ -194,7 +195,7 @@ module _ (shape : Shape) (frames : ℕ) (start : Map) (a b : BoardState) (drive 
           reached = subst R (append-nil (commands all)) (reaches_more [] (CrashFinds shape commit b.pages w.left) (commit_cut c.read_faults up) reached);
           rose = (let rose = w.rose in omega (arith, up, rose));
           no_stop = no_stop ∙ w.no_stop;
-          rest = flash-then a b c w.rest rest;
+          rest = only_then a b c w.rest rest;
         }
 
     -- a commit stopped the drive

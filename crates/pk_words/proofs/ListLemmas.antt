@@ -1,6 +1,6 @@
 -- The keys of a list, piece by piece.
 use Rattle.std.proofs.Common.{◌≡◌, inl, inr, ◌⊎◌, ℕ, ◌-◌, ◌<◌, ◌==◌, nat_lt, if◌then◌else◌, cond, List, [], ◌∷◌, ◌++◌, length, filter, map, slice_index_or, Bool, true, false, not, Option, Some, None, is_some, Result, Ok, Err, refl, sym, ap, subst, ◌∙◌, arith, length-append}
-use Rattle.std.proofs.lemmas.Bool.{le-leb, ltb-true}
+use Rattle.std.proofs.lemmas.Bool.{ltb-true}
 use Rattle.std.proofs.lemmas.List.{append-nil}
 use Rattle.std.specs.List.{AllByRecursion}
 use Rattle.std.specs.declared.cmp.Ordering.{Ordering}
@@ -21,7 +21,7 @@ use Rattle.pk_host.specs.Port.{PortState}
 use Rattle.pk_host.specs.Calls.{Gives, Tests, existed, exist_of}
 use Rattle.pk_host.specs.Listing.{above, Pages, Follows, TellsKeys, listed_by}
 use Rattle.pk_host.proofs.RisingLemmas.{all_middle, snoc_of, keys_rising, second_above}
-use Rattle.pk_host.proofs.PageLemmas.{next_page}
+use Rattle.pk_host.proofs.PageLemmas.{next_page, nothing_above}
 use Rattle.pk_host.proofs.CommandLemmas.{keyed_fault, exist_by}
 use Rattle.pk_words.specs.declared.listing.ListPosition.TheVariants.{From, After}
 use Rattle.pk_words.specs.Lines.{key_line, key_lines, status_line, failed_line}
@@ -168,13 +168,9 @@ says_page old o page p text some last is_text from_text higher read known spelle
   falls = falls_behind o page p some last is_text from_text higher;
 }
 
-none_follow : (xs : List Key) → false ≡ nat_lt 0 (length xs) → xs ≡ []
-none_follow [] e = refl
-none_follow (x ∷ xs) e = absurd (let clash : false ≡ true = e ∙ le-leb 1 (length (x ∷ xs)) (omega arith) in cc)
-
 pub says_end : (old new : PortState) (o : Option Key) (more : Bool) (text : List ℕ) → more ≡ false → Follows old (key_or_none o) more → TellsKeys old → text ≡ [] → ListEnds old new (position_after o) text
 says_end old new o more text stop follows known none m told =
-    inl (none, left_behind old o m known told ∙ none_follow (above (key_or_none o) (keys m)) (sym stop ∙ follows m told))
+    inl (none, left_behind old o m known told ∙ nothing_above (above (key_or_none o) (keys m)) (sym stop ∙ follows m told))
 
 -- a page that was given has a key
 pub page_some : (old new : PortState) (c : Command) (page : List Key) (more : Bool) → more ≡ true → Gives old new c (listed_by page) (Ok more) → 0 < length page

@@ -5,10 +5,10 @@ use Rattle.pk_run.specs.Kept.{Kept, empty}
 use Rattle.pk_scan.specs.Runs.{MayLoadRun, HasRun, NotRead}
 use Rattle.pk_nand.specs.Counts.{after_reads}
 use Rattle.pk_scan.proofs.Boards.{reads_none, stays_same, stays_ready_behind}
-use Rattle.pk_scan.proofs.Loading.{size_some}
 use Rattle.pk_scan.proofs.Rereading.{pages_most}
 use Rattle.pk_scan.proofs.RootFacts.{level_few, level_blocks, level_exist}
 use Rattle.pk_scan.proofs.RunsHeld.{level_loaded, level_not_loaded, le_of}
+use Rattle.pk_base.proofs.ShapeLemmas.{entries_some}
 use Rattle.pk_scan.proofs.levels.load_level.Goals as goal
 
 pub load_run-requires-clause-may : goal.load_run-requires-clause-may
@@ -16,7 +16,7 @@ load_run-requires-clause-may g c =
     let shape : IsShape c.args.root.now.shape = rw c.shape.ensures at c.known.ensures in
     let is : c.in-Ok.run' ≡ empty c.args.root.now.shape c.args.level = rw c.shape.ensures at c.in-Ok.ensures.empty in
     let few = subst (λ (n : ℕ). n ≤ cap c.args.root.now.shape c.args.level * page_entries c.args.root.now.shape) (sym c.entries-count.ensures) (level_few c.args.root.now.shape c.args.root.now.root c.requires.may.grammar c.args.level c.requires.may.least c.requires.may.most) in
-    let pages : run_pages c.args.root.now.shape c.entries-count.result ≤ cap c.args.root.now.shape c.args.level = pages_most c.entries-count.result (page_entries c.args.root.now.shape) (cap c.args.root.now.shape c.args.level) (size_some c.args.root.now.shape shape) few in
+    let pages : run_pages c.args.root.now.shape c.entries-count.result ≤ cap c.args.root.now.shape c.args.level = pages_most c.entries-count.result (page_entries c.args.root.now.shape) (cap c.args.root.now.shape c.args.level) (entries_some c.args.root.now.shape shape) few in
     let places = level_blocks c.args.root.now.shape c.args.root.now.root c.requires.may.grammar c.args.level c.blocks-blocks.result.now c.blocks-blocks.ensures in
     subst (λ (r : Kept). MayLoadRun (nat_le c.args.level c.pinned.result) c.entries-count.result c.blocks-blocks.result.now c.args.arena.now r) (sym is) (record {
       is_empty = refl;

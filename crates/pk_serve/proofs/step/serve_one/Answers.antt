@@ -9,8 +9,8 @@ use Rattle.pk_serve.proofs.Skipping.{stands_value, reaches_value, went_value}
 use Rattle.pk_serve.proofs.Blaming.{quiet-then, quiet-flash}
 use Rattle.pk_serve.proofs.Finishing.{keeps_record, breaks_record}
 use Rattle.pk_serve.proofs.Parting.{faulted-then, runs_on-then}
-use Rattle.pk_serve.proofs.Giving.{rose_from}
 use Rattle.pk_serve.proofs.Counting.{unworn_few}
+use Rattle.pk_nand.proofs.Effects.{rose_from}
 use Rattle.pk_serve.proofs.step.serve_one.Goals as goal
 
 pub returns-in-Err-clause-stops : goal.returns-in-Err-clause-stops

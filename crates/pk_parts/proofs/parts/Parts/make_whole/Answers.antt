@@ -1,5 +1,5 @@
 use Rattle.std.proofs.Common.{sym, refl, ◌∙◌}
-use Rattle.pk_parts.proofs.Halves.{not_both}
+use Rattle.pk_base.proofs.Logic.{not_both}
 use Rattle.pk_parts.proofs.Stopping.{fails_half, fails_stopped}
 use Rattle.pk_parts.proofs.parts.Parts.make_whole.Goals as goal
 

@@ -3,17 +3,17 @@ use Rattle.pk_walk.proofs.Walks.{Walking-gone, Walking-gives, Walking-ends, Walk
 use Rattle.pk_walk.proofs.Seeking.{Reads-more}
 use Rattle.pk_walk.proofs.walk.Walk.next.Goals as goal
 
-pub returns-then-has_place-clause-gives : goal.returns-then-has_place-clause-gives
-returns-then-has_place-clause-gives g c rest left =
+pub returns-then-is_put-clause-gives : goal.returns-then-is_put-clause-gives
+returns-then-is_put-clause-gives g c rest left =
     Walking-gives c.args.levels.now.runs c.args.arena.now c.args.active.now.entries c.args.frozen.now.entries c.args.levels.now.shape (g.B.Nand.state c.args.board.now) c.args.self.now (g.B.Nand.state c.loop-entry.board) c.loop-entry.self c.loop-entry.invariant.walking
-    (g.B.Nand.state c.step.new.board) c.step.new.self c.in-Ok-Some.entry (sym c.has_place.ensures ∙ c.if-has_place.true) c.in-Ok-Some.ensures.same (rw c.in-Ok-Some.field-0-is at c.in-Ok-Some.ensures.comes.passes) c.in-Ok-Some.ensures.walks_on.follow rest left
+    (g.B.Nand.state c.step.new.board) c.step.new.self c.in-Ok-Some.entry (sym c.is_put.ensures ∙ c.if-is_put.true) c.in-Ok-Some.ensures.same (rw c.in-Ok-Some.field-0-is at c.in-Ok-Some.ensures.comes.passes) c.in-Ok-Some.ensures.walks_on.follow rest left
 
-pub returns-then-has_place-clause-reads : goal.returns-then-has_place-clause-reads
-returns-then-has_place-clause-reads g c =
+pub returns-then-is_put-clause-reads : goal.returns-then-is_put-clause-reads
+returns-then-is_put-clause-reads g c =
     Reads-more _ _ _ (g.B.Nand.state c.args.board.now) (g.B.Nand.state c.loop-entry.board) (g.B.Nand.state c.step.new.board) c.loop-entry.invariant.walking.reads c.in-Ok-Some.ensures.comes.reads
 
-pub returns-then-has_place-clause-few : goal.returns-then-has_place-clause-few
-returns-then-has_place-clause-few g c =
+pub returns-then-is_put-clause-few : goal.returns-then-is_put-clause-few
+returns-then-is_put-clause-few g c =
     few_read c.args.levels.now.runs c.args.arena.now c.args.active.now.entries c.args.frozen.now.entries c.args.levels.now.shape (g.B.Nand.state c.args.board.now) c.args.self.now (g.B.Nand.state c.loop-entry.board) c.loop-entry.self c.loop-entry.invariant.walking
     c.step.new.self c.in-Ok-Some.ensures.walks_on.follow
 
@@ -26,7 +26,7 @@ pub loop-entry-preserved : goal.loop-entry-preserved
 loop-entry-preserved g c =
     record {
       walking = Walking-gone c.args.levels.now.runs c.args.arena.now c.args.active.now.entries c.args.frozen.now.entries c.args.levels.now.shape (g.B.Nand.state c.args.board.now) c.args.self.now (g.B.Nand.state c.loop-entry.board) c.loop-entry.self c.loop-entry.invariant.walking
-          (g.B.Nand.state c.step.new.board) c.step.new.self c.in-Ok-Some.entry (sym c.has_place.ensures ∙ c.if-has_place.false) c.in-Ok-Some.ensures.walks_on.same_shape c.in-Ok-Some.ensures.ready (rw c.in-Ok-Some.field-0-is at c.in-Ok-Some.ensures.comes.passes) c.in-Ok-Some.ensures.walks_on.follow c.in-Ok-Some.ensures.comes.reads c.in-Ok-Some.ensures.walks_on.skips_none c.in-Ok-Some.ensures.comes.exact;
+          (g.B.Nand.state c.step.new.board) c.step.new.self c.in-Ok-Some.entry (sym c.is_put.ensures ∙ c.if-is_put.false) c.in-Ok-Some.ensures.walks_on.same_shape c.in-Ok-Some.ensures.ready (rw c.in-Ok-Some.field-0-is at c.in-Ok-Some.ensures.comes.passes) c.in-Ok-Some.ensures.walks_on.follow c.in-Ok-Some.ensures.comes.reads c.in-Ok-Some.ensures.walks_on.skips_none c.in-Ok-Some.ensures.comes.exact;
     }
 
 pub returns-in-Ok-None-clause-gives : goal.returns-in-Ok-None-clause-gives
@@ -58,8 +58,8 @@ returns-in-Err-clause-err g c =
     fails_behind c.args.levels.now.runs c.args.arena.now c.args.active.now.entries c.args.frozen.now.entries c.args.levels.now.shape (g.B.Nand.state c.args.board.now) c.args.self.now (g.B.Nand.state c.loop-entry.board) c.loop-entry.self c.loop-entry.invariant.walking
     (g.B.Nand.state c.step.new.board) c.step.new.self c.in-Err.ensures.fails.1
 
-pub returns-then-has_place-clause-exact : goal.returns-then-has_place-clause-exact
-returns-then-has_place-clause-exact g c none =
+pub returns-then-is_put-clause-exact : goal.returns-then-is_put-clause-exact
+returns-then-is_put-clause-exact g c none =
     (Walking-all c.args.levels.now.runs c.args.arena.now c.args.active.now.entries c.args.frozen.now.entries c.args.levels.now.shape (g.B.Nand.state c.args.board.now) c.args.self.now (g.B.Nand.state c.loop-entry.board) c.loop-entry.self c.loop-entry.invariant.walking
     (g.B.Nand.state c.step.new.board) c.step.new.self c.in-Ok-Some.ensures.walks_on.skips_none c.in-Ok-Some.ensures.comes.exact none).1
 
