@@ -5,7 +5,7 @@ use Rattle.std.specs.Str.Parse.{digits_value}
 use Rattle.std.proofs.lemmas.Bool.{and_parts}
 use Rattle.std.proofs.lemmas.Bool.Decides.{nat_tests}
 use Rattle.pk_base.specs.Fields.{AreBytes}
-use Rattle.pk_base.specs.Key.{IsKey}
+use Rattle.pk_base.specs.Key.{Key, IsKey, bytes_of as bytes_in}
 use Rattle.pk_nvme.specs.Text.{is_number, number_of, number_text, hex_text, bytes_text, some_bytes_of, bytes_of}
 use Rattle.pk_asm.specs.Words.{key_of}
 use Rattle.pk_asm.specs.Line.{retrieve_of, delete_of, exist_of, from_of, list_form, flush_of, report_of, tick_of, plain_of, options_of, store_with, store_of, named_of}
@@ -15,12 +15,12 @@ use Rattle.pk_asm.specs.declared.form.Form.TheVariants.{Store, Retrieve, Delete,
 use Rattle.pk_asm.proofs.TextLemmas.{some_bytes_of-is, number_of-text, key_of-text, bytes_of-text, from_of-text, is_free, AreFree, free_hex, free_bytes, free_from, free_number}
 
 -- a key of bytes
-pub record IsByteKey (key : List ℕ) : Type 0 where
+pub record IsByteKey (key : Key) : Type 0 where
   pub is_key : IsKey key
-  pub fits : AreBytes key
+  pub fits : AreBytes (bytes_in key)
 
 -- a key that may be missing
-abbrev pub IsFrom : Option (List ℕ) → Type 0
+abbrev pub IsFrom : Option Key → Type 0
 IsFrom None = Unit {0}
 IsFrom (Some key) = IsByteKey key
 
@@ -53,16 +53,17 @@ number_is word n e =
     let below = parts.1 in
     grind (arith, nat_tests)
 
-key_is : (word key : List ℕ) → key_of word ≡ Some key → IsByteKey key
-key_is word key e =
-    let h = held (nat_le (length word) 32) (some_bytes_of word) key e in
-    let is = some_bytes_of-is word key h.1 in
-    let short : length word ≤ 32 = let le = h.0 in grind (arith, nat_tests) in
-    record { is_key = record { some = is.0; most = omega (arith, is.1) }; fits = is.2 }
-
 some_is : {A B : Type 0} (f : A → B) (o : Option A) (y : B) → option_map f o ≡ Some y → (x : A) × (o ≡ Some x) × (f x ≡ y)
 some_is f (Some x) y e = (x, refl, cc)
 some_is f None y e = cc
+
+key_is : (word : List ℕ) (key : Key) → key_of word ≡ Some key → IsByteKey key
+key_is word key e =
+    let h = held (nat_le (length word) 32) (option_map (λ bytes. 1 ∷ bytes) (some_bytes_of word)) key e in
+    let some = some_is (λ (bytes : List ℕ). 1 ∷ bytes) (some_bytes_of word) key h.1 in
+    let is = some_bytes_of-is word some.0 some.1 in
+    let short : length word ≤ 32 = let le = h.0 in grind (arith, nat_tests) in
+    subst IsByteKey some.2 (record { is_key = record { some = is.0; most = omega (arith, is.1); space_some = omega arith; space_most = omega arith }; fits = is.2 })
 
 both_are : {A B C : Type 0} (f : A → B → C) (o : Option A) (p : Option B) (z : C) → option_and_then (λ x. option_and_then (λ y. Some (f x y)) p) o ≡ Some z
     → (x : A) × (y : B) × (o ≡ Some x) × (p ≡ Some y) × (f x y ≡ z)
@@ -70,7 +71,7 @@ both_are f (Some x) (Some y) z e = (x, y, refl, refl, cc)
 both_are f (Some x) None z e = cc
 both_are f None p z e = cc
 
-from_is : (word : List ℕ) (from : Option (List ℕ)) → from_of word ≡ Some from → IsFrom from
+from_is : (word : List ℕ) (from : Option Key) → from_of word ≡ Some from → IsFrom from
 from_is word from e =
     elim (picked (bytes_eq word (codes "-")) (Some None) (option_map Some (key_of word)) from e) [
       | inl none ↦ let same : None ≡ from = cc in subst IsFrom same tt
@@ -157,7 +158,7 @@ options_are word n e =
       ]
     ]
 
-store_with_is : (k b : Option (List ℕ)) (o : Option ℕ) (form : Form) (bytes : List ℕ) → ((key : List ℕ) → k ≡ Some key → IsByteKey key) → ((n : ℕ) → o ≡ Some n → n < 4)
+store_with_is : (k : Option Key) (b : Option (List ℕ)) (o : Option ℕ) (form : Form) (bytes : List ℕ) → ((key : Key) → k ≡ Some key → IsByteKey key) → ((n : ℕ) → o ≡ Some n → n < 4)
     → length bytes < 2 ^ 32 → store_with k b o ≡ Some (form, bytes) → IsForm form bytes
 store_with_is (Some key) (Some xs) (Some n) form bytes keys options few e =
     let first : Form × List ℕ = (Store key (length xs) n, xs) in
@@ -208,10 +209,10 @@ form_name Report = codes "report"
 form_name (Tick steps) = codes "tick"
 
 abbrev pub form_operands : Form → List ℕ → List (List ℕ)
-form_operands (Store key size options) bytes = hex_text key ∷ bytes_text bytes ∷ option_words options
-form_operands (Retrieve key size) bytes = hex_text key ∷ number_text size ∷ []
-form_operands (Delete key) bytes = hex_text key ∷ []
-form_operands (Exist key) bytes = hex_text key ∷ []
+form_operands (Store key size options) bytes = hex_text (bytes_in key) ∷ bytes_text bytes ∷ option_words options
+form_operands (Retrieve key size) bytes = hex_text (bytes_in key) ∷ number_text size ∷ []
+form_operands (Delete key) bytes = hex_text (bytes_in key) ∷ []
+form_operands (Exist key) bytes = hex_text (bytes_in key) ∷ []
 form_operands (ListFrom from size) bytes = from_text from ∷ number_text size ∷ []
 form_operands Flush bytes = []
 form_operands Report bytes = []
@@ -244,25 +245,25 @@ option_free false false true = (refl, tt)
 option_free false false false = tt
 
 pub operands_free : (form : Form) (bytes : List ℕ) → IsForm form bytes → AreFree (form_operands form bytes)
-operands_free (Store key size options) bytes h = (free_hex key, (free_bytes bytes, option_free (options == 1) (options == 2) (options == 3)))
-operands_free (Retrieve key size) bytes h = (free_hex key, (free_number size h.1, tt))
-operands_free (Delete key) bytes h = (free_hex key, tt)
-operands_free (Exist key) bytes h = (free_hex key, tt)
+operands_free (Store key size options) bytes h = (free_hex (bytes_in key), (free_bytes bytes, option_free (options == 1) (options == 2) (options == 3)))
+operands_free (Retrieve key size) bytes h = (free_hex (bytes_in key), (free_number size h.1, tt))
+operands_free (Delete key) bytes h = (free_hex (bytes_in key), tt)
+operands_free (Exist key) bytes h = (free_hex (bytes_in key), tt)
 operands_free (ListFrom from size) bytes h = (free_from from, (free_number size h.1, tt))
 operands_free Flush bytes h = tt
 operands_free Report bytes h = tt
 operands_free (Tick steps) bytes h = (free_number steps h.0, tt)
 
-from_key : (from : Option (List ℕ)) → IsFrom from → (key : List ℕ) → from ≡ Some key → IsKey key × AreBytes key
-from_key (Some k) h key e = let same : k ≡ key = cc in subst (λ x. IsKey x × AreBytes x) same (h.is_key, h.fits)
+from_key : (from : Option Key) → IsFrom from → (key : Key) → from ≡ Some key → IsKey key × AreBytes (bytes_in key)
+from_key (Some k) h key e = let same : k ≡ key = cc in subst (λ (x : Key). IsKey x × AreBytes (bytes_in x)) same (h.is_key, h.fits)
 from_key None h key e = cc
 
-stored : (key bytes : List ℕ) (size : ℕ) (o : Option ℕ) (n : ℕ) → IsByteKey key → AreBytes bytes → size ≡ length bytes → o ≡ Some n
-    → store_with (key_of (hex_text key)) (bytes_of (bytes_text bytes)) o ≡ Some (Store key size n, bytes)
+stored : (key : Key) (bytes : List ℕ) (size : ℕ) (o : Option ℕ) (n : ℕ) → IsByteKey key → AreBytes bytes → size ≡ length bytes → o ≡ Some n
+    → store_with (key_of (hex_text (bytes_in key))) (bytes_of (bytes_text bytes)) o ≡ Some (Store key size n, bytes)
 stored key bytes size o n k fits sized e = rw (key_of-text key k.is_key k.fits, bytes_of-text bytes fits, e) (ap (λ (m : ℕ). Some (Store key m n, bytes)) (sym sized))
 
-store_said : (key bytes : List ℕ) (size options : ℕ) → IsByteKey key → AreBytes bytes → size ≡ length bytes → options < 4
-    → store_of (hex_text key ∷ bytes_text bytes ∷ option_words options) ≡ Some (Store key size options, bytes)
+store_said : (key : Key) (bytes : List ℕ) (size options : ℕ) → IsByteKey key → AreBytes bytes → size ≡ length bytes → options < 4
+    → store_of (hex_text (bytes_in key) ∷ bytes_text bytes ∷ option_words options) ≡ Some (Store key size options, bytes)
 store_said key bytes size zero k fits sized few = stored key bytes size (Some 0) 0 k fits sized refl
 store_said key bytes size (suc zero) k fits sized few = stored key bytes size (Some 1) 1 k fits sized refl
 store_said key bytes size (suc (suc zero)) k fits sized few = stored key bytes size (Some 2) 2 k fits sized refl

@@ -4,6 +4,7 @@ use Rattle.pk_nvme.specs.declared.limits.TheConstants.{NAMESPACE}
 use Rattle.pk_nvme.specs.declared.opcode.TheConstants.{FLUSH, STORE, RETRIEVE, LIST, DELETE, EXIST, TICK, REPORT}
 use Rattle.pk_base.specs.declared.sizes.TheConstants.{KEY_BYTES}
 use Rattle.pk_base.specs.Fields.{padded}
+use Rattle.pk_base.specs.Key.{bytes_of}
 use Rattle.pk_nvme.specs.Command.{key_or_none}
 use Rattle.pk_nvme.specs.Seen.{entry_of}
 use Rattle.pk_asm.specs.declared.form.Form.{Form}
@@ -16,11 +17,11 @@ entry_with number opcode key size options =
 
 -- the entry of this number that a form gives; a field that it does not name is 0
 abbrev pub form_entry : ℕ → Form → List ℕ
-form_entry number (Store key size options) = entry_with number STORE key size options
-form_entry number (Retrieve key size) = entry_with number RETRIEVE key size 0
-form_entry number (Delete key) = entry_with number DELETE key 0 0
-form_entry number (Exist key) = entry_with number EXIST key 0 0
-form_entry number (ListFrom from size) = entry_with number LIST (key_or_none from) size 0
+form_entry number (Store key size options) = entry_with number STORE (bytes_of key) size options
+form_entry number (Retrieve key size) = entry_with number RETRIEVE (bytes_of key) size 0
+form_entry number (Delete key) = entry_with number DELETE (bytes_of key) 0 0
+form_entry number (Exist key) = entry_with number EXIST (bytes_of key) 0 0
+form_entry number (ListFrom from size) = entry_with number LIST (bytes_of (key_or_none from)) size 0
 form_entry number Flush = entry_with number FLUSH [] 0 0
 form_entry number Report = entry_with number REPORT [] 0 0
 form_entry number (Tick steps) = entry_with number TICK [] steps 0

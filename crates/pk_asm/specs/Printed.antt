@@ -2,6 +2,8 @@
 use Rattle.std.specs.Prelude.{◌≡◌, ℕ, ◌+◌, ◌≤◌, ◌<◌, ◌^◌, Bool, ◌==◌, ◌&&◌, not, nat_le, if◌then◌else◌, List, [], ◌∷◌, ◌++◌, length, take, Option, Some, None, option_map, codes, bytes_eq}
 use Rattle.std.specs.List.{flat_map}
 use Rattle.pk_base.specs.declared.sizes.TheConstants.{KEY_BYTES}
+use Rattle.pk_base.specs.Key.{Key, bytes_of}
+use Rattle.pk_nvme.specs.declared.limits.TheConstants.{NAMESPACE}
 use Rattle.pk_nvme.specs.declared.opcode.TheConstants.{FLUSH, STORE, RETRIEVE, LIST, DELETE, EXIST, TICK, REPORT}
 use Rattle.pk_nvme.specs.declared.options.TheConstants.{IF_EXISTS, IF_ABSENT, BOTH}
 use Rattle.pk_nvme.specs.Bytes.{RoomyList}
@@ -32,16 +34,16 @@ option_words options =
     if options == IF_ABSENT then codes "if-absent" ∷ [] else
     if options == BOTH then codes "both" ∷ [] else []
 
-abbrev pub from_text : Option (List ℕ) → List ℕ
+abbrev pub from_text : Option Key → List ℕ
 from_text None = codes "-"
-from_text (Some key) = hex_text key
+from_text (Some key) = hex_text (bytes_of key)
 
 -- the words of a named line
 abbrev pub form_words : Form → List ℕ → List (List ℕ)
-form_words (Store key size options) bytes = codes "store" ∷ hex_text key ∷ bytes_text bytes ∷ option_words options
-form_words (Retrieve key size) bytes = codes "retrieve" ∷ hex_text key ∷ number_text size ∷ []
-form_words (Delete key) bytes = codes "delete" ∷ hex_text key ∷ []
-form_words (Exist key) bytes = codes "exist" ∷ hex_text key ∷ []
+form_words (Store key size options) bytes = codes "store" ∷ hex_text (bytes_of key) ∷ bytes_text bytes ∷ option_words options
+form_words (Retrieve key size) bytes = codes "retrieve" ∷ hex_text (bytes_of key) ∷ number_text size ∷ []
+form_words (Delete key) bytes = codes "delete" ∷ hex_text (bytes_of key) ∷ []
+form_words (Exist key) bytes = codes "exist" ∷ hex_text (bytes_of key) ∷ []
 form_words (ListFrom from size) bytes = codes "list" ∷ from_text from ∷ number_text size ∷ []
 form_words Flush bytes = codes "flush" ∷ []
 form_words Report bytes = codes "report" ∷ []
@@ -56,8 +58,8 @@ raw_line e bytes = line_of (codes "raw" ∷ hex_text e ∷ bytes_text bytes ∷ 
 -- ---- which line an entry has
 
 -- the key in the key's place, if its length is that of a key
-abbrev pub key_at : ℕ → List ℕ → Option (List ℕ)
-key_at size place = if nat_le 1 size && nat_le size KEY_BYTES then Some (take size place) else None
+abbrev pub key_at : ℕ → List ℕ → Option Key
+key_at size place = if nat_le 1 size && nat_le size KEY_BYTES then Some (NAMESPACE ∷ take size place) else None
 
 -- the forms with these fields of a command: the bytes of the key, its place, the size
 abbrev pub store_candidate : ℕ → List ℕ → ℕ → ℕ → ℕ → Option Form

@@ -9,6 +9,7 @@ ghost use Rattle.pk_asm.specs.Printed as spec;
 use crate::form::Form;
 use crate::writer::{Word, put_line};
 use pk_base::{KEY_BYTES, Key};
+use pk_nvme::limits::NAMESPACE;
 use pk_nvme::opcode::{DELETE, EXIST, FLUSH, LIST, REPORT, RETRIEVE, STORE, TICK};
 use pk_nvme::options::{BOTH, IF_ABSENT, IF_EXISTS};
 use pk_nvme::{Bytes, Request, SUBMISSION_BYTES};
@@ -22,7 +23,7 @@ fn key_of(request: &Request) -> Option<Key>
         return None;
     }
     let place = request.key;
-    Some(Key::of(&place[..size]))
+    Some(Key::of(NAMESPACE as u8, &place[..size]))
 }
 
 fn store(request: &Request, value: &[u8]) -> Option<Form>

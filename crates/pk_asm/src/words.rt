@@ -10,6 +10,7 @@ ghost use Rattle.pk_asm.specs.Words.{key_of, hex_entry};
 
 use hex::FromHex;
 use pk_base::{KEY_BYTES, Key};
+use pk_nvme::limits::NAMESPACE;
 use pk_nvme::{Bytes, SUBMISSION_BYTES};
 
 fn are_digits(word: &[u8]) -> bool
@@ -64,7 +65,7 @@ pub fn number(word: &[u8]) -> Option<u32>
     }
 }
 
-/// The key that a word of hexadecimal digits is, two for each byte, in either case.
+/// The key, in namespace 1, that a word of hexadecimal digits is, two for each byte, in either case.
 pub fn key(word: &[u8]) -> Option<Key>
     ensures { result ≡ key_of word.now }
 {
@@ -74,7 +75,7 @@ pub fn key(word: &[u8]) -> Option<Key>
     }
     let mut bytes = [0u8; KEY_BYTES];
     match hex::decode_to_slice(word, &mut bytes[..size]) {
-        Ok(()) => Some(Key::of(&bytes[..size])),
+        Ok(()) => Some(Key::of(NAMESPACE as u8, &bytes[..size])),
         Err(_) => None,
     }
 }

@@ -1,10 +1,12 @@
--- The order of keys, and lists of entries whose keys rise.
-use Rattle.std.proofs.Common.{◌≡◌, T, List, [], ◌∷◌, refl, ap, sym, subst, ◌∙◌, None, Ordering, Less, Equal}
-use Rattle.std.specs.Ordering.{is_lt, ordering_reverse}
+-- Keys as their namespace and their bytes, their order, and lists of entries whose keys rise.
+use Rattle.std.proofs.Common.{◌≡◌, ℕ, ◌≤◌, Bool, true, false, cond, T, List, [], ◌∷◌, length, refl, ap, sym, subst, ◌∙◌, arith, None, Ordering, Less, Equal, Greater}
+use Rattle.std.specs.Prelude.{nat_lt, ◌==◌}
+use Rattle.std.proofs.lemmas.Bool.Decides.{nat_tests}
+use Rattle.std.specs.Ordering.{nat_cmp, is_lt, ordering_then, ordering_reverse}
 use Rattle.std.specs.FinMap.{slice_cmp-IsAntisymmetric, nat_cmp-IsAntisymmetric}
 use Rattle.std.specs.FinMap.Entries.{find, is_sorted, below_all, is_sorted-put}
 use Rattle.std.proofs.lemmas.Cmp.{nat_list_cmp_total}
-use Rattle.pk_base.specs.Key.{Key, key_cmp}
+use Rattle.pk_base.specs.Key.{Key, IsKey, key_cmp, space_of, bytes_of}
 use Rattle.pk_base.specs.Entry.{Entry}
 use Rattle.pk_base.specs.Firsts.{firsts}
 use Rattle.pk_base.proofs.Logic.{left_part, right_part, both, less}
@@ -33,3 +35,29 @@ missing k (e ∷ es) h =
 pub firsts_sorted : (es : List Entry) → T (is_sorted key_cmp (firsts es))
 firsts_sorted [] = tt
 firsts_sorted (e ∷ es) = is_sorted-put key_cmp nat_list_cmp_total e.0 e.1 (firsts es) (firsts_sorted es)
+
+-- ---- a namespace and bytes
+
+pub whole_key : (key : Key) → IsKey key → space_of key ∷ bytes_of key ≡ key
+whole_key [] h = let some = h.some in absurd (omega arith)
+whole_key (n ∷ b) h = refl
+
+none_below : (bytes : List ℕ) → is_lt (key_cmp bytes []) ≡ false
+none_below [] = refl
+none_below (x ∷ xs) = refl
+
+not_below : (b : ℕ) (bytes : List ℕ) → is_lt (key_cmp (b ∷ bytes) (0 ∷ [])) ≡ false
+not_below b bytes =
+    let no : nat_lt b 0 ≡ false = grind (arith, nat_tests) in
+    rw no (elim (b == 0) as (λ e. is_lt (ordering_then (cond e Equal Greater) (key_cmp bytes [])) ≡ false) [ | true ↦ none_below bytes | false ↦ refl ])
+
+-- In a namespace no key is below the one of the byte 0, since each has a byte.
+pub least_key : (n : ℕ) (key : Key) → IsKey key → is_lt (key_cmp key (n ∷ 0 ∷ [])) ≡ is_lt (key_cmp key (n ∷ []))
+least_key n [] h = let some = h.some in absurd (omega arith)
+least_key n (m ∷ []) h = let some = h.some in absurd (omega arith)
+least_key n (m ∷ b ∷ bytes) h =
+    elim (nat_cmp m n) as (λ o. is_lt (ordering_then o (key_cmp (b ∷ bytes) (0 ∷ []))) ≡ is_lt (ordering_then o Greater)) [
+      | Less ↦ refl
+      | Equal ↦ not_below b bytes
+      | Greater ↦ refl
+    ]

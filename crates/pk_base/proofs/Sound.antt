@@ -3,11 +3,12 @@ use Rattle.std.proofs.Common.{◌≡◌, ℕ, ◌≤◌, Bool, true, false, List
 use Rattle.std.specs.Prelude.{nat_le, ◌&&◌, if◌then◌else◌}
 use Rattle.std.specs.List.{list_all, AllByRecursion}
 use Rattle.std.proofs.lemmas.Bool.Decides.{nat_tests}
-use Rattle.pk_base.specs.Key.{Key, IsKey, is_key}
+use Rattle.pk_base.specs.declared.sizes.TheConstants.{MOST_SPACES}
+use Rattle.pk_base.specs.Key.{Key, IsKey, is_key, space_of, bytes_of}
 use Rattle.pk_base.specs.Shape.{Shape, page_entries}
 use Rattle.pk_base.specs.Entry.{Entry}
 use Rattle.pk_base.specs.EntryBytes.{IsEntry, is_place_page, is_place_len, is_place_of, is_entry, AreEntries, are_entries}
-use Rattle.pk_base.proofs.EntryLemmas.{place_is}
+use Rattle.pk_base.proofs.EntryLemmas.{place_is, is_place}
 use Rattle.pk_base.proofs.Logic.{both_true}
 
 pub if_some : {A : Type 0} (b : Bool) (x y : A) → (if b then Some x else None) ≡ Some y → (b ≡ true) × (x ≡ y)
@@ -19,8 +20,28 @@ at_least a b e = grind (arith, nat_tests)
 
 pub key_sound : (key : Key) → is_key key ≡ true → IsKey key
 key_sound key e =
-    let size = both_true (nat_le 1 (length key)) (nat_le (length key) 16) e in
-    record { some = at_least 1 (length key) size.0; most = at_least (length key) 16 size.1 }
+    let last = both_true (nat_le 1 (length (bytes_of key)) && nat_le (length (bytes_of key)) 16 && nat_le 1 (space_of key)) (nat_le (space_of key) MOST_SPACES) e in
+    let third = both_true (nat_le 1 (length (bytes_of key)) && nat_le (length (bytes_of key)) 16) (nat_le 1 (space_of key)) last.0 in
+    let size = both_true (nat_le 1 (length (bytes_of key))) (nat_le (length (bytes_of key)) 16) third.0 in
+    record {
+      some = at_least 1 (length (bytes_of key)) size.0;
+      most = at_least (length (bytes_of key)) 16 size.1;
+      space_some = at_least 1 (space_of key) third.1;
+      space_most = at_least (space_of key) MOST_SPACES last.1;
+    }
+
+pub least_true : (a b : ℕ) → a ≤ b → nat_le a b ≡ true
+least_true a b h = grind (arith, nat_tests)
+
+pub key_true : (key : Key) → IsKey key → is_key key ≡ true
+key_true key h =
+    rw (least_true 1 (length (bytes_of key)) h.some, least_true (length (bytes_of key)) 16 h.most, least_true 1 (space_of key) h.space_some, least_true (space_of key) MOST_SPACES h.space_most) refl
+
+pub entry_true : (g : Shape) (e : Entry) → IsEntry g e → is_entry g e ≡ true
+entry_true g (key, Some place) h =
+    let tests = is_place g place.page place.len h.1 in
+    rw (key_true key h.0, tests.0, tests.1) refl
+entry_true g (key, None) h = rw (key_true key h.0) refl
 
 pub entry_sound : (g : Shape) (e : Entry) → is_entry g e ≡ true → IsEntry g e
 entry_sound g (key, Some place) e =

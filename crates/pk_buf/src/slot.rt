@@ -10,7 +10,9 @@ pub struct Slot {
 impl Default for Slot {
     fn default() -> Slot {
         Slot {
-            entry: Entry::Gone { key: Key::of(&[0]) },
+            entry: Entry::Gone {
+                key: Key::of(1, &[0]),
+            },
         }
     }
 }

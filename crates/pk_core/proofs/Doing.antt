@@ -1,9 +1,10 @@
 -- A List meets the contract of a drive.
 use Rattle.std.proofs.Common.{◌≡◌, inl, inr, ℕ, ◌-◌, min, refl, sym, ap, subst, ◌∙◌, arith, Bool, true, false, List, [], ◌∷◌, take, Option, Some, None}
-use Rattle.pk_base.specs.Shape.{Shape, limit}
+use Rattle.std.specs.List.{AllByRecursion}
+use Rattle.pk_base.specs.Shape.{Shape, IsShape, limit}
 use Rattle.pk_base.specs.Page.{Flash}
 use Rattle.pk_base.specs.Entry.{Entry}
-use Rattle.pk_base.specs.Map.{Map, keys_from}
+use Rattle.pk_base.specs.Map.{Map, IsMap, keys_from}
 use Rattle.pk_nvme.specs.declared.request.Request.{Request}
 use Rattle.pk_nvme.specs.Seen.{command_of}
 use Rattle.pk_nvme.specs.Command.{Command, key}
@@ -16,6 +17,8 @@ use Rattle.pk_nvme.specs.declared.opcode.Opcode.TheVariants.{Retrieve, List as L
 use Rattle.pk_model.specs.Answer.{early, fitting, list_bytes}
 use Rattle.pk_model.specs.Run.{Step}
 use Rattle.pk_model.specs.Reading.{reading}
+use Rattle.pk_model.specs.Laws.{IsStorable}
+use Rattle.pk_model.proofs.HeldMap.{map_held}
 use Rattle.pk_model.proofs.Answering.{serves}
 use Rattle.pk_steps.proofs.Untouched.{under_reads}
 use Rattle.pk_nand.specs.Effects.{OnlyFlash, OnlyReading}
@@ -27,9 +30,16 @@ use Rattle.pk_model.specs.Wear.{roots}
 use Rattle.pk_call.specs.declared.types.Outcome.{Outcome}
 use Rattle.pk_parts.specs.Parts.{Parts, sight_of, settled_parts}
 use Rattle.pk_parts.specs.Agreeing.{DriveOnFlash}
-use Rattle.pk_core.specs.Done.{Does}
-use Rattle.pk_index.specs.Listed.{keys_there, ListsInto}
-use Rattle.pk_core.proofs.Replies.{keys_listed}
+use Rattle.pk_base.specs.Shape.{most_calls}
+use Rattle.pk_call.specs.Calling.{FewCalls}
+use Rattle.pk_core.specs.Done.{Does, Executes}
+use Rattle.pk_core.specs.Quiet.{OnlyLooks}
+use Rattle.pk_core.specs.Serving.{IsServable}
+use Rattle.pk_core.proofs.Callings.{few_of_shape}
+use Rattle.pk_core.proofs.Executing.{executes_walked}
+use Rattle.pk_index.specs.Keys.{keys_there}
+use Rattle.pk_core.specs.Listed.{first_listed, ListsInto}
+use Rattle.pk_core.proofs.Replies.{keys_begun, keys_listed}
 use Rattle.pk_base.proofs.Logic.{ok_same}
 
 some_same : (x y : Shape) → ◌≡◌ {A = Option Shape} (Some x) (Some y) → x ≡ y
@@ -47,11 +57,11 @@ eleven = 0 ∷ 0 ∷ 0 ∷ 0 ∷ 0 ∷ 0 ∷ 0 ∷ 0 ∷ 0 ∷ 0 ∷ 0 ∷ []
 
 module _ (d : Parts) (old new : BoardState) (r : Request) (o : Outcome) (into : List ℕ) (a : DriveOnFlash d old.shape old.pages) (is : r.opcode ≡ 0x06) (passed : early d.log.shape (command_of r []) ≡ None)
     (lists : (ess : List (List Entry)) → RunsOnFlash old.pages d.arena d.levels.runs ess
-    → ListsInto old new o into (list_bytes (fitting (min r.size 65536 - 4) (keys_there (key (command_of r [])) (d.log.active.entries ∷ d.log.frozen.entries ∷ ess))))) where
+    → ListsInto old new o into (list_bytes (fitting (min r.size 65536 - 4) (keys_there (first_listed (command_of r [])) (d.log.active.entries ∷ d.log.frozen.entries ∷ ess))))) where
   abbrev c : Command
   c = command_of r []
 
-  abbrev l : ListsInto old new o into (list_bytes (fitting (min r.size 65536 - 4) (keys_there (key c) (d.log.active.entries ∷ d.log.frozen.entries ∷ a.found.runs))))
+  abbrev l : ListsInto old new o into (list_bytes (fitting (min r.size 65536 - 4) (keys_there (first_listed c) (d.log.active.entries ∷ d.log.frozen.entries ∷ a.found.runs))))
   l = lists a.found.runs a.with.index.stand
 
   is_list : op_of c.opcode ≡ Some ListKeys
@@ -60,8 +70,17 @@ module _ (d : Parts) (old new : BoardState) (r : Request) (o : Outcome) (into : 
   is_early : early a.shape c ≡ None
   is_early = subst (λ (s : Shape). early s c ≡ None) a.with.shape_is passed
 
-  bytes_are : list_bytes (fitting (min r.size 65536 - 4) (keys_there (key c) (d.log.active.entries ∷ d.log.frozen.entries ∷ a.found.runs))) ≡ list_bytes (fitting (min c.size 65536 - 4) (keys_from (key c) a.all))
-  bytes_are = ap (λ ks. list_bytes (fitting (min r.size 65536 - 4) ks)) (keys_listed (settled_parts d) a.shape old.pages a.top a.found a.without a.all (key c) a.with)
+  -- each key of the map is one
+  held : IsMap a.shape a.all
+  held =
+      (map_held a.shape old.pages d.log.pending a.all (subst IsShape a.with.shape_is a.with.index.logs.is_shape) a.with.is_flash
+      (subst (λ (s : Shape). AllByRecursion (IsStorable s) d.log.pending) a.with.shape_is a.with.index.logs.pending_are)
+      (under_reads a.shape old.pages d.log.pending a.top a.found a.all a.with.pending)).0
+
+  bytes_are : list_bytes (fitting (min r.size 65536 - 4) (keys_there (first_listed c) (d.log.active.entries ∷ d.log.frozen.entries ∷ a.found.runs)))
+      ≡ list_bytes (fitting (min c.size 65536 - 4) (keys_from (key c) a.all))
+  bytes_are = ap (λ ks. list_bytes (fitting (min r.size 65536 - 4) ks))
+      (keys_listed (settled_parts d) a.shape old.pages a.top a.found a.without a.all (first_listed c) a.with ∙ keys_begun a.shape a.all c.namespace (take c.key_len c.key_bytes) held)
 
   stepped : (frames : ℕ) → Step a.shape frames a.all c (reply_of o into) a.all
   stepped frames =
@@ -145,3 +164,9 @@ module _ (d : Parts) (old new : BoardState) (r : Request) (o : Outcome) (into : 
 
   pub list_agrees : DriveOnFlash d new.shape new.pages
   list_agrees = subst (λ (s : Option Shape). DriveOnFlash d s new.pages) (sym same_shape) (subst (λ (f : Flash). DriveOnFlash d old.shape f) (sym same_pages) a)
+
+  pub list_executes : (e : Parts) → IsServable d old r → e ≡ record d { walk = e.walk } → Executes d e old new c o into o.reads
+  list_executes e s same = executes_walked d e old new r c o into o.reads s same list_pages list_runs list_does
+
+  pub list_only : (e : Parts) → e ≡ record d { walk = e.walk } → FewCalls (most_calls d.levels.shape) old new → OnlyLooks d e old new
+  list_only e same few = record { same = same; rest = list_reading; few = few_of_shape d old new a few }

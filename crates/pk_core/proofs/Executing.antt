@@ -1,10 +1,11 @@
 -- Commands that ended.
-use Rattle.std.proofs.Common.{◌≡◌, ℕ, sym, ap, subst, ◌∙◌, Bool, true, false, List, [], ◌<◌, length, Option}
+use Rattle.std.proofs.Common.{◌≡◌, ◌⊎◌, inl, inr, ℕ, refl, sym, ap, subst, ◌∙◌, Bool, true, false, List, [], ◌<◌, length, Option}
 use Rattle.pk_base.specs.Shape.{Shape, page_entries}
 use Rattle.pk_base.specs.Page.{Flash}
 use Rattle.pk_nvme.specs.Command.{Command}
 use Rattle.pk_nvme.specs.declared.request.Request.{Request}
 use Rattle.pk_nand.specs.BoardState.{BoardState}
+use Rattle.pk_walk.specs.Walking.{Walk}
 use Rattle.pk_call.specs.Seen.{reply_of}
 use Rattle.pk_call.specs.declared.types.Outcome.{Outcome}
 use Rattle.pk_parts.specs.Parts.{Parts, sight_of}
@@ -26,6 +27,47 @@ executes_quiet d e old new r c o into reads servable same pages runs does = reco
       subst (λ (x : Parts). DriveOnFlashBetween x new.shape new.pages) (sym same) between;
   does = does;
 }
+
+-- the walk of a List is no part of what a drive keeps on its flash
+walked_agrees : (d : Parts) (w : Walk) (told : Option Shape) (flash : Flash) → DriveOnFlash d told flash → DriveOnFlash (record d { walk = w }) told flash
+walked_agrees d w told flash a = record {
+  shape = a.shape;
+  top = a.top;
+  found = a.found;
+  without = a.without;
+  all = a.all;
+  told_is = a.told_is;
+  with = record {
+    shape_is = a.with.shape_is;
+    is_flash = a.with.is_flash;
+    index = a.with.index;
+    committed = a.with.committed;
+    pending = a.with.pending;
+    placed = a.with.placed;
+    former = a.with.former;
+    former_read = a.with.former_read;
+    reclaim = a.with.reclaim;
+    keys_are = a.with.keys_are;
+  };
+  course = elim a.course [
+    | inl is ↦ inl (record { settles = is.settles; moves = is.moves; epoch = is.epoch })
+    | inr half ↦ inr (elim half [
+      | inl is ↦ inl (record { index = is.index; moves = is.moves; epoch = is.epoch; none_pending = is.none_pending })
+      | inr is ↦ inr (record { settles = is.settles; victim = is.victim; phase = is.phase; half = is.half; none_pending = is.none_pending })
+    ])
+  ];
+}
+
+pub same_but_walk : (d e : Parts) → e ≡ d → e ≡ record d { walk = e.walk }
+same_but_walk d e same = subst (λ (x : Parts). x ≡ record d { walk = x.walk }) (sym same) refl
+
+-- one that changed nothing of the drive but the walk of a List
+pub executes_walked : (d e : Parts) (old new : BoardState) (r : Request) (c : Command) (o : Outcome) (into : List ℕ) (reads : ℕ) → IsServable d old r → e ≡ record d { walk = e.walk } → new.pages ≡ old.pages → o.stopped ≡ false
+    → Does old new (sight_of d) (sight_of d) c (reply_of o into) reads o.stopped → Executes d e old new c o into reads
+executes_walked d e old new r c o into reads servable same pages runs does =
+    let quiet = executes_quiet d d old new r c o into reads servable refl pages runs does in
+    subst (λ (x : Parts). Executes d x old new c o into reads) (sym same)
+    (record { stops = quiet.stops; agrees = λ is. (walked_agrees d e.walk new.shape new.pages (quiet.agrees is).0, (quiet.agrees is).1); does = does })
 
 -- what is both stopped and not
 pub never : {b : Bool} → b ≡ true → b ≡ false → ⊥

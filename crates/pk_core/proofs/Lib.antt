@@ -10,6 +10,8 @@ pub mod Counting
 pub mod Stepping
 pub mod Served
 pub mod Replies
+pub mod Listing
+pub mod ListReads
 pub mod Doing
 pub mod Early
 pub mod Opening

@@ -17,7 +17,7 @@ use Rattle.pk_parts.specs.Parts.{Parts, is_half}
 use Rattle.pk_parts.specs.Emptying.{OnRunning}
 use Rattle.pk_core.specs.Done.{Executes}
 use Rattle.pk_parts.specs.Quiet.{ReadsOnly, ReadsFailing, Looks}
-use Rattle.pk_core.specs.Serving.{IsServable, IsCounted, outcome_for, stopped_by}
+use Rattle.pk_core.specs.Serving.{IsServable, IsCounted, outcome_for}
 use Rattle.pk_parts.specs.Staying.{Stays, StaysOrOpens, IsNoted}
 use Rattle.pk_core.specs.Programming.{ReadsNone}
 use Rattle.pk_parts.specs.Programming.{PutsQuietly, TakesQuietly, ReadsQuietly}
@@ -69,32 +69,32 @@ ok_of P (Ok u) is = is
 ok_of P (Err e) is = tt
 
 -- one with this result
-module _ (d e f : Parts) (old new : BoardState) (k : Key) (r : Result Unit Fault) (o : Outcome) (reads : ℕ) (told : o ≡ outcome_for r reads) (rest : f ≡ stopped_by e r) where
+module _ (d e : Parts) (old new : BoardState) (k : Key) (r : Result Unit Fault) (o : Outcome) (reads : ℕ) (told : o ≡ outcome_for r reads) where
   -- no pair is half made
-  half_none : OnRunning (is_half e ≡ false) r → o.stopped ≡ false → is_half f ≡ false
-  half_none none runs = subst (λ (x : Parts). is_half x ≡ false) (sym rest) (came_running (λ x. is_half x ≡ false) r e o reads told none runs)
+  half_none : OnRunning (is_half e ≡ false) r → o.stopped ≡ false → is_half e ≡ false
+  half_none none runs = came_running (λ x. is_half x ≡ false) r e o reads told none runs
 
-  made_whole : OnRunning (is_half e ≡ false) r → o.status ≡ 0 → is_half f ≡ false
-  made_whole none zero = subst (λ (x : Parts). is_half x ≡ false) (sym rest) (came_served (λ x. is_half x ≡ false) r e o reads told (ok_of (is_half e ≡ false) r none) zero)
+  made_whole : OnRunning (is_half e ≡ false) r → o.status ≡ 0 → is_half e ≡ false
+  made_whole none zero = came_served (λ x. is_half x ≡ false) r e o reads told (ok_of (is_half e ≡ false) r none) zero
 
   pub stores_came : (len size : ℕ) → len ≡ size → OnRunning (is_half e ≡ false) r → OnRunning (StaysOrOpens d e (charge d.log.shape len)) r → OnOk r (IsNoted e k)
-      → (is_half d ≡ false → OnOk r (PutsQuietly d k (charge d.log.shape len) old new)) → (is_half d ≡ false → OnOk r (ReadsNone d k (charge d.log.shape len) old new)) → StoresOver d f old new k (charge d.log.shape size) o
+      → (is_half d ≡ false → OnOk r (PutsQuietly d k (charge d.log.shape len) old new)) → (is_half d ≡ false → OnOk r (ReadsNone d k (charge d.log.shape len) old new)) → StoresOver d e old new k (charge d.log.shape size) o
   stores_came len size sized none opens noted programs quiet =
       let count = charge d.log.shape len in
-      subst (λ (n : ℕ). StoresOver d f old new k (charge d.log.shape n) o) sized (record {
+      subst (λ (n : ℕ). StoresOver d e old new k (charge d.log.shape n) o) sized (record {
         half = λ runs _. half_none none runs;
         finishes = made_whole none;
-        opens = λ runs. subst (λ (x : Parts). StaysOrOpens d x count) (sym rest) (came_running (λ x. StaysOrOpens d x count) r e o reads told opens runs);
-        noted = λ zero. subst (λ (x : Parts). IsNoted x k) (sym rest) (came_served (λ x. IsNoted x k) r e o reads told noted zero);
+        opens = λ runs. came_running (λ x. StaysOrOpens d x count) r e o reads told opens runs;
+        noted = λ zero. came_served (λ x. IsNoted x k) r e o reads told noted zero;
         programs = λ zero whole. came_served (λ x. PutsQuietly d k count old new) r e o reads told (programs whole) zero;
         quiet = λ zero whole. came_served (λ x. ReadsNone d k count old new) r e o reads told (quiet whole) zero;
       })
 
-  pub deletes_came : OnRunning (is_half e ≡ false) r → OnRunning (Stays d e) r → (is_half d ≡ false → OnOk r (TakesQuietly d k old new)) → (is_half d ≡ false → OnOk r (ReadsQuietly d k old new)) → DeletesAt d f old new k o
+  pub deletes_came : OnRunning (is_half e ≡ false) r → OnRunning (Stays d e) r → (is_half d ≡ false → OnOk r (TakesQuietly d k old new)) → (is_half d ≡ false → OnOk r (ReadsQuietly d k old new)) → DeletesAt d e old new k o
   deletes_came none moves programs quiet = record {
     half = λ runs _. half_none none runs;
     finishes = made_whole none;
-    moves = λ runs. subst (λ (x : Parts). Stays d x) (sym rest) (came_running (λ x. Stays d x) r e o reads told moves runs);
+    moves = λ runs. came_running (λ x. Stays d x) r e o reads told moves runs;
     programs = λ zero whole. came_served (λ x. TakesQuietly d k old new) r e o reads told (programs whole) zero;
     quiet = λ zero whole. came_served (λ x. ReadsQuietly d k old new) r e o reads told (quiet whole) zero;
   }

@@ -1,5 +1,5 @@
 -- What a command leaves of epochs and blocks, by its opcode.
-use Rattle.std.proofs.Common.{◌≡◌, ℕ, ◌≤◌, ap, sym, subst, arith, List, true, false}
+use Rattle.std.proofs.Common.{◌≡◌, ◌⊎◌, inl, refl, ℕ, ◌≤◌, ap, sym, subst, arith, List, true, false}
 use Rattle.pk_base.specs.Shape.{charge}
 use Rattle.pk_nvme.specs.Command.{key}
 use Rattle.pk_nvme.specs.Seen.{command_of}
@@ -13,24 +13,28 @@ use Rattle.pk_parts.specs.Staying.{Stays, StaysOrOpens, StaysOrFrees, IsNoted}
 use Rattle.pk_core.specs.Programming.{QuietStore, QuietDelete}
 use Rattle.pk_core.specs.Performing.{Performs}
 use Rattle.pk_core.specs.Stepping.{Lessens}
-use Rattle.pk_parts.proofs.Staying.{stays_same, stays_frees}
+use Rattle.pk_parts.proofs.Staying.{stays_frees}
 use Rattle.pk_core.proofs.Sights.{store_changes, delete_changes, tick_changes, delete_no_store, store_raises, delete_raises, looks_raises, tick_raises}
 use Rattle.pk_core.proofs.Callings.{few_for_tick}
 
 module _ (d e : Parts) (old new : BoardState) (r : Request) (v : List ℕ) (o : Outcome) where
-  pub performs_looking : only_looks r.opcode ≡ true → e ≡ d → OnlyReading old new → FewCalls (most_calls_of d.log.shape r.opcode r.size) old new → Performs d e old new r v o
+  -- nothing that is seen of it changed
+  stays_walked : e ≡ record d { walk = e.walk } → Stays d e
+  stays_walked same = subst (λ (x : Parts). Stays d x) (sym same) (record { fresh = record { stays = λ h. h; begun = inl refl }; blocks = record { used = refl; open_same = refl } })
+
+  pub performs_looking : only_looks r.opcode ≡ true → e ≡ record d { walk = e.walk } → OnlyReading old new → FewCalls (most_calls_of d.log.shape r.opcode r.size) old new → Performs d e old new r v o
   performs_looking only same reading calls = record {
     half = λ _ _ none. subst (λ (x : Parts). is_half x ≡ false) (sym same) none;
     finishes = λ raises. absurd (looks_raises r only raises);
-    fresh = λ _. (stays_same d e same).fresh;
+    fresh = λ _. (stays_walked same).fresh;
     opens = λ is. absurd (store_changes r is only);
-    no_more = λ _ _. (stays_frees d e (stays_same d e same)).no_more;
-    moves = λ _ _ _. stays_same d e same;
+    no_more = λ _ _. (stays_frees d e (stays_walked same)).no_more;
+    moves = λ _ _ _. stays_walked same;
     noted = λ is. absurd (store_changes r is only);
     quiet_store = λ is. absurd (store_changes r is only);
     quiet_delete = λ is. absurd (delete_changes r is only);
     calls = calls;
-    looks = λ _. (same, reading);
+    looks = λ _. (ap sight_of same, reading);
     no_more_work = λ _ _. (let is = ap (λ (x : Parts). (sight_of x).work) same in omega (arith, is));
     lessens = λ tick. absurd (tick_changes r tick only);
   }

@@ -1,13 +1,17 @@
 -- The keys that a List gives are those of the map.
-use Rattle.std.proofs.Common.{◌≡◌, ℕ, sym, ap, subst, ◌∙◌, List, ◌∷◌, ◌++◌, reverse, Option}
-use Rattle.std.specs.List.{flat_map}
+use Rattle.std.proofs.Common.{◌≡◌, ℕ, zero, suc, ◌≤◌, refl, sym, ap, subst, ◌∙◌, not, List, [], ◌∷◌, ◌++◌, length, take, map, reverse, Option, if◌then◌else◌, arith}
+use Rattle.std.specs.List.{flat_map, AllByRecursion}
+use Rattle.std.specs.Ordering.{is_lt}
+use Rattle.std.specs.FinMap.{entries}
 use Rattle.std.specs.FinMap.Entries.{find}
-use Rattle.pk_base.specs.Key.{Key, key_cmp}
+use Rattle.pk_base.specs.Fields.{AreBytes}
+use Rattle.pk_base.specs.Key.{Key, IsKey, key_cmp}
+use Rattle.pk_base.proofs.KeyLemmas.{least_key}
 use Rattle.pk_base.specs.Shape.{Shape, IsShape}
 use Rattle.pk_base.specs.Page.{Flash}
 use Rattle.pk_base.specs.Entry.{Entry, Place}
 use Rattle.pk_base.specs.Firsts.{firsts}
-use Rattle.pk_base.specs.Map.{Map, keys_from}
+use Rattle.pk_base.specs.Map.{Map, IsMap, keys_from}
 use Rattle.pk_rootfmt.specs.Root.{Root}
 use Rattle.pk_model.specs.Found.{Found, entries_in_order}
 use Rattle.pk_model.proofs.Lookups.{flat, find-firsts}
@@ -17,7 +21,8 @@ use Rattle.pk_steps.proofs.Counting.{counts}
 use Rattle.pk_walk.specs.Visible.{visible}
 use Rattle.pk_parts.specs.Parts.{Parts}
 use Rattle.pk_parts.specs.Agreeing.{DriveOnFlashWith}
-use Rattle.pk_index.specs.Listed.{keys_of, not_below, keys_there}
+use Rattle.pk_index.specs.Keys.{keys_of, not_below, keys_there}
+use Rattle.pk_core.specs.Listed.{least_in}
 
 -- ---- the keys that are there
 
@@ -45,3 +50,28 @@ keys_listed d shape flash top found without all from with =
     ap (λ (es : List (Key × Place)). not_below from (keys_of es))
     ((λ i. visible ((with.index.logs.active_is i).entries ∷ (with.index.logs.frozen_is i).entries ∷ found.runs)) ∙ places_visible found d.log.pending)
     ∙ ap (not_below from) (sym (counts shape flash d.log.pending top found all is_shape with.is_flash with.pending).keys_are)
+
+-- ---- the keys from the least of a namespace on
+
+pub least_of_none : (space n : ℕ) (bytes : List ℕ) → n ≡ 0 → space ∷ 0 ∷ [] ≡ least_in space (take n bytes)
+least_of_none space zero bytes e = refl
+least_of_none space (suc n) bytes e = absurd (omega (arith, e))
+
+pub least_of_some : (space n : ℕ) (bytes : List ℕ) → 1 ≤ n → 1 ≤ length bytes → space ∷ take n bytes ≡ least_in space (take n bytes)
+least_of_some space zero bytes some full = absurd (omega (arith, some))
+least_of_some space (suc n) [] some full = absurd (omega (arith, full))
+least_of_some space (suc n) (b ∷ bytes) some full = refl
+
+not_lower : (space : ℕ) (bytes : List ℕ) (key : Key) → IsKey key → is_lt (key_cmp key (least_in space bytes)) ≡ is_lt (key_cmp key (space ∷ bytes))
+not_lower space [] key is = least_key space key is
+not_lower space (b ∷ bytes) key is = refl
+
+kept_from : (space : ℕ) (bytes : List ℕ) (es : List (Key × List ℕ)) → AllByRecursion (λ (e : Key × List ℕ). IsKey e.0 × AreBytes e.0) es
+    → not_below (least_in space bytes) (map (λ e. e.0) es) ≡ not_below (space ∷ bytes) (map (λ e. e.0) es)
+kept_from space bytes [] all = refl
+kept_from space bytes (e ∷ es) all =
+    ap (λ b. if not b then e.0 ∷ not_below (least_in space bytes) (map (λ e. e.0) es) else not_below (least_in space bytes) (map (λ e. e.0) es)) (not_lower space bytes e.0 all.0.0)
+    ∙ ap (λ (ks : List Key). if not (is_lt (key_cmp e.0 (space ∷ bytes))) then e.0 ∷ ks else ks) (kept_from space bytes es all.1)
+
+pub keys_begun : (shape : Shape) (m : Map) (space : ℕ) (bytes : List ℕ) → IsMap shape m → keys_from (least_in space bytes) m ≡ keys_from (space ∷ bytes) m
+keys_begun shape m space bytes is = kept_from space bytes (entries m) is.keys

@@ -40,6 +40,7 @@ use Rattle.pk_parts.specs.Agreeing.{DriveOnFlash}
 use Rattle.pk_core.specs.Done.{Does, Executes}
 use Rattle.pk_parts.specs.Finding.{IsPlaceIn}
 use Rattle.pk_parts.specs.Moves.{StandsFor, StandsBetween}
+use Rattle.pk_parts.specs.Stopping.{StoppedOn}
 use Rattle.pk_parts.specs.Emptying.{Unread, Halts, OnRunning}
 use Rattle.pk_core.specs.Quiet.{eleven}
 use Rattle.pk_parts.specs.Quiet.{ReadsOnly, Looks}
@@ -47,7 +48,7 @@ use Rattle.pk_parts.specs.Changes.{Changes, StaysBetween}
 use Rattle.pk_core.specs.Whole.{MayPutBetween, MayStoreBetween, MayTakeBetween, CanPutBetween, CanTakeBetween, StoresWhole, TakesWhole}
 use Rattle.pk_parts.specs.Spacing.{SameMap}
 use Rattle.pk_parts.proofs.Halves.{between}
-use Rattle.pk_core.specs.Serving.{IsServable, IsCounted, outcome_for, stopped_by, pages_at}
+use Rattle.pk_core.specs.Serving.{IsServable, IsCounted, outcome_for, pages_at}
 use Rattle.pk_core.proofs.Standing.{stands_so}
 use Rattle.pk_parts.proofs.Standing.{agrees_so}
 use Rattle.pk_core.proofs.Counting.{counts_own}
@@ -330,9 +331,9 @@ module _ (d : Parts) (old : BoardState) (r : Request) (value : List ℕ) (k : Ke
 
     -- the result of putting it
     pub store_came : (answer : Result Unit Fault) (e : Parts) (new : BoardState) (most : ℕ) (into : List ℕ) (outcome : Outcome) (reads : ℕ) → StoresWhole d e most old new k value answer → roots new ≤ roots old + most_store_roots → IsCounted old new → OnRunning (StaysBetween d e) answer
-        → outcome ≡ outcome_for answer reads → Executes d (stopped_by e answer) old new c outcome into (new.reads - old.reads)
+        → StoppedOn e answer → outcome ≡ outcome_for answer reads → Executes d e old new c outcome into (new.reads - old.reads)
     unfolding its_drive
-    store_came (Ok u) e new most into outcome reads step few count stays told_is =
+    store_came (Ok u) e new most into outcome reads step few count stays stops told_is =
         let puts : Changes e d.log.shape all (insert all k value) old new = step.came.0 d.log.shape all may_store in
         let stepped : Step d.log.shape (frames_of d) all c (success 0 []) (insert all k value) =
         subst (λ q. Step d.log.shape (frames_of d) all c (success 0 []) (insert all q value)) (sym named) (store_step d.log.shape (frames_of d) all c passes (ap op_of op) late_none) in
@@ -342,7 +343,7 @@ module _ (d : Parts) (old : BoardState) (r : Request) (value : List ℕ) (k : Ke
           agrees = λ _. (agrees_behind d old new s.agrees e (insert all k value) step.rest puts.stands, few_same d e stays.same_shape stays.few);
           does = done;
         })
-    store_came (Err Reading) e new most into outcome reads step few count stays told_is =
+    store_came (Err Reading) e new most into outcome reads step few count stays stops told_is =
         let kept : SameMap e d.log.shape all old new = step.came.0 d.log.shape all (its_drive d old s.agrees k o is_key looks) in
         let done = does_keep d old new s.agrees c (insert all k value) count few one_root step.rest (store_other r.opcode op) leaves_put e kept stays.frames step.came.1 passes in
         subst (λ (x : Outcome). Executes d e old new c x into (new.reads - old.reads)) (sym told_is) (record {
@@ -350,9 +351,9 @@ module _ (d : Parts) (old : BoardState) (r : Request) (value : List ℕ) (k : Ke
           agrees = λ _. (agrees_behind d old new s.agrees e all step.rest kept.stands, few_same d e stays.same_shape stays.few);
           does = done;
         })
-    store_came (Err Stopped) e new most into outcome reads step few count stays told_is =
-        let done = does_stop d old new s.agrees c (insert all k value) count few one_root step.rest (store_other r.opcode op) leaves_put (sight_of (record e { stopped = true })) (step.came.0 d.log.shape all may_store) step.came.1 in
-        subst (λ (x : Outcome). Executes d (record e { stopped = true }) old new c x into (new.reads - old.reads)) (sym told_is) (record { stops = refl; agrees = λ is. absurd (no_yes is); does = done })
+    store_came (Err Stopped) e new most into outcome reads step few count stays stops told_is =
+        let done = does_stop d old new s.agrees c (insert all k value) count few one_root step.rest (store_other r.opcode op) leaves_put (sight_of e) (step.came.0 d.log.shape all may_store) step.came.1 in
+        subst (λ (x : Outcome). Executes d e old new c x into (new.reads - old.reads)) (sym told_is) (record { stops = stops; agrees = λ is. absurd (no_yes is); does = done })
 
 -- ---- a Delete
 
@@ -407,9 +408,9 @@ module _ (d : Parts) (old : BoardState) (r : Request) (v : List ℕ) (k : Key) (
 
     -- the result of taking it out
     pub delete_came : (answer : Result Unit Fault) (e : Parts) (new : BoardState) (most : ℕ) (into : List ℕ) (outcome : Outcome) (reads : ℕ) → TakesWhole d e most old new k p answer → roots new ≤ roots old + most_store_roots → IsCounted old new → OnRunning (StaysBetween d e) answer
-        → outcome ≡ outcome_for answer reads → Executes d (stopped_by e answer) old new dc outcome into (new.reads - old.reads)
+        → StoppedOn e answer → outcome ≡ outcome_for answer reads → Executes d e old new dc outcome into (new.reads - old.reads)
     unfolding its_drive
-    delete_came (Ok u) e new most into outcome reads step few count stays told_is =
+    delete_came (Ok u) e new most into outcome reads step few count stays stops told_is =
         let takes : Changes e d.log.shape its_map (remove its_map k) old new = step.came.0 d.log.shape its_map may_take in
         let stepped : Step d.log.shape (frames_of d) its_map dc (success 0 []) (remove its_map k) =
         subst (λ q. Step d.log.shape (frames_of d) its_map dc (success 0 []) (remove its_map q)) (sym named) (delete_step d.log.shape (frames_of d) its_map dc delete_passed (ap op_of op) gone_late) in
@@ -419,7 +420,7 @@ module _ (d : Parts) (old : BoardState) (r : Request) (v : List ℕ) (k : Key) (
           agrees = λ _. (agrees_behind d old new s.agrees e (remove its_map k) step.rest takes.stands, few_same d e stays.same_shape stays.few);
           does = done;
         })
-    delete_came (Err Reading) e new most into outcome reads step few count stays told_is =
+    delete_came (Err Reading) e new most into outcome reads step few count stays stops told_is =
         let kept : SameMap e d.log.shape its_map old new = step.came.0 d.log.shape its_map (its_drive d old s.agrees k (Some p) is_key looks) in
         let done = does_keep d old new s.agrees dc (remove its_map k) count few gone_root step.rest (delete_other r.opcode op) leaves_gone e kept stays.frames step.came.1 delete_passed in
         subst (λ (x : Outcome). Executes d e old new dc x into (new.reads - old.reads)) (sym told_is) (record {
@@ -427,9 +428,9 @@ module _ (d : Parts) (old : BoardState) (r : Request) (v : List ℕ) (k : Key) (
           agrees = λ _. (agrees_behind d old new s.agrees e its_map step.rest kept.stands, few_same d e stays.same_shape stays.few);
           does = done;
         })
-    delete_came (Err Stopped) e new most into outcome reads step few count stays told_is =
-        let done = does_stop d old new s.agrees dc (remove its_map k) count few gone_root step.rest (delete_other r.opcode op) leaves_gone (sight_of (record e { stopped = true })) (step.came.0 d.log.shape its_map may_take) step.came.1 in
-        subst (λ (x : Outcome). Executes d (record e { stopped = true }) old new dc x into (new.reads - old.reads)) (sym told_is) (record { stops = refl; agrees = λ is. absurd (no_yes is); does = done })
+    delete_came (Err Stopped) e new most into outcome reads step few count stays stops told_is =
+        let done = does_stop d old new s.agrees dc (remove its_map k) count few gone_root step.rest (delete_other r.opcode op) leaves_gone (sight_of e) (step.came.0 d.log.shape its_map may_take) step.came.1 in
+        subst (λ (x : Outcome). Executes d e old new dc x into (new.reads - old.reads)) (sym told_is) (record { stops = stops; agrees = λ is. absurd (no_yes is); does = done })
 
 -- ---- after the reads of a lookup
 

@@ -7,4 +7,5 @@ pub mod Stepping
 pub mod Serving
 pub mod Spacing
 pub mod LookedUp
+pub mod Listed
 pub mod Whole

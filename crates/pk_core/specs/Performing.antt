@@ -30,7 +30,7 @@ pub record Performs (before after : Parts) (old new : BoardState) (r : Request) 
   pub quiet_store : r.opcode ≡ STORE → QuietStore before old new r value o
   pub quiet_delete : r.opcode ≡ DELETE → QuietDelete before old new r o
   pub calls : FewCalls (most_calls_of before.log.shape r.opcode r.size) old new
-  pub looks : only_looks r.opcode ≡ true → (after ≡ before) × OnlyReading old new
+  pub looks : only_looks r.opcode ≡ true → (sight_of after ≡ sight_of before) × OnlyReading old new
   pub no_more_work : may_raise r.opcode ≡ false → o.stopped ≡ false → (sight_of after).work ≤ (sight_of before).work
   pub lessens : r.opcode ≡ TICK → o.status ≡ SUCCESSFUL_COMPLETION → Lessens before after r.size
 

@@ -20,9 +20,9 @@ use Rattle.pk_parts.specs.Parts.{Parts, sight_of}
 use Rattle.pk_parts.specs.Agreeing.{DriveOnFlash}
 use Rattle.pk_core.specs.Done.{Does}
 
--- A command did not change the drive, and made few calls, of which each was a read.
+-- A command changed nothing of the drive but the walk of a List, and made few calls, of which each was a read.
 pub record OnlyLooks (before after : Parts) (old new : BoardState) : Type 0 where
-  pub same : after ≡ before
+  pub same : after ≡ record before { walk = after.walk }
   pub rest : OnlyReading old new
   pub few : FewCalls (most_calls before.log.shape) old new
 

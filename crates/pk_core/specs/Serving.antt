@@ -48,9 +48,3 @@ abbrev pub outcome_for : Result Unit Fault → ℕ → Outcome
 outcome_for (Ok u) reads = record { status = SUCCESSFUL_COMPLETION; result = 0; data_len = 0; reads = reads; stopped = false }
 outcome_for (Err Reading) reads = record { status = UNRECOVERED_ERROR; result = 0; data_len = 0; reads = reads; stopped = false }
 outcome_for (Err Stopped) reads = record { status = UNRECOVERED_ERROR; result = 0; data_len = 0; reads = reads; stopped = true }
-
--- the drive, which a call stops that failed for good
-abbrev pub stopped_by : Parts → Result Unit Fault → Parts
-stopped_by d (Ok u) = d
-stopped_by d (Err Reading) = d
-stopped_by d (Err Stopped) = record d { stopped = true }

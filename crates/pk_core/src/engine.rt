@@ -106,11 +106,8 @@ impl<A: Region> Engine for Drive<A> {
                 self.parts.known();
                 Ok(())
             }
-            // a commit only programs, and a program that fails stops the drive
-            Err(_) => {
-                self.parts.set_stopped();
-                Err(NandFault)
-            }
+            // a commit only programs
+            Err(_) => Err(NandFault),
         }
     }
 

@@ -5,9 +5,12 @@
 //! or a step is cut, the flash holds what the contract of a drive says.
 #![tactic(auto)]
 
+mod counts;
 mod drive;
 mod engine;
+mod filled;
 mod list;
+mod listed;
 mod making;
 mod numbers;
 mod open;

@@ -1,20 +1,127 @@
 //! The command that lists keys.
-ghost use Rattle.std.specs.Prelude.{◌≡◌, ◌≤◌, [], length};
+ghost use Rattle.std.specs.Prelude.{◌≡◌, ◌≤◌, ◌∷◌, List, [], length, IfOk, IfErr, OnOk, OnErr};
+ghost use Rattle.pk_base.specs.Key.{Key as KeySpec};
+ghost use Rattle.pk_base.specs.declared.sizes.TheConstants.{KEY_BYTES, MOST_SPACES};
+ghost use Rattle.pk_base.specs.Entry.{Place};
+ghost use Rattle.pk_nand.specs.declared.types.Fault.TheVariants.{Reading};
+ghost use Rattle.pk_walk.specs.Walking.{IsLeft, Reads, ReadsFail, pages_read, most_read};
 ghost use Rattle.pk_nvme.specs.Seen.{command_of};
+ghost use Rattle.pk_index.specs.Keys.{MayWalk, Walked, keys_of};
 ghost use Rattle.pk_core.specs.Serving.{IsServable};
 ghost use Rattle.pk_core.specs.Done.{Executes};
-ghost use Rattle.pk_nvme.specs.declared.limits.TheConstants.{MOST_LIST_BYTES};
+ghost use Rattle.pk_core.specs.Listed.{IsFilled, OffersNext, ListsAll, first_listed};
+ghost use Rattle.pk_nvme.specs.declared.limits.TheConstants.{COUNT_BYTES, MOST_LIST_BYTES};
 ghost use Rattle.pk_nvme.specs.declared.opcode.TheConstants.{LIST};
 ghost use Rattle.pk_core.specs.Quiet.{OnlyLooks};
 
+use crate::counts::{reads_since, reads_so_far};
+use crate::filled::Filled;
+use crate::listed::put_key;
+use crate::quiet::{refusal, served};
+use pk_base::{Key, put_u32};
 use pk_call::Outcome;
-use pk_nand::Nand;
+use pk_nand::{Fault, Nand};
 use pk_nvme::Request;
+use pk_nvme::limits::{COUNT_BYTES, MOST_LIST_BYTES};
+use pk_nvme::status::UNRECOVERED_ERROR;
 use pk_parts::Parts;
 use pk_region::Region;
 
-/// Executes a List that passed the checks that read it alone: `UNRECOVERED_ERROR` without data if a
-/// read fails.
+// Writes the next key of the walk, if there is one and it fits into the room.
+fn put_next<B: Nand, A: Region>(
+    parts: &mut Parts<A>,
+    board: &mut B,
+    at: Filled,
+    into: &mut [u8],
+) -> Result<Option<Filled>, Fault>
+    requires may { MayWalk parts.old.walk (B.state board.old) parts.old.levels parts.old.arena
+        parts.old.log }
+    requires filled { IsFilled at (length into.old) }
+
+    // The key, and the pages that were read for it.
+    ensures offers { IfOk result (λ next. OffersNext parts.old.walk parts.new.walk
+        (B.state board.old) (B.state board.new) parts.old.levels parts.old.arena parts.old.log
+        at next into.old into.new) }
+    ensures walked { Walked parts.old.walk parts.new.walk (B.state board.old) (B.state board.new)
+        parts.old.levels }
+    ensures reads { OnOk result (Reads (pages_read parts.old.levels.runs parts.old.walk.cursors)
+        (pages_read parts.old.levels.runs parts.new.walk.cursors)
+        (B.state board.old) (B.state board.new)) }
+    ensures reading { IfErr result (λ fault. fault ≡ Reading) }
+    ensures err { OnErr result (ReadsFail (pages_read parts.old.levels.runs parts.old.walk.cursors)
+        (pages_read parts.old.levels.runs parts.new.walk.cursors)
+        (B.state board.old) (B.state board.new)) }
+
+    // What is unchanged.
+    ensures rest { parts.new ≡ record parts.old { walk = parts.new.walk } }
+    ensures len { length into.new ≡ length into.old }
+{
+    match parts.next_key(board) {
+        Ok(Some(entry)) => Ok(put_key(into, at, entry.key())),
+        Ok(None) => Ok(None),
+        Err(fault) => Err(fault),
+    }
+}
+
+// Writes the keys that remain, after the bytes of their count, as many as fit into the room.
+fn put_left<B: Nand, A: Region>(
+    parts: &mut Parts<A>,
+    board: &mut B,
+    room: u32,
+    into: &mut [u8],
+) -> Result<Filled, Fault>
+    requires may { MayWalk parts.old.walk (B.state board.old) parts.old.levels parts.old.arena
+        parts.old.log }
+    requires none_read { pages_read parts.old.levels.runs parts.old.walk.cursors ≡ 0 }
+    requires some { COUNT_BYTES ≤ room }
+    requires room { (room ≤ MOST_LIST_BYTES) × (room ≤ length into.old) }
+
+    // The keys, and the pages that were read for them.
+    ensures lists { IfOk result (λ at. (at.end ≤ room) × ((rest : List (KeySpec × Place))
+        → IsLeft parts.old.walk (B.state board.old).pages parts.old.arena parts.old.levels.runs
+        parts.old.log.active.entries parts.old.log.frozen.entries rest
+        → ListsAll (keys_of rest) room into.new at)) }
+    ensures reads { OnOk result (Reads 0 (most_read parts.old.levels.runs)
+        (B.state board.old) (B.state board.new)) }
+    ensures err { OnErr result (ReadsFail 0 (most_read parts.old.levels.runs)
+        (B.state board.old) (B.state board.new)) }
+
+    // What is unchanged.
+    ensures rest { parts.new ≡ record parts.old { walk = parts.new.walk } }
+    ensures len { length into.new ≡ length into.old }
+{
+    let mut at = Filled {
+        end: COUNT_BYTES,
+        count: 0,
+        room,
+    };
+    loop {
+        match put_next(parts, board, at, into) {
+            Ok(Some(next)) => {
+                at = next;
+            }
+            Ok(None) => return Ok(at),
+            Err(fault) => return Err(fault),
+        }
+    }
+}
+
+// The key at which a List begins: the least of its namespace if it names none.
+fn first_key(request: &Request) -> Key
+    requires len { request.now.key_len ≤ KEY_BYTES }
+    requires space { 1 ≤ request.now.namespace × request.now.namespace ≤ MOST_SPACES }
+    ensures { result ≡ first_listed (command_of request.now []) }
+{
+    if request.key_len == 0 {
+        Key::of(request.namespace as u8, &[0])
+    } else {
+        request.key()
+    }
+}
+
+/// Executes a List that passed the checks that read it alone: the number of keys that exist from the
+/// one that it names on, or from the least of its namespace if it names none, and as many of them as fit into its size, of which no more than
+/// `MOST_LIST_BYTES` count; `UNRECOVERED_ERROR` without data if a read fails.
 pub(crate) fn list<B: Nand, A: Region>(
     parts: &mut Parts<A>,
     board: &mut B,
@@ -35,5 +142,16 @@ pub(crate) fn list<B: Nand, A: Region>(
     ensures fits { result.data_len ≤ length into.new }
     ensures room { length into.new ≡ length into.old }
 {
-    parts.list_keys(board, request, into)
+    let before = reads_so_far(board);
+    let room = request.size.min(MOST_LIST_BYTES);
+    let first = first_key(request);
+    parts.start_keys(&first);
+    match put_left(parts, board, room, into) {
+        Ok(at) => {
+            put_u32(into, 0, at.count);
+            served(0, at.end, reads_since(board, before))
+        }
+        // only a read can fail here
+        Err(_) => refusal(UNRECOVERED_ERROR, reads_since(board, before)),
+    }
 }

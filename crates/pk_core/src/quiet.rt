@@ -7,8 +7,8 @@ ghost use Rattle.pk_core.specs.Done.{Executes};
 ghost use Rattle.pk_core.specs.Quiet.{OnlyLooks, DoneWithout};
 ghost use Rattle.pk_nvme.specs.declared.opcode.TheConstants.{FLUSH, RETRIEVE, EXIST};
 
+use crate::counts::reads_since;
 use pk_call::Outcome;
-use pk_index::reads_since;
 use pk_nand::Nand;
 use pk_nvme::Request;
 use pk_nvme::status::{KEY_DOES_NOT_EXIST, SUCCESSFUL_COMPLETION, UNRECOVERED_ERROR};

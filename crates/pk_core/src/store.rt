@@ -1,5 +1,5 @@
 //! The commands that change the map.
-ghost use Rattle.std.specs.Prelude.{◌≡◌, ◌≤◌, ◌+◌, ◌-◌, ℕ, is_some, sum, List, [], length, false, true, None, Some, MatchOption};
+ghost use Rattle.std.specs.Prelude.{◌≡◌, ◌≤◌, ◌+◌, ◌-◌, ℕ, is_some, sum, List, [], length, false, true, None, Some, Err, MatchOption};
 ghost use Rattle.pk_base.specs.Fields.{AreBytes};
 ghost use Rattle.pk_base.specs.Key.{IsKey};
 ghost use Rattle.pk_base.specs.Shape as spec;
@@ -7,7 +7,7 @@ ghost use Rattle.pk_nvme.specs.Command.{key as key_in};
 ghost use Rattle.pk_nvme.specs.Seen.{command_of};
 ghost use Rattle.pk_model.specs.Answer.{store_fault as store_fault_of};
 ghost use Rattle.pk_core.specs.Done.{Executes};
-ghost use Rattle.pk_core.specs.Serving.{IsServable, IsCounted, outcome_for, stopped_by, pages_at as pages_at_by};
+ghost use Rattle.pk_core.specs.Serving.{IsServable, IsCounted, outcome_for, pages_at as pages_at_by};
 ghost use Rattle.pk_nvme.specs.declared.opcode.TheConstants.{STORE, DELETE};
 ghost use Rattle.pk_work.specs.Calls.{commit_calls, pair_calls, room_calls, room_roots, store_roots};
 ghost use Rattle.pk_parts.specs.Costs.{Spends, space_and_put_calls};
@@ -17,11 +17,11 @@ ghost use Rattle.pk_core.specs.Programming.{QuietStore, QuietDelete};
 ghost use Rattle.pk_core.specs.LookedUp.{IsLookedUp, StoresOver, DeletesAt};
 ghost use Rattle.pk_nvme.specs.declared.status.TheConstants.{SUCCESSFUL_COMPLETION};
 
+use crate::counts::reads_since;
 use crate::quiet::{refusal, served};
 use crate::storing::{put_whole, take_whole};
 use pk_base::{Key, Place, Shape, are_bytes};
 use pk_call::Outcome;
-use pk_index::reads_since;
 use pk_model::early::store_fault;
 use pk_nand::{Fault, Nand};
 use pk_nvme::Request;
@@ -67,27 +67,37 @@ fn stopping(reads: u32) -> Outcome
     }
 }
 
-// The result of a change of the map, after this many reads. A call that failed for good stops the
-// drive.
-fn changed<A: Region>(parts: &mut Parts<A>, answer: Result<(), Fault>, reads: u32) -> Outcome
-    ensures told { result ≡ outcome_for answer reads }
-    ensures rest { parts.new ≡ stopped_by parts.old answer }
+// The result of a change that failed, after this many reads.
+fn failed(fault: Fault, reads: u32) -> Outcome
+    ensures { result ≡ outcome_for (Err fault) reads }
 {
-    match answer {
-        Ok(()) => served(0, 0, reads),
-        Err(Fault::Reading) => refusal(UNRECOVERED_ERROR, reads),
-        Err(Fault::Stopped) => {
-            parts.set_stopped();
-            stopping(reads)
-        }
+    match fault {
+        Fault::Reading => refusal(UNRECOVERED_ERROR, reads),
+        Fault::Stopped => stopping(reads),
     }
 }
 
-// The check of a Store that fails on the map, if the key has its value at this place.
-fn fault_of_store<A: Region>(parts: &Parts<A>, request: &Request, old: &Option<Place>) -> Option<u8>
+// The result of a change of the map, after this many reads.
+fn changed(answer: Result<(), Fault>, reads: u32) -> Outcome
+    ensures { result ≡ outcome_for answer reads }
+{
+    match answer {
+        Ok(()) => served(0, 0, reads),
+        Err(fault) => failed(fault, reads),
+    }
+}
+
+// The check of a Store of `count` pages that fails on the map, if the key has its value at this
+// place.
+fn fault_of_store<A: Region>(
+    parts: &Parts<A>,
+    request: &Request,
+    old: &Option<Place>,
+    count: u32,
+) -> Option<u8>
     requires old_short { MatchOption old.now (Unit {0})
         (λ p. p.len ≤ spec.greatest parts.now.log.shape) }
-    requires short { request.now.size ≤ spec.greatest parts.now.log.shape }
+    requires counted { count ≡ spec.charge parts.now.log.shape request.now.size }
     ensures { result ≡ store_fault_of (command_of request.now []) (is_some old.now)
         (sum parts.now.space.live.heads - pages_at_by parts.now.log.shape old.now
         + spec.charge parts.now.log.shape request.now.size) (spec.limit parts.now.log.shape) }
@@ -95,7 +105,7 @@ fn fault_of_store<A: Region>(parts: &Parts<A>, request: &Request, old: &Option<P
     let shape = parts.shape();
     let held = pages_at(&shape, old);
     let left = parts.total().saturating_sub(held);
-    let live = left as u64 + shape.charge(request.size) as u64;
+    let live = left as u64 + count as u64;
     store_fault(request, old.is_some(), live, shape.limit() as u64)
 }
 
@@ -131,11 +141,12 @@ fn store_over<B: Nand, A: Region>(
         (B.state board.new) }
 {
     known(&key);
-    match fault_of_store(parts, request, &old) {
+    let count = parts.shape().charge(request.size);
+    match fault_of_store(parts, request, &old, count) {
         Some(status) => refusal(status, reads_since(board, before)),
         None => {
-            let answer = put_whole(parts, board, key, value, old);
-            changed(parts, answer, reads_since(board, before))
+            let answer = put_whole(parts, board, key, value, old, count);
+            changed(answer, reads_since(board, before))
         }
     }
 }
@@ -211,7 +222,7 @@ fn delete_at<B: Nand, A: Region>(
         None => refusal(KEY_DOES_NOT_EXIST, reads_since(board, before)),
         Some(place) => {
             let answer = take_whole(parts, board, key, place);
-            changed(parts, answer, reads_since(board, before))
+            changed(answer, reads_since(board, before))
         }
     }
 }

@@ -8,6 +8,7 @@ ghost use Rattle.pk_work.specs.Calls.{commit_calls, lookup_calls, pair_calls, ro
 ghost use Rattle.pk_parts.specs.Changes.{CanPut, StaysBetween};
 ghost use Rattle.pk_parts.specs.Emptying.{OnRunning};
 ghost use Rattle.pk_parts.specs.Staying.{Stays, StaysOrOpens, IsNoted};
+ghost use Rattle.pk_parts.specs.Stopping.{StoppedOn};
 ghost use Rattle.pk_core.specs.Spacing.{CanStore, StoresOrReads, store_most};
 ghost use Rattle.pk_parts.specs.Spacing.{needs};
 ghost use Rattle.pk_core.specs.Programming.{ReadsNone};
@@ -19,14 +20,16 @@ use pk_nand::{Fault, Nand};
 use pk_parts::Parts;
 use pk_region::Region;
 
-// A key gets a value that has room, in place of the one that a lookup finds.
+// A key gets a value of `count` pages that has room, in place of the one that a lookup finds.
 fn put_found<B: Nand, A: Region>(
     parts: &mut Parts<A>,
     board: &mut B,
     key: Key,
     value: &[u8],
+    count: u32,
 ) -> Result<(), Fault>
-    requires can { CanStore parts.old (B.state board.old) key value.now }
+    requires can { CanStore parts.old (B.state board.old) key value.now
+        × (count ≡ pages_for parts.old value.now) }
     requires room { needs (pages_for parts.old value.now) parts.old ≡ false }
     requires number { NumbersLast (room_calls parts.old.log.shape) (B.state board.old) }
     requires counted { (B.state board.old).reads ≤ last_count }
@@ -41,24 +44,27 @@ fn put_found<B: Nand, A: Region>(
     ensures spends { Spends (lookup_calls + put_calls parts.old.log.shape
         (pages_for parts.old value.now)) room_roots (B.state board.old)
         (B.state board.new) }
+    ensures stops { StoppedOn parts.new result }
 {
     let _ = board.read_count();
     let _ = key.bytes();
     match parts.look(board, &key) {
-        Ok(old) => parts.put(board, key, value, old),
+        Ok(old) => parts.put(board, key, value, old, count),
         Err(_) => Err(Fault::Reading),
     }
 }
 
-// A key gets a value for which there is no room, after the reclaims that make it. They may have
-// moved the key's former value.
+// A key gets a value of `count` pages for which there is no room, after the reclaims that make it.
+// They may have moved the key's former value.
 fn put_behind_reclaims<B: Nand, A: Region>(
     parts: &mut Parts<A>,
     board: &mut B,
     key: Key,
     value: &[u8],
+    count: u32,
 ) -> Result<(), Fault>
-    requires can { CanStore parts.old (B.state board.old) key value.now }
+    requires can { CanStore parts.old (B.state board.old) key value.now
+        × (count ≡ pages_for parts.old value.now) }
     requires no_room { needs (pages_for parts.old value.now) parts.old
         ≡ true }
     requires unworn { is_worn (B.state board.old) ≡ false }
@@ -73,31 +79,31 @@ fn put_behind_reclaims<B: Nand, A: Region>(
     ensures spends { Spends (space_and_put_calls parts.old.log.shape
         (pages_for parts.old value.now)) store_roots (B.state board.old)
         (B.state board.new) }
+    ensures stops { StoppedOn parts.new result }
 {
-    let shape = parts.shape();
-    // so that the number of bytes is known to fit
-    let _ = shape.greatest();
-    match parts.make_space(board, shape.charge(value.len() as u32)) {
+    match parts.make_space(board, count) {
         Ok(()) => {
             // so that the board's counts are known to be of 64 bits
             let _ = board.read_count();
-            put_found(parts, board, key, value)
+            put_found(parts, board, key, value, count)
         }
         Err(fault) => Err(fault),
     }
 }
 
-/// A key gets a value, in place of the one at `old`. If it has no room, reclaims make it. `Reading`
-/// if a read of a reclaim, of a merge or of a lookup fails: the map is unchanged. `Stopped` if a
-/// program or an erase fails.
+/// A key gets a value of `count` pages, in place of the one at `old`. If it has no room, reclaims
+/// make it. `Reading` if a read of a reclaim, of a merge or of a lookup fails: the map is unchanged.
+/// `Stopped` if a program or an erase fails.
 pub(crate) fn put_with_space<B: Nand, A: Region>(
     parts: &mut Parts<A>,
     board: &mut B,
     key: Key,
     value: &[u8],
     old: Option<Place>,
+    count: u32,
 ) -> Result<(), Fault>
-    requires can { CanPut parts.old (B.state board.old) key value.now old }
+    requires can { CanPut parts.old (B.state board.old) key value.now old
+        × (count ≡ pages_for parts.old value.now) }
     requires unworn { is_worn (B.state board.old) ≡ false }
 
     // The map, and then the drive itself.
@@ -110,6 +116,7 @@ pub(crate) fn put_with_space<B: Nand, A: Region>(
     ensures spends { Spends (space_and_put_calls parts.old.log.shape
         (pages_for parts.old value.now)) store_roots (B.state board.old)
         (B.state board.new) }
+    ensures stops { StoppedOn parts.new result }
     ensures programs { OnOk result (PutsQuietly parts.old key
         (pages_for parts.old value.now) (B.state board.old)
         (B.state board.new)) }
@@ -117,34 +124,33 @@ pub(crate) fn put_with_space<B: Nand, A: Region>(
         (pages_for parts.old value.now) (B.state board.old)
         (B.state board.new)) }
 {
-    let shape = parts.shape();
-    // so that the number of bytes is known to fit
-    let _ = shape.greatest();
-    let count = shape.charge(value.len() as u32);
     if parts.needs_space(count) {
-        put_behind_reclaims(parts, board, key, value)
+        put_behind_reclaims(parts, board, key, value, count)
     } else {
-        parts.put(board, key, value, old)
+        parts.put(board, key, value, old, count)
     }
 }
 
-/// A key gets a value, in place of the one at `old`, after the second program of a pair that is
-/// half made. If the value has no room, reclaims make it. `Reading` if a read of a reclaim, of a
-/// merge or of a lookup fails: the map is unchanged. `Stopped` if a program or an erase fails.
+/// A key gets a value of `count` pages, in place of the one at `old`, after the second program of a
+/// pair that is half made. If the value has no room, reclaims make it. `Reading` if a read of a
+/// reclaim, of a merge or of a lookup fails: the map is unchanged. `Stopped` if a program or an erase
+/// fails.
 pub(crate) fn put_whole<B: Nand, A: Region>(
     parts: &mut Parts<A>,
     board: &mut B,
     key: Key,
     value: &[u8],
     old: Option<Place>,
+    count: u32,
 ) -> Result<(), Fault>
-    requires can { CanPutBetween parts.old (B.state board.old) key value.now old }
+    requires can { CanPutBetween parts.old (B.state board.old) key value.now old
+        × (count ≡ pages_for parts.old value.now) }
     requires unworn { is_worn (B.state board.old) ≡ false }
 
-    // The map, and then the drive beside it: no pair is half made.
+    // The map, and then the drive itself.
     ensures step { StoresWhole parts.old parts.new (store_most parts.old.log.shape)
         (B.state board.old) (B.state board.new) key value.now result }
-    ensures whole { OnRunning (is_half parts.new ≡ false) result }
+    ensures stops { StoppedOn parts.new result }
     ensures stays { OnRunning (StaysBetween parts.old parts.new) result }
     ensures opens { OnRunning (StaysOrOpens parts.old parts.new
         (pages_for parts.old value.now)) result }
@@ -162,7 +168,7 @@ pub(crate) fn put_whole<B: Nand, A: Region>(
         (B.state board.new)) }
 {
     match parts.make_whole(board) {
-        Ok(()) => put_with_space(parts, board, key, value, old),
+        Ok(()) => put_with_space(parts, board, key, value, old, count),
         Err(fault) => Err(fault),
     }
 }
@@ -179,10 +185,10 @@ pub(crate) fn take_whole<B: Nand, A: Region>(
     requires can { CanTakeBetween parts.old (B.state board.old) key old }
     requires number { NumbersLast (room_calls parts.old.log.shape) (B.state board.old) }
 
-    // The map, and then the drive beside it: no pair is half made.
+    // The map, and then the drive itself.
     ensures step { TakesWhole parts.old parts.new (room_calls parts.old.log.shape)
         (B.state board.old) (B.state board.new) key old result }
-    ensures whole { OnRunning (is_half parts.new ≡ false) result }
+    ensures stops { StoppedOn parts.new result }
     ensures stays { OnRunning (StaysBetween parts.old parts.new) result }
     ensures moves { OnRunning (Stays parts.old parts.new) result }
     ensures spends { Spends (pair_calls + (room_calls parts.old.log.shape + commit_calls))

@@ -14,8 +14,8 @@ ghost use Rattle.pk_nvme.specs.declared.opcode.TheConstants.{TICK};
 ghost use Rattle.pk_call.specs.Calling.{FewCalls};
 ghost use Rattle.pk_parts.specs.Staying.{StaysOrFrees};
 
+use crate::counts::reads_since;
 use pk_call::{Outcome, Ticked};
-use pk_index::reads_since;
 use pk_nand::Nand;
 use pk_nvme::Request;
 use pk_nvme::status::UNRECOVERED_ERROR;

@@ -1,5 +1,5 @@
 //! Parts of an engine that take memory of their own when they are made, and none afterwards.
-ghost use Rattle.std.specs.Prelude.{◌≡◌, false, IfOk};
+ghost use Rattle.std.specs.Prelude.{◌≡◌, ◌∷◌, false, IfOk};
 ghost use Rattle.pk_base.specs.Fields.{AreBytes};
 ghost use Rattle.pk_base.specs.Key.{IsKey};
 
@@ -111,11 +111,11 @@ fn fill<A: Region>(log: &mut Log<A>)
 
 // Adds an entry that deletes the key, unless that needs a freeze or a commit before it.
 fn delete<A: Region>(log: &mut Log<A>, bytes: &[u8])
-    requires key { IsKey bytes.now }
+    requires key { IsKey (1 ∷ bytes.now) }
     requires whole { log.old.epoch.half ≡ false }
     ensures whole { log.new.epoch.half ≡ false }
 {
-    let key = Key::of(bytes);
+    let key = Key::of(1, bytes);
     if log.pending() < log.root().shape().entries() && !log.needs_freeze(&key) {
         known(bytes);
         log.push(Entry::Gone { key });
@@ -123,8 +123,15 @@ fn delete<A: Region>(log: &mut Log<A>, bytes: &[u8])
 }
 
 // What memory holds are bytes.
-fn known(bytes: &[u8])
+fn are_bytes(bytes: &[u8])
     ensures { AreBytes bytes.now }
 {
     let _ = bytes;
+}
+
+// So are a namespace and they.
+fn known(bytes: &[u8])
+    ensures { AreBytes (1 ∷ bytes.now) }
+{
+    are_bytes(bytes);
 }

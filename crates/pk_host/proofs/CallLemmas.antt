@@ -3,7 +3,7 @@ use Rattle.std.proofs.Common.{◌≡◌, ℕ, ◌≤◌, min, List, [], length, 
 use Rattle.std.proofs.lemmas.Bool.{eqb-true}
 use Rattle.std.proofs.lemmas.List.{length-take-le, length-take}
 use Rattle.std.specs.FinMap.{get, contains_key, insert, remove}
-use Rattle.pk_base.specs.Key.{Key, IsKey}
+use Rattle.pk_base.specs.Key.{Key, IsKey, bytes_of}
 use Rattle.pk_base.specs.Map.{Map}
 use Rattle.pk_nvme.specs.Command.{Command, key}
 use Rattle.pk_nvme.specs.Reply.{Reply}
@@ -16,7 +16,7 @@ use Rattle.pk_model.specs.Answer.{effect, success}
 use Rattle.pk_host.specs.declared.types.HostError.{HostError}
 use Rattle.pk_host.specs.declared.types.HostError.TheVariants.{Refused}
 use Rattle.pk_host.specs.Port.{PortState, Replies}
-use Rattle.pk_host.specs.Calls.{of_key, retrieve_of, delete_of, exist_of, existed, found, Tests, Deletes, Leaves, Fetches, IsFront}
+use Rattle.pk_host.specs.Calls.{of_bytes, of_key, retrieve_of, delete_of, exist_of, existed, found, Tests, Deletes, Leaves, Fetches, IsFront}
 use Rattle.pk_host.proofs.CommandLemmas.{there, missing, same_map, success_served, key-of_key, delete_by, exist_by, retrieve_by, store_by}
 
 -- a success and a missing key are the two answers
@@ -30,31 +30,46 @@ found_cases hit miss a r P e at_hit at_miss = subst (λ x. IfOk x P) (sym e) (
       ] refl
     ] refl)
 
--- the command's key is the one that was passed
-module _ (old new : PortState) (k k' : Key) (same : k' ≡ k) (h : IsKey k) (a : Reply) where
-  for_key : (of : Key → Command) → Replies old new (of k') a → Replies old new (of k) a
-  for_key of x = subst (λ (q : Key). Replies old new (of q) a) same x
+-- the bytes of the command's key are those that were passed
+module _ (old new : PortState) (k : Key) (k' : List ℕ) (same : k' ≡ bytes_of k) (h : IsKey k) (a : Reply) where
+  for_key : (of : List ℕ → Command) → Replies old new (of k') a → Replies old new (of (bytes_of k)) a
+  for_key of x = subst (λ (q : List ℕ). Replies old new (of q) a) same x
 
-  pub delete_tests : (r : Result Bool HostError) → Replies old new (delete_of k') a → r ≡ existed a → IfOk r (λ b. Tests old k b)
+  for_delete : Replies old new (of_bytes DELETE k' 0 0 []) a → Replies old new (delete_of k) a
+  for_delete x = for_key (λ q. of_bytes DELETE q 0 0 []) x
+
+  for_exist : Replies old new (of_bytes EXIST k' 0 0 []) a → Replies old new (exist_of k) a
+  for_exist x = for_key (λ q. of_bytes EXIST q 0 0 []) x
+
+  key_is : (opcode : ℕ) → key (of_key opcode k 0 0 []) ≡ k
+  key_is opcode = key-of_key opcode k 0 0 [] h
+
+  pub delete_tests : (r : Result Bool HostError) → Replies old new (of_bytes DELETE k' 0 0 []) a → r ≡ existed a → IfOk r (λ b. Tests old k b)
   delete_tests r x e = found_cases true false a r (λ b. Tests old k b) e
-      (λ zero m told. let s = (for_key delete_of x).answers m told in sym (there old.shape old.limit s.frames m (delete_of k) Delete a s.left refl (delete_by old.shape old.limit m k h) zero s.stepped).0 ∙ ap (contains_key m) (key-of_key DELETE k 0 0 []))
-      (λ none m told. let s = (for_key delete_of x).answers m told in sym (missing old.shape old.limit s.frames m (delete_of k) Delete a s.left refl (delete_by old.shape old.limit m k h) (λ own. refl) none s.stepped).0 ∙ ap (contains_key m) (key-of_key DELETE k 0 0 []))
+      (λ zero m told. let s = (for_delete x).answers m told in
+      sym (there old.shape old.limit s.frames m (delete_of k) Delete a s.left refl (delete_by old.shape old.limit m k h) zero s.stepped).0 ∙ ap (contains_key m) (key_is DELETE))
+      (λ none m told. let s = (for_delete x).answers m told in
+      sym (missing old.shape old.limit s.frames m (delete_of k) Delete a s.left refl (delete_by old.shape old.limit m k h) (λ own. refl) none s.stepped).0 ∙ ap (contains_key m) (key_is DELETE))
 
-  pub delete_leaves : (r : Result Bool HostError) → Replies old new (delete_of k') a → r ≡ existed a → IfOk r (λ b. Deletes old new k b)
+  pub delete_leaves : (r : Result Bool HostError) → Replies old new (of_bytes DELETE k' 0 0 []) a → r ≡ existed a → IfOk r (λ b. Deletes old new k b)
   delete_leaves r x e = found_cases true false a r (λ b. Deletes old new k b) e
-      (λ zero m told. let s = (for_key delete_of x).answers m told in s.told ∙ ap (λ (n : Map). Some n) ((there old.shape old.limit s.frames m (delete_of k) Delete a s.left refl (delete_by old.shape old.limit m k h) zero s.stepped).1.leaves ∙ ap (remove m) (key-of_key DELETE k 0 0 [])))
-      (λ none m told. let s = (for_key delete_of x).answers m told in s.told ∙ ap (λ (n : Map). Some n) (missing old.shape old.limit s.frames m (delete_of k) Delete a s.left refl (delete_by old.shape old.limit m k h) (λ own. refl) none s.stepped).1)
+      (λ zero m told. let s = (for_delete x).answers m told in
+      s.told ∙ ap (λ (n : Map). Some n) ((there old.shape old.limit s.frames m (delete_of k) Delete a s.left refl (delete_by old.shape old.limit m k h) zero s.stepped).1.leaves ∙ ap (remove m) (key_is DELETE)))
+      (λ none m told. let s = (for_delete x).answers m told in
+      s.told ∙ ap (λ (n : Map). Some n) (missing old.shape old.limit s.frames m (delete_of k) Delete a s.left refl (delete_by old.shape old.limit m k h) (λ own. refl) none s.stepped).1)
 
-  pub exist_tests : (r : Result Bool HostError) → Replies old new (exist_of k') a → r ≡ existed a → IfOk r (λ b. Tests old k b)
+  pub exist_tests : (r : Result Bool HostError) → Replies old new (of_bytes EXIST k' 0 0 []) a → r ≡ existed a → IfOk r (λ b. Tests old k b)
   exist_tests r x e = found_cases true false a r (λ b. Tests old k b) e
-      (λ zero m told. let s = (for_key exist_of x).answers m told in sym (there old.shape old.limit s.frames m (exist_of k) Exist a s.left refl (exist_by old.shape old.limit m k h) zero s.stepped).0 ∙ ap (contains_key m) (key-of_key EXIST k 0 0 []))
-      (λ none m told. let s = (for_key exist_of x).answers m told in sym (missing old.shape old.limit s.frames m (exist_of k) Exist a s.left refl (exist_by old.shape old.limit m k h) (λ own. refl) none s.stepped).0 ∙ ap (contains_key m) (key-of_key EXIST k 0 0 []))
+      (λ zero m told. let s = (for_exist x).answers m told in
+      sym (there old.shape old.limit s.frames m (exist_of k) Exist a s.left refl (exist_by old.shape old.limit m k h) zero s.stepped).0 ∙ ap (contains_key m) (key_is EXIST))
+      (λ none m told. let s = (for_exist x).answers m told in
+      sym (missing old.shape old.limit s.frames m (exist_of k) Exist a s.left refl (exist_by old.shape old.limit m k h) (λ own. refl) none s.stepped).0 ∙ ap (contains_key m) (key_is EXIST))
 
-  pub store_leaves : (value : List ℕ) (options : ℕ) → Replies old new (of_key STORE k' (length value) options value) a → a.status ≡ 0 → Leaves old new (λ m. insert m k value)
+  pub store_leaves : (value : List ℕ) (options : ℕ) → Replies old new (of_bytes STORE k' (length value) options value) a → a.status ≡ 0 → Leaves old new (λ m. insert m k value)
   store_leaves value options x zero m told =
-      let s = (for_key (λ q. of_key STORE q (length value) options value) x).answers m told in
+      let s = (for_key (λ q. of_bytes STORE q (length value) options value) x).answers m told in
       let served = success_served old.shape old.limit s.frames m (of_key STORE k (length value) options value) Store a s.left refl (store_by old.shape old.limit m k h options value) zero s.stepped in
-      s.told ∙ ap (λ (n : Map). Some n) (served.leaves ∙ ap (λ (q : Key). insert m q value) (key-of_key STORE k (length value) options value))
+      s.told ∙ ap (λ (n : Map). Some n) (served.leaves ∙ ap (λ (q : Key). insert m q value) (key-of_key STORE k (length value) options value h))
 
   -- a prefix of a value that exists
   front_there : (m : Map) (value : Option (List ℕ)) (into : List ℕ) (len size status : ℕ) → is_some value ≡ true → length into ≡ size → len ≤ length into
@@ -68,12 +83,12 @@ module _ (old new : PortState) (k k' : Key) (same : k' ≡ k) (h : IsKey k) (a :
         ap (λ (x : ℕ). take x into) (omega (arith, n, sized)) ∙ front ∙ ap (λ (x : ℕ). take x value) (sym sized),
       )
 
-  pub retrieve_there : (into : List ℕ) (size len : ℕ) → Replies old new (retrieve_of k' size) a → a.status ≡ 0 → length into ≡ size → len ≤ length into → a.data_bytes ≡ take len into
+  pub retrieve_there : (into : List ℕ) (size len : ℕ) → Replies old new (of_bytes RETRIEVE k' size 0 []) a → a.status ≡ 0 → length into ≡ size → len ≤ length into → a.data_bytes ≡ take len into
       → Fetches old k (Some a.result) into
   retrieve_there into size len x zero sized fits front_is m told =
-      let s = (for_key (λ q. retrieve_of q size) x).answers m told in
+      let s = (for_key (λ q. of_bytes RETRIEVE q size 0 []) x).answers m told in
       let both = there old.shape old.limit s.frames m (retrieve_of k size) Retrieve a s.left refl (retrieve_by old.shape old.limit m k h size) zero s.stepped in
-      let is : key (retrieve_of k size) ≡ k = key-of_key RETRIEVE k size 0 [] in
+      let is : key (retrieve_of k size) ≡ k = key-of_key RETRIEVE k size 0 [] h in
       front_there m (get m k) into len size 0 (sym (ap (contains_key m) is) ∙ both.0) sized fits
       (both.1.replied ∙ ap (λ (q : Key). success (length (unwrap_or (get m q) [])) (take size (unwrap_or (get m q) []))) is) front_is
 
@@ -81,11 +96,11 @@ module _ (old new : PortState) (k k' : Key) (same : k' ≡ k) (h : IsKey k) (a :
   none_there None into e = refl
   none_there (Some value) into e = cc
 
-  pub retrieve_missing : (into : List ℕ) (size : ℕ) → Replies old new (retrieve_of k' size) a → a.status ≡ KEY_DOES_NOT_EXIST → Fetches old k None into
+  pub retrieve_missing : (into : List ℕ) (size : ℕ) → Replies old new (of_bytes RETRIEVE k' size 0 []) a → a.status ≡ KEY_DOES_NOT_EXIST → Fetches old k None into
   retrieve_missing into size x none m told =
-      let s = (for_key (λ q. retrieve_of q size) x).answers m told in
+      let s = (for_key (λ q. of_bytes RETRIEVE q size 0 []) x).answers m told in
       let both = missing old.shape old.limit s.frames m (retrieve_of k size) Retrieve a s.left refl (retrieve_by old.shape old.limit m k h size) (λ own. refl) none s.stepped in
-      none_there (get m k) into (sym (ap (contains_key m) (key-of_key RETRIEVE k size 0 [])) ∙ both.0)
+      none_there (get m k) into (sym (ap (contains_key m) (key-of_key RETRIEVE k size 0 [] h)) ∙ both.0)
 
 -- a command of a kind that leaves the map leaves the port's
 pub leaves_map : (old new : PortState) (c : Command) (k : Opcode) (a : Reply) → op_of c.opcode ≡ Some k → ((m : Map) → effect m c (Some k) ≡ m) → Replies old new c a → Leaves old new (λ m. m)

@@ -1,6 +1,6 @@
 -- Why a call that asks or lists has no answer.
 use Rattle.std.proofs.Common.{◌≡◌, inl, inr, ℕ, ◌≤◌, ◌==◌, List, [], length, Bool, true, false, if◌then◌else◌, nat_lt, Option, Some, None, Result, Ok, Err, IfErr, refl, sym, ap, subst, ◌∙◌, arith}
-use Rattle.pk_base.specs.Key.{Key, IsKey}
+use Rattle.pk_base.specs.Key.{Key, IsKey, bytes_of}
 use Rattle.pk_nvme.specs.Command.{Command}
 use Rattle.pk_nvme.specs.Reply.{Reply}
 use Rattle.pk_nand.specs.Calls.{Rose}
@@ -16,7 +16,8 @@ use Rattle.pk_host.proofs.CommandLemmas.{only_fault, keyed_fault, list_by, retri
 err_same : {X : Type 0} (e f : HostError) → ◌≡◌ {A = Result X HostError} (Err e) (Err f) → e ≡ f
 err_same e f h = cc
 
-pub list_cause : (old new : PortState) (from : Key) (page : List Key) (e : HostError) → length from ≤ 16 → Gives old new (list_of from) (listed_by page) (Err e) → IsCause old new (listed_by []) e
+pub list_cause : (old new : PortState) (from : Key) (page : List Key) (e : HostError) → length (bytes_of from) ≤ 16
+    → Gives old new (list_of from) (listed_by page) (Err e) → IsCause old new (listed_by []) e
 list_cause old new from page e short (inr fault) = subst (IsCause old new (listed_by [])) (sym (err_same e Port fault.0)) fault.1
 list_cause old new from page e short (inl (a, x, is)) =
     elim (a.status == 0) as (λ b. (a.status == 0) ≡ b → ◌≡◌ {A = Result Bool HostError} (Err e) (if b then Ok (nat_lt 0 (length page)) else Err (Refused a.status)) → IsCause old new (listed_by []) e) [
@@ -48,7 +49,8 @@ retrieve_cause old new k size e key (inl (a, x, is)) =
       ] refl g
     ] refl is
 
-pub list_causes : (old new : PortState) (from : Key) (page : List Key) (r : Result Bool HostError) → length from ≤ 16 → Gives old new (list_of from) (listed_by page) r → IfErr r (λ e. IsCause old new (listed_by []) e)
+pub list_causes : (old new : PortState) (from : Key) (page : List Key) (r : Result Bool HostError) → length (bytes_of from) ≤ 16
+    → Gives old new (list_of from) (listed_by page) r → IfErr r (λ e. IsCause old new (listed_by []) e)
 list_causes old new from page (Ok b) short h = tt
 list_causes old new from page (Err e) short h = list_cause old new from page e short h
 

@@ -1,10 +1,10 @@
 -- What the definition answers to the one command of each call.
-use Rattle.std.proofs.Common.{◌≡◌, ◌==◌, inl, inr, ℕ, ◌≤◌, List, [], length, Bool, true, false, ◌&&◌, ◌||◌, not, nat_le, Some, None, refl, sym, ap, ◌∙◌, arith}
+use Rattle.std.proofs.Common.{◌≡◌, ◌==◌, inl, inr, ℕ, ◌≤◌, List, [], ◌∷◌, length, Bool, true, false, ◌&&◌, ◌||◌, not, nat_le, Some, None, refl, sym, ap, ◌∙◌, arith}
 use Rattle.std.proofs.lemmas.List.{take_at}
 use Rattle.std.proofs.lemmas.Bool.{le-leb, eq-eqb}
 use Rattle.std.specs.FinMap.{contains_key}
 use Rattle.pk_base.specs.Choices.{or_else}
-use Rattle.pk_base.specs.Key.{Key, IsKey}
+use Rattle.pk_base.specs.Key.{Key, IsKey, bytes_of}
 use Rattle.pk_base.specs.Shape.{Shape, greatest}
 use Rattle.pk_base.specs.Map.{Map}
 use Rattle.pk_nvme.specs.Command.{Command, key, must_exist, must_be_new}
@@ -17,6 +17,7 @@ use Rattle.pk_nvme.specs.declared.opcode.TheConstants.{STORE, RETRIEVE, DELETE, 
 use Rattle.pk_model.specs.Answer.{check, late_of, live_after, refused, reply, reply_of, map_after, effect, Answer}
 use Rattle.pk_model.specs.Run.{StepIn}
 use Rattle.pk_host.specs.Calls.{of_key, list_of, report}
+use Rattle.pk_host.proofs.SpellingLemmas.{in_first}
 
 zero_is_not_87 : ◌≡◌ {A = ℕ} 0 KEY_DOES_NOT_EXIST → ⊥
 zero_is_not_87 e = omega (arith, e)
@@ -103,11 +104,14 @@ module _ (shape : Shape) (most frames : ℕ) (m : Map) (c : Command) (k : Opcode
 -- ---- the checks of each command
 
 -- the key of a command is the key that it was made for
-pub key-of_key : (opcode : ℕ) (k : Key) (size options : ℕ) (value : List ℕ) → key (of_key opcode k size options value) ≡ k
-key-of_key opcode k size options value = take_at k _ (length k) refl
+pub key_named : (opcode : ℕ) (k : Key) (size options : ℕ) (value : List ℕ) → key (of_key opcode k size options value) ≡ 1 ∷ bytes_of k
+key_named opcode k size options value = ap (λ (bytes : List ℕ). 1 ∷ bytes) (take_at (bytes_of k) _ (length (bytes_of k)) refl)
 
-key_length : (k : Key) → IsKey k → (nat_le 1 (length k) && nat_le (length k) 16) ≡ true
-key_length k h = rw (le-leb 1 (length k) h.some, le-leb (length k) 16 h.most) refl
+pub key-of_key : (opcode : ℕ) (k : Key) (size options : ℕ) (value : List ℕ) → IsKey k → key (of_key opcode k size options value) ≡ k
+key-of_key opcode k size options value h = key_named opcode k size options value ∙ in_first k h
+
+key_length : (k : Key) → IsKey k → (nat_le 1 (length (bytes_of k)) && nat_le (length (bytes_of k)) 16) ≡ true
+key_length k h = rw (le-leb 1 (length (bytes_of k)) h.some, le-leb (length (bytes_of k)) 16 h.most) refl
 
 module _ (shape : Shape) (most : ℕ) (m : Map) (k : Key) (h : IsKey k) where
   pub delete_by : refused shape most m (of_key DELETE k 0 0 []) ≡ check (contains_key m (key (of_key DELETE k 0 0 []))) KEY_DOES_NOT_EXIST
@@ -134,8 +138,8 @@ module _ (shape : Shape) (most : ℕ) (m : Map) (k : Key) (h : IsKey k) where
       not_zero (nat_le (length value) (greatest shape)) (not (must_exist c) || contains_key m (key c)) (not (must_be_new c && contains_key m (key c))) (nat_le (live_after shape m c) most) (sym checks ∙ e)
 
 -- a List of 65,536 bytes is never refused
-pub list_by : (shape : Shape) (most : ℕ) (m : Map) (from : Key) → length from ≤ 16 → refused shape most m (list_of from) ≡ None
-list_by shape most m from short = ap (λ b. or_else (or_else (check b INVALID_KEY_SIZE) None) None) (le-leb (length from) 16 short)
+pub list_by : (shape : Shape) (most : ℕ) (m : Map) (from : Key) → length (bytes_of from) ≤ 16 → refused shape most m (list_of from) ≡ None
+list_by shape most m from short = ap (λ b. or_else (or_else (check b INVALID_KEY_SIZE) None) None) (le-leb (length (bytes_of from)) 16 short)
 
 -- nor is a Report
 pub report_by : (shape : Shape) (most : ℕ) (m : Map) → refused shape most m report ≡ None

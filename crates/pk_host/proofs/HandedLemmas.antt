@@ -1,6 +1,7 @@
 -- What is passed with a command, and the room that it needs.
 use Rattle.std.proofs.Common.{◌≡◌, ℕ, ◌<◌, ◌^◌, sym, ap, subst, ◌∙◌, arith, List, length, Option, Some, None}
 use Rattle.pk_base.specs.Fields.{AreBytes}
+use Rattle.pk_base.specs.Key.{bytes_of}
 use Rattle.pk_base.specs.declared.sizes.TheConstants.{KEY_BYTES}
 use Rattle.pk_nvme.specs.declared.opcode.Opcode.{Opcode}
 use Rattle.pk_nvme.specs.declared.opcode.Opcode.TheVariants.{Flush, Store, Retrieve, List as ListKeys, Delete, Exist, Tick, Report}
@@ -27,7 +28,7 @@ room_small size (Some Tick) h = omega arith
 pub handed_so : (r : Request) (c : Command) (value : List ℕ) → command_of r value ≡ c → length r.key ≡ KEY_BYTES → AreBytes r.key → AreBytes value → IsWhole c → IsHanded c
 handed_so r c value e size keys bytes whole = record {
   place_size = ap (λ (x : Command). length x.key_bytes) (sym e) ∙ size;
-  key_bytes = subst (λ (x : Command). AreBytes (key x)) e (bytes-take r.key_len r.key keys);
+  key_bytes = subst (λ (x : Command). AreBytes (bytes_of (key x))) e (bytes-take r.key_len r.key keys);
   value_bytes = subst (λ (x : Command). AreBytes x.value) e bytes;
   whole = whole;
 }

@@ -5,6 +5,7 @@ use Rattle.std.proofs.lemmas.List.{length-take-le}
 use Rattle.std.specs.FinMap.{get, contains_key, insert, remove, empty}
 use Rattle.pk_base.specs.Choices.{or_else}
 use Rattle.pk_base.specs.Shape.{Shape, limit, charge}
+use Rattle.pk_base.specs.Key.{IsKey, bytes_of}
 use Rattle.pk_base.specs.Map.{Map, live, pages_if_some}
 use Rattle.pk_nvme.specs.declared.opcode.TheConstants.{FLUSH, STORE, RETRIEVE, LIST, DELETE, EXIST, TICK, REPORT}
 use Rattle.pk_nvme.specs.declared.opcode.Opcode.{Opcode}
@@ -13,7 +14,8 @@ use Rattle.pk_nvme.specs.declared.status.TheConstants.{CAPACITY_EXCEEDED, KEY_DO
 use Rattle.pk_nvme.specs.Opcode.{op_of}
 use Rattle.pk_nvme.specs.Command.{Command, key, must_exist, must_be_new}
 use Rattle.pk_model.specs.Answer.{check, fault_of, early, late_of, live_after, refused, map_after, effect}
-use Rattle.pk_model.proofs.Answering.{refuses_with, serves, key_sized, store_sized}
+use Rattle.pk_model.proofs.Answering.{refuses_with, serves, key_sized, key_spaced, store_sized}
+use Rattle.pk_model.proofs.HeldMap.{key_is_bytes}
 use Rattle.pk_model.proofs.Machines.{live-empty, live-remove, live_stored}
 use Rattle.pk_host.specs.Good.{IsGood, IsHanded, holding}
 use Rattle.pk_host.proofs.EntryLemmas.{map_empty, map_insert, map_remove}
@@ -64,7 +66,8 @@ module _ (shape : Shape) (m : Map) (c : Command) (good : IsGood (holding shape m
   good_store : op_of c.opcode ≡ Some Store → early shape c ≡ None → late_of shape (limit shape) m c (Some Store) ≡ None → IsGood (holding shape (insert m (key c) c.value))
   good_store is passed late =
       let sized = key_sized shape c Store (λ n. refl) is passed in
-      let key_length : length (key c) ≡ c.key_len = length-take-le c.key_len c.key_bytes (omega (arith, sized.most, handed.place_size)) in
+      let spaced = key_spaced shape c Store (λ n. refl) is passed in
+      let key_length : length (bytes_of (key c)) ≡ c.key_len = length-take-le c.key_len c.key_bytes (omega (arith, sized.most, handed.place_size)) in
       let whole : length c.value ≡ c.size = handed.whole.whole ∙ ap (λ b. if b then c.size else 0) (store_alone c.opcode is) in
       let small = store_sized shape c is passed in
       let behind = first_none (check (not (must_be_new c && contains_key m (key c))) KEY_EXISTS) (check (nat_le (live_after shape m c) (limit shape)) CAPACITY_EXCEEDED)
@@ -72,8 +75,10 @@ module _ (shape : Shape) (m : Map) (c : Command) (good : IsGood (holding shape m
       let most = leb-true (live_after shape m c) (limit shape) (check_none (nat_le (live_after shape m c) (limit shape)) CAPACITY_EXCEEDED behind.1) in
       let is_live : live_after shape m c ≡ live shape (insert m (key c) c.value) =
       live_stored shape m (key c) c.value (live shape m) (pages_if_some shape (get m (key c))) (charge shape c.size) refl refl (ap (charge shape) (sym whole)) in
+      let is_key : IsKey (key c) =
+      record { some = omega (arith, key_length, sized.some); most = omega (arith, key_length, sized.most); space_some = spaced.some; space_most = spaced.most } in
       record {
-        sized = map_insert shape m (key c) c.value good.sized (record { some = omega (arith, key_length, sized.some); most = omega (arith, key_length, sized.most) }) handed.key_bytes
+        sized = map_insert shape m (key c) c.value good.sized is_key (key_is_bytes (key c) is_key handed.key_bytes)
             (omega (arith, whole, small)) handed.value_bytes;
         few = omega (arith, is_live, most);
       }

@@ -1,13 +1,15 @@
 -- Pages of keys, one after another, are all keys.
-use Rattle.std.proofs.Common.{◌≡◌, inl, inr, ℕ, ◌-◌, ◌≤◌, nat_lt, if◌then◌else◌, List, [], ◌∷◌, ◌++◌, length, filter, Bool, true, false, not, nat_le, Option, Some, None, Result, Ok, Err, IfOk, OnOk, refl, sym, ap, subst, ◌∙◌, arith, append_assoc}
+use Rattle.std.proofs.Common.{◌≡◌, inl, inr, ℕ, ◌-◌, ◌≤◌, ◌==◌, nat_lt, if◌then◌else◌, List, [], ◌∷◌, ◌++◌, length, filter, Bool, true, false, not, nat_le, Option, Some, None, Result, Ok, Err, IfOk, OnOk, refl, sym, ap, subst, ◌∙◌, arith, append_assoc}
 use Rattle.std.proofs.lemmas.List.{append-nil}
 use Rattle.std.proofs.lemmas.Bool.{le-leb}
 use Rattle.std.specs.List.{AllByRecursion, slice_get}
-use Rattle.std.specs.Ordering.{is_lt}
+use Rattle.std.specs.Ordering.{is_lt, nat_cmp, ordering_then}
+use Rattle.std.specs.declared.cmp.Ordering.TheVariants.{Less, Equal, Greater}
+use Rattle.std.proofs.lemmas.Bool.Decides.{nat_tests}
 use Rattle.std.specs.FinMap.{keys}
-use Rattle.pk_base.specs.Key.{Key, IsKey, key_cmp, IsBelow, IsRising}
+use Rattle.pk_base.specs.Key.{Key, IsKey, key_cmp, IsBelow, IsRising, bytes_of}
 use Rattle.pk_base.specs.Shape.{Shape}
-use Rattle.pk_base.specs.Map.{Map, keys_from}
+use Rattle.pk_base.specs.Map.{Map, IsMap, keys_from}
 use Rattle.pk_nvme.specs.Command.{Command, key, key_or_none}
 use Rattle.pk_nvme.specs.Reply.{Reply}
 use Rattle.pk_nvme.specs.Opcode.{op_of}
@@ -18,10 +20,10 @@ use Rattle.pk_nvme.specs.declared.limits.TheConstants.{MOST_LIST_BYTES}
 use Rattle.pk_model.specs.Answer.{refused, map_after, effect, listed, fitting, list_bytes}
 use Rattle.pk_host.specs.declared.types.HostError.{HostError}
 use Rattle.pk_host.specs.Port.{PortState, Replies, Took, LeftBySome}
-use Rattle.pk_host.specs.Calls.{list_of, Leaves, AreLists, TookSome}
-use Rattle.pk_host.specs.Listing.{list_room, above, keys_of, page_after, Pages, Follows, TellsKeys, ListsAll}
-use Rattle.pk_host.proofs.CommandLemmas.{success_served, list_by, key-of_key}
-use Rattle.pk_host.proofs.SpellingLemmas.{read_back, listed_least, are_keys, filter_all}
+use Rattle.pk_host.specs.Calls.{of_bytes, list_of, Leaves, AreLists, TookSome}
+use Rattle.pk_host.specs.Listing.{IsStart, list_room, above, keys_of, page_after, Pages, Follows, TellsKeys, ListsAll}
+use Rattle.pk_host.proofs.CommandLemmas.{success_served, list_by, key_named}
+use Rattle.pk_host.proofs.SpellingLemmas.{in_first, read_back, listed_least, are_keys, filter_all}
 use Rattle.pk_host.proofs.RisingLemmas.{above-append, above_split, above_above, above_from, are_above, rising_filter, all_middle, last_of, snoc_of, keys_rising, second_above}
 
 -- ---- Lists leave the map
@@ -62,15 +64,46 @@ not_refused : (o : Option ℕ) → o ≡ None → o ≡ Some 0 → ⊥
 not_refused None e z = cc
 not_refused (Some n) e z = cc
 
-pub page_read : (old new : PortState) (from : Key) (a : Reply) (each : List Key) → length from ≤ 16 → Replies old new (list_of from) a → a.status ≡ 0
+-- no key is below the least of its namespace, nor below none
+first_below : (n : ℕ) (bytes : List ℕ) → 1 ≤ n → is_lt (key_cmp (n ∷ bytes) (1 ∷ [])) ≡ false
+first_below n [] some =
+    let no : nat_lt n 1 ≡ false = grind (arith, nat_tests) in
+    rw no (elim (n == 1) as (λ e. is_lt (ordering_then (if e then Equal else Greater) Equal) ≡ false) [ true ↦ refl | false ↦ refl ])
+first_below n (b ∷ bytes) some =
+    let no : nat_lt n 1 ≡ false = grind (arith, nat_tests) in
+    rw no (elim (n == 1) as (λ e. is_lt (ordering_then (if e then Equal else Greater) Greater) ≡ false) [ true ↦ refl | false ↦ refl ])
+
+all_from : (ks : List Key) → AllByRecursion IsKey ks → filter (λ k. not (is_lt (key_cmp k (1 ∷ [])))) ks ≡ filter (λ k. not (is_lt (key_cmp k []))) ks
+all_from [] h = refl
+all_from ([] ∷ ks) h = absurd (let some = h.0.some in omega (arith, some))
+all_from ((n ∷ bytes) ∷ ks) h =
+    ap (λ b. if not b then (n ∷ bytes) ∷ filter (λ k. not (is_lt (key_cmp k (1 ∷ [])))) ks else filter (λ k. not (is_lt (key_cmp k (1 ∷ [])))) ks) (first_below n bytes h.0.space_some)
+    ∙ ap (λ (xs : List Key). (n ∷ bytes) ∷ xs) (all_from ks h.1)
+
+-- the keys of a map from the start of a List on
+keys_started : (shape : Shape) (m : Map) (from : Key) → IsStart from → IsMap shape m → keys_from (1 ∷ bytes_of from) m ≡ keys_from from m
+keys_started shape m from (inl none) is =
+    ap (λ (q : Key). keys_from (1 ∷ bytes_of q) m) none ∙ all_from (keys m) (are_keys shape m is) ∙ ap (λ (q : Key). keys_from q m) (sym none)
+keys_started shape m from (inr key) is = ap (λ (q : Key). keys_from q m) (in_first from key)
+
+pub page_read : (old new : PortState) (from : Key) (a : Reply) (each : List Key) → length (bytes_of from) ≤ 16 → IsStart from → Replies old new (list_of from) a → a.status ≡ 0
     → each ≡ above from (keys_of a.data_bytes) → Pages old from each
-page_read old new from a each short x zero read m told =
+page_read old new from a each short start x zero read m told =
     let s = x.answers m told in
     let none = not_refused (refused old.shape old.limit m (list_of from)) (list_by old.shape old.limit m from short) in
     let served = success_served old.shape old.limit s.frames m (list_of from) ListKeys a s.left refl none zero s.stepped in
     let bytes : a.data_bytes ≡ list_bytes (fitting list_room (keys_from (key (list_of from)) m)) = ap (λ (r : Reply). r.data_bytes) served.replied in
-    read ∙ ap (λ (xs : List ℕ). above from (keys_of xs)) (bytes ∙ ap (λ (q : Key). list_bytes (fitting list_room (keys_from q m))) (key-of_key LIST from MOST_LIST_BYTES 0 []))
+    read ∙ ap (λ (xs : List ℕ). above from (keys_of xs)) (bytes ∙ ap (λ (q : Key). list_bytes (fitting list_room (keys_from q m))) (key_named LIST from MOST_LIST_BYTES 0 [])
+    ∙ ap (λ (ks : List Key). list_bytes (fitting list_room ks)) (keys_started old.shape m from start s.within.sized))
     ∙ ap (above from) (read_back old.shape m from s.within.sized)
+
+-- a List for the bytes of a key, or for none
+pub for_start : (old new : PortState) (from : Key) (bytes : List ℕ) (a : Reply) → bytes ≡ bytes_of from
+    → Replies old new (of_bytes LIST bytes MOST_LIST_BYTES 0 []) a → Replies old new (list_of from) a
+for_start old new from bytes a same x = subst (λ (q : List ℕ). Replies old new (of_bytes LIST q MOST_LIST_BYTES 0 []) a) same x
+
+pub start_short : (from : Key) (bytes : List ℕ) → bytes ≡ bytes_of from → length bytes ≤ 16 → length (bytes_of from) ≤ 16
+start_short from bytes same short = subst (λ (q : List ℕ). length q ≤ 16) same short
 
 pub knows_keys : (old new : PortState) (c : Command) (a : Reply) → Replies old new c a → TellsKeys old
 knows_keys old new c a x m told = are_keys old.shape m (x.answers m told).within.sized
@@ -140,10 +173,11 @@ same_some [] rest all none e = ap (λ (xs : List Key). nat_lt 0 (length xs)) (sy
 same_some (k ∷ page) rest all none e =
     le-leb 1 (length (k ∷ page)) (omega arith) ∙ sym (ap (λ (xs : List Key). nat_lt 0 (length xs)) e ∙ le-leb 1 (length (k ∷ page ++ rest)) (omega arith))
 
-pub follows_read : (old new : PortState) (from : Key) (a : Reply) (each : List Key) (r : Result Bool HostError) → length from ≤ 16 → Replies old new (list_of from) a → a.status ≡ 0
+pub follows_read : (old new : PortState) (from : Key) (a : Reply) (each : List Key) (r : Result Bool HostError) → length (bytes_of from) ≤ 16
+    → IsStart from → Replies old new (list_of from) a → a.status ≡ 0
     → each ≡ above from (keys_of a.data_bytes) → r ≡ Ok (nat_lt 0 (length each)) → IfOk r (λ more. Follows old from more)
-follows_read old new from a each r short x zero read is = subst (λ y. IfOk y (λ more. Follows old from more)) (sym is) (λ m told.
-    let page = page_read old new from a each short x zero read m told in
+follows_read old new from a each r short start x zero read is = subst (λ y. IfOk y (λ more. Follows old from more)) (sym is) (λ m told.
+    let page = page_read old new from a each short start x zero read m told in
     let split = page_rest from m in
     ap (λ (ks : List Key). nat_lt 0 (length ks)) page ∙ same_some (page_after from m) split.0 (above from (keys m)) (none_follows from m (knows_keys old new (list_of from) a x m told)) split.1)
 

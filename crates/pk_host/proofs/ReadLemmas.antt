@@ -1,8 +1,8 @@
 -- Reading the keys of a List one after another.
 use Rattle.std.proofs.Common.{◌≡◌, ℕ, zero, suc, ◌+◌, ◌-◌, ◌*◌, ◌≤◌, ◌<◌, min, if◌then◌else◌, List, [], ◌∷◌, ◌++◌, length, drop, true, false, Some, None, refl, sym, ap, ◌∙◌, arith, append_assoc}
-use Rattle.std.proofs.lemmas.List.{append-nil, drop-drop}
+use Rattle.std.proofs.lemmas.List.{append-nil, drop-drop, drop_all}
 use Rattle.std.specs.Ordering.{is_lt}
-use Rattle.pk_base.specs.Key.{Key, key_cmp}
+use Rattle.pk_base.specs.Key.{Key, IsKey, key_cmp}
 use Rattle.pk_base.specs.Fields.{u32_at}
 use Rattle.pk_model.specs.Answer.{listed}
 use Rattle.pk_host.specs.declared.sizes.TheConstants.{MOST_KEYS}
@@ -15,8 +15,22 @@ pub record IsReading (bytes from : List ℕ) (count i at : ℕ) (each : List Key
   pub most : length each ≤ i
   pub rest : each ++ above from (keys_in (count - i) (drop at bytes)) ≡ above from (keys_of bytes)
 
+-- each key is above none
+pub above_none : (k : Key) → IsKey k → true ≡ is_lt (key_cmp [] k)
+above_none [] h = absurd (let some = h.some in omega (arith, some))
+above_none (n ∷ bytes) h = refl
+
 above-cons : (from k : Key) (ks : List Key) → above from (k ∷ ks) ≡ above from (k ∷ []) ++ above from ks
 above-cons from k ks = elim (is_lt (key_cmp from k)) as (λ b. (if b then k ∷ above from ks else above from ks) ≡ (if b then k ∷ [] else []) ++ above from ks) [ true ↦ refl | false ↦ refl ]
+
+-- no key is spelled by no bytes, nor by fewer than those of the count
+keys_in_none : (n : ℕ) → keys_in n [] ≡ []
+keys_in_none zero = refl
+keys_in_none (suc n) = refl
+
+pub too_short : (bytes from : List ℕ) → length bytes < 4 → above from (keys_of bytes) ≡ []
+too_short bytes from short =
+    ap (λ (xs : List ℕ). above from (keys_in (min (u32_at bytes 0) MOST_KEYS) xs)) (drop_all 4 bytes (omega (arith, short))) ∙ ap (above from) (keys_in_none (min (u32_at bytes 0) MOST_KEYS))
 
 pub begins : (bytes from : List ℕ) (count : ℕ) → count ≡ min (u32_at bytes 0) MOST_KEYS → IsReading bytes from count 0 4 []
 begins bytes from count e =

@@ -5,7 +5,7 @@ use Rattle.std.proofs.lemmas.Bool.{le-leb, leb-true}
 use Rattle.std.specs.List.{AllByRecursion}
 use Rattle.std.specs.Ordering.{is_lt}
 use Rattle.std.specs.FinMap.{keys, entries}
-use Rattle.pk_base.specs.Key.{Key, IsKey, key_cmp}
+use Rattle.pk_base.specs.Key.{Key, IsKey, key_cmp, bytes_of}
 use Rattle.pk_base.specs.Fields.{AreBytes, u16, u16_at, u32_at}
 use Rattle.pk_base.specs.Shape.{Shape}
 use Rattle.pk_base.specs.Map.{Map, IsMap, keys_from}
@@ -20,33 +20,40 @@ drop_front (x ∷ a) b = drop_front a b
 
 -- ---- one key
 
-size_at : (k : Key) (rest : List ℕ) → IsKey k → u16_at (listed k ++ rest) 0 ≡ length k
-size_at k rest h = stands_number 2 0 (length k) _ (listed k ++ rest) (append_assoc (u16 (length k)) _ rest) (omega (arith, h.most))
+-- a key is in namespace 1, since there is no other
+pub in_first : (k : Key) → IsKey k → 1 ∷ bytes_of k ≡ k
+in_first [] h = let some = h.some in absurd (omega (arith, some))
+in_first (n ∷ bytes) h = let some = h.space_some in let most = h.space_most in ap (λ (m : ℕ). m ∷ bytes) (omega (arith, some, most))
 
-bytes_at : (k : Key) (rest : List ℕ) → take (length k) (drop 2 (listed k ++ rest)) ≡ k
-bytes_at k rest = ap (take (length k)) (append_assoc k _ rest) ∙ take_at k _ (length k) refl
+size_at : (k : Key) (rest : List ℕ) → IsKey k → u16_at (listed k ++ rest) 0 ≡ length (bytes_of k)
+size_at k rest h = stands_number 2 0 (length (bytes_of k)) _ (listed k ++ rest) (append_assoc (u16 (length (bytes_of k))) _ rest) (omega (arith, h.most))
 
-room_at : (k : Key) (rest : List ℕ) → 2 + length k ≤ length (listed k ++ rest)
+bytes_at : (k : Key) (rest : List ℕ) → take (length (bytes_of k)) (drop 2 (listed k ++ rest)) ≡ bytes_of k
+bytes_at k rest = ap (take (length (bytes_of k))) (append_assoc (bytes_of k) _ rest) ∙ take_at (bytes_of k) _ (length (bytes_of k)) refl
+
+room_at : (k : Key) (rest : List ℕ) → 2 + length (bytes_of k) ≤ length (listed k ++ rest)
 room_at k rest =
     let a = length-append (listed k) rest in
-    let b = length-append k (replicate ((6 - (length k % 4)) % 4) 0) in
+    let b = length-append (bytes_of k) (replicate ((6 - (length (bytes_of k) % 4)) % 4) 0) in
     omega (arith, a, b)
 
-first_listed : (k : Key) (rest : List ℕ) → IsKey k → first_key (listed k ++ rest) ≡ Some k
-first_listed k rest h =
+spelled_first : (k : Key) (rest : List ℕ) → IsKey k → first_key (listed k ++ rest) ≡ Some k
+spelled_first k rest h =
     let bytes : List ℕ = listed k ++ rest in
+    let n : ℕ = length (bytes_of k) in
     let size = size_at k rest h in
     let fits : (nat_le 1 (u16_at bytes 0) && nat_le (u16_at bytes 0) 16 && nat_le (2 + u16_at bytes 0) (length bytes)) ≡ true =
     ap (λ (n : ℕ). nat_le 1 n && nat_le n 16 && nat_le (2 + n) (length bytes)) size
-    ∙ rw (le-leb 1 (length k) h.some, le-leb (length k) 16 h.most, le-leb (2 + length k) (length bytes) (room_at k rest)) refl in
-    ap (λ b. if b then Some (take (u16_at bytes 0) (drop 2 bytes)) else None) fits ∙ ap (λ (n : ℕ). Some (take n (drop 2 bytes))) size ∙ ap (λ (x : Key). Some x) (bytes_at k rest)
+    ∙ rw (le-leb 1 n h.some, le-leb n 16 h.most, le-leb (2 + n) (length bytes) (room_at k rest)) refl in
+    ap (λ b. if b then Some (1 ∷ take (u16_at bytes 0) (drop 2 bytes)) else None) fits ∙ ap (λ (n : ℕ). Some (1 ∷ take n (drop 2 bytes))) size
+    ∙ ap (λ (xs : List ℕ). Some (1 ∷ xs)) (bytes_at k rest) ∙ ap (λ (x : Key). Some x) (in_first k h)
 
 -- ---- all keys
 
 pub keys_in-listed : (ks : List Key) → AllByRecursion IsKey ks → keys_in (length ks) (flat_map listed ks) ≡ ks
 keys_in-listed [] h = refl
 keys_in-listed (k ∷ ks) h =
-    ap (λ o. and_then o (λ key. keys_in (length ks) (drop (length (listed key)) (listed k ++ flat_map listed ks)))) (first_listed k (flat_map listed ks) h.0)
+    ap (λ o. and_then o (λ key. keys_in (length ks) (drop (length (listed key)) (listed k ++ flat_map listed ks)))) (spelled_first k (flat_map listed ks) h.0)
     ∙ ap (λ (xs : List ℕ). k ∷ keys_in (length ks) xs) (drop_front (listed k) (flat_map listed ks))
     ∙ ap (λ (xs : List Key). k ∷ xs) (keys_in-listed ks h.1)
 
@@ -61,8 +68,8 @@ keys_of-list_bytes ks h few =
 
 pub listed_least : (k : Key) → IsKey k → (4 ≤ length (listed k)) × (length (listed k) ≤ 20)
 listed_least k h =
-    let a = length-append k (replicate ((6 - (length k % 4)) % 4) 0) in
-    let b = length-replicate {A = ℕ} ((6 - (length k % 4)) % 4) 0 in
+    let a = length-append (bytes_of k) (replicate ((6 - (length (bytes_of k) % 4)) % 4) 0) in
+    let b = length-replicate {A = ℕ} ((6 - (length (bytes_of k) % 4)) % 4) 0 in
     (omega (arith, a, b, h.some), omega (arith, a, b, h.most))
 
 pub fitting_all : (room : ℕ) (ks : List Key) → AllByRecursion IsKey ks → AllByRecursion IsKey (fitting room ks)

@@ -3,7 +3,7 @@ use Rattle.std.specs.Prelude.{◌≡◌, ◌⊎◌, ℕ, List, [], ◌∷◌, le
 use Rattle.std.specs.Option.{option_map}
 use Rattle.std.specs.FinMap.{get, contains_key, remove}
 use Rattle.std.specs.List.{AllByRecursion}
-use Rattle.pk_base.specs.Key.{Key}
+use Rattle.pk_base.specs.Key.{Key, bytes_of}
 use Rattle.pk_base.specs.Fields.{padded}
 use Rattle.pk_base.specs.Map.{Map}
 use Rattle.pk_base.specs.declared.sizes.TheConstants.{KEY_BYTES}
@@ -24,18 +24,22 @@ use Rattle.pk_host.specs.declared.types.StoreRule.TheVariants.{Any, IfExists, If
 
 -- ---- the commands
 
--- a command in the drive's namespace, with the CID 0
-abbrev pub of_key : ℕ → Key → ℕ → ℕ → List ℕ → Command
-of_key opcode key size options value = record {
+-- a command in the drive's namespace for these bytes of a key, with the CID 0
+abbrev pub of_bytes : ℕ → List ℕ → ℕ → ℕ → List ℕ → Command
+of_bytes opcode bytes size options value = record {
   opcode = opcode;
   cid = 0;
   namespace = NAMESPACE;
-  key_len = length key;
-  key_bytes = padded KEY_BYTES key;
+  key_len = length bytes;
+  key_bytes = padded KEY_BYTES bytes;
   size = size;
   options = options;
   value = value;
 }
+
+-- the same for a key
+abbrev pub of_key : ℕ → Key → ℕ → ℕ → List ℕ → Command
+of_key opcode key size options value = of_bytes opcode (bytes_of key) size options value
 
 -- the option bits of a Store by a rule
 abbrev pub options_of : StoreRule → ℕ

@@ -1,6 +1,7 @@
 -- What commands are passed, and which maps they keep.
 use Rattle.std.specs.Prelude.{◌≡◌, ◌≤◌, length}
 use Rattle.pk_base.specs.Fields.{AreBytes}
+use Rattle.pk_base.specs.Key.{bytes_of}
 use Rattle.pk_base.specs.Shape.{Shape, limit}
 use Rattle.pk_base.specs.Map.{Map, IsMap, live}
 use Rattle.pk_base.specs.declared.sizes.TheConstants.{KEY_BYTES}
@@ -14,7 +15,7 @@ holding shape m = record { shape = shape; map = m }
 -- the bytes of a command's key and value are bytes, and the value is whole
 pub record IsHanded (c : Command) : Type 0 where
   pub place_size : length c.key_bytes ≡ KEY_BYTES
-  pub key_bytes : AreBytes (key c)
+  pub key_bytes : AreBytes (bytes_of (key c))
   pub value_bytes : AreBytes c.value
   pub whole : IsWhole c
 

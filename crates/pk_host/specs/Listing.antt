@@ -1,5 +1,5 @@
 -- The keys that the data of a List spell, and the page of keys after a key.
-use Rattle.std.specs.Prelude.{◌≡◌, ℕ, zero, suc, ◌+◌, ◌-◌, min, List, [], ◌∷◌, length, take, drop, filter, Bool, ◌&&◌, ◌==◌, nat_le, nat_lt, if◌then◌else◌, Option, Some, None, Result, Ok, Err}
+use Rattle.std.specs.Prelude.{◌≡◌, ◌⊎◌, ℕ, zero, suc, ◌+◌, ◌-◌, min, List, [], ◌∷◌, length, take, drop, filter, Bool, ◌&&◌, ◌==◌, nat_le, nat_lt, if◌then◌else◌, Option, Some, None, Result, Ok, Err}
 use Rattle.std.specs.Ordering.{is_lt}
 use Rattle.std.specs.FinMap.{keys}
 use Rattle.std.specs.List.{AllByRecursion}
@@ -9,7 +9,7 @@ use Rattle.pk_base.specs.Fields.{u16_at, u32_at}
 use Rattle.pk_base.specs.Map.{Map, keys_from}
 use Rattle.pk_model.specs.Answer.{listed, fitting}
 use Rattle.pk_nvme.specs.Reply.{Reply}
-use Rattle.pk_nvme.specs.declared.limits.TheConstants.{COUNT_BYTES, MOST_LIST_BYTES}
+use Rattle.pk_nvme.specs.declared.limits.TheConstants.{NAMESPACE, COUNT_BYTES, MOST_LIST_BYTES}
 use Rattle.pk_nvme.specs.declared.status.TheConstants.{SUCCESSFUL_COMPLETION}
 use Rattle.pk_host.specs.declared.sizes.TheConstants.{MOST_KEYS}
 use Rattle.pk_host.specs.declared.types.HostError.{HostError}
@@ -22,9 +22,9 @@ use Rattle.pk_host.specs.Port.{PortState}
 abbrev pub has_key : List ℕ → Bool
 has_key bytes = nat_le 1 (u16_at bytes 0) && nat_le (u16_at bytes 0) KEY_BYTES && nat_le (2 + u16_at bytes 0) (length bytes)
 
--- the key that is spelled first
+-- the key, in the drive's namespace, that is spelled first
 abbrev pub first_key : List ℕ → Option Key
-first_key bytes = if has_key bytes then Some (take (u16_at bytes 0) (drop 2 bytes)) else None
+first_key bytes = if has_key bytes then Some (NAMESPACE ∷ take (u16_at bytes 0) (drop 2 bytes)) else None
 
 -- a key, if there is one, and the keys after it
 abbrev pub and_then : Option Key → (Key → List Key) → List Key
@@ -41,6 +41,10 @@ abbrev pub keys_of : List ℕ → List Key
 keys_of bytes = keys_in (min (u32_at bytes 0) MOST_KEYS) (drop COUNT_BYTES bytes)
 
 -- ---- pages of keys
+
+-- a key, or none
+abbrev pub IsStart : Key → Type 0
+IsStart from = (from ≡ []) ⊎ IsKey from
 
 abbrev pub above : Key → List Key → List Key
 above from ks = filter (λ k. is_lt (key_cmp from k)) ks

@@ -3,7 +3,7 @@ ghost use Rattle.std.specs.Prelude.{◌≡◌, ◌≤◌, ℕ, List, [], ◌∷�
 ghost use Rattle.pk_nvme.specs.Command.{value_size};
 ghost use Rattle.pk_nvme.specs.Seen.{command_of};
 ghost use Rattle.pk_nand.specs.Calls.{Rose};
-ghost use Rattle.pk_host.specs.Calls.{of_key};
+ghost use Rattle.pk_host.specs.Calls.{of_bytes};
 ghost use Rattle.pk_host.specs.Port.{Replies, room_of};
 ghost use Rattle.pk_host.specs.Received.{replied};
 
@@ -34,7 +34,7 @@ pub struct Received {
 fn request_of(asked: Asked, key: &[u8]) -> Request
     requires { length key.now ≤ KEY_BYTES }
     ensures { (value : List ℕ) → command_of result value
-        ≡ of_key asked.opcode key.now asked.size asked.options value }
+        ≡ of_bytes asked.opcode key.now asked.size asked.options value }
 {
     let mut place = [0u8; KEY_BYTES];
     place[..key.len()].copy_from_slice(key);
@@ -60,20 +60,20 @@ pub fn ask<P: Port>(
     // The key, the value, and room for what comes back.
     requires key { length key.now ≤ KEY_BYTES }
     requires whole { length value.now
-        ≡ value_size (of_key asked.opcode key.now asked.size asked.options value.now) }
-    requires room { room_of (of_key asked.opcode key.now asked.size asked.options value.now)
+        ≡ value_size (of_bytes asked.opcode key.now asked.size asked.options value.now) }
+    requires room { room_of (of_bytes asked.opcode key.now asked.size asked.options value.now)
         ≤ length into.old }
 
     // The reply, or a fault of the port.
     ensures replies { IfOk result (λ r. Replies (P.state port.old) (P.state port.new)
-        (of_key asked.opcode key.now asked.size asked.options value.now) (replied r into.new)) }
+        (of_bytes asked.opcode key.now asked.size asked.options value.now) (replied r into.new)) }
     ensures fits { IfOk result (λ r. r.len ≤ length into.new) }
     ensures fault { IfErr result (λ e. (e ≡ HostError.Port)
         × Rose (P.state port.old).port_faults (P.state port.new).port_faults) }
 
     // The port took this one command, in any case.
     ensures took { P.took port.old
-        (of_key asked.opcode key.now asked.size asked.options value.now ∷ []) port.new }
+        (of_bytes asked.opcode key.now asked.size asked.options value.now ∷ []) port.new }
 {
     let request = request_of(asked, key);
     match port.submit(&request.entry(), value, into) {

@@ -2,9 +2,11 @@
 ghost use Rattle.std.specs.Prelude.{◌≡◌, ◌≤◌, ◌<◌, ◌^◌, [], ◌∷◌, length, OnOk, OnErr, IfOk};
 ghost use Rattle.std.specs.FinMap as map;
 ghost use Rattle.std.specs.List.{AllByRecursion};
-ghost use Rattle.pk_base.specs.Key.{IsBelow};
+ghost use Rattle.std.specs.Option.{option_copied};
+ghost use Rattle.pk_base.specs.Key.{IsBelow, bytes_of};
+ghost use Rattle.pk_nvme.specs.Command.{key_or_none};
 ghost use Rattle.pk_host.specs.Calls.{Gives, stored, retrieved, existed, store_of, retrieve_of, delete_of, exist_of, list_of, Leaves, Deletes, Fetches, Tests};
-ghost use Rattle.pk_host.specs.Listing.{Pages, Follows, TellsKeys, listed_by};
+ghost use Rattle.pk_host.specs.Listing.{IsStart, Pages, Follows, TellsKeys, listed_by};
 
 use crate::ask::{Asked, ask};
 use crate::key_page::KeyPage;
@@ -55,6 +57,18 @@ fn existed_by(status: u8) -> Result<bool, HostError>
         SUCCESSFUL_COMPLETION => Ok(true),
         KEY_DOES_NOT_EXIST => Ok(false),
         _ => Err(HostError::Refused { status }),
+    }
+}
+
+/// The bytes of a key; none if there is no key.
+pub(crate) fn start_bytes(from: Option<&Key>) -> &[u8]
+    ensures bytes { result.now ≡ bytes_of (key_or_none (option_copied from.entry)) }
+    ensures short { length result.now ≤ KEY_BYTES }
+    ensures key { IsStart (key_or_none (option_copied from.entry)) }
+{
+    match from {
+        Some(key) => key.bytes(),
+        None => &[],
     }
 }
 
@@ -166,29 +180,30 @@ impl Host {
         }
     }
 
-    /// Fills a page with the keys above these bytes; whether there is one.
+    /// Fills a page with the keys above this one, with all if there is none; whether there is one.
     pub(crate) fn page_from<P: Port>(
         &mut self,
         port: &mut P,
-        from: &[u8],
+        from: Option<&Key>,
         page: &mut KeyPage,
     ) -> Result<bool, HostError>
-        requires { length from.now ≤ KEY_BYTES }
-
         // The page of keys, and what it says of the drive's.
-        ensures gives { Gives (P.state port.old) (P.state port.new) (list_of from.now)
-            (listed_by page.new) result }
-        ensures pages { OnOk result (Pages (P.state port.old) from.now page.new) }
-        ensures follows { IfOk result (λ more. Follows (P.state port.old) from.now more) }
+        ensures gives { Gives (P.state port.old) (P.state port.new)
+            (list_of (key_or_none (option_copied from.entry))) (listed_by page.new) result }
+        ensures pages { OnOk result
+            (Pages (P.state port.old) (key_or_none (option_copied from.entry)) page.new) }
+        ensures follows { IfOk result (λ more.
+            Follows (P.state port.old) (key_or_none (option_copied from.entry)) more) }
         ensures known { OnOk result (TellsKeys (P.state port.old)) }
 
-        // What the page has in any case: keys above these bytes, and none if the call failed.
-        ensures above { AllByRecursion (IsBelow from.now) page.new }
+        // What the page has in any case: keys above this one, and none if the call failed.
+        ensures above { AllByRecursion (IsBelow (key_or_none (option_copied from.entry))) page.new }
         ensures empty { OnErr result (page.new ≡ []) }
 
         // The map is unchanged, and the port took this one command.
         ensures leaves { Leaves (P.state port.old) (P.state port.new) (λ m. m) }
-        ensures took { P.took port.old (list_of from.now ∷ []) port.new }
+        ensures took { P.took port.old (list_of (key_or_none (option_copied from.entry)) ∷ [])
+            port.new }
     {
         page.clear();
         let buffer = self.buffer.as_mut_slice();
@@ -197,7 +212,7 @@ impl Host {
             size: MOST_LIST_BYTES,
             options: 0,
         };
-        match ask(port, asked, from, &[], buffer) {
+        match ask(port, asked, start_bytes(from), &[], buffer) {
             Ok(received) => match received.status {
                 SUCCESSFUL_COMPLETION => {
                     read_keys(&buffer[..received.len as usize], from, page);

@@ -1,5 +1,5 @@
 //! Pages of keys, and all keys.
-ghost use Rattle.std.specs.Prelude.{◌≡◌, ◌≤◌, [], ◌∷◌, ◌++◌, length, true, OnOk, OnErr, IfOk, IfErr};
+ghost use Rattle.std.specs.Prelude.{◌≡◌, [], ◌∷◌, ◌++◌, true, OnOk, OnErr, IfOk, IfErr};
 ghost use Rattle.std.specs.List.{AllByRecursion};
 ghost use Rattle.std.specs.Option.{option_copied};
 ghost use Rattle.pk_base.specs.Key.{IsBelow};
@@ -7,23 +7,12 @@ ghost use Rattle.pk_nvme.specs.Command.{key_or_none};
 ghost use Rattle.pk_host.specs.Calls.{IsCause, Gives, list_of, Leaves, AreLists, TookSome};
 ghost use Rattle.pk_host.specs.Listing.{Pages, Follows, TellsKeys, ListsAll, listed_by};
 
-use crate::host::Host;
+use crate::host::{Host, start_bytes};
 use crate::key_page::KeyPage;
 use crate::port::Port;
 use crate::types::HostError;
-use pk_base::{KEY_BYTES, Key};
+use pk_base::Key;
 use std::alloc::Global;
-
-/// The bytes of a key; none if there is no key.
-fn start_bytes(from: Option<&Key>) -> &[u8]
-    ensures bytes { result.now ≡ key_or_none (option_copied from.entry) }
-    ensures short { length result.now ≤ KEY_BYTES }
-{
-    match from {
-        Some(key) => key.bytes(),
-        None => &[],
-    }
-}
 
 /// Adds the keys of a page to a list and returns true; false if memory is missing, and then only
 /// some were added.
@@ -69,7 +58,9 @@ impl Host {
         ensures took { P.took port.old (list_of (key_or_none (option_copied from.entry)) ∷ [])
             port.new }
     {
-        self.page_from(port, start_bytes(from), page)
+        // so that its length is known
+        let _ = start_bytes(from);
+        self.page_from(port, from, page)
     }
 
     /// Every key, rising. `Refused` if a read failed, `Port` if the port did, `Memory` if it is

@@ -1,4 +1,2 @@
 pub mod Searching
-pub mod Listing
-pub mod Replies
-pub mod Callings
+pub mod Walks

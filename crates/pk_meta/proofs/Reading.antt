@@ -10,11 +10,10 @@ use Rattle.pk_base.specs.Key.{Key, key_cmp, IsBelow, IsRising}
 use Rattle.pk_base.specs.Shape.{Shape, IsShape, page_entries}
 use Rattle.pk_base.specs.Entry.{Entry, key_of}
 use Rattle.pk_base.specs.EntryBytes.{IsEntry, is_entry, are_entries, entries_from}
-use Rattle.pk_base.proofs.EntryLemmas.{is_place}
 use Rattle.pk_meta.specs.declared.MetaHead.{MetaHead}
 use Rattle.pk_meta.specs.declared.BadMeta.{BadMeta}
 use Rattle.pk_meta.specs.Page.{IsContent, IsMetaPage, meta_bytes, meta_entries}
-use Rattle.pk_base.proofs.Sound.{if_some, are_sound}
+use Rattle.pk_base.proofs.Sound.{if_some, are_sound, entry_true, least_true}
 use Rattle.pk_meta.proofs.PageLemmas.{meta_again, Exact, found, only}
 use Rattle.pk_base.proofs.Logic.{both_true, lt_less}
 
@@ -38,18 +37,9 @@ sorted_true (x ∷ es) h = rw (below_true (key_of x) es h.0, sorted_true es h.1)
 
 -- ---- entries pass their tests
 
-least_true : (a b : ℕ) → a ≤ b → nat_le a b ≡ true
-least_true a b h = grind (arith, nat_tests)
-
-is_entry_true : (g : Shape) (e : Entry) → IsEntry g e → is_entry g e ≡ true
-is_entry_true g (key, Some place) h =
-    let tests = is_place g place.page place.len h.1 in
-    rw (least_true 1 (length key) h.0.some, least_true (length key) 16 h.0.most, tests.0, tests.1) refl
-is_entry_true g (key, None) h = rw (least_true 1 (length key) h.0.some, least_true (length key) 16 h.0.most) refl
-
 all_entries : (g : Shape) (es : List Entry) → AllByRecursion (IsEntry g) es → list_all (is_entry g) es ≡ true
 all_entries g [] h = refl
-all_entries g (e ∷ es) h = rw (is_entry_true g e h.0, all_entries g es h.1) refl
+all_entries g (e ∷ es) h = rw (entry_true g e h.0, all_entries g es h.1) refl
 
 are_true : (g : Shape) (es : List Entry) → 1 ≤ length es → length es ≤ page_entries g → AllByRecursion (IsEntry g) es → are_entries g es ≡ true
 are_true g es some most each = rw (least_true 1 (length es) some, least_true (length es) (page_entries g) most, all_entries g es each) refl

@@ -1,7 +1,7 @@
 -- What comes of a Retrieve or a List of a pair, from whose answer it is.
 use Rattle.std.proofs.Common.{◌≡◌, ◌==◌, inl, inr, ℕ, ◌≤◌, List, [], length, Bool, true, false, ◌||◌, if◌then◌else◌, nat_lt, Some, Result, Ok, Err, IfOk, IfErr, OnOk, refl, sym, ap, subst, ◌∙◌}
 use Rattle.std.proofs.lemmas.Bool.{eqb-true, eq-eqb}
-use Rattle.pk_base.specs.Key.{Key, IsKey}
+use Rattle.pk_base.specs.Key.{Key, IsKey, bytes_of}
 use Rattle.pk_base.specs.Map.{Map}
 use Rattle.pk_nvme.specs.Command.{Command}
 use Rattle.pk_nvme.specs.Reply.{Reply}
@@ -49,7 +49,7 @@ retrieve_unread key size is old new a e r err m told =
     let cause = retrieve_cause old new key size e is (inl (a, r, sym err)) in
     let h = subst (λ (x : HostError). IsHostCause old new retrieved x) (retrieved_tells.refusal a e err).0 cause in h.told m told
 
-pub list_unread : (from : Key) (page : List Key) → length from ≤ 16 → OnlyUnread (list_of from) (listed_by page)
+pub list_unread : (from : Key) (page : List Key) → length (bytes_of from) ≤ 16 → OnlyUnread (list_of from) (listed_by page)
 list_unread from page short old new a e r err m told =
     let tells = listed_tells page in
     let cause = list_cause old new from page e short (inl (a, r, sym err)) in

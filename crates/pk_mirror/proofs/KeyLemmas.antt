@@ -4,7 +4,7 @@ use Rattle.std.proofs.lemmas.Bool.{le-leb}
 use Rattle.std.proofs.lemmas.List.{take_all}
 use Rattle.std.specs.FinMap.{get, contains_key, insert, remove}
 use Rattle.pk_base.specs.Choices.{or_else}
-use Rattle.pk_base.specs.Key.{Key, IsKey}
+use Rattle.pk_base.specs.Key.{Key, IsKey, bytes_of}
 use Rattle.pk_base.specs.Shape.{Shape, greatest, charge}
 use Rattle.pk_base.specs.Map.{Map, live, pages_if_some}
 use Rattle.pk_nvme.specs.Command.{Command, key}
@@ -184,13 +184,13 @@ exist_unread k is old new a e r err m told =
 
 -- ---- a Store that fits is not refused
 
-key_length : (k : Key) → IsKey k → (nat_le 1 (length k) && nat_le (length k) 16) ≡ true
-key_length k h = rw (le-leb 1 (length k) h.some, le-leb (length k) 16 h.most) refl
+key_length : (k : Key) → IsKey k → (nat_le 1 (length (bytes_of k)) && nat_le (length (bytes_of k)) 16) ≡ true
+key_length k h = rw (le-leb 1 (length (bytes_of k)) h.some, le-leb (length (bytes_of k)) 16 h.most) refl
 
 store_fits : (shape : Shape) (most : ℕ) (m : Map) (k : Key) (v : List ℕ) → IsKey k → length v ≤ greatest shape → live shape (insert m k v) ≤ most → refused shape most m (store_of k v Any) ≡ None
 store_fits shape most m k v is small fits =
     let c : Command = store_of k v Any in
-    let named : key c ≡ k = key-of_key STORE k (length v) 0 v in
+    let named : key c ≡ k = key-of_key STORE k (length v) 0 v is in
     let pages : live_after shape m c ≡ live shape (insert m k v) =
     live_stored shape m k v (live shape m) (pages_if_some shape (get m (key c))) (charge shape (length v)) refl (ap (λ (q : Key). pages_if_some shape (get m q)) named) refl in
     let first : refused shape most m c ≡ or_else (check (nat_le (length v) (greatest shape)) INVALID_VALUE_SIZE) (late_of shape most m c (Some Store)) =

@@ -4,7 +4,7 @@ use Rattle.std.proofs.lemmas.Bool.{ltb-true}
 use Rattle.std.specs.List.{AllByRecursion}
 use Rattle.std.specs.Ordering.{is_lt}
 use Rattle.std.specs.FinMap.{get, keys}
-use Rattle.pk_base.specs.Key.{Key, IsKey, IsBelow, key_cmp}
+use Rattle.pk_base.specs.Key.{Key, IsKey, IsBelow, key_cmp, bytes_of}
 use Rattle.pk_base.specs.Map.{Map}
 use Rattle.pk_nvme.specs.Command.{Command, key_or_none}
 use Rattle.pk_host.specs.declared.types.HostError.{HostError}
@@ -193,7 +193,7 @@ module _ (Keeps : Map → Map → Type 0) (Done : Map → Map → Key → Type 0
 
 -- ---- places of pages
 
-pub short_from : (o : Option Key) → ((k : Key) → o ≡ Some k → IsText k) → length (key_or_none o) ≤ 16
+pub short_from : (o : Option Key) → ((k : Key) → o ≡ Some k → IsText k) → length (bytes_of (key_or_none o)) ≤ 16
 short_from None text = omega arith
 short_from (Some k) text = (text k refl).is_key.most
 

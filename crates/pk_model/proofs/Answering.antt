@@ -1,6 +1,7 @@
 -- Which reply a command has and which map it leaves, by the first check that fails.
-use Rattle.std.proofs.Common.{◌≡◌, ℕ, ◌≤◌, List, Bool, true, false, ◌&&◌, nat_le, IsTrue, Option, Some, None, refl, sym, ap, ◌∙◌}
+use Rattle.std.proofs.Common.{◌≡◌, ℕ, ◌≤◌, List, Bool, true, false, ◌&&◌, ◌==◌, nat_le, IsTrue, Option, Some, None, refl, sym, ap, subst, ◌∙◌, arith, T, eqb→eq}
 use Rattle.std.proofs.lemmas.Bool.{leb-true}
+use Rattle.pk_base.specs.declared.sizes.TheConstants.{MOST_SPACES}
 use Rattle.pk_base.specs.Choices.{or_else}
 use Rattle.pk_base.specs.Shape.{Shape, greatest}
 use Rattle.pk_base.specs.Map.{Map}
@@ -76,6 +77,18 @@ pub key_sized : (shape : Shape) (c : Command) (k : Opcode) → WantsKey k → op
 key_sized shape c k wants is e =
     let both = both_true (nat_le 1 c.key_len) (nat_le c.key_len 16) (sym (wants c.key_len) ∙ passed_key shape c k is e) in
     record { some = leb-true 1 c.key_len both.0; most = leb-true c.key_len 16 both.1 }
+
+-- and the namespace of a command that passed is one of the drive
+pub record IsSpace (n : ℕ) : Type 0 where
+  pub some : 1 ≤ n
+  pub most : n ≤ MOST_SPACES
+
+pub key_spaced : (shape : Shape) (c : Command) (k : Opcode) → ((n : ℕ) → is_namespace k n ≡ (n == 1)) → op_of c.opcode ≡ Some k → early shape c ≡ None → IsSpace c.namespace
+key_spaced shape c k only is e =
+    let faults : fault_of shape c (Some k) ≡ None = ap (fault_of shape c) (sym is) ∙ e in
+    let passed = check_none (is_namespace k c.namespace) 0x0B (first_none (check (is_namespace k c.namespace) 0x0B) (or_else (check (is_key_length k c.key_len) 0x86) (size_fault shape k c.size)) faults).0 in
+    let one : c.namespace ≡ 1 = eqb→eq c.namespace 1 (subst T (sym (sym (only c.namespace) ∙ passed)) tt) in
+    record { some = omega (arith, one); most = omega (arith, one) }
 
 pub store_sized : (shape : Shape) (c : Command) → op_of c.opcode ≡ Some Store → early shape c ≡ None → c.size ≤ greatest shape
 store_sized shape c is e = leb-true c.size (greatest shape) (check_none (nat_le c.size (greatest shape)) 0x85 (passed_size shape c Store is e))

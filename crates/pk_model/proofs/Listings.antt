@@ -7,11 +7,6 @@ use Rattle.pk_base.specs.Fields.{u32}
 use Rattle.pk_model.specs.Answer.{listed, fitting, list_bytes}
 use Rattle.pk_model.specs.Listing.{Listing, offered, offered_all}
 
--- no key is below the empty one
-pub none_below : (k : Key) → false ≡ is_lt (key_cmp k [])
-none_below [] = refl
-none_below (x ∷ xs) = refl
-
 -- the keys that are not below this one
 abbrev wanted : Key → List Key → List Key
 wanted from ks = filter (λ k. not (is_lt (key_cmp k from))) ks

@@ -1,13 +1,10 @@
 //! The data of a List, written key by key.
-ghost use Rattle.std.specs.Prelude.{◌≡◌, ◌≤◌, ◌<◌, ◌^◌, ◌+◌, ◌-◌, ◌++◌, length, [], false, IfOk};
-ghost use Rattle.std.specs.Option.{option_copied};
-ghost use Rattle.std.specs.Ordering.{is_lt};
-ghost use Rattle.pk_base.specs.Key.{IsKey, key_cmp};
-ghost use Rattle.pk_model.specs.Answer.{listed as listed_bytes};
-ghost use Rattle.pk_nvme.specs.Command.{key_or_none};
-ghost use Rattle.pk_model.specs.Listing.{offered, offered_from};
+ghost use Rattle.std.specs.Prelude.{◌≡◌, ◌≤◌, ◌<◌, ◌^◌, ◌+◌, ◌-◌, ◌++◌, ◌∷◌, length, [], false, IfOk};
+ghost use Rattle.pk_base.specs.declared.sizes.TheConstants.{KEY_BYTES};
+ghost use Rattle.pk_model.specs.Answer.{item_bytes};
+ghost use Rattle.pk_model.specs.Listing.{offered_bytes, offered_from};
 
-use pk_base::{Key, is_below};
+use pk_base::{Key, is_below_bytes};
 use pk_nvme::{Bytes, fill_behind};
 use std::alloc::{AllocError, Global};
 use std::marker::Model;
@@ -67,10 +64,10 @@ impl Page {
         self.bytes.bytes()
     }
 
-    /// One more key, if it fits and all before it did.
+    /// One more key of these bytes, if it fits and all before it did.
     fn offer(&mut self, key: &[u8])
-        requires { IsKey key.now }
-        ensures { self.new ≡ offered self.old key.now }
+        requires { length key.now ≤ KEY_BYTES }
+        ensures { self.new ≡ offered_bytes self.old key.now }
     {
         if self.full {
             return;
@@ -85,40 +82,30 @@ impl Page {
         self.left -= size;
     }
 
-    /// One more key, unless it is below the first that is wanted.
-    pub fn offer_from(&mut self, from: Option<&Key>, key: &Key)
-        ensures { self.new ≡ offered_from (key_or_none (option_copied from.entry)) self.old key.now }
+    /// One more key, unless it is below the first that is wanted: these bytes, which may be none, in this namespace.
+    pub fn offer_from(&mut self, space: u8, from: &[u8], key: &Key)
+        ensures { self.new ≡ offered_from (space ∷ from.now) self.old key.now }
     {
-        if !is_before(key, from) {
+        if !is_below_bytes(key, space, from) {
             self.offer(key.bytes());
         }
-    }
-}
-
-/// The key is below the first that is wanted: none is if there is no such key.
-fn is_before(key: &Key, from: Option<&Key>) -> bool
-    ensures { result ≡ is_lt (key_cmp key.now (key_or_none (option_copied from.entry))) }
-{
-    match from {
-        Some(first) => is_below(key, first),
-        None => false,
     }
 }
 
 /// The bytes of a listed key: its length, itself and zeros up to a multiple of four.
 #[inline(always)]
 pub fn listed_size(key: &[u8]) -> usize
-    requires { IsKey key.now }
-    ensures size { result ≡ length (listed_bytes key.now) }
+    requires { length key.now ≤ KEY_BYTES }
+    ensures size { result ≡ length (item_bytes key.now) }
     ensures most { result ≤ 21 }
 {
     2 + key.len() + fill_behind(key.len())
 }
 
 fn put_listed(bytes: &mut Bytes, key: &[u8])
-    requires key { IsKey key.now }
-    requires room { length bytes.old.items + length (listed_bytes key.now) ≤ bytes.old.room }
-    ensures { bytes.new ≡ record bytes.old { items = bytes.old.items ++ listed_bytes key.now } }
+    requires key { length key.now ≤ KEY_BYTES }
+    requires room { length bytes.old.items + length (item_bytes key.now) ≤ bytes.old.room }
+    ensures { bytes.new ≡ record bytes.old { items = bytes.old.items ++ item_bytes key.now } }
 {
     let zeros = [0u8; 3];
     bytes.extend(&(key.len() as u16).to_le_bytes());

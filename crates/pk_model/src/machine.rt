@@ -3,7 +3,7 @@ ghost use Rattle.std.specs.Prelude.{◌≡◌, ◌==◌, ◌≤◌, ◌<◌, ◌
 ghost use Rattle.std.specs.FinMap.{empty, get, contains_key};
 ghost use Rattle.pk_base.specs.Fields.{u32 as u32_bytes};
 ghost use Rattle.pk_base.specs.Shape.{charge, limit};
-ghost use Rattle.pk_base.specs.declared.sizes.TheConstants.{KEY_BYTES};
+ghost use Rattle.pk_base.specs.declared.sizes.TheConstants.{KEY_BYTES, MOST_SPACES};
 ghost use Rattle.pk_base.specs.Map.{pages_of, pages_if_some, live as live_of};
 ghost use Rattle.std.specs.FinMap as map;
 ghost use Rattle.pk_nvme.specs.Command.{command, key, IsWhole};
@@ -269,17 +269,15 @@ impl MapMachine {
         }
     }
 
-    /// Lists the keys from the one that a request names on, from the first if it names none.
+    /// Lists the keys from the one that a request names on, from the first of its namespace if it names none.
     fn list_into(&self, request: &Request, page: &mut Page)
-        requires { request.now.key_len ≤ KEY_BYTES }
+        requires len { request.now.key_len ≤ KEY_BYTES }
+        requires space { request.now.namespace ≤ MOST_SPACES }
         ensures { page.new ≡ offered_all (key (command_of request.now [])) page.old
             (map.keys self.now.map) }
     {
-        if request.key_len == 0 {
-            self.map.list(None, page);
-        } else {
-            self.map.list(Some(&request.key()), page);
-        }
+        let from = &request.key[..request.key_len as usize];
+        self.map.list(request.namespace as u8, from, page);
     }
 
     /// The keys from a key on, as many as fit.

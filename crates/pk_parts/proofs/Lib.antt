@@ -1,4 +1,5 @@
 pub mod Halves
+pub mod Stopping
 pub mod Searching
 pub mod Changing
 pub mod Standing

@@ -29,6 +29,7 @@ use Rattle.pk_gc.specs.Stepping.{runs_in}
 use Rattle.pk_gc.specs.Standing.{held_blocks}
 use Rattle.pk_scan.specs.Opened.{ListsOnFlash, BlocksOnFlash, FoundOnFlash}
 use Rattle.pk_scan.specs.declared.contents.Found.{Found as Opened}
+use Rattle.pk_walk.specs.Walking.{Walk}
 use Rattle.pk_parts.specs.Parts.{Parts, commits_in}
 use Rattle.pk_parts.specs.Opening.{OpenedOn}
 use Rattle.pk_parts.proofs.Reclaiming.{reclaim_rests}
@@ -65,9 +66,9 @@ values_found shape flash f found is has = record {
 }
 
 -- the parts of a drive made of what was found
-module _ {A : Type 0} (shape : Shape) (flash : Flash) (frames : ℕ) (f : Opened A) (log : LogState) (space : DataState) (s : Schedule) (job : JobState) where
+module _ {A : Type 0} (shape : Shape) (flash : Flash) (frames : ℕ) (f : Opened A) (log : LogState) (space : DataState) (s : Schedule) (job : JobState) (walk : Walk) where
   abbrev parts : Parts
-  parts = record { log = log; levels = f.levels; arena = f.arena; schedule = s; space = space; reclaim = job; pool = f.pool; keys = f.keys; stopped = false }
+  parts = record { log = log; levels = f.levels; arena = f.arena; schedule = s; space = space; reclaim = job; pool = f.pool; keys = f.keys; stopped = false; walk = walk }
 
   -- the index of what was found, in which nothing runs
   index_found : IsShape f.root.shape → (was : FoundOnFlash shape flash frames f) → log ≡ opened f.root f.root_page f.epoch f.active f.frozen

@@ -1,4 +1,5 @@
 pub mod Parts
+pub mod Stopping
 pub mod Agreeing
 pub mod Finding
 pub mod Moves

@@ -22,9 +22,10 @@ use Rattle.pk_gc.specs.State.{JobState, steps_left}
 use Rattle.pk_gc.specs.Stepping.{runs_in}
 use Rattle.pk_gc.specs.Standing.{held_blocks}
 use Rattle.pk_root.specs.Installing.{repeats_next}
+use Rattle.pk_walk.specs.Walking.{Walk}
 
 -- The log, the runs with the arena of their frames, the jobs that keep both short, where values lie, the reclaim, the blocks, how many
--- keys there are, and whether it stopped.
+-- keys there are, whether it stopped, and the walk of a List.
 pub record Parts : Type 0 where
   pub log : LogState
   pub levels : Levels
@@ -35,6 +36,7 @@ pub record Parts : Type 0 where
   pub pool : Blocks
   pub keys : ℕ
   pub stopped : Bool
+  pub walk : Walk
 
 -- how many frames there are
 abbrev pub frames_of : Parts → ℕ

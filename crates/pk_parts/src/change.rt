@@ -9,6 +9,7 @@ ghost use Rattle.pk_parts.specs.Changes.{CanPut, CanTake, StepPuts, StepTakes, P
 ghost use Rattle.pk_parts.specs.Emptying.{OnRunning};
 ghost use Rattle.pk_parts.specs.Spacing.{needs};
 ghost use Rattle.pk_parts.specs.Staying.{Stays, StaysOrOpens, IsNoted};
+ghost use Rattle.pk_parts.specs.Stopping.{StoppedOn};
 ghost use Rattle.pk_call.specs.Moving.{commits_for};
 ghost use Rattle.pk_parts.specs.Programming.{Programs, FillsQuietly, PutsQuietly, TakesQuietly, ReadsQuietly};
 
@@ -18,16 +19,18 @@ use pk_nand::{Fault, Nand};
 use pk_region::Region;
 
 impl<A: Region> Parts<A> {
-    // Writes a value for a key that has room, notes its place, and commits if the journal page is
-    // full.
+    // Writes a value of `count` pages for a key that has room, notes its place, and commits if the
+    // journal page is full.
     fn put_with_room<B: Nand>(
         &mut self,
         board: &mut B,
         key: Key,
         value: &[u8],
         old: Option<Place>,
+        count: u32,
     ) -> Result<(), Fault>
-        requires can { CanPut self.old (B.state board.old) key value.now old }
+        requires can { CanPut self.old (B.state board.old) key value.now old
+            × (count ≡ pages_for self.old value.now) }
         requires no_freeze { needs_freeze_for self.old.log key ≡ false }
         requires room { needs (pages_for self.old value.now) self.old ≡ false }
 
@@ -43,29 +46,33 @@ impl<A: Region> Parts<A> {
             (B.state board.new)) }
         ensures calls { FewCalls (place_calls (pages_for self.old value.now)
             + commit_calls) (B.state board.old) (B.state board.new) }
+        ensures stops { StoppedOn self.new result }
     {
         let shape = self.shape();
         // so that the number of bytes is known to fit
         let _ = shape.greatest();
         match self.place_value(board, &key, value) {
             Ok(page) => {
-                self.note_put(key, page, value.len() as u32, old);
+                self.note_put(key, page, value.len() as u32, count, old);
                 self.commit_if_full(board)
             }
-            Err(fault) => Err(fault),
+            Err(fault) => Err(self.fail(fault)),
         }
     }
 
-    /// A key gets this value, in place of the one at `old`. `Reading` if a read of a merge fails,
-    /// which had to make room: the map is unchanged. `Stopped` if a program or an erase fails.
+    /// A key gets this value of `count` pages, in place of the one at `old`. `Reading` if a read of
+    /// a merge fails, which had to make room: the map is unchanged. `Stopped` if a program or an
+    /// erase fails.
     pub fn put<B: Nand>(
         &mut self,
         board: &mut B,
         key: Key,
         value: &[u8],
         old: Option<Place>,
+        count: u32,
     ) -> Result<(), Fault>
-        requires can { CanPut self.old (B.state board.old) key value.now old }
+        requires can { CanPut self.old (B.state board.old) key value.now old
+            × (count ≡ pages_for self.old value.now) }
         requires room { needs (pages_for self.old value.now) self.old ≡ false }
         requires number { NumbersLast (room_calls self.old.log.shape) (B.state board.old) }
 
@@ -84,10 +91,11 @@ impl<A: Region> Parts<A> {
         ensures spends { Spends (put_calls self.old.log.shape
             (pages_for self.old value.now)) room_roots (B.state board.old)
             (B.state board.new) }
+        ensures stops { StoppedOn self.new result }
     {
         match self.make_room(board, &key) {
-            Ok(()) => self.put_with_room(board, key, value, old),
-            Err(fault) => Err(fault),
+            Ok(()) => self.put_with_room(board, key, value, old, count),
+            Err(fault) => Err(self.fail(fault)),
         }
     }
 
@@ -105,6 +113,7 @@ impl<A: Region> Parts<A> {
             (commits_for self.old.log.shape (sight_of self.old)) (B.state board.old)
             (B.state board.new)) }
         ensures calls { FewCalls commit_calls (B.state board.old) (B.state board.new) }
+        ensures stops { StoppedOn self.new result }
     {
         self.note_gone(key, old);
         self.commit_if_full(board)
@@ -127,10 +136,11 @@ impl<A: Region> Parts<A> {
             (B.state board.new)) }
         ensures spends { Spends (room_calls self.old.log.shape + commit_calls) room_roots
             (B.state board.old) (B.state board.new) }
+        ensures stops { StoppedOn self.new result }
     {
         match self.make_room(board, &key) {
             Ok(()) => self.take_with_room(board, key, old),
-            Err(fault) => Err(fault),
+            Err(fault) => Err(self.fail(fault)),
         }
     }
 }

@@ -1,64 +1,70 @@
-//! The keys from one on.
-ghost use Rattle.std.specs.Prelude.{◌≡◌, ◌-◌, ◌≤◌, List, [], ◌∷◌, length, min};
-ghost use Rattle.pk_base.specs.Entry.{Entry};
-ghost use Rattle.pk_base.specs.declared.sizes.TheConstants.{KEY_BYTES};
+//! The keys from one on, one after another.
+ghost use Rattle.std.specs.Prelude.{◌≡◌, ◌≤◌, ◌<◌, List, ◌∷◌, length, IfOk, IfErr, OnOk, OnErr};
+ghost use Rattle.pk_base.specs.Entry.{Entry as EntrySpec, Place};
+ghost use Rattle.pk_base.specs.Key.{Key as KeySpec};
+ghost use Rattle.pk_base.specs.Page.{Flash};
 ghost use Rattle.pk_base.specs.Shape.{most_calls};
+ghost use Rattle.pk_nand.specs.declared.types.Fault.TheVariants.{Reading};
 ghost use Rattle.pk_level.specs.Levels.{RunsOnFlash};
-ghost use Rattle.pk_nvme.specs.Command.{key as key_in};
-ghost use Rattle.pk_nvme.specs.declared.limits.TheConstants.{COUNT_BYTES, MOST_LIST_BYTES};
-ghost use Rattle.pk_nvme.specs.Seen.{command_of};
-ghost use Rattle.pk_model.specs.Answer.{fitting, list_bytes};
-ghost use Rattle.pk_call.specs.Calling.{FewCalls};
-ghost use Rattle.pk_index.specs.Listed.{ListsInto, keys_there};
-ghost use Rattle.pk_parts.specs.Agreeing.{DriveOnFlash};
+ghost use Rattle.pk_walk.specs.Walking.{IsLeft, Reads, ReadsFail, pages_read, most_read};
+ghost use Rattle.pk_index.specs.Keys.{GivesKey, MayWalk, Walked, keys_of, keys_there};
 
 use crate::parts::Parts;
-use pk_call::Outcome;
-use pk_index::answer_list;
-use pk_nand::Nand;
-use pk_nvme::Request;
+use pk_base::{Entry, Key};
+use pk_index::{few_pages, next_key, start_walk};
+use pk_nand::{Fault, Nand};
 use pk_region::Region;
 
 impl<A: Region> Parts<A> {
-    /// Returns a List that passed the checks that read it alone: the number of keys that exist from
-    /// the one that it names on, and as many of them as fit; `UNRECOVERED_ERROR` without data if a
-    /// read fails.
-    pub fn list_keys<B: Nand>(
-        &mut self,
-        board: &mut B,
-        request: &Request,
-        into: &mut [u8],
-    ) -> Outcome
-        // The drive, the request, and the buffer for data.
-        requires agrees { DriveOnFlash self.old (B.state board.old).shape
-            (B.state board.old).pages }
-        requires key { request.now.key_len ≤ KEY_BYTES }
-        requires some { COUNT_BYTES ≤ request.now.size }
-        requires room { MOST_LIST_BYTES ≤ length into.old }
+    /// Begins a walk over the keys from this one on.
+    pub fn start_keys(&mut self, from: &Key)
+        // The keys that it will give.
+        ensures left { (flash : Flash) (ess : List (List EntrySpec))
+            → RunsOnFlash flash self.old.arena self.old.levels.runs ess
+            → (rest : List (KeySpec × Place))
+            × IsLeft self.new.walk flash self.old.arena self.old.levels.runs
+            self.old.log.active.entries self.old.log.frozen.entries rest
+            × (keys_of rest ≡ keys_there from.now
+            (self.old.log.active.entries ∷ self.old.log.frozen.entries ∷ ess)) }
 
-        // The data, and the pages that were read for them.
-        ensures lists { (ess : List (List Entry))
-            → RunsOnFlash (B.state board.old).pages self.old.arena self.old.levels.runs ess
-            → ListsInto (B.state board.old) (B.state board.new) result into.new
-            (list_bytes (fitting (min request.now.size MOST_LIST_BYTES - COUNT_BYTES)
-            (keys_there (key_in (command_of request.now []))
-            (self.old.log.active.entries ∷ self.old.log.frozen.entries ∷ ess)))) }
-        ensures few { FewCalls (most_calls self.old.levels.shape) (B.state board.old)
-            (B.state board.new) }
-        ensures fits { result.data_len ≤ length into.new }
+        // The pages that it may read.
+        ensures none_read { pages_read self.old.levels.runs self.new.walk.cursors ≡ 0 }
+        ensures few { most_read self.old.levels.runs ≤ 4000000 }
+        ensures within { most_read self.old.levels.runs < most_calls self.old.levels.shape }
 
         // What is unchanged.
-        ensures same { self.new ≡ self.old }
-        ensures len { length into.new ≡ length into.old }
+        ensures shape { self.new.walk.shape ≡ self.old.log.shape }
+        ensures rest { self.new ≡ record self.old { walk = self.new.walk } }
     {
-        answer_list(
-            &mut self.walk,
-            board,
-            &self.log,
-            &self.levels,
-            &self.arena,
-            request,
-            into,
-        )
+        few_pages(&self.levels);
+        start_walk(&mut self.walk, from);
+    }
+
+    /// The entry of the next key of the walk that `start_keys` began; None after the last.
+    /// `Reading` if a read fails.
+    #[inline]
+    pub fn next_key<B: Nand>(&mut self, board: &mut B) -> Result<Option<Entry>, Fault>
+        requires may { MayWalk self.old.walk (B.state board.old) self.old.levels self.old.arena
+            self.old.log }
+
+        // The key, and the pages that were read for it.
+        ensures gives { IfOk result (λ found. GivesKey self.old.walk self.new.walk
+            (B.state board.old) (B.state board.new) self.old.levels self.old.arena self.old.log
+            found) }
+        ensures walked { Walked self.old.walk self.new.walk (B.state board.old)
+            (B.state board.new) self.old.levels }
+        ensures reads { OnOk result (Reads (pages_read self.old.levels.runs self.old.walk.cursors)
+            (pages_read self.old.levels.runs self.new.walk.cursors)
+            (B.state board.old) (B.state board.new)) }
+        ensures reading { IfErr result (λ fault. fault ≡ Reading) }
+        ensures err { OnErr result (ReadsFail
+            (pages_read self.old.levels.runs self.old.walk.cursors)
+            (pages_read self.old.levels.runs self.new.walk.cursors)
+            (B.state board.old) (B.state board.new)) }
+
+        // What is unchanged.
+        ensures rest { self.new ≡ record self.old { walk = self.new.walk } }
+    {
+        next_key(&mut self.walk, board, &self.levels, &self.arena, &self.log)
     }
 }

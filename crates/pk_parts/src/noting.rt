@@ -49,8 +49,10 @@ fn more_keys(keys: u32, old: &Option<Place>) -> u32
 }
 
 impl<A: Region> Parts<A> {
-    /// A key has the value of `len` bytes that was written at this page from now on, and no more the one at `old`.
-    pub(crate) fn note_put(&mut self, key: Key, page: u32, len: u32, old: Option<Place>)
+    /// A key has the value of `len` bytes and `count` pages that was written at this page from now
+    /// on, and no more the one at `old`.
+    pub(crate) fn note_put(&mut self, key: Key, page: u32, len: u32, count: u32, old: Option<Place>)
+        requires counted { count ≡ spec.charge self.old.log.shape len }
         requires room { needs_freeze_for self.old.log key ≡ false }
         requires few { length self.old.log.pending < spec.page_entries self.old.log.shape }
         requires puts { (flash : Flash) × (m : Map) × (value : List ℕ) × (length value ≡ len)
@@ -72,7 +74,7 @@ impl<A: Region> Parts<A> {
         let shape = self.shape();
         let _ = key.bytes();
         let before = span_if_there(&shape, &old);
-        let now = span_at(&shape, &Place { page, len });
+        let now = Span { page, count };
         self.log.push(Entry::Put { key, page, len });
         self.space.replace(before, now);
         self.keys = more_keys(self.keys, &old);

@@ -3,6 +3,7 @@ ghost use Rattle.std.specs.Prelude.{◌≡◌, true, false, IsOk};
 ghost use Rattle.pk_root.specs.Installing.{repeats_next};
 ghost use Rattle.pk_parts.specs.Parts.{commits_in, is_half};
 ghost use Rattle.pk_parts.specs.Moves.{MayCommit};
+ghost use Rattle.pk_parts.specs.Stopping.{StoppedOn};
 ghost use Rattle.pk_parts.specs.Pairing.{MayFinishHalf, FinishesOr, FinishesRootOr, SettlesOr, FinishesCommitOr, CommitsOr};
 
 use crate::parts::Parts;
@@ -110,9 +111,13 @@ impl<A: Region> Parts<A> {
             → FinishesOr self.old self.new (B.state board.old) (B.state board.new) result }
         ensures rests { is_half self.old ≡ false
             → IsOk result × (self.new ≡ self.old) × (B.state board.new ≡ B.state board.old) }
+        ensures stops { StoppedOn self.new result }
     {
         if self.is_half() {
-            self.finish_half(board)
+            match self.finish_half(board) {
+                Ok(()) => Ok(()),
+                Err(fault) => Err(self.fail(fault)),
+            }
         } else {
             Ok(())
         }

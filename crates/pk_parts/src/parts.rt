@@ -1,12 +1,14 @@
 //! The parts of a drive.
-ghost use Rattle.std.specs.Prelude.{◌≡◌, length, sum, true};
+ghost use Rattle.std.specs.Prelude.{◌≡◌, length, sum};
 ghost use Rattle.pk_pool.specs.Blocks.{IsShared};
+ghost use Rattle.pk_parts.specs.Stopping.{failed_by};
 
 use pk_base::Shape;
 use pk_data::Data;
 use pk_gc::ReclaimJob;
 use pk_level::Levels;
 use pk_log::Log;
+use pk_nand::Fault;
 use pk_pin::PinArena;
 use pk_pool::Pool;
 use pk_region::Region;
@@ -25,8 +27,7 @@ pub struct Parts<A: Region> {
     pub(crate) reclaim: ReclaimJob<A>,
     pub(crate) pool: Pool<A>,
     pub(crate) keys: u32,
-    /// A program or an erase failed: set by a step that reports its outcome, and by `set_stopped`
-    /// if a call passes its fault on.
+    /// A program or an erase failed: the drive refuses every later call. Set by `fail` alone.
     pub(crate) stopped: bool,
     /// The bytes of a page.
     pub(crate) page: Vec<u8, A>,
@@ -69,6 +70,7 @@ impl<A: Region> Model for Parts<A> {
       pool = d.pool;
       keys = d.keys;
       stopped = d.stopped;
+      walk = d.walk;
     } };
 
     ghost invariant = { λ d. (length d.page.items ≡ d.log.shape.page_bytes) × (d.walk.shape
@@ -118,10 +120,17 @@ impl<A: Region> Parts<A> {
         self.stopped
     }
 
-    /// A call failed that stops the drive.
-    pub fn set_stopped(&mut self)
-        ensures { self.new ≡ record self.old { stopped = true } }
+    /// A flash operation failed with this fault; one that is not a read stops the drive.
+    pub(crate) fn fail(&mut self, fault: Fault) -> Fault
+        ensures same { result ≡ fault }
+        ensures rest { self.new ≡ failed_by self.old fault }
     {
-        self.stopped = true;
+        match fault {
+            Fault::Reading => Fault::Reading,
+            Fault::Stopped => {
+                self.stopped = true;
+                Fault::Stopped
+            }
+        }
     }
 }

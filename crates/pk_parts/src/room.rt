@@ -9,6 +9,7 @@ ghost use Rattle.pk_call.specs.Calling.{FewCalls};
 ghost use Rattle.pk_parts.specs.Moves.{MayStep, StepKeeps, OnlyCommits, LeavesValues};
 ghost use Rattle.pk_parts.specs.Emptying.{KeepsOrReads, OnRunning};
 ghost use Rattle.pk_parts.specs.Staying.{Stays};
+ghost use Rattle.pk_parts.specs.Stopping.{StoppedOn};
 ghost use Rattle.pk_parts.specs.Programming.{Programs};
 
 use crate::parts::Parts;
@@ -64,6 +65,7 @@ impl<A: Region> Parts<A> {
         ensures full { OnOk result (page_entries self.old.log.shape ≤ length self.old.log.pending
             → Programs commit_programs (B.state board.old) (B.state board.new)) }
         ensures calls { FewCalls commit_calls (B.state board.old) (B.state board.new) }
+        ensures stops { StoppedOn self.new result }
     {
         if self.log.pending() >= self.log.root().shape().entries() {
             self.commit_pending(board)

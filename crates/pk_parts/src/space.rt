@@ -6,6 +6,7 @@ ghost use Rattle.pk_work.specs.Calls.{space_calls, room_roots};
 ghost use Rattle.pk_gc.specs.Stepping.{runs_in};
 ghost use Rattle.pk_parts.specs.Moves.{MayStep};
 ghost use Rattle.pk_parts.specs.Emptying.{OnRunning};
+ghost use Rattle.pk_parts.specs.Stopping.{StoppedOn};
 ghost use Rattle.pk_parts.specs.Spacing.{Awaits, MaySpace, MovesOrReads, SpacesOnce, StaysSame, needs, space_left};
 
 use crate::parts::Parts;
@@ -64,6 +65,7 @@ impl<A: Region> Parts<A> {
         // What else is unchanged.
         ensures none { OnRunning (self.new.log.pending ≡ []) result }
         ensures stays { OnRunning (StaysSame self.old self.new) result }
+        ensures stops { StoppedOn self.new result }
     {
         // the proof names the loop by its label
         'reclaims: loop {
@@ -72,7 +74,7 @@ impl<A: Region> Parts<A> {
             }
             match self.make_space_once(board, count) {
                 Ok(()) => {}
-                Err(fault) => return Err(fault),
+                Err(fault) => return Err(self.fail(fault)),
             }
         }
     }
@@ -95,6 +97,7 @@ impl<A: Region> Parts<A> {
         // What else is unchanged.
         ensures none { OnRunning (self.new.log.pending ≡ []) result }
         ensures stays { OnRunning (StaysSame self.old self.new) result }
+        ensures stops { StoppedOn self.new result }
     {
         match self.commit_pending(board) {
             Ok(()) => self.reclaim_for(board, count),

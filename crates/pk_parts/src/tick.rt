@@ -18,8 +18,7 @@ use pk_region::Region;
 use pk_schedule::Stepped;
 
 impl<A: Region> Parts<A> {
-    // Erases the lowest free block that was not erased in this session; false if there is none. A
-    // failure stops the drive.
+    // Erases the lowest free block that was not erased in this session; false if there is none.
     fn erase_spare<B: Nand>(&mut self, board: &mut B) -> Result<bool, Fault>
         requires ready { IsReady (B.state board.old) self.old.pool.shape }
         requires fits { PoolOnFlash self.old.pool (B.state board.old).pages }
@@ -31,7 +30,7 @@ impl<A: Region> Parts<A> {
         ensures rest { OnOk result (self.new ≡ record self.old { pool = self.new.pool }) }
         ensures failed { OnErr result (FailsToErase self.old.pool (B.state board.old)
             (B.state board.new)) }
-        ensures stops { OnErr result (self.new ≡ record self.old { stopped = true }) }
+        ensures kept { OnErr result (self.new ≡ self.old) }
 
         // The pool and the board, however it went.
         ensures shared { IsShared self.old.pool.shape self.old.pool.states }
@@ -41,13 +40,7 @@ impl<A: Region> Parts<A> {
         ensures fits { PoolOnFlash self.new.pool (B.state board.new).pages }
     {
         self.pool.known();
-        match self.pool.erase_one(board) {
-            Ok(erased) => Ok(erased),
-            Err(fault) => {
-                self.stopped = true;
-                Err(fault)
-            }
-        }
+        self.pool.erase_one(board)
     }
 
     // A call failed that stops the drive.
@@ -55,7 +48,7 @@ impl<A: Region> Parts<A> {
         ensures value { result ≡ StopsDrive true }
         ensures stopped { self.new ≡ record self.old { stopped = true } }
     {
-        self.stopped = true;
+        let _ = self.fail(Fault::Stopped);
         Ticked::Fault { stopped: true }
     }
 
@@ -137,7 +130,7 @@ impl<A: Region> Parts<A> {
             Ok(true) => Ticked::Worked,
             Ok(false) => Ticked::Idle,
             // only an erase can fail here
-            Err(_) => Ticked::Fault { stopped: true },
+            Err(_) => self.stop(),
         }
     }
 

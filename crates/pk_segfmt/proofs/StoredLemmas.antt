@@ -6,7 +6,7 @@ use Rattle.std.proofs.Math.Nat.{mul-le-mul_right}
 use Rattle.std.proofs.Math.Seq.{take-add}
 use Rattle.std.proofs.lemmas.List.{take_all, drop_all, drop_at, take_at, take-append-le, length-take, take-append-drop}
 use Rattle.pk_base.specs.Fields.{padded, zeros}
-use Rattle.pk_base.specs.Key.{Key, IsKey}
+use Rattle.pk_base.specs.Key.{Key, IsKey, bytes_of}
 use Rattle.pk_base.specs.Shape.{Shape, IsShape, charge}
 use Rattle.pk_base.specs.Entry.{Place}
 use Rattle.pk_base.specs.Page.{Page, whole}
@@ -21,7 +21,7 @@ use Rattle.pk_segfmt.proofs.ValueLemmas.{cut, starts_front, front_starts, text_a
 
 pub length-head_bytes : (key : Key) (len : ℕ) → IsKey key → length (head_bytes key len) ≡ 32
 unfolding head_bytes
-length-head_bytes key len is = simp length-append (omega (arith, length-padded 16 key is.most, length-append key (zeros (16 - length key))))
+length-head_bytes key len is = simp length-append (omega (arith, length-padded 16 (bytes_of key) is.most, length-append (bytes_of key) (zeros (16 - length (bytes_of key)))))
 
 -- a value has a page
 pub charge_some : (shape : Shape) (is : IsShape shape) (len : ℕ) → 0 < charge shape len

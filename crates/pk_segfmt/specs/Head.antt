@@ -1,6 +1,6 @@
 -- The head of a value: what it holds, and the first field that is wrong.
-use Rattle.std.specs.Prelude.{ℕ, ◌+◌, ◌-◌, ◌≤◌, List, [], ◌∷◌, slice_index, ◌&&◌, nat_le, Option}
-use Rattle.pk_base.specs.declared.sizes.TheConstants.{KEY_BYTES}
+use Rattle.std.specs.Prelude.{ℕ, ◌+◌, ◌-◌, ◌≤◌, List, [], ◌∷◌, slice_index, ◌==◌, ◌&&◌, nat_le, nat_lt, Option}
+use Rattle.pk_base.specs.declared.sizes.TheConstants.{KEY_BYTES, MOST_SPACES}
 use Rattle.pk_base.specs.Fields.{number_at, field, unlike, unless, first_fault, zeros}
 use Rattle.pk_base.specs.Shape.{Shape, greatest}
 use Rattle.pk_base.specs.Key.{Key, IsKey}
@@ -19,7 +19,7 @@ pub record IsHead (shape : Shape) (key : Key) (len : ℕ) : Type 0 where
 abbrev pub head_checks : Shape → List ℕ → List (Option ℕ)
 head_checks shape bytes =
     let size : ℕ = slice_index bytes 0 in
-    unless 0 (nat_le 1 size && nat_le size KEY_BYTES) ∷ unlike 1 (KIND ∷ []) bytes ∷ unlike 2 (zeros 2) bytes
+    unless 0 (nat_le 1 size && nat_le size KEY_BYTES) ∷ unlike 1 (KIND ∷ []) bytes ∷ unless 2 (nat_lt (slice_index bytes 2) MOST_SPACES && slice_index bytes 3 == 0)
     ∷ field 4 (unlike (4 + size) (zeros (20 - (4 + size))) bytes) ∷ unless 20 (nat_le (number_at 4 20 bytes) (greatest shape)) ∷ unlike 24 value_magic bytes ∷ []
 
 -- the first byte of the first wrong field of a head

@@ -1,8 +1,8 @@
 //! The head before a value.
-ghost use Rattle.std.specs.Prelude.{◌≡◌, ◌≤◌, List, ℕ, length, take, nat_le, IfOk, IfErr, MatchResult, Ok, Some, None, slice_index, drop};
+ghost use Rattle.std.specs.Prelude.{◌≡◌, ◌≤◌, List, ℕ, length, take, nat_le, IfOk, IfErr, MatchResult, Ok, Some, None};
 ghost use Rattle.pk_base.specs.declared.sizes.TheConstants.{HEAD_BYTES};
 ghost use Rattle.pk_base.specs.Fields.{Finds, number_at};
-ghost use Rattle.pk_base.specs.Key.{IsKey};
+ghost use Rattle.pk_base.specs.EntryBytes.{cell_key};
 ghost use Rattle.pk_base.specs.Shape.{IsShape, greatest};
 ghost use Rattle.pk_segfmt.specs.Value.{head_bytes};
 ghost use Rattle.pk_segfmt.specs.Head.{IsHead, head_fault};
@@ -10,8 +10,8 @@ ghost use Rattle.pk_segfmt.specs.Stored.{page_of};
 
 use crate::found::{BadHead, Head};
 use pk_base::{
-    HEAD_BYTES, KEY_BYTES, Key, Shape, Wrong, get_u32, padding, passes, put_padded, put_text,
-    put_u8, put_u32, put_zeros, text, zeros,
+    HEAD_BYTES, KEY_BYTES, Key, MOST_SPACES, Shape, Wrong, get_u32, padding, passes, put_padded,
+    put_text, put_u8, put_u32, put_zeros, text,
 };
 
 /// The kind of a page that begins with a head, in byte 1: no entry has it.
@@ -36,7 +36,7 @@ fn checked(shape: &Shape, bytes: &[u8]) -> Result<(), Wrong>
     let size = bytes[0];
     passes(0, size >= 1 && size as usize <= KEY_BYTES)?;
     text(bytes, 1, &[KIND])?;
-    zeros(bytes, 2, 4)?;
+    passes(2, bytes[2] < MOST_SPACES && bytes[3] == 0)?;
     padding(bytes, 4, 4 + size as usize, 20)?;
     passes(20, is_len(shape, get_u32(bytes, 20)))?;
     text(bytes, 24, &MAGIC)
@@ -47,14 +47,14 @@ fn read(shape: &Shape, bytes: &[u8]) -> Head
     requires sized { length bytes.now ≡ HEAD_BYTES }
     requires good { head_fault shape.now bytes.now ≡ None }
     ensures { result ≡ record {
-      key = take (slice_index bytes.now 0) (drop 4 bytes.now);
+      key = cell_key bytes.now;
       len = number_at 4 20 bytes.now;
     } }
 {
     let _ = shape;
     let size = bytes[0] as usize;
     Head {
-        key: Key::of(&bytes[4..4 + size]),
+        key: Key::of(bytes[2] + 1, &bytes[4..4 + size]),
         len: get_u32(bytes, 20),
     }
 }
@@ -64,7 +64,7 @@ fn head_of(shape: &Shape, bytes: &[u8]) -> Result<Head, BadHead>
     requires { length bytes.now ≡ HEAD_BYTES }
     ensures exact { MatchResult result (λ h. (head_fault shape.now bytes.now ≡ None) × (h
         ≡ record {
-          key = take (slice_index bytes.now 0) (drop 4 bytes.now);
+          key = cell_key bytes.now;
           len = number_at 4 20
               bytes.now;
         })) (λ bad. head_fault shape.now bytes.now ≡ Some bad.at) }
@@ -112,16 +112,17 @@ pub fn head(shape: &Shape, page: &[u8]) -> Result<Head, BadHead>
 }
 
 /// Writes the head of a value of `len` bytes.
-pub(crate) fn put_head(key: &[u8], len: u32, into: &mut [u8])
-    requires key { IsKey key.now }
-    requires room { HEAD_BYTES ≤ length into.old }
+pub(crate) fn put_head(key: &Key, len: u32, into: &mut [u8])
+    requires { HEAD_BYTES ≤ length into.old }
     ensures front { take HEAD_BYTES into.new ≡ head_bytes key.now len }
     ensures len { length into.new ≡ length into.old }
 {
-    put_u8(into, 0, key.len() as u8);
+    let bytes = key.bytes();
+    put_u8(into, 0, bytes.len() as u8);
     put_u8(into, 1, KIND);
-    put_zeros(into, 2, 4);
-    put_padded(into, 4, KEY_BYTES, key);
+    put_u8(into, 2, key.space() - 1);
+    put_zeros(into, 3, 4);
+    put_padded(into, 4, KEY_BYTES, bytes);
     put_u32(into, 20, len);
     put_text(into, 24, &MAGIC);
 }

@@ -34,7 +34,8 @@ pub fn page(shape: &Shape, key: &Key, value: &[u8], i: u32, into: &mut [u8])
     ensures { into.new ≡ page_of shape.now key.now value.now i }
 {
     shape.known();
-    let key = key.bytes();
+    // so that the key is known to be one
+    let _ = key.bytes();
     if i == 0 {
         put_head(key, value.len() as u32, into);
         put_rest(into, HEAD_BYTES, value);

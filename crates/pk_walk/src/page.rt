@@ -2,7 +2,7 @@
 ghost use Rattle.std.specs.Prelude.{◌≡◌, ◌≤◌, ◌<◌, ◌+◌, ◌*◌, ℕ, List, length, slice_get, slice_index, Some};
 ghost use Rattle.pk_base.specs.Entry.{Entry as EntrySpec};
 ghost use Rattle.pk_base.specs.Seen.{entry as seen};
-ghost use Rattle.pk_base.specs.declared.sizes.TheConstants.{HEAD_BYTES, ENTRY_BYTES, KEY_BYTES};
+ghost use Rattle.pk_base.specs.declared.sizes.TheConstants.{HEAD_BYTES, ENTRY_BYTES, KEY_BYTES, MOST_SPACES};
 ghost use Rattle.pk_base.specs.EntryBytes.{cell_at, cell_key, entry_at};
 ghost use Rattle.pk_base.specs.Fields.{number_at};
 ghost use Rattle.pk_meta.specs.Page.{Decodes, IsMetaPage};
@@ -19,11 +19,12 @@ use pk_meta::entry;
 fn whole_put(cell: &[u8]) -> Entry
     requires sized { length cell.now ≡ ENTRY_BYTES }
     requires whole { slice_index cell.now 0 ≡ KEY_BYTES }
+    requires space { slice_index cell.now 2 < MOST_SPACES }
     requires put { slice_index cell.now 1 ≡ PUT_KIND }
     ensures { seen result ≡ entry_at cell.now }
 {
     Entry::Put {
-        key: Key::of(&cell[4..4 + KEY_BYTES]),
+        key: Key::of(cell[2] + 1, &cell[4..4 + KEY_BYTES]),
         page: get_u32(cell, 20),
         len: get_u32(cell, 24),
     }

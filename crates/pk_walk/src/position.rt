@@ -22,7 +22,7 @@ impl Position {
     {
         let bytes = key.bytes();
         if bytes.len() == KEY_BYTES {
-            *self = Position::Above(Key::of(&bytes[..KEY_BYTES]));
+            *self = Position::Above(Key::of(key.space(), &bytes[..KEY_BYTES]));
         } else {
             *self = Position::Above(key.copy());
         }

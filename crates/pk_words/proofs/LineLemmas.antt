@@ -3,14 +3,14 @@ use Rattle.std.proofs.Common.{◌≡◌, ℕ, ◌+◌, ◌*◌, ◌≤◌, ◌<�
 use Rattle.std.specs.Prelude.{codes}
 use Rattle.std.proofs.lemmas.List.{append-nil, length-append, take_more}
 use Rattle.std.proofs.lemmas.Grind.{flat_map-append}
-use Rattle.pk_base.specs.Key.{Key}
+use Rattle.pk_base.specs.Key.{Key, bytes_of}
 use Rattle.pk_nvme.specs.Bytes.{RoomyList}
 use Rattle.pk_nvme.specs.Text.{hex_text}
 use Rattle.pk_nvme.proofs.TextLemmas.{length-hex_text}
 use Rattle.pk_words.specs.Lines.{key_line, key_lines}
 
-pub length-key_line : (key : Key) → length (key_line key) ≡ 2 * length key + 1
-length-key_line key = omega (arith, length-append (hex_text key) (codes "\n"), length-hex_text key)
+pub length-key_line : (key : Key) → length (key_line key) ≡ 2 * length (bytes_of key) + 1
+length-key_line key = omega (arith, length-append (hex_text (bytes_of key)) (codes "\n"), length-hex_text (bytes_of key))
 
 -- the lines of one key more
 pub one_more : (ks : List Key) (i : ℕ) → i < length ks → key_lines (take (i + 1) ks) ≡ key_lines (take i ks) ++ key_line (slice_index_or ks i [])

@@ -6,7 +6,7 @@ use Rattle.std.specs.declared.cmp.Ordering.{Ordering}
 use Rattle.std.specs.declared.cmp.Ordering.TheVariants.{Less, Equal, Greater}
 use Rattle.std.specs.Ordering.{nat_cmp, ordering_then}
 use Rattle.pk_base.specs.Fields.{AreBytes}
-use Rattle.pk_base.specs.Key.{Key, IsBelow, key_cmp}
+use Rattle.pk_base.specs.Key.{Key, IsKey, IsBelow, key_cmp}
 use Rattle.pk_words.specs.Listing.{rank, IsText, pieces_after, most_pieces}
 
 tail_bytes : (b : ℕ) (k : List ℕ) → AreBytes (b ∷ k) → AreBytes k
@@ -60,6 +60,12 @@ after_first key = omega (arith, at_most key)
 less_left : (top a b : ℕ) → a < b → b < top → top - b < top - a
 less_left top a b h k = omega (arith, h, k)
 
+-- a namespace and at most 16 bytes
+long : (key : Key) → IsKey key → length key ≤ 17
+long [] is = omega arith
+long (n ∷ bytes) is = let most = is.most in omega (arith, most)
+
 pub after_key : (from key : Key) → IsText from → IsText key → IsBelow from key → pieces_after key < pieces_after from
 unfolding pieces_after
-after_key from key f k below = less_left (257 ^ 16) (rank 16 from) (rank 16 key) (rank_rises 16 from key f.is_key.most k.is_key.most f.bytes k.bytes below) (rank_fits 16 key k.is_key.most k.bytes)
+after_key from key f k below = less_left (257 ^ 17) (rank 17 from) (rank 17 key)
+    (rank_rises 17 from key (long from f.is_key) (long key k.is_key) f.bytes k.bytes below) (rank_fits 17 key (long key k.is_key) k.bytes)

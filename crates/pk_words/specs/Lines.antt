@@ -1,6 +1,6 @@
 -- The lines that the words say.
 use Rattle.std.specs.Prelude.{ℕ, ◌+◌, ◌==◌, if◌then◌else◌, List, [], ◌∷◌, ◌++◌, flat_map, codes, Option, Some, None}
-use Rattle.pk_base.specs.Key.{Key}
+use Rattle.pk_base.specs.Key.{Key, bytes_of}
 use Rattle.pk_base.specs.Fields.{u32_at}
 use Rattle.pk_nvme.specs.Text.{number_text, hex_text, bytes_text}
 use Rattle.pk_nvme.specs.declared.status.TheConstants.{SUCCESSFUL_COMPLETION, KEY_DOES_NOT_EXIST, UNRECOVERED_ERROR}
@@ -24,7 +24,7 @@ value_line (Some value) = codes "ok " ++ bytes_text value ++ codes "\n"
 
 -- one line for each key
 abbrev pub key_line : Key → List ℕ
-key_line key = hex_text key ++ codes "\n"
+key_line key = hex_text (bytes_of key) ++ codes "\n"
 
 abbrev pub key_lines : List Key → List ℕ
 key_lines = flat_map key_line

@@ -39,23 +39,23 @@ asked_at (After key) = list_of key
 
 -- ---- how far a list has come
 
--- a key as a number that rises with it: digits to the base 257, and a missing byte below all others
+-- a key as a number that rises with it: its namespace and bytes as digits to the base 257, and a missing byte below all others
 unfoldable pub rank : ℕ → Key → ℕ
 rank zero key = 0
 rank (suc n) [] = 0
 rank (suc n) (byte ∷ key) = suc byte * 257 ^ n + rank n key
 
--- A key of 1 to 16 bytes.
+-- A key of 1 to 16 bytes, in a namespace that is a byte too.
 pub record IsText (key : Key) : Type 0 where
   pub is_key : IsKey key
   pub bytes : AreBytes key
 
 -- at most n pieces come after a key
 unfoldable pub pieces_after : Key → ℕ
-pieces_after key = 257 ^ KEY_BYTES - rank KEY_BYTES key
+pieces_after key = 257 ^ (KEY_BYTES + 1) - rank (KEY_BYTES + 1) key
 
 unfoldable pub most_pieces : ℕ
-most_pieces = 257 ^ KEY_BYTES
+most_pieces = 257 ^ (KEY_BYTES + 1)
 
 -- at most n pieces remain: each makes it less
 abbrev pub pieces_left : ListPosition → ℕ

@@ -4,7 +4,7 @@ use Rattle.pk_parts.specs.Quiet.{Looks}
 use Rattle.pk_core.proofs.Unchanging.{exist_found, exist_none}
 use Rattle.pk_nvme.specs.Seen.{command_of}
 use Rattle.pk_call.specs.declared.types.Outcome.{Outcome}
-use Rattle.pk_core.proofs.Executing.{executes_quiet}
+use Rattle.pk_core.proofs.Executing.{executes_quiet, same_but_walk}
 use Rattle.pk_core.proofs.LookedUp.{executes_unread}
 use Rattle.pk_core.proofs.Sights.{only_reads, only_failing}
 use Rattle.pk_core.proofs.Callings.{few_looked, few_failed, four_less}
@@ -35,21 +35,21 @@ returns-in-Err-clause-executes g c = λ v into.
 
 pub returns-in-Ok-Some-clause-only : goal.returns-in-Ok-Some-clause-only
 returns-in-Ok-Some-clause-only g c = record {
-  same = c.look.ensures.same;
+  same = same_but_walk _ _ (c.look.ensures.same);
   rest = only_reads _ _ _ c.in-Ok-Some.ensures.reads;
   few = few_looked c.args.parts.now _ _ c.requires.servable.agrees (4 - c.args.parts.now.levels.pinned) (four_less c.args.parts.now.levels.pinned) c.in-Ok-Some.ensures.reads;
 }
 
 pub returns-in-Ok-None-clause-only : goal.returns-in-Ok-None-clause-only
 returns-in-Ok-None-clause-only g c = record {
-  same = c.look.ensures.same;
+  same = same_but_walk _ _ (c.look.ensures.same);
   rest = only_reads _ _ _ c.in-Ok-None.ensures.reads;
   few = few_looked c.args.parts.now _ _ c.requires.servable.agrees (4 - c.args.parts.now.levels.pinned) (four_less c.args.parts.now.levels.pinned) c.in-Ok-None.ensures.reads;
 }
 
 pub returns-in-Err-clause-only : goal.returns-in-Err-clause-only
 returns-in-Err-clause-only g c = record {
-  same = c.look.ensures.same;
+  same = same_but_walk _ _ (c.look.ensures.same);
   rest = only_failing _ _ _ c.in-Err.ensures.failing;
   few = few_failed c.args.parts.now _ _ c.requires.servable.agrees (4 - c.args.parts.now.levels.pinned) (four_less c.args.parts.now.levels.pinned) c.in-Err.ensures.failing;
 }

@@ -4,7 +4,7 @@ use Rattle.pk_parts.specs.Quiet.{Looks}
 use Rattle.pk_core.proofs.Unchanging.{retrieve_found, retrieve_none, unread_value, front_of, front_moved, room_of, value_reads, value_breaks, few_of}
 use Rattle.pk_nvme.specs.Seen.{command_of}
 use Rattle.pk_call.specs.declared.types.Outcome.{Outcome}
-use Rattle.pk_core.proofs.Executing.{executes_quiet}
+use Rattle.pk_core.proofs.Executing.{executes_quiet, same_but_walk}
 use Rattle.pk_core.proofs.LookedUp.{executes_unread}
 use Rattle.pk_core.proofs.Sights.{only_reads, only_failing}
 use Rattle.pk_core.proofs.Callings.{few_looked, few_failed, four_less}
@@ -99,7 +99,7 @@ returns-in-Err-clause-executes g c = λ v.
 
 pub returns-in-Ok-clause-only : goal.returns-in-Ok-clause-only
 returns-in-Ok-clause-only g c = record {
-  same = c.hand_over.ensures.same ∙ c.look.ensures.same;
+  same = same_but_walk _ _ (c.hand_over.ensures.same ∙ c.look.ensures.same);
   rest = only_reads _ _ _ (value_reads c.args.parts.now c.look.new.self (g.B.Nand.state c.args.board.now) (g.B.Nand.state c.look.new.board) (g.B.Nand.state c.hand_over.new.board) c.min-count.result c.look.ensures.same c.in-Ok-Some.ensures.reads c.in-Ok.ensures.ok);
   few = (let old = g.B.Nand.state c.args.board.now in
       let looks = subst (λ p. Looks c.args.parts.now old.pages c.key-key.result p) c.in-Ok-Some.field-0-is c.in-Ok-Some.ensures.looks in
@@ -109,7 +109,7 @@ returns-in-Ok-clause-only g c = record {
 
 pub returns-in-Err-hand_over-clause-only : goal.returns-in-Err-hand_over-clause-only
 returns-in-Err-hand_over-clause-only g c = record {
-  same = c.hand_over.ensures.same ∙ c.look.ensures.same;
+  same = same_but_walk _ _ (c.hand_over.ensures.same ∙ c.look.ensures.same);
   rest = (only_failing _ _ _
       (value_breaks c.args.parts.now c.look.new.self (g.B.Nand.state c.args.board.now) (g.B.Nand.state c.look.new.board) (g.B.Nand.state c.hand_over.new.board) c.in-Ok-Some.place.page c.min-count.result c.look.ensures.same c.in-Ok-Some.ensures.reads c.in-Err-hand_over.ensures.err));
   few = (let old = g.B.Nand.state c.args.board.now in
@@ -120,14 +120,14 @@ returns-in-Err-hand_over-clause-only g c = record {
 
 pub returns-in-Ok-None-clause-only : goal.returns-in-Ok-None-clause-only
 returns-in-Ok-None-clause-only g c = record {
-  same = c.look.ensures.same;
+  same = same_but_walk _ _ (c.look.ensures.same);
   rest = only_reads _ _ _ c.in-Ok-None.ensures.reads;
   few = few_looked c.args.parts.now _ _ c.requires.servable.agrees (4 - c.args.parts.now.levels.pinned) (four_less c.args.parts.now.levels.pinned) c.in-Ok-None.ensures.reads;
 }
 
 pub returns-in-Err-clause-only : goal.returns-in-Err-clause-only
 returns-in-Err-clause-only g c = record {
-  same = c.look.ensures.same;
+  same = same_but_walk _ _ (c.look.ensures.same);
   rest = only_failing _ _ _ c.in-Err.ensures.failing;
   few = few_failed c.args.parts.now _ _ c.requires.servable.agrees (4 - c.args.parts.now.levels.pinned) (four_less c.args.parts.now.levels.pinned) c.in-Err.ensures.failing;
 }

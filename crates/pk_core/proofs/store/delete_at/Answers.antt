@@ -8,6 +8,7 @@ use Rattle.pk_core.proofs.LookedUp.{deletes_none, deletes_came}
 use Rattle.pk_core.proofs.Amounts.{room_few, room_last}
 use Rattle.pk_core.proofs.Executing.{executes_quiet}
 use Rattle.pk_core.proofs.Served.{can_take, delete_missing, delete_came, none_read}
+use Rattle.pk_core.proofs.Whole.{take_makes_whole}
 use Rattle.pk_core.proofs.Statuses.{told_refused}
 use Rattle.pk_parts.proofs.Callings.{spends_same}
 use Rattle.pk_core.proofs.store.delete_at.Goals as goal
@@ -47,20 +48,21 @@ pub returns-in-Some-clause-executes : goal.returns-in-Some-clause-executes
 returns-in-Some-clause-executes g c = λ v into.
     let r = c.requires.looked_up in
     let e = c.take_whole-answer.ensures in
-    let told = c.changed.ensures in
     let after = g.B.Nand.state c.take_whole-answer.new.board in
     let looks = subst (λ p. Looks c.args.parts.now (g.B.Nand.state c.args.board.now).pages c.args.key p) c.in-Some.is r.looks in
-    subst (λ (d : Parts). Executes c.args.parts.now d (g.B.Nand.state c.args.board.now) after (command_of c.args.request.now v) c.changed.result into (after.reads - (g.B.Nand.state c.args.board.now).reads)) (sym told.rest)
-    (delete_came c.args.parts.now (g.B.Nand.state c.args.board.now) c.args.request.now v c.args.key r.servable c.requires.opcode r.named c.known.ensures.key c.known.ensures.bytes c.in-Some.place looks
-    c.take_whole-answer.result c.take_whole-answer.new.parts after _ into c.changed.result _ e.step (let few = e.spends.installs in omega (arith, few)) (record { up = e.step.reads.up; few = c.reads_since-in-Some.ensures.count }) e.stays told.told)
+    delete_came c.args.parts.now (g.B.Nand.state c.args.board.now) c.args.request.now v c.args.key r.servable c.requires.opcode r.named c.known.ensures.key c.known.ensures.bytes c.in-Some.place looks
+    c.take_whole-answer.result c.take_whole-answer.new.parts after _ into c.changed.result _ e.step (let few = e.spends.installs in omega (arith, few)) (record { up = e.step.reads.up; few = c.reads_since-in-Some.ensures.count }) e.stays e.stops c.changed.ensures
 
 pub returns-in-Some-clause-deletes : goal.returns-in-Some-clause-deletes
 returns-in-Some-clause-deletes g c =
     let e = c.take_whole-answer.ensures in
-    let told = c.changed.ensures in
+    let r = c.requires.looked_up in
     let old = g.B.Nand.state c.args.board.now in
     let new = g.B.Nand.state c.take_whole-answer.new.board in
-    deletes_came c.args.parts.now c.take_whole-answer.new.parts c.changed.new.parts old new c.args.key c.take_whole-answer.result c.changed.result _ told.told told.rest e.whole e.moves e.programs e.quiet
+    let looks = subst (λ p. Looks c.args.parts.now old.pages c.args.key p) c.in-Some.is r.looks in
+    let can = can_take c.args.parts.now old c.args.request.now [] c.args.key r.servable c.requires.opcode r.named c.known.ensures.key c.known.ensures.bytes c.in-Some.place looks in
+    let whole = take_makes_whole c.take_whole-answer.result c.args.parts.now c.take_whole-answer.new.parts old new _ c.args.key c.in-Some.place can e.step in
+    deletes_came c.args.parts.now c.take_whole-answer.new.parts old new c.args.key c.take_whole-answer.result c.changed.result _ c.changed.ensures whole e.moves e.programs e.quiet
 
 pub returns-in-None-clause-spends : goal.returns-in-None-clause-spends
 returns-in-None-clause-spends g c = spends_same _ _ _ _ refl

@@ -9,6 +9,7 @@ use Rattle.pk_core.proofs.LookedUp.{stores_none, stores_came}
 use Rattle.pk_core.proofs.Amounts.{store_few}
 use Rattle.pk_core.proofs.Executing.{executes_quiet}
 use Rattle.pk_core.proofs.Served.{short_place, can_put, store_refused, store_came, none_read}
+use Rattle.pk_core.proofs.Whole.{put_makes_whole}
 use Rattle.pk_core.proofs.Statuses.{told_refused, store_refuses}
 use Rattle.pk_parts.proofs.Callings.{spends_same}
 use Rattle.pk_core.proofs.StoreCalls.{spends_stored}
@@ -20,7 +21,7 @@ fault_of_store-requires-clause-old_short g c = let r = c.requires.looked_up in s
 pub put_whole-answer-requires-clause-can : goal.put_whole-answer-requires-clause-can
 put_whole-answer-requires-clause-can g c =
     let r = c.requires.looked_up in
-    can_put c.args.parts.now (g.B.Nand.state c.args.board.now) c.args.request.now c.args.value.now c.args.key c.args.old r.servable c.requires.opcode c.requires.whole r.named c.known.ensures.key c.known.ensures.bytes r.looks (sym c.fault_of_store.ensures ∙ c.in-None.is)
+    (can_put c.args.parts.now (g.B.Nand.state c.args.board.now) c.args.request.now c.args.value.now c.args.key c.args.old r.servable c.requires.opcode c.requires.whole r.named c.known.ensures.key c.known.ensures.bytes r.looks (sym c.fault_of_store.ensures ∙ c.in-None.is), c.charge-count.ensures.value ∙ (λ i. charge (c.shape.ensures i) (sym c.requires.whole i)))
 
 pub reads_since-requires-in-None-clause-few : goal.reads_since-requires-in-None-clause-few
 reads_since-requires-in-None-clause-few g c =
@@ -48,19 +49,19 @@ pub returns-in-None-clause-executes : goal.returns-in-None-clause-executes
 returns-in-None-clause-executes g c = λ into.
     let r = c.requires.looked_up in
     let e = c.put_whole-answer.ensures in
-    let told = c.changed.ensures in
     let after = g.B.Nand.state c.put_whole-answer.new.board in
-    subst (λ (d : Parts). Executes c.args.parts.now d (g.B.Nand.state c.args.board.now) after (command_of c.args.request.now c.args.value.now) c.changed.result into (after.reads - (g.B.Nand.state c.args.board.now).reads)) (sym told.rest)
-    (store_came c.args.parts.now (g.B.Nand.state c.args.board.now) c.args.request.now c.args.value.now c.args.key c.args.old r.servable c.requires.opcode c.requires.whole r.named c.known.ensures.key c.known.ensures.bytes r.looks (sym c.fault_of_store.ensures ∙ c.in-None.is)
-    c.put_whole-answer.result c.put_whole-answer.new.parts after _ into c.changed.result _ e.step e.spends.installs (record { up = e.step.reads.up; few = c.reads_since-in-None.ensures.count }) e.stays told.told)
+    store_came c.args.parts.now (g.B.Nand.state c.args.board.now) c.args.request.now c.args.value.now c.args.key c.args.old r.servable c.requires.opcode c.requires.whole r.named c.known.ensures.key c.known.ensures.bytes r.looks (sym c.fault_of_store.ensures ∙ c.in-None.is)
+    c.put_whole-answer.result c.put_whole-answer.new.parts after _ into c.changed.result _ e.step e.spends.installs (record { up = e.step.reads.up; few = c.reads_since-in-None.ensures.count }) e.stays e.stops c.changed.ensures
 
 pub returns-in-None-clause-stores : goal.returns-in-None-clause-stores
 returns-in-None-clause-stores g c =
     let e = c.put_whole-answer.ensures in
-    let told = c.changed.ensures in
+    let r = c.requires.looked_up in
     let old = g.B.Nand.state c.args.board.now in
     let new = g.B.Nand.state c.put_whole-answer.new.board in
-    stores_came c.args.parts.now c.put_whole-answer.new.parts c.changed.new.parts old new c.args.key c.put_whole-answer.result c.changed.result _ told.told told.rest (length c.args.value.now) c.args.request.now.size c.requires.whole e.whole e.opens e.noted e.programs e.quiet
+    let can = can_put c.args.parts.now old c.args.request.now c.args.value.now c.args.key c.args.old r.servable c.requires.opcode c.requires.whole r.named c.known.ensures.key c.known.ensures.bytes r.looks (sym c.fault_of_store.ensures ∙ c.in-None.is) in
+    let whole = put_makes_whole c.put_whole-answer.result c.args.parts.now c.put_whole-answer.new.parts old new _ c.args.key c.args.value.now c.args.old can e.step in
+    stores_came c.args.parts.now c.put_whole-answer.new.parts old new c.args.key c.put_whole-answer.result c.changed.result _ c.changed.ensures (length c.args.value.now) c.args.request.now.size c.requires.whole whole e.opens e.noted e.programs e.quiet
 
 pub returns-in-Some-clause-spends : goal.returns-in-Some-clause-spends
 returns-in-Some-clause-spends g c = spends_same _ _ _ _ refl
@@ -70,3 +71,6 @@ returns-in-None-clause-spends g c =
     let r = c.requires.looked_up in
     let can = can_put c.args.parts.now (g.B.Nand.state c.args.board.now) c.args.request.now c.args.value.now c.args.key c.args.old r.servable c.requires.opcode c.requires.whole r.named c.known.ensures.key c.known.ensures.bytes r.looks (sym c.fault_of_store.ensures ∙ c.in-None.is) in
     spends_stored c.args.parts.now.log.shape (length c.args.value.now) _ _ r.servable.agrees.with.index.logs.is_shape can.short c.put_whole-answer.ensures.spends
+
+pub fault_of_store-requires-clause-counted : goal.fault_of_store-requires-clause-counted
+fault_of_store-requires-clause-counted g c = c.charge-count.ensures.value ∙ ap (λ s. charge s c.args.request.now.size) c.shape.ensures

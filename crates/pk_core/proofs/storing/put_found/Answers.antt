@@ -1,17 +1,20 @@
-use Rattle.std.proofs.Common.{refl, length, arith, ap}
+use Rattle.std.proofs.Common.{◌∙◌, sym, refl, length, arith, ap}
 use Rattle.pk_parts.proofs.Staying.{stays_opens, stays_same}
 use Rattle.pk_core.proofs.Stored.{its_drive, found_can, found_stores, found_unread, found_room, found_numbers, between_same, between_from, opens_looked}
+use Rattle.pk_base.specs.Shape.{charge}
 use Rattle.pk_parts.specs.Parts.{Parts}
 use Rattle.pk_core.proofs.Callings.{spends_reads, spends_breaks}
 use Rattle.pk_parts.proofs.StoreCalls.{spends_found}
 use Rattle.pk_core.proofs.storing.put_found.Goals as goal
 
 pub look-requires-clause-agrees : goal.look-requires-clause-agrees
-look-requires-clause-agrees g c = its_drive c.args.parts.now (g.B.Nand.state c.args.board.now) c.args.key c.args.value.now c.requires.can
+look-requires-clause-agrees g c = its_drive c.args.parts.now (g.B.Nand.state c.args.board.now) c.args.key c.args.value.now c.requires.can.0
 
 pub put-requires-clause-can : goal.put-requires-clause-can
-put-requires-clause-can g c =
-    found_can c.args.parts.now (g.B.Nand.state c.args.board.now).pages c.args.key c.args.value.now c.in-Ok.old c.in-Ok.ensures.looks c.look.new.self (g.B.Nand.state c.args.board.now) (g.B.Nand.state c.look.new.board) c.look.ensures.same refl c.look.ensures.pages c.look.ensures.ready c.requires.can
+put-requires-clause-can g c = (
+  found_can c.args.parts.now (g.B.Nand.state c.args.board.now).pages c.args.key c.args.value.now c.in-Ok.old c.in-Ok.ensures.looks c.look.new.self (g.B.Nand.state c.args.board.now) (g.B.Nand.state c.look.new.board) c.look.ensures.same refl c.look.ensures.pages c.look.ensures.ready c.requires.can.0,
+  c.requires.can.1 ∙ ap (λ (d : Parts). charge d.log.shape (length c.args.value.now)) (sym c.look.ensures.same),
+)
 
 pub put-requires-clause-room : goal.put-requires-clause-room
 put-requires-clause-room g c = found_room c.args.parts.now c.look.new.self (length c.args.value.now) c.look.ensures.same c.requires.room
@@ -35,7 +38,7 @@ returns-in-Err-clause-step g c =
     found_unread c.args.parts.now c.look.new.self (g.B.Nand.state c.args.board.now) (g.B.Nand.state c.look.new.board) _ c.args.key c.args.value.now c.look.ensures.same c.read_count.ensures.faults c.in-Err.ensures.failing c.look.ensures.ready
 
 pub returns-in-Err-clause-stays : goal.returns-in-Err-clause-stays
-returns-in-Err-clause-stays g c = between_same c.args.parts.now c.look.new.self c.look.ensures.same c.requires.can.few
+returns-in-Err-clause-stays g c = between_same c.args.parts.now c.look.new.self c.look.ensures.same c.requires.can.0.few
 
 pub returns-in-Err-clause-opens : goal.returns-in-Err-clause-opens
 returns-in-Err-clause-opens g c = stays_opens _ _ _ (stays_same _ _ c.look.ensures.same)

@@ -1,10 +1,11 @@
-use Rattle.std.proofs.Common.{length, arith}
+use Rattle.std.proofs.Common.{◌∙◌, sym, ap, length, arith}
+use Rattle.pk_base.specs.Shape.{charge}
 use Rattle.pk_core.proofs.Whole.{wholes, fails_half, unworn_then, can_put_then, stores_whole, stays_whole, opens_whole, put_spends, stores_unmade, unmade_spends, put_makes_whole, puts_quietly, reads_nowhere}
 use Rattle.pk_parts.proofs.ReadSteps.{running_stopped}
 use Rattle.pk_core.proofs.storing.put_whole.Goals as goal
 
 pub make_whole-requires : goal.make_whole-requires
-make_whole-requires g c = record { may = record { ready = c.requires.can.ready; stands = (c.requires.can.may.0, c.requires.can.may.1.stands) } }
+make_whole-requires g c = record { may = record { ready = c.requires.can.0.ready; stands = (c.requires.can.0.may.0, c.requires.can.0.may.1.stands) } }
 
 pub put_with_space-requires-clause-can : goal.put_with_space-requires-clause-can
 put_with_space-requires-clause-can g c =
@@ -12,8 +13,9 @@ put_with_space-requires-clause-can g c =
     let b = c.make_whole.new.self in
     let s0 = g.B.Nand.state c.args.board.now in
     let s1 = g.B.Nand.state c.make_whole.new.board in
-    let can = c.requires.can in
-    can_put_then a b s0 s1 can.ready (wholes a b s0 s1 can.ready c.in-Ok.ensures.finishes c.in-Ok.ensures.rests) c.args.key c.args.value.now c.args.old can
+    let can = c.requires.can.0 in
+    let w = wholes a b s0 s1 can.ready c.in-Ok.ensures.finishes c.in-Ok.ensures.rests in
+    (can_put_then a b s0 s1 can.ready w c.args.key c.args.value.now c.args.old can, c.requires.can.1 ∙ ap (λ s. charge s (length c.args.value.now)) (sym w.same_shape))
 
 pub put_with_space-requires-clause-unworn : goal.put_with_space-requires-clause-unworn
 put_with_space-requires-clause-unworn g c =
@@ -21,7 +23,7 @@ put_with_space-requires-clause-unworn g c =
     let b = c.make_whole.new.self in
     let s0 = g.B.Nand.state c.args.board.now in
     let s1 = g.B.Nand.state c.make_whole.new.board in
-    let can = c.requires.can in
+    let can = c.requires.can.0 in
     unworn_then a b s0 s1 can.ready (wholes a b s0 s1 can.ready c.in-Ok.ensures.finishes c.in-Ok.ensures.rests) c.requires.unworn
 
 pub returns-in-Ok-clause-step : goal.returns-in-Ok-clause-step
@@ -30,18 +32,8 @@ returns-in-Ok-clause-step g c =
     let b = c.make_whole.new.self in
     let s0 = g.B.Nand.state c.args.board.now in
     let s1 = g.B.Nand.state c.make_whole.new.board in
-    let can = c.requires.can in
+    let can = c.requires.can.0 in
     stores_whole a b s0 s1 can.ready (wholes a b s0 s1 can.ready c.in-Ok.ensures.finishes c.in-Ok.ensures.rests) c.args.key c.args.value.now c.put_with_space.new.parts (g.B.Nand.state c.put_with_space.new.board) c.put_with_space.result c.put_with_space.ensures.step
-
-pub returns-in-Ok-clause-whole : goal.returns-in-Ok-clause-whole
-returns-in-Ok-clause-whole g c =
-    let a = c.args.parts.now in
-    let b = c.make_whole.new.self in
-    let s0 = g.B.Nand.state c.args.board.now in
-    let s1 = g.B.Nand.state c.make_whole.new.board in
-    let can = c.requires.can in
-    let step = stores_whole a b s0 s1 can.ready (wholes a b s0 s1 can.ready c.in-Ok.ensures.finishes c.in-Ok.ensures.rests) c.args.key c.args.value.now c.put_with_space.new.parts (g.B.Nand.state c.put_with_space.new.board) c.put_with_space.result c.put_with_space.ensures.step in
-    put_makes_whole c.put_with_space.result a c.put_with_space.new.parts s0 (g.B.Nand.state c.put_with_space.new.board) _ c.args.key c.args.value.now c.args.old can step
 
 pub returns-in-Ok-clause-stays : goal.returns-in-Ok-clause-stays
 returns-in-Ok-clause-stays g c =
@@ -49,7 +41,7 @@ returns-in-Ok-clause-stays g c =
     let b = c.make_whole.new.self in
     let s0 = g.B.Nand.state c.args.board.now in
     let s1 = g.B.Nand.state c.make_whole.new.board in
-    let can = c.requires.can in
+    let can = c.requires.can.0 in
     stays_whole a b s0 s1 can.ready (wholes a b s0 s1 can.ready c.in-Ok.ensures.finishes c.in-Ok.ensures.rests) c.put_with_space.result c.put_with_space.new.parts c.put_with_space.ensures.stays
 
 pub returns-in-Ok-clause-opens : goal.returns-in-Ok-clause-opens
@@ -58,7 +50,7 @@ returns-in-Ok-clause-opens g c =
     let b = c.make_whole.new.self in
     let s0 = g.B.Nand.state c.args.board.now in
     let s1 = g.B.Nand.state c.make_whole.new.board in
-    let can = c.requires.can in
+    let can = c.requires.can.0 in
     opens_whole a b s0 s1 can.ready (wholes a b s0 s1 can.ready c.in-Ok.ensures.finishes c.in-Ok.ensures.rests) c.put_with_space.result c.put_with_space.new.parts (length c.args.value.now) c.put_with_space.ensures.opens
 
 pub returns-in-Ok-clause-spends : goal.returns-in-Ok-clause-spends
@@ -67,7 +59,7 @@ returns-in-Ok-clause-spends g c =
     let b = c.make_whole.new.self in
     let s0 = g.B.Nand.state c.args.board.now in
     let s1 = g.B.Nand.state c.make_whole.new.board in
-    let can = c.requires.can in
+    let can = c.requires.can.0 in
     put_spends a b s0 s1 can.ready (wholes a b s0 s1 can.ready c.in-Ok.ensures.finishes c.in-Ok.ensures.rests) (g.B.Nand.state c.put_with_space.new.board) (length c.args.value.now) c.put_with_space.ensures.spends
 
 pub returns-in-Ok-clause-programs : goal.returns-in-Ok-clause-programs
@@ -89,10 +81,6 @@ returns-in-Err-clause-step g c =
     let s1 = g.B.Nand.state c.make_whole.new.board in
     let fails = fails_half c.in-Err.fault a c.make_whole.new.self s0 s1 c.in-Err.ensures.finishes c.in-Err.ensures.rests in
     stores_unmade a s0 s1 fails.1 c.make_whole.new.self _ c.args.key c.args.value.now c.in-Err.fault fails.0
-
-pub returns-in-Err-clause-whole : goal.returns-in-Err-clause-whole
-returns-in-Err-clause-whole g c =
-    running_stopped Unit _ c.in-Err.fault (fails_half c.in-Err.fault c.args.parts.now c.make_whole.new.self (g.B.Nand.state c.args.board.now) (g.B.Nand.state c.make_whole.new.board) c.in-Err.ensures.finishes c.in-Err.ensures.rests).0
 
 pub returns-in-Err-clause-stays : goal.returns-in-Err-clause-stays
 returns-in-Err-clause-stays g c =

@@ -1,4 +1,6 @@
-use Rattle.std.proofs.Common.{length, arith}
+use Rattle.std.proofs.Common.{◌∙◌, sym, ap, length, arith}
+use Rattle.pk_base.proofs.ShapeLemmas.{charge_most}
+use Rattle.pk_parts.specs.Spacing.{needs}
 use Rattle.pk_work.specs.Calls.{room_calls}
 use Rattle.pk_base.specs.Shape.{charge}
 use Rattle.pk_core.proofs.Stored.{store_can, put_stores, put_numbers, reads_if_room}
@@ -6,14 +8,14 @@ use Rattle.pk_parts.proofs.Callings.{spends_within}
 use Rattle.pk_core.proofs.storing.put_with_space.Goals as goal
 
 pub put_behind_reclaims-requires-clause-can : goal.put_behind_reclaims-requires-clause-can
-put_behind_reclaims-requires-clause-can g c = store_can c.args.parts.now (g.B.Nand.state c.args.board.now) c.args.key c.args.value.now c.args.old c.requires.can
+put_behind_reclaims-requires-clause-can g c = (store_can c.args.parts.now (g.B.Nand.state c.args.board.now) c.args.key c.args.value.now c.args.old c.requires.can.0, c.requires.can.1)
 
 pub put-requires-clause-number : goal.put-requires-clause-number
-put-requires-clause-number g c = put_numbers c.args.parts.now (g.B.Nand.state c.args.board.now) c.args.key c.args.value.now c.args.old c.requires.can c.requires.unworn
+put-requires-clause-number g c = put_numbers c.args.parts.now (g.B.Nand.state c.args.board.now) c.args.key c.args.value.now c.args.old c.requires.can.0 c.requires.unworn
 
 pub returns-else-needs_space-clause-step : goal.returns-else-needs_space-clause-step
 returns-else-needs_space-clause-step g c =
-    put_stores c.args.parts.now (g.B.Nand.state c.args.board.now) c.args.key c.args.value.now c.args.old c.requires.can c.put.result c.put.new.self (g.B.Nand.state c.put.new.board) (room_calls c.args.parts.now.log.shape) _ (omega arith) c.put.ensures.step
+    put_stores c.args.parts.now (g.B.Nand.state c.args.board.now) c.args.key c.args.value.now c.args.old c.requires.can.0 c.put.result c.put.new.self (g.B.Nand.state c.put.new.board) (room_calls c.args.parts.now.log.shape) _ (omega arith) c.put.ensures.step
 
 pub returns-else-needs_space-clause-quiet : goal.returns-else-needs_space-clause-quiet
 returns-else-needs_space-clause-quiet g c =
@@ -21,3 +23,15 @@ returns-else-needs_space-clause-quiet g c =
 
 pub returns-else-needs_space-clause-spends : goal.returns-else-needs_space-clause-spends
 returns-else-needs_space-clause-spends g c = spends_within _ _ _ _ _ _ (omega arith) (omega arith) c.put.ensures.spends
+
+pub needs_space-requires : goal.needs_space-requires
+needs_space-requires g c =
+    let can = c.requires.can.0 in
+    let most = charge_most c.args.parts.now.log.shape (length c.args.value.now) can.may.1.stands.with.index.logs.is_shape can.short in
+    omega (arith, most, c.requires.can.1)
+
+pub put_behind_reclaims-requires-clause-no_room : goal.put_behind_reclaims-requires-clause-no_room
+put_behind_reclaims-requires-clause-no_room g c = ap (λ n. needs n c.args.parts.now) (sym c.requires.can.1) ∙ (sym c.needs_space.ensures ∙ c.if-needs_space.true)
+
+pub put-requires-clause-room : goal.put-requires-clause-room
+put-requires-clause-room g c = ap (λ n. needs n c.args.parts.now) (sym c.requires.can.1) ∙ (sym c.needs_space.ensures ∙ c.if-needs_space.false)

@@ -33,16 +33,6 @@ returns-in-Ok-clause-step g c =
     let can = c.requires.can in
     takes_whole a b s0 s1 can.ready (wholes a b s0 s1 can.ready c.in-Ok.ensures.finishes c.in-Ok.ensures.rests) c.args.key c.args.old c.take_out.new.self (g.B.Nand.state c.take_out.new.board) c.take_out.result c.take_out.ensures.step
 
-pub returns-in-Ok-clause-whole : goal.returns-in-Ok-clause-whole
-returns-in-Ok-clause-whole g c =
-    let a = c.args.parts.now in
-    let b = c.make_whole.new.self in
-    let s0 = g.B.Nand.state c.args.board.now in
-    let s1 = g.B.Nand.state c.make_whole.new.board in
-    let can = c.requires.can in
-    let step = takes_whole a b s0 s1 can.ready (wholes a b s0 s1 can.ready c.in-Ok.ensures.finishes c.in-Ok.ensures.rests) c.args.key c.args.old c.take_out.new.self (g.B.Nand.state c.take_out.new.board) c.take_out.result c.take_out.ensures.step in
-    take_makes_whole c.take_out.result a c.take_out.new.self s0 (g.B.Nand.state c.take_out.new.board) _ c.args.key c.args.old can step
-
 pub returns-in-Ok-clause-stays : goal.returns-in-Ok-clause-stays
 returns-in-Ok-clause-stays g c =
     let a = c.args.parts.now in
@@ -89,10 +79,6 @@ returns-in-Err-clause-step g c =
     let s1 = g.B.Nand.state c.make_whole.new.board in
     let fails = fails_half c.in-Err.fault a c.make_whole.new.self s0 s1 c.in-Err.ensures.finishes c.in-Err.ensures.rests in
     takes_unmade a s0 s1 fails.1 c.make_whole.new.self _ c.args.key c.args.old c.in-Err.fault fails.0
-
-pub returns-in-Err-clause-whole : goal.returns-in-Err-clause-whole
-returns-in-Err-clause-whole g c =
-    running_stopped Unit _ c.in-Err.fault (fails_half c.in-Err.fault c.args.parts.now c.make_whole.new.self (g.B.Nand.state c.args.board.now) (g.B.Nand.state c.make_whole.new.board) c.in-Err.ensures.finishes c.in-Err.ensures.rests).0
 
 pub returns-in-Err-clause-stays : goal.returns-in-Err-clause-stays
 returns-in-Err-clause-stays g c =

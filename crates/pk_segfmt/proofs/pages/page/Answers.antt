@@ -17,8 +17,8 @@ returns-then-i-eq0 c =
     let rest : List ℕ = padded (c.args.shape.now.page_bytes - 32) (take (c.args.shape.now.page_bytes - 32) value) in
     c.put_rest.ensures
     ∙ ap (λ (n : ℕ). take 32 c.put_head.new.into ++ padded (n - 32) (take (n - 32) value)) size
-    ∙ ap (λ (r : List ℕ). r ++ rest) (c.put_head.ensures.front ∙ ap (λ (k : List ℕ). head_bytes k (length value)) c.bytes-key.ensures.value)
-    ∙ sym (first_page c.args.shape.now c.known.ensures c.args.key.now value c.bytes-key.ensures.key)
+    ∙ ap (λ (r : List ℕ). r ++ rest) c.put_head.ensures.front
+    ∙ sym (first_page c.args.shape.now c.known.ensures c.args.key.now value c.bytes.ensures.key)
     ∙ ap (page_of c.args.shape.now c.args.key.now value) first
 
 pub returns-else-i-eq0 : goal.returns-else-i-eq0
@@ -31,4 +31,4 @@ returns-else-i-eq0 c =
     ∙ ap (λ (r : List ℕ). padded (length c.args.into.now - 0) (take (length c.args.into.now - 0) r)) c.rest_of.ensures
     ∙ ap (λ (n : ℕ). padded n (take n (drop (c.args.i * length c.args.into.now - 32) value))) all
     ∙ ap (λ (k : ℕ). padded c.args.shape.now.page_bytes (take c.args.shape.now.page_bytes (drop k value))) start
-    ∙ sym (next_page c.args.shape.now c.known.ensures c.args.key.now value c.bytes-key.ensures.key c.args.i some c.requires.within)
+    ∙ sym (next_page c.args.shape.now c.known.ensures c.args.key.now value c.bytes.ensures.key c.args.i some c.requires.within)

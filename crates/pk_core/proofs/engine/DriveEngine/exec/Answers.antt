@@ -43,7 +43,7 @@ pub returns-in-None-clause-steady : goal.returns-in-None-clause-steady
 returns-in-None-clause-steady g c = rw (← c.self.view_is) (λ runs. steadies c.perform-outcome.new.parts (g.B.Nand.state c.args.board.now) (g.B.Nand.state c.perform-outcome.new.board) (sight_of c.self.inside.parts) (c.perform-outcome.ensures.executes.agrees runs) c.perform-outcome.ensures.executes.does.rest c.known-in-None.ensures)
 
 pub returns-in-None-clause-looks : goal.returns-in-None-clause-looks
-returns-in-None-clause-looks g c = rw (← c.self.view_is) (λ only. let is = c.perform-outcome.ensures.performs.looks only in (ap sight_of is.0, is.1))
+returns-in-None-clause-looks g c = rw (← c.self.view_is) c.perform-outcome.ensures.performs.looks
 
 pub returns-in-None-clause-flash_up : goal.returns-in-None-clause-flash_up
 returns-in-None-clause-flash_up g c = c.perform-outcome.ensures.executes.does.flash_up c.read_count.ensures.flash_faults

@@ -1,6 +1,7 @@
 use Rattle.pk_host.proofs.CauseLemmas.{caused_later}
 use Rattle.std.proofs.Common.{◌∙◌, ap, List, [], length, ◌-◌}
 use Rattle.std.specs.List.{slice_get}
+use Rattle.std.specs.Option.{option_copied}
 use Rattle.pk_base.specs.Key.{Key}
 use Rattle.pk_nvme.specs.Command.{key_or_none}
 use Rattle.pk_host.specs.Listing.{listed_by}
@@ -8,13 +9,13 @@ use Rattle.pk_host.proofs.PageLemmas.{more_lists, listing_goes, listing_ends}
 use Rattle.pk_host.proofs.host.Host.list_all.Goals as goal
 
 pub returns-in-Err-list_page-clause-took : goal.returns-in-Err-list_page-clause-took
-returns-in-Err-list_page-clause-took g c = more_lists g.P.Port.took g.met.P.Port.took_both _ _ _ _ c.loop.invariant.0 c.list_page.ensures.took
+returns-in-Err-list_page-clause-took g c = more_lists g.P.Port.took g.met.P.Port.took_both _ _ _ (key_or_none (option_copied c.last.result)) c.loop.invariant.0 c.list_page.ensures.took
 
 pub returns-then-not-add-clause-took : goal.returns-then-not-add-clause-took
-returns-then-not-add-clause-took g c = more_lists g.P.Port.took g.met.P.Port.took_both _ _ _ _ c.loop.invariant.0 c.list_page.ensures.took
+returns-then-not-add-clause-took g c = more_lists g.P.Port.took g.met.P.Port.took_both _ _ _ (key_or_none (option_copied c.last.result)) c.loop.invariant.0 c.list_page.ensures.took
 
 pub returns-in-Ok-false-clause-took : goal.returns-in-Ok-false-clause-took
-returns-in-Ok-false-clause-took g c = more_lists g.P.Port.took g.met.P.Port.took_both _ _ _ _ c.loop.invariant.0 c.list_page.ensures.took
+returns-in-Ok-false-clause-took g c = more_lists g.P.Port.took g.met.P.Port.took_both _ _ _ (key_or_none (option_copied c.last.result)) c.loop.invariant.0 c.list_page.ensures.took
 
 pub returns-in-Ok-false-clause-lists : goal.returns-in-Ok-false-clause-lists
 returns-in-Ok-false-clause-lists g c =
@@ -22,7 +23,7 @@ returns-in-Ok-false-clause-lists g c =
 
 pub loop-preserved : goal.loop-preserved
 loop-preserved g c = (
-  more_lists g.P.Port.took g.met.P.Port.took_both _ _ _ _ c.loop.invariant.0 c.list_page.ensures.took,
+  more_lists g.P.Port.took g.met.P.Port.took_both _ _ _ (key_or_none (option_copied c.last.result)) c.loop.invariant.0 c.list_page.ensures.took,
   listing_goes _ _ _ c.loop.all.items c.list_page.new.page _ _ c.loop.invariant.1 (ap key_or_none c.last.ensures.value ∙ ap (λ (xs : List Key). key_or_none (slice_get xs (length xs - 1))) c.deref.ensures.value) c.in-Ok-true.ensures.pages c.list_page.ensures.leaves (c.add.ensures c.if-not-add.false),
 )
 

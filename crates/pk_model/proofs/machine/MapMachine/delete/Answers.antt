@@ -9,7 +9,7 @@ use Rattle.pk_nvme.specs.Opcode.{op_of}
 use Rattle.pk_nvme.specs.declared.opcode.Opcode.TheVariants.{Delete}
 use Rattle.pk_model.specs.Answer.{check}
 use Rattle.pk_model.specs.Machine.{Machine, replied, Answers}
-use Rattle.pk_model.proofs.Answering.{key_sized}
+use Rattle.pk_model.proofs.Answering.{key_sized, key_spaced}
 use Rattle.pk_model.proofs.Machines.{refused_answer, served_answer, live_removed, turned}
 use Rattle.pk_model.proofs.machine.MapMachine.delete.Goals as goal
 
@@ -18,6 +18,11 @@ key-key-requires-clause-some c = (key_sized c.args.self.now.shape (command_of c.
 
 pub key-key-requires-clause-most : goal.key-key-requires-clause-most
 key-key-requires-clause-most c = (key_sized c.args.self.now.shape (command_of c.args.request.now []) Delete (λ n. refl) (ap op_of c.requires.opcode) (c.requires.passed [])).most
+
+pub key-key-requires-clause-space : goal.key-key-requires-clause-space
+key-key-requires-clause-space c =
+    let spaced = key_spaced c.args.self.now.shape (command_of c.args.request.now []) Delete (λ n. refl) (ap op_of c.requires.opcode) (c.requires.passed []) in
+    (spaced.some, spaced.most)
 
 pub returns-then-not-held-clause-ok : goal.returns-then-not-held-clause-ok
 returns-then-not-held-clause-ok c =

@@ -9,7 +9,7 @@ use Rattle.pk_nvme.specs.Opcode.{op_of}
 use Rattle.pk_nvme.specs.declared.opcode.Opcode.TheVariants.{Exist}
 use Rattle.pk_model.specs.Answer.{check, success}
 use Rattle.pk_model.specs.Machine.{replied, Answers}
-use Rattle.pk_model.proofs.Answering.{key_sized}
+use Rattle.pk_model.proofs.Answering.{key_sized, key_spaced}
 use Rattle.pk_model.proofs.Machines.{refused_answer, served_answer, found_some, found_none}
 use Rattle.pk_model.proofs.machine.MapMachine.exist.Goals as goal
 
@@ -18,6 +18,11 @@ key-requires-clause-some c = (key_sized c.args.self.now.shape (command_of c.args
 
 pub key-requires-clause-most : goal.key-requires-clause-most
 key-requires-clause-most c = (key_sized c.args.self.now.shape (command_of c.args.request.now []) Exist (λ n. refl) (ap op_of c.requires.opcode) (c.requires.passed [])).most
+
+pub key-requires-clause-space : goal.key-requires-clause-space
+key-requires-clause-space c =
+    let spaced = key_spaced c.args.self.now.shape (command_of c.args.request.now []) Exist (λ n. refl) (ap op_of c.requires.opcode) (c.requires.passed []) in
+    (spaced.some, spaced.most)
 
 pub returns-in-Some : goal.returns-in-Some
 returns-in-Some c =

@@ -8,7 +8,7 @@ use Rattle.pk_nvme.specs.declared.opcode.Opcode.TheVariants.{List as ListKeys}
 use Rattle.pk_model.specs.Answer.{success}
 use Rattle.pk_model.specs.Machine.{Answers}
 use Rattle.pk_model.specs.Listing.{offered_all}
-use Rattle.pk_model.proofs.Answering.{list_sized}
+use Rattle.pk_model.proofs.Answering.{list_sized, key_spaced}
 use Rattle.pk_model.proofs.Listings.{listed_answer}
 use Rattle.pk_model.proofs.Machines.{served_answer}
 use Rattle.pk_model.proofs.machine.MapMachine.list.Goals as goal
@@ -16,8 +16,11 @@ use Rattle.pk_model.proofs.machine.MapMachine.list.Goals as goal
 pub overflow_sub-min : goal.overflow_sub-min
 overflow_sub-min c = let sized = list_sized c.args.self.now.shape (command_of c.args.request.now []) (ap op_of c.requires.opcode) (c.requires.passed []) in omega (arith, sized.least, c.min.ensures)
 
-pub list_into-requires : goal.list_into-requires
-list_into-requires c = (list_sized c.args.self.now.shape (command_of c.args.request.now []) (ap op_of c.requires.opcode) (c.requires.passed [])).key_most
+pub list_into-requires-clause-len : goal.list_into-requires-clause-len
+list_into-requires-clause-len c = (list_sized c.args.self.now.shape (command_of c.args.request.now []) (ap op_of c.requires.opcode) (c.requires.passed [])).key_most
+
+pub list_into-requires-clause-space : goal.list_into-requires-clause-space
+list_into-requires-clause-space c = (key_spaced c.args.self.now.shape (command_of c.args.request.now []) ListKeys (λ n. refl) (ap op_of c.requires.opcode) (c.requires.passed [])).most
 
 pub returns : goal.returns
 returns c =

@@ -1,16 +1,14 @@
-use Rattle.std.proofs.Common.{◌∙◌, sym, ap, map, List, ℕ}
+use Rattle.std.proofs.Common.{◌∙◌, sym, ap, map, List, ℕ, ◌∷◌}
 use Rattle.std.specs.FinMap.{keys}
-use Rattle.std.specs.Option.{option_copied}
 use Rattle.pk_base.specs.Key.{Key}
 use Rattle.pk_base.specs.Map.{Map}
-use Rattle.pk_nvme.specs.Command.{key_or_none}
 use Rattle.pk_model.specs.Listing.{Listing, offered_all}
 use Rattle.pk_model.proofs.Tables.{entries-tree}
 use Rattle.pk_model.proofs.table.Table.list.Goals as goal
 
 pub returns : goal.returns
 returns c =
-    let from : Key = key_or_none (option_copied c.args.from) in
+    let from : Key = c.args.space ∷ c.args.from.now in
     let start : Listing = c.args.page.now in
     let listed : List Key → Listing = λ ks. offered_all from start ks in
     let inside : List (Key × List ℕ) = c.self.inside.entries.entries in

@@ -1,4 +1,5 @@
 use Rattle.pk_parts.proofs.Halves.{may_commit}
+use Rattle.pk_parts.proofs.Stopping.{stopped_kept}
 use Rattle.pk_parts.proofs.Steps.{none_step}
 use Rattle.std.proofs.Common.{refl}
 use Rattle.pk_parts.proofs.Staying.{stays_same}
@@ -25,3 +26,6 @@ returns-then-pending-entries-clause-calls g c =
 
 pub returns-else-pending-entries-clause-calls : goal.returns-else-pending-entries-clause-calls
 returns-else-pending-entries-clause-calls g c = few_same _ (g.B.Nand.state c.args.board.now) _ refl
+
+pub returns-then-pending-entries-clause-stops : goal.returns-then-pending-entries-clause-stops
+returns-then-pending-entries-clause-stops g c = stopped_kept c.commit_pending.result c.args.self.now c.commit_pending.new.self c.commit_pending.ensures.kept

@@ -1,40 +1,16 @@
-use Rattle.pk_parts.proofs.Committing.{commit_step, rest_ok, left_ok, some_programs, all_programs, nothing_done}
-use Rattle.pk_parts.proofs.Sights.{seen_ok}
-use Rattle.pk_parts.proofs.Staying.{commit_stays_ok}
+use Rattle.std.proofs.Common.{◌∙◌, ap, true}
+use Rattle.pk_parts.specs.Parts.{Parts}
+use Rattle.pk_parts.proofs.Halves.{not_made}
+use Rattle.pk_parts.proofs.Stopping.{breaks_step, breaks_off}
 use Rattle.pk_parts.proofs.parts.Parts.commit_pending.Goals as goal
 
-pub returns-clause-step : goal.returns-clause-step
-returns-clause-step g c =
-    let e = c.commit.ensures in
-    let r = rw (← c.self.view_is) at c.requires in
-    rw (← c.self.view_is) (commit_step c.commit.result _ c.commit.new.self (g.B.Nand.state c.args.board.now) (g.B.Nand.state c.commit.new.board) r.may e.ready e.ok e.stands e.holds e.cuts e.stopped e.err e.cuts_err)
+pub returns-in-Err-clause-step : goal.returns-in-Err-clause-step
+returns-in-Err-clause-step g c = breaks_step c.in-Err.fault c.fail.result c.commit_once.new.self c.fail.new.self c.fail.ensures.same c.fail.ensures.rest _ _ _ _ _ _ _ c.in-Err.ensures.step
 
-pub returns-clause-rest : goal.returns-clause-rest
-returns-clause-rest g c =
-    rw (← c.self.view_is) (rest_ok c.commit.result _ c.commit.new.self (g.B.Nand.state c.args.board.now) (g.B.Nand.state c.commit.new.board) c.commit.ensures.ok)
+pub returns-in-Err-clause-idle : goal.returns-in-Err-clause-idle
+returns-in-Err-clause-idle g c = λ none. absurd (not_made c.in-Err.fault (c.in-Err.ensures.idle none).0)
 
-pub returns-clause-pages_left : goal.returns-clause-pages_left
-returns-clause-pages_left g c =
-    rw (← c.self.view_is) (left_ok c.commit.result c.self.inside.log c.commit.new.self (g.B.Nand.state c.args.board.now) (g.B.Nand.state c.commit.new.board) c.commit.ensures.ok)
-
-pub returns-clause-program : goal.returns-clause-program
-returns-clause-program g c =
-    let e = c.commit.ensures in
-    rw (← c.self.view_is) (some_programs c.commit.result c.self.inside.log c.commit.new.self (g.B.Nand.state c.args.board.now) (g.B.Nand.state c.commit.new.board) e.ok e.err)
-
-pub returns-clause-programs : goal.returns-clause-programs
-returns-clause-programs g c =
-    rw (← c.self.view_is) (all_programs c.commit.result c.self.inside.log c.commit.new.self (g.B.Nand.state c.args.board.now) (g.B.Nand.state c.commit.new.board) c.commit.ensures.ok)
-
-pub returns-clause-idle : goal.returns-clause-idle
-returns-clause-idle g c =
-    let e = c.commit.ensures in
-    rw (← c.self.view_is) (nothing_done c.commit.result _ c.commit.new.self (g.B.Nand.state c.args.board.now) (g.B.Nand.state c.commit.new.board) e.ok e.err)
-
-pub returns-clause-seen : goal.returns-clause-seen
-returns-clause-seen g c =
-    rw (← c.self.view_is) (seen_ok c.commit.result (record { log = c.self.inside.log; levels = c.self.inside.levels; arena = c.self.inside.arena; schedule = c.self.inside.schedule; space = c.self.inside.space; reclaim = c.self.inside.reclaim; pool = c.self.inside.pool; keys = c.self.inside.keys; stopped = c.self.inside.stopped }) c.commit.new.self (g.B.Nand.state c.args.board.now) (g.B.Nand.state c.commit.new.board) c.commit.ensures.ok)
-
-pub returns-clause-moves : goal.returns-clause-moves
-returns-clause-moves g c =
-    rw (← c.self.view_is) (commit_stays_ok c.commit.result _ c.commit.new.self (g.B.Nand.state c.args.board.now) (g.B.Nand.state c.commit.new.board) c.commit.ensures.ok)
+pub returns-in-Err-clause-kept : goal.returns-in-Err-clause-kept
+returns-in-Err-clause-kept g c =
+    breaks_off c.in-Err.fault c.fail.result c.commit_once.new.self c.fail.new.self c.fail.ensures.same c.fail.ensures.rest c.in-Err.ensures.step.stopped
+    ∙ ap (λ (d : Parts). record d { stopped = true }) c.in-Err.ensures.kept

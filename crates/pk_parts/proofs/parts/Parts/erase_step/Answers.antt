@@ -1,3 +1,5 @@
+use Rattle.std.proofs.Common.{ap, true}
+use Rattle.pk_parts.specs.Parts.{Parts}
 use Rattle.pk_pool.proofs.Leaving.{unfreed_fits}
 use Rattle.pk_parts.proofs.Advancing.{erase_advances, idle_advances, erase_failed}
 use Rattle.pk_parts.proofs.Ticking.{one_erased, none_erased}
@@ -20,4 +22,6 @@ returns-in-Ok-false g c =
 pub returns-in-Err : goal.returns-in-Err
 returns-in-Err g c =
     let e = c.in-Err.ensures in
-    erase_failed c.args.self.now (g.B.Nand.state c.args.board.now) (g.B.Nand.state c.erase_spare.new.board) c.requires.may c.requires.whole c.erase_spare.new.self e.failed e.stops c.erase_spare.ensures.shared
+    let later : Parts = record c.erase_spare.new.self { stopped = true } in
+    rw (c.stop.ensures.stopped, c.stop.ensures.value)
+    (erase_failed c.args.self.now (g.B.Nand.state c.args.board.now) (g.B.Nand.state c.erase_spare.new.board) c.requires.may c.requires.whole later e.failed (ap (λ (d : Parts). record d { stopped = true }) e.kept) c.erase_spare.ensures.shared)

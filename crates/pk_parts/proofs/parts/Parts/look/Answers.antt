@@ -10,7 +10,7 @@ use Rattle.pk_parts.proofs.parts.Parts.look.Goals as goal
 pub returns-clause-looks : goal.returns-clause-looks
 returns-clause-looks g c =
     let flash = (g.B.Nand.state c.args.board.now).pages in
-    let parts : Parts = record { log = c.self.inside.log; levels = c.self.inside.levels; arena = c.self.inside.arena; schedule = c.self.inside.schedule; space = c.self.inside.space; reclaim = c.self.inside.reclaim; pool = c.self.inside.pool; keys = c.self.inside.keys; stopped = c.self.inside.stopped } in
+    let parts : Parts = record { log = c.self.inside.log; levels = c.self.inside.levels; arena = c.self.inside.arena; schedule = c.self.inside.schedule; space = c.self.inside.space; reclaim = c.self.inside.reclaim; pool = c.self.inside.pool; keys = c.self.inside.keys; stopped = c.self.inside.stopped; walk = c.self.inside.walk } in
     let T : Parts → Type 0 = λ d. IfOk c.place_found.result (λ p. Looks d flash c.args.key.now p) in
     subst T c.self.view_is (subst (λ r. IfOk r (λ p. Looks parts flash c.args.key.now p)) (sym c.place_found.ensures) (looks_found parts flash c.args.key.now c.find_entry.result c.find_entry.ensures.found))
 

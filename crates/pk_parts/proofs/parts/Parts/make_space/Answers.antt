@@ -1,6 +1,7 @@
-use Rattle.std.proofs.Common.{arith}
+use Rattle.std.proofs.Common.{arith, Err}
 use Rattle.pk_work.specs.Calls.{commit_calls, room_roots}
 use Rattle.pk_parts.proofs.ReadSteps.{running_stopped}
+use Rattle.pk_parts.proofs.Stopping.{stopped_kept}
 use Rattle.pk_parts.proofs.Steps.{shape_committed, leaves_committed}
 use Rattle.pk_parts.proofs.Callings.{few_within, few_commit, spends_still}
 use Rattle.pk_parts.specs.Costs.{reclaim_calls}
@@ -57,3 +58,6 @@ returns-in-Err-clause-spends g c =
     let e = c.commit_pending.ensures in
     let most = reclaim_calls a.log.shape in
     spends_still most room_roots s0 s1 (few_within commit_calls most s0 s1 (omega arith) (few_commit a.log.pending s0 s1 e.program e.idle)) e.step.roots_few
+
+pub returns-in-Err-clause-stops : goal.returns-in-Err-clause-stops
+returns-in-Err-clause-stops g c = stopped_kept (Err c.in-Err.fault) c.args.self.now c.commit_pending.new.self c.in-Err.ensures.kept

@@ -1,5 +1,5 @@
 use Rattle.pk_parts.proofs.Entries.{old_short, keys_small, put_moves, put_stands}
-use Rattle.std.proofs.Common.{ap}
+use Rattle.std.proofs.Common.{ℕ, ap}
 use Rattle.pk_parts.proofs.Staying.{note_stays}
 use Rattle.pk_parts.proofs.Noted.{put_noted}
 use Rattle.pk_parts.proofs.Programming.{pushed_more}
@@ -14,8 +14,8 @@ pub replace-requires : goal.replace-requires
 replace-requires g c =
     let p = rw (← c.self.view_is) at c.requires.puts in
     let before = rw (c.shape-shape.ensures, ← c.self.view_is) at c.span_if_there-before.ensures in
-    let now = rw (c.shape-shape.ensures, ← c.self.view_is) at c.span_at-now.ensures in
-    put_moves _ p.0 p.1 c.args.key p.2 c.args.page c.args.len c.args.old p.3 p.4 c.span_if_there-before.result c.span_at-now.result before now
+    let now = ap (λ (n : ℕ). record { page = c.args.page; count = n }) (rw (← c.self.view_is) at c.requires.counted) in
+    put_moves _ p.0 p.1 c.args.key p.2 c.args.page c.args.len c.args.old p.3 p.4 c.span_if_there-before.result (record { page = c.args.page; count = c.args.count }) before now
 
 pub more_keys-self-inside-requires : goal.more_keys-self-inside-requires
 more_keys-self-inside-requires g c =
@@ -26,13 +26,13 @@ pub returns-clause-stands : goal.returns-clause-stands
 returns-clause-stands g c shape flash m value is_len puts =
     let p = rw (← c.self.view_is) at puts in
     let before = rw (c.shape-shape.ensures, ← c.self.view_is) at c.span_if_there-before.ensures in
-    let now = rw (c.shape-shape.ensures, ← c.self.view_is) at c.span_at-now.ensures in
-    put_stands _ shape flash m c.args.key value c.args.page c.args.len c.args.old is_len p c.push.new.self c.replace.new.self c.more_keys-self-inside.result c.span_if_there-before.result c.span_at-now.result
+    let now = ap (λ (n : ℕ). record { page = c.args.page; count = n }) (rw (← c.self.view_is) at c.requires.counted) in
+    put_stands _ shape flash m c.args.key value c.args.page c.args.len c.args.old is_len p c.push.new.self c.replace.new.self c.more_keys-self-inside.result c.span_if_there-before.result (record { page = c.args.page; count = c.args.count })
     (record { pushed_is = c.push.ensures.pushed; stands = c.push.ensures.stands; fits_in = c.push.ensures.fits }) before now c.replace.ensures.moved c.replace.ensures.placed c.more_keys-self-inside.ensures
 
 pub returns-clause-moves : goal.returns-clause-moves
 returns-clause-moves g c =
-    rw (← c.self.view_is) (note_stays (record { log = c.self.inside.log; levels = c.self.inside.levels; arena = c.self.inside.arena; schedule = c.self.inside.schedule; space = c.self.inside.space; reclaim = c.self.inside.reclaim; pool = c.self.inside.pool; keys = c.self.inside.keys; stopped = c.self.inside.stopped }) _ c.push.new.self c.replace.new.self c.more_keys-self-inside.result c.push.ensures.pushed (ap (λ s. s.open_block) c.replace.ensures.moved))
+    rw (← c.self.view_is) (note_stays (record { log = c.self.inside.log; levels = c.self.inside.levels; arena = c.self.inside.arena; schedule = c.self.inside.schedule; space = c.self.inside.space; reclaim = c.self.inside.reclaim; pool = c.self.inside.pool; keys = c.self.inside.keys; stopped = c.self.inside.stopped; walk = c.self.inside.walk }) _ c.push.new.self c.replace.new.self c.more_keys-self-inside.result c.push.ensures.pushed (ap (λ s. s.open_block) c.replace.ensures.moved))
 
 pub returns-clause-noted : goal.returns-clause-noted
 returns-clause-noted g c =

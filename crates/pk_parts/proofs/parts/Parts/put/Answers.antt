@@ -1,12 +1,13 @@
-use Rattle.std.proofs.Common.{ap, ◌≤◌, length, Err, arith}
+use Rattle.std.proofs.Common.{◌∙◌, sym, ap, ◌≤◌, length, Err, arith}
 use Rattle.pk_base.specs.Shape.{charge}
 use Rattle.pk_parts.specs.Parts.{Parts}
 use Rattle.pk_parts.specs.Changes.{StaysBetween}
-use Rattle.pk_parts.specs.Moves.{LeavesValues}
+use Rattle.pk_parts.specs.Moves.{KeepsAll, LeavesValues}
 use Rattle.pk_parts.specs.Staying.{Stays, StaysOrOpens}
 use Rattle.pk_parts.proofs.Steps.{can_put_after, still_room, step_puts_later, stays_then, stays_kept, put_failed_before}
 use Rattle.pk_parts.proofs.ReadSteps.{running_ok, running_failed, running_both}
 use Rattle.pk_parts.proofs.Staying.{stays_opens, opens_put}
+use Rattle.pk_parts.proofs.Stopping.{fails_running, fails_step, fails_stopped}
 use Rattle.pk_parts.proofs.Quieted.{put_reads_none}
 use Rattle.pk_parts.proofs.Programming.{put_idle}
 use Rattle.pk_parts.proofs.Callings.{spends_still, spends_within}
@@ -14,12 +15,12 @@ use Rattle.pk_parts.proofs.StoreCalls.{spends_put}
 use Rattle.pk_parts.proofs.parts.Parts.put.Goals as goal
 
 pub make_room-requires-clause-may : goal.make_room-requires-clause-may
-make_room-requires-clause-may g c = record { ready = c.requires.can.ready; stands = (c.requires.can.may.0, c.requires.can.may.1.stands) }
+make_room-requires-clause-may g c = record { ready = c.requires.can.0.ready; stands = (c.requires.can.0.may.0, c.requires.can.0.may.1.stands) }
 
 pub put_with_room-requires-clause-can : goal.put_with_room-requires-clause-can
 put_with_room-requires-clause-can g c =
     let e = c.in-Ok.ensures in
-    can_put_after c.args.self.now c.make_room.new.self _ (g.B.Nand.state c.args.board.now) (g.B.Nand.state c.make_room.new.board) tt e.leaves e.pending e.step c.args.key c.args.value.now c.args.old c.requires.can
+    (can_put_after c.args.self.now c.make_room.new.self _ (g.B.Nand.state c.args.board.now) (g.B.Nand.state c.make_room.new.board) tt e.leaves e.pending e.step c.args.key c.args.value.now c.args.old c.requires.can.0, c.requires.can.1 ∙ ap (λ s. charge s (length c.args.value.now)) (sym e.leaves.same_shape))
 
 pub put_with_room-requires-clause-room : goal.put_with_room-requires-clause-room
 put_with_room-requires-clause-room g c =
@@ -30,7 +31,7 @@ pub returns-in-Ok-clause-step : goal.returns-in-Ok-clause-step
 returns-in-Ok-clause-step g c =
     let e = c.in-Ok.ensures in
     step_puts_later c.args.self.now c.make_room.new.self _ (g.B.Nand.state c.args.board.now) (g.B.Nand.state c.make_room.new.board) tt e.leaves e.pending e.step c.put_with_room.result c.put_with_room.new.self (g.B.Nand.state c.put_with_room.new.board)
-    c.requires.can.ready c.args.key c.args.value.now c.args.old c.put_with_room.ensures.step
+    c.requires.can.0.ready c.args.key c.args.value.now c.args.old c.put_with_room.ensures.step
 
 pub returns-in-Ok-clause-stays : goal.returns-in-Ok-clause-stays
 returns-in-Ok-clause-stays g c =
@@ -53,21 +54,24 @@ returns-in-Ok-clause-quiet g c = put_reads_none c.put_with_room.result c.args.se
 
 pub returns-in-Err-clause-step : goal.returns-in-Err-clause-step
 returns-in-Err-clause-step g c =
-    put_failed_before c.in-Err.fault c.args.self.now c.make_room.new.self _ (g.B.Nand.state c.args.board.now) (g.B.Nand.state c.make_room.new.board) c.requires.can.ready c.in-Err.ensures.step c.args.key c.args.value.now c.args.old
+    fails_step c.in-Err.fault c.fail.result c.make_room.new.self c.fail.new.self c.fail.ensures.same c.fail.ensures.rest _ _ (λ e. KeepsAll c.args.self.now e (g.B.Nand.state c.args.board.now) (g.B.Nand.state c.make_room.new.board)) _ _ _ _ _
+    (put_failed_before c.in-Err.fault c.args.self.now c.make_room.new.self _ (g.B.Nand.state c.args.board.now) (g.B.Nand.state c.make_room.new.board) c.requires.can.0.ready c.in-Err.ensures.step c.args.key c.args.value.now c.args.old)
 
 pub returns-in-Err-clause-stays : goal.returns-in-Err-clause-stays
 returns-in-Err-clause-stays g c =
     let e = c.in-Err.ensures in
     let a = c.args.self.now in
     let b = c.make_room.new.self in
-    running_failed Unit Unit (LeavesValues a b × (length b.log.pending ≤ length a.log.pending)) (StaysBetween a b) c.in-Err.fault (λ is. stays_kept a b is.0 is.1 c.requires.can.few) (running_both {T = Unit {0}} (LeavesValues a b) (length b.log.pending ≤ length a.log.pending) (Err c.in-Err.fault) e.leaves e.pending)
+    fails_running c.in-Err.fault c.fail.result c.make_room.new.self c.fail.new.self c.fail.ensures.same c.fail.ensures.rest (λ x. StaysBetween c.args.self.now x)
+    (running_failed Unit Unit (LeavesValues a b × (length b.log.pending ≤ length a.log.pending)) (StaysBetween a b) c.in-Err.fault (λ is. stays_kept a b is.0 is.1 c.requires.can.0.few) (running_both {T = Unit {0}} (LeavesValues a b) (length b.log.pending ≤ length a.log.pending) (Err c.in-Err.fault) e.leaves e.pending))
 
 pub returns-in-Err-clause-opens : goal.returns-in-Err-clause-opens
 returns-in-Err-clause-opens g c =
     let a = c.args.self.now in
     let b = c.make_room.new.self in
     let count = charge a.log.shape (length c.args.value.now) in
-    running_failed Unit Unit (Stays a b) (StaysOrOpens a b count) c.in-Err.fault (stays_opens a b count) c.in-Err.ensures.moves
+    fails_running c.in-Err.fault c.fail.result c.make_room.new.self c.fail.new.self c.fail.ensures.same c.fail.ensures.rest (λ x. StaysOrOpens c.args.self.now x (charge c.args.self.now.log.shape (length c.args.value.now)))
+    (running_failed Unit Unit (Stays a b) (StaysOrOpens a b count) c.in-Err.fault (stays_opens a b count) c.in-Err.ensures.moves)
 
 pub returns-in-Ok-clause-spends : goal.returns-in-Ok-clause-spends
 returns-in-Ok-clause-spends g c =
@@ -76,3 +80,6 @@ returns-in-Ok-clause-spends g c =
 
 pub returns-in-Err-clause-spends : goal.returns-in-Err-clause-spends
 returns-in-Err-clause-spends g c = spends_within _ _ _ _ _ _ (omega arith) (omega arith) c.make_room.ensures.spends
+
+pub returns-in-Err-clause-stops : goal.returns-in-Err-clause-stops
+returns-in-Err-clause-stops g c = fails_stopped c.in-Err.fault c.fail.result c.make_room.new.self c.fail.new.self c.fail.ensures.same c.fail.ensures.rest

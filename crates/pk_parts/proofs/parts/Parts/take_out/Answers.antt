@@ -1,10 +1,11 @@
 use Rattle.std.proofs.Common.{◌≤◌, length, Err, arith}
 use Rattle.pk_parts.specs.Changes.{StaysBetween}
-use Rattle.pk_parts.specs.Moves.{LeavesValues}
+use Rattle.pk_parts.specs.Moves.{KeepsAll, LeavesValues}
 use Rattle.pk_parts.specs.Staying.{Stays}
 use Rattle.pk_parts.proofs.Steps.{can_take_after, step_takes_later, stays_then, stays_kept, take_failed_before}
 use Rattle.pk_parts.proofs.ReadSteps.{running_ok, running_failed, running_both}
 use Rattle.pk_parts.proofs.Staying.{stays_then as stays_twice}
+use Rattle.pk_parts.proofs.Stopping.{fails_running, fails_step, fails_stopped}
 use Rattle.pk_parts.proofs.Quieted.{put_reads_none}
 use Rattle.pk_parts.proofs.Programming.{take_idle}
 use Rattle.pk_parts.proofs.Callings.{spends_still, spends_within, spends_then}
@@ -45,14 +46,17 @@ pub returns-in-Ok-clause-quiet : goal.returns-in-Ok-clause-quiet
 returns-in-Ok-clause-quiet g c = put_reads_none c.take_with_room.result c.args.self.now c.make_room.new.self (g.B.Nand.state c.args.board.now) (g.B.Nand.state c.make_room.new.board) (g.B.Nand.state c.take_with_room.new.board) c.args.key c.in-Ok.ensures.idle c.take_with_room.ensures.step.works
 
 pub returns-in-Err-clause-step : goal.returns-in-Err-clause-step
-returns-in-Err-clause-step g c = take_failed_before c.in-Err.fault c.args.self.now c.make_room.new.self _ (g.B.Nand.state c.args.board.now) (g.B.Nand.state c.make_room.new.board) c.requires.can.ready c.in-Err.ensures.step c.args.key c.args.old
+returns-in-Err-clause-step g c =
+    fails_step c.in-Err.fault c.fail.result c.make_room.new.self c.fail.new.self c.fail.ensures.same c.fail.ensures.rest _ _ (λ e. KeepsAll c.args.self.now e (g.B.Nand.state c.args.board.now) (g.B.Nand.state c.make_room.new.board)) _ _ _ _ _
+    (take_failed_before c.in-Err.fault c.args.self.now c.make_room.new.self _ (g.B.Nand.state c.args.board.now) (g.B.Nand.state c.make_room.new.board) c.requires.can.ready c.in-Err.ensures.step c.args.key c.args.old)
 
 pub returns-in-Err-clause-stays : goal.returns-in-Err-clause-stays
 returns-in-Err-clause-stays g c =
     let e = c.in-Err.ensures in
     let a = c.args.self.now in
     let b = c.make_room.new.self in
-    running_failed Unit Unit (LeavesValues a b × (length b.log.pending ≤ length a.log.pending)) (StaysBetween a b) c.in-Err.fault (λ is. stays_kept a b is.0 is.1 c.requires.can.few) (running_both {T = Unit {0}} (LeavesValues a b) (length b.log.pending ≤ length a.log.pending) (Err c.in-Err.fault) e.leaves e.pending)
+    fails_running c.in-Err.fault c.fail.result c.make_room.new.self c.fail.new.self c.fail.ensures.same c.fail.ensures.rest (λ x. StaysBetween c.args.self.now x)
+    (running_failed Unit Unit (LeavesValues a b × (length b.log.pending ≤ length a.log.pending)) (StaysBetween a b) c.in-Err.fault (λ is. stays_kept a b is.0 is.1 c.requires.can.few) (running_both {T = Unit {0}} (LeavesValues a b) (length b.log.pending ≤ length a.log.pending) (Err c.in-Err.fault) e.leaves e.pending))
 
 pub returns-in-Ok-clause-spends : goal.returns-in-Ok-clause-spends
 returns-in-Ok-clause-spends g c =
@@ -61,3 +65,9 @@ returns-in-Ok-clause-spends g c =
 
 pub returns-in-Err-clause-spends : goal.returns-in-Err-clause-spends
 returns-in-Err-clause-spends g c = spends_within _ _ _ _ _ _ (omega arith) (omega arith) c.make_room.ensures.spends
+
+pub returns-in-Err-clause-moves : goal.returns-in-Err-clause-moves
+returns-in-Err-clause-moves g c = fails_running c.in-Err.fault c.fail.result c.make_room.new.self c.fail.new.self c.fail.ensures.same c.fail.ensures.rest (λ x. Stays c.args.self.now x) c.in-Err.ensures.moves
+
+pub returns-in-Err-clause-stops : goal.returns-in-Err-clause-stops
+returns-in-Err-clause-stops g c = fails_stopped c.in-Err.fault c.fail.result c.make_room.new.self c.fail.new.self c.fail.ensures.same c.fail.ensures.rest
