@@ -311,6 +311,7 @@ impl Nand for FileBoard<'_> {
         // so that these counts are known to be of 64 bits
         let _read_faults = self.read_faults;
         let _flash_faults = self.flash_faults;
+        let _stop_faults = self.stop_faults;
         self.reads
     }
 }
