@@ -49,7 +49,7 @@ none_below (x ∷ xs) = refl
 not_below : (b : ℕ) (bytes : List ℕ) → is_lt (key_cmp (b ∷ bytes) (0 ∷ [])) ≡ false
 not_below b bytes =
     let no : nat_lt b 0 ≡ false = grind (arith, nat_tests) in
-    rw no (elim (b == 0) as (λ e. is_lt (ordering_then (cond e Equal Greater) (key_cmp bytes [])) ≡ false) [ | true ↦ none_below bytes | false ↦ refl ])
+    rw no (elim (b == 0) as (λ e. is_lt (ordering_then (cond e Equal Greater) (key_cmp bytes [])) ≡ false) [ true ↦ none_below bytes | false ↦ refl ])
 
 -- In a namespace no key is below the one of the byte 0, since each has a byte.
 pub least_key : (n : ℕ) (key : Key) → IsKey key → is_lt (key_cmp key (n ∷ 0 ∷ [])) ≡ is_lt (key_cmp key (n ∷ []))

@@ -7,7 +7,8 @@ use Rattle.pk_base.specs.declared.sizes.TheConstants.{MOST_SPACES}
 use Rattle.pk_base.specs.Key.{Key, IsKey, is_key, space_of, bytes_of}
 use Rattle.pk_base.specs.Shape.{Shape, page_entries}
 use Rattle.pk_base.specs.Entry.{Entry}
-use Rattle.pk_base.specs.EntryBytes.{IsEntry, is_place_page, is_place_len, is_place_of, is_entry, AreEntries, are_entries}
+use Rattle.pk_base.specs.EntryBytes.{is_place_page, is_place_len, is_place_of, is_entry, are_entries}
+use Rattle.pk_base.specs.EntryChecks.{IsEntry, AreEntries}
 use Rattle.pk_base.proofs.EntryLemmas.{place_is, is_place}
 use Rattle.pk_base.proofs.Logic.{both_true}
 

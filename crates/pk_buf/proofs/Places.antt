@@ -1,5 +1,6 @@
 -- A list with rising keys: the place of a key, and an entry written there.
-use Rattle.std.proofs.Common.{◌≡◌, ℕ, zero, suc, ◌+◌, ◌<◌, ◌≤◌, Bool, true, false, T, List, [], ◌∷◌, length, take, drop, get_or, set, refl, ap, sym, ◌∙◌, arith, ◌⊎◌, inl, inr, Option, Some, None, IsSome, Ordering, Less, Equal, Greater, length-set}
+use Rattle.std.proofs.Common.{◌≡◌, ℕ, zero, suc, ◌+◌, ◌<◌, ◌≤◌, Bool, true, false, T, List, [], ◌∷◌, length, take, drop, get_or, set, refl, ap, sym, ◌∙◌, arith, ◌⊎◌, inl, inr, Option, Some, None}
+use Rattle.std.proofs.Common.{IsSome, Ordering, Less, Equal, Greater, length-set}
 use Rattle.std.specs.Prelude.{slice_get}
 use Rattle.std.specs.List.{AllWithin, insert, refill, take-map, drop-map}
 use Rattle.std.specs.List.Sorted.{IsPartitionedBy, IsPartitionPoint}
@@ -48,19 +49,21 @@ point_is k (x ∷ xs) (suc i) le point =
     (ap suc (point_is k xs i (omega arith) (λ j d h l. point.0 (suc j) d (omega arith) (omega arith), λ j d h l. point.1 (suc j) d (omega arith) (omega arith))))
 
 -- what a binary search learns at its middle
-pub front_to : (k : Key) (xs : List Slot) (m : ℕ) (x : Slot) → T (is_sorted key_cmp (contents xs)) → m < length xs → x ≡ get_or xs m x → is_below k (content x) ≡ true → AllWithin (λ y. is_below k (content y) ≡ true) xs 0 (m + 1)
+pub front_to : (k : Key) (xs : List Slot) (m : ℕ) (x : Slot) → T (is_sorted key_cmp (contents xs)) → m < length xs
+    → x ≡ get_or xs m x → is_below k (content x) ≡ true → AllWithin (λ y. is_below k (content y) ≡ true) xs 0 (m + 1)
 front_to k xs m x up h read b j d le lt = partitioned k xs up j m d (omega arith) h (rw (get_or_default xs m d x h, ← read) b)
 
-pub back_from : (k : Key) (xs : List Slot) (m : ℕ) (x : Slot) → T (is_sorted key_cmp (contents xs)) → m < length xs → x ≡ get_or xs m x → is_below k (content x) ≡ false → AllWithin (λ y. is_below k (content y) ≡ false) xs m (length xs)
+pub back_from : (k : Key) (xs : List Slot) (m : ℕ) (x : Slot) → T (is_sorted key_cmp (contents xs)) → m < length xs
+    → x ≡ get_or xs m x → is_below k (content x) ≡ false → AllWithin (λ y. is_below k (content y) ≡ false) xs m (length xs)
 back_from k xs m x up h read b j d le lt =
     elim (is_below k (content (get_or xs j d))) as (λ v. is_below k (content (get_or xs j d)) ≡ v → v ≡ false) [
       | true ↦ λ t. absurd (false≢true (sym (rw (get_or_default xs m d x h, ← read) b) ∙ partitioned k xs up m j d le lt t))
       | false ↦ λ t. refl
     ] refl
 
--- ---- a key that is there, and one that is not
+-- ---- a key that exists, and one that is not
 
--- at the place of a key that is there, a write is the entry put
+-- at the place of a key that exists, a write is the entry put
 set_step : (o : Ordering) (k : Key) (v : Option Place) (f : Entry) (fs : List Entry) → key_cmp f.0 k ≡ o
     → (has_at k fs (place_of k fs) ≡ true → set fs (place_of k fs) (k, v) ≡ put key_cmp k v fs)
     → has_at k (f ∷ fs) (place_of k (f ∷ fs)) ≡ true → set (f ∷ fs) (place_of k (f ∷ fs)) (k, v) ≡ put key_cmp k v (f ∷ fs)
@@ -84,7 +87,7 @@ insert_is_put : (k : Key) (v : Option Place) (es : List Entry) → has_at k es (
 insert_is_put k v [] h = refl
 insert_is_put k v (f ∷ fs) h = insert_step (key_cmp f.0 k) k v f fs refl (insert_is_put k v fs) h
 
--- a key that is there is found at its place
+-- a key that exists is found at its place
 found_step : (o : Ordering) (k : Key) (f : Entry) (fs : List Entry) → key_cmp f.0 k ≡ o
     → (has_at k fs (place_of k fs) ≡ true → find key_cmp k fs ≡ option_map (λ e. e.1) (slice_get fs (place_of k fs)))
     → has_at k (f ∷ fs) (place_of k (f ∷ fs)) ≡ true → find key_cmp k (f ∷ fs) ≡ option_map (λ e. e.1) (slice_get (f ∷ fs) (place_of k (f ∷ fs)))
@@ -144,13 +147,15 @@ room_in k xs i n up at has some =
     ]
 
 -- what a write leaves
-pub put_found : (xs : List Slot) (x : Slot) (i : ℕ) → i ≡ place_of (content x).0 (contents xs) → has_at (content x).0 (contents xs) i ≡ true → contents (set xs i x) ≡ put key_cmp (content x).0 (content x).1 (contents xs)
+pub put_found : (xs : List Slot) (x : Slot) (i : ℕ) → i ≡ place_of (content x).0 (contents xs)
+    → has_at (content x).0 (contents xs) i ≡ true → contents (set xs i x) ≡ put key_cmp (content x).0 (content x).1 (contents xs)
 put_found xs x i at has = map-set content xs i x ∙ rw at (set_is_put (content x).0 (content x).1 (contents xs) (rw (← at) has))
 
 map-insert : (xs : List Slot) (i : ℕ) (x : Slot) → contents (insert xs i x) ≡ insert (contents xs) i (content x)
 map-insert xs i x = map-append content (take i xs) (x ∷ drop i xs) ∙ rw (take-map content i xs, drop-map content i xs) refl
 
-pub put_absent : (xs : List Slot) (x : Slot) (i : ℕ) → i ≡ place_of (content x).0 (contents xs) → has_at (content x).0 (contents xs) i ≡ false → contents (insert xs i x) ≡ put key_cmp (content x).0 (content x).1 (contents xs)
+pub put_absent : (xs : List Slot) (x : Slot) (i : ℕ) → i ≡ place_of (content x).0 (contents xs)
+    → has_at (content x).0 (contents xs) i ≡ false → contents (insert xs i x) ≡ put key_cmp (content x).0 (content x).1 (contents xs)
 put_absent xs x i at has = map-insert xs i x ∙ rw at (insert_is_put (content x).0 (content x).1 (contents xs) (rw (← at) has))
 
 -- what a write through the slice leaves

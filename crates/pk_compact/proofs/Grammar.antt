@@ -1,5 +1,6 @@
 -- The root of a freeze is one of the grammar.
-use Rattle.std.proofs.Common.{◌≡◌, inl, inr, ℕ, ◌+◌, ◌<◌, ◌≤◌, sym, ap, subst, ◌∙◌, arith, Bool, true, false, not, ◌&&◌, ◌||◌, T, List, [], ◌∷◌, ◌++◌, length, nat_le, nat_lt, ◌==◌, leb→le, le→leb, eqb→eq, append-nil}
+use Rattle.std.proofs.Common.{◌≡◌, inl, inr, ℕ, ◌+◌, ◌<◌, ◌≤◌, sym, ap, subst, ◌∙◌, arith, Bool, true, false, not, ◌&&◌, ◌||◌, T, List, [], ◌∷◌, ◌++◌, length, nat_le, nat_lt, ◌==◌, leb→le, le→leb}
+use Rattle.std.proofs.Common.{eqb→eq, append-nil}
 use Rattle.std.specs.List.{list_any, list_all, concat}
 use Rattle.pk_base.specs.Shape.{Shape}
 use Rattle.pk_rootfmt.specs.Root.{Root, named, is_root, is_number, has_runs, differ}
@@ -103,12 +104,14 @@ module _ (shape : Shape) (root : Root) (first second : ℕ) (is : T (is_root sha
   rest_differs = subst (λ xs. T (differ xs)) named_rest was.different
 
   number_small : T (is_number (root.number + 1))
-  number_small = both (nat_le 1 (root.number + 1)) (nat_lt (root.number + 1) 18446744073709551616) (le→leb 1 (root.number + 1) (omega arith)) (less (root.number + 1) 18446744073709551616 (omega (arith, small)))
+  number_small = both (nat_le 1 (root.number + 1)) (nat_lt (root.number + 1) 18446744073709551616)
+      (le→leb 1 (root.number + 1) (omega arith)) (less (root.number + 1) 18446744073709551616 (omega (arith, small)))
 
   pub next_is_root : (b : Bool) → T (is_root shape (next_root root (first ∷ second ∷ []) b))
   next_is_root true =
       let k = was in
-      all_parts (is_number (root.number + 1)) (nat_le 1 (root.epoch + 1)) (nat_le (root.epoch + 1) (root.number + 1)) true (length root.newest == 0 || (length root.newest == 2 && nat_le 2 (root.epoch + 1)))
+      all_parts (is_number (root.number + 1)) (nat_le 1 (root.epoch + 1)) (nat_le (root.epoch + 1) (root.number + 1)) true
+      (length root.newest == 0 || (length root.newest == 2 && nat_le 2 (root.epoch + 1)))
       (has_runs shape root) (list_all (in_flash shape) (first ∷ second ∷ rest)) (differ (first ∷ second ∷ rest))
       number_small (le→leb 1 (root.epoch + 1) (omega arith)) (le→leb (root.epoch + 1) (root.number + 1) (let most = k.epoch_most in omega (arith, most))) tt
       (older_two (length root.newest) (root.epoch + 1) k.two (let least = k.epoch_least in omega (arith, least)))
@@ -124,5 +127,6 @@ module _ (shape : Shape) (root : Root) (first second : ℕ) (is : T (is_root sha
       (has_runs shape root) (list_all (in_flash shape) (first ∷ second ∷ runs)) (differ (first ∷ second ∷ runs))
       number_small (le→leb 1 (root.epoch + 1) (omega arith)) (le→leb (root.epoch + 1) (root.number + 1) (let most = k.epoch_most in omega (arith, most))) tt tt
       k.runs (two_inside shape first second two runs (all_back (in_flash shape) root.newest runs rest_inside))
-      (two_differ shape first second two runs (λ h. first_new (in_named first (any_behind (λ y. first ≡ y) root.newest runs h))) (λ h. second_new (in_named second (any_behind (λ y. second ≡ y) root.newest runs h)))
+      (two_differ shape first second two runs (λ h. first_new (in_named first (any_behind (λ y. first ≡ y) root.newest runs h)))
+      (λ h. second_new (in_named second (any_behind (λ y. second ≡ y) root.newest runs h)))
       (differ_back root.newest runs rest_differs))

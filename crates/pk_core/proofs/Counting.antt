@@ -44,7 +44,8 @@ numbers_more xs into new i d less front before =
 
 -- ---- the map
 
-counts_map : (d : Parts) (shape : Shape) (flash : Flash) (top : ℕ × Root) (found : Found) (without all : Map) → DriveOnFlashWith d shape flash top found without all → CountsMap shape (frames_of d) all (counts_of d)
+counts_map : (d : Parts) (shape : Shape) (flash : Flash) (top : ℕ × Root) (found : Found) (without all : Map)
+    → DriveOnFlashWith d shape flash top found without all → CountsMap shape (frames_of d) all (counts_of d)
 counts_map d shape flash top found without all a =
     let c = counts shape flash d.log.pending top found all a.placed.is_shape a.is_flash a.pending in
     record {
@@ -101,7 +102,8 @@ flush_done d o into told board r v a few op passed =
     subst (λ (x : Outcome). Does board board (sight_of d) (sight_of d) c (reply_of x into) x.reads x.stopped) (sym told)
     (does_reads board board (sight_of d) c (success 0 []) 0 0 few few (reads_none board few) (omega arith) ok_sound all)
 
-pub report_done : (d : Parts) (o : Outcome) (into : List ℕ) → o ≡ record { status = 0; result = 0; data_len = 64; reads = 0; stopped = false } → take 64 into ≡ report_of (counts_of d) → DoneWithout d 0xC2 o into
+pub report_done : (d : Parts) (o : Outcome) (into : List ℕ) → o ≡ record { status = 0; result = 0; data_len = 64; reads = 0; stopped = false }
+    → take 64 into ≡ report_of (counts_of d) → DoneWithout d 0xC2 o into
 report_done d o into told bytes board r v a few op passed =
     let c = command_of r v in
     let passes : early d.log.shape c ≡ None = same_early d.log.shape r v ∙ passed in

@@ -1,5 +1,6 @@
 -- A flash with the first root in pages 0 and 1 and all other pages Erased holds the empty map.
-use Rattle.std.proofs.Common.{◌≡◌, ◌⊎◌, inr, ℕ, zero, suc, ◌+◌, ◌*◌, ◌/◌, ◌%◌, ◌<◌, ◌≤◌, refl, sym, ap, subst, ◌∙◌, arith, true, List, [], ◌∷◌, length, length-set, nat_le, min, slice_index, slice_set, Some, None, Ok, le→leb, zero-mul, mul-le-mul_right}
+use Rattle.std.proofs.Common.{◌≡◌, ◌⊎◌, inr, ℕ, zero, suc, ◌+◌, ◌*◌, ◌/◌, ◌%◌, ◌<◌, ◌≤◌, refl, sym, ap, subst, ◌∙◌, arith, true, List, [], ◌∷◌, length, length-set, nat_le, min, slice_index, slice_set}
+use Rattle.std.proofs.Common.{Some, None, Ok, le→leb, zero-mul, mul-le-mul_right}
 use Rattle.std.proofs.Math.Nat.{zero-div, zero-mod}
 use Rattle.std.specs.FinMap.{empty}
 use Rattle.pk_base.specs.Shape.{Shape, IsShape, page_count, page_entries, run_pages, buffer}

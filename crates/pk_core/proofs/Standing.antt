@@ -15,10 +15,12 @@ same_shape : (x y : Shape) → Some x ≡ Some y → x ≡ y
 same_shape x y e = ap (λ o. unwrap_or o x) e
 
 -- the map of a drive that agrees with its board is the one that it represents
-pub stands_for : (d : Parts) (board : BoardState) (shape : Shape) (frames : ℕ) (m : Map) → DriveOnFlash d board.shape board.pages → HoldsMap shape frames board (sight_of d) m → StandsBetween d shape board.pages m
+pub stands_for : (d : Parts) (board : BoardState) (shape : Shape) (frames : ℕ) (m : Map)
+    → DriveOnFlash d board.shape board.pages → HoldsMap shape frames board (sight_of d) m → StandsBetween d shape board.pages m
 stands_for d board shape frames m agrees stands =
     let shapes : agrees.shape ≡ shape = same_shape agrees.shape shape (sym agrees.told_is ∙ stands.shape_is) in
-    let here : StandsBetween d shape board.pages agrees.all = subst (λ s. StandsBetween d s board.pages agrees.all) shapes (record { top = agrees.top; found = agrees.found; without = agrees.without; with = agrees.with; course = agrees.course }) in
+    let here : StandsBetween d shape board.pages agrees.all = subst (λ s. StandsBetween d s board.pages agrees.all) shapes
+    (record { top = agrees.top; found = agrees.found; without = agrees.without; with = agrees.with; course = agrees.course }) in
     subst (λ x. StandsBetween d shape board.pages x) (ok_same agrees.all m (sym (reads_between d shape board.pages agrees.all here) ∙ stands.map_is)) here
 
 -- and the other way round
@@ -29,5 +31,6 @@ pub stands_here : (d : Parts) (told : Option Shape) (flash : Flash) → DriveOnF
 stands_here d told flash agrees = (agrees.all, stands_between d told flash agrees)
 
 -- if the map of the drive is unchanged, the drive still represents it
-pub still_stands : (d : Parts) (board : BoardState) (shape : Shape) (frames : ℕ) (m : Map) → board.shape ≡ Some shape → frames_of d ≡ frames → StandsBetween d shape board.pages m → HoldsMap shape frames board (sight_of d) m
+pub still_stands : (d : Parts) (board : BoardState) (shape : Shape) (frames : ℕ) (m : Map) → board.shape ≡ Some shape
+    → frames_of d ≡ frames → StandsBetween d shape board.pages m → HoldsMap shape frames board (sight_of d) m
 still_stands d board shape frames m told same is = record { shape_is = told; frames_is = same; map_is = reads_between d shape board.pages m is }

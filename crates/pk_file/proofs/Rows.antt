@@ -43,7 +43,8 @@ row_erases shape block old new some room row = same_pages (erased_from shape blo
       | inl low ↦ outside k (inl low)
       | inr high ↦ elim (cases_lt k (block * shape.block_pages + shape.block_pages)) [
         | inr past ↦ outside k (inr past)
-        | inl less ↦ row.inside k high less ∙ sym (page-erased_in shape block 0 old k (omega (arith, less, room)) (ap (λ n. n / shape.block_pages) (zero-add k) ∙ in_block shape.block_pages block k high less))
+        | inl less ↦ row.inside k high less
+            ∙ sym (page-erased_in shape block 0 old k (omega (arith, less, room)) (ap (λ n. n / shape.block_pages) (zero-add k) ∙ in_block shape.block_pages block k high less))
       ]
     ]
 

@@ -3,7 +3,8 @@ ghost use Rattle.std.specs.Prelude.{◌≡◌, ◌≤◌, ◌<◌, ◌+◌, ◌+
 ghost use Rattle.pk_base.specs.Page.{whole, IsPage, IsFlash};
 ghost use Rattle.pk_base.specs.Mark.{program, erase, post, after};
 ghost use Rattle.pk_nand.specs.BoardState.{shape_or_none};
-ghost use Rattle.pk_nand.specs.Calls.{counted, LeftBehind, PostLeft};
+ghost use Rattle.pk_nand.specs.Calls.{counted, LeftBehind};
+ghost use Rattle.pk_nand.specs.Operations.{PostLeft};
 ghost use Rattle.pk_nand.specs.Seen.{states, marks as seen_marks};
 ghost use Rattle.pk_flash.specs.Exact.{ActsBy, PostsBy, part as part_of};
 

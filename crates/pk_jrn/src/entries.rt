@@ -4,7 +4,7 @@ ghost use Rattle.pk_base.specs.Fields.{number_at};
 ghost use Rattle.pk_base.specs.Shape.{epoch_commits};
 ghost use Rattle.pk_base.specs.Entry.{Entry as EntrySpec};
 ghost use Rattle.pk_base.specs.Seen.{entry as seen};
-ghost use Rattle.pk_jrnfmt.specs.Page.{Decodes, IsJournalPage};
+ghost use Rattle.pk_jrnfmt.specs.PageChecks.{Decodes, IsJournalPage};
 ghost use Rattle.pk_jrn.specs.Replays.{PutOrFull, PutsOrFull, TakesPage};
 
 use pk_base::{Entry, Shape};

@@ -28,7 +28,8 @@ turned i l xs ys =
     omega (arith, a, b, c, d)
 
 -- a page that is kept is one lease more
-page_leases : (pins : Bool) (old new : Frames) (bytes : List ℕ) (lease : Option ℕ) (others own : List ℕ) → KeepsPage pins old new bytes lease → AreLeases old (others ++ own) → AreLeases new (others ++ with_lease own lease)
+page_leases : (pins : Bool) (old new : Frames) (bytes : List ℕ) (lease : Option ℕ) (others own : List ℕ)
+    → KeepsPage pins old new bytes lease → AreLeases old (others ++ own) → AreLeases new (others ++ with_lease own lease)
 page_leases pins old new bytes None others own k all = subst (λ (a : Frames). AreLeases a (others ++ own)) (sym k.1) all
 page_leases pins old new bytes (Some l) others own k all =
     let taken = leases_taken old (others ++ own) l all k.1 in
@@ -40,7 +41,8 @@ kept_leases out out' before after same kept others all =
     subst (λ (a : Frames). AreLeases a (others ++ out'.leases)) (sym kept) (subst (λ (ls : List ℕ). AreLeases before (others ++ ls)) (sym same) all)
 
 -- each action
-pub acts_lease : {X : Type 0} (source : Source X) (target : Kept) (pins : Bool) (out : Kept) (m : Merger) (pool : Blocks) (old : BoardState) (before : Frames) (next : Next) (out' : Kept) (m' : Merger) (pool' : Blocks) (new : BoardState) (after : Frames)
+pub acts_lease : {X : Type 0} (source : Source X) (target : Kept) (pins : Bool) (out : Kept) (m : Merger) (pool : Blocks)
+    (old : BoardState) (before : Frames) (next : Next) (out' : Kept) (m' : Merger) (pool' : Blocks) (new : BoardState) (after : Frames)
     → Acts source target pins out m pool old before next out' m' pool' new after → LeavesLeases out before out' after
 acts_lease source target pins out m pool old before LoadSource out' m' pool' new after (l, o, p, a) = kept_leases out out' before after (ap (λ (r : Kept). r.leases) o) a
 acts_lease source target pins out m pool old before LoadTarget out' m' pool' new after (l, o, p, a) = kept_leases out out' before after (ap (λ (r : Kept). r.leases) o) a

@@ -82,8 +82,10 @@ over_target f fs vp = firsts_front f fs (left_part _ _ vp)
 
 pub kept_front : (level : ℕ) (e : Entry) (es : List Entry) → kept_at level (e ∷ es) ≡ kept_at level (e ∷ []) ++ kept_at level es
 kept_front level e es =
-    elim (level == 4) as (λ b. (if b then filter (λ x. is_some x.1) (e ∷ es) else e ∷ es) ≡ (if b then filter (λ x. is_some x.1) (e ∷ []) else e ∷ []) ++ (if b then filter (λ x. is_some x.1) es else es)) [
-      | true ↦ elim (is_some e.1) as (λ b. (if b then e ∷ filter (λ x. is_some x.1) es else filter (λ x. is_some x.1) es) ≡ (if b then e ∷ [] else []) ++ filter (λ x. is_some x.1) es) [ true ↦ refl | false ↦ refl ]
+    elim (level == 4) as (λ b. (if b then filter (λ x. is_some x.1) (e ∷ es) else e ∷ es)
+    ≡ (if b then filter (λ x. is_some x.1) (e ∷ []) else e ∷ []) ++ (if b then filter (λ x. is_some x.1) es else es)) [
+      | true ↦ elim (is_some e.1) as (λ b. (if b then e ∷ filter (λ x. is_some x.1) es else filter (λ x. is_some x.1) es)
+          ≡ (if b then e ∷ [] else []) ++ filter (λ x. is_some x.1) es) [ true ↦ refl | false ↦ refl ]
       | false ↦ refl
     ]
 

@@ -9,10 +9,12 @@ use Rattle.std.proofs.lemmas.Slice.Eq.{bytes_eq-Decides}
 use Rattle.pk_base.specs.Key.{Key, key_cmp, IsBelow, IsRising}
 use Rattle.pk_base.specs.Shape.{Shape, IsShape, page_entries}
 use Rattle.pk_base.specs.Entry.{Entry, key_of}
-use Rattle.pk_base.specs.EntryBytes.{IsEntry, is_entry, are_entries, entries_from}
+use Rattle.pk_base.specs.EntryBytes.{is_entry, are_entries, entries_from}
+use Rattle.pk_base.specs.EntryChecks.{IsEntry}
 use Rattle.pk_meta.specs.declared.MetaHead.{MetaHead}
 use Rattle.pk_meta.specs.declared.BadMeta.{BadMeta}
-use Rattle.pk_meta.specs.Page.{IsContent, IsMetaPage, meta_bytes, meta_entries}
+use Rattle.pk_meta.specs.Page.{meta_bytes, meta_entries}
+use Rattle.pk_meta.specs.PageChecks.{IsContent, IsMetaPage}
 use Rattle.pk_base.proofs.Sound.{if_some, are_sound, entry_true, least_true}
 use Rattle.pk_meta.proofs.PageLemmas.{meta_again, Exact, found, only}
 use Rattle.pk_base.proofs.Logic.{both_true, lt_less}

@@ -6,7 +6,7 @@ ghost use Rattle.pk_base.specs.EntryBytes.{cell_at, cell_key};
 ghost use Rattle.pk_base.specs.Fields.{number_at};
 ghost use Rattle.pk_base.specs.Key.{key_cmp};
 ghost use Rattle.pk_base.specs.Seen.{entry as seen};
-ghost use Rattle.pk_meta.specs.Page.{IsMetaPage, Decodes, IsEntryOf, IsPlaceOf};
+ghost use Rattle.pk_meta.specs.PageChecks.{IsMetaPage, Decodes, IsEntryOf, IsPlaceOf};
 
 use crate::entry;
 use pk_base::{Entry, Key, Shape, cell_of, compare_cell, get_u16};

@@ -86,7 +86,8 @@ pub record IsSpace (n : ℕ) : Type 0 where
 pub key_spaced : (shape : Shape) (c : Command) (k : Opcode) → ((n : ℕ) → is_namespace k n ≡ (n == 1)) → op_of c.opcode ≡ Some k → early shape c ≡ None → IsSpace c.namespace
 key_spaced shape c k only is e =
     let faults : fault_of shape c (Some k) ≡ None = ap (fault_of shape c) (sym is) ∙ e in
-    let passed = check_none (is_namespace k c.namespace) 0x0B (first_none (check (is_namespace k c.namespace) 0x0B) (or_else (check (is_key_length k c.key_len) 0x86) (size_fault shape k c.size)) faults).0 in
+    let passed = check_none (is_namespace k c.namespace) 0x0B
+    (first_none (check (is_namespace k c.namespace) 0x0B) (or_else (check (is_key_length k c.key_len) 0x86) (size_fault shape k c.size)) faults).0 in
     let one : c.namespace ≡ 1 = eqb→eq c.namespace 1 (subst T (sym (sym (only c.namespace) ∙ passed)) tt) in
     record { some = omega (arith, one); most = omega (arith, one) }
 

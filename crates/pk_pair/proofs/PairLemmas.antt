@@ -7,7 +7,8 @@ use Rattle.pk_base.proofs.EpochPages.{half}
 use Rattle.pk_base.proofs.CommitPages.{room}
 use Rattle.pk_base.specs.Mark.{program}
 use Rattle.pk_nand.specs.BoardState.{BoardState, shape_of}
-use Rattle.pk_nand.specs.Calls.{InOrder, after_program, ProgramFailed}
+use Rattle.pk_nand.specs.Calls.{after_program, ProgramFailed}
+use Rattle.pk_nand.specs.Operations.{InOrder}
 use Rattle.pk_nand.specs.Crash.{Reached, Went}
 use Rattle.pk_nand.specs.Pairs.{IsPairCut}
 use Rattle.pk_nand.proofs.Pairing.{IsPairCut-start, Reached-in_pair, Went-in_pair_failed, program_done}

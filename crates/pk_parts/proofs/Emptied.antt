@@ -45,7 +45,8 @@ pub reads_later : (r : Result Unit Fault) (a b c : Parts) (n k most : ℕ) (s0 s
     → KeepsAll a b s0 s1 → Passes n s0 s1 → KeepsOrReads b c k s1 s2 r → KeepsOrReads a c most s0 s2 r
 reads_later r a b c n k most s0 s1 s2 ready same few keeps passes second =
     reading_then r (λ (x : Unit). KeepsAll b c s1 s2) (λ (x : Unit). KeepsAll a c s0 s2) (KeepsAll b c s1 s2) (KeepsAll a c s0 s2) (BreaksAll b s1 s2) (BreaksAll a s0 s2)
-    a.log.shape n k most s0 s1 s2 few passes (λ x kept. KeepsAll-then a b c s0 s1 s2 ready keeps kept) (λ kept. KeepsAll-then a b c s0 s1 s2 ready keeps kept) (λ broken. BreaksAll-then a b s0 s1 s2 ready keeps broken)
+    a.log.shape n k most s0 s1 s2 few passes (λ x kept. KeepsAll-then a b c s0 s1 s2 ready keeps kept)
+    (λ kept. KeepsAll-then a b c s0 s1 s2 ready keeps kept) (λ broken. BreaksAll-then a b s0 s1 s2 ready keeps broken)
     (subst (λ (s : Shape). StepOrRead (λ (x : Unit). KeepsAll b c s1 s2) (KeepsAll b c s1 s2) (BreaksAll b s1 s2) s k s1 s2 r) same second)
 
 -- what it answered may be forgotten
@@ -333,13 +334,15 @@ merges_last d board may number =
     omega (arith, number, left)
 
 module _ (a b : Parts) (s0 s1 : BoardState) (may : MayStep a s0) where
-  pub freeze_lasts : roots s0 + room_calls a.log.shape < 18446744073709551615 → (step : KeepsOrReads {T = Unit {0}} a b (merges_left a + 1) s0 s1 (Ok tt)) → roots s1 + whole_freeze < 18446744073709551615
+  pub freeze_lasts : roots s0 + room_calls a.log.shape < 18446744073709551615
+      → (step : KeepsOrReads {T = Unit {0}} a b (merges_left a + 1) s0 s1 (Ok tt)) → roots s1 + whole_freeze < 18446744073709551615
   freeze_lasts number step =
       let left = left_most a s0 may in
       let most = step.roots_few in
       omega (arith, number, left, most)
 
-  pub room_made : (r : Result Unit Fault) (c : Parts) (s2 : BoardState) → b.log.shape ≡ a.log.shape → KeepsOrReads {T = Unit {0}} a b (merges_left a + 1) s0 s1 (Ok tt) → StepKeeps b c whole_freeze s1 s2 r
+  pub room_made : (r : Result Unit Fault) (c : Parts) (s2 : BoardState) → b.log.shape ≡ a.log.shape
+      → KeepsOrReads {T = Unit {0}} a b (merges_left a + 1) s0 s1 (Ok tt) → StepKeeps b c whole_freeze s1 s2 r
       → KeepsOrReads a c (room_calls a.log.shape) s0 s2 r
   room_made r c s2 same step second =
       let left = left_most a s0 may in
@@ -362,13 +365,15 @@ module _ (a b : Parts) (s0 s1 : BoardState) (may : MayStep a s0) where
 pub none_reads : (d : Parts) (most : ℕ) (board : BoardState) → IsReady board d.log.shape → KeepsOrReads {T = Unit {0}} d d most board board (Ok tt)
 none_reads d most board ready = keeps_reads (Ok tt) d d most board board (none_step d most board tt ready)
 
-pub room_committed : (r : Result Unit Fault) (a b c : Parts) (s0 s1 s2 : BoardState) → IsReady s0 a.log.shape → b.log.shape ≡ a.log.shape → StepKeeps {T = Unit {0}} a b 0 s0 s1 (Ok tt) → KeepsOrReads b c (room_calls b.log.shape) s1 s2 r
+pub room_committed : (r : Result Unit Fault) (a b c : Parts) (s0 s1 s2 : BoardState) → IsReady s0 a.log.shape
+    → b.log.shape ≡ a.log.shape → StepKeeps {T = Unit {0}} a b 0 s0 s1 (Ok tt) → KeepsOrReads b c (room_calls b.log.shape) s1 s2 r
     → KeepsOrReads a c (room_calls a.log.shape) s0 s2 r
 room_committed r a b c s0 s1 s2 ready same first second =
     let calls : room_calls b.log.shape ≡ room_calls a.log.shape = ap (λ (s : Shape). room_calls s) same in
     reads_later r a b c 0 (room_calls b.log.shape) (room_calls a.log.shape) s0 s1 s2 ready same (omega (arith, calls)) first.ended (passes_keeps tt a b 0 s0 s1 first) second
 
-pub committed_spends : (a b : Parts) (s0 s1 s2 : BoardState) → b.log.shape ≡ a.log.shape → Spends commit_calls 0 s0 s1 → Spends (emptying b.log.shape 4 + whole_freeze) room_roots s1 s2 → Spends (room_calls a.log.shape) room_roots s0 s2
+pub committed_spends : (a b : Parts) (s0 s1 s2 : BoardState) → b.log.shape ≡ a.log.shape → Spends commit_calls 0 s0 s1
+    → Spends (emptying b.log.shape 4 + whole_freeze) room_roots s1 s2 → Spends (room_calls a.log.shape) room_roots s0 s2
 committed_spends a b s0 s1 s2 same first second =
     let whole : emptying b.log.shape 4 ≡ emptying a.log.shape 4 = ap (λ (s : Shape). emptying s 4) same in
     spends_then commit_calls (emptying b.log.shape 4 + whole_freeze) (room_calls a.log.shape) 0 room_roots room_roots s0 s1 s2 (omega (arith, whole)) (omega arith) first second

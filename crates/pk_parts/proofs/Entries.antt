@@ -137,7 +137,8 @@ module _ (d : Parts) (flash : Flash) (m : Map) (key : Key) (value : List ℕ) (p
   }
 
   places_are : places p.found (d.log.pending ++ e ∷ []) ≡ put key_cmp key place es
-  places_are = ap (λ xs. placed (firsts xs)) (entries_in_order-push p.found d.log.pending e) ∙ placed-put key place (counting p.found d.log.pending) (firsts_sorted (entries_in_order p.found d.log.pending))
+  places_are = ap (λ xs. placed (firsts xs)) (entries_in_order-push p.found d.log.pending e)
+      ∙ placed-put key place (counting p.found d.log.pending) (firsts_sorted (entries_in_order p.found d.log.pending))
 
   module _ (space : DataState) (placed_now : ValuesOnFlash d.log.shape space d.pool (outputs_of d) flash (put key_cmp key place es)) (o : Option Span)
       (space_is : space ≡ with_head (with_heads d.space (heads_without o d.space.live.heads)) page (charge d.log.shape (length value))) where
@@ -166,7 +167,8 @@ module _ (d : Parts) (flash : Flash) (m : Map) (key : Key) (value : List ℕ) (p
     reclaims_now : ReclaimOnFlash d.log.shape d.reclaim space.live d.pool flash (put key_cmp key place es)
     reclaims_now =
         let heads : List ℕ = slice_set (heads_without o d.space.live.heads) page (charge d.log.shape (length value)) in
-        let now = reclaim_stored d.log.shape d.reclaim d.space d.pool flash es key place heads p.with.reclaim p.with.placed p.in_open (charge_some d.log.shape (shape_is d d.log.shape flash p.top p.found p.without m p.with) (length value))
+        let now = reclaim_stored d.log.shape d.reclaim d.space d.pool flash es key place heads p.with.reclaim p.with.placed p.in_open
+        (charge_some d.log.shape (shape_is d d.log.shape flash p.top p.found p.without m p.with) (length value))
         (λ k other. replaced_fewer o d.space.live.heads page (charge d.log.shape (length value)) k other) in
         subst (λ (l : Values). ReclaimOnFlash d.log.shape d.reclaim l d.pool flash (put key_cmp key place es)) (sym (ap (λ (x : DataState). x.live) space_is)) now
 
@@ -247,7 +249,8 @@ old_short d flash m key value page (Some q) p = (found_place d.log.shape key q (
 
 -- ---- a key loses its value
 
-keys_gone : (key : Key) (place : Place) (es : List (Key × Place)) (keys : ℕ) → T (is_sorted key_cmp es) → find key_cmp key es ≡ Some place → keys ≡ length es → (keys - 1 ≡ length (without key es)) × (1 ≤ keys)
+keys_gone : (key : Key) (place : Place) (es : List (Key × Place)) (keys : ℕ) → T (is_sorted key_cmp es)
+    → find key_cmp key es ≡ Some place → keys ≡ length es → (keys - 1 ≡ length (without key es)) × (1 ≤ keys)
 keys_gone key place es keys sorted is same =
     let all : cond (is_some (find key_cmp key es)) 1 0 + length (without key es) ≡ length es = length_without key_cmp key_total key es sorted in
     let one : 1 + length (without key es) ≡ length es = subst (λ (o : Option Place). cond (is_some o) 1 0 + length (without key es) ≡ length es) is all in
@@ -282,7 +285,8 @@ module _ (d : Parts) (flash : Flash) (m : Map) (key : Key) (old : Place) (p : Dr
   gone_keys = keys_gone key old values_before d.keys (rising d d.log.shape flash p.top p.found p.without m p.with) p.old_is p.with.keys_are
 
   places_gone : places p.found (d.log.pending ++ gone ∷ []) ≡ without key values_before
-  places_gone = ap (λ xs. placed (firsts xs)) (entries_in_order-push p.found d.log.pending gone) ∙ placed-gone key (counting p.found d.log.pending) (firsts_sorted (entries_in_order p.found d.log.pending))
+  places_gone = ap (λ xs. placed (firsts xs)) (entries_in_order-push p.found d.log.pending gone)
+      ∙ placed-gone key (counting p.found d.log.pending) (firsts_sorted (entries_in_order p.found d.log.pending))
 
   pub gone_agrees : (space : DataState) → ValuesOnFlash d.log.shape space d.pool (outputs_of d) flash (without key values_before)
       → (at : ℕ) → space ≡ with_head d.space at 0 → LogOnFlash (pushed d.log gone) flash p.top p.found

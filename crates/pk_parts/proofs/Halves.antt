@@ -36,7 +36,8 @@ pool_same d settles = freed_same d.pool settles.none_leaves
 pub parts_same : (d : Parts) → IsSettled (index_of d) → settled_parts d ≡ d
 parts_same d settles = λ i. record d { pool = pool_same d settles i }
 
-pub with_whole : (d : Parts) (shape : Shape) (flash : Flash) (top : ℕ × Root) (found : Found) (without all : Map) → IsSettled (index_of d) → DriveOnFlashWith (settled_parts d) shape flash top found without all
+pub with_whole : (d : Parts) (shape : Shape) (flash : Flash) (top : ℕ × Root) (found : Found) (without all : Map)
+    → IsSettled (index_of d) → DriveOnFlashWith (settled_parts d) shape flash top found without all
     → DriveOnFlashWith d shape flash top found without all
 with_whole d shape flash top found without all settles with = subst (λ (p : Parts). DriveOnFlashWith p shape flash top found without all) (parts_same d settles) with
 
@@ -112,7 +113,8 @@ counted_index x flash m (inl settles) = ap (λ (p : Blocks). used_by Values p.st
 counted_index x flash m (inr half) = half.counted
 
 -- a drive remains whole if its installer, its blocks, its reclaim and its epoch are as far
-pub whole_like : (d e : Parts) → repeats_next e.log.next ≡ repeats_next d.log.next → (NoneLeaves d.pool → NoneLeaves e.pool) → e.reclaim.phase ≡ d.reclaim.phase → e.log.epoch.half ≡ d.log.epoch.half → IsWhole d → IsWhole e
+pub whole_like : (d e : Parts) → repeats_next e.log.next ≡ repeats_next d.log.next → (NoneLeaves d.pool → NoneLeaves e.pool)
+    → e.reclaim.phase ≡ d.reclaim.phase → e.log.epoch.half ≡ d.log.epoch.half → IsWhole d → IsWhole e
 whole_like d e next pool phase epoch whole = record {
   settles = record { whole = next ∙ whole.settles.whole; none_leaves = pool whole.settles.none_leaves };
   moves = ap commits_in phase ∙ whole.moves;

@@ -31,13 +31,15 @@ halts_behind a b c first second = record { flash = rose_from first.0 second.flas
 
 -- ---- what is said otherwise
 
-came_says : {T : Type 0} (r : Result T Fault) (E E' : T → Type 0) (K K' B B' : Type 0) (old new : BoardState) → ((x : T) → E x → E' x) → (K → K') → (B → B') → Came E K B old new r → Came E' K' B' old new r
+came_says : {T : Type 0} (r : Result T Fault) (E E' : T → Type 0) (K K' B B' : Type 0) (old new : BoardState)
+    → ((x : T) → E x → E' x) → (K → K') → (B → B') → Came E K B old new r → Came E' K' B' old new r
 came_says (Ok x) E E' K K' B B' old new f g h came = (f x came.0, came.1)
 came_says (Err Reading) E E' K K' B B' old new f g h came = (g came.0, came.1)
 came_says (Err Stopped) E E' K K' B B' old new f g h came = (h came.0, came.1)
 
 -- it did not end
-came_failed : {T U : Type 0} (e : Fault) (E : T → Type 0) (E' : U → Type 0) (K K' B B' : Type 0) (old new : BoardState) → (K → K') → (B → B') → Came E K B old new (Err e) → Came E' K' B' old new (Err e)
+came_failed : {T U : Type 0} (e : Fault) (E : T → Type 0) (E' : U → Type 0) (K K' B B' : Type 0) (old new : BoardState)
+    → (K → K') → (B → B') → Came E K B old new (Err e) → Came E' K' B' old new (Err e)
 came_failed Reading E E' K K' B B' old new g h came = (g came.0, came.1)
 came_failed Stopped E E' K K' B B' old new g h came = (h came.0, came.1)
 
@@ -92,7 +94,8 @@ reads_nothing (Err Stopped) E K B shape n old new step =
     }
 
 -- nothing was left to do
-pub reading_end : {T : Type 0} (x : T) (E : T → Type 0) (K B : Type 0) (shape : Shape) (n : ℕ) (old new : BoardState) → Passes n old new → IsReady new shape → E x → StepOrRead E K B shape n old new (Ok x)
+pub reading_end : {T : Type 0} (x : T) (E : T → Type 0) (K B : Type 0) (shape : Shape) (n : ℕ) (old new : BoardState)
+    → Passes n old new → IsReady new shape → E x → StepOrRead E K B shape n old new (Ok x)
 reading_end x E K B shape n old new passes ready ended = record { came = (ended, passes.no_fault); rest = passes.rest; reads = passes.reads; roots_few = passes.roots_few; ready = ready }
 
 -- it failed, as a part of what was to be done

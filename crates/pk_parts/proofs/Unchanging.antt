@@ -7,7 +7,8 @@ use Rattle.pk_base.specs.Page.{IsFlash}
 use Rattle.pk_base.specs.Entry.{Place}
 use Rattle.pk_base.specs.Map.{Map}
 use Rattle.pk_nand.specs.BoardState.{BoardState}
-use Rattle.pk_nand.specs.Calls.{Rose, counted, last_count, ReadFailed, IsReady}
+use Rattle.pk_nand.specs.Calls.{Rose, counted, last_count, IsReady}
+use Rattle.pk_nand.specs.Operations.{ReadFailed}
 use Rattle.pk_nand.specs.Counts.{counted_by, after_reads}
 use Rattle.pk_level.specs.Levels.{ReadsUpTo, ReadFailsWithin}
 use Rattle.pk_model.specs.Reading.{reading}
@@ -63,7 +64,8 @@ reads_break old mid new most k n at before less failed =
       flash = subst (λ f. Rose f new.flash_faults) same_flash failed.flash;
     }
   where
-    broken : (mid new : BoardState) (k at : ℕ) → ReadFailed (after_reads k mid) new at → new ≡ record mid { reads = new.reads; flash_faults = new.flash_faults; read_faults = new.read_faults; failed_at = new.failed_at }
+    broken : (mid new : BoardState) (k at : ℕ) → ReadFailed (after_reads k mid) new at
+        → new ≡ record mid { reads = new.reads; flash_faults = new.flash_faults; read_faults = new.read_faults; failed_at = new.failed_at }
     broken mid new k at failed =
         failed.rest
         ∙ (λ i. record mid { reads = ap (λ b. b.reads) (sym failed.rest) i; flash_faults = new.flash_faults; read_faults = new.read_faults; failed_at = ap (λ b. b.failed_at) (sym failed.rest) i })
@@ -110,7 +112,8 @@ pub looked_reads : {X Y : Type 0} (r : Result X Y) (old new : BoardState) (n p :
 looked_reads (Ok x) old new n p few least (k, most, made) = less_reads old new (0 + k) (4 - p) (omega (arith, most, least)) (reads_more old old new 0 k (reads_none old few) made)
 looked_reads (Err y) old new n p few least made = tt
 
-pub looked_failing : {X Y : Type 0} (r : Result X Y) (old new : BoardState) (n p : ℕ) → old.reads ≤ last_count → n + p ≤ 4 → OnErr r (ReadFailsWithin n old new) → OnErr r (ReadsFailing old new (4 - p))
+pub looked_failing : {X Y : Type 0} (r : Result X Y) (old new : BoardState) (n p : ℕ) → old.reads ≤ last_count
+    → n + p ≤ 4 → OnErr r (ReadFailsWithin n old new) → OnErr r (ReadsFailing old new (4 - p))
 looked_failing (Ok x) old new n p few least made = tt
 looked_failing (Err y) old new n p few least (k, at, less, failed) = less_failing old new (0 + n) (4 - p) (omega (arith, least)) (reads_break old old new 0 k n at (reads_none old few) less failed)
 

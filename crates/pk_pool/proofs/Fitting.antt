@@ -11,7 +11,8 @@ use Rattle.pk_base.specs.Page.{Flash, page_at}
 use Rattle.pk_base.specs.Mark.{Mark, program, erase, after}
 use Rattle.pk_nand.specs.BoardState.{BoardState, shape_of}
 use Rattle.pk_nand.specs.Cut.{Interrupted, touched_block}
-use Rattle.pk_nand.specs.Calls.{IsReady, InOrder, LeftBehind, after_erase, EraseFailed, IsErasedBlock}
+use Rattle.pk_nand.specs.Calls.{IsReady, LeftBehind}
+use Rattle.pk_nand.specs.Operations.{InOrder, after_erase, EraseFailed, IsErasedBlock}
 use Rattle.pk_nand.specs.Crash.{SameOutside}
 use Rattle.pk_nand.proofs.Leaving.{erased_leaves, page-erased_in, interrupted_done, IsFlash-after, IsFlash-left, full_erase}
 use Rattle.pk_nand.proofs.Reaching.{Reached-start, Reached-erase, Went-erase_failed}
@@ -123,7 +124,8 @@ PoolOnFlash-erase p f g b out some not_ready cut fits = PoolOnFlash-but_block p 
 pub PoolOnFlash-program : (p : Blocks) (f g : Flash) (b at : ℕ) (bytes out : List ℕ) → IsNotReady p b → IsInBlock p.shape b at
     → Interrupted p.shape (program at bytes) f g out → PoolOnFlash p f → PoolOnFlash p g
 PoolOnFlash-program p f g b at bytes out not_ready inside cut fits =
-    PoolOnFlash-but_block p f g b not_ready (but_block p.shape f g b (program at bytes) out (omega (arith, inside.0, inside.1)) (ap Some (block_of p.shape.block_pages at b inside.0 inside.1)) cut) fits
+    PoolOnFlash-but_block p f g b not_ready
+    (but_block p.shape f g b (program at bytes) out (omega (arith, inside.0, inside.1)) (ap Some (block_of p.shape.block_pages at b inside.0 inside.1)) cut) fits
 
 pub PoolOnFlash-programmed : (p : Blocks) (f : Flash) (b at : ℕ) (bytes : List ℕ) → IsNotReady p b → IsInBlock p.shape b at
     → PoolOnFlash p f → PoolOnFlash p (after p.shape (program at bytes) f)

@@ -7,7 +7,7 @@ use Rattle.pk_base.specs.Mark.{all_posted, post}
 use Rattle.pk_base.specs.Map.{Map}
 use Rattle.pk_nvme.specs.Command.{Command}
 use Rattle.pk_nand.specs.BoardState.{BoardState}
-use Rattle.pk_nand.specs.Calls.{after_post, PostFailed}
+use Rattle.pk_nand.specs.Operations.{after_post, PostFailed}
 use Rattle.pk_nand.proofs.Reaching.{Reached-start, Reached-post}
 use Rattle.pk_model.specs.Answer.{reply, map_after}
 use Rattle.pk_model.specs.Growth.{Reaches, Goes}
@@ -74,7 +74,8 @@ asked-none shape frames start a has holds = record {
   rest = refl;
 }
 
-pub asked-none-all : (shape : Shape) (frames : ℕ) (start : Map) (a : BoardState) (has : a.shape ≡ Some shape) (holds : Holds shape a.pages start) → (asked-none shape frames start a has holds).answered.all ≡ []
+pub asked-none-all : (shape : Shape) (frames : ℕ) (start : Map) (a : BoardState) (has : a.shape ≡ Some shape) (holds : Holds shape a.pages start)
+    → (asked-none shape frames start a has holds).answered.all ≡ []
 unfolding asked-none
 asked-none-all shape frames start a has holds = refl
 
@@ -120,7 +121,8 @@ module _ (shape : Shape) (frames : ℕ) (start : Map) (a b : BoardState) (cs : L
               unserved = [];
               from_front = append-nil (commands (w.answered.all ++ x ∷ [])) ∙ pushed x c refl;
               map_left = map_after shape (limit shape) w.left c;
-              ran = FoldsTo-push (StepWithin shape frames) start w.answered.all w.left x (map_after shape (limit shape) w.left c) w.answered.ran (inl (answers shape (limit shape) frames w.left c), λ _. omega arith);
+              ran = FoldsTo-push (StepWithin shape frames) start w.answered.all w.left x
+                  (map_after shape (limit shape) w.left c) w.answered.ran (inl (answers shape (limit shape) frames w.left c), λ _. omega arith);
               held = behind;
               unposted = records 0 (w.answered.all ++ x ∷ []);
               begins = refl;
@@ -161,14 +163,17 @@ module _ (shape : Shape) (start : Map) (a : BoardState) (cs : List Command) (old
           are = pushed shape old.frames start a old.board cs w x c s.is;
           ran = FoldsTo-push (StepWithin shape old.frames) start w.answered.all w.left x s.left w.answered.ran (subst W same s.step);
           few = elim (faults-one x) [
-            | inl good ↦ few_more shape old.frames start a old.board cs w n x 0 good.1 (few_same shape old.frames start a old.board cs w n (at_most-more a.read_faults old.board.read_faults new.board.read_faults (faults w.answered.all) s.up w.answered.few))
-            | inr bad ↦ few_more shape old.frames start a old.board cs w n x 1 bad.1 (at_most-one a.read_faults old.board.read_faults new.board.read_faults (faults w.answered.all) w.rose (s.metered.failed bad.0) w.answered.few)
+            | inl good ↦ few_more shape old.frames start a old.board cs w n x 0 good.1
+                (few_same shape old.frames start a old.board cs w n (at_most-more a.read_faults old.board.read_faults new.board.read_faults (faults w.answered.all) s.up w.answered.few))
+            | inr bad ↦ few_more shape old.frames start a old.board cs w n x 1 bad.1
+                (at_most-one a.read_faults old.board.read_faults new.board.read_faults (faults w.answered.all) w.rose (s.metered.failed bad.0) w.answered.few)
           ];
         };
         metered = FoldsTo-push Metered (meter a) w.answered.all (meter old.board) x (meter new.board) w.metered s.metered;
         held = s.holds;
         shape_is = w.shape_is;
-        reached = Reaches-then shape more.0 a old.board (KeptSilently shape old.frames start (cs ++ c ∷ []) n) w.shape_is more.1 more.2 new.board (StepCut shape s.map c) (seen_cut s.map same s.up) s.reached;
+        reached = Reaches-then shape more.0 a old.board (KeptSilently shape old.frames start (cs ++ c ∷ []) n) w.shape_is more.1 more.2 new.board
+            (StepCut shape s.map c) (seen_cut s.map same s.up) s.reached;
         rose = (let up = s.up in let rose = w.rose in omega (arith, up, rose));
         no_stop = s.no_stop ∙ w.no_stop;
         rest = only_then a old.board new.board w.rest s.rest;

@@ -9,7 +9,8 @@ use Rattle.pk_base.specs.Shape.{Shape, page_count}
 use Rattle.pk_base.specs.Page.{Page, Flash, page_at, erased, whole, torn as torn_page, IsPage}
 use Rattle.pk_base.specs.Mark.{Mark, program, erase, post, after}
 use Rattle.pk_nand.specs.BoardState.{BoardState}
-use Rattle.pk_nand.specs.Calls.{InOrder, Rose, filled, after_read, after_program, after_erase, ReadFailed, ProgramFailed, EraseFailed}
+use Rattle.pk_nand.specs.Calls.{Rose, after_program, ProgramFailed}
+use Rattle.pk_nand.specs.Operations.{InOrder, filled, after_read, after_erase, ReadFailed, EraseFailed}
 use Rattle.pk_nand.specs.Crash.{Reached, Went}
 use Rattle.pk_nand.specs.declared.types.NandFault.{NandFault}
 use Rattle.pk_nand.proofs.Reaching.{Reached-start, Went-reached}
@@ -72,15 +73,15 @@ module _ (r : InMemory) (before flash : Flash) (serving : IsRelocating (relocati
       let test : (k == copies r) ≡ true = equal k (copies r) same in
       by r.call refl is (subst (λ (x : ℕ). x ≡ x) same refl)
       ∙ ap (λ (b : List ℕ). whole b)
-          (sym (if_true (k == copies r) (take r.shape.page_bytes r.bytes.items)
-          (if is_kept r k then take r.shape.page_bytes r.partner.items else take r.shape.page_bytes r.copy.items) test))
+      (sym (if_true (k == copies r) (take r.shape.page_bytes r.bytes.items)
+      (if is_kept r k then take r.shape.page_bytes r.partner.items else take r.shape.page_bytes r.copy.items) test))
     where
       equal : (a b : ℕ) → a ≡ b → (a == b) ≡ true
       equal a b e = grind (arith, nat_tests)
 
       by : (call : Call) → r.call ≡ call → is_program call ≡ true → copies r ≡ copies r
           → page_at (after r.shape (relocation_of r).mark before)
-              (block (relocation_of r) * r.shape.block_pages + k) ≡ whole (take r.shape.page_bytes r.bytes.items)
+          (block (relocation_of r) * r.shape.block_pages + k) ≡ whole (take r.shape.page_bytes r.bytes.items)
       by (Program page) e t u =
           let bytes : List ℕ = take r.shape.page_bytes r.bytes.items in
           let P : Call → Type 0 = λ c. IsMarkWithin r.shape (mark_of c bytes) in
@@ -88,10 +89,10 @@ module _ (r : InMemory) (before flash : Flash) (serving : IsRelocating (relocati
           let Q : Call → Type 0 = λ c. k ≡ copies_of r.shape (mark_of c bytes) in
           let here : k ≡ page % r.shape.block_pages = subst Q e same in
           let T : Call → Type 0 = λ c. page_at (after r.shape (mark_of c bytes) before)
-              (block (record (relocation_of r) { mark = mark_of c bytes }) * r.shape.block_pages + k) ≡ whole bytes in
+          (block (record (relocation_of r) { mark = mark_of c bytes }) * r.shape.block_pages + k) ≡ whole bytes in
           let size = serving.whole_above.size in
           subst T (sym e) (ap (λ (x : ℕ). page_at (after r.shape (program page bytes) before) (page / r.shape.block_pages * r.shape.block_pages + x)) here
-              ∙ new_source r.shape page bytes before (omega (arith, within, size)))
+          ∙ new_source r.shape page bytes before (omega (arith, within, size)))
       by (Erase b) e t u = cc
 
   pub phase_after_fits : (k : ℕ) → IsSpareFilled (relocation_of r) before flash k
@@ -104,7 +105,7 @@ module _ (r : InMemory) (before flash : Flash) (serving : IsRelocating (relocati
 
       fill_most : (call : Call) → (is_program call && (k == copies_of r.shape (mark_of call (take r.shape.page_bytes r.bytes.items)))) ≡ false
           → k ≤ fill_of r.shape (mark_of call (take r.shape.page_bytes r.bytes.items))
-              → copies_of r.shape (mark_of call (take r.shape.page_bytes r.bytes.items)) ≤ k
+          → copies_of r.shape (mark_of call (take r.shape.page_bytes r.bytes.items)) ≤ k
           → k ≡ fill_of r.shape (mark_of call (take r.shape.page_bytes r.bytes.items))
       fill_most (Program page) e most past = let other : k ≢ page % r.shape.block_pages = grind (arith, nat_tests) in omega (arith, most, past, other)
       fill_most (Erase b) e most past = omega (arith, most)
@@ -158,9 +159,11 @@ went old new P reached = (reached.0, Went-reached reached.0 old new P reached.1)
 -- no mark was made
 rests : (r : Relocation) (before : Flash) (old new : BoardState) → RelocationGoesOn r before old → IsTop r old.pages
     → new.shape ≡ old.shape → new.pages ≡ old.pages → new.trail ≡ old.trail → new.posted ≡ old.posted → WentSafely r before old new
-rests r before old new on top shape pages trail posted =
-    ([], Went-reached [] old new (λ flash _. MayShow r.shape r.spares before r.mark flash)
-        (Reached-start old new (λ flash _. MayShow r.shape r.spares before r.mark flash) shape pages trail posted (none_cut r before old.pages on.serving top)))
+rests r before old new on top shape pages trail posted = (
+  [],
+  Went-reached [] old new (λ flash _. MayShow r.shape r.spares before r.mark flash)
+      (Reached-start old new (λ flash _. MayShow r.shape r.spares before r.mark flash) shape pages trail posted (none_cut r before old.pages on.serving top)),
+)
 
 module _ (r : InMemory) (before : Flash) (old : BoardState) (runs : RelocationRuns r before old) where
   -- the step stops, and this is why
@@ -213,10 +216,12 @@ module _ (r : InMemory) (before : Flash) (old : BoardState) (runs : RelocationRu
   pub spare_erased : r.phase ≡ EraseSpare → (new : BoardState) → new ≡ after_erase old (spare_block (relocation_of r))
       → StepOutcome r before old (Ok false) (record r { phase = phase_after r 0 }) new
   spare_erased phase new is =
-      let own = erases_spare (relocation_of r) before old new runs.goes_on (stands_in EraseSpare phase) is in
-      (went old new _ own.cuts, again (phase_after r 0) new own.goes_on
-          (phase_after_fits r before new.pages own.goes_on.serving own.top runs.partner 0 own.filled (omega arith)),
-          lower EraseSpare (phase_after r 0) phase (let most = rank_after r 0 (omega arith) in omega (arith, most)))
+      let own = erases_spare (relocation_of r) before old new runs.goes_on (stands_in EraseSpare phase) is in (
+        went old new _ own.cuts,
+        again (phase_after r 0) new own.goes_on
+            (phase_after_fits r before new.pages own.goes_on.serving own.top runs.partner 0 own.filled (omega arith)),
+        lower EraseSpare (phase_after r 0) phase (let most = rank_after r 0 (omega arith) in omega (arith, most)),
+      )
 
   pub spare_erase_failed : r.phase ≡ EraseSpare → (new : BoardState)
       → EraseFailed old new (spare_block (relocation_of r)) → SpareFailed (relocation_of r) before old new
@@ -247,17 +252,20 @@ module _ (r : InMemory) (before : Flash) (old : BoardState) (runs : RelocationRu
       → StepOutcome r before old (Ok false) (record r { phase = First (other * r.shape.block_pages) }) new
   table_erased phase other is_other new is =
       let s = stands_in EraseTable phase in
-      let own = erases_table (relocation_of r) before other old new runs.goes_on s.0 s.1 is_other is in
-      (went old new _ own.cuts, again (First (other * r.shape.block_pages)) new own.goes_on
-          (record { other = other; is_other = is_other; begins = refl; pair = own.pair; full = own.full; all_erased = own.all_erased }),
-          lower EraseTable (First (other * r.shape.block_pages)) phase (omega arith))
+      let own = erases_table (relocation_of r) before other old new runs.goes_on s.0 s.1 is_other is in (
+        went old new _ own.cuts,
+        again (First (other * r.shape.block_pages)) new own.goes_on
+            (record { other = other; is_other = is_other; begins = refl; pair = own.pair; full = own.full; all_erased = own.all_erased }),
+        lower EraseTable (First (other * r.shape.block_pages)) phase (omega arith),
+      )
 
   pub table_erase_failed : r.phase ≡ EraseTable → (other : ℕ) → IsOtherTable (relocation_of r) other
       → (new : BoardState) → EraseFailed old new other → Stopped new
   table_erase_failed phase other is_other new failed =
-      let s = stands_in EraseTable phase in
-      (fails_to_erase_table (relocation_of r) before other old new runs.goes_on s.0 is_other failed,
-          in_table failed.stop other is_other (ap (λ s. s.failed_at) failed.rest))
+      let s = stands_in EraseTable phase in (
+        fails_to_erase_table (relocation_of r) before other old new runs.goes_on s.0 is_other failed,
+        in_table failed.stop other is_other (ap (λ s. s.failed_at) failed.rest),
+      )
 
   -- the step goes on with the next spare, or stops
   pub next_or_stop : (new : BoardState) (result : Result Bool NandFault) → SpareFailed (relocation_of r) before old new → Rose old.stop_faults new.stop_faults
@@ -271,20 +279,20 @@ module _ (r : InMemory) (before : Flash) (old : BoardState) (runs : RelocationRu
 
   pub page_read : (k : ℕ) → r.phase ≡ Read k → (copy : Vec ℕ Global) (bytes : List ℕ) (new : BoardState) → new ≡ after_read old
       → page_at old.pages (placed_page r.shape (relocation_of r).table (block (relocation_of r) * r.shape.block_pages + k)) ≡ whole bytes
-          → take r.shape.page_bytes copy.items ≡ bytes → r.shape.page_bytes ≤ length copy.items
+      → take r.shape.page_bytes copy.items ≡ bytes → r.shape.page_bytes ≤ length copy.items
       → StepOutcome r before old (Ok false) (record r { copy = copy; phase = Write k }) new
   page_read k phase copy bytes new is found taken room =
       let s = stands_in (Read k) phase in
       let less : k < copies r = s.2 in
       let on : RelocationGoesOn (relocation_of r) before new = let T : BoardState
-          → Type 0 = λ b. RelocationGoesOn (relocation_of r) before b in subst T (sym is)
-          (record { ready = record { shape_is = runs.goes_on.ready.shape_is; flash = runs.goes_on.ready.flash }; serving = runs.goes_on.serving }) in
+      → Type 0 = λ b. RelocationGoesOn (relocation_of r) before b in subst T (sym is)
+      (record { ready = record { shape_is = runs.goes_on.ready.shape_is; flash = runs.goes_on.ready.flash }; serving = runs.goes_on.serving }) in
       let pages : new.pages ≡ old.pages = ap (λ s. s.pages) is in
       let apart : (k == copies r) ≡ false = grind (arith, nat_tests) in
       let source : IsSource (relocation_of r) before k bytes = reads_source (relocation_of r) before old.pages k bytes runs.goes_on.serving less found in
       let same : bytes_for (record r { copy = copy; phase = Write k }) k ≡ bytes =
       if_false (k == copies r) (take r.shape.page_bytes r.bytes.items)
-          (if is_kept r k then take r.shape.page_bytes r.partner.items else take r.shape.page_bytes copy.items) apart
+      (if is_kept r k then take r.shape.page_bytes r.partner.items else take r.shape.page_bytes copy.items) apart
       ∙ if_false (is_kept r k) (take r.shape.page_bytes r.partner.items) (take r.shape.page_bytes copy.items) s.3 ∙ taken in (
         rests (relocation_of r) before old new runs.goes_on s.0 (ap (λ s. s.shape) is) pages (ap (λ s. s.trail) is) (ap (λ s. s.posted) is),
         record {
@@ -309,9 +317,11 @@ module _ (r : InMemory) (before : Flash) (old : BoardState) (runs : RelocationRu
   pub page_torn : (k : ℕ) → r.phase ≡ Read k → (new : BoardState) → new ≡ after_read old
       → page_at old.pages (placed_page r.shape (relocation_of r).table (block (relocation_of r) * r.shape.block_pages + k)) ≡ torn_page → Stopped new
   page_torn k phase new is found =
-      let s = stands_in (Read k) phase in
-      (rests (relocation_of r) before old new runs.goes_on s.0 (ap (λ s. s.shape) is)
-          (ap (λ s. s.pages) is) (ap (λ s. s.trail) is) (ap (λ s. s.posted) is), torn k phase found)
+      let s = stands_in (Read k) phase in (
+        rests (relocation_of r) before old new runs.goes_on s.0 (ap (λ s. s.shape) is)
+            (ap (λ s. s.pages) is) (ap (λ s. s.trail) is) (ap (λ s. s.posted) is),
+        torn k phase found,
+      )
 
   -- it is not Erased
   pub page_written_before : (k : ℕ) → r.phase ≡ Read k
@@ -320,9 +330,11 @@ module _ (r : InMemory) (before : Flash) (old : BoardState) (runs : RelocationRu
 
   pub page_read_failed : (k : ℕ) → r.phase ≡ Read k → (new : BoardState) (at : ℕ) → ReadFailed old new at → Stopped new
   page_read_failed k phase new at failed =
-      let s = stands_in (Read k) phase in
-      (rests (relocation_of r) before old new runs.goes_on s.0 (ap (λ s. s.shape) failed.rest)
-          (ap (λ s. s.pages) failed.rest) (ap (λ s. s.trail) failed.rest) (ap (λ s. s.posted) failed.rest), reading failed.read)
+      let s = stands_in (Read k) phase in (
+        rests (relocation_of r) before old new runs.goes_on s.0 (ap (λ s. s.shape) failed.rest)
+            (ap (λ s. s.pages) failed.rest) (ap (λ s. s.trail) failed.rest) (ap (λ s. s.posted) failed.rest),
+        reading failed.read,
+      )
 
   -- ---- the two programs of the next table
 
@@ -337,9 +349,10 @@ module _ (r : InMemory) (before : Flash) (old : BoardState) (runs : RelocationRu
   pub fresh_pages : (pair : ℕ) → IsTableFresh (relocation_of r) before old.pages pair
       → (page_at old.pages pair ≡ erased) × (page_at old.pages (suc pair) ≡ erased)
   fresh_pages pair fresh =
-      let least = runs.goes_on.serving.shape_is.block_least in
-      (fresh.all_erased pair (omega (arith, fresh.begins)) (omega (arith, fresh.begins, least)),
-          fresh.all_erased (suc pair) (omega (arith, fresh.begins)) (omega (arith, fresh.begins, least)))
+      let least = runs.goes_on.serving.shape_is.block_least in (
+        fresh.all_erased pair (omega (arith, fresh.begins)) (omega (arith, fresh.begins, least)),
+        fresh.all_erased (suc pair) (omega (arith, fresh.begins)) (omega (arith, fresh.begins, least)),
+      )
 
   pub first_written : (pair : ℕ) → r.phase ≡ First pair → (new : BoardState) (bytes : List ℕ) → IsPage r.shape bytes
       → bytes ≡ table_bytes r.shape r.spares (next_table (relocation_of r)) → new ≡ after_program old pair bytes
@@ -348,7 +361,7 @@ module _ (r : InMemory) (before : Flash) (old : BoardState) (runs : RelocationRu
       let fresh : IsTableFresh (relocation_of r) before old.pages pair = stands_in (First pair) phase in
       let two = fresh_pages pair fresh in
       let own = writes_first (relocation_of r) before pair old new runs.goes_on
-          (subst (IsPage r.shape) same page) fresh.pair fresh.full two.0 two.1 (is ∙ ap (λ (b : List ℕ). after_program old pair b) same) in
+      (subst (IsPage r.shape) same page) fresh.pair fresh.full two.0 two.1 (is ∙ ap (λ (b : List ℕ). after_program old pair b) same) in
       let pages = ap (λ s. s.pages) is in (
         went old new _ own.cuts,
         record {
@@ -403,7 +416,7 @@ module _ (r : InMemory) (before : Flash) (old : BoardState) (runs : RelocationRu
       let least = runs.goes_on.serving.shape_is.block_least in
       let behind : page_at old.pages (suc pair) ≡ erased = half.rest (suc pair) (omega arith) (omega (arith, least)) in
       let own = writes_second (relocation_of r) before pair old new runs.goes_on
-          (subst (IsPage r.shape) same page) half.pair half.full half.first behind (is ∙ ap (λ (b : List ℕ). after_program old (suc pair) b) same) in
+      (subst (IsPage r.shape) same page) half.pair half.full half.first behind (is ∙ ap (λ (b : List ℕ). after_program old (suc pair) b) same) in
       (went old new _ own.cuts, record { page = pair; newest = own.newest; done = own.done })
 
   pub second_failed : (pair : ℕ) → r.phase ≡ Second pair → (new : BoardState) (bytes : List ℕ)
@@ -471,7 +484,7 @@ module _ (r : InMemory) (before : Flash) (old : BoardState) (runs : RelocationRu
   -- the inner page of a page of the block
   pub read_place : (k : ℕ) → r.phase ≡ Read k
       → (placed_page r.shape (relocation_of r).table (block (relocation_of r) * r.shape.block_pages + k)
-          ≡ place r.shape (relocation_of r).table (block (relocation_of r)) * r.shape.block_pages + k)
+      ≡ place r.shape (relocation_of r).table (block (relocation_of r)) * r.shape.block_pages + k)
       × (placed_page r.shape (relocation_of r).table (block (relocation_of r) * r.shape.block_pages + k) < length old.pages)
       × (place r.shape (relocation_of r).table (block (relocation_of r)) ≤ 8192)
   read_place k phase =

@@ -1,7 +1,8 @@
 -- The first wrong field of a table page.
 use Rattle.std.specs.Prelude.{ℕ, ◌+◌, ◌-◌, ◌*◌, List, [], ◌∷◌, drop, ◌&&◌, ◌==◌, nat_le, Option, None}
 use Rattle.pk_base.specs.Shape.{Shape}
-use Rattle.pk_base.specs.Fields.{u16_at, u32_at, u64_at, unlike, unless, first_fault, zeros}
+use Rattle.pk_base.specs.Fields.{u16_at, u32_at, zeros}
+use Rattle.pk_base.specs.FieldFaults.{u64_at, unlike, unless, first_fault}
 use Rattle.pk_rootfmt.specs.Root.{u16s_at}
 use Rattle.pk_remap.specs.declared.layout.TheConstants.{LIST_FROM}
 use Rattle.pk_remap.specs.Table.{is_served}

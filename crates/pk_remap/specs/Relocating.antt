@@ -4,7 +4,7 @@ use Rattle.pk_base.specs.Shape.{Shape, IsShape}
 use Rattle.pk_base.specs.Page.{Flash, page_at, erased, IsPage, IsFlash}
 use Rattle.pk_base.specs.Mark.{Mark, program, erase, post, after}
 use Rattle.pk_nand.specs.Cut.{Interrupted}
-use Rattle.pk_nand.specs.Calls.{InOrder}
+use Rattle.pk_nand.specs.Operations.{InOrder}
 use Rattle.pk_remap.specs.declared.layout.TheConstants.{MOST_SPARES}
 use Rattle.pk_remap.specs.Table.{SpareTable, is_table}
 use Rattle.pk_remap.specs.Places.{inner_shape, through_by, with_one_more}

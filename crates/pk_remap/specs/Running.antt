@@ -3,7 +3,8 @@ use Rattle.std.specs.Prelude.{◌≡◌, ℕ, suc, ◌+◌, ◌-◌, ◌*◌, �
 use Rattle.pk_base.specs.Page.{Flash, page_at, erased, whole, torn as torn_page}
 use Rattle.pk_base.specs.Mark.{Mark, program, erase, after}
 use Rattle.pk_nand.specs.BoardState.{BoardState}
-use Rattle.pk_nand.specs.Calls.{IsErasedBlock, Rose}
+use Rattle.pk_nand.specs.Calls.{Rose}
+use Rattle.pk_nand.specs.Operations.{IsErasedBlock}
 use Rattle.pk_nand.specs.declared.types.NandFault.{NandFault}
 use Rattle.pk_remap.specs.declared.layout.TheConstants.{MOST_SPARES}
 use Rattle.pk_remap.specs.declared.phase.Phase.{Phase}

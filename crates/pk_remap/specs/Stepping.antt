@@ -3,7 +3,8 @@ use Rattle.std.specs.Prelude.{◌≡◌, ◌≢◌, ℕ, suc, ◌+◌, ◌*◌, 
 use Rattle.pk_base.specs.Page.{Flash, page_at, erased, whole, IsPage}
 use Rattle.pk_base.specs.Mark.{after}
 use Rattle.pk_nand.specs.BoardState.{BoardState}
-use Rattle.pk_nand.specs.Calls.{IsReady, InOrder, IsErasedBlock, after_program, after_erase, ProgramFailed, EraseFailed}
+use Rattle.pk_nand.specs.Calls.{IsReady, after_program, ProgramFailed}
+use Rattle.pk_nand.specs.Operations.{InOrder, IsErasedBlock, after_erase, EraseFailed}
 use Rattle.pk_nand.specs.Crash.{Reached, Went}
 use Rattle.pk_remap.specs.Table.{table_bytes}
 use Rattle.pk_remap.specs.Places.{inner_shape, placed_page}

@@ -2,7 +2,8 @@
 use Rattle.std.specs.Prelude.{ℕ, ◌+◌, List, [], ◌++◌, length, take, drop, flat_map, Bool, ◌&&◌, ◌||◌, ◌==◌, nat_lt, nat_le, if◌then◌else◌, Option, Some, None, codes, bytes_eq}
 use Rattle.std.specs.List.{list_all}
 use Rattle.pk_base.specs.Shape.{Shape}
-use Rattle.pk_base.specs.Fields.{u16_at, u64_at, u16, u32, u64, padded}
+use Rattle.pk_base.specs.Fields.{u16_at, u16, u32, u64, padded}
+use Rattle.pk_base.specs.FieldFaults.{u64_at}
 use Rattle.pk_rootfmt.specs.Root.{u16s_at}
 use Rattle.pk_remap.specs.declared.layout.TheConstants.{FAILED, LIST_FROM}
 

@@ -1,6 +1,6 @@
 //! The first wrong field of a table page.
 ghost use Rattle.std.specs.Prelude.{◌≡◌, ◌+◌, ◌*◌, ◌<◌, ◌≤◌, ◌^◌, ◌&&◌, nat_le, length, drop};
-ghost use Rattle.pk_base.specs.Fields.{Finds};
+ghost use Rattle.pk_base.specs.FieldFaults.{Finds};
 ghost use Rattle.pk_rootfmt.specs.Root.{u16s_at};
 ghost use Rattle.pk_remap.specs.Table.{is_served as served};
 ghost use Rattle.pk_remap.specs.Fault.{used as used_of, serves_fault, table_head_fault, serves_list_fault, table_fault};

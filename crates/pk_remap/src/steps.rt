@@ -3,7 +3,8 @@ ghost use Rattle.std.specs.Prelude.{◌≡◌, ◌≢◌, ◌+◌, ◌-◌, ◌/
 ghost use Rattle.pk_base.specs.Page.{Flash, page_at, IsPage};
 ghost use Rattle.pk_remap.specs.Table.{table_bytes};
 ghost use Rattle.pk_nand.specs.BoardState.{shape_of};
-ghost use Rattle.pk_nand.specs.Calls.{filled, InOrder, after_read, after_program, ReadFailed, ProgramFailed};
+ghost use Rattle.pk_nand.specs.Calls.{after_program, ProgramFailed};
+ghost use Rattle.pk_nand.specs.Operations.{filled, InOrder, after_read, ReadFailed};
 ghost use Rattle.pk_nand.specs.Seen.{answer};
 ghost use Rattle.pk_remap.specs.declared.phase.Phase.TheVariants.{EraseSpare, Read, Write, EraseTable, First, Second};
 ghost use Rattle.pk_remap.specs.declared.layout.TheConstants.{MOST_SPARES};

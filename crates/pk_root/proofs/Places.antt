@@ -5,7 +5,7 @@ use Rattle.std.proofs.lemmas.Nat.{div-add-mod'}
 use Rattle.pk_base.specs.Shape.{Shape}
 use Rattle.std.proofs.lemmas.Bool.Decides.{eqb_tells}
 use Rattle.pk_base.specs.Page.{Page, Flash, page_at, erased, whole}
-use Rattle.pk_nand.specs.Calls.{InOrder}
+use Rattle.pk_nand.specs.Operations.{InOrder}
 use Rattle.pk_nand.proofs.Leaving.{page_at-slice_set, page_at-slice_set_same}
 use Rattle.pk_rootfmt.specs.Root.{Root, root_bytes}
 use Rattle.pk_rootfmt.specs.Newest.{newest_root}

@@ -1,5 +1,6 @@
 -- A lookup in a run: which page may have the key, and what that page says of the whole run.
-use Rattle.std.proofs.Common.{◌≡◌, inl, inr, ℕ, suc, ◌+◌, ◌-◌, ◌*◌, ◌<◌, ◌≤◌, T, List, [], ◌∷◌, length, slice_get, get_or, take, drop, refl, ap, sym, subst, ◌∙◌, arith, Option, Some, None, option_map, ◌/◌, ◌%◌, div-lt_iff_lt-mul, suc-mul, zero-mul, mul-le-mul_right, lt_of_mul-lt-mul_right}
+use Rattle.std.proofs.Common.{◌≡◌, inl, inr, ℕ, suc, ◌+◌, ◌-◌, ◌*◌, ◌<◌, ◌≤◌, T, List, [], ◌∷◌, length, slice_get, get_or, take, drop, refl, ap, sym, subst, ◌∙◌, arith, Option, Some, None, option_map}
+use Rattle.std.proofs.Common.{◌/◌, ◌%◌, div-lt_iff_lt-mul, suc-mul, zero-mul, mul-le-mul_right, lt_of_mul-lt-mul_right}
 use Rattle.std.proofs.lemmas.Grind.{div_ceil_times}
 use Rattle.std.proofs.lemmas.List.{get_or_default}
 use Rattle.std.proofs.lemmas.Option.{slice_get_within, slice_get-get_or}
@@ -10,10 +11,11 @@ use Rattle.pk_base.specs.Entry.{Entry, key_of}
 use Rattle.pk_base.specs.Seen.{entry as seen}
 use Rattle.pk_base.specs.declared.entry.Entry.{Entry as RustEntry}
 use Rattle.pk_base.specs.Page.{Flash, IsFlash, page_at, page_in, whole, torn}
-use Rattle.pk_meta.specs.Page.{IsMetaPage, IsEntryOf, Decodes}
+use Rattle.pk_meta.specs.PageChecks.{IsMetaPage, IsEntryOf, Decodes}
 use Rattle.pk_meta.proofs.Reading.{meta_held}
 use Rattle.pk_nand.specs.BoardState.{BoardState}
-use Rattle.pk_nand.specs.Calls.{IsReady, after_read}
+use Rattle.pk_nand.specs.Calls.{IsReady}
+use Rattle.pk_nand.specs.Operations.{after_read}
 use Rattle.pk_pin.specs.Frames.{Frames, frame_of}
 use Rattle.pk_run.specs.Kept.{Kept, IsKept, IsPinned, RunOnFlash, page_of, after_look}
 use Rattle.pk_run.specs.Search.{IsFound, IsBeforeAll, IsPageFor}
@@ -127,7 +129,8 @@ pub frame_sized : (r : Kept) (flash : Flash) (arena : Frames) (es : List Entry) 
 frame_sized r flash arena es full s p lease got = (full.full (page_of r p) (frame_of arena lease) (s.frames p lease got).bytes).0
 
 -- what was taken from a frame is the page
-pub frame_page : (r : Kept) (flash : Flash) (arena : Frames) (es : List Entry) (bytes : List ℕ) → RunOnFlash r flash arena es → (p lease : ℕ) → slice_get r.leases p ≡ Some lease → bytes ≡ frame_of arena lease
+pub frame_page : (r : Kept) (flash : Flash) (arena : Frames) (es : List Entry) (bytes : List ℕ)
+    → RunOnFlash r flash arena es → (p lease : ℕ) → slice_get r.leases p ≡ Some lease → bytes ≡ frame_of arena lease
     → page_at flash (page_of r p) ≡ whole bytes
 frame_page r flash arena es bytes s p lease got is = (s.frames p lease got).bytes ∙ ap (λ (xs : List ℕ). whole xs) (sym is)
 

@@ -1,5 +1,6 @@
 -- Runs that match a flash: what others leave of them, and another block or page.
-use Rattle.std.proofs.Common.{◌≡◌, ◌⊎◌, inl, inr, ℕ, zero, suc, ◌+◌, ◌-◌, ◌*◌, ◌/◌, ◌%◌, ◌<◌, ◌≤◌, List, [], ◌∷◌, ◌++◌, length, slice_get, refl, ap, sym, subst, ◌∙◌, arith, Option, Some, None, option_map, Ok, length-append, suc-mul, mul-le-mul_right, zero-mul, div-lt_iff_lt-mul}
+use Rattle.std.proofs.Common.{◌≡◌, ◌⊎◌, inl, inr, ℕ, zero, suc, ◌+◌, ◌-◌, ◌*◌, ◌/◌, ◌%◌, ◌<◌, ◌≤◌, List, [], ◌∷◌, ◌++◌, length, slice_get, refl, ap, sym, subst, ◌∙◌, arith, Option, Some, None}
+use Rattle.std.proofs.Common.{option_map, Ok, length-append, suc-mul, mul-le-mul_right, zero-mul, div-lt_iff_lt-mul}
 use Rattle.std.proofs.Math.ListN.{get_or-append}
 use Rattle.std.proofs.lemmas.Bool.{cases_lt}
 use Rattle.std.proofs.lemmas.Option.{slice_get_within}
@@ -41,7 +42,8 @@ RunOnFlash-elsewhere r old new before after es pages frames s = record {
 }
 
 no_pages : (shape : Shape) → IsShape shape → run_pages shape 0 ≡ 0
-no_pages shape is = pages_are 0 (page_entries shape) 0 (entries_some shape is) (omega arith) (let z : 0 * page_entries shape ≡ 0 = zero-mul (page_entries shape) in omega (arith, z, entries_some shape is))
+no_pages shape is = pages_are 0 (page_entries shape) 0 (entries_some shape is) (omega arith)
+    (let z : 0 * page_entries shape ≡ 0 = zero-mul (page_entries shape) in omega (arith, z, entries_some shape is))
 
 pub RunOnFlash-empty : (shape : Shape) (level : ℕ) (flash : Flash) (arena : Frames) → IsShape shape → RunOnFlash (empty shape level) flash arena []
 unfolding run
@@ -76,9 +78,11 @@ same_place shape blocks b j is h =
     let lt : j / shape.block_pages < length blocks = (div-lt_iff_lt-mul some).1 h in
     ap (λ (k : ℕ). k * shape.block_pages + j % shape.block_pages) (get_or-append blocks (b ∷ []) 0 (j / shape.block_pages) lt)
 
-pub RunOnFlash-block : (r : Kept) (b : ℕ) (flash : Flash) (arena : Frames) (es : List Entry) → IsShape r.shape → RunOnFlash r flash arena es → RunOnFlash (record r { blocks = r.blocks ++ b ∷ [] }) flash arena es
+pub RunOnFlash-block : (r : Kept) (b : ℕ) (flash : Flash) (arena : Frames) (es : List Entry) → IsShape r.shape
+    → RunOnFlash r flash arena es → RunOnFlash (record r { blocks = r.blocks ++ b ∷ [] }) flash arena es
 RunOnFlash-block r b flash arena es is s =
-    let more : length r.blocks * r.shape.block_pages ≤ length (r.blocks ++ b ∷ []) * r.shape.block_pages = mul-le-mul_right r.shape.block_pages (let e = length-append r.blocks (b ∷ []) in omega (arith, e)) in
+    let more : length r.blocks * r.shape.block_pages ≤ length (r.blocks ++ b ∷ []) * r.shape.block_pages = mul-le-mul_right r.shape.block_pages
+    (let e = length-append r.blocks (b ∷ []) in omega (arith, e)) in
     let place : (j : ℕ) → j < length r.firsts → page_in r.shape (r.blocks ++ b ∷ []) j ≡ page_in r.shape r.blocks j = λ j h. same_place r.shape r.blocks b j is (omega (arith, s.within)) in
     record {
       read = run_same r.shape (page_at flash) (page_at flash) r.level r.count r.blocks (r.blocks ++ b ∷ []) (λ j h. (place j (omega (arith, s.pages)), refl)) ∙ s.read;

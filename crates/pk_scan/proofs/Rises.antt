@@ -31,13 +31,15 @@ sorted_back [] ys p = p
 sorted_back (x ∷ xs) ys p = sorted_back xs ys (right_part _ _ p)
 
 -- the last entry is below the next
-pub rises_behind : (front : List Entry) (last next : Entry) (more : List Entry) → T (is_sorted key_cmp (front ++ last ∷ [])) → T (is_sorted key_cmp (next ∷ more)) → T (is_lt (key_cmp (key_of last) (key_of next)))
+pub rises_behind : (front : List Entry) (last next : Entry) (more : List Entry) → T (is_sorted key_cmp (front ++ last ∷ []))
+    → T (is_sorted key_cmp (next ∷ more)) → T (is_lt (key_cmp (key_of last) (key_of next)))
     → T (is_sorted key_cmp ((front ++ last ∷ []) ++ next ∷ more))
 rises_behind [] last next more up up' less_than =
     both _ _ (both _ _ less_than (below_less last.0 next.0 more less_than (left_part _ _ up'))) up'
 rises_behind (x ∷ front) last next more up up' less_than =
     let low : T (is_lt (key_cmp x.0 last.0)) = left_part _ _ (below_back x.0 front (last ∷ []) (left_part _ _ up)) in
-    let all : T (below_all key_cmp x.0 (last ∷ next ∷ more)) = both _ _ low (below_less x.0 last.0 (next ∷ more) low (both _ _ less_than (below_less last.0 next.0 more less_than (left_part _ _ up')))) in
+    let all : T (below_all key_cmp x.0 (last ∷ next ∷ more)) = both _ _ low
+    (below_less x.0 last.0 (next ∷ more) low (both _ _ less_than (below_less last.0 next.0 more less_than (left_part _ _ up')))) in
     both _ _ (below_both x.0 (front ++ last ∷ []) (next ∷ more) (left_part _ _ up) (right_part _ _ all)) (rises_behind front last next more (right_part _ _ up) up' less_than)
 
 -- the other way round

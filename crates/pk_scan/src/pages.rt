@@ -4,7 +4,7 @@ ghost use Rattle.std.specs.FinMap.Entries.{is_sorted};
 ghost use Rattle.pk_base.specs.Key.{key_cmp};
 ghost use Rattle.pk_base.specs.Fields.{number_at};
 ghost use Rattle.pk_base.specs.Entry.{Entry as EntrySpec, key_of};
-ghost use Rattle.pk_meta.specs.Page.{Decodes, IsMetaPage};
+ghost use Rattle.pk_meta.specs.PageChecks.{Decodes, IsMetaPage};
 ghost use Rattle.pk_scan.specs.Runs as runs;
 ghost use Rattle.pk_scan.specs.Runs.{IsLast, GoesOnOr};
 

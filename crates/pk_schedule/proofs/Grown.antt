@@ -1,5 +1,6 @@
 -- What a step of a merge's job leaves of the pool, of pages and of frames: at most one block more for the output, and no page of another's block.
-use Rattle.std.proofs.Common.{◌≡◌, ◌≢◌, ◌⊎◌, inl, inr, ℕ, zero, suc, ◌+◌, ◌*◌, ◌/◌, Bool, true, false, not, ◌==◌, eqb→eq, cond, T, List, [], ◌∷◌, ◌++◌, length, Option, Some, None, refl, sym, ap, subst, ◌∙◌, arith, length-append}
+use Rattle.std.proofs.Common.{◌≡◌, ◌≢◌, ◌⊎◌, inl, inr, ℕ, zero, suc, ◌+◌, ◌*◌, ◌/◌, Bool, true, false, not, ◌==◌, eqb→eq, cond, T, List, [], ◌∷◌, ◌++◌, length, Option, Some, None, refl, sym, ap}
+use Rattle.std.proofs.Common.{subst, ◌∙◌, arith, length-append}
 use Rattle.std.specs.Prelude.{slice_get, slice_set}
 use Rattle.std.specs.List.{list_any, concat}
 use Rattle.std.proofs.lemmas.Bool.{cases_eq}
@@ -152,7 +153,8 @@ module _ (pool : Blocks) (out : Kept) (pool' : Blocks) (out' : Kept) where
 
 -- ---- each action
 
-pub acts_grow : {X : Type 0} (source : Source X) (target : Kept) (pins : Bool) (out : Kept) (m : Merger) (pool : Blocks) (old : BoardState) (before : Frames) (next : Next) (out' : Kept) (m' : Merger) (pool' : Blocks) (new : BoardState) (after : Frames)
+pub acts_grow : {X : Type 0} (source : Source X) (target : Kept) (pins : Bool) (out : Kept) (m : Merger) (pool : Blocks)
+    (old : BoardState) (before : Frames) (next : Next) (out' : Kept) (m' : Merger) (pool' : Blocks) (new : BoardState) (after : Frames)
     → Acts source target pins out m pool old before next out' m' pool' new after → Grew pool out pool' out'
 acts_grow source target pins out m pool old before LoadSource out' m' pool' new after (l, o, p, a) = inl (p, ap (λ (r : Kept). r.blocks) o)
 acts_grow source target pins out m pool old before LoadTarget out' m' pool' new after (l, o, p, a) = inl (p, ap (λ (r : Kept). r.blocks) o)
@@ -166,7 +168,8 @@ page_frames pins old new bytes None k = ap (λ (a : Frames). length a.used) k.1
 page_frames pins old new bytes (Some l) k = ap (λ (a : Frames). length a.used) k.2 ∙ length-set old.used l true
 
 -- there are as many frames
-pub acts_frames : {X : Type 0} (source : Source X) (target : Kept) (pins : Bool) (out : Kept) (m : Merger) (pool : Blocks) (old : BoardState) (before : Frames) (next : Next) (out' : Kept) (m' : Merger) (pool' : Blocks) (new : BoardState) (after : Frames)
+pub acts_frames : {X : Type 0} (source : Source X) (target : Kept) (pins : Bool) (out : Kept) (m : Merger) (pool : Blocks)
+    (old : BoardState) (before : Frames) (next : Next) (out' : Kept) (m' : Merger) (pool' : Blocks) (new : BoardState) (after : Frames)
     → Acts source target pins out m pool old before next out' m' pool' new after → length after.used ≡ length before.used
 acts_frames source target pins out m pool old before LoadSource out' m' pool' new after (l, o, p, a) = ap (λ (f : Frames). length f.used) a
 acts_frames source target pins out m pool old before LoadTarget out' m' pool' new after (l, o, p, a) = ap (λ (f : Frames). length f.used) a
@@ -203,7 +206,8 @@ same_page pool out old new (inr (b, is, s)) k other =
 
 -- runs whose blocks are none of the output's are unchanged
 pub runs_leave : (shape : Shape) (pool : Blocks) (out : Kept) (old : Flash) (before : Frames) (new : Flash) (after : Frames) → LeavesRuns pool out old before new after → out.shape ≡ shape
-    → (rs : List Kept) (bss : List (List ℕ)) (ess : List (List Entry)) → HaveBlocks shape rs bss → ((b : ℕ) → In b (concat bss) → slice_get pool.states b ≡ Some (Owned Meta)) → ((b : ℕ) → In b (concat bss) → In b out.blocks → ⊥)
+    → (rs : List Kept) (bss : List (List ℕ)) (ess : List (List Entry)) → HaveBlocks shape rs bss
+    → ((b : ℕ) → In b (concat bss) → slice_get pool.states b ≡ Some (Owned Meta)) → ((b : ℕ) → In b (concat bss) → In b out.blocks → ⊥)
     → RunsOnFlash old before rs ess → RunsOnFlash new after rs ess
 runs_leave shape pool out old before new after leaves is [] [] [] have meta apart s = tt
 runs_leave shape pool out old before new after leaves is [] [] (es ∷ ess) have meta apart s = absurd s
@@ -211,7 +215,9 @@ runs_leave shape pool out old before new after leaves is [] (bs ∷ bss) ess hav
 runs_leave shape pool out old before new after leaves is (r ∷ rs) [] ess have meta apart s = absurd have
 runs_leave shape pool out old before new after leaves is (r ∷ rs) (bs ∷ bss) [] have meta apart s = absurd s
 runs_leave shape pool out old before new after leaves is (r ∷ rs) (bs ∷ bss) (es ∷ ess) have meta apart s =
-    let front : (i b : ℕ) → slice_get r.blocks i ≡ Some b → In b (concat (bs ∷ bss)) = λ i b got. any_front (λ y. b ≡ y) bs (concat bss) (got_in bs i b (subst (λ (xs : List ℕ). slice_get xs i ≡ Some b) have.1 got)) in (
+    let front : (i b : ℕ) → slice_get r.blocks i ≡ Some b
+    → In b (concat (bs ∷ bss)) = λ i b got. any_front (λ y. b ≡ y) bs (concat bss) (got_in bs i b (subst (λ (xs : List ℕ). slice_get xs i ≡ Some b) have.1 got)) in (
       leaves r es (have.0 ∙ sym is) (λ i b got. meta b (front i b got)) (λ i j b got had. apart b (front i b got) (got_in out.blocks j b had)) s.0,
-      runs_leave shape pool out old before new after leaves is rs bss ess have.2 (λ b among. meta b (any_back (λ y. b ≡ y) bs (concat bss) among)) (λ b among. apart b (any_back (λ y. b ≡ y) bs (concat bss) among)) s.1,
+      runs_leave shape pool out old before new after leaves is rs bss ess have.2
+          (λ b among. meta b (any_back (λ y. b ≡ y) bs (concat bss) among)) (λ b among. apart b (any_back (λ y. b ≡ y) bs (concat bss) among)) s.1,
     )

@@ -1,5 +1,6 @@
 -- A merge whose output is complete: what its install requires.
-use Rattle.std.proofs.Common.{◌≡◌, inl, inr, ℕ, zero, suc, ◌-◌, ◌/◌, ◌<◌, ◌≤◌, true, T, List, [], ◌∷◌, ◌++◌, length, map, slice_set, slice_index_or, Some, None, Ok, refl, sym, ap, subst, ◌∙◌, arith, le→leb}
+use Rattle.std.proofs.Common.{◌≡◌, inl, inr, ℕ, zero, suc, ◌-◌, ◌/◌, ◌<◌, ◌≤◌, true, T, List, [], ◌∷◌, ◌++◌, length, map, slice_set, slice_index_or, Some, None, Ok, refl, sym, ap, subst, ◌∙◌, arith}
+use Rattle.std.proofs.Common.{le→leb}
 use Rattle.std.specs.Prelude.{slice_get}
 use Rattle.std.proofs.lemmas.List.{length-set}
 use Rattle.std.specs.List.{concat, AllByRecursion}
@@ -129,7 +130,8 @@ module _ (x : Index) (frames : ℕ) (old : BoardState) (top : ℕ × Root) (foun
       omega (arith, same, some)
 
   pub none_taken : taken_by x.schedule.freeze ≡ []
-  none_taken = length_none (taken_by x.schedule.freeze) (λ some. let none : length x.log.frozen.entries ≡ 0 = ap (λ (xs : List Entry). length xs) (may.stands.freeze.none_frozen some) in let more = frozen_some in omega (arith, none, more))
+  none_taken = length_none (taken_by x.schedule.freeze)
+      (λ some. let none : length x.log.frozen.entries ≡ 0 = ap (λ (xs : List Entry). length xs) (may.stands.freeze.none_frozen some) in let more = frozen_some in omega (arith, none, more))
 
   -- ---- the root that follows
 
@@ -184,7 +186,8 @@ module _ (x : Index) (frames : ℕ) (old : BoardState) (top : ℕ × Root) (foun
   -- the former run of a level
   pub former_of : (n : ℕ) → 1 ≤ n → IsFormer shape n (run_of x.levels n)
   former_of n some =
-      let it = of_level x.levels.shape x.levels.pinned 1 x.levels.runs (n - 1) (empty x.levels.shape n) (λ k e. record { same_shape = refl; same_level = omega (arith, e, some); frames = λ le. refl }) known.each n (omega (arith, some)) in
+      let it = of_level x.levels.shape x.levels.pinned 1 x.levels.runs (n - 1) (empty x.levels.shape n)
+      (λ k e. record { same_shape = refl; same_level = omega (arith, e, some); frames = λ le. refl }) known.each n (omega (arith, some)) in
       record { same_shape = it.same_shape ∙ may.stands.levels_shape; same_level = it.same_level }
 
   pub blocks_are : (n : ℕ) → (run_of x.levels n).blocks ≡ blocks_at root.runs n
@@ -212,7 +215,8 @@ module _ (x : Index) (frames : ℕ) (old : BoardState) (top : ℕ × Root) (foun
 
   pub exchange_one : CanExchange x.levels x.arena x.pool job level out
   exchange_one = record {
-    held = subst (λ j. held_at j level ≡ Some out) job_is (idle_one shape idle_job level out (run_of x.levels level) job.merger idle_job_is waits.into.merger_shape least most (former_of level least)).0;
+    held = subst (λ j. held_at j level ≡ Some out) job_is
+        (idle_one shape idle_job level out (run_of x.levels level) job.merger idle_job_is waits.into.merger_shape least most (former_of level least)).0;
     of_level = record {
       same_shape = waits.into.output_shape ∙ sym may.stands.levels_shape;
       same_level = waits.into.output_level;
@@ -281,7 +285,8 @@ module _ (x : Index) (frames : ℕ) (old : BoardState) (top : ℕ × Root) (foun
         let one = times-append l (run_of x.levels level).leases (leases_of runs_one) in
         let two = times-append l (run_of x.levels level).leases (source.leases ++ leases_of runs_two) in
         let three = times-append l source.leases (leases_of runs_two) in
-        let same : times l ((run_of x.levels level).leases ++ (source.leases ++ leases_of runs_two)) ≡ times l ((run_of x.levels level).leases ++ leases_of runs_one) = omega (arith, set, here, none, one, two, three) in
+        let same : times l ((run_of x.levels level).leases ++ (source.leases ++ leases_of runs_two)) ≡ times l
+        ((run_of x.levels level).leases ++ leases_of runs_one) = omega (arith, set, here, none, one, two, three) in
         same ∙ rows_one l
 
     pub source_stays : (b : ℕ) → In b source.blocks → slice_get (given_back x.pool (run_of x.levels level).blocks).states b ≡ Some (Owned Meta)
@@ -290,7 +295,8 @@ module _ (x : Index) (frames : ℕ) (old : BoardState) (top : ℕ × Root) (foun
         (subst (λ xs. In b xs) (blocks_are (level - 1)) among) (subst (λ xs. In b xs) (blocks_are level) there)) ∙ former_owned (level - 1) b among
 
     pub second : SecondRun shape (given_to (taken_from job level) (run_of x.levels level)) level
-    second = subst (λ j. SecondRun shape (given_to (taken_from j level) (run_of x.levels level)) level) job_is (second_run shape idle_job level out (run_of x.levels level) job.merger idle_job_is waits.into.merger_shape deep most (former_of level least))
+    second = subst (λ j. SecondRun shape (given_to (taken_from j level) (run_of x.levels level)) level) job_is
+        (second_run shape idle_job level out (run_of x.levels level) job.merger idle_job_is waits.into.merger_shape deep most (former_of level least))
 
     pub exchange_two : (levels' : Levels) (arena' : Frames) (pool' : Blocks) (job' : Job) → Exchanges x.levels x.arena x.pool job level out levels' arena' pool' job'
         → CanExchange levels' arena' pool' job' (level - 1) (empty shape (level - 1))

@@ -174,5 +174,6 @@ text_found shape at full (suc n) page front ys left room e =
         record {
           starts = λ some. ap (λ (r : List ℕ). starts_with nat_eq r front) (sym own.0) ∙ passed.starts;
           len = own.2;
-          each = each_more shape at n page ys (is ∙ ap whole own.0) (λ (k : ℕ) (less : k < n). more.each k less ∙ ap (λ (r : List ℕ). whole (cut shape.page_bytes (drop (k * shape.page_bytes) r))) own.1);
+          each = each_more shape at n page ys (is ∙ ap whole own.0)
+              (λ (k : ℕ) (less : k < n). more.each k less ∙ ap (λ (r : List ℕ). whole (cut shape.page_bytes (drop (k * shape.page_bytes) r))) own.1);
         }

@@ -2,7 +2,8 @@
 use Rattle.std.proofs.Common.{◌≡◌, ℕ, sym, subst, ap, ◌∙◌, Bool, List}
 use Rattle.pk_base.specs.Shape.{Shape}
 use Rattle.pk_nand.specs.BoardState.{BoardState}
-use Rattle.pk_nand.specs.Calls.{Rose, after_post}
+use Rattle.pk_nand.specs.Calls.{Rose}
+use Rattle.pk_nand.specs.Operations.{after_post}
 use Rattle.pk_nand.specs.Effects.{OnlyFlash}
 use Rattle.pk_serve.specs.Ends.{HasCause, NoFaults, IsFault, Blames}
 use Rattle.pk_serve.specs.Input.{Entered, Valued, NoValue, TookFailed, NoEntry}

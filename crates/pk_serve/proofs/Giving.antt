@@ -3,7 +3,8 @@ use Rattle.std.proofs.Common.{◌≡◌, ℕ, List, [], ◌++◌, refl, sym, sub
 use Rattle.pk_base.specs.Shape.{Shape}
 use Rattle.pk_base.specs.Map.{Map}
 use Rattle.pk_nand.specs.BoardState.{BoardState}
-use Rattle.pk_nand.specs.Calls.{Rose, after_post, PostFailed}
+use Rattle.pk_nand.specs.Calls.{Rose}
+use Rattle.pk_nand.specs.Operations.{after_post, PostFailed}
 use Rattle.pk_model.specs.Run.{Exchange}
 use Rattle.pk_model.specs.Sight.{Sight}
 use Rattle.pk_nand.specs.Effects.{OnlyFlash}
@@ -64,7 +65,8 @@ module _ (b c : BoardState) (drive after : Sight) (reaches : CallReaches b c dri
   committed shape frames start a unposted all m w =
       let calls = commit_calls b c drive.pending idle (programs shape frames m w.stands) in
       let nothing = ap owed none in
-      Serving-commit shape frames start a b drive unposted all m w c after (reaches shape frames m w.stands) (stands shape frames m w.stands) rest reading no_stop read same (omega (arith, calls, nothing))
+      Serving-commit shape frames start a b drive unposted all m w c after (reaches shape frames m w.stands)
+      (stands shape frames m w.stands) rest reading no_stop read same (omega (arith, calls, nothing))
 
   pub flushes : (d : BoardState) (heads : List ℕ) → Posts c d heads → Flushed b d drive after heads
   flushes d heads posts shape frames start a behind all m w = posts after none shape frames start a behind all m (committed shape frames start a (heads ++ behind) all m w)

@@ -7,7 +7,7 @@ ghost use Rattle.pk_serve.specs.Ends.{IsFault, Blames};
 ghost use Rattle.pk_serve.specs.Part.{IsRunning, CanRun, HasBuffers, KeepsRunning, SameSizes};
 ghost use Rattle.pk_serve.specs.Input.{InputAdvances, Quits};
 ghost use Rattle.pk_serve.specs.Script.{Runs};
-ghost use Rattle.pk_serve.specs.Loop.{most_entries};
+ghost use Rattle.pk_serve.specs.Further.{most_entries};
 
 use crate::End;
 use crate::entry::{Numbered, take_entry, take_value};

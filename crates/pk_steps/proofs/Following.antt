@@ -1,4 +1,4 @@
--- The root after a merge may follow.
+-- The root after a merge is a valid successor.
 use Rattle.std.proofs.Common.{◌≡◌, inl, inr, ℕ, ◌-◌, ◌/◌, refl, T, Bool, true, false, List, [], ◌++◌, length, map, nat_le, ◌==◌, ◌||◌, if◌then◌else◌, Ok, leb→le}
 use Rattle.std.specs.List.{concat}
 use Rattle.pk_base.specs.Shape.{Shape, IsShape}
@@ -61,7 +61,8 @@ module _ (shape : Shape) (flash : Flash) (extra : List Entry) (top : ℕ × Root
   is_found : found_under shape (page_at flash) (merged_root root level count taken) ≡ Ok (merged_found level found)
   unfolding found_under
   is_found =
-      let older : older_epoch shape (page_at flash) (merged_root root level count taken) ≡ Ok (if level == 1 then [] else found.older) = older_is shape (page_at flash) root.epoch (level == 1) root.older found.older pieces.older in
+      let older : older_epoch shape (page_at flash) (merged_root root level count taken) ≡ Ok
+      (if level == 1 then [] else found.older) = older_is shape (page_at flash) root.epoch (level == 1) root.older found.older pieces.older in
       let newest : newest_epoch shape (page_at flash) (merged_root root level count taken) ≡ Ok found.newest = pieces.newest in
       let runs = runs_after shape (page_at flash) found.newest found.older root.counts root.runs found.runs lists count taken level is_level is.stands in
       rw (older, newest, runs) refl

@@ -1,5 +1,6 @@
--- The root after a freeze may follow.
-use Rattle.std.proofs.Common.{◌≡◌, inl, inr, ℕ, suc, ◌+◌, ◌-◌, ◌*◌, ◌/◌, ◌%◌, ◌<◌, ◌≤◌, refl, sym, ap, subst, ◌∙◌, arith, true, false, T, List, [], ◌∷◌, ◌++◌, length, reverse, slice_index, ◌==◌, if◌then◌else◌, Ok, append-nil, mul-le-mul_right, div-add-mod', mod-lt, eqb→eq, leb→le, le_trans}
+-- The root after a freeze is a valid successor.
+use Rattle.std.proofs.Common.{◌≡◌, inl, inr, ℕ, suc, ◌+◌, ◌-◌, ◌*◌, ◌/◌, ◌%◌, ◌<◌, ◌≤◌, refl, sym, ap, subst, ◌∙◌, arith, true, false, T, List, [], ◌∷◌, ◌++◌, length, reverse, slice_index, ◌==◌}
+use Rattle.std.proofs.Common.{if◌then◌else◌, Ok, append-nil, mul-le-mul_right, div-add-mod', mod-lt, eqb→eq, leb→le, le_trans}
 use Rattle.std.proofs.lemmas.Nat.{div-mul-add}
 use Rattle.std.proofs.lemmas.List.{reverse-append}
 use Rattle.std.specs.List.{concat, flat_map}
@@ -29,7 +30,8 @@ use Rattle.pk_steps.proofs.Freezing.{older_is}
 
 -- a list with an element is not empty
 not_empty : (n : ℕ) → (suc n == 0) ≡ false
-not_empty n = elim (suc n == 0) as (λ b. (suc n == 0) ≡ b → b ≡ false) [ true ↦ λ e. let same : suc n ≡ 0 = eqb→eq (suc n) 0 (subst T (sym e) tt) in absurd (omega (arith, same)) | false ↦ λ e. refl ] refl
+not_empty n = elim (suc n == 0) as (λ b. (suc n == 0) ≡ b
+    → b ≡ false) [ true ↦ λ e. let same : suc n ≡ 0 = eqb→eq (suc n) 0 (subst T (sym e) tt) in absurd (omega (arith, same)) | false ↦ λ e. refl ] refl
 
 module _ (shape : Shape) (flash : Flash) (extra : List Entry) (top : ℕ × Root) (found : Found) (m : Map) (first second : ℕ) (is_shape : IsShape shape)
     (before : IsUnder shape flash extra top found m) (is : IsFrozen shape flash top found first second) where
@@ -58,7 +60,8 @@ module _ (shape : Shape) (flash : Flash) (extra : List Entry) (top : ℕ × Root
   unfolding found_under
   is_found =
       let pieces = pieces_of shape (page_at flash) root found before.is_found in
-      let older : older_epoch shape (page_at flash) then_root ≡ Ok found.newest = older_is shape (page_at flash) root.epoch root.newest found.newest (blocks_of_root shape root was_valid).two pieces.newest in
+      let older : older_epoch shape (page_at flash) then_root ≡ Ok found.newest = older_is shape
+      (page_at flash) root.epoch root.newest found.newest (blocks_of_root shape root was_valid).two pieces.newest in
       let empty : newest_epoch shape (page_at flash) then_root ≡ Ok [] = nothing in
       let runs = pieces.runs in
       rw (older, empty, runs) refl
@@ -113,7 +116,8 @@ module _ (shape : Shape) (flash : Flash) (extra : List Entry) (top : ℕ × Root
   -- the extra entries alone have no more keys
   room : length (firsts extra) ≤ buffer shape
   room =
-      let fewer = no_more_keys (firsts extra) (firsts (found.newest ++ extra)) (firsts_sorted extra) (firsts_sorted (found.newest ++ extra)) (λ q has. has_firsts q (found.newest ++ extra) (has_behind q found.newest extra (firsts_has q extra has))) in
+      let fewer = no_more_keys (firsts extra) (firsts (found.newest ++ extra)) (firsts_sorted extra) (firsts_sorted (found.newest ++ extra))
+      (λ q has. has_firsts q (found.newest ++ extra) (has_behind q found.newest extra (firsts_has q extra has))) in
       le_trans fewer (leb→le _ _ values.room)
 
 pub frozen_next : Frozen

@@ -26,10 +26,12 @@ pub newest_exist : (shape : Shape) (root : Root) → T (is_root shape root) → 
 newest_exist shape root is n small =
     let in_flash : ℕ → Bool = λ b. nat_le 2 b && nat_lt b shape.blocks in
     let two : length root.newest ≡ 2 = (blocks_of_root shape root is).two in
-    let every : T (list_all in_flash (named root)) = all_of_root (is_number root.number) (nat_le 1 root.epoch) (nat_le root.epoch root.number) (length root.newest == 2) (length root.older == 0 || (length root.older == 2 && nat_le 2 root.epoch))
+    let every : T (list_all in_flash (named root)) = all_of_root (is_number root.number) (nat_le 1 root.epoch)
+    (nat_le root.epoch root.number) (length root.newest == 2) (length root.older == 0 || (length root.older == 2 && nat_le 2 root.epoch))
     (has_runs shape root) (list_all in_flash (named root)) (differ (named root)) is in
     let newest : T (list_all in_flash root.newest) = all_front in_flash root.newest root.older (all_front in_flash (root.newest ++ root.older) (concat root.runs) every) in
-    ltb-true (slice_index root.newest n) shape.blocks (is_true (nat_lt (slice_index root.newest n) shape.blocks) (right_part (nat_le 2 (slice_index root.newest n)) (nat_lt (slice_index root.newest n) shape.blocks)
+    ltb-true (slice_index root.newest n) shape.blocks
+    (is_true (nat_lt (slice_index root.newest n) shape.blocks) (right_part (nat_le 2 (slice_index root.newest n)) (nat_lt (slice_index root.newest n) shape.blocks)
     (all_at in_flash root.newest n newest (omega (arith, small, two)))))
 
 -- two different ones

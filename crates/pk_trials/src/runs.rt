@@ -1,7 +1,9 @@
 //! Flashes with runs on all four levels, whose pages are made by hand.
 
 use crate::damage::refused;
-use crate::steps::{copied, cut, done, ended, holds, pages_left, posted, script, serve_with, worked_board, wrote};
+use crate::steps::{
+    copied, cut, done, ended, holds, pages_left, posted, script, serve_with, worked_board, wrote,
+};
 use pk_flash::{Flash, Left};
 use pk_nand::PageState;
 use pk_nvme::status::{KEY_DOES_NOT_EXIST, SUCCESSFUL_COMPLETION};
@@ -29,7 +31,7 @@ fn ask_with(
     serve_with(alloc, flash, frames)
 }
 
-// By the key: the level whose run has the entry that counts, 0 for the buffers and 4 for none, and whether the key is there.
+// By the key: the level whose run has the entry that counts, 0 for the buffers and 4 for none, and whether the key exists.
 #[derive(Clone, Copy)]
 struct Row {
     key: u8,

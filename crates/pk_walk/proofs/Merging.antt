@@ -95,7 +95,8 @@ either_of None later = later
 
 find-row : (q : Key) (xs ys : List Entry) → find key_cmp q (xs ++ ys) ≡ either_of (find key_cmp q xs) (find key_cmp q ys)
 find-row q [] ys = refl
-find-row q (x ∷ xs) ys = elim (eq_by_cmp key_cmp q x.0) as (λ b. cond b (Some x.1) (find key_cmp q (xs ++ ys)) ≡ either_of (cond b (Some x.1) (find key_cmp q xs)) (find key_cmp q ys)) [ true ↦ refl | false ↦ find-row q xs ys ]
+find-row q (x ∷ xs) ys = elim (eq_by_cmp key_cmp q x.0) as (λ b. cond b (Some x.1) (find key_cmp q (xs ++ ys))
+    ≡ either_of (cond b (Some x.1) (find key_cmp q xs)) (find key_cmp q ys)) [ true ↦ refl | false ↦ find-row q xs ys ]
 
 some_left : (a b : Option (Option Place)) (v : Option Place) → a ≡ Some v → either_of a b ≡ Some v
 some_left a b v e = rw e refl
@@ -151,9 +152,11 @@ module _ (f g : Key → Option (Option Place)) (w : Key → Bool) where
 -- the first wanted entry that counts of a sorted list before others
 pub first_of_row : (w : Key → Bool) (es fs : List Entry) → T (is_sorted key_cmp es) → first_of (wanted w (firsts (es ++ fs))) ≡ lesser (first_of (wanted w es)) (first_of (wanted w (firsts fs)))
 first_of_row w es fs up =
-    let others : IsLeast (λ q. find key_cmp q fs) w (first_of (wanted w (firsts fs))) = agree (λ q. find key_cmp q (firsts fs)) (λ q. find key_cmp q fs) w _ (λ q is. find-firsts q fs) (least_of_sorted w (firsts fs) (firsts_sorted fs)) in
+    let others : IsLeast (λ q. find key_cmp q fs) w (first_of (wanted w (firsts fs))) = agree (λ q. find key_cmp q (firsts fs))
+    (λ q. find key_cmp q fs) w _ (λ q is. find-firsts q fs) (least_of_sorted w (firsts fs) (firsts_sorted fs)) in
     let two = least_of_both (λ q. find key_cmp q es) (λ q. find key_cmp q fs) w _ _ (least_of_sorted w es up) others in
-    let all : IsLeast (λ q. find key_cmp q (es ++ fs)) w (first_of (wanted w (firsts (es ++ fs)))) = agree (λ q. find key_cmp q (firsts (es ++ fs))) (λ q. find key_cmp q (es ++ fs)) w _ (λ q is. find-firsts q (es ++ fs)) (least_of_sorted w (firsts (es ++ fs)) (firsts_sorted (es ++ fs))) in
+    let all : IsLeast (λ q. find key_cmp q (es ++ fs)) w (first_of (wanted w (firsts (es ++ fs)))) = agree (λ q. find key_cmp q (firsts (es ++ fs)))
+    (λ q. find key_cmp q (es ++ fs)) w _ (λ q is. find-firsts q (es ++ fs)) (least_of_sorted w (firsts (es ++ fs)) (firsts_sorted (es ++ fs))) in
     one_least (λ q. find key_cmp q (es ++ fs)) w _ _ all (agree (λ q. either_of (find key_cmp q es) (find key_cmp q fs)) (λ q. find key_cmp q (es ++ fs)) w _ (λ q is. sym (find-row q es fs)) two)
 
 -- lists that each rise

@@ -6,7 +6,7 @@ use Rattle.std.proofs.lemmas.Cmp.{tied_itself}
 use Rattle.pk_base.specs.Key.{key_cmp}
 use Rattle.pk_base.specs.Fields.{number_at}
 use Rattle.pk_base.specs.Shape.{Shape, IsShape}
-use Rattle.pk_meta.specs.Page.{Decodes}
+use Rattle.pk_meta.specs.PageChecks.{Decodes}
 use Rattle.pk_meta.proofs.FindLemmas.{all_of, place_key, to_left}
 use Rattle.pk_model.proofs.MapLemmas.{key_total, key_antisymm}
 use Rattle.pk_walk.specs.declared.position.Position.{Position}

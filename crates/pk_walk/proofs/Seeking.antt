@@ -5,9 +5,9 @@ use Rattle.pk_base.specs.Entry.{Entry}
 use Rattle.pk_base.specs.Seen.{entry as seen}
 use Rattle.pk_base.specs.declared.entry.Entry.{Entry as RustEntry}
 use Rattle.pk_base.specs.Page.{Flash, page_at, whole}
-use Rattle.pk_meta.specs.Page.{IsMetaPage}
+use Rattle.pk_meta.specs.PageChecks.{IsMetaPage}
 use Rattle.pk_nand.specs.BoardState.{BoardState}
-use Rattle.pk_nand.specs.Calls.{ReadFailed}
+use Rattle.pk_nand.specs.Operations.{ReadFailed}
 use Rattle.pk_nand.specs.Counts.{after_reads}
 use Rattle.pk_pin.specs.Frames.{Frames}
 use Rattle.pk_run.specs.Kept.{Kept, IsKept, RunOnFlash, page_of}
@@ -44,11 +44,13 @@ ReadsAll-more a b c old now next first more =
     (more.0 + first.0, omega (arith, first.1, more.1), more.2 ∙ ap (λ (x : BoardState). after_reads more.0 x) first.2 ∙ reads_more more.0 first.0 old)
 
 -- reads change their number alone, and a failed one the counts of faults
-pub Reads-rest : (a b : ℕ) (old new : BoardState) → Reads a b old new → new ≡ record old { reads = new.reads; flash_faults = new.flash_faults; read_faults = new.read_faults; failed_at = new.failed_at }
+pub Reads-rest : (a b : ℕ) (old new : BoardState) → Reads a b old new
+    → new ≡ record old { reads = new.reads; flash_faults = new.flash_faults; read_faults = new.read_faults; failed_at = new.failed_at }
 Reads-rest a b old new reads =
     subst (λ (x : BoardState). x ≡ record old { reads = x.reads; flash_faults = x.flash_faults; read_faults = x.read_faults; failed_at = x.failed_at }) (sym reads.2) refl
 
-pub ReadsFail-rest : (a b : ℕ) (old new : BoardState) → ReadsFail a b old new → new ≡ record old { reads = new.reads; flash_faults = new.flash_faults; read_faults = new.read_faults; failed_at = new.failed_at }
+pub ReadsFail-rest : (a b : ℕ) (old new : BoardState) → ReadsFail a b old new
+    → new ≡ record old { reads = new.reads; flash_faults = new.flash_faults; read_faults = new.read_faults; failed_at = new.failed_at }
 ReadsFail-rest a b old new (k, page, few, failed) =
     let back = sym failed.rest in
     failed.rest ∙ (λ i. record old { reads = (back i).reads; flash_faults = new.flash_faults; read_faults = new.read_faults; failed_at = (back i).failed_at })

@@ -1,5 +1,6 @@
 -- What a sorted list has of the wanted keys: its first, what is after it, and where it begins.
-use Rattle.std.proofs.Common.{◌≡◌, ℕ, zero, suc, ◌+◌, ◌≤◌, refl, sym, ap, subst, ◌∙◌, arith, Bool, true, false, cond, not, T, if◌then◌else◌, List, [], ◌∷◌, length, drop, slice_get, option_map, Option, Some, None}
+use Rattle.std.proofs.Common.{◌≡◌, ℕ, zero, suc, ◌+◌, ◌≤◌, refl, sym, ap, subst, ◌∙◌, arith, Bool, true, false, cond, not, T, if◌then◌else◌, List, [], ◌∷◌, length, drop, slice_get, option_map, Option}
+use Rattle.std.proofs.Common.{Some, None}
 use Rattle.std.specs.declared.cmp.Ordering.{Ordering}
 use Rattle.std.specs.declared.cmp.Ordering.TheVariants.{Less, Equal, Greater}
 use Rattle.std.specs.Ordering.{is_lt, is_gt, is_eq}
@@ -87,7 +88,8 @@ pub from_wants : (key : Key) → WantsFrom (is_wanted (From key)) key
 from_wants key k low = rw low refl
 
 -- nothing wanted is before an entry that is not above the key
-pub begun_at : (w : Key → Bool) (key : Key) (es : List Entry) (n : ℕ) (e : Entry) → WantsFrom w key → T (is_sorted key_cmp es) → slice_get es n ≡ Some e → IsUpTo e.0 key → wanted w es ≡ wanted w (drop n es)
+pub begun_at : (w : Key → Bool) (key : Key) (es : List Entry) (n : ℕ) (e : Entry) → WantsFrom w key
+    → T (is_sorted key_cmp es) → slice_get es n ≡ Some e → IsUpTo e.0 key → wanted w es ≡ wanted w (drop n es)
 begun_at w key es zero e from up got le = refl
 begun_at w key [] (suc n) e from up got le = refl
 begun_at w key (x ∷ es) (suc n) e from up got le =
@@ -103,7 +105,8 @@ first_of_all (e ∷ es) = refl
 pub first_from : (key : Key) (es : List Entry) → slice_get es (place_of key es) ≡ first_of (wanted (is_wanted (From key)) es)
 first_from key [] = refl
 first_from key (e ∷ es) =
-    elim (is_lt (key_cmp e.0 key)) as (λ b. slice_get (e ∷ es) (cond b (suc (place_of key es)) 0) ≡ first_of (if not b then e ∷ wanted (is_wanted (From key)) es else wanted (is_wanted (From key)) es)) [
+    elim (is_lt (key_cmp e.0 key)) as (λ b. slice_get (e ∷ es) (cond b (suc (place_of key es)) 0)
+    ≡ first_of (if not b then e ∷ wanted (is_wanted (From key)) es else wanted (is_wanted (From key)) es)) [
       | true ↦ first_from key es
       | false ↦ refl
     ]
@@ -117,10 +120,12 @@ abbrev pub stands_at : Key → Entry → Bool
 stands_at key e = is_eq (key_cmp e.0 key)
 
 -- of the keys above one the first is at its place, or after the key itself
-pub first_above_itself : (key : Key) (es : List Entry) (e : Entry) → T (is_sorted key_cmp es) → slice_get es (place_of key es) ≡ Some e → key_cmp e.0 key ≡ Equal → slice_get es (suc (place_of key es)) ≡ first_of (wanted (is_wanted (Above key)) es)
+pub first_above_itself : (key : Key) (es : List Entry) (e : Entry) → T (is_sorted key_cmp es) → slice_get es (place_of key es) ≡ Some e
+    → key_cmp e.0 key ≡ Equal → slice_get es (suc (place_of key es)) ≡ first_of (wanted (is_wanted (Above key)) es)
 first_above_itself key [] e up got same = absurd (no_entry e got)
 first_above_itself key (x ∷ es) e up got same =
-    elim (key_cmp x.0 key) as (λ o. key_cmp x.0 key ≡ o → slice_get (x ∷ es) (cond (is_lt o) (suc (place_of key es)) 0) ≡ Some e → slice_get (x ∷ es) (suc (cond (is_lt o) (suc (place_of key es)) 0)) ≡ first_of (if is_gt o then x ∷ wanted (is_wanted (Above key)) es else wanted (is_wanted (Above key)) es)) [
+    elim (key_cmp x.0 key) as (λ o. key_cmp x.0 key ≡ o → slice_get (x ∷ es) (cond (is_lt o) (suc (place_of key es)) 0) ≡ Some e
+    → slice_get (x ∷ es) (suc (cond (is_lt o) (suc (place_of key es)) 0)) ≡ first_of (if is_gt o then x ∷ wanted (is_wanted (Above key)) es else wanted (is_wanted (Above key)) es)) [
       | Less ↦ λ p got. first_above_itself key es e (right_part _ _ up) got same
       | Equal ↦ λ p got. first_is_wanted (is_wanted (Above key)) es (λ f is.
           let high : key_cmp key f.0 ≡ Less = subst (λ (k : Key). key_cmp k f.0 ≡ Less) (key_antisymm x.0 key p) (above_at x.0 es 0 f (left_part _ _ up) is) in
@@ -131,10 +136,12 @@ first_above_itself key (x ∷ es) e up got same =
     equal_greater : (o : Ordering) → o ≡ Equal → o ≡ Greater → ⊥
     equal_greater o p q = cc
 
-pub first_above_other : (key : Key) (es : List Entry) → ((e : Entry) → slice_get es (place_of key es) ≡ Some e → key_cmp e.0 key ≡ Equal → ⊥) → slice_get es (place_of key es) ≡ first_of (wanted (is_wanted (Above key)) es)
+pub first_above_other : (key : Key) (es : List Entry) → ((e : Entry) → slice_get es (place_of key es) ≡ Some e → key_cmp e.0 key ≡ Equal → ⊥)
+    → slice_get es (place_of key es) ≡ first_of (wanted (is_wanted (Above key)) es)
 first_above_other key [] other = refl
 first_above_other key (x ∷ es) other =
-    elim (key_cmp x.0 key) as (λ o. key_cmp x.0 key ≡ o → ((e : Entry) → slice_get (x ∷ es) (cond (is_lt o) (suc (place_of key es)) 0) ≡ Some e → key_cmp e.0 key ≡ Equal → ⊥) → slice_get (x ∷ es) (cond (is_lt o) (suc (place_of key es)) 0) ≡ first_of (if is_gt o then x ∷ wanted (is_wanted (Above key)) es else wanted (is_wanted (Above key)) es)) [
+    elim (key_cmp x.0 key) as (λ o. key_cmp x.0 key ≡ o → ((e : Entry) → slice_get (x ∷ es) (cond (is_lt o) (suc (place_of key es)) 0) ≡ Some e → key_cmp e.0 key ≡ Equal → ⊥)
+    → slice_get (x ∷ es) (cond (is_lt o) (suc (place_of key es)) 0) ≡ first_of (if is_gt o then x ∷ wanted (is_wanted (Above key)) es else wanted (is_wanted (Above key)) es)) [
       | Less ↦ λ p other. first_above_other key es other
       | Equal ↦ λ p other. absurd (other x refl p)
       | Greater ↦ λ p other. refl
@@ -221,7 +228,7 @@ pub none_wanted : (xs : List Entry) → first_of xs ≡ None → xs ≡ []
 none_wanted [] e = refl
 none_wanted (x ∷ xs) e = cc
 
--- ---- keys that are there
+-- ---- keys that exist
 
 -- the wanted ones of the keys that exist are among the wanted
 pub placed_wanted : (w : Key → Bool) (es : List Entry) → wanted w (placed es) ≡ placed (wanted w es)
@@ -279,7 +286,8 @@ entry_with (Some e) k is = (e, refl, same_key (key_of e) k is)
 above_wants : (key : Key) → WantsFrom (is_wanted (Above key)) key
 above_wants key k low = rw low refl
 
-next_of : (key : Key) (es : List Entry) (n : ℕ) (e : Entry) → T (is_sorted key_cmp es) → slice_get es n ≡ Some e → key_cmp e.0 key ≡ Equal → slice_get es (suc n) ≡ first_of (wanted (is_wanted (Above key)) es)
+next_of : (key : Key) (es : List Entry) (n : ℕ) (e : Entry) → T (is_sorted key_cmp es) → slice_get es n ≡ Some e
+    → key_cmp e.0 key ≡ Equal → slice_get es (suc n) ≡ first_of (wanted (is_wanted (Above key)) es)
 next_of key [] n e up got same = absurd (no_entry e got)
 next_of key (x ∷ es) zero e up got same =
     let equal : key_cmp x.0 key ≡ Equal = ap (λ (y : Entry). key_cmp y.0 key) (same_entry x e got) ∙ same in
@@ -292,7 +300,8 @@ next_of key (x ∷ es) (suc n) e up got same =
     next_of key es n e (right_part _ _ up) got same ∙ sym (ap (λ (o : Ordering). first_of (if is_gt o then x ∷ wanted (is_wanted (Above key)) es else wanted (is_wanted (Above key)) es)) low)
 
 -- after the key itself comes the first above it
-pub above_next : (key : Key) (es : List Entry) (n : ℕ) (k : Key) → T (is_sorted key_cmp es) → option_map key_of (slice_get es n) ≡ Some k → key_cmp k key ≡ Equal → slice_get es (n + 1) ≡ first_of (wanted (is_wanted (Above key)) es)
+pub above_next : (key : Key) (es : List Entry) (n : ℕ) (k : Key) → T (is_sorted key_cmp es) → option_map key_of (slice_get es n) ≡ Some k
+    → key_cmp k key ≡ Equal → slice_get es (n + 1) ≡ first_of (wanted (is_wanted (Above key)) es)
 above_next key es n k up got same =
     let e = entry_with (slice_get es n) k got in
     let on : n + 1 ≡ suc n = omega arith in
@@ -307,11 +316,13 @@ above_behind key es n k up got not_one =
     passed_by (is_wanted (Above key)) es n e.0 e.1 own (begun_at (is_wanted (Above key)) key es n e.0 (above_wants key) up e.1 (λ high. let r = ap is_gt (sym high) ∙ own in cc))
 
 -- from a place on that is wanted it is the first
-pub above_there : (key : Key) (es : List Entry) (n : ℕ) (k : Key) → option_map key_of (slice_get es n) ≡ Some k → is_gt (key_cmp k key) ≡ true → slice_get es n ≡ first_of (wanted (is_wanted (Above key)) (drop n es))
+pub above_there : (key : Key) (es : List Entry) (n : ℕ) (k : Key) → option_map key_of (slice_get es n) ≡ Some k
+    → is_gt (key_cmp k key) ≡ true → slice_get es n ≡ first_of (wanted (is_wanted (Above key)) (drop n es))
 above_there key es n k got one =
     let e = entry_with (slice_get es n) k got in
     let own = ap (λ (q : Key). is_gt (key_cmp q key)) e.2 ∙ one in
-    e.1 ∙ sym (ap first_of (ap (wanted (is_wanted (Above key))) (dropped es n e.0 e.1) ∙ ap (λ (b : Bool). if b then e.0 ∷ wanted (is_wanted (Above key)) (drop (suc n) es) else wanted (is_wanted (Above key)) (drop (suc n) es)) own))
+    e.1 ∙ sym (ap first_of (ap (wanted (is_wanted (Above key))) (dropped es n e.0 e.1)
+    ∙ ap (λ (b : Bool). if b then e.0 ∷ wanted (is_wanted (Above key)) (drop (suc n) es) else wanted (is_wanted (Above key)) (drop (suc n) es)) own))
 
 -- from the end on there is none
 pub above_end : (key : Key) (es : List Entry) → slice_get es (length es) ≡ first_of (wanted (is_wanted (Above key)) (drop (length es) es))

@@ -27,7 +27,7 @@ use pk_region::Region;
 use std::alloc::AllocError;
 use std::marker::Model;
 
-/// A walk over the keys that are there. Contracts see its position and its cursors, and `IsLeft` says which keys it has still to
+/// A walk over the keys that exist. Contracts see its position and its cursors, and `IsLeft` says which keys it has still to
 /// give.
 pub struct Walk<A: Region> {
     shape: Shape,
@@ -209,7 +209,7 @@ impl<A: Region> Walk<A> {
             × IsLeft self.old (B.state board.old).pages arena.now levels.now.runs active.now.entries
             frozen.now.entries rest }
 
-        // The next key that is there.
+        // The next key that exists.
         ensures gives { IfOk result (λ found. (rest : List (KeySpec × Place))
             → IsLeft self.old (B.state board.old).pages arena.now levels.now.runs active.now.entries
             frozen.now.entries rest → (later : List (KeySpec × Place)) × WalkGives found rest later

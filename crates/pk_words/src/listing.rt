@@ -3,7 +3,8 @@ ghost use Rattle.std.specs.Prelude.{◌≡◌, ◌<◌, ◌-◌, ℕ, List, [], 
 ghost use Rattle.std.specs.Option.{option_copied};
 ghost use Rattle.pk_nand.specs.Calls.{Rose};
 ghost use Rattle.pk_nvme.specs.Command.{key_or_none};
-ghost use Rattle.pk_host.specs.Calls.{Leaves, exist_of, list_of};
+ghost use Rattle.pk_host.specs.Calls.{exist_of};
+ghost use Rattle.pk_host.specs.Outcomes.{Leaves, list_of};
 ghost use Rattle.pk_words.specs.Listing.{Piece, IsText, asked_at, position_after, start_at};
 ghost use Rattle.pk_words.specs.declared.listing.ListPosition.TheVariants.{From};
 

@@ -1,6 +1,6 @@
 use Rattle.std.proofs.Common.{ℕ, subst, Option}
 use Rattle.pk_base.specs.Seen.{entry as seen}
-use Rattle.pk_meta.specs.Page.{IsPlaceOf}
+use Rattle.pk_meta.specs.PageChecks.{IsPlaceOf}
 use Rattle.pk_meta.proofs.FindLemmas.{there}
 use Rattle.pk_meta.proofs.halving.find.Goals as goal
 
