@@ -29,7 +29,7 @@ use Rattle.pk_model.specs.Wear.{is_worn, roots}
 use Rattle.pk_model.specs.Reading.{reading, Holds}
 use Rattle.pk_model.specs.Run.{Exchange, commands}
 use Rattle.pk_model.proofs.Growing.{Goes-reaches, weaken_went}
-use Rattle.pk_serve.specs.Part.{IsRunning}
+use Rattle.pk_call.specs.Running.{DriveRuns}
 use Rattle.pk_serve.specs.Answered.{installs}
 use Rattle.pk_serve.proofs.Counting.{metered-roots, commands-push}
 use Rattle.pk_port.specs.Asking.{KeptSilently}
@@ -227,7 +227,7 @@ module _ (begin turn : ℕ) (shape : Shape) (frames : ℕ) (start : Map) (a b : 
 
 -- the numbers that a drive counts are those of the map that the flash holds
 pub counted : (agrees : Option Shape → Pages → Type 0) (shape : Shape) (b : BoardState) (d : Sight) (counts : Counts)
-    → b.shape ≡ Some shape → IsRunning agrees d b → d.pending ≡ [] → counts_of counts ≡ d.counts
+    → b.shape ≡ Some shape → DriveRuns agrees d b → d.pending ≡ [] → counts_of counts ≡ d.counts
     → ((s : Shape) (f : Pages) (m : Map) → agrees (Some s) f → d.stopped ≡ false → map_of s f d ≡ Ok m → CountsMap s d.counts.frames m d.counts)
     → (m : Map) → Holds shape b.pages m → (counts.keys ≡ len m) × (counts.live ≡ live shape m)
 counted agrees shape b d counts has running none numbers told m held =

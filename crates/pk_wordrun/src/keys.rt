@@ -2,7 +2,8 @@
 ghost use Rattle.std.specs.Prelude.{◌≡◌, length, false, Some, IfOk, IfErr};
 ghost use Rattle.pk_words.specs.Listing.{Piece, asked_at};
 ghost use Rattle.pk_words.specs.Said.{Spoken};
-ghost use Rattle.pk_port.specs.Ready.{Fits, HasRoom};
+ghost use Rattle.pk_call.specs.Running.{HasRoomForData};
+ghost use Rattle.pk_port.specs.Ready.{Fits};
 ghost use Rattle.pk_port.specs.Steps.{mount, seen as seen_on};
 ghost use Rattle.pk_wordrun.specs.Turns.{Turns};
 ghost use Rattle.pk_wordrun.specs.Pieces.{PieceTold, PieceEnds};
@@ -26,7 +27,7 @@ fn ask_keys<D: Engine, B: Nand>(
 ) -> Result<Option<ListPosition>, Halt>
     // The drive on its board, and the buffer for data.
     requires fits { ∥ Fits (D.agrees drive.old) shape (B.state board.old) (D.sight drive.old) ∥₁ }
-    requires room { HasRoom shape buffer.old }
+    requires room { HasRoomForData shape buffer.old }
 
     // The drive on its board, and what it made of the command.
     ensures fits { ∥ Fits (D.agrees drive.new) shape (B.state board.new) (D.sight drive.new) ∥₁ }
@@ -72,7 +73,7 @@ pub fn tell_piece<D: Engine, B: Board>(
     // The drive on its board, and the buffer for data.
     requires fits { ∥ Fits (D.agrees drive.old) shape (B.state board.old) (D.sight drive.old) ∥₁ }
     requires runs { (D.sight drive.old).stopped ≡ false }
-    requires room { HasRoom shape buffer.old }
+    requires room { HasRoomForData shape buffer.old }
 
     // The drive on its board after it.
     ensures fits { IfOk result (λ next. ∥ Fits (D.agrees drive.new) shape (B.state board.new)

@@ -26,10 +26,10 @@ serve_turn-requires-clause-can_serve g c =
 pub serve_turn-requires-clause-room : goal.serve_turn-requires-clause-room
 serve_turn-requires-clause-room g c =
     let v = c.loop-turn.invariant in
-    let list = c.requires.room.for_list in
-    let value = c.requires.room.for_value in
+    let list = c.requires.room.buffer.for_list in
+    let value = c.requires.room.buffer.for_value in
     let same = v.room in
-    record { shape_is = v.shape ∙ c.requires.room.shape_is; for_list = omega (arith, list, same); for_value = omega (arith, value, same) }
+    record { shape_is = v.shape ∙ c.requires.room.shape_is; buffer = record { for_list = omega (arith, list, same); for_value = omega (arith, value, same) } }
 
 pub loop-turn-preserved : goal.loop-turn-preserved
 loop-turn-preserved g c =
