@@ -89,7 +89,7 @@ def body_of(it, flash):
 
 
 def places(it, draw):
-    """A place of the file, more often one that tells much."""
+    """A place in the file, more often one whose bytes matter."""
     size, n = it.shape.page_bytes, it.shape.block_pages
     texts = {b"PINKROOT": [], b"PINKJRNL": [], b"PINKMETA": []}
     for page in range(it.shape.pages):

@@ -268,7 +268,7 @@ class Drive:
     def commands(self, most):
         return [self.command() for _ in range(random.randrange(1, most))]
 
-    def held(self):                                     # the map that the image holds; None where it is refused
+    def held(self):                                     # the map that the image holds; None if it is refused
         status, told = run(['serve', '36'], b''.join(entry(RETRIEVE, key, 2016) for key in self.keys))
         if status:
             return None

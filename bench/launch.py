@@ -72,6 +72,13 @@ def causes(folder, image):
         text = bytearray(whole.read())
         text[40] = 3
         it.write(text)
+    older = folder + '/older'
+    with open(image, 'rb') as whole, open(older, 'wb') as it:
+        text = bytearray(whole.read())
+        for root in range(32 + 16 * 64, 32 + 16 * 64 + 32 * 512, 512):
+            if text[root:root + 8] == b'PINKROOT':
+                text[root + 8] = 1
+        it.write(text)
     shape = ['512', '16', '64']
     says([folder + '/no/d.img', 'make', *shape], 6, f'there is no folder {folder}/no')
     says([folder, 'make', *shape], 6, 'is a folder')
@@ -81,6 +88,7 @@ def causes(folder, image):
     says([junk, 'make', *shape], 8, 'is no image of a drive: remove it, or name another file')
     says([cut, 'list'], 8, 'has 300000 bytes, and by its head it should have 525344')
     says([damaged, 'list'], 8, 'is damaged, or its making was broken off: see pinkctl check')
+    says([older, 'list'], 8, 'has version 1 of the format, and this program opens version 2')
     says([image, 'make', *shape], 9, 'there is an image already: remove')
     launcher, program = serving(image)
     says([image, 'list'], 6, f'is in use by process {program} (')
@@ -187,7 +195,7 @@ def signals(image):
     launcher, program = serving(image)
     os.kill(program, signal.SIGKILL)
     status = launcher.wait(30)
-    check('KILL of the program is told', status == 137 and b'ended by signal 9; what was answered is on the flash' in launcher.stderr.read())
+    check('KILL of the program is reported', status == 137 and b'ended by signal 9; what was answered is on the flash' in launcher.stderr.read())
     launcher, program = serving(image, env={**os.environ, 'PINK_EXEC': '1'})
     check('with PINK_EXEC the program has the place of the launcher', launcher.pid == program)
     launcher.kill()
@@ -202,7 +210,7 @@ def pipes(image):
                           input=script, capture_output=True, text=True)
     check('a reader that left: status 5 and no line', done.stderr == '5\n')
     done = subprocess.run([PINK, image, 'list'], stdout=open('/dev/full', 'w'), stderr=subprocess.PIPE, text=True)
-    check('a full output is told', done.returncode == 5 and 'writing the output failed' in done.stderr)
+    check('a full output is reported', done.returncode == 5 and 'writing the output failed' in done.stderr)
     for closed in ('<&-', '<&- 2>&-'):
         check(f'serve {closed}: status 0', run('sh', '-c', f'"{PINK}" "{image}" serve 36 {closed}')[0] == 0)
 
@@ -217,7 +225,7 @@ def links(folder, image):
     check('a link on the path', run('pink', image, 'has', '61', env=path, cwd='/')[:2] == (0, 'ok\n'))
     for launcher in (PINK, DUMP):
         status, told, _ = run(launcher, '--version')
-        check('--version tells the commit and the kit', status == 0 and 'commit ' in told and 'kit rattle-kit' in told)
+        check('--version prints the commit and the kit', status == 0 and 'commit ' in told and 'kit rattle-kit' in told)
         check('--help ends with 2', run(launcher, '--help')[0] == 2)
 
 
@@ -255,7 +263,7 @@ def installed(folder, image):
     check('installed: --version', 'commit ' in run(bin + 'pink', '--version')[1])
     check('installed: pages and completion', os.path.isfile(root + '/usr/share/man/man1/pink.1') and os.path.isfile(root + '/usr/share/bash-completion/completions/pink'))
     check('make uninstall', run('make', '-C', TOP, 'uninstall', f'DESTDIR={root}', 'PREFIX=/usr')[0] == 0)
-    check('nothing is left', not [names for _, _, names in os.walk(root) if names])
+    check('nothing remains', not [names for _, _, names in os.walk(root) if names])
 
 
 with tempfile.TemporaryDirectory() as folder:

@@ -66,7 +66,7 @@ if shutil.which('strace'):
     # the last write of a program sets the page's state byte to 1, that of an erase sets those of the block to 0
     programs = len(re.findall(r'"\\1", 1, \d+\)', calls))
     erases = len(re.findall(r'pwrite64\(\d+, .*?, 64, \d+\)', calls))
-    print('  programs of a Store: %.3f; erases: %.3f; calls of the flash: %.2f' % (programs / keys, erases / keys, (programs + erases + sum(reads)) / keys))
+    print('  programs of a Store: %.3f; erases: %.3f; flash operations: %.2f' % (programs / keys, erases / keys, (programs + erases + sum(reads)) / keys))
     shutil.move(done, image)
 for frames in (36, 0):
     posted, seconds = serve(b''.join(entry(RETRIEVE, i, name, SIZE) for i, name in enumerate(names)), frames)

@@ -2,7 +2,7 @@
 # Tries a mirrored pair over the built program. It proves nothing and is no part of the gate. It ends with a count, and with 1 if a
 # check failed.
 #
-#   bench/mirror.sh [TIMES]        kills so many sessions, 300 if no number is named; then images that are lost
+#   bench/mirror.sh [TIMES]        kills this many sessions, 300 if no number is named; then tries images that are lost
 #   bench/mirror.sh speed          the processor time of words over a pair and over one drive, and of resyncs of 10,000 keys
 #
 # Kills: words of a pair, each killed at a random moment. After each the next run has to answer, with every word that was completed
@@ -24,7 +24,7 @@ first, second = folder + '/a.img', folder + '/b.img'
 failures = []
 checks = 0
 
-def run(*words, seconds=None, data=None):               # status and text; None where it was killed
+def run(*words, seconds=None, data=None):               # status and text; None if it was killed
     with open(folder + '/text', 'wb') as text:
         process = subprocess.Popen([program, *words], stdin=subprocess.PIPE if data is not None else subprocess.DEVNULL, stdout=text)
         try:
@@ -129,7 +129,7 @@ def images():
     def missing(image):
         os.remove(image)
 
-    def damaged(image):                                 # its first 64 bytes, which tell the shape
+    def damaged(image):                                 # its first 64 bytes, which have the shape
         with open(image, 'r+b') as file:
             file.write(bytes(64))
 

@@ -3,7 +3,7 @@
 many pages a Retrieve that found its key read, on average and at most, with 520 frames, 36 and none. It proves nothing and is no part
 of the gate.
 
-    bench/reads.py [START [COUNT]]     1 and 50,000 where no number is named
+    bench/reads.py [START [COUNT]]     1 and 50,000 if no number is named
 """
 import os
 import struct

@@ -78,7 +78,7 @@ def main() -> int:
     args = parser.parse_args()
     found = figures()
     if args.check:
-        risen = [f"{name}: {number}, where docs/figures.txt has {kept().get(name, 0)}"
+        risen = [f"{name}: {number}, and docs/figures.txt has {kept().get(name, 0)}"
                  for name, number in found.items() if number > kept().get(name, 0)]
         print("\n".join(risen), end="\n" if risen else "", file=sys.stderr)
         return 1 if risen else 0

@@ -298,7 +298,7 @@ image_fault() { # IMAGE WORD
     echo "${fault:-the image is damaged, or its making was broken off: see pinkctl check}$hint"
 }
 
-drive_fault() { # IMAGE WORD [SHAPE]: why there is no drive in it, by its file and its head; prints nothing if nothing is seen
+drive_fault() { # IMAGE WORD [SHAPE]: why there is no drive in it, by its file, its head and its roots; prints nothing if nothing is seen
     fault=$(file_fault "$1" "$2")
     if [ -n "$fault" ]; then
         echo "$fault"
@@ -318,7 +318,20 @@ drive_fault() { # IMAGE WORD [SHAPE]: why there is no drive in it, by its file a
         return
     fi
     wanted=$((32 + $3 * $4 * ($2 + 1)))
-    [ "$size" -eq "$wanted" ] || echo "$1 has $size bytes, and by its head it should have $wanted"
+    if [ "$size" -ne "$wanted" ]; then
+        echo "$1 has $size bytes, and by its head it should have $wanted"
+        return
+    fi
+    version=$(version_of "$@")
+    case $version in
+        '' | 2) ;;
+        *) echo "$1 has version $version of the format, and this program opens version 2; docs/LIVING.md says how to move it" ;;
+    esac
+}
+
+version_of() { # IMAGE P N M: the version in the first page of its root blocks that begins as a root does; prints nothing if there is none
+    at=$(head -c $((32 + $3 * $4 + 2 * $2 * $3)) -- "$1" 2>/dev/null | LC_ALL=C grep -abo PINKROOT 2>/dev/null | sed -n '1s/:.*//p')
+    [ -z "$at" ] || od -An -v -tu1 -j $((at + 8)) -N 2 -- "$1" 2>/dev/null | awk '{ print $1 + $2 * 256 }'
 }
 
 shape_of() { # IMAGE: the bytes of a page, the pages of a block and the blocks, by its head; prints nothing if it has none

@@ -48,7 +48,7 @@ class Bench:
     def feed(
         self, command: list[str], phases: list[Path], before: list[Path], durable: bool = False
     ) -> dict[str, dict[str, float]]:
-        """What the feeder tells of each phase of a session."""
+        """What the feeder reports of each phase of a session."""
         words = [str(self.programs / "feeder"), "--cpu", str(self.cpu)]
         words += ["--patience", str(self.patience), "--probe", key_of(PROBE).decode()]
         for path in before:

@@ -174,7 +174,7 @@ def readme_table(case: Case) -> str:
 
 
 def reads_line(case: Case) -> str:
-    """Pages that a Retrieve of pink reads: its records tell them."""
+    """Pages that a Retrieve of pink reads: its records have them."""
     phase = "retrieve"
     told = case.median(
         "pink", lambda run: run["phases"][phase]["reads"] / run["phases"][phase]["commands"]

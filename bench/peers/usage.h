@@ -1,4 +1,4 @@
-// What a process has used, as the system tells.
+// What a process has used, as the system reports it.
 #pragma once
 
 #include <sys/types.h>

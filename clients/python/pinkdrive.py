@@ -11,18 +11,18 @@ A drive is a mapping from keys, of 1 to 16 bytes, to values, both bytes. It need
 and the standard library alone. Threads may share a `Drive`: each call gets its own answer, and the
 commands of one thread are done in their order.
 
-What is sent, and what is waited for. A command goes out as an entry of 64 bytes, and its record
-comes back in the order of the commands. `d[key] = value` is sent and not waited for: as with a
-buffered file, it is on the flash after `flush()` or `close()` (the end of the `with`), which raise
-a refusal of it. Every other call waits, and raises what the drive says of it. `send` sends any
-command without waiting, for a pipeline of one's own. A drive that is not closed is closed when it
-is collected or the process ends; a refusal that nobody heard is a `DriveWarning` then.
+Sending and waiting. A command is sent as an entry of 64 bytes, and the records come back in the order
+of the commands. `d[key] = value` does not wait: as with a buffered file, the value is on the flash
+after `flush()` or `close()` (the end of the `with`), which raise a refusal of it. Every other call
+waits, and raises the error that the drive reports. `send` sends any command without waiting, for a
+pipeline of one's own. A drive that is not closed is closed when it is collected or the process ends;
+a refusal that was not raised is then a `DriveWarning`.
 
-What is raised. A status of the drive other than success is an exception with the standard's name,
-such as `KeyDoesNotExist` (a `KeyError` too) or `CapacityExceeded`, with the limit in its text. If
-the program itself has ended, as for want of an image or because it was killed, it is `DriveEnded`
-with the cause in its text; whatever the drive had answered is on the flash, and a new `Drive` finds
-it. A closed drive raises `DriveClosed` (a `ValueError` too).
+Exceptions. A status of the drive other than success is an exception with the standard's name, such as
+`KeyDoesNotExist` (a `KeyError` too) or `CapacityExceeded`, with the limit in its text. If the program
+itself has ended, for example because there is no image or because it was killed, the call raises
+`DriveEnded` with the cause in its text; whatever the drive had answered is on the flash, and a new
+`Drive` finds it. A closed drive raises `DriveClosed` (a `ValueError` too).
 """
 
 from __future__ import annotations

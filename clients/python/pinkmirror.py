@@ -1,4 +1,4 @@
-"""A client of two key-value drives that are written as one, by `./pink mirror IMAGE IMAGE WORDS..`.
+"""A client of two key-value drives that are used as one, by `./pink mirror IMAGE IMAGE WORDS..`.
 
     from pinkdrive import make
     from pinkmirror import Mirror
@@ -49,7 +49,7 @@ from pinkdrive import (
 LONGEST_VALUE = 65000
 """The longest value, in bytes: it goes to the program as one word, and systems limit those."""
 LOST = (6, 8)
-"""Statuses of the program that tell of an image that cannot be used."""
+"""Statuses of the program that report an image that cannot be used."""
 OPCODES = {"put": Opcode.STORE, "get": Opcode.RETRIEVE, "del": Opcode.DELETE}
 """The commands of the words that name a key."""
 

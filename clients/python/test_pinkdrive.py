@@ -193,7 +193,7 @@ class Threads(OnImage):
     shape = (4096, 64, 128)
 
     def together(self, count, work):
-        """Runs a function in so many threads, and raises what one of them raised."""
+        """Runs a function in this many threads, and raises what one of them raised."""
         faults = []
 
         def guarded(number):

@@ -31,7 +31,7 @@ def parser_of() -> argparse.ArgumentParser:
 
 
 def drive_error(error: pinkdrive.DriveError) -> Exit:
-    """The exit status of what the drive or its program says."""
+    """The exit status for an error of the drive or of its program."""
     if isinstance(error, pinkdrive.KeyDoesNotExist):
         return Exit.MISSING
     if isinstance(error, pinkdrive.DriveEnded):
@@ -40,7 +40,7 @@ def drive_error(error: pinkdrive.DriveError) -> Exit:
 
 
 def guarded(args: argparse.Namespace) -> int:
-    """Runs a part; what ends it early is one line on standard error."""
+    """Runs a part; if an error ends it, one line on standard error says which."""
     try:
         return args.run(args)
     except ToolError as error:
@@ -59,7 +59,7 @@ def guarded(args: argparse.Namespace) -> int:
 
 
 def told(error: pinkdrive.DriveError, args: argparse.Namespace) -> str:
-    """What the drive says, and where to look for more."""
+    """The error in words, with a hint if there is one."""
     if isinstance(error, pinkdrive.DriveEnded) and error.status == Exit.DAMAGED:
         return f"{error}; pinkctl check {args.image} prints what is wrong"
     return str(error)

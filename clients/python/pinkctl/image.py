@@ -33,7 +33,7 @@ class Entry(NamedTuple):
 
 
 class Root(NamedTuple):
-    """A root page: where the epochs and the runs are."""
+    """A root page: which blocks the epochs and the runs have."""
 
     page: int
     version: int

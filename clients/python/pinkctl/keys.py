@@ -18,7 +18,7 @@ ESCAPES = {"n": b"\n", "t": b"\t", "r": b"\r", "0": b"\0", "\\": b"\\", '"': b'"
 
 
 class WordError(ToolError):
-    """A word that is none."""
+    """A word that is neither a key nor a value."""
 
     def __init__(self, message: str) -> None:
         super().__init__(message, Exit.USAGE)

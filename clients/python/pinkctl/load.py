@@ -20,18 +20,18 @@ from .status import Exit, ToolError
 
 DESCRIPTION = """\
 Stores the pairs of an export in a drive: lines `store KEY VALUE` as asm reads them, or lines of
-JSON, also mixed. Empty lines and lines that begin with # are passed over. Nothing is stored if a
-line of a FILE is wrong; of standard input the lines before the wrong one are stored.
+JSON, also mixed. Empty lines and lines that begin with # are skipped. If a line of a FILE is wrong,
+nothing is stored; if a line of standard input is wrong, the lines before it are stored.
 
-A key that exists with the same value is left as it is, so an import that was interrupted can be
-repeated. A key that exists with another value is left too, and counts as refused (status 9),
-unless --overwrite is given."""
+A key that exists with the same value is not changed, so an import that was interrupted can be
+repeated. A key that exists with another value is not changed either, and counts as refused (status
+9), unless --overwrite is given."""
 
 LINE_BYTES = 2_200_000
-"""As asm has it."""
+"""The limit of a line of asm."""
 WINDOW_PAIRS = 2000
 WINDOW_BYTES = 8 << 20
-"""So much is sent before the answers are looked at."""
+"""This much is sent before the answers are read."""
 IF_ABSENT = 2
 """The option of a Store that is to be refused if the key exists."""
 

@@ -1,4 +1,4 @@
-"""What can be read of a damaged image: an index as far as it is there, and the values that it leads to.
+"""What can be read of a damaged image: what remains of its index, and the values that the index names.
 
 Whatever is given was stored once under its key: a value is taken only if its head has the key and
 the length that the index names. Whether it is the last one stored is another matter; `why` says so.
@@ -244,7 +244,7 @@ def is_commit(layout: Layout, data: bytes, number: int, place: int) -> bool:
 
 
 def add_damaged_commit(image: Image, layout: Layout, pages: Sequence[int], what: str, index: Index) -> None:
-    """Adds what entries are left of a commit whose page is damaged."""
+    """Adds the entries that remain of a commit whose page is damaged."""
     page = next(page for page in pages if image.states[page] == WHOLE)
     data = image.page(page)
     index.damaged.append(f"page {page}, {what}")
@@ -327,7 +327,7 @@ def loose_values(image: Image, layout: Layout) -> dict[bytes, list[Place]]:
 
 
 def agreed_values(image: Image, layout: Layout, index: Index) -> dict[bytes, list[Place]]:
-    """The values on the flash but those at whose page an entry has another key or length: a head that differs from its entry was changed."""
+    """The values on the flash, without those whose entry has another key or length than their head: such a head was changed."""
     named = index.named()
     found: dict[bytes, list[Place]] = {}
     for key, places in loose_values(image, layout).items():

@@ -78,7 +78,7 @@ def store_all(args: argparse.Namespace, rescue: Rescue, wanted: list[Saved]) -> 
 
 
 def list_keys(file: TextIO, rescue: Rescue, refused: dict[bytes, str]) -> None:
-    """A line of JSON for each key about which there is something to say."""
+    """A line of JSON for each key that is doubtful, lost or was refused."""
     lines = [(saved.key, "doubtful", saved.why) for saved in rescue.saved if saved.why]
     lines += [(key, "lost", "its value does not read") for key in rescue.lost]
     lines += [(key, "refused", why) for key, why in refused.items()]

@@ -38,11 +38,11 @@ KEY_ROOM = 20
 """Bytes that a key takes in the answer of a List, at most."""
 LIST_BYTES = 65536
 PIPE_BYTES = 1 << 20
-"""Bytes for the drive that wait, from which on no more requests are read."""
+"""No more requests are read while this many bytes wait for the drive."""
 CLIENT_BYTES = 1 << 20
-"""Bytes of replies that a connection has not taken, from which on its requests are not read."""
+"""No more requests of a connection are read while it has not taken this many bytes of replies."""
 CLIENT_REPLIES = 4096
-"""The same for replies that are not there yet."""
+"""The same for this many replies that have not come yet."""
 RECEIVE_BYTES = 65536
 MOST_FRAMES = 16384
 """The most page frames that the program takes."""
@@ -55,7 +55,7 @@ LAST_SECONDS = 5.0
 
 
 class Slot:
-    """The place of a reply in the order of its connection; empty until the reply is there."""
+    """The place of a reply in the order of its connection; empty until the reply has come."""
 
     __slots__ = ("client", "reply")
 
@@ -169,7 +169,7 @@ class Link:
             self.over = True
 
     def read(self) -> None:
-        """Takes the records that are there; `over` after the last."""
+        """Takes the records that have come; `over` after the last."""
         try:
             data = os.read(self.output, 1 << 18)
         except BlockingIOError:
@@ -244,7 +244,7 @@ class Client:
         self.events = selectors.EVENT_READ
 
     def collect(self) -> None:
-        """Moves the replies that are there, up to the first that is not."""
+        """Moves the replies that have come, up to the first that has not."""
         slots, out = self.slots, self.out
         while slots and slots[0].reply is not None:
             out += slots.popleft().reply or b""
@@ -268,7 +268,7 @@ class Client:
             self.server.to_write.add(self)
 
     def work(self) -> None:
-        """Does the requests that are there, while there is room for more."""
+        """Does the requests that have come, while there is room for more."""
         server = self.server
         while not self.ending:
             if self.is_full() or server.is_full():
@@ -285,7 +285,7 @@ class Client:
             server.do(self, words)
 
     def say(self, reply: bytes) -> None:
-        """A reply that is there at once."""
+        """A reply that is known immediately."""
         if self.slots:
             slot = Slot(self)
             slot.reply = reply
@@ -501,7 +501,7 @@ class Server:
     # Commands.
 
     def do(self, client: Client, words: List[bytes]) -> None:
-        """Does a request: its reply is there at once, or a slot waits for it."""
+        """Does a request: its reply is known immediately, or a slot waits for it."""
         name = words[0].upper()
         known = COMMANDS.get(name)
         if known is None:
@@ -537,7 +537,7 @@ class Server:
         return self.last_cursor
 
 
-# What does the commands that ask the drive.
+# Commands that ask the drive.
 
 
 def value_or_nil(server: Server, key: bytes, size: int, answer: Answer) -> bytes:
@@ -855,7 +855,7 @@ def info_text(server: Server, numbers: Report, wanted: Set[str]) -> bytes:
     return "\r\n".join(parts).encode()
 
 
-# What does the commands that ask nobody.
+# Commands that need no drive.
 
 
 @command("PING", 1, 2)
@@ -934,11 +934,11 @@ def hello(server: Server, client: Client, words: List[bytes]) -> None:
     client.say(array(told + [bulk(b"role"), bulk(b"master")]))
 
 
-# The word of pinkctl.
+# The part of pinkctl.
 
 
 def listen_at(path: str) -> socket.socket:
-    """Listens at a socket that only this user may use; one that nobody listens at goes."""
+    """Listens at a socket that only this user may use; a socket at which nobody listens is removed."""
     if len(os.fsencode(path)) > 107:
         raise ToolError(f"{path}: the path of a socket has at most 107 bytes", Exit.USAGE)
     try:

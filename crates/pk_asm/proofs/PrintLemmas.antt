@@ -54,7 +54,8 @@ hex_room bytes i old now lt room h =
     let count = length-take-le i bytes (omega arith) in
     omega (arith, sized.0, sized.1, digits)
 
-pub hex_step : (bytes : List ℕ) (i : ℕ) (old now next : RoomyList) → i < length bytes → next ≡ record now { items = now.items ++ hex_text (get_or bytes i 0 ∷ []) } → HexSoFar bytes i old now → HexSoFar bytes (i + 1) old next
+pub hex_step : (bytes : List ℕ) (i : ℕ) (old now next : RoomyList) → i < length bytes
+    → next ≡ record now { items = now.items ++ hex_text (get_or bytes i 0 ∷ []) } → HexSoFar bytes i old now → HexSoFar bytes (i + 1) old next
 hex_step bytes i old now next lt step h = record { wrote = wrote_more old now next _ _ _ (hex_more bytes i lt) h.wrote step }
 
 pub hex_all : (bytes : List ℕ) (i : ℕ) (old now : RoomyList) → length bytes ≤ i → HexSoFar bytes i old now → now ≡ record old { items = old.items ++ hex_text bytes }

@@ -119,7 +119,8 @@ few_bytes Flush bytes h = let none = ap length h in omega arith
 few_bytes Report bytes h = let none = ap length h in omega arith
 few_bytes (Tick steps) bytes h = let none = ap length h.1 in omega arith
 
-prints_form : (number : ℕ) (e bytes : List ℕ) (form : Form) → length e ≡ 64 → AreBytes e → AreBytes bytes → that_gives number e (candidate (command e bytes)) ≡ Some form → Prints number e bytes (form_line form bytes)
+prints_form : (number : ℕ) (e bytes : List ℕ) (form : Form) → length e ≡ 64 → AreBytes e → AreBytes bytes
+    → that_gives number e (candidate (command e bytes)) ≡ Some form → Prints number e bytes (form_line form bytes)
 prints_form number e bytes form sized of_bytes fits gives =
     let g = gives_some number e (candidate (command e bytes)) form gives in
     let is : IsForm form bytes = candidate_is e bytes form sized of_bytes g.0 in

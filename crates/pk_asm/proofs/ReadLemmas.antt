@@ -1,5 +1,6 @@
 -- The fields of an entry that a form gives, read again.
-use Rattle.std.proofs.Common.{◌≡◌, ℕ, zero, suc, ◌+◌, ◌-◌, ◌%◌, ◌^◌, ◌<◌, ◌≤◌, Bool, true, false, cond, List, [], ◌∷◌, ◌++◌, length, take, drop, refl, sym, ap, ◌∙◌, subst, arith, inl, inr, Option, Some, None, length-append, length-drop}
+use Rattle.std.proofs.Common.{◌≡◌, ℕ, zero, suc, ◌+◌, ◌-◌, ◌%◌, ◌^◌, ◌<◌, ◌≤◌, Bool, true, false, cond, List, [], ◌∷◌, ◌++◌, length, take, drop, refl, sym, ap, ◌∙◌, subst, arith, inl, inr, Option}
+use Rattle.std.proofs.Common.{Some, None, length-append, length-drop}
 use Rattle.std.specs.Prelude.{nat_le, ◌==◌, ◌&&◌, not, option_map}
 use Rattle.std.proofs.lemmas.Bool.{and_parts}
 use Rattle.std.proofs.lemmas.Bool.Decides.{nat_tests}
@@ -24,7 +25,8 @@ pub record HasFields (c : Command) (opcode : ℕ) (key : List ℕ) (size options
   pub options_is : c.options ≡ options
   pub value_is : c.value ≡ bytes
 
-pub fields_of : (number opcode : ℕ) (key : List ℕ) (size options : ℕ) (bytes : List ℕ) → length key ≤ 16 → size < 2 ^ 32 → HasFields (command (entry_with number opcode key size options) bytes) opcode key size options bytes
+pub fields_of : (number opcode : ℕ) (key : List ℕ) (size options : ℕ) (bytes : List ℕ) → length key ≤ 16
+    → size < 2 ^ 32 → HasFields (command (entry_with number opcode key size options) bytes) opcode key size options bytes
 unfolding entry_with
 fields_of number opcode key size options bytes short small =
     let place : List ℕ = padded 16 key in
@@ -33,7 +35,8 @@ fields_of number opcode key size options bytes short small =
     let high : List ℕ = take 8 (drop 8 place) in
     let low_size : length low ≡ 8 = length-take-le 8 place (omega arith) in
     let high_size : length high ≡ 8 = length-take-le 8 (drop 8 place) (omega (arith, length-drop 8 place)) in
-    let table : List (ℕ × List ℕ) = (1, opcode ∷ []) ∷ (1, zeros 1) ∷ (2, u16 (number % 2 ^ 16)) ∷ (4, u32 1) ∷ (8, low) ∷ (24, zeros 24) ∷ (4, u32 size) ∷ (1, length key ∷ []) ∷ (1, options ∷ []) ∷ (10, zeros 10) ∷ (8, high) ∷ [] in
+    let table : List (ℕ × List ℕ) = (1, opcode ∷ []) ∷ (1, zeros 1) ∷ (2, u16 (number % 2 ^ 16)) ∷ (4, u32 1) ∷
+    (8, low) ∷ (24, zeros 24) ∷ (4, u32 size) ∷ (1, length key ∷ []) ∷ (1, options ∷ []) ∷ (10, zeros 10) ∷ (8, high) ∷ [] in
     let e : List ℕ = entry_with number opcode key size options in
     let s = spelled_stand 0 table e (refl ⊕ refl ⊕ refl ⊕ refl ⊕ low_size ⊕ refl ⊕ refl ⊕ refl ⊕ refl ⊕ refl ⊕ high_size ⊕ tt) refl in
     let s8 : drop 8 e ≡ low ++ drop 16 e = s.1.1.1.1.0 in

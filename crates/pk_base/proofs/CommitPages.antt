@@ -43,7 +43,8 @@ module _ (shape : Shape) (blocks : List ℕ) (is : IsShape shape) (index : ℕ) 
       let whole' : (2 * index + 1) / n * n + (2 * index + 1) % n ≡ 2 * index + 1 = div-add-mod' (2 * index + 1) n in
       let same : (2 * index + 1) / n * n ≡ 2 * index / n * n = ap (λ (k : ℕ). k * n) quot' in
       let rest : (2 * index + 1) % n ≡ 2 * index % n + 1 = omega (arith, whole, whole', same) in
-      ap (λ (k : ℕ). slice_index blocks k * n + (2 * index + 1) % n) quot' ∙ ap (λ (k : ℕ). slice_index blocks (2 * index / n) * n + k) rest ∙ sum (slice_index blocks (2 * index / n) * n) (2 * index % n)
+      ap (λ (k : ℕ). slice_index blocks k * n + (2 * index + 1) % n) quot'
+      ∙ ap (λ (k : ℕ). slice_index blocks (2 * index / n) * n + k) rest ∙ sum (slice_index blocks (2 * index / n) * n) (2 * index % n)
     where
       sum : (a b : ℕ) → a + (b + 1) ≡ a + b + 1
       sum a b = omega arith

@@ -7,13 +7,10 @@ use Rattle.pk_base.specs.declared.sizes.TheConstants.{MOST_SPACES}
 use Rattle.pk_base.specs.Key.{Key, IsKey, is_key, space_of, bytes_of}
 use Rattle.pk_base.specs.Shape.{Shape, page_entries}
 use Rattle.pk_base.specs.Entry.{Entry}
-use Rattle.pk_base.specs.EntryBytes.{IsEntry, is_place_page, is_place_len, is_place_of, is_entry, AreEntries, are_entries}
+use Rattle.pk_base.specs.EntryBytes.{is_place_page, is_place_len, is_place_of, is_entry, are_entries}
+use Rattle.pk_base.specs.EntryChecks.{IsEntry, AreEntries}
 use Rattle.pk_base.proofs.EntryLemmas.{place_is, is_place}
-
-pub both_true : (a b : Bool) → (a && b) ≡ true → (a ≡ true) × (b ≡ true)
-both_true true true e = (refl, refl)
-both_true true false e = cc
-both_true false b e = cc
+use Rattle.pk_base.proofs.Logic.{both_true}
 
 pub if_some : {A : Type 0} (b : Bool) (x y : A) → (if b then Some x else None) ≡ Some y → (b ≡ true) × (x ≡ y)
 if_some true x y e = (refl, cc)

@@ -2,7 +2,8 @@
 ghost use Rattle.std.specs.Prelude.{◌≡◌, ◌<◌, ℕ, length, replicate, IfOk};
 ghost use Rattle.pk_base.specs.Shape.{page_count};
 ghost use Rattle.pk_base.specs.Page.{erased};
-ghost use Rattle.pk_nand.specs.Calls.{IsErased, IsReady};
+ghost use Rattle.pk_nand.specs.Calls.{IsReady};
+ghost use Rattle.pk_nand.specs.Operations.{IsErased};
 
 use pk_base::{Shape, put_u64};
 use pk_flash::{Flash, Left, Room, is_flash};

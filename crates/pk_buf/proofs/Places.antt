@@ -1,11 +1,11 @@
 -- A list with rising keys: the place of a key, and an entry written there.
-use Rattle.std.proofs.Common.{◌≡◌, ℕ, zero, suc, ◌+◌, ◌<◌, ◌≤◌, Bool, true, false, ◌&&◌, T, List, [], ◌∷◌, length, take, drop, get_or, set, refl, ap, sym, subst, ◌∙◌, arith, ◌⊎◌, inl, inr, Option, Some, None, IsSome, Ordering, Less, Equal, Greater, length-set}
+use Rattle.std.proofs.Common.{◌≡◌, ℕ, zero, suc, ◌+◌, ◌<◌, ◌≤◌, Bool, true, false, T, List, [], ◌∷◌, length, take, drop, get_or, set, refl, ap, sym, ◌∙◌, arith, ◌⊎◌, inl, inr, Option, Some, None}
+use Rattle.std.proofs.Common.{IsSome, Ordering, Less, Equal, Greater, length-set}
 use Rattle.std.specs.Prelude.{slice_get}
 use Rattle.std.specs.List.{AllWithin, insert, refill, take-map, drop-map}
 use Rattle.std.specs.List.Sorted.{IsPartitionedBy, IsPartitionPoint}
 use Rattle.std.specs.Option.{option_map}
-use Rattle.std.specs.Ordering.{is_lt, is_eq, ordering_reverse}
-use Rattle.std.specs.FinMap.{slice_cmp-IsAntisymmetric, nat_cmp-IsAntisymmetric}
+use Rattle.std.specs.Ordering.{is_lt}
 use Rattle.std.specs.FinMap.Entries.{put, find, is_sorted, below_all}
 use Rattle.std.proofs.lemmas.Cmp.{nat_list_cmp_total}
 use Rattle.std.proofs.lemmas.Option.{slice_get-get_or, slice_get_past, slice_get-map}
@@ -17,56 +17,13 @@ use Rattle.pk_base.specs.Key.{Key, key_cmp}
 use Rattle.pk_base.specs.Entry.{Entry, Place}
 use Rattle.pk_buf.specs.declared.slot.Slot.{Slot}
 use Rattle.pk_buf.specs.Table.{Table, is_below, has_key, place_of, has_at, content, contents}
+use Rattle.pk_base.proofs.Logic.{is_true, left_part, right_part, lt_less, equal}
+use Rattle.pk_base.proofs.KeyLemmas.{same_key, turned, below_less, missing}
 
 -- ---- the order of keys
 
-left_part : (a b : Bool) → T (a && b) → T a
-left_part true b p = tt
-left_part false b p = p
-
-right_part : (a b : Bool) → T (a && b) → T b
-right_part true b p = p
-right_part false b p = absurd p
-
-both : (a b : Bool) → T a → T b → T (a && b)
-both true b p q = q
-both false b p q = p
-
-is_true : (b : Bool) → T b → b ≡ true
-is_true true p = refl
-is_true false p = absurd p
-
-less : (o : Ordering) → is_lt o ≡ true → o ≡ Less
-less Less h = refl
-less Equal h = absurd (false≢true h)
-less Greater h = absurd (false≢true h)
-
-equal : (o : Ordering) → is_eq o ≡ true → o ≡ Equal
-equal Less h = absurd (false≢true h)
-equal Equal h = refl
-equal Greater h = absurd (false≢true h)
-
-same_key : (a b : Key) → key_cmp a b ≡ Equal → a ≡ b
-same_key = slice_cmp-IsAntisymmetric nat_cmp-IsAntisymmetric
-
-turned : (a b : Key) (o : Ordering) → key_cmp a b ≡ o → key_cmp b a ≡ ordering_reverse o
-turned a b o q = nat_list_cmp_total.antisymm b a ∙ ap ordering_reverse q
-
 lt_trans : (a b c : Key) → is_lt (key_cmp a b) ≡ true → is_lt (key_cmp b c) ≡ true → is_lt (key_cmp a c) ≡ true
-lt_trans a b c p q = rw (nat_list_cmp_total.trans a b c (less _ p) (less _ q)) refl
-
--- what is above a key is above a smaller one
-below_less : (a b : Key) (es : List Entry) → key_cmp a b ≡ Less → T (below_all key_cmp b es) → T (below_all key_cmp a es)
-below_less a b [] p h = tt
-below_less a b (e ∷ es) p h =
-    both _ _ (subst T (sym (lt_trans a b e.0 (ap is_lt p) (is_true _ (left_part _ _ h)))) tt) (below_less a b es p (right_part _ _ h))
-
--- a key below all others is not found
-missing : (k : Key) (es : List Entry) → T (below_all key_cmp k es) → find key_cmp k es ≡ None
-missing k [] h = refl
-missing k (e ∷ es) h =
-    let up : key_cmp k e.0 ≡ Less = less _ (is_true _ (left_part _ _ h)) in
-    rw up (missing k es (right_part _ _ h))
+lt_trans a b c p q = rw (nat_list_cmp_total.trans a b c (lt_less _ p) (lt_less _ q)) refl
 
 -- ---- slots in the order of their keys
 
@@ -92,19 +49,21 @@ point_is k (x ∷ xs) (suc i) le point =
     (ap suc (point_is k xs i (omega arith) (λ j d h l. point.0 (suc j) d (omega arith) (omega arith), λ j d h l. point.1 (suc j) d (omega arith) (omega arith))))
 
 -- what a binary search learns at its middle
-pub front_to : (k : Key) (xs : List Slot) (m : ℕ) (x : Slot) → T (is_sorted key_cmp (contents xs)) → m < length xs → x ≡ get_or xs m x → is_below k (content x) ≡ true → AllWithin (λ y. is_below k (content y) ≡ true) xs 0 (m + 1)
+pub front_to : (k : Key) (xs : List Slot) (m : ℕ) (x : Slot) → T (is_sorted key_cmp (contents xs)) → m < length xs
+    → x ≡ get_or xs m x → is_below k (content x) ≡ true → AllWithin (λ y. is_below k (content y) ≡ true) xs 0 (m + 1)
 front_to k xs m x up h read b j d le lt = partitioned k xs up j m d (omega arith) h (rw (get_or_default xs m d x h, ← read) b)
 
-pub back_from : (k : Key) (xs : List Slot) (m : ℕ) (x : Slot) → T (is_sorted key_cmp (contents xs)) → m < length xs → x ≡ get_or xs m x → is_below k (content x) ≡ false → AllWithin (λ y. is_below k (content y) ≡ false) xs m (length xs)
+pub back_from : (k : Key) (xs : List Slot) (m : ℕ) (x : Slot) → T (is_sorted key_cmp (contents xs)) → m < length xs
+    → x ≡ get_or xs m x → is_below k (content x) ≡ false → AllWithin (λ y. is_below k (content y) ≡ false) xs m (length xs)
 back_from k xs m x up h read b j d le lt =
     elim (is_below k (content (get_or xs j d))) as (λ v. is_below k (content (get_or xs j d)) ≡ v → v ≡ false) [
       | true ↦ λ t. absurd (false≢true (sym (rw (get_or_default xs m d x h, ← read) b) ∙ partitioned k xs up m j d le lt t))
       | false ↦ λ t. refl
     ] refl
 
--- ---- a key that is there, and one that is not
+-- ---- a key that exists, and one that is not
 
--- at the place of a key that is there, a write is the entry put
+-- at the place of a key that exists, a write is the entry put
 set_step : (o : Ordering) (k : Key) (v : Option Place) (f : Entry) (fs : List Entry) → key_cmp f.0 k ≡ o
     → (has_at k fs (place_of k fs) ≡ true → set fs (place_of k fs) (k, v) ≡ put key_cmp k v fs)
     → has_at k (f ∷ fs) (place_of k (f ∷ fs)) ≡ true → set (f ∷ fs) (place_of k (f ∷ fs)) (k, v) ≡ put key_cmp k v (f ∷ fs)
@@ -128,7 +87,7 @@ insert_is_put : (k : Key) (v : Option Place) (es : List Entry) → has_at k es (
 insert_is_put k v [] h = refl
 insert_is_put k v (f ∷ fs) h = insert_step (key_cmp f.0 k) k v f fs refl (insert_is_put k v fs) h
 
--- a key that is there is found at its place
+-- a key that exists is found at its place
 found_step : (o : Ordering) (k : Key) (f : Entry) (fs : List Entry) → key_cmp f.0 k ≡ o
     → (has_at k fs (place_of k fs) ≡ true → find key_cmp k fs ≡ option_map (λ e. e.1) (slice_get fs (place_of k fs)))
     → has_at k (f ∷ fs) (place_of k (f ∷ fs)) ≡ true → find key_cmp k (f ∷ fs) ≡ option_map (λ e. e.1) (slice_get (f ∷ fs) (place_of k (f ∷ fs)))
@@ -188,13 +147,15 @@ room_in k xs i n up at has some =
     ]
 
 -- what a write leaves
-pub put_found : (xs : List Slot) (x : Slot) (i : ℕ) → i ≡ place_of (content x).0 (contents xs) → has_at (content x).0 (contents xs) i ≡ true → contents (set xs i x) ≡ put key_cmp (content x).0 (content x).1 (contents xs)
+pub put_found : (xs : List Slot) (x : Slot) (i : ℕ) → i ≡ place_of (content x).0 (contents xs)
+    → has_at (content x).0 (contents xs) i ≡ true → contents (set xs i x) ≡ put key_cmp (content x).0 (content x).1 (contents xs)
 put_found xs x i at has = map-set content xs i x ∙ rw at (set_is_put (content x).0 (content x).1 (contents xs) (rw (← at) has))
 
 map-insert : (xs : List Slot) (i : ℕ) (x : Slot) → contents (insert xs i x) ≡ insert (contents xs) i (content x)
 map-insert xs i x = map-append content (take i xs) (x ∷ drop i xs) ∙ rw (take-map content i xs, drop-map content i xs) refl
 
-pub put_absent : (xs : List Slot) (x : Slot) (i : ℕ) → i ≡ place_of (content x).0 (contents xs) → has_at (content x).0 (contents xs) i ≡ false → contents (insert xs i x) ≡ put key_cmp (content x).0 (content x).1 (contents xs)
+pub put_absent : (xs : List Slot) (x : Slot) (i : ℕ) → i ≡ place_of (content x).0 (contents xs)
+    → has_at (content x).0 (contents xs) i ≡ false → contents (insert xs i x) ≡ put key_cmp (content x).0 (content x).1 (contents xs)
 put_absent xs x i at has = map-insert xs i x ∙ rw at (insert_is_put (content x).0 (content x).1 (contents xs) (rw (← at) has))
 
 -- what a write through the slice leaves

@@ -15,7 +15,6 @@ use Rattle.pk_nand.specs.declared.types.Fault.TheVariants.{Stopped}
 use Rattle.pk_nand.proofs.Effects.{works_program, stops_program}
 use Rattle.pk_nand.proofs.Pairing.{IsPairCut-cut, IsPairCut-done}
 use Rattle.pk_rootfmt.specs.Root.{Root, root_bytes, is_root}
-use Rattle.pk_rootfmt.specs.Newest.{newest_root}
 use Rattle.pk_model.specs.Found.{Found}
 use Rattle.pk_model.specs.Laws.{IsInstall}
 use Rattle.pk_model.specs.Growth.{Grows, Reaches, Goes}
@@ -37,7 +36,7 @@ use Rattle.pk_compact.proofs.Growing.{program_calls, program_failed_calls}
 use Rattle.pk_compact.proofs.NextRoot.{number_of_top}
 use Rattle.pk_compact.proofs.Numbering.{repeat_number}
 use Rattle.pk_model.proofs.Commits.{root_valid}
-use Rattle.pk_model.proofs.ValueSets.{is_true}
+use Rattle.pk_base.proofs.Logic.{is_true}
 
 -- the page whose second one is next
 abbrev again_page : Next → ℕ
@@ -45,7 +44,8 @@ again_page (Erase beside) = 0
 again_page (Program page) = 0
 again_page (Again page) = page
 
-module _ (shape : Shape) (is_shape : IsShape shape) (root : Root) (next : Next) (old : BoardState) (ready : IsReady old shape) (top : ℕ × Root) (found : Found) (m : Map) (can : CanRepeat shape root next old.pages top found m) where
+module _ (shape : Shape) (is_shape : IsShape shape) (root : Root) (next : Next) (old : BoardState) (ready : IsReady old shape)
+    (top : ℕ × Root) (found : Found) (m : Map) (can : CanRepeat shape root next old.pages top found m) where
   module _ (page : ℕ) (was : next ≡ Again page) where
     pub fits : InstallerOnFlash shape (Again page) top old.pages
     fits = let S : Next → Type 0 = λ n. InstallerOnFlash shape n top old.pages in subst S was can.installs
@@ -70,7 +70,8 @@ module _ (shape : Shape) (is_shape : IsShape shape) (root : Root) (next : Next) 
     cut_reads f cut = elim (root_pair shape start fits.possible.former page bytes top.1 f is_install cut) [
       | inl former ↦ (
         refl,
-        under_reads shape f [] can.half.former can.half.former_found m (under_behind shape start f can.half.former can.half.former_found m is_shape formerly (former ∙ sym is_install.was ∙ formerly.is_top)
+        under_reads shape f [] can.half.former can.half.former_found m
+            (under_behind shape start f can.half.former can.half.former_found m is_shape formerly (former ∙ sym is_install.was ∙ formerly.is_top)
             (λ k high. cut.outside.above k (let below = is_install.in_root_blocks in omega (arith, below, high)))),
       )
       | inr (inl first) ↦ (refl, under_reads shape f [] (page, top.1) found m (under_at shape old.pages f top page found m is_shape can.under first (behind_cut f cut)))
@@ -87,7 +88,8 @@ module _ (shape : Shape) (is_shape : IsShape shape) (root : Root) (next : Next) 
     both = IsPairCut-done shape page bytes is_install.even (page + 1) start old.pages (omega arith) (omega arith) so_far
 
     grows : Grows shape old.pages (after shape (program (page + 1) bytes) old.pages)
-    grows = inl ((again_fits shape old page top.0 top.1 is_shape fits (after_program old (page + 1) bytes) refl both).newest ∙ ap (λ (p : ℕ). Some (p, top.1)) (sym fits.possible.at_first) ∙ sym can.under.is_top)
+    grows = inl ((again_fits shape old page top.0 top.1 is_shape fits (after_program old (page + 1) bytes) refl both).newest
+        ∙ ap (λ (p : ℕ). Some (p, top.1)) (sym fits.possible.at_first) ∙ sym can.under.is_top)
 
     again_reaches : (new : BoardState) → new ≡ after_program old (page + 1) bytes → Reaches shape old new (CrashFinds shape background old.pages m)
     again_reaches new made = Reaches-program shape old (CrashFinds shape background old.pages m) ready.shape_is (page + 1) bytes holds grows new made
@@ -108,7 +110,8 @@ module _ (shape : Shape) (is_shape : IsShape shape) (root : Root) (next : Next) 
   by_top : (P : List ℕ → Type 0) → P (root_bytes shape root) → P (root_bytes shape top.1)
   by_top P is = subst (λ (r : Root). P (root_bytes shape r)) (sym can.top_is) is
 
-  pub is_repeated : (next' : Next) (new : BoardState) → repeats_next next' ≡ false → SameBehind shape old.pages new.pages → Repeats shape root next old next' new → IsRepeated shape old top found m next' new
+  pub is_repeated : (next' : Next) (new : BoardState) → repeats_next next' ≡ false → SameBehind shape old.pages new.pages
+      → Repeats shape root next old next' new → IsRepeated shape old top found m next' new
   is_repeated next' new is_whole behind r =
       let installs : InstallerOnFlash shape next' top new.pages = subst (λ (t : ℕ × Root). InstallerOnFlash shape next' t new.pages) (same_top r.page r.was) r.fits in
       let now = number_of_top shape new.pages top installs.newest in
@@ -135,7 +138,8 @@ pub repeat_grammar : (shape : Shape) (root : Root) (next : Next) (flash : Flash)
 repeat_grammar shape root next flash top found m can =
     is_true (is_root shape root) (subst (λ (r : Root). T (is_root shape r)) can.top_is (root_valid shape (page_at flash top.0) top.1 (newest_sound shape (page_at flash) top can.under.is_top).there))
 
-pub repeat_fits : (shape : Shape) (root : Root) (next : Next) (flash : Flash) (top : ℕ × Root) (found : Found) (m : Map) → CanRepeat shape root next flash top found m → (at : ℕ) × InstallerOnFlash shape next (at, root) flash
+pub repeat_fits : (shape : Shape) (root : Root) (next : Next) (flash : Flash) (top : ℕ × Root) (found : Found) (m : Map)
+    → CanRepeat shape root next flash top found m → (at : ℕ) × InstallerOnFlash shape next (at, root) flash
 repeat_fits shape root next flash top found m can = (top.0, subst (λ (r : Root). InstallerOnFlash shape next (top.0, r) flash) can.top_is can.installs)
 
 module _ (shape : Shape) (is_shape : IsShape shape) (root : Root) (next next' : Next) (old new : BoardState) (ready : IsReady old shape) (then_ready : IsReady new shape)
@@ -148,7 +152,11 @@ module _ (shape : Shape) (is_shape : IsShape shape) (root : Root) (next next' : 
 
   -- one program is made, also if it fails
   pub repeat_program : (r : Result Unit Fault) → OnOk r (Repeats shape root next old next' new) → OnErr r (FailsToRepeat shape root next old new) → OneProgram old new
-  repeat_program (Ok u) r failed = record { programs = ap (λ (b : BoardState). b.programs) r.program; erases = ap (λ (b : BoardState). b.erases) r.program; reads = ap (λ (b : BoardState). b.reads) r.program }
+  repeat_program (Ok u) r failed = record {
+    programs = ap (λ (b : BoardState). b.programs) r.program;
+    erases = ap (λ (b : BoardState). b.erases) r.program;
+    reads = ap (λ (b : BoardState). b.reads) r.program;
+  }
   repeat_program (Err fault) r f = record {
     programs = ap (λ (b : BoardState). b.programs) f.failed.rest;
     erases = ap (λ (b : BoardState). b.erases) f.failed.rest;
@@ -156,7 +164,8 @@ module _ (shape : Shape) (is_shape : IsShape shape) (root : Root) (next next' : 
   }
 
   -- a program that fails may bring the former root back, and none that follows
-  pub repeat_roots : (r : Result Unit Fault) → OnOk r (Repeats shape root next old next' new) → OnOk r (repeats_next next' ≡ false) → OnErr r (FailsToRepeat shape root next old new) → roots new ≤ roots old
+  pub repeat_roots : (r : Result Unit Fault) → OnOk r (Repeats shape root next old next' new)
+      → OnOk r (repeats_next next' ≡ false) → OnErr r (FailsToRepeat shape root next old new) → roots new ≤ roots old
   repeat_roots (Ok u) r is_whole failed =
       let same = (is_repeated shape is_shape root next old ready can.0 can.1 can.2 can.3 next' new is_whole behind r).number in
       let few = roots_few shape 0 old new ready then_ready (omega (arith, same)) in
@@ -166,7 +175,8 @@ module _ (shape : Shape) (is_shape : IsShape shape) (root : Root) (next next' : 
       let few = roots_few shape 0 old new ready then_ready (omega (arith, less)) in
       omega (arith, few)
 
-  pub repeat_step : (r : Result Unit Fault) → OnOk r (Repeats shape root next old next' new) → OnOk r (repeats_next next' ≡ false) → IfErr r (λ e. e ≡ Stopped) → OnErr r (FailsToRepeat shape root next old new)
+  pub repeat_step : (r : Result Unit Fault) → OnOk r (Repeats shape root next old next' new)
+      → OnOk r (repeats_next next' ≡ false) → IfErr r (λ e. e ≡ Stopped) → OnErr r (FailsToRepeat shape root next old new)
       → StepByCall (λ u. RepeatsRoot shape root next old next' new) (RepeatBreaks shape root next old new) shape 1 old new r
   repeat_step (Ok u) r is_whole stopped failed =
       let same = (is_repeated shape is_shape root next old ready can.0 can.1 can.2 can.3 next' new is_whole behind r).number in

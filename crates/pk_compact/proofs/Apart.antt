@@ -1,4 +1,4 @@
--- What is spare if blocks were given back.
+-- What is spare if blocks were freed.
 use Rattle.std.proofs.Common.{◌≡◌, ◌⊎◌, inl, inr, ℕ, List, [], ◌∷◌, Some, sym, ◌∙◌}
 use Rattle.std.specs.Prelude.{slice_get}
 use Rattle.std.proofs.lemmas.Bool.{cases_eq}
@@ -14,7 +14,7 @@ pub owned_not_spare : (pool : Blocks) (b : ℕ) → slice_get pool.states b ≡ 
 owned_not_spare pool b owned (inl free) = owned_is_not_free {o = Journal} (same_Some (Owned Journal) Free (sym owned ∙ free))
 owned_not_spare pool b owned (inr ready) = owned_is_not_ready {o = Journal} (same_Some (Owned Journal) Ready (sym owned ∙ ready))
 
--- what is spare if blocks were given back is one of them, or was spare before
+-- what is spare if blocks were freed is one of them, or was spare before
 spare_given : (pool : Blocks) (x b : ℕ) → IsSpare (with_state pool x Free) b → (b ≡ x) ⊎ IsSpare pool b
 spare_given pool x b spare = elim (cases_eq b x) [
   | inl same ↦ inl same

@@ -80,7 +80,8 @@ is_owned b (inr (inr none)) = absurd none
 abbrev top : ℕ × Root
 top = (0, first)
 
-made_may : (next : Next) → repeats_next next ≡ false → PoolOnFlash adopted made → InstallerOnFlash small next top made → IsFreezing adopted (record { shape = small; root = first }) next Idle made false top nothing empty
+made_may : (next : Next) → repeats_next next ≡ false → PoolOnFlash adopted made → InstallerOnFlash small next top made
+    → IsFreezing adopted (record { shape = small; root = first }) next Idle made false top nothing empty
 made_may next is_whole pool_fits installs = record {
   pool_shape = refl;
   pool_fits = pool_fits;
@@ -99,7 +100,8 @@ made_may next is_whole pool_fits installs = record {
   different = refl;
 }
 
-pub first_may : (pool : Blocks) (root : Held) (next : Next) (flash : Flash) → root ≡ record { shape = small; root = first } → flash ≡ made → pool ≡ adopted → repeats_next next ≡ false → PoolOnFlash pool flash → InstallerOnFlash root.shape next (0, first) flash
+pub first_may : (pool : Blocks) (root : Held) (next : Next) (flash : Flash) → root ≡ record { shape = small; root = first }
+    → flash ≡ made → pool ≡ adopted → repeats_next next ≡ false → PoolOnFlash pool flash → InstallerOnFlash root.shape next (0, first) flash
     → (x : ℕ × Root) × (f : Found) × (m : Map) × IsFreezing pool root next Idle flash false x f m
 first_may pool root next flash root_is flash_is pool_is is_whole pool_fits installs =
     let P : Blocks → Type 0 = λ p. PoolOnFlash p flash in

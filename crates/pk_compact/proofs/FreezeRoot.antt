@@ -1,5 +1,6 @@
 -- A freeze that has both blocks: the erase before its root, and the program of the root.
-use Rattle.std.proofs.Common.{◌≡◌, ◌≢◌, ◌⊎◌, inl, inr, ℕ, ◌+◌, ◌*◌, ◌/◌, ◌<◌, ◌≤◌, List, [], ◌∷◌, ◌++◌, T, Bool, true, false, slice_index, length, Some, if◌then◌else◌, refl, sym, ap, subst, ◌∙◌, arith, mul-le-mul_right}
+use Rattle.std.proofs.Common.{◌≡◌, ◌≢◌, ◌⊎◌, inl, inr, ℕ, ◌+◌, ◌*◌, ◌/◌, ◌<◌, ◌≤◌, List, [], ◌∷◌, ◌++◌, T, Bool, true, false, slice_index, length, Some, if◌then◌else◌, refl, sym, ap, subst, ◌∙◌}
+use Rattle.std.proofs.Common.{arith, mul-le-mul_right}
 use Rattle.std.specs.Prelude.{slice_get}
 use Rattle.std.specs.List.{concat}
 use Rattle.pk_base.specs.Shape.{Shape, IsShape}
@@ -15,7 +16,6 @@ use Rattle.pk_rootfmt.specs.Held.{Held, two_of}
 use Rattle.pk_model.specs.Found.{Found}
 use Rattle.pk_model.proofs.SamePages.{any_front}
 use Rattle.pk_model.proofs.Commits.{any_behind, apart, member, injective, differ_front, values_apart, is_any_back}
-use Rattle.pk_model.proofs.ValueSets.{is_true}
 use Rattle.pk_pool.specs.declared.state.BlockState.TheVariants.{Owned}
 use Rattle.pk_pool.specs.Blocks.{given_back, Blocks, IsShared, IsSpare, PoolOnFlash}
 use Rattle.pk_pool.specs.Unready.{unready}
@@ -41,9 +41,11 @@ use Rattle.pk_compact.proofs.Grammar.{next_is_root}
 use Rattle.pk_compact.proofs.Installing.{epoch_erased, erased_behind}
 use Rattle.pk_compact.proofs.NextRoot.{programs_whole}
 use Rattle.pk_compact.proofs.TakingOne.{all_more, is_shape, valid, grammar, spare_behind}
+use Rattle.pk_base.proofs.Logic.{is_true}
 
 -- an erase leaves one step less, and no block differs
-one_fewer : (next next' : Next) (u : ℕ) → programs_next next' ≡ true → erases_next next ≡ true → Lowers (steps_of (freeze_rest 2 (install_steps next))) u (steps_of (freeze_rest 2 (install_steps next'))) u
+one_fewer : (next next' : Next) (u : ℕ) → programs_next next' ≡ true → erases_next next ≡ true
+    → Lowers (steps_of (freeze_rest 2 (install_steps next))) u (steps_of (freeze_rest 2 (install_steps next'))) u
 one_fewer (Erase beside) (Program page) u e f = record { none_ready = omega arith; less = omega arith }
 one_fewer (Erase beside) (Erase other) u e f = absurd (let x : ⊥ = cc in x)
 one_fewer (Erase beside) (Again page) u e f = absurd (let x : ⊥ = cc in x)
@@ -123,7 +125,8 @@ module _ (pool : Blocks) (root : Held) (next : Next) (first second : ℕ) (has_e
   can = record {
     installs = is.installs;
     under = is.under;
-    follows = let P : Root → Type 0 = λ r. IsNext shape old.pages [] top found r (frozen found) in subst P (sym frozen_is) (frozen_next shape old.pages [] top found m first second right_shape is.under frozen_may);
+    follows = let P : Root → Type 0 = λ r. IsNext shape old.pages [] top found r (frozen found) in subst P
+        (sym frozen_is) (frozen_next shape old.pages [] top found m first second right_shape is.under frozen_may);
   }
 
   -- ---- the former epoch's blocks
@@ -201,7 +204,8 @@ module _ (pool : Blocks) (root : Held) (next : Next) (first second : ℕ) (has_e
       let values = values_under shape old.pages [] top.1 found m is.under.is_map in
       let P : ℕ → Type 0 = λ x. In x (named root.root) in
       let Q : Root → Type 0 = λ r. In (k / shape.block_pages) (named r) in
-      values_apart shape (page_at old.pages) (named top.1) [] (places found []) values.values values.read k value (is_any_back (k / shape.block_pages) (named top.1) (subst Q (sym is.top_is) (subst P (sym here) among)))
+      values_apart shape (page_at old.pages) (named top.1) [] (places found []) values.values values.read k value
+      (is_any_back (k / shape.block_pages) (named top.1) (subst Q (sym is.top_is) (subst P (sym here) among)))
 
   apart_after : (h : Bool) → IsApart shape (given_back pool (if h then [] else root.root.newest)) (next_root root.root blocks h) (frozen found)
   apart_after h = record {
@@ -234,13 +238,20 @@ module _ (pool : Blocks) (root : Held) (next : Next) (first second : ℕ) (has_e
       behind k (subst S is.pool_shape (omega (arith, twice, low)))) is.pool_fits
 
   taken_behind : (flash : Flash) → SameBehind shape old.pages flash → (b : ℕ) → IsTaken shape pool old.pages root.root b → IsTaken shape pool flash root.root b
-  taken_behind flash behind b was = record { least = was.least; most = was.most; owned = was.owned; is_erased = erased_behind shape b old.pages flash was.least behind was.is_erased; unnamed = was.unnamed }
+  taken_behind flash behind b was = record {
+    least = was.least;
+    most = was.most;
+    owned = was.owned;
+    is_erased = erased_behind shape b old.pages flash was.least behind was.is_erased;
+    unnamed = was.unnamed;
+  }
 
   pub can_prepare : CanPrepare shape next old.pages top found m
   can_prepare = record { installs = is.installs; under = is.under }
 
   -- the erase of the other root block
-  pub erase_goes_on : (next' : Next) (new : BoardState) → erases_next next ≡ true → IsPrepared shape old top found m next' new → FreezeGoesOn pool root next (HasTwo first second) old has_entries top found m pool root next' (HasTwo first second) new
+  pub erase_goes_on : (next' : Next) (new : BoardState) → erases_next next ≡ true → IsPrepared shape old top found m next' new
+      → FreezeGoesOn pool root next (HasTwo first second) old has_entries top found m pool root next' (HasTwo first second) new
   erase_goes_on next' new erases p = record {
     still = record {
       pool_shape = is.pool_shape;

@@ -6,7 +6,8 @@ use Rattle.pk_plan.specs.declared.owner.Owner.TheVariants.{Journal}
 use Rattle.pk_nand.specs.declared.types.Fault.{Fault}
 use Rattle.pk_nand.specs.declared.types.Fault.TheVariants.{Stopped}
 use Rattle.pk_nand.specs.BoardState.{BoardState}
-use Rattle.pk_nand.specs.Calls.{IsReady, IsErasedBlock}
+use Rattle.pk_nand.specs.Calls.{IsReady}
+use Rattle.pk_nand.specs.Operations.{IsErasedBlock}
 use Rattle.pk_nand.proofs.Effects.{stops_erase}
 use Rattle.pk_rootfmt.specs.Root.{Root}
 use Rattle.pk_rootfmt.specs.Held.{Held}
@@ -42,7 +43,8 @@ Took pool old b pool' new = (pool' ≡ with_state pool b (Owned Journal)) × AtM
 abbrev pub WasSpare : Blocks → ℕ → BoardState → Type 0
 WasSpare pool b new = IsSpare pool b × (2 ≤ b) × (b < pool.shape.blocks) × IsErasedBlock pool.shape new.pages b
 
-module _ (pool : Blocks) (root : Held) (next : Next) (job : FreezeJob) (has_entries : Bool) (old : BoardState) (shared : IsShared pool.shape pool.states) (ready : IsReady old root.shape) (may : Maps pool root next job old has_entries) where
+module _ (pool : Blocks) (root : Held) (next : Next) (job : FreezeJob) (has_entries : Bool) (old : BoardState)
+    (shared : IsShared pool.shape pool.states) (ready : IsReady old root.shape) (may : Maps pool root next job old has_entries) where
   -- the shape is the root's
   ready_by_root : (new : BoardState) → IsReady new pool.shape → IsReady new root.shape
   ready_by_root new is = let P : Shape → Type 0 = λ s. IsReady new s in subst P may.3.pool_shape is
@@ -57,7 +59,8 @@ module _ (pool : Blocks) (root : Held) (next : Next) (job : FreezeJob) (has_entr
         let P : Blocks → Type 0 = λ p. FreezeGoesOn pool root next job old has_entries top found m p root next job' new in
         let Q : Blocks → Type 0 = λ p. PoolOnFlash p new.pages in
         let R : Blocks → Type 0 = λ p. used_by Journal p.states ≡ used_by Journal pool.states + 1 in
-        subst P (sym taken.0) (take_goes_on pool root next job has_entries old shared ready top found m is few b new taken.1 spare.0 (spare.1, spare.2) spare.3 job' job_is (subst Q taken.0 fits) (subst R taken.0 counted))
+        subst P (sym taken.0) (take_goes_on pool root next job has_entries old shared ready top found m is few b new taken.1 spare.0
+        (spare.1, spare.2) spare.3 job' job_is (subst Q taken.0 fits) (subst R taken.0 counted))
 
     took_step : (job' : FreezeJob) → taken_by job' ≡ taken_by job ++ b ∷ []
         → Step (λ done. FreezeSteps pool root next job old has_entries done pool' root next job' new) (FreezeStepBreaks pool root next job has_entries old new) root.shape 1 old new (Ok false)
@@ -83,7 +86,8 @@ module _ (pool : Blocks) (root : Held) (next : Next) (job : FreezeJob) (has_entr
       took_step (subst P (sym was) (omega arith)) b pool' new taken spare counted fits then_ready (HasOne b) (subst Q (sym was) refl)
 
   -- the second one
-  pub second_step : (a : ℕ) → job ≡ HasOne a → (b : ℕ) (pool' : Blocks) (new : BoardState) → Took pool old b pool' new → WasSpare pool b new → used_by Journal pool'.states ≡ used_by Journal pool.states + 1
+  pub second_step : (a : ℕ) → job ≡ HasOne a → (b : ℕ) (pool' : Blocks) (new : BoardState)
+      → Took pool old b pool' new → WasSpare pool b new → used_by Journal pool'.states ≡ used_by Journal pool.states + 1
       → PoolOnFlash pool' new.pages → IsReady new pool.shape
       → Step (λ done. FreezeSteps pool root next job old has_entries done pool' root next (HasTwo a b) new) (FreezeStepBreaks pool root next job has_entries old new) root.shape 1 old new (Ok false)
   second_step a was b pool' new taken spare counted fits then_ready =
@@ -100,14 +104,16 @@ module _ (pool : Blocks) (root : Held) (next : Next) (job : FreezeJob) (has_entr
     works = tt;
     stops = stops_erase old new f.block f.failed;
     stopped = stopped;
-    roots_few = RootsUpTo-same 1 old new (roots_same root.shape old new ready (ready_by_root new then_ready) (take_failed_number pool root next job has_entries old shared ready may.0 may.1 may.2 may.3 new f));
+    roots_few = RootsUpTo-same 1 old new
+        (roots_same root.shape old new ready (ready_by_root new then_ready) (take_failed_number pool root next job has_entries old shared ready may.0 may.1 may.2 may.3 new f));
     ready = ready_by_root new then_ready;
   }
 
   -- ---- the root
 
   module _ (first second : ℕ) (was : job ≡ HasTwo first second) where
-    at_two : (top : ℕ × Root) (found : Found) (m : Map) → IsFreezing pool root next job old.pages has_entries top found m → IsFreezing pool root next (HasTwo first second) old.pages has_entries top found m
+    at_two : (top : ℕ × Root) (found : Found) (m : Map) → IsFreezing pool root next job old.pages has_entries top found m
+        → IsFreezing pool root next (HasTwo first second) old.pages has_entries top found m
     at_two top found m is = let P : FreezeJob → Type 0 = λ j. IsFreezing pool root next j old.pages has_entries top found m in subst P was is
 
     pub epoch_least : root.root.epoch ≤ root.root.number
@@ -119,7 +125,8 @@ module _ (pool : Blocks) (root : Held) (next : Next) (job : FreezeJob) (has_entr
     -- the erase before it, by the shape that the root has
     module _ (s : Shape) (told : s ≡ root.shape) where
       can_at : (top : ℕ × Root) (found : Found) (m : Map) → IsFreezing pool root next job old.pages has_entries top found m → CanPrepare s next old.pages top found m
-      can_at top found m is = let P : Shape → Type 0 = λ t. CanPrepare t next old.pages top found m in subst P (sym told) (can_prepare pool root next first second has_entries old shared ready top found m (at_two top found m is))
+      can_at top found m is = let P : Shape
+          → Type 0 = λ t. CanPrepare t next old.pages top found m in subst P (sym told) (can_prepare pool root next first second has_entries old shared ready top found m (at_two top found m is))
 
       pub can_prepare_at : (top : ℕ × Root) × (found : Found) × (m : Map) × CanPrepare s next old.pages top found m
       can_prepare_at = (may.0, may.1, may.2, can_at may.0 may.1 may.2 may.3)
@@ -131,7 +138,8 @@ module _ (pool : Blocks) (root : Held) (next : Next) (job : FreezeJob) (has_entr
           → Step (λ done. FreezeSteps pool root next job old has_entries done pool root next' job new) (FreezeStepBreaks pool root next job has_entries old new) root.shape 1 old new (Ok false)
       erase_step next' new erases step =
           let by_root : Prepare root.shape next' new (Ok tt) = let P : Shape → Type 0 = λ t. Prepare t next' new (Ok tt) in subst P told step in
-          let Q : FreezeJob → Type 0 = λ j. (top : ℕ × Root) (found : Found) (m : Map) → IsFreezing pool root next j old.pages has_entries top found m → FreezeGoesOn pool root next j old has_entries top found m pool root next' j new in
+          let Q : FreezeJob → Type 0 = λ j. (top : ℕ × Root) (found : Found) (m : Map)
+          → IsFreezing pool root next j old.pages has_entries top found m → FreezeGoesOn pool root next j old has_entries top found m pool root next' j new in
           record {
             ended = subst Q (sym was) (λ top found m is. erase_goes_on pool root next first second has_entries old shared ready top found m is next' new erases
                 (by_root.ended top found m (can_prepare pool root next first second has_entries old shared ready top found m is)));
@@ -159,7 +167,8 @@ module _ (pool : Blocks) (root : Held) (next : Next) (job : FreezeJob) (has_entr
 
     -- its program
     module _ (held : Held) (followed : held ≡ record root { root = next_root root.root (first ∷ second ∷ []) has_entries }) where
-      install_can : (top : ℕ × Root) (found : Found) (m : Map) → IsFreezing pool root next job old.pages has_entries top found m → CanInstall held.shape held.root next old.pages top found (frozen found) m
+      install_can : (top : ℕ × Root) (found : Found) (m : Map) → IsFreezing pool root next job old.pages has_entries top found m
+          → CanInstall held.shape held.root next old.pages top found (frozen found) m
       install_can top found m is = held_can pool root next first second has_entries old shared ready top found m (at_two top found m is) held followed
 
       pub can_install : (top : ℕ × Root) × (found : Found) × (then_found : Found) × (m : Map) × CanInstall held.shape held.root next old.pages top found then_found m
@@ -174,7 +183,8 @@ module _ (pool : Blocks) (root : Held) (next : Next) (job : FreezeJob) (has_entr
       pub root_step : (next' : Next) (new : BoardState) → Install next' new (Ok tt)
           → Step (λ done. FreezeSteps pool root next job old has_entries done pool held next' Idle new) (FreezeStepBreaks pool root next job has_entries old new) root.shape 1 old new (Ok true)
       root_step next' new step =
-          let P : FreezeJob → Type 0 = λ j. (top : ℕ × Root) (found : Found) (m : Map) → IsFreezing pool root next j old.pages has_entries top found m → FreezeInstalled pool root next j old has_entries top found m pool held.root next' Idle new in
+          let P : FreezeJob → Type 0 = λ j. (top : ℕ × Root) (found : Found) (m : Map) → IsFreezing pool root next j old.pages has_entries top found m
+          → FreezeInstalled pool root next j old has_entries top found m pool held.root next' Idle new in
           record {
             ended = subst P (sym was) (λ top found m is. froze pool root next first second has_entries old shared ready top found m is held followed next' new
                 (step.ended top found (frozen found) m (held_can pool root next first second has_entries old shared ready top found m is held followed)));

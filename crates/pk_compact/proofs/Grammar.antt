@@ -1,13 +1,15 @@
 -- The root of a freeze is one of the grammar.
-use Rattle.std.proofs.Common.{◌≡◌, inl, inr, ℕ, ◌+◌, ◌<◌, ◌≤◌, refl, sym, ap, subst, ◌∙◌, arith, Bool, true, false, not, ◌&&◌, ◌||◌, T, List, [], ◌∷◌, ◌++◌, length, nat_le, nat_lt, ◌==◌, leb→le, le→leb, eqb→eq, append-nil}
+use Rattle.std.proofs.Common.{◌≡◌, inl, inr, ℕ, ◌+◌, ◌<◌, ◌≤◌, sym, ap, subst, ◌∙◌, arith, Bool, true, false, not, ◌&&◌, ◌||◌, T, List, [], ◌∷◌, ◌++◌, length, nat_le, nat_lt, ◌==◌, leb→le, le→leb}
+use Rattle.std.proofs.Common.{eqb→eq, append-nil}
 use Rattle.std.specs.List.{list_any, list_all, concat}
 use Rattle.pk_base.specs.Shape.{Shape}
 use Rattle.pk_rootfmt.specs.Root.{Root, named, is_root, is_number, has_runs, differ}
-use Rattle.pk_model.proofs.Commits.{right_part, both, any_behind}
+use Rattle.pk_model.proofs.Commits.{any_behind}
 use Rattle.pk_model.proofs.RootAlone.{all_back}
-use Rattle.pk_steps.proofs.Places.{In, not_of}
+use Rattle.pk_steps.proofs.Places.{In, not_of, any_in, differ_back}
 use Rattle.pk_compact.specs.Freezing.{AreTwo}
 use Rattle.pk_compact.specs.Steps.{next_root}
+use Rattle.pk_base.proofs.Logic.{both}
 
 -- ---- tests one after another
 
@@ -64,19 +66,8 @@ known shape root is =
 
 -- ---- two more blocks at the start
 
-any_in : (x : ℕ) (xs : List ℕ) → T (list_any (λ c. x == c) xs) → In x xs
-any_in x [] t = absurd t
-any_in x (y ∷ xs) t = elim (x == y) as (λ b. (x == y) ≡ b → T (b || list_any (λ c. x == c) xs) → In x (y ∷ xs)) [
-  | true ↦ λ e _. inl (eqb→eq x y (subst T (sym e) tt))
-  | false ↦ λ e rest. inr (any_in x xs rest)
-] refl t
-
 differs_in_front : (x : ℕ) (xs : List ℕ) → (In x xs → ⊥) → T (differ xs) → T (differ (x ∷ xs))
 differs_in_front x xs new d = both (not (list_any (λ c. x == c) xs)) (differ xs) (not_of (list_any (λ c. x == c) xs) (λ t. new (any_in x xs t))) d
-
-differ_back : (xs ys : List ℕ) → T (differ (xs ++ ys)) → T (differ ys)
-differ_back [] ys d = d
-differ_back (x ∷ xs) ys d = differ_back xs ys (right_part (not (list_any (λ c. x == c) (xs ++ ys))) (differ (xs ++ ys)) d)
 
 module _ (shape : Shape) (first second : ℕ) (two : AreTwo shape first second) where
   two_inside : (rest : List ℕ) → T (list_all (in_flash shape) rest) → T (list_all (in_flash shape) (first ∷ second ∷ rest))
@@ -113,12 +104,14 @@ module _ (shape : Shape) (root : Root) (first second : ℕ) (is : T (is_root sha
   rest_differs = subst (λ xs. T (differ xs)) named_rest was.different
 
   number_small : T (is_number (root.number + 1))
-  number_small = both (nat_le 1 (root.number + 1)) (nat_lt (root.number + 1) 18446744073709551616) (le→leb 1 (root.number + 1) (omega arith)) (less (root.number + 1) 18446744073709551616 (omega (arith, small)))
+  number_small = both (nat_le 1 (root.number + 1)) (nat_lt (root.number + 1) 18446744073709551616)
+      (le→leb 1 (root.number + 1) (omega arith)) (less (root.number + 1) 18446744073709551616 (omega (arith, small)))
 
   pub next_is_root : (b : Bool) → T (is_root shape (next_root root (first ∷ second ∷ []) b))
   next_is_root true =
       let k = was in
-      all_parts (is_number (root.number + 1)) (nat_le 1 (root.epoch + 1)) (nat_le (root.epoch + 1) (root.number + 1)) true (length root.newest == 0 || (length root.newest == 2 && nat_le 2 (root.epoch + 1)))
+      all_parts (is_number (root.number + 1)) (nat_le 1 (root.epoch + 1)) (nat_le (root.epoch + 1) (root.number + 1)) true
+      (length root.newest == 0 || (length root.newest == 2 && nat_le 2 (root.epoch + 1)))
       (has_runs shape root) (list_all (in_flash shape) (first ∷ second ∷ rest)) (differ (first ∷ second ∷ rest))
       number_small (le→leb 1 (root.epoch + 1) (omega arith)) (le→leb (root.epoch + 1) (root.number + 1) (let most = k.epoch_most in omega (arith, most))) tt
       (older_two (length root.newest) (root.epoch + 1) k.two (let least = k.epoch_least in omega (arith, least)))
@@ -134,5 +127,6 @@ module _ (shape : Shape) (root : Root) (first second : ℕ) (is : T (is_root sha
       (has_runs shape root) (list_all (in_flash shape) (first ∷ second ∷ runs)) (differ (first ∷ second ∷ runs))
       number_small (le→leb 1 (root.epoch + 1) (omega arith)) (le→leb (root.epoch + 1) (root.number + 1) (let most = k.epoch_most in omega (arith, most))) tt tt
       k.runs (two_inside shape first second two runs (all_back (in_flash shape) root.newest runs rest_inside))
-      (two_differ shape first second two runs (λ h. first_new (in_named first (any_behind (λ y. first ≡ y) root.newest runs h))) (λ h. second_new (in_named second (any_behind (λ y. second ≡ y) root.newest runs h)))
+      (two_differ shape first second two runs (λ h. first_new (in_named first (any_behind (λ y. first ≡ y) root.newest runs h)))
+      (λ h. second_new (in_named second (any_behind (λ y. second ≡ y) root.newest runs h)))
       (differ_back root.newest runs rest_differs))

@@ -5,7 +5,8 @@ use Rattle.pk_base.specs.Shape.{Shape, IsShape}
 use Rattle.pk_base.specs.Page.{Flash, page_at, SameBehind}
 use Rattle.pk_base.specs.Map.{Map}
 use Rattle.pk_nand.specs.BoardState.{BoardState}
-use Rattle.pk_nand.specs.Calls.{IsReady, after_program, after_erase, ProgramFailed, EraseFailed}
+use Rattle.pk_nand.specs.Calls.{IsReady, after_program, ProgramFailed}
+use Rattle.pk_nand.specs.Operations.{after_erase, EraseFailed}
 use Rattle.pk_nand.specs.Effects.{AtMostOneCall}
 use Rattle.pk_nand.specs.declared.types.Fault.{Fault}
 use Rattle.pk_nand.specs.declared.types.Fault.TheVariants.{Stopped}
@@ -23,7 +24,8 @@ use Rattle.pk_steps.proofs.Standing.{installed}
 use Rattle.pk_compact.specs.Installing.{Prepares, PrepareBreaks, CanInstall, InstallsRoot, InstallBreaks}
 use Rattle.pk_compact.specs.Steps.{StepByCall, AtMostErases}
 use Rattle.pk_compact.proofs.Taking.{leaves_others, not_behind}
-use Rattle.pk_compact.proofs.NextRoot.{prepares, prepare_breaks, prepare_works, prepare_stops, prepare_number, prepare_failed_number, roots_same, few, is_installed, install_breaks, install_works, install_stops}
+use Rattle.pk_compact.proofs.NextRoot.{prepares, prepare_breaks, prepare_works, prepare_stops, prepare_number, prepare_failed_number, roots_same, few, is_installed, install_breaks, install_works}
+use Rattle.pk_compact.proofs.NextRoot.{install_stops}
 use Rattle.pk_compact.proofs.Numbering.{install_number}
 
 -- no page of the root blocks differs
@@ -35,7 +37,8 @@ pub took_grows : (shape : Shape) → IsShape shape → (b : ℕ) (old new : Boar
 took_grows shape is_shape b old new taken ready behind = front_grows shape old.pages new.pages (λ k low. leaves_others shape b old new taken ready k (not_behind shape b k is_shape behind low))
 
 -- the program of a root that may follow
-module _ (shape : Shape) (is_shape : IsShape shape) (root : Root) (next : Next) (old new : BoardState) (top : ℕ × Root) (found then_found : Found) (m : Map) (can : CanInstall shape root next old.pages top found then_found m) (behind : SameBehind shape old.pages new.pages) where
+module _ (shape : Shape) (is_shape : IsShape shape) (root : Root) (next : Next) (old new : BoardState) (top : ℕ × Root) (found then_found : Found)
+    (m : Map) (can : CanInstall shape root next old.pages top found then_found m) (behind : SameBehind shape old.pages new.pages) where
   follows : (page : ℕ) → newest_root shape (page_at new.pages) ≡ Some (page, root) → Grows shape old.pages new.pages
   follows page is = inr (installed shape old.pages new.pages [] top page found root then_found m is_shape tt can.under can.follows is behind).1
 

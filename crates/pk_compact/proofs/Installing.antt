@@ -2,14 +2,15 @@
 use Rattle.std.proofs.Common.{◌≡◌, inl, ℕ, zero, suc, ◌+◌, ◌*◌, ◌/◌, ◌%◌, ◌<◌, ◌≤◌, [], ◌∷◌, slice_index, Some, refl, sym, subst, ◌∙◌, arith, mod-lt, div-lt_iff_lt-mul, mul-le-mul_right}
 use Rattle.pk_base.specs.Shape.{Shape, IsShape, epoch_pages}
 use Rattle.pk_base.specs.Page.{Flash, page_at, page_in, erased, SameBehind}
-use Rattle.pk_base.specs.EntryBytes.{IsEntry}
+use Rattle.pk_base.specs.EntryChecks.{IsEntry}
 use Rattle.pk_base.specs.Firsts.{firsts}
 use Rattle.pk_base.specs.Map.{Map}
 use Rattle.pk_base.specs.Mark.{erase, after}
 use Rattle.pk_base.proofs.ShapeLemmas.{block_pages_positive}
 use Rattle.pk_nand.specs.BoardState.{BoardState}
 use Rattle.pk_nand.specs.Cut.{Interrupted}
-use Rattle.pk_nand.specs.Calls.{IsReady, after_erase, EraseFailed, IsErasedBlock}
+use Rattle.pk_nand.specs.Calls.{IsReady}
+use Rattle.pk_nand.specs.Operations.{after_erase, EraseFailed, IsErasedBlock}
 use Rattle.pk_nand.proofs.Leaving.{interrupted_done}
 use Rattle.pk_nand.proofs.Writing.{shape_is}
 use Rattle.pk_rootfmt.specs.Root.{Root}
@@ -38,7 +39,8 @@ under_at shape flash cut top page found m is_shape under newest same =
       is_top = newest;
       is_found = found_alone shape is_shape (page_at flash) (page_at cut) same top.1 was_valid ∙ under.is_found;
       is_map = map_under_same shape (page_at flash) (page_at cut) top.1 found [] (λ k is. same k (values_behind shape (firsts (entries_in_order found []))
-          (counting_all (IsEntry shape) shape (page_at flash) (λ k number index bytes es stands read. journal_are shape number index bytes es read) (λ k level index count bytes es stands read. meta_are shape level index count bytes es read) top.1 found [] under.is_found tt) k is)) ∙ under.is_map;
+          (counting_all (IsEntry shape) shape (page_at flash) (λ k number index bytes es stands read. journal_are shape number index bytes es read)
+          (λ k level index count bytes es stands read. meta_are shape level index count bytes es read) top.1 found [] under.is_found tt) k is)) ∙ under.is_map;
     }
 
 pub under_behind : (shape : Shape) (flash cut : Flash) (top : ℕ × Root) (found : Found) (m : Map) → IsShape shape → IsUnder shape flash [] top found m
@@ -88,7 +90,8 @@ module _ (shape : Shape) (is_shape : IsShape shape) (top : ℕ × Root) (found :
 -- ---- erased blocks
 
 -- the pages of two erased blocks
-new_erased : (flash : Flash) (n first second q r : ℕ) → ((k : ℕ) → first * n ≤ k → k < first * n + n → page_at flash k ≡ erased) → ((k : ℕ) → second * n ≤ k → k < second * n + n → page_at flash k ≡ erased)
+new_erased : (flash : Flash) (n first second q r : ℕ) → ((k : ℕ) → first * n ≤ k → k < first * n + n → page_at flash k ≡ erased)
+    → ((k : ℕ) → second * n ≤ k → k < second * n + n → page_at flash k ≡ erased)
     → q < 2 → r < n → page_at flash (slice_index (first ∷ second ∷ []) q * n + r) ≡ erased
 new_erased flash n first second zero r one other low small = one (first * n + r) (omega arith) (omega (arith, small))
 new_erased flash n first second (suc zero) r one other low small = other (second * n + r) (omega arith) (omega (arith, small))
@@ -102,4 +105,5 @@ epoch_erased shape flash first second is_shape one other j low =
 
 -- pages of a block after the root blocks stay erased
 pub erased_behind : (shape : Shape) (b : ℕ) (old new : Flash) → 2 ≤ b → SameBehind shape old new → IsErasedBlock shape old b → IsErasedBlock shape new b
-erased_behind shape b old new least same is k low high = let twice : 2 * shape.block_pages ≤ b * shape.block_pages = mul-le-mul_right shape.block_pages least in same k (omega (arith, twice, low)) ∙ is k low high
+erased_behind shape b old new least same is k low high = let twice : 2 * shape.block_pages ≤ b * shape.block_pages = mul-le-mul_right shape.block_pages least in same k (omega (arith, twice, low))
+    ∙ is k low high

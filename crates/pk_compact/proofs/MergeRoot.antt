@@ -29,7 +29,8 @@ use Rattle.pk_compact.specs.Merging.{CanMerge, HasMerged, MergesRoot, MergeBreak
 pub length_set : (i : ℕ) (new : List ℕ) (runs : List (List ℕ)) → length (concat (slice_set runs i new)) ≤ length (concat runs) + length new
 length_set i new [] = omega arith
 length_set zero new (bs ∷ runs) = let one = length-append new (concat runs) in let all = length-append bs (concat runs) in omega (arith, one, all)
-length_set (suc i) new (bs ∷ runs) = let one = length-append bs (concat (slice_set runs i new)) in let all = length-append bs (concat runs) in let rest = length_set i new runs in omega (arith, one, all, rest)
+length_set (suc i) new (bs ∷ runs) = let one = length-append bs (concat (slice_set runs i new)) in let all = length-append bs
+    (concat runs) in let rest = length_set i new runs in omega (arith, one, all, rest)
 
 -- the maps for which a merge may be installed
 abbrev pub Maps : Held → Next → BoardState → ℕ → ℕ → List ℕ → Type 0
@@ -41,7 +42,8 @@ module _ (root : Held) (next : Next) (level count : ℕ) (taken : List ℕ) (old
 
   module _ (top : ℕ × Root) (found : Found) (m : Map) (may : CanMerge root next old.pages top found m level count taken) where
     valid : T (is_root root.shape root.root)
-    valid = let P : Root → Type 0 = λ r. T (is_root root.shape r) in subst P may.top_is (root_valid root.shape (page_at old.pages top.0) top.1 (newest_sound root.shape (page_at old.pages) top may.under.is_top).there)
+    valid = let P : Root → Type 0 = λ r. T (is_root root.shape r) in subst P may.top_is
+        (root_valid root.shape (page_at old.pages top.0) top.1 (newest_sound root.shape (page_at old.pages) top may.under.is_top).there)
 
     which : IsLevel level
     which = next_is_level root.shape (length (firsts found.older)) (map (λ es. length es) found.runs) level may.merged.next
@@ -60,10 +62,12 @@ module _ (root : Held) (next : Next) (level count : ℕ) (taken : List ℕ) (old
   -- ---- by the root that follows
 
   module _ (held : Held) (followed : held ≡ record root { root = then_root }) where
-    held_can : (top : ℕ × Root) (found : Found) (m : Map) → CanMerge root next old.pages top found m level count taken → CanInstall held.shape held.root next old.pages top found (merged_found level found) m
+    held_can : (top : ℕ × Root) (found : Found) (m : Map) → CanMerge root next old.pages top found m level count taken
+        → CanInstall held.shape held.root next old.pages top found (merged_found level found) m
     held_can top found m may = let P : Held → Type 0 = λ h. CanInstall h.shape h.root next old.pages top found (merged_found level found) m in subst P (sym followed) (can top found m may)
 
-    pub can_install : Maps root next old level count taken → (top : ℕ × Root) × (found : Found) × (then_found : Found) × (m : Map) × CanInstall held.shape held.root next old.pages top found then_found m
+    pub can_install : Maps root next old level count taken → (top : ℕ × Root) × (found : Found)
+        × (then_found : Found) × (m : Map) × CanInstall held.shape held.root next old.pages top found then_found m
     can_install may = (may.0, may.1, merged_found level may.1, may.2, held_can may.0 may.1 may.2 may.3)
 
     same_shape : held.shape ≡ root.shape
@@ -116,7 +120,8 @@ module _ (root : Held) (next : Next) (level count : ℕ) (taken : List ℕ) (old
       merge_step (Err fault) is = record {
         step = record {
           ended = tt;
-          broken = λ top found m may. subst (λ (s : Shape). Goes s old new (CrashFinds s background old.pages m)) same_shape (is.step.broken top found (merged_found level found) m (held_can top found m may));
+          broken = λ top found m may. subst (λ (s : Shape). Goes s old new (CrashFinds s background old.pages m)) same_shape
+              (is.step.broken top found (merged_found level found) m (held_can top found m may));
           works = tt;
           stops = is.step.stops;
           stopped = is.step.stopped;
@@ -129,7 +134,8 @@ module _ (root : Held) (next : Next) (level count : ℕ) (taken : List ℕ) (old
 
 -- ---- the root that follows has room
 
-pub room_numbered : (root held : Held) (number i : ℕ) (new : List ℕ) → held ≡ record root { root = record root.root { number = number } } → length (concat root.root.runs) + length new ≤ meta_blocks root.shape
+pub room_numbered : (root held : Held) (number i : ℕ) (new : List ℕ) → held ≡ record root { root = record root.root { number = number } }
+    → length (concat root.root.runs) + length new ≤ meta_blocks root.shape
     → length (concat (slice_set held.root.runs i new)) ≤ meta_blocks held.shape
 room_numbered root held number i new made room =
     let P : Held → Type 0 = λ h. length (concat (slice_set h.root.runs i new)) ≤ meta_blocks h.shape in

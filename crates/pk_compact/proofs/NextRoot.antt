@@ -88,7 +88,8 @@ prepare_failed_number shape next old new f = same_newest shape old.pages new.pag
 
 -- ---- the first program
 
-module _ (shape : Shape) (is_shape : IsShape shape) (root : Root) (next : Next) (old : BoardState) (ready : IsReady old shape) (top : ℕ × Root) (found then_found : Found) (m : Map) (can : CanInstall shape root next old.pages top found then_found m) where
+module _ (shape : Shape) (is_shape : IsShape shape) (root : Root) (next : Next) (old : BoardState) (ready : IsReady old shape)
+    (top : ℕ × Root) (found then_found : Found) (m : Map) (can : CanInstall shape root next old.pages top found then_found m) where
   pub greater : top.1.number < root.number
   greater = let follows = number_next shape old.pages top found then_found root can.follows in omega (arith, follows)
 

@@ -4,7 +4,8 @@ use Rattle.pk_base.specs.Shape.{Shape, IsShape}
 use Rattle.pk_base.specs.Page.{Flash, page_at}
 use Rattle.pk_base.specs.Mark.{erase, all_posted}
 use Rattle.pk_nand.specs.BoardState.{BoardState, shape_of}
-use Rattle.pk_nand.specs.Calls.{IsReady, EraseFailed}
+use Rattle.pk_nand.specs.Calls.{IsReady}
+use Rattle.pk_nand.specs.Operations.{EraseFailed}
 use Rattle.pk_nand.proofs.Touching.{untouched}
 use Rattle.pk_nand.proofs.Writing.{shape_is}
 use Rattle.pk_rootfmt.specs.Root.{Root}
@@ -34,7 +35,8 @@ module _ (shape : Shape) (is_shape : IsShape shape) (block : ℕ) (behind : 2 �
   pub failed_front : EraseFailed old new block → SameFront shape old.pages new.pages
   failed_front failed k low = elim failed.left [
     | inl marked ↦
-        untouched (shape_of old) (erase block) k _ _ (λ is. not_behind shape block k is_shape behind low (subst (λ (s : Shape). k / s.block_pages ≡ block) (shape_is old shape ready) is)) (marked.0.pages k)
+        untouched (shape_of old) (erase block) k _ _
+        (λ is. not_behind shape block k is_shape behind low (subst (λ (s : Shape). k / s.block_pages ≡ block) (shape_is old shape ready) is)) (marked.0.pages k)
     | inr same ↦ ap (λ (f : Flash). page_at f k) same.0
   ]
 

@@ -10,7 +10,8 @@ use Rattle.pk_base.proofs.ShapeLemmas.{block_pages_positive}
 use Rattle.pk_plan.specs.declared.owner.Owner.TheVariants.{Journal}
 use Rattle.pk_nand.specs.BoardState.{BoardState, shape_of}
 use Rattle.pk_nand.specs.Cut.{Interrupted}
-use Rattle.pk_nand.specs.Calls.{IsReady, EraseFailed, IsErasedBlock}
+use Rattle.pk_nand.specs.Calls.{IsReady}
+use Rattle.pk_nand.specs.Operations.{EraseFailed, IsErasedBlock}
 use Rattle.pk_nand.proofs.Leaving.{erased_leaves, page_at-erased_from, interrupted_done}
 use Rattle.pk_nand.proofs.Touching.{untouched}
 use Rattle.pk_nand.proofs.Writing.{shape_is}
@@ -85,7 +86,8 @@ pub not_behind : (shape : Shape) (block k : ℕ) → IsShape shape → 2 ≤ blo
 not_behind shape block k is_shape behind low e = let small : k / shape.block_pages < 2 = (div-lt_iff_lt-mul (block_pages_positive shape is_shape)).1 low in omega (arith, small, e, behind)
 
 module _ (shape : Shape) (is_shape : IsShape shape) (top : ℕ × Root) (found : Found) (m : Map) (block : ℕ) (behind : 2 ≤ block) (unnamed : AnyByRecursion (λ c. block ≡ c) (named top.1) → ⊥)
-    (no_value : (k : ℕ) → k / shape.block_pages ≡ block → IsValuePage shape (places found []) k → ⊥) (old : BoardState) (ready : IsReady old shape) (under : IsUnder shape old.pages [] top found m) where
+    (no_value : (k : ℕ) → k / shape.block_pages ≡ block → IsValuePage shape (places found []) k → ⊥)
+    (old : BoardState) (ready : IsReady old shape) (under : IsUnder shape old.pages [] top found m) where
   -- an erase of a block that is not read, done or interrupted
   still_under : (f : Flash) → Interrupted shape (erase block) old.pages f [] → IsUnder shape f [] top found m
   still_under f cut = erases shape old.pages f [] top found m block is_shape under behind unnamed no_value (λ k other. untouched shape (erase block) k _ _ other (cut.pages k))

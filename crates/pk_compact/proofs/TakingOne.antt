@@ -9,7 +9,8 @@ use Rattle.pk_work.specs.Rest.{Lowers, steps_of}
 use Rattle.pk_work.specs.Jobs.{freeze_rest}
 use Rattle.pk_plan.specs.declared.owner.Owner.TheVariants.{Journal}
 use Rattle.pk_nand.specs.BoardState.{BoardState}
-use Rattle.pk_nand.specs.Calls.{IsReady, IsErasedBlock}
+use Rattle.pk_nand.specs.Calls.{IsReady}
+use Rattle.pk_nand.specs.Operations.{IsErasedBlock}
 use Rattle.pk_rootfmt.specs.Root.{Root, is_root, named, differ}
 use Rattle.pk_rootfmt.specs.Held.{Held}
 use Rattle.pk_model.specs.Found.{Found}
@@ -49,7 +50,8 @@ now_owned pool b (inr ready) = set_is pool.states b Ready (Owned Journal) ready
 -- one block that is added to at most one other
 one_differs : (xs : List ℕ) (b : ℕ) → length xs < 2 → (In b xs → ⊥) → differ (xs ++ b ∷ []) ≡ true
 one_differs [] b few new = refl
-one_differs (x ∷ []) b few new = elim (x == b) as (λ t. (x == b) ≡ t → (not (t || false) && true) ≡ true) [ true ↦ λ e. absurd (new (inl (sym (eqb→eq x b (subst T (sym e) tt))))) | false ↦ λ e. refl ] refl
+one_differs (x ∷ []) b few new = elim (x == b) as (λ t. (x == b) ≡ t
+    → (not (t || false) && true) ≡ true) [ true ↦ λ e. absurd (new (inl (sym (eqb→eq x b (subst T (sym e) tt))))) | false ↦ λ e. refl ] refl
 one_differs (x ∷ y ∷ xs) b few new = absurd (omega (arith, few))
 
 in_last : (b : ℕ) (xs : List ℕ) → In b (xs ++ b ∷ [])
@@ -81,7 +83,8 @@ module _ (pool : Blocks) (root : Held) (next : Next) (job : FreezeJob) (has_entr
   is_shape = let P : Shape → Type 0 = λ s. IsShape s in subst P is.pool_shape shared.plan.is_shape
 
   pub valid : T (is_root root.shape root.root)
-  valid = let P : Root → Type 0 = λ r. T (is_root root.shape r) in subst P is.top_is (root_valid root.shape (page_at old.pages top.0) top.1 (newest_sound root.shape (page_at old.pages) top is.under.is_top).there)
+  valid = let P : Root → Type 0 = λ r. T (is_root root.shape r) in subst P is.top_is
+      (root_valid root.shape (page_at old.pages top.0) top.1 (newest_sound root.shape (page_at old.pages) top is.under.is_top).there)
 
   pub grammar : Known root.shape root.root
   grammar = known root.shape root.root valid
@@ -102,7 +105,8 @@ module _ (pool : Blocks) (root : Held) (next : Next) (job : FreezeJob) (has_entr
   pub take_failed_number : (new : BoardState) → FailsToErase pool old new → root_number root.shape new.pages ≡ root_number root.shape old.pages
   take_failed_number new f = same_front root.shape old.pages new.pages (failed_front root.shape is_shape f.block (spare_behind f.block (inl f.lowest.here)) old new ready f.failed)
 
-  module _ (few : length (taken_by job) < 2) (b : ℕ) (new : BoardState) (taken : AtMostErases b old new) (spare : IsSpare pool b) (place : (2 ≤ b) × (b < pool.shape.blocks)) (is_erased : IsErasedBlock pool.shape new.pages b) where
+  module _ (few : length (taken_by job) < 2) (b : ℕ) (new : BoardState) (taken : AtMostErases b old new)
+      (spare : IsSpare pool b) (place : (2 ≤ b) × (b < pool.shape.blocks)) (is_erased : IsErasedBlock pool.shape new.pages b) where
     front : SameFront root.shape old.pages new.pages
     front k low = leaves_others root.shape b old new taken ready k (not_behind root.shape b k is_shape place.0 low)
 
@@ -135,7 +139,8 @@ module _ (pool : Blocks) (root : Held) (next : Next) (job : FreezeJob) (has_entr
     unnamed_top = apart_top.unnamed b spare
 
     -- the freeze after the step
-    module _ (job' : FreezeJob) (job_is : taken_by job' ≡ taken_by job ++ b ∷ []) (fits : PoolOnFlash (with_state pool b (Owned Journal)) new.pages) (counted : used_by Journal (with_state pool b (Owned Journal)).states ≡ used_by Journal pool.states + 1) where
+    module _ (job' : FreezeJob) (job_is : taken_by job' ≡ taken_by job ++ b ∷ []) (fits : PoolOnFlash (with_state pool b (Owned Journal)) new.pages)
+        (counted : used_by Journal (with_state pool b (Owned Journal)).states ≡ used_by Journal pool.states + 1) where
       size : length (taken_by job') ≡ length (taken_by job) + 1
       size = ap (λ (xs : List ℕ). length xs) job_is ∙ length-append (taken_by job) (b ∷ [])
 
@@ -158,7 +163,8 @@ module _ (pool : Blocks) (root : Held) (next : Next) (job : FreezeJob) (has_entr
           no_value = λ x k spare_now. is.apart.no_value x k (spare_before pool b x spare_now).1;
         };
         taken = subst (AllByRecursion (IsTaken root.shape (with_state pool b (Owned Journal)) new.pages root.root)) (sym job_is)
-            (all_behind (IsTaken root.shape (with_state pool b (Owned Journal)) new.pages root.root) (taken_by job) b (all_more (IsTaken root.shape pool old.pages root.root) (IsTaken root.shape (with_state pool b (Owned Journal)) new.pages root.root) (taken_by job) earlier is.taken) latest);
+            (all_behind (IsTaken root.shape (with_state pool b (Owned Journal)) new.pages root.root) (taken_by job) b
+            (all_more (IsTaken root.shape pool old.pages root.root) (IsTaken root.shape (with_state pool b (Owned Journal)) new.pages root.root) (taken_by job) earlier is.taken) latest);
         different = ap differ job_is ∙ one_differs (taken_by job) b few not_taken;
       }
 
@@ -172,6 +178,7 @@ module _ (pool : Blocks) (root : Held) (next : Next) (job : FreezeJob) (has_entr
         lowers = lowers;
         takes = inr (b, spare, refl, job_is);
         some = (let n = size in omega (arith, n));
-        elsewhere = λ k high other. leaves_others root.shape b old new taken ready k (λ here. other (subst (λ xs. In (k / root.shape.block_pages) xs) (sym job_is) (subst (λ x. In x (taken_by job ++ b ∷ [])) (sym here) (in_last b (taken_by job)))));
+        elsewhere = λ k high other. leaves_others root.shape b old new taken ready k
+            (λ here. other (subst (λ xs. In (k / root.shape.block_pages) xs) (sym job_is) (subst (λ x. In x (taken_by job ++ b ∷ [])) (sym here) (in_last b (taken_by job)))));
         cuts = take_reaches root.shape is_shape top found m b place.0 unnamed_top (λ k. is.apart.no_value b k spare) old ready is.under new taken;
       }

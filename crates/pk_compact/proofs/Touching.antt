@@ -20,10 +20,12 @@ use Rattle.pk_steps.proofs.Untouched.{erases, under_reads}
 use Rattle.pk_compact.specs.Laws.{IsUnread, CallLeaves, ProgramUnread, EraseUnread}
 use Rattle.pk_compact.proofs.Taking.{take_reaches, take_under, take_goes}
 
-module _ (shape : Shape) (old : BoardState) (top : ℕ × Root) (found : Found) (m : Map) (block page : ℕ) (bytes : List ℕ) (is_shape : IsShape shape) (ready : IsReady old shape) (under : IsUnder shape old.pages [] top found m)
+module _ (shape : Shape) (old : BoardState) (top : ℕ × Root) (found : Found) (m : Map) (block page : ℕ) (bytes : List ℕ)
+    (is_shape : IsShape shape) (ready : IsReady old shape) (under : IsUnder shape old.pages [] top found m)
     (is : IsUnread shape top.1 found block) (within : page / shape.block_pages ≡ block) where
   still_under : (f : Flash) → Interrupted shape (program page bytes) old.pages f [] → IsUnder shape f [] top found m
-  still_under f cut = erases shape old.pages f [] top found m block is_shape under is.least is.unnamed is.no_value (λ k other. elsewhere shape (program page bytes) k block _ _ (ap (λ (b : ℕ). Some b) within) other (cut.pages k))
+  still_under f cut = erases shape old.pages f [] top found m block is_shape under is.least is.unnamed is.no_value
+      (λ k other. elsewhere shape (program page bytes) k block _ _ (ap (λ (b : ℕ). Some b) within) other (cut.pages k))
 
   holds : (f : Flash) → Interrupted shape (program page bytes) old.pages f [] → CrashFinds shape background old.pages m f []
   holds f cut = (refl, under_reads shape f [] top found m (still_under f cut))

@@ -9,7 +9,7 @@ use Rattle.pk_work.specs.Rest.{Lowers, steps_of}
 use Rattle.pk_work.specs.Jobs.{freeze_rest}
 use Rattle.pk_plan.specs.declared.owner.Owner.TheVariants.{Journal}
 use Rattle.pk_nand.specs.BoardState.{BoardState}
-use Rattle.pk_nand.specs.Calls.{IsErasedBlock}
+use Rattle.pk_nand.specs.Operations.{IsErasedBlock}
 use Rattle.pk_rootfmt.specs.Root.{Root, named, differ, last_number}
 use Rattle.pk_rootfmt.specs.Held.{Held, two_of}
 use Rattle.pk_model.specs.Found.{Found}
@@ -42,7 +42,7 @@ install_steps (Erase beside) = 3
 install_steps (Program page) = 2
 install_steps (Again page) = 1
 
--- how many steps of a freeze remain, if a block that it takes counts twice
+-- how many steps of a freeze remain; a block that it takes counts twice
 abbrev pub freeze_left : FreezeJob → Next → ℕ
 freeze_left job next = steps_of (freeze_rest (length (taken_by job)) (install_steps next))
 
@@ -100,7 +100,7 @@ pub record AreOwned (pool : Blocks) (blocks : List ℕ) : Type 0 where
   pub different : slice_index blocks 1 ≢ slice_index blocks 0
 
 -- The next root is the newest one, with its pair half made: it names an empty epoch in the two blocks, and the former epoch as the older one if that has entries. Otherwise
--- that one's blocks may be given back after the second program: no spare block is read then. The map is the same wherever the step is cut.
+-- that one's blocks may be freed after the second program: no spare block is read then. The map is the same wherever the step is cut.
 pub record FreezeInstalled (pool : Blocks) (root : Held) (next : Next) (job : FreezeJob) (old : BoardState) (has_entries : Bool) (top : ℕ × Root) (found : Found) (m : Map) (pool' : Blocks) (root' : Root) (next' : Next) (job' : FreezeJob) (new : BoardState) : Type 0 where
   pub page : ℕ
   pub first : ℕ

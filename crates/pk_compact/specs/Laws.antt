@@ -5,7 +5,8 @@ use Rattle.pk_base.specs.Page.{Flash}
 use Rattle.pk_base.specs.Map.{Map}
 use Rattle.pk_base.specs.declared.sizes.TheConstants.{ROOT_BLOCKS}
 use Rattle.pk_nand.specs.BoardState.{BoardState}
-use Rattle.pk_nand.specs.Calls.{IsReady, after_program, after_erase, ProgramFailed, EraseFailed}
+use Rattle.pk_nand.specs.Calls.{IsReady, after_program, ProgramFailed}
+use Rattle.pk_nand.specs.Operations.{after_erase, EraseFailed}
 use Rattle.pk_rootfmt.specs.Root.{Root, named}
 use Rattle.pk_model.specs.Found.{Found}
 use Rattle.pk_model.specs.Laws.{AnyByRecursion}
@@ -16,7 +17,7 @@ use Rattle.pk_steps.specs.Under.{IsUnder, IsValuePage, places}
 use Rattle.pk_steps.specs.Merging.{IsMerged, merged_root, merged_found, freed_by}
 use Rattle.pk_compact.specs.Freezing.{IsApart}
 
--- No spare block is read after a merge, if blocks of its source and of its target's former run were given back.
+-- No spare block is read after a merge, if blocks of its source and of its target's former run were freed.
 abbrev pub ApartMerged : Type 0
 ApartMerged =
     (shape : Shape) (flash : Flash) (pool : Blocks) (top : ℕ × Root) (found : Found) (m : Map) (level count : ℕ) (taken gone : List ℕ) → IsShape shape

@@ -3,7 +3,8 @@ ghost use Rattle.std.specs.Prelude.{◌≡◌, ◌≤◌, ◌<◌, ◌≢◌, �
 ghost use Rattle.pk_base.specs.Page.{Flash};
 ghost use Rattle.pk_plan.specs.declared.owner.Owner.{Owner as OwnerSpec};
 ghost use Rattle.pk_plan.specs.declared.owner.Owner.TheVariants.{Journal};
-ghost use Rattle.pk_nand.specs.Calls.{IsReady, IsErasedBlock};
+ghost use Rattle.pk_nand.specs.Calls.{IsReady};
+ghost use Rattle.pk_nand.specs.Operations.{IsErasedBlock};
 ghost use Rattle.pk_nand.specs.declared.types.Fault.TheVariants.{Stopped};
 ghost use Rattle.pk_pool.specs.declared.state.BlockState.TheVariants.{Owned};
 ghost use Rattle.pk_pool.specs.Blocks.{used_by, with_state, left_by, IsSpare, PoolOnFlash};

@@ -1,7 +1,7 @@
 //! What merges leave of the blocks that nobody reads, and what a job may do to them.
 ghost use Rattle.pk_compact.specs.Laws.{ApartMerged, ProgramUnread, EraseUnread};
 
-/// After a merge no spare block is read, also if what it freed was given back.
+/// After a merge no spare block is read, also if the blocks that it no longer needs were freed.
 pub fn merged()
     ensures { ApartMerged }
 {}

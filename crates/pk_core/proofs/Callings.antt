@@ -80,7 +80,8 @@ few_of_shape d old new a f = subst (λ s. FewCalls (most_calls s) old new) a.wit
 
 -- ---- by the opcode
 
-pub few_for_looks : (shape : Shape) (opcode number size : ℕ) → (number == 0xC0) ≡ false → (old new : BoardState) → opcode ≡ number → FewCalls (most_calls shape) old new → FewCalls (most_calls_of shape opcode size) old new
+pub few_for_looks : (shape : Shape) (opcode number size : ℕ) → (number == 0xC0) ≡ false → (old new : BoardState)
+    → opcode ≡ number → FewCalls (most_calls shape) old new → FewCalls (most_calls_of shape opcode size) old new
 few_for_looks shape opcode number size other old new is f =
     subst (λ o. FewCalls (most_calls_of shape o size) old new) (sym is) (subst (λ b. FewCalls (if b then size else most_calls shape) old new) (sym other) f)
 
@@ -88,5 +89,6 @@ pub few_for_tick : (shape : Shape) (opcode size : ℕ) → opcode ≡ 0xC0 → (
 few_for_tick shape opcode size is old new f = subst (λ o. FewCalls (most_calls_of shape o size) old new) (sym is) f
 
 -- the board has the shape of the log
-pub few_told : (d : Parts) (old new : BoardState) → DriveOnFlash d old.shape old.pages → (opcode size : ℕ) → FewCalls (most_calls_of d.log.shape opcode size) old new → FewCalls (most_calls_of (shape_or_none old.shape) opcode size) old new
+pub few_told : (d : Parts) (old new : BoardState) → DriveOnFlash d old.shape old.pages → (opcode size : ℕ)
+    → FewCalls (most_calls_of d.log.shape opcode size) old new → FewCalls (most_calls_of (shape_or_none old.shape) opcode size) old new
 few_told d old new a opcode size f = subst (λ s. FewCalls (most_calls_of s opcode size) old new) (a.with.shape_is ∙ sym (ap shape_or_none a.told_is)) f

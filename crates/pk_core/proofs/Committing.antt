@@ -48,7 +48,8 @@ module _ (d d' : Parts) (shape : Shape) (m : Map) (old new : BoardState) (was : 
       by true e = absurd (not_made f (idle (none_pending e)).0)
 
 -- it agrees with its board still
-pub agrees_committed : (d d' : Parts) (old new : BoardState) → DriveOnFlash d old.shape old.pages → KeepsAll d d' old new → (d.log.pending ≡ [] → IsOk {T = Unit {0}} {E = Fault} (Ok tt) × (d' ≡ d) × (new ≡ old)) → OnlyFlash old new
+pub agrees_committed : (d d' : Parts) (old new : BoardState) → DriveOnFlash d old.shape old.pages → KeepsAll d d' old new
+    → (d.log.pending ≡ [] → IsOk {T = Unit {0}} {E = Fault} (Ok tt) × (d' ≡ d) × (new ≡ old)) → OnlyFlash old new
     → DriveOnFlash d' new.shape new.pages
 agrees_committed d d' old new a keeps idle rest =
     let told : new.shape ≡ Some a.shape = ap (λ (s : BoardState). s.shape) rest ∙ a.told_is in

@@ -33,6 +33,7 @@ use Rattle.pk_core.specs.Done.{Does}
 use Rattle.pk_core.specs.Quiet.{DoneWithout}
 use Rattle.pk_core.proofs.Unchanging.{same_early, does_reads, flush_step, report_step, ok_sound, AnswersAll}
 use Rattle.pk_parts.proofs.Unchanging.{own, for_its_map, reads_none, same_ok}
+use Rattle.pk_base.proofs.Logic.{some_same}
 
 pub numbers_more : (xs into new : List ℕ) (i d : ℕ) → i < length xs → take (4 * i + 4) new ≡ take (4 * i) into ++ u32 (get_or xs i d) → take (4 * i) into ≡ flat_map u32 (take i xs)
     → take (4 * (i + 1)) new ≡ flat_map u32 (take (i + 1) xs)
@@ -43,7 +44,8 @@ numbers_more xs into new i d less front before =
 
 -- ---- the map
 
-counts_map : (d : Parts) (shape : Shape) (flash : Flash) (top : ℕ × Root) (found : Found) (without all : Map) → DriveOnFlashWith d shape flash top found without all → CountsMap shape (frames_of d) all (counts_of d)
+counts_map : (d : Parts) (shape : Shape) (flash : Flash) (top : ℕ × Root) (found : Found) (without all : Map)
+    → DriveOnFlashWith d shape flash top found without all → CountsMap shape (frames_of d) all (counts_of d)
 counts_map d shape flash top found without all a =
     let c = counts shape flash d.log.pending top found all a.placed.is_shape a.is_flash a.pending in
     record {
@@ -62,13 +64,10 @@ counts_settled d shape frames m c = record { live_is = c.live_is; limit_is = c.l
 pub counts_own : (d : Parts) (board : BoardState) (a : DriveOnFlash d board.shape board.pages) → CountsMap d.log.shape (frames_of d) a.all (counts_of d)
 counts_own d board a = counts_settled d d.log.shape (frames_of d) a.all (counts_map (settled_parts d) d.log.shape board.pages a.top a.found a.without a.all (own d board a))
 
-told_same : (a b : Shape) → ◌≡◌ {A = Option Shape} (Some a) (Some b) → a ≡ b
-told_same a b e = cc
-
 pub agrees_counts : (d : Parts) (shape : Shape) (flash : Flash) (m : Map) → DriveOnFlash d (Some shape) flash → reading shape flash d.log.pending ≡ Ok m → CountsMap shape (frames_of d) m (counts_of d)
 agrees_counts d shape flash m a read =
     let here = counts_settled d a.shape (frames_of d) a.all (counts_map (settled_parts d) a.shape flash a.top a.found a.without a.all a.with) in
-    let same : a.shape ≡ shape = sym (told_same shape a.shape a.told_is) in
+    let same : a.shape ≡ shape = sym (some_same shape a.shape a.told_is) in
     let held = under_reads a.shape flash d.log.pending a.top a.found a.all a.with.pending in
     let T : Shape → Type 0 = λ s. reading s flash d.log.pending ≡ Ok a.all in
     let map_is : a.all ≡ m = same_ok a.all m (sym (subst T same held) ∙ read) in
@@ -79,7 +78,7 @@ agrees_counts d shape flash m a read =
 pub worn_is : (d : Parts) (shape : Shape) (flash : Flash) → DriveOnFlash d (Some shape) flash → root_number shape flash ≡ d.log.root.number
 unfolding root_number
 worn_is d shape flash a =
-    let same : a.shape ≡ shape = sym (told_same shape a.shape a.told_is) in
+    let same : a.shape ≡ shape = sym (some_same shape a.shape a.told_is) in
     subst (λ s. number_of (newest_root s (page_at flash)) ≡ d.log.root.number) same (ap number_of a.with.committed.is_top ∙ ap (λ r. r.number) (sym a.with.index.logs.root_is))
 
 -- ---- commands without a flash operation
@@ -103,7 +102,8 @@ flush_done d o into told board r v a few op passed =
     subst (λ (x : Outcome). Does board board (sight_of d) (sight_of d) c (reply_of x into) x.reads x.stopped) (sym told)
     (does_reads board board (sight_of d) c (success 0 []) 0 0 few few (reads_none board few) (omega arith) ok_sound all)
 
-pub report_done : (d : Parts) (o : Outcome) (into : List ℕ) → o ≡ record { status = 0; result = 0; data_len = 64; reads = 0; stopped = false } → take 64 into ≡ report_of (counts_of d) → DoneWithout d 0xC2 o into
+pub report_done : (d : Parts) (o : Outcome) (into : List ℕ) → o ≡ record { status = 0; result = 0; data_len = 64; reads = 0; stopped = false }
+    → take 64 into ≡ report_of (counts_of d) → DoneWithout d 0xC2 o into
 report_done d o into told bytes board r v a few op passed =
     let c = command_of r v in
     let passes : early d.log.shape c ≡ None = same_early d.log.shape r v ∙ passed in

@@ -1,11 +1,10 @@
 -- A List meets the contract of a drive.
-use Rattle.std.proofs.Common.{◌≡◌, inl, inr, ℕ, ◌-◌, min, refl, sym, ap, subst, ◌∙◌, arith, Bool, true, false, List, [], ◌∷◌, take, Option, Some, None, Result, Ok}
+use Rattle.std.proofs.Common.{◌≡◌, inl, inr, ℕ, ◌-◌, min, refl, sym, ap, subst, ◌∙◌, arith, Bool, true, false, List, [], ◌∷◌, take, Option, Some, None}
 use Rattle.std.specs.List.{AllByRecursion}
 use Rattle.pk_base.specs.Shape.{Shape, IsShape, limit}
 use Rattle.pk_base.specs.Page.{Flash}
 use Rattle.pk_base.specs.Entry.{Entry}
 use Rattle.pk_base.specs.Map.{Map, IsMap, keys_from}
-use Rattle.pk_base.specs.Refusal.{Refusal}
 use Rattle.pk_nvme.specs.declared.request.Request.{Request}
 use Rattle.pk_nvme.specs.Seen.{command_of}
 use Rattle.pk_nvme.specs.Command.{Command, key}
@@ -41,12 +40,10 @@ use Rattle.pk_core.proofs.Executing.{executes_walked}
 use Rattle.pk_index.specs.Keys.{keys_there}
 use Rattle.pk_core.specs.Listed.{first_listed, ListsInto}
 use Rattle.pk_core.proofs.Replies.{keys_begun, keys_listed}
+use Rattle.pk_base.proofs.Logic.{ok_same}
 
 some_same : (x y : Shape) → ◌≡◌ {A = Option Shape} (Some x) (Some y) → x ≡ y
 some_same x y e = cc
-
-ok_same : (x y : Map) → ◌≡◌ {A = Result Map Refusal} (Ok x) (Ok y) → x ≡ y
-ok_same x y e = cc
 
 not_both : (b : Bool) → b ≡ false → b ≡ true → ⊥
 not_both true e f = cc
@@ -58,7 +55,8 @@ not_retrieve k e f = cc
 abbrev eleven : List ℕ
 eleven = 0 ∷ 0 ∷ 0 ∷ 0 ∷ 0 ∷ 0 ∷ 0 ∷ 0 ∷ 0 ∷ 0 ∷ 0 ∷ []
 
-module _ (d : Parts) (old new : BoardState) (r : Request) (o : Outcome) (into : List ℕ) (a : DriveOnFlash d old.shape old.pages) (is : r.opcode ≡ 0x06) (passed : early d.log.shape (command_of r []) ≡ None)
+module _ (d : Parts) (old new : BoardState) (r : Request) (o : Outcome) (into : List ℕ)
+    (a : DriveOnFlash d old.shape old.pages) (is : r.opcode ≡ 0x06) (passed : early d.log.shape (command_of r []) ≡ None)
     (lists : (ess : List (List Entry)) → RunsOnFlash old.pages d.arena d.levels.runs ess
     → ListsInto old new o into (list_bytes (fitting (min r.size 65536 - 4) (keys_there (first_listed (command_of r [])) (d.log.active.entries ∷ d.log.frozen.entries ∷ ess))))) where
   abbrev c : Command
@@ -111,7 +109,8 @@ module _ (d : Parts) (old new : BoardState) (r : Request) (o : Outcome) (into : 
   stands : ExecStands old new (sight_of d) (sight_of d) c (reply_of o into) o.reads
   stands shape frames m st =
       let shape_is : a.shape ≡ shape = some_same a.shape shape (sym a.told_is ∙ st.shape_is) in
-      let map_is : a.all ≡ m = ok_same a.all m (sym (under_reads a.shape old.pages d.log.pending a.top a.found a.all a.with.pending) ∙ ap (λ (s : Shape). reading s old.pages d.log.pending) shape_is ∙ st.map_is) in
+      let map_is : a.all ≡ m = ok_same a.all m
+      (sym (under_reads a.shape old.pages d.log.pending a.top a.found a.all a.with.pending) ∙ ap (λ (s : Shape). reading s old.pages d.log.pending) shape_is ∙ st.map_is) in
       record {
         left = m;
         stepped = subst (λ (s : Shape). Step s frames m c (reply_of o into) m) shape_is (subst (λ (x : Map). Step a.shape frames x c (reply_of o into) x) map_is (stepped frames));
@@ -126,7 +125,8 @@ module _ (d : Parts) (old new : BoardState) (r : Request) (o : Outcome) (into : 
   reaches : (shape : Shape) (m : Map) → Reaches shape old new (CrashFinds shape (command c) old.pages m)
   reaches shape m = (
     [],
-    Reached-start old new (CrashFinds shape (command c) old.pages m) same_shape same_pages (ap (λ (b : BoardState). b.trail) l.board_is) (ap (λ (b : BoardState). b.posted) l.board_is) (refl, inl refl),
+    Reached-start old new (CrashFinds shape (command c) old.pages m) same_shape same_pages
+        (ap (λ (b : BoardState). b.trail) l.board_is) (ap (λ (b : BoardState). b.posted) l.board_is) (refl, inl refl),
     tt,
   )
 

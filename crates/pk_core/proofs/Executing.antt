@@ -13,7 +13,7 @@ use Rattle.pk_core.specs.Agreeing.{DriveOnFlashBetween}
 use Rattle.pk_parts.specs.Agreeing.{DriveOnFlash}
 use Rattle.pk_core.specs.Done.{Does, Executes}
 use Rattle.pk_core.specs.Serving.{IsServable}
-use Rattle.pk_parts.proofs.Rooming.{entries_some}
+use Rattle.pk_base.proofs.ShapeLemmas.{entries_some}
 
 -- one that did not change the drive and the pages of its board
 pub executes_quiet : (d e : Parts) (old new : BoardState) (r : Request) (c : Command) (o : Outcome) (into : List ℕ) (reads : ℕ) → IsServable d old r → e ≡ d → new.pages ≡ old.pages → o.stopped ≡ false
@@ -22,7 +22,8 @@ executes_quiet d e old new r c o into reads servable same pages runs does = reco
   stops = ap (λ (x : Parts). x.stopped) same ∙ (servable.runs ∙ sym runs);
   agrees = λ _.
       let shape = ap (λ (b : BoardState). b.shape) does.rest in
-      let there : DriveOnFlash d new.shape new.pages = subst (λ (f : Flash). DriveOnFlash d new.shape f) (sym pages) (subst (λ (s : Option Shape). DriveOnFlash d s old.pages) (sym shape) servable.agrees) in
+      let there : DriveOnFlash d new.shape new.pages = subst (λ (f : Flash). DriveOnFlash d new.shape f)
+      (sym pages) (subst (λ (s : Option Shape). DriveOnFlash d s old.pages) (sym shape) servable.agrees) in
       let between : DriveOnFlashBetween d new.shape new.pages = (there, servable.few) in
       subst (λ (x : Parts). DriveOnFlashBetween x new.shape new.pages) (sym same) between;
   does = does;
@@ -62,7 +63,8 @@ pub same_but_walk : (d e : Parts) → e ≡ d → e ≡ record d { walk = e.walk
 same_but_walk d e same = subst (λ (x : Parts). x ≡ record d { walk = x.walk }) (sym same) refl
 
 -- one that changed nothing of the drive but the walk of a List
-pub executes_walked : (d e : Parts) (old new : BoardState) (r : Request) (c : Command) (o : Outcome) (into : List ℕ) (reads : ℕ) → IsServable d old r → e ≡ record d { walk = e.walk } → new.pages ≡ old.pages → o.stopped ≡ false
+pub executes_walked : (d e : Parts) (old new : BoardState) (r : Request) (c : Command) (o : Outcome) (into : List ℕ) (reads : ℕ)
+    → IsServable d old r → e ≡ record d { walk = e.walk } → new.pages ≡ old.pages → o.stopped ≡ false
     → Does old new (sight_of d) (sight_of d) c (reply_of o into) reads o.stopped → Executes d e old new c o into reads
 executes_walked d e old new r c o into reads servable same pages runs does =
     let quiet = executes_quiet d d old new r c o into reads servable refl pages runs does in

@@ -1,5 +1,6 @@
 -- A flash with the first root in pages 0 and 1 and all other pages Erased holds the empty map.
-use Rattle.std.proofs.Common.{◌≡◌, ◌⊎◌, inr, ℕ, zero, suc, ◌+◌, ◌*◌, ◌/◌, ◌%◌, ◌<◌, ◌≤◌, refl, sym, ap, subst, ◌∙◌, arith, true, List, [], ◌∷◌, length, length-set, nat_le, min, slice_index, slice_set, Some, None, Ok, le→leb, zero-mul, mul-le-mul_right}
+use Rattle.std.proofs.Common.{◌≡◌, ◌⊎◌, inr, ℕ, zero, suc, ◌+◌, ◌*◌, ◌/◌, ◌%◌, ◌<◌, ◌≤◌, refl, sym, ap, subst, ◌∙◌, arith, true, List, [], ◌∷◌, length, length-set, nat_le, min, slice_index, slice_set}
+use Rattle.std.proofs.Common.{Some, None, Ok, le→leb, zero-mul, mul-le-mul_right}
 use Rattle.std.proofs.Math.Nat.{zero-div, zero-mod}
 use Rattle.std.specs.FinMap.{empty}
 use Rattle.pk_base.specs.Shape.{Shape, IsShape, page_count, page_entries, run_pages, buffer}
@@ -20,7 +21,7 @@ use Rattle.pk_model.specs.Reading.{Holds, map_under, reading_of}
 use Rattle.pk_model.specs.Laws.{IsWholePage}
 use Rattle.pk_model.proofs.Roots.{newest_complete, inside}
 use Rattle.pk_model.proofs.Commits.{ends}
-use Rattle.pk_model.proofs.ValueSets.{is_true}
+use Rattle.pk_base.proofs.Logic.{is_true}
 
 -- what is found under the first root
 abbrev nothing : Found

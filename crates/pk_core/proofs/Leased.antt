@@ -32,7 +32,8 @@ entries_of rs = map (λ (r : Kept). r.count) rs
 
 -- this many levels are pinned after this one, itself included
 module _ (shape : Shape) (flash : Flash) (arena : Frames) (pins : ℕ) where
-  many : (level left : ℕ) (rs : List Kept) (bss : List (List ℕ)) (ess : List (List Entry)) → left ≡ suc pins - level → HaveBlocks shape rs bss → RunsOnFlash flash arena rs ess → ArePinnedTo pins level rs
+  many : (level left : ℕ) (rs : List Kept) (bss : List (List ℕ)) (ess : List (List Entry))
+      → left ≡ suc pins - level → HaveBlocks shape rs bss → RunsOnFlash flash arena rs ess → ArePinnedTo pins level rs
       → length (leases_of rs) ≡ sum (map (run_pages shape) (take left (entries_of rs)))
   many level zero [] bss ess so have stand frames = refl
   many level (suc left) [] bss ess so have stand frames = refl

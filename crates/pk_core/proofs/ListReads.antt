@@ -28,7 +28,8 @@ reads_until most old new few bound (k, page, upto, failed) =
 
 -- ---- the answer
 
-pub lists_read : (most : ℕ) (old new : BoardState) (o : Outcome) (len reads : ℕ) (into bytes : List ℕ) → o ≡ record { status = 0; result = 0; data_len = len; reads = reads; stopped = false } → new.reads ≤ last_count → Reads 0 most old new
+pub lists_read : (most : ℕ) (old new : BoardState) (o : Outcome) (len reads : ℕ) (into bytes : List ℕ)
+    → o ≡ record { status = 0; result = 0; data_len = len; reads = reads; stopped = false } → new.reads ≤ last_count → Reads 0 most old new
     → old.reads + reads ≡ new.reads → take len into ≡ bytes → ListsInto old new o into bytes
 lists_read most old new o len n into bytes told few reads count data_is = subst (λ (x : Outcome). ListsInto old new x into bytes) (sym told) (record {
   runs = refl;
@@ -37,10 +38,15 @@ lists_read most old new o len n into bytes told few reads count data_is = subst 
   reads = omega (arith, few, count);
   up = let same = ap (λ (b : BoardState). b.read_faults) reads.2 in omega (arith, same);
   flash_up = λ _. let same = ap (λ (b : BoardState). b.flash_faults) reads.2 in omega (arith, same);
-  answered = inl (refl, data_is, (ap (λ (b : BoardState). b.flash_faults) reads.2, ap (λ (b : BoardState). b.read_faults) reads.2, ap (λ (b : BoardState). b.stop_faults) reads.2, ap (λ (b : BoardState). b.failed_at) reads.2));
+  answered = inl (
+    refl,
+    data_is,
+    (ap (λ (b : BoardState). b.flash_faults) reads.2, ap (λ (b : BoardState). b.read_faults) reads.2, ap (λ (b : BoardState). b.stop_faults) reads.2, ap (λ (b : BoardState). b.failed_at) reads.2),
+  );
 })
 
-pub lists_unread : (most : ℕ) (old new : BoardState) (o : Outcome) (reads : ℕ) (into bytes : List ℕ) → o ≡ record { status = 0x88; result = 0; data_len = 0; reads = reads; stopped = false } → new.reads ≤ last_count → old.read_faults ≤ last_count
+pub lists_unread : (most : ℕ) (old new : BoardState) (o : Outcome) (reads : ℕ) (into bytes : List ℕ)
+    → o ≡ record { status = 0x88; result = 0; data_len = 0; reads = reads; stopped = false } → new.reads ≤ last_count → old.read_faults ≤ last_count
     → ReadsFail 0 most old new → old.reads + reads ≡ new.reads → ListsInto old new o into bytes
 lists_unread most old new o n into bytes told few faults (k, page, upto, failed) count =
     let rose = failed.read in
@@ -48,7 +54,8 @@ lists_unread most old new o n into bytes told few faults (k, page, upto, failed)
     subst (λ (x : Outcome). ListsInto old new x into bytes) (sym told) (record {
       runs = refl;
       result_is = refl;
-      board_is = failed.rest ∙ ap (λ (f : Option ℕ). record old { reads = counted (counted_by k old.reads); flash_faults = new.flash_faults; read_faults = new.read_faults; failed_at = f }) (sym (ap (λ (b : BoardState). b.failed_at) failed.rest))
+      board_is = failed.rest ∙ ap (λ (f : Option ℕ). record old { reads = counted (counted_by k old.reads); flash_faults = new.flash_faults; read_faults = new.read_faults; failed_at = f })
+          (sym (ap (λ (b : BoardState). b.failed_at) failed.rest))
           ∙ ap (λ (n : ℕ). record old { reads = n; flash_faults = new.flash_faults; read_faults = new.read_faults; failed_at = new.failed_at }) (sym (ap (λ (b : BoardState). b.reads) failed.rest));
       reads = omega (arith, few, count);
       up = omega (arith, rose, faults);

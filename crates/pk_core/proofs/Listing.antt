@@ -1,5 +1,6 @@
 -- Keys that a walk gives, listed one after another.
-use Rattle.std.proofs.Common.{◌≡◌, ℕ, ◌+◌, ◌-◌, ◌<◌, ◌≤◌, refl, sym, ap, subst, ◌∙◌, arith, Bool, true, false, nat_le, min, List, [], ◌∷◌, ◌++◌, length, take, drop, flat_map, if◌then◌else◌, Option, Some, None, T, leb-false, leb→le}
+use Rattle.std.proofs.Common.{◌≡◌, ℕ, ◌+◌, ◌-◌, ◌<◌, ◌≤◌, refl, sym, ap, subst, ◌∙◌, arith, Bool, true, false, nat_le, min, List, [], ◌∷◌, ◌++◌, length, take, drop, flat_map, if◌then◌else◌, Option}
+use Rattle.std.proofs.Common.{Some, None, T, leb-false, leb→le}
 use Rattle.std.proofs.lemmas.List.{append_assoc, append-nil, flat_map_more, drop-append-le, length-take-le, drop-take, length-append}
 use Rattle.std.proofs.Math.Seq.{take-add}
 use Rattle.pk_base.specs.Key.{Key}
@@ -10,7 +11,8 @@ use Rattle.pk_base.specs.declared.entry.Entry.{Entry as RustEntry}
 use Rattle.pk_base.specs.Fields.{u32}
 use Rattle.pk_base.specs.Page.{Flash}
 use Rattle.pk_nand.specs.BoardState.{BoardState}
-use Rattle.pk_nand.specs.Calls.{IsReady, ReadFailed}
+use Rattle.pk_nand.specs.Calls.{IsReady}
+use Rattle.pk_nand.specs.Operations.{ReadFailed}
 use Rattle.pk_nand.specs.Counts.{after_reads}
 use Rattle.pk_pin.specs.Frames.{Frames}
 use Rattle.pk_run.specs.Kept.{Kept}
@@ -75,7 +77,8 @@ lists_more all room into new at next k ks least within l o =
     let end : next.end ≡ at.end + size = ap (λ (n : Filled). n.end) o.0 in
     let count : next.count ≡ at.count + 1 = ap (λ (n : Filled). n.count) o.0 in
     let more : flat_map listed l.done ++ listed k ≡ flat_map listed (l.done ++ k ∷ []) = flat_map_more listed [] l.done k in
-    let lengths : length (flat_map listed (l.done ++ k ∷ [])) ≡ length (flat_map listed l.done) + size = ap (λ (xs : List ℕ). length xs) (sym more) ∙ length-append (flat_map listed l.done) (listed k) in
+    let lengths : length (flat_map listed (l.done ++ k ∷ [])) ≡ length (flat_map listed l.done) + size = ap (λ (xs : List ℕ). length xs) (sym more)
+    ∙ length-append (flat_map listed l.done) (listed k) in
     let long : length (take at.end into) ≡ at.end = length-take-le at.end into within in
     let old_end = l.end_is in
     let old_count = l.count_is in
@@ -87,7 +90,8 @@ lists_more all room into new at next k ks least within l o =
       count_is = omega (arith, count, old_count, one);
       end_is = omega (arith, end, old_end, lengths);
       bytes = ap (drop 4) o.2 ∙ drop-append-le 4 (take at.end into) (listed k) (omega (arith, long, least)) ∙ ap (λ (xs : List ℕ). xs ++ listed k) l.bytes ∙ more;
-      fits = l.fits ∙ ap (λ (xs : List Key). l.done ++ xs) (fits_more (room - at.end) k ks room_left ∙ ap (λ (n : ℕ). k ∷ fitting n ks) left) ∙ sym (append_assoc l.done (k ∷ []) (fitting (room - next.end) ks));
+      fits = l.fits ∙ ap (λ (xs : List Key). l.done ++ xs) (fits_more (room - at.end) k ks room_left ∙ ap (λ (n : ℕ). k ∷ fitting n ks) left)
+          ∙ sym (append_assoc l.done (k ∷ []) (fitting (room - next.end) ks));
     }
 
 -- no other key fits
@@ -126,13 +130,16 @@ lists_next all room into new at next (x ∷ rest) later least within few l o =
       few = omega (arith, end, some, count, few);
     }
 
-pub lists_last : (all : List Key) (room : ℕ) (into new : List ℕ) (at : Filled) (rest later : List (Key × Place)) → Lists all room into at (keys_of rest) → OffersFirst into at room rest None new later → ListsAll all room new at
+pub lists_last : (all : List Key) (room : ℕ) (into new : List ℕ) (at : Filled) (rest later : List (Key × Place))
+    → Lists all room into at (keys_of rest) → OffersFirst into at room rest None new later → ListsAll all room new at
 lists_last all room into new at [] later l o = subst (λ (ys : List ℕ). ListsAll all room ys at) (sym o.1) (lists_stop all room into at [] refl l)
-lists_last all room into new at (x ∷ rest) later l o = subst (λ (ys : List ℕ). ListsAll all room ys at) (sym o.0.1) (lists_stop all room into at (x.0 ∷ keys_of rest) (fits_none (room - at.end) x.0 (keys_of rest) o.0.0) l)
+lists_last all room into new at (x ∷ rest) later l o = subst (λ (ys : List ℕ). ListsAll all room ys at) (sym o.0.1)
+    (lists_stop all room into at (x.0 ∷ keys_of rest) (fits_none (room - at.end) x.0 (keys_of rest) o.0.0) l)
 
 -- ---- the number of keys at the start
 
-pub list_done : (all : List Key) (room : ℕ) (into new : List ℕ) (at : Filled) → ListsAll all room into at → take 4 new ≡ u32 at.count → drop 4 new ≡ drop 4 into → take at.end new ≡ list_bytes (fitting (room - 4) all)
+pub list_done : (all : List Key) (room : ℕ) (into new : List ℕ) (at : Filled) → ListsAll all room into at
+    → take 4 new ≡ u32 at.count → drop 4 new ≡ drop 4 into → take at.end new ≡ list_bytes (fitting (room - 4) all)
 list_done all room into new at l front back =
     let rest : ℕ = length (flat_map listed (fitting (room - 4) all)) in
     let four : take (4 + rest) new ≡ take 4 new ++ take rest (drop 4 new) = take-add 4 rest new in
@@ -143,12 +150,14 @@ list_done all room into new at l front back =
 
 -- ---- what remains of a walk
 
-pub left_once : (w : Walk) (flash : Flash) (arena : Frames) (rs : List Kept) (active frozen : List Entry) (a b : List (Key × Place)) → IsLeft w flash arena rs active frozen a → IsLeft w flash arena rs active frozen b → a ≡ b
+pub left_once : (w : Walk) (flash : Flash) (arena : Frames) (rs : List Kept) (active frozen : List Entry) (a b : List (Key × Place))
+    → IsLeft w flash arena rs active frozen a → IsLeft w flash arena rs active frozen b → a ≡ b
 left_once w flash arena rs active frozen a b one other =
     one.is ∙ ap (λ (ess : List (List Entry)). wanted (is_wanted w.position) (visible (active ∷ frozen ∷ ess))) (one_of_each flash arena rs one.ess other.ess one.stand other.stand) ∙ sym other.is
 
 -- the key of the entry that the walk gave was offered
-pub gives_key : (into new : List ℕ) (at : Filled) (room : ℕ) (e : RustEntry) (key : Key) (next : Option Filled) (rest later : List (Key × Place)) → key ≡ key_of (seen e) → WalkGives (Some e) rest later → OffersKey into at room key next new
+pub gives_key : (into new : List ℕ) (at : Filled) (room : ℕ) (e : RustEntry) (key : Key) (next : Option Filled) (rest later : List (Key × Place))
+    → key ≡ key_of (seen e) → WalkGives (Some e) rest later → OffersKey into at room key next new
     → OffersFirst into at room rest next new later
 gives_key into new at room e key next [] later is gives o = absurd (some_none e gives.0)
   where
@@ -224,7 +233,8 @@ module _ (d : Parts) (old : BoardState) (room : ℕ) (start : List ℕ) where
           lists_next (keys_of f.all) room into new at n f.rest (offers f.rest f.left).0 f.least (omega (arith, in_room, size, enough)) f.few f.lists
           (subst (λ (x : Option Filled). OffersFirst into at room f.rest x new (offers f.rest f.left).0) is (offers f.rest f.left).1)
 
-      pub fills_more : (n : Filled) (is : next ≡ Some n) → Walked e.walk v now board e.levels → Reads (pages_read e.levels.runs e.walk.cursors) (pages_read e.levels.runs v.cursors) now board → length new ≡ length into
+      pub fills_more : (n : Filled) (is : next ≡ Some n) → Walked e.walk v now board e.levels
+          → Reads (pages_read e.levels.runs e.walk.cursors) (pages_read e.levels.runs v.cursors) now board → length new ≡ length into
           → Fills d old board v room start new n
       fills_more n is walked reads size =
           let m = more n is in
@@ -258,7 +268,8 @@ module _ (d : Parts) (old : BoardState) (room : ℕ) (start : List ℕ) where
       pub fills_end : next ≡ None → (rest : List (Key × Place)) → LeftOf d d.walk old.pages rest → ListsAll (keys_of rest) room new at
       fills_end is rest left =
           subst (λ (es : List (Key × Place)). ListsAll (keys_of es) room new at) (left_once d.walk old.pages d.arena d.levels.runs d.log.active.entries d.log.frozen.entries f.all rest f.all_left left)
-          (lists_last (keys_of f.all) room into new at f.rest (offers f.rest f.left).0 f.lists (subst (λ (x : Option Filled). OffersFirst into at room f.rest x new (offers f.rest f.left).0) is (offers f.rest f.left).1))
+          (lists_last (keys_of f.all) room into new at f.rest (offers f.rest f.left).0 f.lists
+          (subst (λ (x : Option Filled). OffersFirst into at room f.rest x new (offers f.rest f.left).0) is (offers f.rest f.left).1))
 
     module _ (board : BoardState) (v : Walk) (none : pages_read d.levels.runs d.walk.cursors ≡ 0) (walked : Walked e.walk v now board e.levels) where
       few_read : pages_read d.levels.runs v.cursors ≤ most_read d.levels.runs
@@ -267,7 +278,8 @@ module _ (d : Parts) (old : BoardState) (room : ℕ) (start : List ℕ) where
       pub fills_reads : Reads (pages_read e.levels.runs e.walk.cursors) (pages_read e.levels.runs v.cursors) now board → Reads 0 (most_read d.levels.runs) old board
       fills_reads reads =
           let few = few_read in
-          let all = Reads-more (pages_read d.levels.runs d.walk.cursors) _ _ old now board f.reads (at_first d e (λ l a g. Reads (pages_read l.runs e.walk.cursors) (pages_read l.runs v.cursors) now board) same reads) in
+          let all = Reads-more (pages_read d.levels.runs d.walk.cursors) _ _ old now board f.reads
+          (at_first d e (λ l a g. Reads (pages_read l.runs e.walk.cursors) (pages_read l.runs v.cursors) now board) same reads) in
           let count = all.1 in
           (all.0, omega (arith, count, none, few), all.2)
 

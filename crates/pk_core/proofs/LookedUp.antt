@@ -78,7 +78,8 @@ module _ (d e : Parts) (old new : BoardState) (k : Key) (r : Result Unit Fault) 
   made_whole none zero = came_served (λ x. is_half x ≡ false) r e o reads told (ok_of (is_half e ≡ false) r none) zero
 
   pub stores_came : (len size : ℕ) → len ≡ size → OnRunning (is_half e ≡ false) r → OnRunning (StaysOrOpens d e (charge d.log.shape len)) r → OnOk r (IsNoted e k)
-      → (is_half d ≡ false → OnOk r (PutsQuietly d k (charge d.log.shape len) old new)) → (is_half d ≡ false → OnOk r (ReadsNone d k (charge d.log.shape len) old new)) → StoresOver d e old new k (charge d.log.shape size) o
+      → (is_half d ≡ false → OnOk r (PutsQuietly d k (charge d.log.shape len) old new))
+      → (is_half d ≡ false → OnOk r (ReadsNone d k (charge d.log.shape len) old new)) → StoresOver d e old new k (charge d.log.shape size) o
   stores_came len size sized none opens noted programs quiet =
       let count = charge d.log.shape len in
       subst (λ (n : ℕ). StoresOver d e old new k (charge d.log.shape n) o) sized (record {
@@ -90,7 +91,8 @@ module _ (d e : Parts) (old new : BoardState) (k : Key) (r : Result Unit Fault) 
         quiet = λ zero whole. came_served (λ x. ReadsNone d k count old new) r e o reads told (quiet whole) zero;
       })
 
-  pub deletes_came : OnRunning (is_half e ≡ false) r → OnRunning (Stays d e) r → (is_half d ≡ false → OnOk r (TakesQuietly d k old new)) → (is_half d ≡ false → OnOk r (ReadsQuietly d k old new)) → DeletesAt d e old new k o
+  pub deletes_came : OnRunning (is_half e ≡ false) r → OnRunning (Stays d e) r → (is_half d ≡ false → OnOk r (TakesQuietly d k old new))
+      → (is_half d ≡ false → OnOk r (ReadsQuietly d k old new)) → DeletesAt d e old new k o
   deletes_came none moves programs quiet = record {
     half = λ runs _. half_none none runs;
     finishes = made_whole none;
@@ -102,7 +104,8 @@ module _ (d e : Parts) (old new : BoardState) (k : Key) (r : Result Unit Fault) 
 -- ---- the whole command
 
 -- after a lookup it comes to what it comes to from there
-pub executes_behind : (d e f : Parts) (old mid new : BoardState) (most : ℕ) (c : Command) (into : List ℕ) (o : Outcome) → e ≡ d → ReadsOnly old mid most → (op_of c.opcode ≡ Some Retrieve → ⊥) → IsCounted mid new
+pub executes_behind : (d e f : Parts) (old mid new : BoardState) (most : ℕ) (c : Command) (into : List ℕ) (o : Outcome)
+    → e ≡ d → ReadsOnly old mid most → (op_of c.opcode ≡ Some Retrieve → ⊥) → IsCounted mid new
     → o.reads ≡ new.reads - old.reads → Executes e f mid new c o into (new.reads - mid.reads) → Executes d f old new c o into o.reads
 executes_behind d e f old mid new most c into o same made other count told did = record {
   stops = did.stops;
@@ -111,7 +114,8 @@ executes_behind d e f old mid new most c into o same made other count told did =
 }
 
 -- a read of the lookup failed
-pub executes_unread : (d e : Parts) (old new : BoardState) (r : Request) (v into : List ℕ) (o : Outcome) (reads : ℕ) → IsServable d old r → e ≡ d → o ≡ record { status = 0x88; result = 0; data_len = 0; reads = reads; stopped = false }
+pub executes_unread : (d e : Parts) (old new : BoardState) (r : Request) (v into : List ℕ) (o : Outcome) (reads : ℕ)
+    → IsServable d old r → e ≡ d → o ≡ record { status = 0x88; result = 0; data_len = 0; reads = reads; stopped = false }
     → old.read_faults ≤ last_count → ReadsFailing old new (4 - d.levels.pinned) → reads ≡ new.reads - old.reads → Executes d e old new (command_of r v) o into o.reads
 executes_unread d e old new r v into o reads s same told faults made is =
     executes_quiet d e old new r (command_of r v) o into o.reads s same (ap (λ (b : BoardState). b.pages) made.board) (ap (λ (x : Outcome). x.stopped) told)

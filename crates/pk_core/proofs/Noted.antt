@@ -1,5 +1,5 @@
 -- A value that was stored, as the contract of a drive sees it.
-use Rattle.std.proofs.Common.{◌≡◌, inl, inr, ℕ, ◌+◌, ◌*◌, ◌/◌, ◌≤◌, sym, ap, subst, ◌∙◌, ◌⊎◌, arith, Bool, true, false, List, [], ◌∷◌, ◌++◌, reverse, Option, Some, None, cond}
+use Rattle.std.proofs.Common.{◌≡◌, inl, inr, ℕ, ◌+◌, ◌*◌, ◌/◌, ◌≤◌, sym, ap, subst, ◌∙◌, ◌⊎◌, arith, true, false, List, [], ◌∷◌, ◌++◌, reverse, Option, Some, None, cond}
 use Rattle.std.proofs.lemmas.Bool.{le-leb}
 use Rattle.std.specs.Prelude.{MatchOption}
 use Rattle.std.specs.List.{flat_map}
@@ -25,11 +25,13 @@ use Rattle.pk_parts.specs.Parts.{Parts, sight_of, block_if_open}
 use Rattle.pk_parts.specs.Agreeing.{DriveOnFlash}
 use Rattle.pk_parts.specs.Staying.{IsNoted, SameUse, OpensOne, MakesRoom}
 use Rattle.pk_parts.proofs.Ticking.{count_free}
+use Rattle.pk_base.proofs.Logic.{not_both, some_same}
 
 -- ---- what is seen of it
 
 -- the open block has room if this many of its pages are Erased
-pub left_is : (shape : Shape) (pool : Blocks) (flash : Flash) (o : Option OpenBlock) (b count : ℕ) → MatchOption o (Unit {0}) (λ x. IsOpenIn shape pool flash x) → block_if_open o ≡ Some b → count ≤ free_pages shape flash b → has_left shape o count ≡ true
+pub left_is : (shape : Shape) (pool : Blocks) (flash : Flash) (o : Option OpenBlock) (b count : ℕ)
+    → MatchOption o (Unit {0}) (λ x. IsOpenIn shape pool flash x) → block_if_open o ≡ Some b → count ≤ free_pages shape flash b → has_left shape o count ≡ true
 left_is shape pool flash None b count is e room = cc
 left_is shape pool flash (Some o) b count is e room =
     let n : ℕ = shape.block_pages in
@@ -42,10 +44,6 @@ left_is shape pool flash (Some o) b count is e room =
     some_same : (x y : ℕ) → ◌≡◌ {A = Option ℕ} (Some x) (Some y) → x ≡ y
     some_same x y f = cc
 
-no_yes : (b : Bool) → b ≡ true → b ≡ false → ⊥
-no_yes true e f = cc
-no_yes false e f = cc
-
 -- an entry that a list has counts before others
 found_front : (k : Key) (xs ys : List Entry) (place : Option Place) → find key_cmp k xs ≡ Some place → find key_cmp k (xs ++ ys) ≡ Some place
 found_front k [] ys place is = cc
@@ -56,19 +54,19 @@ found_front k (x ∷ xs) ys place is =
     ] is
 
 -- the first list has the entry that counts
-pub found_first : (found : Found) (pending : List Entry) (k : Key) (place : Option Place) → find key_cmp k (firsts (reverse (found.newest ++ pending))) ≡ Some place → find key_cmp k (entries_in_order found pending) ≡ Some place
+pub found_first : (found : Found) (pending : List Entry) (k : Key) (place : Option Place)
+    → find key_cmp k (firsts (reverse (found.newest ++ pending))) ≡ Some place → find key_cmp k (entries_in_order found pending) ≡ Some place
 found_first found pending k place is =
     found_front k (reverse (found.newest ++ pending) ++ reverse found.older) (flat_map (λ es. es) found.runs) place
     (found_front k (reverse (found.newest ++ pending)) (reverse found.older) place (sym (find-firsts k (reverse (found.newest ++ pending))) ∙ is))
 
-told_same : (a b : Shape) → ◌≡◌ {A = Option Shape} (Some a) (Some b) → a ≡ b
-told_same a b e = cc
-
-module _ (d e : Parts) (old new : BoardState) (c : Command) (a : DriveOnFlash d old.shape old.pages) (b : DriveOnFlash e new.shape new.pages) (n : IsNoted e (key c)) (blocks : SameUse d e ⊎ (OpensOne d e (charge d.log.shape c.size) ⊎ MakesRoom d e (charge d.log.shape c.size))) where
+module _ (d e : Parts) (old new : BoardState) (c : Command) (a : DriveOnFlash d old.shape old.pages) (b : DriveOnFlash e new.shape new.pages)
+    (n : IsNoted e (key c)) (blocks : SameUse d e ⊎ (OpensOne d e (charge d.log.shape c.size) ⊎ MakesRoom d e (charge d.log.shape c.size))) where
   has_room : HasOpenRoom a.shape old.pages (sight_of d) (charge a.shape c.size) → fits_open d.log.shape d.space (charge d.log.shape c.size) ≡ false → ⊥
   has_room room none =
-      let left : fits_open a.shape d.space (charge a.shape c.size) ≡ true = left_is a.shape (freed d.pool) old.pages d.space.open_block room.0 (charge a.shape c.size) a.with.placed.open_is room.1 room.2 in
-      no_yes (fits_open a.shape d.space (charge a.shape c.size)) left (subst (λ s. fits_open s d.space (charge s c.size) ≡ false) a.with.shape_is none)
+      let left : fits_open a.shape d.space (charge a.shape c.size) ≡ true = left_is a.shape
+      (freed d.pool) old.pages d.space.open_block room.0 (charge a.shape c.size) a.with.placed.open_is room.1 room.2 in
+      not_both (fits_open a.shape d.space (charge a.shape c.size)) left (subst (λ s. fits_open s d.space (charge s c.size) ≡ false) a.with.shape_is none)
 
   -- if its value has room, the open block is unchanged
   open_stays : HasOpenRoom a.shape old.pages (sight_of d) (charge a.shape c.size) → block_if_open e.space.open_block ≡ block_if_open d.space.open_block
@@ -81,7 +79,8 @@ module _ (d e : Parts) (old new : BoardState) (c : Command) (a : DriveOnFlash d 
   stores_here : (same : b.shape ≡ a.shape) → StoresIn a.shape old.pages new.pages (sight_of d) (sight_of e) c
   stores_here same =
       let T : Shape → Type 0 = λ s. StoresIn s old.pages new.pages (sight_of d) (sight_of e) c in
-      let active : find key_cmp (key c) (firsts (reverse (b.found.newest ++ e.log.pending))) ≡ Some (Some n.place) = ap (λ (t : Table). find key_cmp (key c) t.entries) (sym b.with.index.logs.active_is) ∙ n.found in
+      let active : find key_cmp (key c) (firsts (reverse (b.found.newest ++ e.log.pending))) ≡ Some
+      (Some n.place) = ap (λ (t : Table). find key_cmp (key c) t.entries) (sym b.with.index.logs.active_is) ∙ n.found in
       let room : HasOpenRoom b.shape old.pages (sight_of d) (charge b.shape c.size) → block_if_open e.space.open_block ≡ block_if_open d.space.open_block =
       subst (λ s. HasOpenRoom s old.pages (sight_of d) (charge s c.size) → block_if_open e.space.open_block ≡ block_if_open d.space.open_block) (sym same) open_stays in
       subst T same (record {
@@ -96,5 +95,5 @@ module _ (d e : Parts) (old new : BoardState) (c : Command) (a : DriveOnFlash d 
   pub stores_all : OnlyFlash old new → Stores old new (sight_of d) (sight_of e) c
   stores_all rest shape frames m st =
       let told : new.shape ≡ old.shape = ap (λ (x : BoardState). x.shape) rest in
-      let same : b.shape ≡ a.shape = told_same b.shape a.shape (sym b.told_is ∙ (told ∙ a.told_is)) in
-      subst (λ s. StoresIn s old.pages new.pages (sight_of d) (sight_of e) c) (told_same a.shape shape (sym a.told_is ∙ st.shape_is)) (stores_here same)
+      let same : b.shape ≡ a.shape = some_same b.shape a.shape (sym b.told_is ∙ (told ∙ a.told_is)) in
+      subst (λ s. StoresIn s old.pages new.pages (sight_of d) (sight_of e) c) (some_same a.shape shape (sym a.told_is ∙ st.shape_is)) (stores_here same)

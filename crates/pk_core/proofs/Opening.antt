@@ -29,7 +29,8 @@ few_pending shape flash frames d is o =
     subst (λ (s : Shape). length d.log.pending < page_entries s) (sym o.with.shape_is) (subst (λ (es : List Entry). length es < page_entries shape) (sym o.none_pending) some)
 
 -- after the reads of an opening
-module _ (shape : Shape) (frames reads : ℕ) (old new : BoardState) (d : Parts) (is_shape : IsShape shape) (ready : IsReady old shape) (done : new ≡ after_reads reads old) (o : OpenedOn shape old.pages frames d) where
+module _ (shape : Shape) (frames reads : ℕ) (old new : BoardState) (d : Parts) (is_shape : IsShape shape)
+    (ready : IsReady old shape) (done : new ≡ after_reads reads old) (o : OpenedOn shape old.pages frames d) where
   pub agrees_behind : DriveOnFlash d new.shape new.pages × (length d.log.pending < page_entries d.log.shape)
   agrees_behind =
       let told : new.shape ≡ Some shape = ap (λ (s : BoardState). s.shape) done ∙ ready.shape_is in

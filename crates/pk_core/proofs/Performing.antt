@@ -39,7 +39,9 @@ module _ (d e : Parts) (old new : BoardState) (r : Request) (v : List ℕ) (o : 
     lessens = λ tick. absurd (tick_changes r tick only);
   }
 
-  pub performs_store : r.opcode ≡ 0x01 → (o.stopped ≡ false → is_half d ≡ false → is_half e ≡ false) → (o.status ≡ 0 → is_half e ≡ false) → (o.stopped ≡ false → StaysOrOpens d e (charge d.log.shape r.size)) → (o.status ≡ 0 → IsNoted e (key (command_of r v))) → QuietStore d old new r v o → FewCalls (most_calls_of d.log.shape r.opcode r.size) old new → Performs d e old new r v o
+  pub performs_store : r.opcode ≡ 0x01 → (o.stopped ≡ false → is_half d ≡ false → is_half e ≡ false) → (o.status ≡ 0 → is_half e ≡ false)
+      → (o.stopped ≡ false → StaysOrOpens d e (charge d.log.shape r.size)) → (o.status ≡ 0 → IsNoted e (key (command_of r v)))
+      → QuietStore d old new r v o → FewCalls (most_calls_of d.log.shape r.opcode r.size) old new → Performs d e old new r v o
   performs_store is half finishes opens noted quiet calls = record {
     half = λ runs _ none. half runs none;
     finishes = λ _. finishes;
@@ -56,7 +58,8 @@ module _ (d e : Parts) (old new : BoardState) (r : Request) (v : List ℕ) (o : 
     lessens = λ tick. absurd (omega (arith, is, tick));
   }
 
-  pub performs_delete : r.opcode ≡ 0x10 → (o.stopped ≡ false → is_half d ≡ false → is_half e ≡ false) → (o.status ≡ 0 → is_half e ≡ false) → (o.stopped ≡ false → Stays d e) → QuietDelete d old new r o → FewCalls (most_calls_of d.log.shape r.opcode r.size) old new → Performs d e old new r v o
+  pub performs_delete : r.opcode ≡ 0x10 → (o.stopped ≡ false → is_half d ≡ false → is_half e ≡ false) → (o.status ≡ 0 → is_half e ≡ false)
+      → (o.stopped ≡ false → Stays d e) → QuietDelete d old new r o → FewCalls (most_calls_of d.log.shape r.opcode r.size) old new → Performs d e old new r v o
   performs_delete is half finishes moves quiet calls = record {
     half = λ runs _ none. half runs none;
     finishes = λ _. finishes;
@@ -73,7 +76,8 @@ module _ (d e : Parts) (old new : BoardState) (r : Request) (v : List ℕ) (o : 
     lessens = λ tick. absurd (omega (arith, is, tick));
   }
 
-  pub performs_tick : r.opcode ≡ 0xC0 → (o.stopped ≡ false → StaysOrFrees d e) → FewCalls r.size old new → (o.stopped ≡ false → (sight_of e).work ≤ (sight_of d).work) → (o.status ≡ 0 → Lessens d e r.size)
+  pub performs_tick : r.opcode ≡ 0xC0 → (o.stopped ≡ false → StaysOrFrees d e) → FewCalls r.size old new
+      → (o.stopped ≡ false → (sight_of e).work ≤ (sight_of d).work) → (o.status ≡ 0 → Lessens d e r.size)
       → Performs d e old new r v o
   performs_tick is moves calls no_more lessens = record {
     half = λ _ no_tick. absurd (no_tick is);

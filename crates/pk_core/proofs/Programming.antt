@@ -1,5 +1,6 @@
 -- When a Store and a Delete wait for nothing, and what they program after their lookup.
-use Rattle.std.proofs.Common.{◌≡◌, ◌≢◌, inl, inr, ℕ, ◌+◌, ◌-◌, ◌*◌, ◌<◌, ◌≤◌, refl, sym, ap, subst, ◌∙◌, arith, Bool, true, false, not, ◌&&◌, ◌||◌, ◌==◌, List, [], ◌∷◌, ◌++◌, ◌⊎◌, length, reverse, Option, Some, None, Result, Ok, is_some, cond}
+use Rattle.std.proofs.Common.{◌≡◌, ◌≢◌, inl, inr, ℕ, ◌+◌, ◌-◌, ◌*◌, ◌<◌, ◌≤◌, refl, sym, ap, subst, ◌∙◌, arith, Bool, true, false, not, ◌&&◌, ◌||◌, ◌==◌, List, [], ◌∷◌, ◌++◌, ◌⊎◌, length, reverse}
+use Rattle.std.proofs.Common.{Option, Some, None, Result, Ok, is_some, cond}
 use Rattle.std.specs.Prelude.{IsSome, if◌then◌else◌}
 use Rattle.std.specs.FinMap.Entries.{find}
 use Rattle.std.specs.Ordering.{eq_by_cmp}
@@ -33,7 +34,8 @@ use Rattle.pk_parts.specs.Quiet.{ReadsOnly}
 has_append : (q : Key) (xs ys : List Entry) → is_some (find key_cmp q (xs ++ ys)) ≡ (is_some (find key_cmp q xs) || is_some (find key_cmp q ys))
 has_append q [] ys = refl
 has_append q (x ∷ xs) ys =
-    elim (eq_by_cmp key_cmp q x.0) as (λ b. is_some (cond b (Some x.1) (find key_cmp q (xs ++ ys))) ≡ (is_some (cond b (Some x.1) (find key_cmp q xs)) || is_some (find key_cmp q ys))) [ true ↦ refl | false ↦ has_append q xs ys ]
+    elim (eq_by_cmp key_cmp q x.0) as (λ b. is_some (cond b (Some x.1) (find key_cmp q (xs ++ ys)))
+    ≡ (is_some (cond b (Some x.1) (find key_cmp q xs)) || is_some (find key_cmp q ys))) [ true ↦ refl | false ↦ has_append q xs ys ]
 
 or_turned : (a b : Bool) → (a || b) ≡ (b || a)
 or_turned true true = refl
@@ -96,7 +98,8 @@ commits_left e positive few = by e.half few
     by true n = omega (arith, positive, n)
     by false n = omega (arith, positive, n)
 
-module _ (d : Parts) (shape : Shape) (flash : Flash) (top : ℕ × Root) (found : Found) (without all : Map) (a : DriveOnFlashWith (settled_parts d) shape flash top found without all) (k : Key) (q : IsQuiet shape flash (sight_of d) k) where
+module _ (d : Parts) (shape : Shape) (flash : Flash) (top : ℕ × Root) (found : Found) (without all : Map)
+    (a : DriveOnFlashWith (settled_parts d) shape flash top found without all) (k : Key) (q : IsQuiet shape flash (sight_of d) k) where
   its_top : (q.is_tree.page_of_root, q.tree.root) ≡ top
   its_top = same_tree _ top (sym q.is_tree.is_newest ∙ a.committed.is_top)
 
@@ -126,7 +129,8 @@ module _ (d : Parts) (shape : Shape) (flash : Flash) (top : ℕ × Root) (found 
         let its_shape : e.shape ≡ shape = a.index.logs.epoch_shape ∙ a.shape_is in
         let its_blocks : e.blocks ≡ q.tree.root.newest = a.index.logs.epoch_blocks ∙ ap (λ (t : ℕ × Root). t.1.newest) (sym its_top) in
         let last : page_at flash (commit_page e.shape e.blocks (epoch_commits e.shape - 1)) ≡ erased =
-        subst (λ s. page_at flash (commit_page s e.blocks (epoch_commits s - 1)) ≡ erased) (sym its_shape) (subst (λ bs. page_at flash (commit_page shape bs (epoch_commits shape - 1)) ≡ erased) (sym its_blocks) clear) in
+        subst (λ s. page_at flash (commit_page s e.blocks (epoch_commits s - 1)) ≡ erased) (sym its_shape)
+        (subst (λ bs. page_at flash (commit_page shape bs (epoch_commits shape - 1)) ≡ erased) (sym its_blocks) clear) in
         let positive = block_pages_positive e.shape (subst IsShape (sym its_shape) a.placed.is_shape) in
         let few : pages_of e ≤ 2 * (epoch_commits e.shape - 1) = elim (cases_lt (2 * (epoch_commits e.shape - 1)) (pages_of e)) [
           | inl lt ↦ absurd (a.index.logs.epoch_fits.filled q.fresh (2 * (epoch_commits e.shape - 1)) lt last)
@@ -139,19 +143,30 @@ module _ (d : Parts) (shape : Shape) (flash : Flash) (top : ℕ × Root) (found 
   pub quiet_needs_none : needs_freeze d.log k ≡ false
   quiet_needs_none =
       both_false ((length d.log.active.entries == d.log.active.capacity) && not (is_some (find key_cmp k d.log.active.entries))) ((length d.log.pending == 0) && (left_of d.log.epoch == 0))
-      (room_false (length d.log.active.entries == d.log.active.capacity) (is_some (find key_cmp k d.log.active.entries)) room_is) (commit_false (length d.log.pending == 0) (left_of d.log.epoch == 0) commit_is)
+      (room_false (length d.log.active.entries == d.log.active.capacity) (is_some (find key_cmp k d.log.active.entries)) room_is)
+      (commit_false (length d.log.pending == 0) (left_of d.log.epoch == 0) commit_is)
 
 -- ---- after the reads of a lookup
 
 behind_reads : (old mid new : BoardState) (most n : ℕ) → ReadsOnly old mid most → Programs n mid new → Programs n old new
-behind_reads old mid new most n made p = record { programs = p.programs ∙ ap (λ (b : BoardState). counted_by n b.programs) made.board; erases = p.erases ∙ ap (λ (b : BoardState). b.erases) made.board }
+behind_reads old mid new most n made p = record {
+  programs = p.programs
+      ∙ ap (λ (b : BoardState). counted_by n b.programs) made.board;
+  erases = p.erases ∙ ap (λ (b : BoardState). b.erases) made.board;
+}
 
 pub quiet_store_behind : (d e : Parts) (old mid new : BoardState) (size : ℕ) (k k' : Key) (reads : ℕ) → e ≡ d → ReadsOnly old mid (4 - d.levels.pinned) → k ≡ k'
-    → (is_half e ≡ false → needs_freeze e.log k ≡ false → fits_open e.log.shape e.space (charge e.log.shape size) ≡ true → Programs (charge e.log.shape size + commits_for e.log.shape (sight_of e)) mid new) → reads ≤ 4 - d.levels.pinned
-    → is_half d ≡ false → needs_freeze d.log k' ≡ false → fits_open d.log.shape d.space (charge d.log.shape size) ≡ true → Programs (charge d.log.shape size + commits_for d.log.shape (sight_of d)) old new × (reads ≤ 4 - d.levels.pinned)
+    → (is_half e ≡ false → needs_freeze e.log k ≡ false → fits_open e.log.shape e.space (charge e.log.shape size) ≡ true
+    → Programs (charge e.log.shape size + commits_for e.log.shape (sight_of e)) mid new) → reads ≤ 4 - d.levels.pinned
+    → is_half d ≡ false → needs_freeze d.log k' ≡ false → fits_open d.log.shape d.space (charge d.log.shape size) ≡ true
+    → Programs (charge d.log.shape size + commits_for d.log.shape (sight_of d)) old new × (reads ≤ 4 - d.levels.pinned)
 quiet_store_behind d e old mid new size k k' reads same made named programs few whole none room =
-    let T : Parts → Type 0 = λ x. is_half x ≡ false → needs_freeze x.log k ≡ false → fits_open x.log.shape x.space (charge x.log.shape size) ≡ true → Programs (charge x.log.shape size + commits_for x.log.shape (sight_of x)) mid new in
-    (behind_reads old mid new (4 - d.levels.pinned) (charge d.log.shape size + commits_for d.log.shape (sight_of d)) made (subst T same programs whole (ap (needs_freeze d.log) named ∙ none) room), few)
+    let T : Parts → Type 0 = λ x. is_half x ≡ false → needs_freeze x.log k ≡ false → fits_open x.log.shape x.space (charge x.log.shape size) ≡ true
+    → Programs (charge x.log.shape size + commits_for x.log.shape (sight_of x)) mid new in (
+      behind_reads old mid new (4 - d.levels.pinned) (charge d.log.shape size + commits_for d.log.shape (sight_of d)) made
+          (subst T same programs whole (ap (needs_freeze d.log) named ∙ none) room),
+      few,
+    )
 
 pub quiet_delete_behind : (d e : Parts) (old mid new : BoardState) (k k' : Key) (reads : ℕ) → e ≡ d → ReadsOnly old mid (4 - d.levels.pinned) → k ≡ k'
     → (is_half e ≡ false → needs_freeze e.log k ≡ false → Programs (commits_for e.log.shape (sight_of e)) mid new) → reads ≤ 4 - d.levels.pinned

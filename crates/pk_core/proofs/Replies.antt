@@ -24,7 +24,7 @@ use Rattle.pk_parts.specs.Agreeing.{DriveOnFlashWith}
 use Rattle.pk_index.specs.Keys.{keys_of, not_below, keys_there}
 use Rattle.pk_core.specs.Listed.{least_in}
 
--- ---- the keys that are there
+-- ---- the keys that exist
 
 -- the entry that counts of a key, in the buffers and the runs, and among the entries that they have
 same_found : (q : Key) (n o r : List Entry) → find key_cmp q (firsts n ++ (firsts o ++ r)) ≡ find key_cmp q ((n ++ o) ++ r)

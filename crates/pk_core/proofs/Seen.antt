@@ -19,7 +19,7 @@ use Rattle.pk_parts.specs.Agreeing.{DriveOnFlash}
 use Rattle.pk_parts.proofs.Halves.{counted_of}
 use Rattle.pk_parts.proofs.Ticking.{ready_freed}
 
--- by the numbers of blocks for values, of those that are ready and of those that are not, and what is left of the merge
+-- by the numbers of blocks for values, of those that are ready and of those that are not, and what remains of the merge
 due_by : Parts → ℕ → Bool
 due_by d used = (used - length (outputs_of d) == data_blocks d.log.shape - 1) && not (fits_open d.log.shape d.space (most_pages d.log.shape))
 
@@ -32,17 +32,21 @@ backlog_by d used left merge = record (backlog_of_index (index_of d)) {
 }
 
 sight_by : Parts → ℕ → ℕ → ℕ → Option ℕ → Sight
-sight_by d used ready left merge = record (sight_of d) { counts = record (counts_of d) { blocks = used - length (outputs_of d); ready = ready }; work = work d.log.shape (backlog_by d used left merge) }
+sight_by d used ready left merge = record (sight_of d) {
+  counts = record (counts_of d) { blocks = used - length (outputs_of d); ready = ready };
+  work = work d.log.shape (backlog_by d used left merge);
+}
 
 seen_by : (d : Parts) → sight_by d (used_by Values d.pool.states) (count_by is_ready d.pool.states) (unready d.pool.states) (merge_left d.schedule.phase (index_of d)) ≡ sight_of d
 unfolding sight_by backlog_by due_by
 seen_by d = refl
 
-seen_freed : (d : Parts) → sight_by d (used_by Values (freed d.pool).states) (count_by is_ready (freed d.pool).states) (unready (freed d.pool).states) (merge_left d.schedule.phase (index_of (settled_parts d))) ≡ sight_of (settled_parts d)
+seen_freed : (d : Parts) → sight_by d (used_by Values (freed d.pool).states) (count_by is_ready (freed d.pool).states)
+    (unready (freed d.pool).states) (merge_left d.schedule.phase (index_of (settled_parts d))) ≡ sight_of (settled_parts d)
 unfolding sight_by backlog_by due_by
 seen_freed d = refl
 
--- what is left of a merge does not depend on the blocks
+-- what remains of a merge does not depend on the blocks
 merge_freed : (d : Parts) (p : Phase) → merge_left p (index_of (settled_parts d)) ≡ merge_left p (index_of d)
 merge_freed d Idle = refl
 merge_freed d (Running level) = refl

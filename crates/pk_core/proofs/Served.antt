@@ -1,5 +1,6 @@
 -- The answers of commands that change the map.
-use Rattle.std.proofs.Common.{◌≡◌, ◌≢◌, inl, inr, ℕ, ◌+◌, ◌-◌, ◌/◌, ◌%◌, ◌<◌, ◌≤◌, refl, sym, ap, subst, ◌∙◌, arith, Bool, true, false, not, ◌&&◌, ◌||◌, ◌==◌, List, [], length, sum, nat_le, is_some, min, Option, Some, None, Result, Ok, Err, leb-true}
+use Rattle.std.proofs.Common.{◌≡◌, ◌≢◌, inl, inr, ℕ, ◌+◌, ◌-◌, ◌/◌, ◌%◌, ◌<◌, ◌≤◌, refl, sym, ap, subst, ◌∙◌, arith, Bool, true, false, not, ◌&&◌, ◌||◌, ◌==◌, List, [], length, sum, nat_le, is_some}
+use Rattle.std.proofs.Common.{min, Option, Some, None, Result, Ok, Err, leb-true}
 use Rattle.std.specs.Prelude.{MatchOption}
 use Rattle.std.specs.FinMap.{get, insert, remove, contains_key}
 use Rattle.pk_base.specs.Choices.{or_else}
@@ -79,7 +80,8 @@ no_yes e = cc
 ok_sound : ◌≡◌ {A = ℕ} 0 0x88 → ⊥
 ok_sound e = cc
 
-module _ (d : Parts) (old new : BoardState) (a : DriveOnFlash d old.shape old.pages) (c : Command) (after : Map) (count : IsCounted old new) (few_roots : roots new ≤ roots old + most_store_roots) (one : most_installs c.opcode c.size ≡ most_store_roots)
+module _ (d : Parts) (old new : BoardState) (a : DriveOnFlash d old.shape old.pages) (c : Command) (after : Map)
+    (count : IsCounted old new) (few_roots : roots new ≤ roots old + most_store_roots) (one : most_installs c.opcode c.size ≡ most_store_roots)
     (rest : OnlyFlash old new) (other : op_of c.opcode ≡ Some Retrieve → ⊥) (leaves : map_after d.log.shape (limit d.log.shape) a.all c ≡ after) where
   told : old.shape ≡ Some d.log.shape
   told = a.told_is ∙ ap (λ s. Some s) (sym a.with.shape_is)
@@ -105,17 +107,23 @@ module _ (d : Parts) (old new : BoardState) (a : DriveOnFlash d old.shape old.pa
   kept_cut f q (quiet, inl same) = (quiet, inl same)
   kept_cut f q (quiet, inr is) = (quiet, inr (inl is))
 
-  pub does_change : (e : Parts) (reply : Reply) → Changes e d.log.shape a.all after old new → frames_of e ≡ frames_of d → NoFault old new → reply.status ≢ 0x88 → Step d.log.shape (frames_of d) a.all c reply after
+  pub does_change : (e : Parts) (reply : Reply) → Changes e d.log.shape a.all after old new → frames_of e ≡ frames_of d
+      → NoFault old new → reply.status ≢ 0x88 → Step d.log.shape (frames_of d) a.all c reply after
       → Does old new (sight_of d) (sight_of e) c reply (new.reads - old.reads) false
   does_change e reply changed same_frames none sound step = record {
     stands = λ _. for_its_map d old a (λ s f m. Executed s f new (sight_of e) m c reply made) (record {
       left = after;
       stepped = step;
-      stands = subst (λ (f : ℕ). HoldsMap d.log.shape f new (sight_of e) after) same_frames (stands_so e new d.log.shape after (same_shape ∙ told) (between e d.log.shape new.pages after changed.stands));
+      stands = subst (λ (f : ℕ). HoldsMap d.log.shape f new (sight_of e) after) same_frames
+          (stands_so e new d.log.shape after (same_shape ∙ told) (between e d.log.shape new.pages after changed.stands));
       bounded = λ is. absurd (other is);
     });
-    cuts = λ _. for_its_map d old a (λ s f m. Reaches s old new (CrashFinds s (command c) old.pages m))
-        (changed.cuts.0, weaken changed.cuts.0 old new (CrashFinds d.log.shape (change after) old.pages a.all) (CrashFinds d.log.shape (command c) old.pages a.all) exec_cut changed.cuts.1, changed.cuts.2);
+    cuts = λ _. for_its_map d old a (λ s f m. Reaches s old new (CrashFinds s (command c) old.pages m)) (
+      changed.cuts.0,
+      weaken changed.cuts.0 old new (CrashFinds d.log.shape (change after) old.pages a.all)
+          (CrashFinds d.log.shape (command c) old.pages a.all) exec_cut changed.cuts.1,
+      changed.cuts.2,
+    );
     cuts_stopped = λ is. absurd (yes_no is);
     rest = rest;
     reads_are = counted;
@@ -130,7 +138,8 @@ module _ (d : Parts) (old new : BoardState) (a : DriveOnFlash d old.shape old.pa
   }
 
   -- a read failed before the change
-  pub does_keep : (e : Parts) → SameMap e d.log.shape a.all old new → frames_of e ≡ frames_of d → Unread old new → early d.log.shape c ≡ None → Does old new (sight_of d) (sight_of e) c (refusal 0x88) (new.reads - old.reads) false
+  pub does_keep : (e : Parts) → SameMap e d.log.shape a.all old new → frames_of e ≡ frames_of d → Unread old new
+      → early d.log.shape c ≡ None → Does old new (sight_of d) (sight_of e) c (refusal 0x88) (new.reads - old.reads) false
   does_keep e kept same_frames unread passes = record {
     stands = λ _. for_its_map d old a (λ s f m. Executed s f new (sight_of e) m c (refusal 0x88) made) (record {
       left = a.all;
@@ -153,7 +162,8 @@ module _ (d : Parts) (old new : BoardState) (a : DriveOnFlash d old.shape old.pa
     installs = omega (arith, few_roots, one);
   }
 
-  pub does_stop : (s : Sight) → Goes d.log.shape old new (CrashFinds d.log.shape (change after) old.pages a.all) → Halts old new → Does old new (sight_of d) s c (refusal 0x88) (new.reads - old.reads) true
+  pub does_stop : (s : Sight) → Goes d.log.shape old new (CrashFinds d.log.shape (change after) old.pages a.all)
+      → Halts old new → Does old new (sight_of d) s c (refusal 0x88) (new.reads - old.reads) true
   does_stop s went halts = record {
     stands = λ is. absurd (no_yes is);
     cuts = λ is. absurd (no_yes is);
@@ -179,7 +189,8 @@ none_read n = omega arith
 pub shape_stays : (old new : BoardState) → OnlyFlash old new → new.shape ≡ old.shape
 shape_stays old new only = ap (λ (b : BoardState). b.shape) only
 
-agrees_behind : (d : Parts) (old new : BoardState) → DriveOnFlash d old.shape old.pages → (e : Parts) (m : Map) → OnlyFlash old new → StandsFor e d.log.shape new.pages m → DriveOnFlash e new.shape new.pages
+agrees_behind : (d : Parts) (old new : BoardState) → DriveOnFlash d old.shape old.pages → (e : Parts) (m : Map)
+    → OnlyFlash old new → StandsFor e d.log.shape new.pages m → DriveOnFlash e new.shape new.pages
 agrees_behind d old new a e m rest stands = agrees_so e new.shape d.log.shape new.pages m (shape_stays old new rest ∙ (a.told_is ∙ ap (λ x. Some x) (sym a.with.shape_is))) stands
 
 few_same : (d e : Parts) → e.log.shape ≡ d.log.shape → length e.log.pending < page_entries d.log.shape → length e.log.pending < page_entries e.log.shape
@@ -249,13 +260,15 @@ is_there_same : (d : Parts) (old : BoardState) (a : DriveOnFlash d old.shape old
 is_there_same d old a k None is_key looks = ap is_some (sym (looked d old a k None looks).there)
 is_there_same d old a k (Some p) is_key looks = ap is_some (sym (value_of d old a k p is_key looks).is_there)
 
-pages_same : (d : Parts) (old : BoardState) (a : DriveOnFlash d old.shape old.pages) (k : Key) (o : Option Place) → IsKey k → Looks d old.pages k o → pages_at d.log.shape o ≡ pages_if_some d.log.shape (get a.all k)
+pages_same : (d : Parts) (old : BoardState) (a : DriveOnFlash d old.shape old.pages) (k : Key) (o : Option Place)
+    → IsKey k → Looks d old.pages k o → pages_at d.log.shape o ≡ pages_if_some d.log.shape (get a.all k)
 pages_same d old a k None is_key looks = ap (pages_if_some d.log.shape) (sym (looked d old a k None looks).there)
 pages_same d old a k (Some p) is_key looks =
     let there = value_of d old a k p is_key looks in
     ap (charge d.log.shape) (sym there.size) ∙ ap (pages_if_some d.log.shape) (sym there.is_there)
 
-pub short_place : (d : Parts) (old : BoardState) (a : DriveOnFlash d old.shape old.pages) (k : Key) (o : Option Place) → IsKey k → Looks d old.pages k o → MatchOption o (Unit {0}) (λ p. p.len ≤ greatest d.log.shape)
+pub short_place : (d : Parts) (old : BoardState) (a : DriveOnFlash d old.shape old.pages) (k : Key) (o : Option Place)
+    → IsKey k → Looks d old.pages k o → MatchOption o (Unit {0}) (λ p. p.len ≤ greatest d.log.shape)
 short_place d old a k None is_key looks = tt
 short_place d old a k (Some p) is_key looks = (value_of d old a k p is_key looks).short
 
@@ -293,15 +306,18 @@ module _ (d : Parts) (old : BoardState) (r : Request) (value : List ℕ) (k : Ke
       let step = refused_step d.log.shape (frames_of d) all c passes Store status (ap op_of op) (sym late_is ∙ failed) in
       let answers : AnswersAll old (sight_of d) c (refusal status) 0 =
       for_its_map d old s.agrees (λ x f m. Step x f m c (refusal status) m × (op_of r.opcode ≡ Some Retrieve → 0 ≤ most_reads x f m c)) (step, λ is. absurd (store_other r.opcode op is)) in
-      let done = does_reads old old (sight_of d) c (refusal status) 0 0 s.counted s.counted (reads_none old s.counted) (omega arith) (not_unread r.options after_pages (limit d.log.shape) status (is_some o) failed) answers in
-      subst (λ (x : Outcome). Does old old (sight_of d) (sight_of e) c (shown x into) 0 x.stopped) (sym told_is) (subst (λ (x : Parts). Does old old (sight_of d) (sight_of x) c (refusal status) 0 false) (sym same) done)
+      let done = does_reads old old (sight_of d) c (refusal status) 0 0 s.counted s.counted (reads_none old s.counted)
+      (omega arith) (not_unread r.options after_pages (limit d.log.shape) status (is_some o) failed) answers in
+      subst (λ (x : Outcome). Does old old (sight_of d) (sight_of e) c (shown x into) 0 x.stopped) (sym told_is)
+      (subst (λ (x : Parts). Does old old (sight_of d) (sight_of x) c (refusal status) 0 false) (sym same) done)
 
   module _ (passed : store_check r.options (is_some o) after_pages (limit d.log.shape) ≡ None) where
     pub may_put : MayPutBetween d d.log.shape old.pages all k value o
     unfolding its_drive
     may_put =
         let few = within r.options after_pages (limit d.log.shape) (is_some o) passed in
-        let same = live_stored d.log.shape all k value (sum d.space.live.heads) (pages_at d.log.shape o) (charge d.log.shape r.size) live_is (pages_same d old s.agrees k o is_key looks) (ap (charge d.log.shape) (sym whole)) in
+        let same = live_stored d.log.shape all k value (sum d.space.live.heads) (pages_at d.log.shape o)
+        (charge d.log.shape r.size) live_is (pages_same d old s.agrees k o is_key looks) (ap (charge d.log.shape) (sym whole)) in
         record {
           stands = its_drive d old s.agrees k o is_key looks;
           old_is = (placed_there d old s.agrees k o is_key looks).placed;
@@ -330,14 +346,16 @@ module _ (d : Parts) (old : BoardState) (r : Request) (value : List ℕ) (k : Ke
     one_root = ap (λ x. most_installs x r.size) op
 
     -- the result of putting it
-    pub store_came : (answer : Result Unit Fault) (e : Parts) (new : BoardState) (most : ℕ) (into : List ℕ) (outcome : Outcome) (reads : ℕ) → StoresWhole d e most old new k value answer → roots new ≤ roots old + most_store_roots → IsCounted old new → OnRunning (StaysBetween d e) answer
+    pub store_came : (answer : Result Unit Fault) (e : Parts) (new : BoardState) (most : ℕ) (into : List ℕ) (outcome : Outcome) (reads : ℕ)
+        → StoresWhole d e most old new k value answer → roots new ≤ roots old + most_store_roots → IsCounted old new → OnRunning (StaysBetween d e) answer
         → StoppedOn e answer → outcome ≡ outcome_for answer reads → Executes d e old new c outcome into (new.reads - old.reads)
     unfolding its_drive
     store_came (Ok u) e new most into outcome reads step few count stays stops told_is =
         let puts : Changes e d.log.shape all (insert all k value) old new = step.came.0 d.log.shape all may_store in
         let stepped : Step d.log.shape (frames_of d) all c (success 0 []) (insert all k value) =
         subst (λ q. Step d.log.shape (frames_of d) all c (success 0 []) (insert all q value)) (sym named) (store_step d.log.shape (frames_of d) all c passes (ap op_of op) late_none) in
-        let done = does_change d old new s.agrees c (insert all k value) count few one_root step.rest (store_other r.opcode op) leaves_put e (success 0 []) puts stays.frames step.came.1 ok_sound stepped in
+        let done = does_change d old new s.agrees c (insert all k value) count few one_root step.rest
+        (store_other r.opcode op) leaves_put e (success 0 []) puts stays.frames step.came.1 ok_sound stepped in
         subst (λ (x : Outcome). Executes d e old new c x into (new.reads - old.reads)) (sym told_is) (record {
           stops = stays.stopped ∙ s.runs;
           agrees = λ _. (agrees_behind d old new s.agrees e (insert all k value) step.rest puts.stands, few_same d e stays.same_shape stays.few);
@@ -352,7 +370,8 @@ module _ (d : Parts) (old : BoardState) (r : Request) (value : List ℕ) (k : Ke
           does = done;
         })
     store_came (Err Stopped) e new most into outcome reads step few count stays stops told_is =
-        let done = does_stop d old new s.agrees c (insert all k value) count few one_root step.rest (store_other r.opcode op) leaves_put (sight_of e) (step.came.0 d.log.shape all may_store) step.came.1 in
+        let done = does_stop d old new s.agrees c (insert all k value) count few one_root step.rest
+        (store_other r.opcode op) leaves_put (sight_of e) (step.came.0 d.log.shape all may_store) step.came.1 in
         subst (λ (x : Outcome). Executes d e old new c x into (new.reads - old.reads)) (sym told_is) (record { stops = stops; agrees = λ is. absurd (no_yes is); does = done })
 
 -- ---- a Delete
@@ -366,7 +385,8 @@ delete_fails m k is = ap (λ (o : Option (List ℕ)). check (is_some o) 0x87) is
 missing_sound : ◌≡◌ {A = ℕ} 0x87 0x88 → ⊥
 missing_sound e = omega (arith, e)
 
-module _ (d : Parts) (old : BoardState) (r : Request) (v : List ℕ) (k : Key) (s : IsServable d old r) (op : r.opcode ≡ 0x10) (named : k ≡ key (command_of r v)) (is_key : IsKey k) (bytes : AreBytes k) where
+module _ (d : Parts) (old : BoardState) (r : Request) (v : List ℕ) (k : Key) (s : IsServable d old r)
+    (op : r.opcode ≡ 0x10) (named : k ≡ key (command_of r v)) (is_key : IsKey k) (bytes : AreBytes k) where
   abbrev dc : Command
   dc = command_of r v
 
@@ -385,7 +405,8 @@ module _ (d : Parts) (old : BoardState) (r : Request) (v : List ℕ) (k : Key) (
       let answers : AnswersAll old (sight_of d) dc (refusal 0x87) 0 =
       for_its_map d old s.agrees (λ x f m. Step x f m dc (refusal 0x87) m × (op_of r.opcode ≡ Some Retrieve → 0 ≤ most_reads x f m dc)) (step, λ is. absurd (delete_other r.opcode op is)) in
       let done = does_reads old old (sight_of d) dc (refusal 0x87) 0 0 s.counted s.counted (reads_none old s.counted) (omega arith) missing_sound answers in
-      subst (λ (x : Outcome). Does old old (sight_of d) (sight_of e) dc (shown x into) 0 x.stopped) (sym told_is) (subst (λ (x : Parts). Does old old (sight_of d) (sight_of x) dc (refusal 0x87) 0 false) (sym same) done)
+      subst (λ (x : Outcome). Does old old (sight_of d) (sight_of e) dc (shown x into) 0 x.stopped) (sym told_is)
+      (subst (λ (x : Parts). Does old old (sight_of d) (sight_of x) dc (refusal 0x87) 0 false) (sym same) done)
 
   module _ (p : Place) (looks : Looks d old.pages k (Some p)) where
     pub may_take : MayTakeBetween d d.log.shape old.pages its_map k p
@@ -407,14 +428,16 @@ module _ (d : Parts) (old : BoardState) (r : Request) (v : List ℕ) (k : Key) (
     gone_root = ap (λ x. most_installs x r.size) op
 
     -- the result of taking it out
-    pub delete_came : (answer : Result Unit Fault) (e : Parts) (new : BoardState) (most : ℕ) (into : List ℕ) (outcome : Outcome) (reads : ℕ) → TakesWhole d e most old new k p answer → roots new ≤ roots old + most_store_roots → IsCounted old new → OnRunning (StaysBetween d e) answer
+    pub delete_came : (answer : Result Unit Fault) (e : Parts) (new : BoardState) (most : ℕ) (into : List ℕ) (outcome : Outcome) (reads : ℕ)
+        → TakesWhole d e most old new k p answer → roots new ≤ roots old + most_store_roots → IsCounted old new → OnRunning (StaysBetween d e) answer
         → StoppedOn e answer → outcome ≡ outcome_for answer reads → Executes d e old new dc outcome into (new.reads - old.reads)
     unfolding its_drive
     delete_came (Ok u) e new most into outcome reads step few count stays stops told_is =
         let takes : Changes e d.log.shape its_map (remove its_map k) old new = step.came.0 d.log.shape its_map may_take in
         let stepped : Step d.log.shape (frames_of d) its_map dc (success 0 []) (remove its_map k) =
         subst (λ q. Step d.log.shape (frames_of d) its_map dc (success 0 []) (remove its_map q)) (sym named) (delete_step d.log.shape (frames_of d) its_map dc delete_passed (ap op_of op) gone_late) in
-        let done = does_change d old new s.agrees dc (remove its_map k) count few gone_root step.rest (delete_other r.opcode op) leaves_gone e (success 0 []) takes stays.frames step.came.1 ok_sound stepped in
+        let done = does_change d old new s.agrees dc (remove its_map k) count few gone_root step.rest
+        (delete_other r.opcode op) leaves_gone e (success 0 []) takes stays.frames step.came.1 ok_sound stepped in
         subst (λ (x : Outcome). Executes d e old new dc x into (new.reads - old.reads)) (sym told_is) (record {
           stops = stays.stopped ∙ s.runs;
           agrees = λ _. (agrees_behind d old new s.agrees e (remove its_map k) step.rest takes.stands, few_same d e stays.same_shape stays.few);
@@ -429,7 +452,8 @@ module _ (d : Parts) (old : BoardState) (r : Request) (v : List ℕ) (k : Key) (
           does = done;
         })
     delete_came (Err Stopped) e new most into outcome reads step few count stays stops told_is =
-        let done = does_stop d old new s.agrees dc (remove its_map k) count few gone_root step.rest (delete_other r.opcode op) leaves_gone (sight_of e) (step.came.0 d.log.shape its_map may_take) step.came.1 in
+        let done = does_stop d old new s.agrees dc (remove its_map k) count few gone_root step.rest
+        (delete_other r.opcode op) leaves_gone (sight_of e) (step.came.0 d.log.shape its_map may_take) step.came.1 in
         subst (λ (x : Outcome). Executes d e old new dc x into (new.reads - old.reads)) (sym told_is) (record { stops = stops; agrees = λ is. absurd (no_yes is); does = done })
 
 -- ---- after the reads of a lookup
@@ -444,8 +468,10 @@ does_behind d e f old mid new most c into o same made other count told_is does =
     let n : ℕ = mid.reads in
     let few : n ≤ last_count = made.few in
     let up : old.reads ≤ n = made.up in
-    let here : Does mid new (sight_of d) (sight_of f) c (shown o into) (new.reads - n) o.stopped = subst (λ (x : Parts). Does mid new (sight_of x) (sight_of f) c (shown o into) (new.reads - n) o.stopped) same does in
-    let x : Does (record old { reads = n }) new (sight_of d) (sight_of f) c (shown o into) (new.reads - n) o.stopped = subst (λ (b : BoardState). Does b new (sight_of d) (sight_of f) c (shown o into) (new.reads - n) o.stopped) made.board here in
+    let here : Does mid new (sight_of d) (sight_of f) c (shown o into) (new.reads - n) o.stopped = subst
+    (λ (x : Parts). Does mid new (sight_of x) (sight_of f) c (shown o into) (new.reads - n) o.stopped) same does in
+    let x : Does (record old { reads = n }) new (sight_of d) (sight_of f) c (shown o into) (new.reads - n) o.stopped = subst
+    (λ (b : BoardState). Does b new (sight_of d) (sight_of f) c (shown o into) (new.reads - n) o.stopped) made.board here in
     let more = count.up in
     let last = count.few in
     record {

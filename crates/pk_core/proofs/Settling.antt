@@ -16,7 +16,8 @@ use Rattle.pk_core.proofs.Steadying.{few_left}
 some_same : (x y : Shape) → ◌≡◌ {A = Option Shape} (Some x) (Some y) → x ≡ y
 some_same x y e = cc
 
-module _ (d e : Parts) (old new : BoardState) (steps : ℕ) (a : DriveOnFlash e new.shape new.pages) (shared : IsShared e.pool.shape e.pool.states) (rest : OnlyFlash old new) (lessens : Lessens d e steps) where
+module _ (d e : Parts) (old new : BoardState) (steps : ℕ) (a : DriveOnFlash e new.shape new.pages)
+    (shared : IsShared e.pool.shape e.pool.states) (rest : OnlyFlash old new) (lessens : Lessens d e steps) where
   -- a drive with no step left is idle
   idle_there : (shape : Shape) → old.shape ≡ Some shape → HasNoStep e → IsIdle shape new.pages (sight_of e)
   idle_there shape has none =

@@ -9,9 +9,7 @@ use Rattle.pk_nvme.specs.Opcode.{op_of}
 use Rattle.pk_model.specs.Answer.{check, is_namespace, is_key_length, size_fault, fault_of, early}
 use Rattle.pk_model.proofs.Machines.{store_check}
 use Rattle.pk_call.specs.declared.types.Outcome.{Outcome}
-
-some_same : (x y : ℕ) → ◌≡◌ {A = Option ℕ} (Some x) (Some y) → x ≡ y
-some_same x y e = cc
+use Rattle.pk_base.proofs.Logic.{some_same}
 
 none_some : (x : ℕ) → ◌≡◌ {A = Option ℕ} None (Some x) → ⊥
 none_some x e = cc
@@ -52,21 +50,26 @@ module _ (P : ℕ → Type 0) (opcode : P 0x01) (namespace : P 0x0B) (key : P 0x
 
   fault_says : (shape : Shape) (c : Command) (k : Option Opcode) (status : ℕ) → fault_of shape c k ≡ Some status → P status
   fault_says shape c None status is = says P 0x01 status opcode is
-  fault_says shape c (Some k) status is = two_checks P (is_namespace k c.namespace) (is_key_length k c.key_len) 0x0B 0x86 status (size_fault shape k c.size) namespace key (size_says shape k c.size status) is
+  fault_says shape c (Some k) status is = two_checks P (is_namespace k c.namespace)
+      (is_key_length k c.key_len) 0x0B 0x86 status (size_fault shape k c.size) namespace key (size_says shape k c.size status) is
 
 pub early_refuses : (shape : Shape) (c : Command) (status : ℕ) → early shape c ≡ Some status → status ≢ 0
-early_refuses shape c status is = fault_says (λ x. x ≢ 0) (λ e. omega (arith, e)) (λ e. omega (arith, e)) (λ e. omega (arith, e)) (λ e. omega (arith, e)) (λ e. omega (arith, e)) shape c (op_of c.opcode) status is
+early_refuses shape c status is = fault_says (λ x. x ≢ 0) (λ e. omega (arith, e)) (λ e. omega (arith, e))
+    (λ e. omega (arith, e)) (λ e. omega (arith, e)) (λ e. omega (arith, e)) shape c (op_of c.opcode) status is
 
 -- nor does one of them report a read that failed
 pub early_sound : (shape : Shape) (c : Command) (status : ℕ) → early shape c ≡ Some status → status ≢ 0x88
-early_sound shape c status is = fault_says (λ x. x ≢ 0x88) (λ e. omega (arith, e)) (λ e. omega (arith, e)) (λ e. omega (arith, e)) (λ e. omega (arith, e)) (λ e. omega (arith, e)) shape c (op_of c.opcode) status is
+early_sound shape c status is = fault_says (λ x. x ≢ 0x88) (λ e. omega (arith, e)) (λ e. omega (arith, e))
+    (λ e. omega (arith, e)) (λ e. omega (arith, e)) (λ e. omega (arith, e)) shape c (op_of c.opcode) status is
 
 -- ---- an outcome of such a status
 
-pub told_refused : (o : Outcome) (status result data_len reads : ℕ) (stopped : Bool) → o ≡ record { status = status; result = result; data_len = data_len; reads = reads; stopped = stopped } → status ≢ 0 → o.status ≡ 0 → ⊥
+pub told_refused : (o : Outcome) (status result data_len reads : ℕ) (stopped : Bool)
+    → o ≡ record { status = status; result = result; data_len = data_len; reads = reads; stopped = stopped } → status ≢ 0 → o.status ≡ 0 → ⊥
 told_refused o status result data_len reads stopped told ne e = ne (sym (ap (λ (x : Outcome). x.status) told) ∙ e)
 
-pub told_sound : (o : Outcome) (status result data_len reads : ℕ) (stopped : Bool) → o ≡ record { status = status; result = result; data_len = data_len; reads = reads; stopped = stopped } → status ≢ 0x88 → o.status ≡ 0x88 → ⊥
+pub told_sound : (o : Outcome) (status result data_len reads : ℕ) (stopped : Bool)
+    → o ≡ record { status = status; result = result; data_len = data_len; reads = reads; stopped = stopped } → status ≢ 0x88 → o.status ≡ 0x88 → ⊥
 told_sound o status result data_len reads stopped told ne e = ne (sym (ap (λ (x : Outcome). x.status) told) ∙ e)
 
 -- a success does not stop the drive

@@ -26,13 +26,15 @@ same_top : (x y : ℕ × Root) → ◌≡◌ {A = Option (ℕ × Root)} (Some x)
 same_top x y e = cc
 
 -- the epoch of the newest root
-epoch_is : (d : Parts) (board : BoardState) (a : DriveOnFlash d board.shape board.pages) (top : ℕ × Root) → newest_root (shape_or_none board.shape) (page_at board.pages) ≡ Some top → d.log.root.epoch ≡ top.1.epoch
+epoch_is : (d : Parts) (board : BoardState) (a : DriveOnFlash d board.shape board.pages) (top : ℕ × Root)
+    → newest_root (shape_or_none board.shape) (page_at board.pages) ≡ Some top → d.log.root.epoch ≡ top.1.epoch
 epoch_is d board a top is =
     let told : newest_root a.shape (page_at board.pages) ≡ Some top = subst (λ o. newest_root (shape_or_none o) (page_at board.pages) ≡ Some top) a.told_is is in
     let same : a.top ≡ top = same_top a.top top (sym a.with.committed.is_top ∙ told) in
     ap (λ (r : Root). r.epoch) a.with.index.logs.root_is ∙ ap (λ (t : ℕ × Root). t.1.epoch) same
 
-pub keeps_fresh : (d e : Parts) (old new : BoardState) → DriveOnFlash d old.shape old.pages → DriveOnFlash e new.shape new.pages → OnlyFlash old new → StaysFresh d e → KeepsFresh (shape_of old) old.pages new.pages (sight_of d) (sight_of e)
+pub keeps_fresh : (d e : Parts) (old new : BoardState) → DriveOnFlash d old.shape old.pages → DriveOnFlash e new.shape new.pages
+    → OnlyFlash old new → StaysFresh d e → KeepsFresh (shape_of old) old.pages new.pages (sight_of d) (sight_of e)
 keeps_fresh d e old new a b rest s = record {
   stays = s.stays;
   begun = λ top top' was is.

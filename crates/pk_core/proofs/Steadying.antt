@@ -1,5 +1,5 @@
 -- A drive that agrees with its flash is steady: its numbers are those of what is on the flash.
-use Rattle.std.proofs.Common.{◌≡◌, ◌≢◌, inl, inr, ℕ, ◌+◌, ◌*◌, ◌/◌, ◌<◌, ◌≤◌, refl, sym, ap, subst, ◌∙◌, arith, Bool, true, false, T, List, [], ◌∷◌, ◌++◌, length, map, Option, Some, None}
+use Rattle.std.proofs.Common.{◌≡◌, ◌≢◌, inl, inr, ℕ, ◌+◌, ◌*◌, ◌/◌, ◌<◌, ◌≤◌, refl, sym, ap, subst, ◌∙◌, arith, true, false, List, [], ◌∷◌, ◌++◌, length, map, Option, Some, None}
 use Rattle.std.specs.Prelude.{slice_get, slice_index_or, count_by, MatchOption, IfSome, ◌%◌, ◌&&◌, not}
 use Rattle.std.specs.List.{concat}
 use Rattle.std.proofs.Common.{div-add-mod', mod-lt}
@@ -10,7 +10,7 @@ use Rattle.pk_base.specs.Entry.{Entry}
 use Rattle.pk_base.specs.Map.{Map}
 use Rattle.pk_base.specs.Firsts.{firsts}
 use Rattle.pk_base.specs.Merge.{next_merge}
-use Rattle.pk_base.proofs.ShapeLemmas.{block_pages_positive}
+use Rattle.pk_base.proofs.ShapeLemmas.{block_pages_positive, entries_some}
 use Rattle.pk_buf.specs.Table.{Table}
 use Rattle.pk_rootfmt.specs.Root.{Root, differ}
 use Rattle.pk_plan.specs.declared.owner.Owner.{Owner}
@@ -18,7 +18,7 @@ use Rattle.pk_plan.specs.declared.owner.Owner.TheVariants.{Journal, Meta, Values
 use Rattle.pk_pin.specs.Frames.{leased_frames}
 use Rattle.pk_pool.specs.declared.state.BlockState.{BlockState}
 use Rattle.pk_pool.specs.declared.state.BlockState.TheVariants.{Root as RootBlock, Free, Ready, Owned, Leaving}
-use Rattle.pk_nand.specs.Calls.{IsErasedBlock}
+use Rattle.pk_nand.specs.Operations.{IsErasedBlock}
 use Rattle.pk_pool.specs.Blocks.{Blocks, IsShared, is_ready, is_owned_by}
 use Rattle.pk_pool.proofs.States.{ready_is_not_root}
 use Rattle.pk_pool.proofs.Leaving.{shared_freed}
@@ -54,8 +54,8 @@ use Rattle.pk_core.specs.Agreeing.{DriveOnFlashBetween}
 use Rattle.pk_parts.specs.Agreeing.{DriveOnFlashWith, DriveOnFlash}
 use Rattle.pk_core.proofs.Leased.{leased_are}
 use Rattle.pk_core.proofs.Seen.{seen_same}
-use Rattle.pk_parts.proofs.Rooming.{entries_some}
 use Rattle.pk_core.proofs.Places.{blocks_from, many_blocks, has_state, blocks_differ, block_in, all_in}
+use Rattle.pk_base.proofs.Logic.{is_true, some_same}
 
 -- ---- the blocks that are erased
 
@@ -81,13 +81,10 @@ some_block : (x y : ℕ) → ◌≡◌ {A = Option ℕ} (Some x) (Some y) → x 
 some_block x y e = cc
 
 -- the open block has an owner
-open_is_owned : (shape : Shape) (pool : Blocks) (flash : Flash) (o : Option OpenBlock) (b : ℕ) → MatchOption o (Unit {0}) (λ x. IsOpenIn shape pool flash x) → block_if_open o ≡ Some b → HoldsValues pool b
+open_is_owned : (shape : Shape) (pool : Blocks) (flash : Flash) (o : Option OpenBlock) (b : ℕ)
+    → MatchOption o (Unit {0}) (λ x. IsOpenIn shape pool flash x) → block_if_open o ≡ Some b → HoldsValues pool b
 open_is_owned shape pool flash None b is e = cc
 open_is_owned shape pool flash (Some o) b is e = subst (HoldsValues pool) (some_block o.block b e) is.owned
-
-is_true : (b : Bool) → T b → b ≡ true
-is_true true t = refl
-is_true false t = absurd t
 
 -- a block that is one for values has a state that says so
 for_values_told : (o : Option BlockState) → is_for_values o ≡ true → (s : BlockState) × (o ≡ Some s) × (is_owned_by Values s ≡ true)
@@ -102,7 +99,8 @@ due_of shape d = refl
 -- ---- four runs
 
 counts_of_four : (rs : List Kept) (shape : Shape) → length rs ≡ 4
-    → (slice_index_or rs 0 (empty shape 1)).count ∷ (slice_index_or rs 1 (empty shape 2)).count ∷ (slice_index_or rs 2 (empty shape 3)).count ∷ (slice_index_or rs 3 (empty shape 4)).count ∷ [] ≡ map (λ (r : Kept). r.count) rs
+    → (slice_index_or rs 0 (empty shape 1)).count ∷ (slice_index_or rs 1 (empty shape 2)).count ∷
+    (slice_index_or rs 2 (empty shape 3)).count ∷ (slice_index_or rs 3 (empty shape 4)).count ∷ [] ≡ map (λ (r : Kept). r.count) rs
 counts_of_four [] shape e = absurd (omega (arith, e))
 counts_of_four (a ∷ []) shape e = absurd (omega (arith, e))
 counts_of_four (a ∷ b ∷ []) shape e = absurd (omega (arith, e))
@@ -113,7 +111,8 @@ counts_of_four (a ∷ b ∷ c ∷ d ∷ x ∷ rs) shape e = absurd (omega (arith
 -- ---- the merge
 
 -- the merge that runs is the next one
-merge_due : (phase : Phase) (x : Index) (flash : Flash) (root : Root) (found : Found) → MergeStands phase x flash root found → merging phase ≢ 0 → next_merge x.log.shape (length (firsts found.older)) (map length found.runs) ≡ Some (merging phase)
+merge_due : (phase : Phase) (x : Index) (flash : Flash) (root : Root) (found : Found) → MergeStands phase x flash root found
+    → merging phase ≢ 0 → next_merge x.log.shape (length (firsts found.older)) (map length found.runs) ≡ Some (merging phase)
 merge_due Idle x flash root found m some = absurd (some refl)
 merge_due (Running level) x flash root found m some = m.into.due
 merge_due (ReadyToInstall level) x flash root found m some = m.into.due
@@ -129,7 +128,8 @@ module _ (d : Parts) (shape : Shape) (flash : Flash) (top : ℕ × Root) (found 
         runs_most = index.runs_most;
         merge_most = subst (λ l. IfSome (backlog_of d).merge (λ left. left ≤ whole_merge d.log.shape l)) (sym (due_of d.log.shape d)) index.merge_most;
         freeze_most = index.freeze_most;
-        reclaim_most = subst (λ (s : Shape). IfSome (reclaim_left s d.space.live.heads (is_reclaim_due d) d.reclaim.phase) (λ left. left ≤ whole_reclaim s)) (sym a.shape_is) (reclaim_within d.reclaim.phase shape (is_reclaim_due d) d.reclaim d.space.live flash (places found d.log.pending) a.reclaim.stands);
+        reclaim_most = subst (λ (s : Shape). IfSome (reclaim_left s d.space.live.heads (is_reclaim_due d) d.reclaim.phase) (λ left. left ≤ whole_reclaim s))
+            (sym a.shape_is) (reclaim_within d.reclaim.phase shape (is_reclaim_due d) d.reclaim d.space.live flash (places found d.log.pending) a.reclaim.stands);
         unready_most = index.unready_most;
       }
 
@@ -140,7 +140,8 @@ module _ (d : Parts) (shape : Shape) (flash : Flash) (top : ℕ × Root) (found 
 
 -- ---- the blocks, the lists and the runs
 
-module _ (d : Parts) (shape : Shape) (flash : Flash) (top : ℕ × Root) (found : Found) (without all : Map) (a : DriveOnFlashWith d shape flash top found without all) (shared : IsShared d.pool.shape d.pool.states) where
+module _ (d : Parts) (shape : Shape) (flash : Flash) (top : ℕ × Root) (found : Found) (without all : Map)
+    (a : DriveOnFlashWith d shape flash top found without all) (shared : IsShared d.pool.shape d.pool.states) where
   ready_block : (b : ℕ) → slice_get d.pool.states b ≡ Some Ready → IsReadyBlock shape flash top.1 (block_if_open d.space.open_block) b
   ready_block b ready = record {
     behind_roots = behind_roots d.pool.shape d.pool.states b Ready ready_is_not_root ready shared;
@@ -237,27 +238,27 @@ module _ (d : Parts) (shape : Shape) (flash : Flash) (top : ℕ × Root) (found 
 
 -- ---- between two commands
 
-told_same : (a b : Shape) → ◌≡◌ {A = Option Shape} (Some a) (Some b) → a ≡ b
-told_same a b e = cc
-
 -- bounded work remains, whatever is pending
 pub few_left : (d : Parts) (told : Option Shape) (shape : Shape) (flash : Flash) → DriveOnFlash d told flash → told ≡ Some shape → (sight_of d).work < most_work shape
 few_left d told shape flash a told_is =
     let there : (sight_of (settled_parts d)).work < most_work a.shape = work_is (settled_parts d) a.shape flash a.top a.found a.without a.all a.with in
     let here : (sight_of d).work < most_work a.shape = subst (λ (x : Sight). x.work < most_work a.shape) (seen_same d told flash a) there in
-    subst (λ s. (sight_of d).work < most_work s) (told_same a.shape shape (sym a.told_is ∙ told_is)) here
+    subst (λ s. (sight_of d).work < most_work s) (some_same a.shape shape (sym a.told_is ∙ told_is)) here
 
-pub between_steady : (d : Parts) (told : Option Shape) (shape : Shape) (flash : Flash) → DriveOnFlashBetween d told flash → told ≡ Some shape → IsShared d.pool.shape d.pool.states → IsSteady shape flash (sight_of d)
+pub between_steady : (d : Parts) (told : Option Shape) (shape : Shape) (flash : Flash) → DriveOnFlashBetween d told flash
+    → told ≡ Some shape → IsShared d.pool.shape d.pool.states → IsSteady shape flash (sight_of d)
 between_steady d told shape flash is told_is shared =
     let a = is.0 in
-    let same : a.shape ≡ shape = told_same a.shape shape (sym a.told_is ∙ told_is) in
+    let same : a.shape ≡ shape = some_same a.shape shape (sym a.told_is ∙ told_is) in
     let few : length d.log.pending < page_entries a.shape = subst (λ s. length d.log.pending < page_entries s) a.with.shape_is is.1 in
-    let there : IsSteady a.shape flash (sight_of (settled_parts d)) = agrees_steady (settled_parts d) a.shape flash a.top a.found a.without a.all a.with (shared_freed d.pool.shape d.pool.states shared) few in
+    let there : IsSteady a.shape flash (sight_of (settled_parts d)) = agrees_steady
+    (settled_parts d) a.shape flash a.top a.found a.without a.all a.with (shared_freed d.pool.shape d.pool.states shared) few in
     let here : IsSteady a.shape flash (sight_of d) = subst (IsSteady a.shape flash) (seen_same d told flash a) there in
     subst (λ s. IsSteady s flash (sight_of d)) same here
 
 -- it is so after a call that left no more than its flash
-pub steadies : (e : Parts) (old new : BoardState) (before : Sight) → DriveOnFlashBetween e new.shape new.pages → OnlyFlash old new → IsShared e.pool.shape e.pool.states → Steadies old new before (sight_of e)
+pub steadies : (e : Parts) (old new : BoardState) (before : Sight) → DriveOnFlashBetween e new.shape new.pages
+    → OnlyFlash old new → IsShared e.pool.shape e.pool.states → Steadies old new before (sight_of e)
 steadies e old new before is rest shared shape frames m stands = between_steady e new.shape shape new.pages is (ap (λ (b : BoardState). b.shape) rest ∙ stands.shape_is) shared
 
 -- if nothing is pending, the drive is as it is between two commands

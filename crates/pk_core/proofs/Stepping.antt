@@ -24,7 +24,7 @@ use Rattle.pk_rootfmt.specs.Root.{Root}
 use Rattle.pk_rootfmt.specs.Newest.{newest_root}
 use Rattle.pk_model.specs.Wear.{number_of, root_number, roots, is_worn}
 use Rattle.pk_call.specs.Drive.{HoldsMap}
-use Rattle.pk_nand.specs.Effects.{OnlyFlash, NoFault, AtMostOneCall}
+use Rattle.pk_nand.specs.Effects.{NoFault, AtMostOneCall}
 use Rattle.pk_model.specs.Crashes.{CrashFinds, background, command}
 use Rattle.pk_call.specs.Exec.{most_installs}
 use Rattle.pk_call.specs.Seen.{stopped_by, reply_of}
@@ -45,6 +45,7 @@ use Rattle.pk_core.proofs.Staying.{frees_then}
 use Rattle.pk_parts.proofs.Staying.{stays_same, stays_frees}
 use Rattle.pk_parts.proofs.Callings.{few_more, spends_same, spends_within}
 use Rattle.pk_parts.proofs.Ticking.{yes_no}
+use Rattle.pk_nand.proofs.Effects.{only_then}
 
 -- the drive agrees with its board after this many steps, of which none failed
 pub record Ongoing (first : Parts) (old : BoardState) (d : Parts) (board : BoardState) (made : ℕ) : Type 0 where
@@ -81,21 +82,6 @@ steps_none old s few none = record {
 }
 
 -- ---- one more step
-
-pub only_then : (a b c : BoardState) → OnlyFlash a b → OnlyFlash b c → OnlyFlash a c
-only_then a b c first second =
-    let T : BoardState → Type 0 = λ s. c ≡ record s {
-      pages = c.pages;
-      trail = c.trail;
-      reads = c.reads;
-      programs = c.programs;
-      erases = c.erases;
-      flash_faults = c.flash_faults;
-      read_faults = c.read_faults;
-      stop_faults = c.stop_faults;
-      failed_at = c.failed_at;
-    } in
-    subst T first second
 
 record OneRead (a b : BoardState) : Type 0 where
   few : b.reads ≤ last_count
@@ -137,10 +123,12 @@ module _ (s0 s1 : BoardState) (e0 e1 : Sight) (n : ℕ) (first : BackgroundSteps
         stands = λ runs shape frames m st. ticks.stands runs shape frames m (first.stands refl shape frames m st);
         cuts = λ runs shape frames m st.
             let run = first.cuts refl shape frames m st in
-            Reaches-then shape run.0 s0 s1 (CrashFinds shape background s0.pages m) st.shape_is run.1 run.2 s2 (CrashFinds shape background s0.pages m) (seen shape frames m st) (ticks.cuts runs shape frames m (first.stands refl shape frames m st));
+            Reaches-then shape run.0 s0 s1 (CrashFinds shape background s0.pages m) st.shape_is run.1 run.2 s2
+            (CrashFinds shape background s0.pages m) (seen shape frames m st) (ticks.cuts runs shape frames m (first.stands refl shape frames m st));
         cuts_stopped = λ stops shape frames m st.
             let run = first.cuts refl shape frames m st in
-            Goes-then shape run.0 s0 s1 (CrashFinds shape background s0.pages m) st.shape_is run.1 run.2 s2 (CrashFinds shape background s0.pages m) (seen shape frames m st) (ticks.cuts_stopped stops shape frames m (first.stands refl shape frames m st));
+            Goes-then shape run.0 s0 s1 (CrashFinds shape background s0.pages m) st.shape_is run.1 run.2 s2
+            (CrashFinds shape background s0.pages m) (seen shape frames m st) (ticks.cuts_stopped stops shape frames m (first.stands refl shape frames m st));
         rest = only_then s0 s1 s2 first.rest ticks.rest;
         spends = record { calls = few_more n s0 s1 s2 first.spends.calls ticks.calls; installs = (let a = first.spends.installs in let b = ticks.installs in omega (arith, a, b)) };
         few = reads.few;
@@ -235,13 +223,17 @@ module _ (old new : BoardState) (d d' : Parts) (r : Request) (v : List ℕ) (a :
   by_answer : (answer : Ticked) (into : List ℕ) (reads : ℕ) → BackgroundSteps old new (sight_of d) (sight_of d') answer r.size → reads ≡ new.reads - old.reads
       → Does old new (sight_of d) (sight_of d') (command_of r v) (reply_of (outcome_of answer reads) into) reads (stopped_by answer)
   by_answer Worked into reads w is =
-      does_steps Worked (success 0 []) reads w is (tick_step d.log.shape (frames_of d) a.all (command_of r v) passes op) (λ e _. absurd (ok_sound e)) (λ _. w.sound refl) (λ e. absurd (yes_no false refl e))
+      does_steps Worked (success 0 []) reads w is (tick_step d.log.shape (frames_of d) a.all (command_of r v) passes op)
+      (λ e _. absurd (ok_sound e)) (λ _. w.sound refl) (λ e. absurd (yes_no false refl e))
   by_answer Idle into reads w is =
-      does_steps Idle (success 0 []) reads w is (tick_step d.log.shape (frames_of d) a.all (command_of r v) passes op) (λ e _. absurd (ok_sound e)) (λ _. w.sound refl) (λ e. absurd (yes_no false refl e))
+      does_steps Idle (success 0 []) reads w is (tick_step d.log.shape (frames_of d) a.all (command_of r v) passes op)
+      (λ e _. absurd (ok_sound e)) (λ _. w.sound refl) (λ e. absurd (yes_no false refl e))
   by_answer (Fault stopped) into reads w is =
-      does_steps (Fault stopped) (refusal 0x88) reads w is (unread_step d.log.shape (frames_of d) a.all (command_of r v) passes) (λ _ e. w.unread (ap (λ b. Fault b) e)) (λ e. absurd (e refl)) (λ _. refl)
+      does_steps (Fault stopped) (refusal 0x88) reads w is (unread_step d.log.shape (frames_of d) a.all (command_of r v) passes)
+      (λ _ e. w.unread (ap (λ b. Fault b) e)) (λ e. absurd (e refl)) (λ _. refl)
 
-  pub tick_does : (answer : Ticked) (o : Outcome) (into : List ℕ) (reads : ℕ) → BackgroundSteps old new (sight_of d) (sight_of d') answer r.size → reads ≡ new.reads - old.reads → o ≡ outcome_of answer reads
+  pub tick_does : (answer : Ticked) (o : Outcome) (into : List ℕ) (reads : ℕ)
+      → BackgroundSteps old new (sight_of d) (sight_of d') answer r.size → reads ≡ new.reads - old.reads → o ≡ outcome_of answer reads
       → Does old new (sight_of d) (sight_of d') (command_of r v) (reply_of o into) o.reads o.stopped
   tick_does answer o into reads w is told =
       subst (λ (x : Outcome). Does old new (sight_of d) (sight_of d') (command_of r v) (reply_of x into) x.reads x.stopped) (sym told) (by_cases answer w)
@@ -275,7 +267,8 @@ module _ (first : Parts) (old : BoardState) (d : Parts) (board : BoardState) (ma
   module _ (e : Parts) (next : BoardState) (answer : Ticked) (step : Advances d e board next answer) where
     -- it ends after any step
     pub ongoing_last : (most : ℕ) → made < most → BackgroundSteps old next (sight_of first) (sight_of e) answer most
-    ongoing_last most less = steps_within old next (sight_of first) (sight_of e) answer (made + 1) most (omega (arith, less)) (steps_more old board (sight_of first) (sight_of d) made o.steps next (sight_of e) answer step.ticks)
+    ongoing_last most less = steps_within old next (sight_of first) (sight_of e) answer (made + 1) most
+        (omega (arith, less)) (steps_more old board (sight_of first) (sight_of d) made o.steps next (sight_of e) answer step.ticks)
 
     pub ongoing_stays : stopped_by answer ≡ false → StaysOrFrees first e
     ongoing_stays runs = frees_then first d e o.stays (step.moves runs)
@@ -329,13 +322,21 @@ pub number_low : (d : Parts) (board : BoardState) → DriveOnFlash d board.shape
 unfolding root_number
 number_low d board a unworn =
     let least = leb-false 9223372036854775808 (roots board) unworn in
-    let told : newest_root (shape_or_none board.shape) (page_at board.pages) ≡ Some a.top = subst (λ o. newest_root (shape_or_none o) (page_at board.pages) ≡ Some a.top) (sym a.told_is) a.with.committed.is_top in
+    let told : newest_root (shape_or_none board.shape) (page_at board.pages) ≡ Some a.top = subst
+    (λ o. newest_root (shape_or_none o) (page_at board.pages) ≡ Some a.top) (sym a.told_is) a.with.committed.is_top in
     let newest : roots board ≡ a.top.1.number = ap number_of told in
     let kept = ap (λ (r : Root). r.number) a.with.index.logs.root_is in
     omega (arith, least, newest, kept)
 
-pub tick_may : (d : Parts) (board : BoardState) → DriveOnFlash d board.shape board.pages → d.stopped ≡ false → d.log.pending ≡ [] → is_worn board ≡ false → board.read_faults ≤ last_count → MayTick d board
-tick_may d board agrees runs none unworn counted = record { agrees = agrees; unstopped = runs; none = none; number = (let low = number_low d board agrees unworn in omega (arith, low)); counted = counted }
+pub tick_may : (d : Parts) (board : BoardState) → DriveOnFlash d board.shape board.pages → d.stopped ≡ false
+    → d.log.pending ≡ [] → is_worn board ≡ false → board.read_faults ≤ last_count → MayTick d board
+tick_may d board agrees runs none unworn counted = record {
+  agrees = agrees;
+  unstopped = runs;
+  none = none;
+  number = (let low = number_low d board agrees unworn in omega (arith, low));
+  counted = counted;
+}
 
 pub tick_numbers : (d : Parts) (board : BoardState) (steps : ℕ) → DriveOnFlash d board.shape board.pages → is_worn board ≡ false → steps < 4294967296 → d.log.root.number + steps ≤ 18446744073709551615
 tick_numbers d board steps agrees unworn few = let low = number_low d board agrees unworn in omega (arith, low, few)

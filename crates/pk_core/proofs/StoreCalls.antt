@@ -12,4 +12,5 @@ pub spends_stored : (shape : Shape) (len : ℕ) (old new : BoardState) → IsSha
     → Spends (pair_calls + space_and_put_calls shape (most_pages shape)) store_roots old new
 spends_stored shape len old new is short spends =
     let most = charge_most shape len is short in
-    spends_within (pair_calls + space_and_put_calls shape (charge shape len)) (pair_calls + space_and_put_calls shape (most_pages shape)) store_roots store_roots old new (omega (arith, most)) (omega arith) spends
+    spends_within (pair_calls + space_and_put_calls shape (charge shape len))
+    (pair_calls + space_and_put_calls shape (most_pages shape)) store_roots store_roots old new (omega (arith, most)) (omega arith) spends

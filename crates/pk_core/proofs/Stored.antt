@@ -40,12 +40,12 @@ use Rattle.pk_parts.proofs.Changing.{kept_goes}
 use Rattle.pk_parts.proofs.Keeping.{board_has}
 use Rattle.pk_parts.proofs.Putting.{later_reaches, later_goes}
 use Rattle.pk_parts.proofs.ReadSteps.{Passes, passes_none, reading_then, reading_failed, running_says}
-use Rattle.pk_parts.proofs.Rooming.{entries_some}
 use Rattle.pk_parts.proofs.SameMaps.{same_of, same_unread, passes_moved, SameMapAll-then}
 use Rattle.pk_parts.proofs.SpaceSteps.{wanted_full}
 use Rattle.pk_parts.proofs.Standing.{found_once, agrees_so}
 use Rattle.pk_parts.proofs.Staying.{fresh_then}
 use Rattle.pk_parts.proofs.Stored.{blocks_most, blocks_at}
+use Rattle.pk_base.proofs.ShapeLemmas.{entries_some}
 
 true_false : true ≡ false → ⊥
 true_false e = cc
@@ -104,10 +104,12 @@ module _ (d c : Parts) (s0 s2 : BoardState) (n : ℕ) (key : Key) (value : List 
 
   found_at : (r : Result Unit Fault) (k : ℕ) → PutsOrReads d c k mid s2 key value p r → StoresOrReads d c (4 + k) s0 s2 key value r
   found_at r k second =
-      reading_then r (λ (x : Unit). PutsAll d c mid s2 key value p) (λ (x : Unit). StoresAll d c s0 s2 key value) (KeepsAll d c mid s2) (SameMapAll d c s0 s2) (FailsToPut d mid s2 key value p) (FailsToStore d s0 s2 key value)
+      reading_then r (λ (x : Unit). PutsAll d c mid s2 key value p) (λ (x : Unit). StoresAll d c s0 s2 key value)
+      (KeepsAll d c mid s2) (SameMapAll d c s0 s2) (FailsToPut d mid s2 key value p) (FailsToStore d s0 s2 key value)
       d.log.shape 4 k (4 + k) s0 mid s2 (omega arith) looked_passes (λ x puts. stores_looked puts) keeps_looked fails_looked second
 
-pub found_stores : (r : Result Unit Fault) (d e c : Parts) (s0 s1 s2 : BoardState) (key : Key) (value : List ℕ) (p : Option Place) → e ≡ d → Looks d s0.pages key p → ReadsOnly s0 s1 (4 - d.levels.pinned)
+pub found_stores : (r : Result Unit Fault) (d e c : Parts) (s0 s1 s2 : BoardState) (key : Key) (value : List ℕ) (p : Option Place)
+    → e ≡ d → Looks d s0.pages key p → ReadsOnly s0 s1 (4 - d.levels.pinned)
     → PutsOrReads e c (room_calls e.log.shape) s1 s2 key value p r → StoresOrReads d c (4 + room_calls d.log.shape) s0 s2 key value r
 found_stores r d e c s0 s1 s2 key value p same looks made second =
     let within = made.within in
@@ -118,7 +120,8 @@ found_stores r d e c s0 s1 s2 key value p same looks made second =
 pub found_room : (d e : Parts) (size : ℕ) → e ≡ d → needs (charge d.log.shape size) d ≡ false → needs (charge e.log.shape size) e ≡ false
 found_room d e size same room = subst (λ (x : Parts). needs (charge x.log.shape size) x ≡ false) (sym same) room
 
-pub found_numbers : (d e : Parts) (s0 s1 : BoardState) → e ≡ d → ReadsOnly s0 s1 (4 - d.levels.pinned) → roots s0 + room_calls d.log.shape < 18446744073709551615 → roots s1 + room_calls e.log.shape < 18446744073709551615
+pub found_numbers : (d e : Parts) (s0 s1 : BoardState) → e ≡ d → ReadsOnly s0 s1 (4 - d.levels.pinned)
+    → roots s0 + room_calls d.log.shape < 18446744073709551615 → roots s1 + room_calls e.log.shape < 18446744073709551615
 found_numbers d e s0 s1 same made few =
     let roots_same : roots s1 ≡ roots s0 = ap (λ (s : BoardState). roots s) made.board in
     let calls : room_calls e.log.shape ≡ room_calls d.log.shape = ap (λ (x : Parts). room_calls x.log.shape) same in
@@ -139,7 +142,10 @@ found_unread d e s0 s1 k key value same few made ready =
     let T : BoardState → Type 0 = λ s. OnlyFlash s0 s in
     let roots_same : roots s1 ≡ roots s0 = ap (λ (s : BoardState). roots s) made.board in
     record {
-      came = (same_unread d e s0 s1 (unread_parts d e s0 s1 (4 - d.levels.pinned) same made), record { read = rose; up = omega (arith, rose, few); flash = made.flash; no_stop = ap (λ (s : BoardState). s.stop_faults) made.board });
+      came = (
+        same_unread d e s0 s1 (unread_parts d e s0 s1 (4 - d.levels.pinned) same made),
+        record { read = rose; up = omega (arith, rose, few); flash = made.flash; no_stop = ap (λ (s : BoardState). s.stop_faults) made.board },
+      );
       rest = subst T (sym made.board) refl;
       reads = record { up = up; few = omega (arith, within) };
       roots_few = omega (arith, roots_same);
@@ -157,7 +163,8 @@ opens_looked r d e c size same is = subst (λ (x : Parts). OnRunning (StaysOrOpe
 
 -- ---- after the reclaims
 
-module _ (a b : Parts) (s0 s1 : BoardState) (n : ℕ) (key : Key) (value : List ℕ) (can : CanStore a s0 key value) (stays : StaysSame a b) (none : b.log.pending ≡ []) (step : MovesOrReads {T = Unit {0}} a b n s0 s1 (Ok tt)) where
+module _ (a b : Parts) (s0 s1 : BoardState) (n : ℕ) (key : Key) (value : List ℕ) (can : CanStore a s0 key value)
+    (stays : StaysSame a b) (none : b.log.pending ≡ []) (step : MovesOrReads {T = Unit {0}} a b n s0 s1 (Ok tt)) where
   no_entries : length b.log.pending ≡ 0
   no_entries = ap (λ (es : List Entry). length es) none
 
@@ -201,14 +208,18 @@ module _ (a b : Parts) (s0 s1 : BoardState) (n : ℕ) (key : Key) (value : List 
 
     pub stores_behind : (r : Result Unit Fault) → StoresOrReads b c (4 + room_calls b.log.shape) s1 s2 key value r → StoresOrReads a c (n + (4 + room_calls a.log.shape)) s0 s2 key value r
     stores_behind r second =
-        let here = subst (λ (s : Shape). StepOrRead (λ (x : Unit). StoresAll b c s1 s2 key value) (SameMapAll b c s1 s2) (FailsToStore b s1 s2 key value) s (4 + room_calls s) s1 s2 r) stays.same_shape second in
-        reading_then r (λ (x : Unit). StoresAll b c s1 s2 key value) (λ (x : Unit). StoresAll a c s0 s2 key value) (SameMapAll b c s1 s2) (SameMapAll a c s0 s2) (FailsToStore b s1 s2 key value) (FailsToStore a s0 s2 key value)
+        let here = subst (λ (s : Shape). StepOrRead (λ (x : Unit). StoresAll b c s1 s2 key value)
+        (SameMapAll b c s1 s2) (FailsToStore b s1 s2 key value) s (4 + room_calls s) s1 s2 r) stays.same_shape second in
+        reading_then r (λ (x : Unit). StoresAll b c s1 s2 key value) (λ (x : Unit). StoresAll a c s0 s2 key value)
+        (SameMapAll b c s1 s2) (SameMapAll a c s0 s2) (FailsToStore b s1 s2 key value) (FailsToStore a s0 s2 key value)
         a.log.shape n (4 + room_calls a.log.shape) (n + (4 + room_calls a.log.shape)) s0 s1 s2 (omega arith) (passes_moved a b n s0 s1 step)
         (λ x stores. stores_then stores) (λ same. SameMapAll-then a b c s0 s1 s2 can.ready step.came.0 same) fails_then here
 
-pub stores_failed : (e : Fault) (a b : Parts) (s0 s1 : BoardState) (n most : ℕ) (key : Key) (value : List ℕ) → CanStore a s0 key value → n ≤ most → MovesOrReads {T = Unit {0}} a b n s0 s1 (Err e) → StoresOrReads a b most s0 s1 key value (Err e)
+pub stores_failed : (e : Fault) (a b : Parts) (s0 s1 : BoardState) (n most : ℕ) (key : Key) (value : List ℕ) → CanStore a s0 key value
+    → n ≤ most → MovesOrReads {T = Unit {0}} a b n s0 s1 (Err e) → StoresOrReads a b most s0 s1 key value (Err e)
 stores_failed e a b s0 s1 n most key value can few step =
-    reading_failed e (λ (x : Unit). SameMapAll a b s0 s1) (λ (x : Unit). StoresAll a b s0 s1 key value) (SameMapAll a b s0 s1) (SameMapAll a b s0 s1) (BreaksAll a s0 s1) (FailsToStore a s0 s1 key value)
+    reading_failed e (λ (x : Unit). SameMapAll a b s0 s1) (λ (x : Unit). StoresAll a b s0 s1 key value)
+    (SameMapAll a b s0 s1) (SameMapAll a b s0 s1) (BreaksAll a s0 s1) (FailsToStore a s0 s1 key value)
     a.log.shape n most s0 s1 few (λ same. same) (λ breaks shape m may. kept_goes shape s0 s1 (board_has a s0 shape m can.ready may.stands) m (insert m key value) (breaks shape m may.stands)) step
 
 -- ---- what is unchanged
@@ -231,7 +242,8 @@ stays_none a b is same none =
     let empty = ap (λ (es : List Entry). length es) none in
     record { frames = same.frames; stopped = same.stopped; same_shape = same.same_shape; few = omega (arith, some, empty) }
 
-pub stays_failed : (e : Fault) (a b : Parts) (s0 : BoardState) (key : Key) (value : List ℕ) → CanStore a s0 key value → OnRunning {T = Unit {0}} (StaysSame a b) (Err e) → OnRunning {T = Unit {0}} (b.log.pending ≡ []) (Err e)
+pub stays_failed : (e : Fault) (a b : Parts) (s0 : BoardState) (key : Key) (value : List ℕ) → CanStore a s0 key value
+    → OnRunning {T = Unit {0}} (StaysSame a b) (Err e) → OnRunning {T = Unit {0}} (b.log.pending ≡ []) (Err e)
     → OnRunning {T = Unit {0}} (StaysBetween a b) (Err e)
 stays_failed Reading a b s0 key value can same none = stays_none a b can.may.1.stands.with.index.logs.is_shape same none
 stays_failed Stopped a b s0 key value can same none = tt
@@ -299,14 +311,18 @@ module _ (d : Parts) (s0 : BoardState) (key : Key) (value : List ℕ) (p : Optio
       subst P may.stands.with.shape_is here may
     where
       found_one : (stands : StandsFor d d.log.shape s0.pages m) → stands.found ≡ can.may.1.stands.found
-      found_one stands = found_once d d d.log.shape s0.pages can.may.1.stands.top stands.top can.may.1.stands.found stands.found can.may.1.stands.without can.may.0 stands.without m can.may.1.stands.with stands.with
+      found_one stands = found_once d d d.log.shape s0.pages can.may.1.stands.top stands.top can.may.1.stands.found
+          stands.found can.may.1.stands.without can.may.0 stands.without m can.may.1.stands.with stands.with
 
   pub put_stores : (r : Result Unit Fault) (c : Parts) (s2 : BoardState) (n most : ℕ) → n ≤ most → PutsOrReads d c n s0 s2 key value p r → StoresOrReads d c most s0 s2 key value r
   put_stores r c s2 n most few step =
-      reading_then r (λ (x : Unit). PutsAll d c s0 s2 key value p) (λ (x : Unit). StoresAll d c s0 s2 key value) (KeepsAll d c s0 s2) (SameMapAll d c s0 s2) (FailsToPut d s0 s2 key value p) (FailsToStore d s0 s2 key value)
-      d.log.shape 0 n most s0 s0 s2 (omega (arith, few)) (passes_none s0) (λ x puts shape m may. puts shape m (put_may shape m may)) (λ keeps. same_of d c s0 s2 keeps) (λ fails shape m may. fails shape m (put_may shape m may)) step
+      reading_then r (λ (x : Unit). PutsAll d c s0 s2 key value p) (λ (x : Unit). StoresAll d c s0 s2 key value)
+      (KeepsAll d c s0 s2) (SameMapAll d c s0 s2) (FailsToPut d s0 s2 key value p) (FailsToStore d s0 s2 key value)
+      d.log.shape 0 n most s0 s0 s2 (omega (arith, few)) (passes_none s0) (λ x puts shape m may. puts shape m (put_may shape m may))
+      (λ keeps. same_of d c s0 s2 keeps) (λ fails shape m may. fails shape m (put_may shape m may)) step
 
-pub reads_if_room : (r : Result Unit Fault) (d : Parts) (key : Key) (count : ℕ) (old new : BoardState) → OnOk r (needs_freeze d.log key ≡ false → new.reads ≡ old.reads) → OnOk r (ReadsNone d key count old new)
+pub reads_if_room : (r : Result Unit Fault) (d : Parts) (key : Key) (count : ℕ) (old new : BoardState)
+    → OnOk r (needs_freeze d.log key ≡ false → new.reads ≡ old.reads) → OnOk r (ReadsNone d key count old new)
 reads_if_room (Ok x) d key count old new quiet = λ fits. quiet
 reads_if_room (Err e) d key count old new quiet = tt
 
@@ -320,10 +336,12 @@ room_most d board key value can unworn =
 pub space_numbers : (d : Parts) (board : BoardState) (key : Key) (value : List ℕ) → CanStore d board key value → is_worn board ≡ false → roots board + space_calls d.log.shape < 18446744073709551615
 space_numbers d board key value can unworn = let few = room_most d board key value can unworn in omega (arith, few)
 
-pub store_numbers : (d : Parts) (board : BoardState) (key : Key) (value : List ℕ) → CanStore d board key value → is_worn board ≡ false → roots board + (space_calls d.log.shape + room_calls d.log.shape) < 18446744073709551615
+pub store_numbers : (d : Parts) (board : BoardState) (key : Key) (value : List ℕ) → CanStore d board key value
+    → is_worn board ≡ false → roots board + (space_calls d.log.shape + room_calls d.log.shape) < 18446744073709551615
 store_numbers d board key value can unworn = let few = room_most d board key value can unworn in omega (arith, few)
 
-pub put_numbers : (d : Parts) (board : BoardState) (key : Key) (value : List ℕ) (p : Option Place) → CanPut d board key value p → is_worn board ≡ false → roots board + room_calls d.log.shape < 18446744073709551615
+pub put_numbers : (d : Parts) (board : BoardState) (key : Key) (value : List ℕ) (p : Option Place)
+    → CanPut d board key value p → is_worn board ≡ false → roots board + room_calls d.log.shape < 18446744073709551615
 put_numbers d board key value p can unworn = let few = room_most d board key value (store_can d board key value p can) unworn in omega (arith, few)
 
 -- ---- by the size that a request has

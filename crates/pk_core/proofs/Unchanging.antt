@@ -12,7 +12,7 @@ use Rattle.pk_base.specs.Shape.{Shape, IsShape, limit, greatest, pinned, fetched
 use Rattle.pk_base.specs.Page.{Flash, page_at}
 use Rattle.pk_base.proofs.ShapeLemmas.{fetched_charge, charge_most}
 use Rattle.pk_base.specs.Entry.{Place}
-use Rattle.pk_base.specs.EntryBytes.{IsPlace}
+use Rattle.pk_base.specs.EntryChecks.{IsPlace}
 use Rattle.pk_base.specs.Map.{Map}
 use Rattle.pk_nvme.specs.Command.{Command, key}
 use Rattle.pk_nvme.specs.Reply.{Reply, refusal}
@@ -67,7 +67,12 @@ does_reads old new s c reply most reads few few' made is sound answers =
     let n : ℕ = new.reads in
     let P : BoardState → Type 0 = λ b. Does old b s s c reply reads false in
     subst P (sym made.board) (record {
-      stands = λ _ shape frames m st. let a = answers shape frames m st in record { left = m; stepped = a.0; stands = record { shape_is = st.shape_is; frames_is = st.frames_is; map_is = st.map_is }; bounded = a.1 };
+      stands = λ _ shape frames m st. let a = answers shape frames m st in record {
+        left = m;
+        stepped = a.0;
+        stands = record { shape_is = st.shape_is; frames_is = st.frames_is; map_is = st.map_is };
+        bounded = a.1;
+      };
       cuts = λ _ shape frames m st. ([], Reached-start old (record old { reads = n }) (CrashFinds shape (command c) old.pages m) refl refl refl refl (refl, inl refl), tt);
       cuts_stopped = λ e. absurd (yes_no e);
       rest = refl;
@@ -94,8 +99,18 @@ does_unread old new s c most reads few few' faults made is answers =
     let at : Option ℕ = new.failed_at in
     let P : BoardState → Type 0 = λ b. Does old b s s c (refusal 0x88) reads false in
     subst P (sym made.board) (record {
-      stands = λ _ shape frames m st. let a = answers shape frames m st in record { left = m; stepped = a.0; stands = record { shape_is = st.shape_is; frames_is = st.frames_is; map_is = st.map_is }; bounded = a.1 };
-      cuts = λ _ shape frames m st. ([], Reached-start old (record old { reads = n; flash_faults = all; read_faults = unread; failed_at = at }) (CrashFinds shape (command c) old.pages m) refl refl refl refl (refl, inl refl), tt);
+      stands = λ _ shape frames m st. let a = answers shape frames m st in record {
+        left = m;
+        stepped = a.0;
+        stands = record { shape_is = st.shape_is; frames_is = st.frames_is; map_is = st.map_is };
+        bounded = a.1;
+      };
+      cuts = λ _ shape frames m st. (
+        [],
+        Reached-start old (record old { reads = n; flash_faults = all; read_faults = unread; failed_at = at })
+            (CrashFinds shape (command c) old.pages m) refl refl refl refl (refl, inl refl),
+        tt,
+      );
       cuts_stopped = λ e. absurd (yes_no e);
       rest = refl;
       reads_are = omega (arith, is, up, few');
@@ -224,28 +239,33 @@ value_of d old a k p is_key looks = value_there (settled_parts d) old.pages a.to
 pub front_moved : (d d' : Parts) (flash flash' : Flash) (page n : ℕ) (q : Key) (w : List ℕ) → d' ≡ d → flash' ≡ flash → IsFront d.log.shape flash page n q w → IsFront d'.log.shape flash' page n q w
 front_moved d d' flash flash' page n q w same pages is = subst (λ x. IsFront x.log.shape flash' page n q w) (sym same) (subst (λ f. IsFront d.log.shape f page n q w) (sym pages) is)
 
-pub front_of : (d d' : Parts) (flash' : Flash) (old : BoardState) (a : DriveOnFlash d old.shape old.pages) (k : Key) (p : Place) (n size : ℕ) → IsKey k → Looks d old.pages k (Some p) → d' ≡ d → flash' ≡ old.pages → n ≡ min p.len size
+pub front_of : (d d' : Parts) (flash' : Flash) (old : BoardState) (a : DriveOnFlash d old.shape old.pages) (k : Key) (p : Place) (n size : ℕ)
+    → IsKey k → Looks d old.pages k (Some p) → d' ≡ d → flash' ≡ old.pages → n ≡ min p.len size
     → (q : Key) × (w : List ℕ) × IsFront d'.log.shape flash' p.page n q w
 front_of d d' flash' old a k p n size is_key looks same pages is =
     let there = value_of d old a k p is_key looks in
     (k, there.value, front_moved d d' old.pages flash' p.page n k there.value same pages (there.front n (omega (arith, is))))
 
-pub room_of : (d : Parts) (old : BoardState) (a : DriveOnFlash d old.shape old.pages) (k : Key) (p : Place) (n size room : ℕ) → IsKey k → Looks d old.pages k (Some p) → n ≡ min p.len size → greatest d.log.shape ≤ room → n ≤ room
+pub room_of : (d : Parts) (old : BoardState) (a : DriveOnFlash d old.shape old.pages) (k : Key) (p : Place) (n size room : ℕ)
+    → IsKey k → Looks d old.pages k (Some p) → n ≡ min p.len size → greatest d.log.shape ≤ room → n ≤ room
 room_of d old a k p n size room is_key looks is all = (let short = (value_of d old a k p is_key looks).short in omega (arith, is, short, all))
 
 -- ---- the reads of a value after those of a lookup
 
-pub value_reads : (d d' : Parts) (old mid new : BoardState) (n : ℕ) → d' ≡ d → ReadsOnly old mid (4 - d.levels.pinned) → new ≡ after_reads (fetched d'.log.shape n) mid → ReadsOnly old new (4 - d.levels.pinned + fetched d.log.shape n)
+pub value_reads : (d d' : Parts) (old mid new : BoardState) (n : ℕ) → d' ≡ d → ReadsOnly old mid (4 - d.levels.pinned)
+    → new ≡ after_reads (fetched d'.log.shape n) mid → ReadsOnly old new (4 - d.levels.pinned + fetched d.log.shape n)
 value_reads d d' old mid new n same before made =
     reads_more old mid new (4 - d.levels.pinned) (fetched d.log.shape n) before (subst (λ x. new ≡ after_reads (fetched x.log.shape n) mid) same made)
 
-pub value_breaks : (d d' : Parts) (old mid new : BoardState) (page n : ℕ) → d' ≡ d → ReadsOnly old mid (4 - d.levels.pinned) → ReadsFailed mid new page (fetched d'.log.shape n) → ReadsFailing old new (4 - d.levels.pinned + fetched d.log.shape n)
+pub value_breaks : (d d' : Parts) (old mid new : BoardState) (page n : ℕ) → d' ≡ d → ReadsOnly old mid (4 - d.levels.pinned)
+    → ReadsFailed mid new page (fetched d'.log.shape n) → ReadsFailing old new (4 - d.levels.pinned + fetched d.log.shape n)
 value_breaks d d' old mid new page n same before broken =
     let f = subst (λ x. ReadsFailed mid new page (fetched x.log.shape n)) same broken in
     reads_break old mid new (4 - d.levels.pinned) f.made (fetched d.log.shape n) (page + f.made) before f.within f.failed
 
 -- which are few
-pub few_of : (d : Parts) (old : BoardState) (a : DriveOnFlash d old.shape old.pages) (k : Key) (p : Place) (n size : ℕ) → IsKey k → Looks d old.pages k (Some p) → n ≡ min p.len size → 4 - d.levels.pinned + fetched d.log.shape n ≤ 68
+pub few_of : (d : Parts) (old : BoardState) (a : DriveOnFlash d old.shape old.pages) (k : Key) (p : Place) (n size : ℕ)
+    → IsKey k → Looks d old.pages k (Some p) → n ≡ min p.len size → 4 - d.levels.pinned + fetched d.log.shape n ≤ 68
 few_of d old a k p n size is_key looks is =
     let short = (value_of d old a k p is_key looks).short in
     let most = few_fetched d.log.shape n (own d old a).index.logs.is_shape (omega (arith, is, short)) in
@@ -279,13 +299,17 @@ module _ (d d' : Parts) (old new : BoardState) (r : Request) (v into : List ℕ)
   on_all : (reply : Reply) (reads : ℕ) → Allowed reply reads → AnswersAll old (sight_of d) (command_of r v) reply reads
   on_all reply reads here = for_its_map d old a (λ s f m. Step s f m (command_of r v) reply m × (op_of r.opcode ≡ Some Retrieve → reads ≤ most_reads s f m (command_of r v))) here
 
-  by_reads : (most reads : ℕ) (reply : Reply) → ReadsOnly old new most → reads ≡ new.reads - old.reads → reply.status ≢ 0x88 → Allowed reply reads → Does old new (sight_of d) (sight_of d') (command_of r v) reply reads false
+  by_reads : (most reads : ℕ) (reply : Reply) → ReadsOnly old new most → reads ≡ new.reads - old.reads
+      → reply.status ≢ 0x88 → Allowed reply reads → Does old new (sight_of d) (sight_of d') (command_of r v) reply reads false
   by_reads most reads reply made is sound here = same_sight reply reads (does_reads old new (sight_of d) (command_of r v) reply most reads few few' made is sound (on_all reply reads here))
 
-  by_unread : (most reads : ℕ) → old.read_faults ≤ last_count → ReadsFailing old new most → reads ≡ new.reads - old.reads → (op_of r.opcode ≡ Some Retrieve → reads ≤ most_reads d.log.shape (frames_of d) a.all (command_of r v))
+  by_unread : (most reads : ℕ) → old.read_faults ≤ last_count → ReadsFailing old new most → reads ≡ new.reads - old.reads
+      → (op_of r.opcode ≡ Some Retrieve → reads ≤ most_reads d.log.shape (frames_of d) a.all (command_of r v))
       → Does old new (sight_of d) (sight_of d') (command_of r v) (refusal 0x88) reads false
   by_unread most reads faults made is bound =
-      same_sight (refusal 0x88) reads (does_unread old new (sight_of d) (command_of r v) most reads few few' faults made is (on_all (refusal 0x88) reads (unread_step d.log.shape (frames_of d) a.all (command_of r v) passes, bound)))
+      same_sight (refusal 0x88) reads
+      (does_unread old new (sight_of d) (command_of r v) most reads few few' faults made is
+      (on_all (refusal 0x88) reads (unread_step d.log.shape (frames_of d) a.all (command_of r v) passes, bound)))
 
   -- a lookup whose read failed
   pub unread_look : (o : Outcome) (reads : ℕ) → o ≡ record { status = 0x88; result = 0; data_len = 0; reads = reads; stopped = false } → old.read_faults ≤ last_count
@@ -301,14 +325,16 @@ module _ (d d' : Parts) (old new : BoardState) (r : Request) (v into : List ℕ)
   exist_found o reads k p op named looks told made is =
       let there = (looked d old a k (Some p) looks).there in
       let here : get a.all (key (command_of r v)) ≡ Some there.0 = subst (λ q. get a.all q ≡ Some there.0) named there.2 in
-      subst Done (sym told) (by_reads (4 - d.levels.pinned) reads (success 0 []) made is ok_sound (exist_there d.log.shape (frames_of d) a.all (command_of r v) passes there.0 op here, λ e. absurd (other_kind r.opcode op e)))
+      subst Done (sym told) (by_reads (4 - d.levels.pinned) reads (success 0 []) made is ok_sound
+      (exist_there d.log.shape (frames_of d) a.all (command_of r v) passes there.0 op here, λ e. absurd (other_kind r.opcode op e)))
 
   pub exist_none : (o : Outcome) (reads : ℕ) (k : Key) → r.opcode ≡ 0x14 → k ≡ key (command_of r v) → Looks d old.pages k None
       → o ≡ record { status = 0x87; result = 0; data_len = 0; reads = reads; stopped = false } → ReadsOnly old new (4 - d.levels.pinned) → reads ≡ new.reads - old.reads → Done o
   exist_none o reads k op named looks told made is =
       let there = (looked d old a k None looks).there in
       let here : get a.all (key (command_of r v)) ≡ None = subst (λ q. get a.all q ≡ None) named there in
-      subst Done (sym told) (by_reads (4 - d.levels.pinned) reads (refusal 0x87) made is missing_sound (exist_missing d.log.shape (frames_of d) a.all (command_of r v) passes op here, λ e. absurd (other_kind r.opcode op e)))
+      subst Done (sym told) (by_reads (4 - d.levels.pinned) reads (refusal 0x87) made is missing_sound
+      (exist_missing d.log.shape (frames_of d) a.all (command_of r v) passes op here, λ e. absurd (other_kind r.opcode op e)))
 
   pub retrieve_none : (o : Outcome) (reads : ℕ) (k : Key) → r.opcode ≡ 0x02 → k ≡ key (command_of r v) → Looks d old.pages k None
       → o ≡ record { status = 0x87; result = 0; data_len = 0; reads = reads; stopped = false } → ReadsOnly old new (4 - d.levels.pinned) → reads ≡ new.reads - old.reads → Done o
@@ -318,7 +344,8 @@ module _ (d d' : Parts) (old new : BoardState) (r : Request) (v into : List ℕ)
       let least = most_least d.log.shape (frames_of d) a.all (command_of r v) passes in
       let within = made.within in
       let p = pinned_is in
-      subst Done (sym told) (by_reads (4 - d.levels.pinned) reads (refusal 0x87) made is missing_sound (retrieve_missing d.log.shape (frames_of d) a.all (command_of r v) passes op here, λ _. omega (arith, least, within, p, is)))
+      subst Done (sym told) (by_reads (4 - d.levels.pinned) reads (refusal 0x87) made is missing_sound
+      (retrieve_missing d.log.shape (frames_of d) a.all (command_of r v) passes op here, λ _. omega (arith, least, within, p, is)))
 
   -- how much may be read of the value that was found
   most_found : (k : Key) (p : Place) (n : ℕ) → IsKey k → k ≡ key (command_of r v) → Looks d old.pages k (Some p) → n ≡ min p.len r.size
@@ -332,7 +359,8 @@ module _ (d d' : Parts) (old new : BoardState) (r : Request) (v into : List ℕ)
   pub retrieve_found : (o : Outcome) (reads : ℕ) (k : Key) (p : Place) (n : ℕ) → r.opcode ≡ 0x02 → IsKey k → k ≡ key (command_of r v) → Looks d old.pages k (Some p)
       → n ≡ min p.len r.size
       → ((q : Key) (w : List ℕ) → IsFront d.log.shape old.pages p.page n q w → take n into ≡ take n w)
-      → o ≡ record { status = 0; result = p.len; data_len = n; reads = reads; stopped = false } → ReadsOnly old new (4 - d.levels.pinned + fetched d.log.shape n) → reads ≡ new.reads - old.reads → Done o
+      → o ≡ record { status = 0; result = p.len; data_len = n; reads = reads; stopped = false }
+      → ReadsOnly old new (4 - d.levels.pinned + fetched d.log.shape n) → reads ≡ new.reads - old.reads → Done o
   retrieve_found o reads k p n op is_key named looks size filled told made is =
       let there = value_of d old a k p is_key looks in
       let here : get a.all (key (command_of r v)) ≡ Some there.value = subst (λ q. get a.all q ≡ Some there.value) named there.is_there in

@@ -34,7 +34,8 @@ use Rattle.pk_parts.specs.Changes.{MayPut, MayTake, CanPut, CanTake, TakesAll, F
 use Rattle.pk_parts.specs.Spacing.{SameMapAll}
 use Rattle.pk_core.specs.Programming.{ReadsNone}
 use Rattle.pk_core.specs.Spacing.{MayStore, StoresAll, FailsToStore, StoresOrReads, store_most}
-use Rattle.pk_core.specs.Whole.{MayStoreBetween, MayTakeBetween, SameMapBetween, StoresBetween, FailsToStoreBetween, TakesBetween, FailsToTakeBetween, StoresWhole, TakesWhole, CanPutBetween, CanTakeBetween}
+use Rattle.pk_core.specs.Whole.{MayStoreBetween, MayTakeBetween, SameMapBetween, StoresBetween, FailsToStoreBetween, TakesBetween, FailsToTakeBetween, StoresWhole, TakesWhole, CanPutBetween}
+use Rattle.pk_core.specs.Whole.{CanTakeBetween}
 use Rattle.pk_parts.proofs.Callings.{few_program, few_same, spends_then}
 use Rattle.pk_parts.proofs.Halves.{whole_of, with_whole, not_made, is_whole}
 use Rattle.pk_parts.proofs.Keeping.{KeepsAll-none}
@@ -131,7 +132,8 @@ wholes_none a b s0 s1 whole ready same_parts same =
     } in
     subst T (sym same_parts) (subst S (sym same) here)
 
-pub wholes : (a b : Parts) (s0 s1 : BoardState) → IsReady s0 a.log.shape → (is_half a ≡ true → FinishesOr a b s0 s1 (Ok tt)) → (is_half a ≡ false → IsOk {T = Unit {0}} {E = Fault} (Ok tt) × (b ≡ a) × (s1 ≡ s0)) → Wholes a b s0 s1
+pub wholes : (a b : Parts) (s0 s1 : BoardState) → IsReady s0 a.log.shape → (is_half a ≡ true → FinishesOr a b s0 s1 (Ok tt))
+    → (is_half a ≡ false → IsOk {T = Unit {0}} {E = Fault} (Ok tt) × (b ≡ a) × (s1 ≡ s0)) → Wholes a b s0 s1
 wholes a b s0 s1 ready finishes rests = by (is_half a) refl
   where
     by : (h : Bool) → is_half a ≡ h → Wholes a b s0 s1
@@ -139,7 +141,8 @@ wholes a b s0 s1 ready finishes rests = by (is_half a) refl
     by false e = let r = rests e in wholes_none a b s0 s1 e ready r.1 r.2
 
 -- the program failed
-pub fails_half : (f : Fault) (a b : Parts) (s0 s1 : BoardState) → (is_half a ≡ true → FinishesOr a b s0 s1 (Err f)) → (is_half a ≡ false → IsOk {T = Unit {0}} (Err f) × (b ≡ a) × (s1 ≡ s0)) → (f ≡ Stopped) × FailsToFinish a s0 s1
+pub fails_half : (f : Fault) (a b : Parts) (s0 s1 : BoardState) → (is_half a ≡ true → FinishesOr a b s0 s1 (Err f))
+    → (is_half a ≡ false → IsOk {T = Unit {0}} (Err f) × (b ≡ a) × (s1 ≡ s0)) → (f ≡ Stopped) × FailsToFinish a s0 s1
 fails_half f a b s0 s1 finishes rests = by (is_half a) refl
   where
     by : (h : Bool) → is_half a ≡ h → (f ≡ Stopped) × FailsToFinish a s0 s1
@@ -177,7 +180,8 @@ module _ (a b : Parts) (s0 s1 : BoardState) (ready : IsReady s0 a.log.shape) (w 
       omega (arith, few, same, entries)
 
   -- the lists are the same, and so are the places
-  found_there : (key : Key) (shape : Shape) (m : Map) (was : StandsBetween a shape s0.pages m) → find key_cmp key (places (w.made shape m was).stands.found b.log.pending) ≡ find key_cmp key (places was.found a.log.pending)
+  found_there : (key : Key) (shape : Shape) (m : Map) (was : StandsBetween a shape s0.pages m)
+      → find key_cmp key (places (w.made shape m was).stands.found b.log.pending) ≡ find key_cmp key (places was.found a.log.pending)
   found_there key shape m was = λ i. find key_cmp key (places ((w.made shape m was).same_found i) (w.same_pending i))
 
   same_map : (c : Parts) (s2 : BoardState) → SameMapAll b c s1 s2 → SameMapBetween a c s0 s2
@@ -227,8 +231,10 @@ module _ (a b : Parts) (s0 s1 : BoardState) (ready : IsReady s0 a.log.shape) (w 
       pub stores_whole : (r : Result Unit Fault) → StoresOrReads b c (store_most b.log.shape) s1 s2 key value r → StoresWhole a c (store_most a.log.shape) s0 s2 key value r
       stores_whole r second =
           let S : Shape → Type 0 = λ s. StepOrRead (λ (x : Unit). StoresAll b c s1 s2 key value) (SameMapAll b c s1 s2) (FailsToStore b s1 s2 key value) s (store_most s) s1 s2 r in
-          reading_then r (λ (x : Unit). StoresAll b c s1 s2 key value) (λ (x : Unit). StoresBetween a c s0 s2 key value) (SameMapAll b c s1 s2) (SameMapBetween a c s0 s2) (FailsToStore b s1 s2 key value)
-          (FailsToStoreBetween a s0 s2 key value) a.log.shape 0 (store_most a.log.shape) (store_most a.log.shape) s0 s1 s2 (omega arith) passes (λ x stores. stores_then stores) (same_map c s2) fails_then (subst S w.same_shape second)
+          reading_then r (λ (x : Unit). StoresAll b c s1 s2 key value) (λ (x : Unit). StoresBetween a c s0 s2 key value)
+          (SameMapAll b c s1 s2) (SameMapBetween a c s0 s2) (FailsToStore b s1 s2 key value)
+          (FailsToStoreBetween a s0 s2 key value) a.log.shape 0 (store_most a.log.shape) (store_most a.log.shape) s0 s1 s2
+          (omega arith) passes (λ x stores. stores_then stores) (same_map c s2) fails_then (subst S w.same_shape second)
 
   -- ---- a key loses its value
 
@@ -262,8 +268,10 @@ module _ (a b : Parts) (s0 s1 : BoardState) (ready : IsReady s0 a.log.shape) (w 
       pub takes_whole : (r : Result Unit Fault) → TakesOrReads b c (room_calls b.log.shape) s1 s2 key p r → TakesWhole a c (room_calls a.log.shape) s0 s2 key p r
       takes_whole r second =
           let S : Shape → Type 0 = λ s. StepOrRead (λ (x : Unit). TakesAll b c s1 s2 key p) (KeepsAll b c s1 s2) (FailsToTake b s1 s2 key p) s (room_calls s) s1 s2 r in
-          reading_then r (λ (x : Unit). TakesAll b c s1 s2 key p) (λ (x : Unit). TakesBetween a c s0 s2 key p) (KeepsAll b c s1 s2) (SameMapBetween a c s0 s2) (FailsToTake b s1 s2 key p) (FailsToTakeBetween a s0 s2 key p)
-          a.log.shape 0 (room_calls a.log.shape) (room_calls a.log.shape) s0 s1 s2 (omega arith) passes (λ x takes. takes_then takes) (λ keeps. same_map c s2 (same_of b c s1 s2 keeps)) fails_to_take_then (subst S w.same_shape second)
+          reading_then r (λ (x : Unit). TakesAll b c s1 s2 key p) (λ (x : Unit). TakesBetween a c s0 s2 key p)
+          (KeepsAll b c s1 s2) (SameMapBetween a c s0 s2) (FailsToTake b s1 s2 key p) (FailsToTakeBetween a s0 s2 key p)
+          a.log.shape 0 (room_calls a.log.shape) (room_calls a.log.shape) s0 s1 s2 (omega arith) passes
+          (λ x takes. takes_then takes) (λ keeps. same_map c s2 (same_of b c s1 s2 keeps)) fails_to_take_then (subst S w.same_shape second)
 
   -- ---- what stays beside the map
 
@@ -289,7 +297,8 @@ module _ (a b : Parts) (s0 s1 : BoardState) (ready : IsReady s0 a.log.shape) (w 
   first_spends : Spends pair_calls 0 s0 s1
   first_spends = let same = w.same_roots in record { calls = w.calls; installs = omega (arith, same) }
 
-  pub put_spends : (s2 : BoardState) (len : ℕ) → Spends (space_and_put_calls b.log.shape (charge b.log.shape len)) store_roots s1 s2 → Spends (pair_calls + space_and_put_calls a.log.shape (charge a.log.shape len)) store_roots s0 s2
+  pub put_spends : (s2 : BoardState) (len : ℕ) → Spends (space_and_put_calls b.log.shape (charge b.log.shape len)) store_roots s1 s2
+      → Spends (pair_calls + space_and_put_calls a.log.shape (charge a.log.shape len)) store_roots s0 s2
   put_spends s2 len second =
       let calls = space_and_put_calls a.log.shape (charge a.log.shape len) in
       let here = subst (λ (s : Shape). Spends (space_and_put_calls s (charge s len)) store_roots s1 s2) w.same_shape second in
@@ -325,7 +334,8 @@ module _ (a : Parts) (s0 s1 : BoardState) (fails : FailsToFinish a s0 s1) where
 
   pub stores_unmade : (b : Parts) (most : ℕ) (key : Key) (value : List ℕ) (f : Fault) → f ≡ Stopped → StoresWhole a b most s0 s1 key value (Err f)
   stores_unmade b most key value f e =
-      unmade (λ (u : Unit). StoresBetween a b s0 s1 key value) (SameMapBetween a b s0 s1) (FailsToStoreBetween a s0 s1 key value) most f e (λ shape m may. goes_changed shape m (insert m key value) may.stands)
+      unmade (λ (u : Unit). StoresBetween a b s0 s1 key value) (SameMapBetween a b s0 s1)
+      (FailsToStoreBetween a s0 s1 key value) most f e (λ shape m may. goes_changed shape m (insert m key value) may.stands)
 
   pub takes_unmade : (b : Parts) (most : ℕ) (key : Key) (p : Place) (f : Fault) → f ≡ Stopped → TakesWhole a b most s0 s1 key p (Err f)
   takes_unmade b most key p f e =
@@ -337,19 +347,29 @@ module _ (a : Parts) (s0 s1 : BoardState) (fails : FailsToFinish a s0 s1) where
       let one = few_program s0 s1 fails.program in
       let least = one.few in
       record {
-        calls = record { reads_made = one.reads_made; programs_made = one.programs_made; erases_made = one.erases_made; few = omega (arith, least, some); reads = one.reads; programs = one.programs; erases = one.erases };
+        calls = record {
+          reads_made = one.reads_made;
+          programs_made = one.programs_made;
+          erases_made = one.erases_made;
+          few = omega (arith, least, some);
+          reads = one.reads;
+          programs = one.programs;
+          erases = one.erases;
+        };
         installs = omega (arith, few);
       }
 
 -- ---- no pair is half made after it
 
-pub put_makes_whole : (r : Result Unit Fault) (a c : Parts) (s0 s2 : BoardState) (most : ℕ) (key : Key) (value : List ℕ) (p : Option Place) → CanPutBetween a s0 key value p → StoresWhole a c most s0 s2 key value r → OnRunning (is_half c ≡ false) r
+pub put_makes_whole : (r : Result Unit Fault) (a c : Parts) (s0 s2 : BoardState) (most : ℕ) (key : Key) (value : List ℕ) (p : Option Place)
+    → CanPutBetween a s0 key value p → StoresWhole a c most s0 s2 key value r → OnRunning (is_half c ≡ false) r
 put_makes_whole (Ok u) a c s0 s2 most key value p can step =
     is_whole c (step.came.0 a.log.shape can.may.0 (record { stands = can.may.1.stands; bytes = can.may.1.bytes; room = can.may.1.room })).stands.whole
 put_makes_whole (Err Reading) a c s0 s2 most key value p can step = is_whole c (step.came.0 a.log.shape can.may.0 can.may.1.stands).stands.whole
 put_makes_whole (Err Stopped) a c s0 s2 most key value p can step = tt
 
-pub take_makes_whole : (r : Result Unit Fault) (a c : Parts) (s0 s2 : BoardState) (most : ℕ) (key : Key) (p : Place) → CanTakeBetween a s0 key p → TakesWhole a c most s0 s2 key p r → OnRunning (is_half c ≡ false) r
+pub take_makes_whole : (r : Result Unit Fault) (a c : Parts) (s0 s2 : BoardState) (most : ℕ) (key : Key) (p : Place)
+    → CanTakeBetween a s0 key p → TakesWhole a c most s0 s2 key p r → OnRunning (is_half c ≡ false) r
 take_makes_whole (Ok u) a c s0 s2 most key p can step = is_whole c (step.came.0 a.log.shape can.may.0 can.may.1).stands.whole
 take_makes_whole (Err Reading) a c s0 s2 most key p can step = is_whole c (step.came.0 a.log.shape can.may.0 can.may.1.stands).stands.whole
 take_makes_whole (Err Stopped) a c s0 s2 most key p can step = tt

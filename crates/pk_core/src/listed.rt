@@ -6,17 +6,8 @@ ghost use Rattle.pk_core.specs.Listed.{OffersBytes, OffersKey, IsFilled};
 
 use crate::filled::Filled;
 use pk_base::{KEY_BYTES, Key, put_text, put_u16, put_zeros};
+use pk_model::listed_size;
 use pk_nvme::fill_behind;
-
-// The bytes of a listed key: its length, itself and zeros up to a multiple of four.
-#[inline(always)]
-fn listed_size(key: &[u8]) -> usize
-    requires { length key.now ≤ KEY_BYTES }
-    ensures size { result ≡ length (item_bytes key.now) }
-    ensures few { result ≤ 24 }
-{
-    2 + key.len() + fill_behind(key.len())
-}
 
 // Writes a length of two bytes, the key, and zeros up to a multiple of four bytes.
 #[inline(always)]

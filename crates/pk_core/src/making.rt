@@ -2,7 +2,8 @@
 ghost use Rattle.std.specs.Prelude.{◌≡◌, ◌<◌, ℕ, length, OnOk, OnErr};
 ghost use Rattle.std.specs.FinMap.{empty};
 ghost use Rattle.pk_base.specs.Shape.{page_count};
-ghost use Rattle.pk_nand.specs.Calls.{IsErased, IsReady, ProgramsFailed, after_programs};
+ghost use Rattle.pk_nand.specs.Calls.{IsReady, ProgramsFailed, after_programs};
+ghost use Rattle.pk_nand.specs.Operations.{IsErased};
 ghost use Rattle.pk_nand.specs.Pairs.{programs_of_pair};
 ghost use Rattle.pk_rootfmt.specs.Held.{first as first_root};
 ghost use Rattle.pk_rootfmt.specs.Root.{root_bytes};

@@ -63,7 +63,7 @@ pub(crate) fn flush<A: Region>(parts: &Parts<A>) -> Outcome
     served(0, 0, 0)
 }
 
-/// Whether a key is there.
+/// Whether a key exists.
 pub(crate) fn exist<B: Nand, A: Region>(
     parts: &mut Parts<A>,
     board: &mut B,

@@ -20,7 +20,7 @@ ghost use Rattle.pk_nvme.specs.declared.status.TheConstants.{SUCCESSFUL_COMPLETI
 use crate::counts::reads_since;
 use crate::quiet::{refusal, served};
 use crate::storing::{put_whole, take_whole};
-use pk_base::{Key, Place, Shape};
+use pk_base::{Key, Place, Shape, are_bytes};
 use pk_call::Outcome;
 use pk_model::early::store_fault;
 use pk_nand::{Fault, Nand};
@@ -38,13 +38,6 @@ fn pages_at(shape: &Shape, place: &Option<Place>) -> u32
         None => 0,
         Some(place) => shape.charge(place.len),
     }
-}
-
-// Ghost: bytes are numbers below 256, a fact that this makes visible to the prover.
-fn are_bytes(bytes: &[u8])
-    ensures { AreBytes bytes.now }
-{
-    let _ = bytes.len();
 }
 
 // Ghost: a key has 1 to 16 bytes, a fact that this makes visible to the prover.

@@ -13,7 +13,7 @@ use pk_nand::Nand;
 use pk_parts::Parts;
 use pk_region::Region;
 
-/// One background step. It is idle exactly if nothing is left to do.
+/// One background step. It is idle exactly if nothing remains to be done.
 pub(crate) fn step<B: Nand, A: Region>(parts: &mut Parts<A>, board: &mut B) -> Ticked
     requires may { MayTick parts.old (B.state board.old) }
 

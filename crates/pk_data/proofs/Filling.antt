@@ -1,5 +1,6 @@
 -- The open block: its next pages, another block in its place, and pages that were written.
-use Rattle.std.proofs.Common.{◌≡◌, ◌≢◌, inl, inr, ℕ, ◌+◌, ◌-◌, ◌*◌, ◌/◌, ◌%◌, ◌<◌, ◌≤◌, Bool, true, false, not, ◌&&◌, cond, T, nat_le, List, length, Option, Some, None, refl, sym, ap, subst, ◌∙◌, arith, length-set, leb→le, le→leb}
+use Rattle.std.proofs.Common.{◌≡◌, ◌≢◌, inl, inr, ℕ, ◌+◌, ◌-◌, ◌*◌, ◌/◌, ◌%◌, ◌<◌, ◌≤◌, Bool, true, false, not, ◌&&◌, cond, T, nat_le, List, length, Option, Some, None, refl, sym, ap, subst, ◌∙◌}
+use Rattle.std.proofs.Common.{arith, length-set, leb→le, le→leb}
 use Rattle.std.specs.Prelude.{slice_get, MatchOption}
 use Rattle.std.proofs.Math.ListN.{set}
 use Rattle.std.proofs.Math.Nat.{mul_comm}
@@ -16,12 +17,11 @@ use Rattle.pk_nand.proofs.Reaching.{Went-reached}
 use Rattle.pk_plan.specs.declared.owner.Owner.TheVariants.{Values as for_values}
 use Rattle.pk_pool.specs.declared.state.BlockState.TheVariants.{Free, Ready, Owned}
 use Rattle.pk_pool.specs.Blocks.{Blocks, PoolOnFlash, IsSpare, used_by, with_state}
-use Rattle.pk_nand.specs.Calls.{IsErasedBlock}
+use Rattle.pk_nand.specs.Operations.{IsErasedBlock}
 use Rattle.pk_pool.specs.Taking.{SameButBlock, ReachesIn, WentIn, FailsToErase}
 use Rattle.pk_pool.proofs.States.{get-set_other, set_is}
-use Rattle.pk_pool.proofs.Fitting.{block_of, apart, even_start, PoolOnFlash-outside, owned_not_ready}
+use Rattle.pk_pool.proofs.Fitting.{block_of, even_start, PoolOnFlash-outside, owned_not_ready}
 use Rattle.pk_live.specs.Values.{Values}
-use Rattle.pk_model.proofs.ValueSets.{is_true}
 use Rattle.pk_steps.specs.Under.{IsValuePage}
 use Rattle.pk_live.specs.declared.open_block.OpenBlock.{OpenBlock}
 use Rattle.pk_live.specs.OpenBlocks.{closed_with}
@@ -31,6 +31,8 @@ use Rattle.pk_data.specs.Reserving.{IsReserved, WritesNext, IsFreeOf}
 use Rattle.pk_data.specs.Entries.{IsInOpen}
 use Rattle.pk_data.specs.Laws.{SameValues}
 use Rattle.pk_data.proofs.Unchanged.{flash_elsewhere}
+use Rattle.pk_base.proofs.Logic.{is_true}
+use Rattle.pk_base.proofs.BlockLemmas.{apart}
 
 abbrev state_of : Values → Option OpenBlock → DataState
 state_of live open_block = record { live = live; open_block = open_block }
@@ -234,7 +236,8 @@ wrote shape live (Some o) pool outputs old new es count p room w = record {
     ]
 
 pub wrote_as : (shape : Shape) (d : DataState) (count : ℕ) (d' : DataState) → fits_open shape d count ≡ true → d' ≡ with_written d count
-    → (pool : Blocks) (outputs : List ℕ) (old new : Flash) (es : List (Key × Place)) → ValuesOnFlash shape d pool outputs old es → WritesNext shape d count old new → ValuesOnFlash shape d' pool outputs new es
+    → (pool : Blocks) (outputs : List ℕ) (old new : Flash) (es : List (Key × Place))
+    → ValuesOnFlash shape d pool outputs old es → WritesNext shape d count old new → ValuesOnFlash shape d' pool outputs new es
 wrote_as shape d count d' room is pool outputs old new es p w =
     subst (λ (v : DataState). ValuesOnFlash shape v pool outputs new es) (sym is) (wrote shape d.live d.open_block pool outputs old new es count p room w)
 
@@ -283,10 +286,12 @@ module _ (shape : Shape) (d : DataState) (p q : Blocks) (outputs : List ℕ) (ol
   opened_by count room no_room =
       let one_less : used_by for_values p.states < data_blocks shape - 1 =
       below (data_blocks shape - 1) (used_by for_values p.states) (few_more (fits_open shape d count) (nat_le (data_blocks shape - 1) (used_by for_values p.states)) room no_room) in
-      let counted' : used_by for_values (with_state p b (Owned for_values)).states ≡ used_by for_values p.states + 1 = subst (λ (r : Blocks). used_by for_values r.states ≡ used_by for_values p.states + 1) taken_is counted in
+      let counted' : used_by for_values (with_state p b (Owned for_values)).states ≡ used_by for_values p.states + 1 = subst
+      (λ (r : Blocks). used_by for_values r.states ≡ used_by for_values p.states + 1) taken_is counted in
       subst (λ (r : Blocks). ValuesOnFlash shape (block_opened d b) r outputs new.pages es) (sym taken_is)
       (ValuesOnFlash-block_opened shape p outputs old.pages new.pages b spare d es placed place.0 (in_shape (λ s. b < s.blocks) place.1) (omega (arith, one_less, counted'))
-      (subst (λ (r : Blocks). PoolOnFlash r new.pages) taken_is fits) (in_shape (λ s. IsErasedBlock s new.pages b) is_erased) (in_shape (λ s. SameButBlock s b old.pages new.pages) (reached_in p.shape b old new cuts)))
+      (subst (λ (r : Blocks). PoolOnFlash r new.pages) taken_is fits) (in_shape (λ s. IsErasedBlock s new.pages b) is_erased)
+      (in_shape (λ s. SameButBlock s b old.pages new.pages) (reached_in p.shape b old new cuts)))
 
   pub opened_reserved : (count : ℕ) → needs_reclaim shape d p count ≡ false → fits_open shape d count ≡ false → 1 ≤ count → count ≤ most_pages shape
       → IsReserved shape (block_opened d b) q new.pages (b * shape.block_pages) count
@@ -302,7 +307,8 @@ module _ (shape : Shape) (d : DataState) (p q : Blocks) (outputs : List ℕ) (ol
       (opened_by count room no_room).written k is ((opened_reserved count room no_room some most).free k low high)
 
 -- an erase that failed leaves the values placed
-pub failed_keeps : (shape : Shape) (d : DataState) (p : Blocks) (outputs : List ℕ) (old new : BoardState) (es : List (Key × Place)) → ValuesOnFlash shape d p outputs old.pages es → FailsToErase p old new → PoolOnFlash p new.pages
+pub failed_keeps : (shape : Shape) (d : DataState) (p : Blocks) (outputs : List ℕ) (old new : BoardState) (es : List (Key × Place))
+    → ValuesOnFlash shape d p outputs old.pages es → FailsToErase p old new → PoolOnFlash p new.pages
     → ValuesOnFlash shape d p outputs new.pages es
 failed_keeps shape d p outputs old new es placed fails fits =
     flash_elsewhere shape d p outputs old.pages new.pages es placed

@@ -7,7 +7,7 @@ use Rattle.std.proofs.lemmas.Bool.{eq-eqb, ne_eqb}
 use Rattle.pk_base.specs.Key.{Key, key_cmp}
 use Rattle.pk_base.specs.Shape.{Shape, IsShape, page_count, charge}
 use Rattle.pk_base.specs.Entry.{Place}
-use Rattle.pk_base.specs.EntryBytes.{IsPlace}
+use Rattle.pk_base.specs.EntryChecks.{IsPlace}
 use Rattle.pk_model.specs.Laws.{IsPageOf}
 use Rattle.pk_steps.specs.Under.{IsValuePage}
 use Rattle.pk_live.specs.Lives.{head_of}
@@ -72,7 +72,8 @@ module _ (shape : Shape) (is_shape : IsShape shape) (heads : List ℕ) (es : Lis
           omega (arith, all')
 
 -- a key of which the value goes to another place
-pub live_moved : (shape : Shape) (is_shape : IsShape shape) (heads : List ℕ) (es : List (Key × Place)) (key : Key) (old place : Place) → AreLive shape heads es → T (is_sorted key_cmp es) → find key_cmp key es ≡ Some old
+pub live_moved : (shape : Shape) (is_shape : IsShape shape) (heads : List ℕ) (es : List (Key × Place)) (key : Key) (old place : Place)
+    → AreLive shape heads es → T (is_sorted key_cmp es) → find key_cmp key es ≡ Some old
     → IsPlace shape place → ((k : ℕ) → IsPageOf shape k place → IsValuePage shape es k → ⊥)
     → AreLive shape (set (set heads old.page 0) place.page (charge shape place.len)) (put key_cmp key place es)
 live_moved shape is_shape heads es key old place live rising found is_place free =

@@ -1,7 +1,6 @@
 -- Keys with places: one entry more, and one less.
 use Rattle.std.proofs.Common.{◌≡◌, ◌⊎◌, inl, inr, ℕ, ◌+◌, true, false, not, cond, T, List, [], ◌∷◌, ◌++◌, Some, None, refl, sym, ap, subst, ◌∙◌, arith, ◌==◌}
 use Rattle.std.specs.List.{AllByRecursion}
-use Rattle.std.specs.declared.cmp.Ordering.{Ordering}
 use Rattle.std.specs.declared.cmp.Ordering.TheVariants.{Less, Equal, Greater}
 use Rattle.std.specs.Ordering.{is_lt, is_eq, eq_by_cmp}
 use Rattle.std.specs.Cmp.{tied_itself}
@@ -10,23 +9,19 @@ use Rattle.std.proofs.lemmas.Bool.{eq-eqb, ne_eqb}
 use Rattle.pk_base.specs.Key.{Key, key_cmp}
 use Rattle.pk_base.specs.Shape.{Shape, IsShape, charge}
 use Rattle.pk_base.specs.Entry.{Place}
-use Rattle.pk_base.specs.EntryBytes.{IsPlace}
+use Rattle.pk_base.specs.EntryChecks.{IsPlace}
 use Rattle.pk_segfmt.specs.Value.{value_pages}
 use Rattle.pk_segfmt.proofs.StoredLemmas.{charge_some}
 use Rattle.pk_rootfmt.specs.Root.{differ}
 use Rattle.pk_model.specs.Values.{all_pages}
 use Rattle.pk_model.specs.Laws.{IsPageOf}
-use Rattle.pk_model.proofs.MapLemmas.{key_total, key_antisymm, left_part, right_part, below_less}
+use Rattle.pk_model.proofs.MapLemmas.{key_total, key_antisymm, below_less}
 use Rattle.pk_model.proofs.Commits.{apart, rest_differs}
 use Rattle.pk_steps.specs.Under.{IsValuePage}
 use Rattle.pk_steps.proofs.Places.{range_in, value_in}
 use Rattle.pk_live.specs.Lives.{head_of}
 use Rattle.pk_data.specs.Placed.{AreApart, without}
-
-less : (r : Ordering) → T (is_lt r) → r ≡ Less
-less Less p = refl
-less Equal p = absurd p
-less Greater p = absurd p
+use Rattle.pk_base.proofs.Logic.{left_part, right_part, less}
 
 -- ---- keys
 
@@ -53,7 +48,8 @@ pub put_without : (key : Key) (place : Place) (es : List (Key × Place)) → T (
 put_without key place [] rising = refl
 put_without key place (e ∷ es) rising =
     let below = left_part (below_all key_cmp e.0 es) (is_sorted key_cmp es) rising in
-    elim (key_cmp key e.0) as (λ r. key_cmp key e.0 ≡ r → put key_cmp key place (cond (not (is_eq r)) (e ∷ without key es) (without key es)) ≡ by_order r ((key, place) ∷ e ∷ es) ((e.0, place) ∷ es) (e ∷ put key_cmp key place es)) [
+    elim (key_cmp key e.0) as (λ r. key_cmp key e.0 ≡ r
+    → put key_cmp key place (cond (not (is_eq r)) (e ∷ without key es) (without key es)) ≡ by_order r ((key, place) ∷ e ∷ es) ((e.0, place) ∷ es) (e ∷ put key_cmp key place es)) [
       | Less ↦ λ r. ap (λ s. by_order s ((key, place) ∷ e ∷ without key es) ((e.0, place) ∷ without key es) (e ∷ put key_cmp key place (without key es))) r
           ∙ ap (λ (xs : List (Key × Place)). (key, place) ∷ e ∷ xs) (keep_all key es (below_less key e.0 es r below))
       | Equal ↦ λ r. let greater = tied_below key e.0 es r below in
@@ -83,7 +79,8 @@ module _ (shape : Shape) where
   pub page_put : (key : Key) (place : Place) (es : List (Key × Place)) (k : ℕ) → IsValuePage shape (put key_cmp key place es) k → IsPageOf shape k place ⊎ IsValuePage shape es k
   page_put key place [] k is = is
   page_put key place (e ∷ es) k is =
-      elim (key_cmp key e.0) as (λ r. IsValuePage shape (by_order r ((key, place) ∷ e ∷ es) ((e.0, place) ∷ es) (e ∷ put key_cmp key place es)) k → IsPageOf shape k place ⊎ IsValuePage shape (e ∷ es) k) [
+      elim (key_cmp key e.0) as (λ r. IsValuePage shape (by_order r ((key, place) ∷ e ∷ es) ((e.0, place) ∷ es) (e ∷ put key_cmp key place es)) k
+      → IsPageOf shape k place ⊎ IsValuePage shape (e ∷ es) k) [
         | Less ↦ λ i. i
         | Equal ↦ λ i. elim i [ inl new ↦ inl new | inr old ↦ inr (inr old) ]
         | Greater ↦ λ i. elim i [ inl here ↦ inr (inl here) | inr there ↦ elim (page_put key place es k there) [ inl new ↦ inl new | inr old ↦ inr (inr old) ] ]
@@ -105,7 +102,8 @@ module _ (shape : Shape) where
         | false ↦ λ f. inr (found_page key place es k f is)
       ] found
 
-  pub apart_put : (key : Key) (place : Place) (es : List (Key × Place)) → AreApart shape es → ((k : ℕ) → IsPageOf shape k place → IsValuePage shape es k → ⊥) → AreApart shape (put key_cmp key place es)
+  pub apart_put : (key : Key) (place : Place) (es : List (Key × Place)) → AreApart shape es
+      → ((k : ℕ) → IsPageOf shape k place → IsValuePage shape es k → ⊥) → AreApart shape (put key_cmp key place es)
   apart_put key place [] are_apart free = (λ k here there. there, tt)
   apart_put key place (e ∷ es) are_apart free =
       elim (key_cmp key e.0) as (λ r. AreApart shape (by_order r ((key, place) ∷ e ∷ es) ((e.0, place) ∷ es) (e ∷ put key_cmp key place es))) [
@@ -139,7 +137,8 @@ module _ (shape : Shape) where
 
   -- ---- places
 
-  pub places_put : (key : Key) (place : Place) (es : List (Key × Place)) → AllByRecursion (λ e. IsPlace shape e.1) es → IsPlace shape place → AllByRecursion (λ e. IsPlace shape e.1) (put key_cmp key place es)
+  pub places_put : (key : Key) (place : Place) (es : List (Key × Place)) → AllByRecursion (λ e. IsPlace shape e.1) es
+      → IsPlace shape place → AllByRecursion (λ e. IsPlace shape e.1) (put key_cmp key place es)
   places_put key place [] places is = (is, tt)
   places_put key place (e ∷ es) places is =
       elim (key_cmp key e.0) as (λ r. AllByRecursion (λ e. IsPlace shape e.1) (by_order r ((key, place) ∷ e ∷ es) ((e.0, place) ∷ es) (e ∷ put key_cmp key place es))) [
@@ -170,7 +169,8 @@ module _ (shape : Shape) where
       → head_of shape (put key_cmp key place es) h ≡ head_of shape es h + cond (place.page == h) (charge shape place.len) 0
   head_put key place [] h none = omega arith
   head_put key place (e ∷ es) h none =
-      elim (key_cmp key e.0) as (λ r. cond (is_eq r) (Some e.1) (find key_cmp key es) ≡ None → head_of shape (by_order r ((key, place) ∷ e ∷ es) ((e.0, place) ∷ es) (e ∷ put key_cmp key place es)) h ≡ head_of shape (e ∷ es) h + cond (place.page == h) (charge shape place.len) 0) [
+      elim (key_cmp key e.0) as (λ r. cond (is_eq r) (Some e.1) (find key_cmp key es) ≡ None
+      → head_of shape (by_order r ((key, place) ∷ e ∷ es) ((e.0, place) ∷ es) (e ∷ put key_cmp key place es)) h ≡ head_of shape (e ∷ es) h + cond (place.page == h) (charge shape place.len) 0) [
         | Less ↦ λ n. omega arith
         | Equal ↦ λ n. cc
         | Greater ↦ λ n. let rest = head_put key place es h n in omega (arith, rest)
@@ -182,7 +182,8 @@ module _ (shape : Shape) where
   head_without key place (e ∷ es) h rising found =
       let below = left_part (below_all key_cmp e.0 es) (is_sorted key_cmp es) rising in
       let others = right_part (below_all key_cmp e.0 es) (is_sorted key_cmp es) rising in
-      elim (key_cmp key e.0) as (λ r. key_cmp key e.0 ≡ r → cond (is_eq r) (Some e.1) (find key_cmp key es) ≡ Some place → head_of shape (e ∷ es) h ≡ head_of shape (cond (not (is_eq r)) (e ∷ without key es) (without key es)) h + cond (place.page == h) (charge shape place.len) 0) [
+      elim (key_cmp key e.0) as (λ r. key_cmp key e.0 ≡ r → cond (is_eq r) (Some e.1) (find key_cmp key es) ≡ Some place
+      → head_of shape (e ∷ es) h ≡ head_of shape (cond (not (is_eq r)) (e ∷ without key es) (without key es)) h + cond (place.page == h) (charge shape place.len) 0) [
         | Less ↦ λ r f. let rest = head_without key place es h others f in omega (arith, rest)
         | Equal ↦ λ r f.
             let same : e.1 ≡ place = cc in

@@ -1,5 +1,6 @@
 -- Values as they are found at opening.
-use Rattle.std.proofs.Common.{◌≡◌, inl, inr, ℕ, ◌+◌, ◌-◌, ◌*◌, ◌/◌, ◌%◌, ◌<◌, ◌≤◌, true, false, T, List, [], ◌∷◌, ◌==◌, length, filter, get_or, map, Some, refl, sym, ap, subst, ◌∙◌, arith, div-add-mod', mod-lt, mul-le-mul_right}
+use Rattle.std.proofs.Common.{◌≡◌, inl, inr, ℕ, ◌+◌, ◌-◌, ◌*◌, ◌/◌, ◌%◌, ◌<◌, ◌≤◌, true, false, T, List, [], ◌∷◌, ◌==◌, length, filter, get_or, map, Some, refl, sym, ap, subst, ◌∙◌, arith}
+use Rattle.std.proofs.Common.{div-add-mod', mod-lt, mul-le-mul_right}
 use Rattle.std.specs.Prelude.{slice_get}
 use Rattle.std.specs.List.{list_any, range_with_len, AllByRecursion}
 use Rattle.std.proofs.lemmas.Bool.{false≢true, cases_Bool, cases_lt, or_cases, or_left, or_right, eqb-true, eq-eqb, false_from_ne_true}
@@ -9,7 +10,7 @@ use Rattle.pk_base.specs.Key.{Key}
 use Rattle.pk_base.specs.Shape.{Shape, IsShape, page_count, data_blocks}
 use Rattle.pk_base.specs.Page.{Flash}
 use Rattle.pk_base.specs.Entry.{Place}
-use Rattle.pk_base.specs.EntryBytes.{IsPlace}
+use Rattle.pk_base.specs.EntryChecks.{IsPlace}
 use Rattle.pk_plan.specs.declared.owner.Owner.{Owner}
 use Rattle.pk_plan.specs.declared.owner.Owner.TheVariants.{Journal, Meta, Values as for_values}
 use Rattle.pk_pool.specs.declared.state.BlockState.{BlockState}
@@ -118,7 +119,8 @@ module _ (shape : Shape) (named : List ℕ) (live : Values) (pool : Blocks) (fla
   few_blocks =
       let most = (fits_parts shape named (all_pages shape es) parts).few_blocks in
       let row = filter_row (is_used shape es) (is_owned_by for_values) pool.states 0 same_test in
-      let all : length (filter (is_used shape es) (range_with_len 0 shape.blocks)) ≡ used_by for_values pool.states = subst (λ (n : ℕ). length (filter (is_used shape es) (range_with_len 0 n)) ≡ used_by for_values pool.states) f.size row in
+      let all : length (filter (is_used shape es) (range_with_len 0 shape.blocks)) ≡ used_by for_values pool.states = subst
+      (λ (n : ℕ). length (filter (is_used shape es) (range_with_len 0 n)) ≡ used_by for_values pool.states) f.size row in
       omega (arith, most, all)
 
   page_of : (b : ℕ) → HoldsValues pool b → (k : ℕ) × IsValuePage shape es k × (k / shape.block_pages ≡ b)

@@ -11,10 +11,10 @@ use Rattle.pk_base.specs.Key.{Key, key_cmp}
 use Rattle.pk_base.specs.Shape.{Shape, IsShape, page_count, charge, greatest}
 use Rattle.pk_base.specs.Page.{Flash, page_at, erased}
 use Rattle.pk_base.specs.Entry.{Place}
-use Rattle.pk_base.specs.EntryBytes.{IsPlace}
+use Rattle.pk_base.specs.EntryChecks.{IsPlace}
 use Rattle.pk_segfmt.proofs.StoredLemmas.{charge_some}
 use Rattle.pk_pool.specs.Blocks.{Blocks}
-use Rattle.pk_pool.proofs.Fitting.{block_of, apart}
+use Rattle.pk_pool.proofs.Fitting.{block_of}
 use Rattle.pk_model.specs.Values.{all_pages}
 use Rattle.pk_model.specs.Laws.{IsPageOf}
 use Rattle.pk_steps.specs.Under.{IsValuePage}
@@ -27,6 +27,7 @@ use Rattle.pk_data.specs.Placed.{ValuesOnFlash, IsOpenIn, IsOutput, IsNotOpen, H
 use Rattle.pk_data.specs.Entries.{span_if_some, heads_without, ValueHeld, ValueMoves}
 use Rattle.pk_data.proofs.Lists.{put_without, nothing_out, find_gone, page_put, page_without, found_place, head_none, head_found}
 use Rattle.pk_data.proofs.Heads.{AreLive, live_removed, live_added}
+use Rattle.pk_base.proofs.BlockLemmas.{apart}
 
 -- pages that were written into a block for values
 pub record InBlock (shape : Shape) (pool : Blocks) (outputs : List ℕ) (flash : Flash) (place : Place) : Type 0 where
@@ -81,7 +82,8 @@ module _ (shape : Shape) (d : DataState) (pool : Blocks) (outputs : List ℕ) (f
   live = record { places = p.places; apart = p.apart; heads_are = p.heads_are }
 
   -- a key less
-  pub ValuesOnFlash-removed : (key : Key) (place : Place) → T (is_sorted key_cmp es) → find key_cmp key es ≡ Some place → ValuesOnFlash shape (with_head d place.page 0) pool outputs flash (without key es)
+  pub ValuesOnFlash-removed : (key : Key) (place : Place) → T (is_sorted key_cmp es) → find key_cmp key es ≡ Some place
+      → ValuesOnFlash shape (with_head d place.page 0) pool outputs flash (without key es)
   ValuesOnFlash-removed key place rising found = record {
     is_shape = p.is_shape;
     shape_is = p.shape_is;
@@ -206,5 +208,6 @@ pub moved_as : (d : DataState) (old : Option Span) (new : Span) (d' : DataState)
 moved_as d old new d' is m = subst (λ (v : DataState). ValuesOnFlash m.shape v m.pool m.outputs m.flash (put key_cmp m.key m.place m.es)) (sym is) (moved d old new m)
 
 -- all live pages
-pub total_of : (shape : Shape) (d : DataState) (pool : Blocks) (outputs : List ℕ) (flash : Flash) (es : List (Key × Place)) → ValuesOnFlash shape d pool outputs flash es → sum d.live.heads ≡ length (all_pages shape es)
+pub total_of : (shape : Shape) (d : DataState) (pool : Blocks) (outputs : List ℕ) (flash : Flash) (es : List (Key × Place))
+    → ValuesOnFlash shape d pool outputs flash es → sum d.live.heads ≡ length (all_pages shape es)
 total_of shape d pool outputs flash es p = ap sum p.heads_are ∙ total_is shape p.is_shape es p.places

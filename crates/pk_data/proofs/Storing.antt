@@ -27,7 +27,8 @@ same_at_end page count old new reached =
     let went = Went-reached reached.0 old new (λ flash _. SameOutside page count old.pages flash) reached.1 in went.cuts new.pages (all_posted reached.0) went.stands
 
 -- the pages of a value that is where its pages were found are the next ones, and written
-pub writes_value : (shape : Shape) (d : DataState) (pool : Blocks) (old new : Flash) (key : Key) (value : List ℕ) (page count : ℕ) → IsReserved shape d pool old page count → count ≡ charge shape (length value)
+pub writes_value : (shape : Shape) (d : DataState) (pool : Blocks) (old new : Flash) (key : Key) (value : List ℕ) (page count : ℕ)
+    → IsReserved shape d pool old page count → count ≡ charge shape (length value)
     → SameOutside page (charge shape (length value)) old new → IsStored shape (page_at new) key page value → WritesNext shape d count old new
 writes_value shape d pool old new key value page count reserved count_is outside stored = record {
   pairs = omega (arith, count_is, charge_even shape (length value));
@@ -35,7 +36,8 @@ writes_value shape d pool old new key value page count reserved count_is outside
   written = λ k low high e.
       let next = reserved.next in
       let there : page + (k - page) ≡ k = omega (arith, low, next) in
-      let page_is : page_at new k ≡ whole (page_of shape key value (k - page)) = subst (λ (p : ℕ). page_at new p ≡ whole (page_of shape key value (k - page))) there (stored (k - page) (omega (arith, low, high, next, count_is))) in
+      let page_is : page_at new k ≡ whole (page_of shape key value (k - page)) = subst
+      (λ (p : ℕ). page_at new p ≡ whole (page_of shape key value (k - page))) there (stored (k - page) (omega (arith, low, high, next, count_is))) in
       cc;
 }
 

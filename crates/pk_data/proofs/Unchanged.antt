@@ -1,5 +1,6 @@
 -- Placed values, after others changed the flash or the pool; and the blocks in which they lie.
-use Rattle.std.proofs.Common.{◌≡◌, inl, inr, ℕ, zero, suc, ◌+◌, ◌-◌, ◌*◌, ◌/◌, ◌<◌, ◌≤◌, Bool, true, false, not, ◌&&◌, cond, List, [], ◌∷◌, length, filter, Option, Some, None, refl, sym, ap, subst, ◌∙◌, arith, length-set, eq-or-lt_of_le}
+use Rattle.std.proofs.Common.{◌≡◌, inl, inr, ℕ, zero, suc, ◌+◌, ◌-◌, ◌*◌, ◌/◌, ◌<◌, ◌≤◌, Bool, true, false, not, ◌&&◌, cond, List, [], ◌∷◌, length, filter, Option, Some, None, refl, sym, ap, subst}
+use Rattle.std.proofs.Common.{◌∙◌, arith, length-set, eq-or-lt_of_le}
 use Rattle.std.specs.Prelude.{count_by, slice_get, MatchOption}
 use Rattle.std.specs.List.{range_with_len}
 use Rattle.std.proofs.Math.ListN.{set}
@@ -161,7 +162,8 @@ lie_in_few shape d pool outputs flash es placed = (few, λ k is. among_values po
         let rest : List BlockState = freed pool.states outputs in
         let size : length rest ≡ length pool.states = length-freed outputs pool.states in
         let row : length (filter (counts pool outputs) (range_with_len 0 (length rest))) ≡ count_by (is_owned_by for_values) rest =
-        filter_row (counts pool outputs) (is_owned_by for_values) rest 0 (λ i x is. let e : 0 + i ≡ i = omega arith in ap (counts pool outputs) e ∙ (sym (freed_is outputs pool.states i) ∙ ap is_for_values is)) in
+        filter_row (counts pool outputs) (is_owned_by for_values) rest 0
+        (λ i x is. let e : 0 + i ≡ i = omega arith in ap (counts pool outputs) e ∙ (sym (freed_is outputs pool.states i) ∙ ap is_for_values is)) in
         let all : length (value_blocks pool outputs) ≡ used_by for_values rest = subst (λ n. length (filter (counts pool outputs) (range_with_len 0 n)) ≡ used_by for_values rest) size row in
         let less = used_freed outputs pool.states placed.outputs_are.different placed.outputs_are.owned in
         let most = placed.few in

@@ -7,7 +7,7 @@ use Rattle.pk_base.specs.Key.{Key, key_cmp}
 use Rattle.pk_base.specs.Shape.{Shape, IsShape, page_count, data_blocks}
 use Rattle.pk_base.specs.Page.{Flash, page_at, erased}
 use Rattle.pk_base.specs.Entry.{Place}
-use Rattle.pk_base.specs.EntryBytes.{IsPlace}
+use Rattle.pk_base.specs.EntryChecks.{IsPlace}
 use Rattle.pk_plan.specs.declared.owner.Owner.TheVariants.{Values as for_values}
 use Rattle.pk_pool.specs.Blocks.{Blocks, PoolOnFlash, NoneLeaves, used_by}
 use Rattle.pk_live.specs.Values.{Values, IsClosed}

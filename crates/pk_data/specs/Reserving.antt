@@ -7,7 +7,7 @@ use Rattle.pk_base.specs.Entry.{Place}
 use Rattle.pk_base.specs.Page.{Flash, page_at, erased}
 use Rattle.pk_plan.specs.declared.owner.Owner.TheVariants.{Values as for_values}
 use Rattle.pk_nand.specs.BoardState.{BoardState}
-use Rattle.pk_nand.specs.Calls.{InOrder}
+use Rattle.pk_nand.specs.Operations.{InOrder}
 use Rattle.pk_nand.specs.Crash.{SameOutside}
 use Rattle.pk_pool.specs.declared.state.BlockState.TheVariants.{Owned}
 use Rattle.pk_pool.specs.Blocks.{Blocks, IsSpare, with_state}

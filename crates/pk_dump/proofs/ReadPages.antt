@@ -8,7 +8,7 @@ use Rattle.pk_scan.proofs.Exact.{take_next}
 use Rattle.pk_base.specs.Shape.{Shape}
 use Rattle.pk_base.specs.Page.{Page, Flash, page_at, erased, whole, torn, IsFlash}
 use Rattle.pk_nand.specs.Seen.{answer, state, states}
-use Rattle.pk_nand.specs.Calls.{filled}
+use Rattle.pk_nand.specs.Operations.{filled}
 use Rattle.pk_nand.specs.declared.types.PageState.{PageState}
 use Rattle.pk_nand.specs.declared.types.PageRead.{PageRead}
 use Rattle.pk_dump.specs.Pages.{IsFullPage, AreFull, read_as}

@@ -1,5 +1,5 @@
 //! Epochs: the commits of each, up to the first that has no page that is Whole, with their entries.
-ghost use Rattle.std.specs.Prelude.{◌≡◌, ◌⊎◌, ◌<◌, length, MatchBool};
+ghost use Rattle.std.specs.Prelude.{◌≡◌, ◌⊎◌, ◌<◌, length};
 ghost use Rattle.pk_base.specs.Page.{whole};
 ghost use Rattle.pk_base.specs.Shape.{epoch_commits};
 ghost use Rattle.pk_nand.specs.Seen.{state};
@@ -11,7 +11,7 @@ use crate::form::Form;
 use crate::held::{Held, page_in, tell_held};
 use crate::words::tell_entry;
 use pk_base::Shape;
-use pk_jrnfmt::{JrnHead, decode, entry};
+use pk_jrnfmt::{decode, entry};
 use pk_nand::PageState;
 use pk_rootfmt::Root;
 use std::alloc::{AllocError, Allocator};
@@ -47,14 +47,6 @@ fn older_of<A: Allocator>(root: &Root<A>) -> Option<NamedEpoch>
     }
 }
 
-/// Whether a page is the one of this number and index.
-fn is_of(head: JrnHead, number: u64, index: u32) -> bool
-    ensures { MatchBool result ((head.epoch ≡ number) × (head.index ≡ index))
-        ((head.epoch ≡ number) × (head.index ≡ index) → ⊥) }
-{
-    head.epoch == number && head.index == index
-}
-
 /// What these bytes are as the commit of this index in the epoch of this number.
 fn commit_of(shape: &Shape, number: u64, index: u32, bytes: &[u8]) -> Held
     requires full { length bytes.now ≡ shape.now.page_bytes }
@@ -63,7 +55,7 @@ fn commit_of(shape: &Shape, number: u64, index: u32, bytes: &[u8]) -> Held
 {
     match decode(shape, bytes) {
         Ok(head) => {
-            if is_of(head, number, index) {
+            if head.is_of(number, index) {
                 Held::Entries { count: head.count }
             } else {
                 Held::Wrong

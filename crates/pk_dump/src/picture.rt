@@ -19,7 +19,7 @@ pub enum BlockUse {
 /// What is known of the value to which a page belongs.
 #[derive(Clone, Copy)]
 pub enum Life {
-    /// It is the value of a key that is there.
+    /// It is the value of a key that exists.
     Live,
     /// It is no key's value.
     Dead,

@@ -1,5 +1,6 @@
 -- A merge of two runs of one page can be begun, and its output needs one page and one block.
-use Rattle.std.proofs.Common.{◌≡◌, ℕ, zero, suc, ◌+◌, ◌*◌, ◌<◌, ◌≤◌, sym, subst, arith, Bool, true, false, cond, List, [], ◌∷◌, ◌++◌, length, slice_get, filter, ◌==◌, is_some, if◌then◌else◌, Option, Some, length-append, suc-mul, lt_of_mul-lt-mul_right}
+use Rattle.std.proofs.Common.{◌≡◌, ℕ, zero, suc, ◌+◌, ◌*◌, ◌<◌, ◌≤◌, sym, subst, arith, Bool, true, false, cond, List, [], ◌∷◌, ◌++◌, length, slice_get, filter, ◌==◌, is_some, if◌then◌else◌, Option}
+use Rattle.std.proofs.Common.{Some, length-append, suc-mul, lt_of_mul-lt-mul_right}
 use Rattle.std.proofs.lemmas.Grind.{div_ceil_times}
 use Rattle.std.specs.Int.{div_ceil}
 use Rattle.std.specs.Borrow.{Bor}
@@ -24,7 +25,9 @@ use Rattle.pk_engine_tests.specs.Opened.{IsOpened, HasRoom}
 
 length_put : {X : Type 0} (k : Key) (x : X) (es : List (Key × X)) → length (put key_cmp k x es) ≤ suc (length es)
 length_put k x [] = omega arith
-length_put k x (e ∷ es) = let rest = length_put k x es in elim (key_cmp k e.0) as (λ r. length (by_order r ((k, x) ∷ e ∷ es) ((e.0, x) ∷ es) (e ∷ put key_cmp k x es)) ≤ suc (suc (length es))) [ Less ↦ omega arith | Equal ↦ omega arith | Greater ↦ omega (arith, rest) ]
+length_put k x (e ∷ es) = let rest =
+    length_put k x es in elim (key_cmp k e.0) as (λ r. length (by_order r ((k, x) ∷ e ∷ es) ((e.0, x) ∷ es) (e ∷ put key_cmp k x es)) ≤ suc
+    (suc (length es))) [ Less ↦ omega arith | Equal ↦ omega arith | Greater ↦ omega (arith, rest) ]
 
 firsts_fewer : (es : List Entry) → length (firsts es) ≤ length es
 firsts_fewer [] = omega arith
@@ -32,7 +35,9 @@ firsts_fewer (e ∷ es) = let rest = firsts_fewer es in let one = length_put e.0
 
 put_fewer : (es : List Entry) → length (filter (λ e. is_some e.1) es) ≤ length es
 put_fewer [] = omega arith
-put_fewer (e ∷ es) = let rest = put_fewer es in elim (is_some e.1) as (λ b. length (cond b (e ∷ filter (λ e. is_some e.1) es) (filter (λ e. is_some e.1) es)) ≤ suc (length es)) [ true ↦ omega (arith, rest) | false ↦ omega (arith, rest) ]
+put_fewer (e ∷ es) = let rest =
+    put_fewer es in elim (is_some e.1) as (λ b. length (cond b (e ∷ filter (λ e. is_some e.1) es) (filter (λ e. is_some e.1) es)) ≤ suc
+    (length es)) [ true ↦ omega (arith, rest) | false ↦ omega (arith, rest) ]
 
 kept_fewer : (b : Bool) (es : List Entry) → length (if b then filter (λ e. is_some e.1) es else es) ≤ length es
 kept_fewer true es = put_fewer es
@@ -78,7 +83,9 @@ pub has_cap : (shape other : Shape) (level most : ℕ) → other ≡ shape → 4
 has_cap shape other level most is some value =
     subst (λ (s : Shape). 1 ≤ cap s level) is (subst (λ (n : ℕ). 1 ≤ n) value (omega (arith, some)))
 
-module _ {X : Type 0} (shape : Shape) (is : IsShape shape) (pool : Blocks) (flash : Flash) (arena : Frames) (source : Bor Kept) (target : Kept) (pins : Bool) (level : ℕ) (room : HasRoom shape pool arena) (fits : PoolOnFlash pool flash) (few : source.now.count + target.count ≤ 8) (some : 1 ≤ cap shape level) (s : IsOpened shape flash arena 2 source.now) (t : IsOpened shape flash arena 3 target) where
+module _ {X : Type 0} (shape : Shape) (is : IsShape shape) (pool : Blocks) (flash : Flash) (arena : Frames) (source : Bor Kept) (target : Kept) (pins : Bool) (level : ℕ)
+    (room : HasRoom shape pool arena) (fits : PoolOnFlash pool flash) (few : source.now.count + target.count ≤ 8)
+    (some : 1 ≤ cap shape level) (s : IsOpened shape flash arena 2 source.now) (t : IsOpened shape flash arena 3 target) where
   can_begin : CanBegin {X = X} (Run source) target pins shape level pool flash arena s.entries t.entries
   can_begin =
       let page : 512 ≤ shape.page_bytes = is.page_least in

@@ -20,7 +20,13 @@ carried b c target j pool flash arena es fs same r =
         lists = m.lists;
         shapes = record { of_merger = m.shapes.of_merger; of_target = m.shapes.of_target; of_source = rw same m.shapes.of_source; of_pool = m.shapes.of_pool; of_frames = m.shapes.of_frames };
         merging = record {
-          cursors = record { has = rw same m.merging.cursors.has; stands = m.merging.cursors.stands; rising = m.merging.cursors.rising; source_at = rw same m.merging.cursors.source_at; target_at = m.merging.cursors.target_at };
+          cursors = record {
+            has = rw same m.merging.cursors.has;
+            stands = m.merging.cursors.stands;
+            rising = m.merging.cursors.rising;
+            source_at = rw same m.merging.cursors.source_at;
+            target_at = m.merging.cursors.target_at;
+          };
           entries = m.merging.entries;
           stands = m.merging.stands;
           makes = m.merging.makes;
@@ -28,7 +34,15 @@ carried b c target j pool flash arena es fs same r =
           output = m.merging.output;
           no_spare = m.merging.no_spare;
         };
-        blocks = record { fits = m.blocks.fits; own = m.blocks.own; of_source = rw same m.blocks.of_source; of_target = m.blocks.of_target; from_source = rw same m.blocks.from_source; from_target = m.blocks.from_target; room = m.blocks.room };
+        blocks = record {
+          fits = m.blocks.fits;
+          own = m.blocks.own;
+          of_source = rw same m.blocks.of_source;
+          of_target = m.blocks.of_target;
+          from_source = rw same m.blocks.from_source;
+          from_target = m.blocks.from_target;
+          room = m.blocks.room;
+        };
         frames = record { pinned = m.frames.pinned; free = m.frames.free };
       };
     }

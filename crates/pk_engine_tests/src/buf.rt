@@ -63,7 +63,7 @@ fn found(heap: &LocalHeap, shape: Shape) -> Option<bool> {
     }
 }
 
-// This is found of a table in a heap of `size` bytes, and all of it is given back.
+// This is found of a table in a heap of `size` bytes, and all of it is freed.
 fn finds(alloc: Global, size: usize, shape: Shape, wanted: Option<bool>) -> bool {
     match LocalHeap::new(alloc, size) {
         Ok(heap) => found(&heap, shape) == wanted && heap.used() == 0,

@@ -166,7 +166,7 @@ fn one_page(rt: HostRuntime) -> Result<(), Fail> {
     Ok(())
 }
 
-// A job that finds no room is an error, and all that was taken is given back.
+// A job that finds no room is an error, and all that was taken is freed.
 #[test]
 fn no_room(rt: HostRuntime) -> Result<(), Fail> {
     let shape = worked()?;

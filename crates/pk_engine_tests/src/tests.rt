@@ -7,7 +7,7 @@ use std::alloc::{AllocError, Global};
 use std::test::*;
 
 // Makes the part in heaps larger by 16 bytes each, the least block that a heap allocates: so each
-// of its allocations is the first that is refused in some of them. All that is taken is given back.
+// of its allocations is the first that is refused in some of them. All that is taken is freed.
 // True if in the first heap that has enough nothing is taken once the part is made.
 fn takes_once(alloc: Global, shape: Shape, part: Part) -> Result<bool, AllocError> {
     for i in 0..4096usize {

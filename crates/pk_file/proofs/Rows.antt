@@ -1,7 +1,6 @@
 -- Rows of pages that become Erased.
-use Rattle.std.proofs.Common.{◌≡◌, ◌⊎◌, inl, inr, ℕ, suc, ◌+◌, ◌-◌, ◌*◌, ◌/◌, ◌<◌, ◌≤◌, List, [], length, length-set, slice_set, refl, sym, ap, subst, ◌∙◌, arith, mod-lt, zero-add, Option, Some, None}
+use Rattle.std.proofs.Common.{◌≡◌, ◌⊎◌, inl, inr, ℕ, suc, ◌+◌, ◌-◌, ◌*◌, ◌/◌, ◌<◌, ◌≤◌, List, [], length, length-set, slice_set, refl, sym, ap, subst, ◌∙◌, arith, zero-add, Option, Some, None}
 use Rattle.std.proofs.Math.Nat.{mul-le-mul_right, suc-mul, mul_comm}
-use Rattle.std.proofs.lemmas.Nat.{div-mul-add, div-add-mod'}
 use Rattle.std.proofs.lemmas.Bool.Decides.{eqb_tells}
 use Rattle.std.proofs.lemmas.Bool.{cases_lt}
 use Rattle.pk_base.specs.Shape.{Shape, IsShape, page_count}
@@ -12,6 +11,7 @@ use Rattle.pk_nand.specs.Calls.{LeftBehind}
 use Rattle.pk_nand.specs.Cut.{Interrupted, MayLeave}
 use Rattle.pk_nand.proofs.Leaving.{page_at-slice_set, page_at-slice_set_same, set_leaves, same_pages, page_at-erased_from, page-erased_in, length-erased_from}
 use Rattle.pk_file.specs.Slots.{ErasedRow}
+use Rattle.pk_base.proofs.BlockLemmas.{in_block, of_block}
 
 pub row_none : (first : ℕ) (old : Flash) → ErasedRow first 0 old old
 row_none first old = record { same_size = refl; inside = λ k low high. absurd (omega (arith, low, high)); outside = λ k out. refl }
@@ -28,20 +28,6 @@ row_more first i old now room row = record {
       ∙ row.outside k (elim out [ inl low ↦ inl low | inr high ↦ inr (omega (arith, high)) ]);
 }
 
-in_block : (n block k : ℕ) → block * n ≤ k → k < block * n + n → k / n ≡ block
-in_block n block k low high =
-    let rest : k - block * n < n = omega (arith, low, high) in
-    let whole : block * n + (k - block * n) ≡ k = omega (arith, low) in
-    let P : ℕ → Type 0 = λ j. j / n ≡ block in
-    subst P whole (div-mul-add block n (k - block * n) rest)
-
-of_block : (n block k : ℕ) → 0 < n → k / n ≡ block → (block * n ≤ k) × (k < block * n + n)
-of_block n block k some is =
-    let P : ℕ → Type 0 = λ q. (q * n ≤ k) × (k < q * n + n) in
-    let small = mod-lt k some in
-    let whole = div-add-mod' k n in
-    subst P is (omega (arith, whole), omega (arith, whole, small))
-
 -- a whole block is erased
 pub row_erases : (shape : Shape) (block : ℕ) (old new : Flash) → 0 < shape.block_pages → block * shape.block_pages + shape.block_pages ≤ length old
     → ErasedRow (block * shape.block_pages) shape.block_pages old new → new ≡ after shape (erase block) old
@@ -57,7 +43,8 @@ row_erases shape block old new some room row = same_pages (erased_from shape blo
       | inl low ↦ outside k (inl low)
       | inr high ↦ elim (cases_lt k (block * shape.block_pages + shape.block_pages)) [
         | inr past ↦ outside k (inr past)
-        | inl less ↦ row.inside k high less ∙ sym (page-erased_in shape block 0 old k (omega (arith, less, room)) (ap (λ n. n / shape.block_pages) (zero-add k) ∙ in_block shape.block_pages block k high less))
+        | inl less ↦ row.inside k high less
+            ∙ sym (page-erased_in shape block 0 old k (omega (arith, less, room)) (ap (λ n. n / shape.block_pages) (zero-add k) ∙ in_block shape.block_pages block k high less))
       ]
     ]
 

@@ -76,7 +76,8 @@ bytes_pushed : (slots : List Slot) (s : Slot) → state_bytes (slots ++ s ∷ []
 bytes_pushed [] s = refl
 bytes_pushed (x ∷ slots) s = ap (λ (l : List ℕ). byte_by x ∷ l) (bytes_pushed slots s)
 
-pub bytes_more : (slots : List Slot) (s : Slot) (states : List ℕ) (i : ℕ) → i < length states → state_bytes slots ≡ take i states → byte_by s ≡ get_or states i 0 → state_bytes (slots ++ s ∷ []) ≡ take (i + 1) states
+pub bytes_more : (slots : List Slot) (s : Slot) (states : List ℕ) (i : ℕ) → i < length states
+    → state_bytes slots ≡ take i states → byte_by s ≡ get_or states i 0 → state_bytes (slots ++ s ∷ []) ≡ take (i + 1) states
 bytes_more slots s states i h before own = bytes_pushed slots s ∙ (λ j. before j ++ own j ∷ []) ∙ sym (take_more states i 0 h)
 
 pub byte_small : (s : Slot) (byte : ℕ) → byte_by s ≡ byte → byte < 3

@@ -1,11 +1,11 @@
 //! A board over a file, standard input and standard output. It records neither input, posted bytes
 //! nor trail.
-ghost use Rattle.std.specs.Prelude.{◌≡◌, ◌≤◌, ◌<◌, ◌+◌, ◌*◌, ◌/◌, ℕ, length, Option, None, Some, OnOk, OnErr, slice_set};
+ghost use Rattle.std.specs.Prelude.{◌≡◌, ◌<◌, ◌*◌, ◌/◌, length, Option, None, Some, OnOk, OnErr, slice_set};
 ghost use Rattle.pk_base.specs.Shape as spec;
 ghost use Rattle.pk_base.specs.Page.{whole};
 ghost use Rattle.pk_base.specs.Mark.{program, erase, after};
-ghost use Rattle.pk_nand.specs.BoardState.{BoardState, shape_or_none};
-ghost use Rattle.pk_nand.specs.Calls.{counted, Rose, LeftBehind};
+ghost use Rattle.pk_nand.specs.BoardState.{shape_or_none};
+ghost use Rattle.pk_nand.specs.Calls.{Rose, LeftBehind};
 ghost use Rattle.pk_file.specs.Slots.{pages_of, AllFit};
 
 use crate::image_file::ImageFile;
@@ -16,7 +16,7 @@ use crate::slot::Slot;
 use crate::slots::{erase_slots, erased_slots, known, read_slot, set_slot};
 use crate::trimmed::Trimmed;
 use pk_base::Shape;
-use pk_nand::{Board, HostFault, LoadFault, Nand, NandFault, PageRead};
+use pk_nand::{Board, HostFault, LoadFault, Nand, NandFault, PageRead, raise};
 use std::alloc::Global;
 use std::rt::{Stdin, Stdout};
 
@@ -44,13 +44,6 @@ pub struct FileBoard<'a> {
     out_faults: u64,
     ghost count: { length slots.items ≡ spec.page_count (shape_or_none shape) },
     ghost fit: { AllFit (shape_or_none shape) slots.items },
-}
-
-/// One more, up to the last value.
-fn raise(count: &mut u64)
-    ensures { count.new ≡ counted count.old }
-{
-    *count = count.saturating_add(1);
 }
 
 /// Programs a page in the file and in memory. A write or sync that fails leaves both alike; without memory for the page nothing is
@@ -318,6 +311,7 @@ impl Nand for FileBoard<'_> {
         // so that these counts are known to be of 64 bits
         let _read_faults = self.read_faults;
         let _flash_faults = self.flash_faults;
+        let _stop_faults = self.stop_faults;
         self.reads
     }
 }

@@ -3,7 +3,7 @@ ghost use Rattle.std.specs.Prelude.{◌≡◌, ◌<◌, ◌≤◌, ◌+◌, ℕ,
 ghost use Rattle.pk_base.specs.Fields.{AreBytes};
 ghost use Rattle.pk_base.specs.Shape as spec;
 ghost use Rattle.pk_base.specs.Page.{page_at, erased};
-ghost use Rattle.pk_nand.specs.Calls.{filled};
+ghost use Rattle.pk_nand.specs.Operations.{filled};
 ghost use Rattle.pk_nand.specs.Seen.{answer};
 ghost use Rattle.pk_nand.specs.declared.types.LoadFault.{LoadFault};
 ghost use Rattle.pk_image.specs.declared.head.TheConstants.{HEADER_BYTES};
@@ -133,7 +133,7 @@ pub fn read_slot(slots: &Vec<Slot>, page: usize, into: &mut [u8]) -> PageRead
     }
 }
 
-/// The page becomes this one; the bytes that it had are given back.
+/// The page becomes this one; the bytes that it had are freed.
 pub fn set_slot(slots: &mut Vec<Slot>, page: usize, slot: Slot)
     requires { page < length slots.old.items }
     ensures pages { pages_of slots.new.items

@@ -1,9 +1,10 @@
 -- Plans that grow.
-use Rattle.std.proofs.Common.{◌≡◌, ℕ, List, [], ◌∷◌, ◌++◌, refl, sym, ap, ◌∙◌, subst, Bool, true, false, T, ◌==◌, if◌then◌else◌, eqb→eq, Option, Some, None}
+use Rattle.std.proofs.Common.{◌≡◌, ℕ, List, [], ◌∷◌, ◌++◌, refl, sym, ap, ◌∙◌, subst, true, false, T, ◌==◌, if◌then◌else◌, eqb→eq, Option, Some, None}
 use Rattle.std.proofs.Math.Dec.{eqb_refl}
 use Rattle.pk_flash.specs.declared.types.Left.{Left}
 use Rattle.pk_flash.specs.declared.types.Planned.{Planned}
 use Rattle.pk_flash.specs.Plan.{later, left_if_planned, planned_left}
+use Rattle.pk_base.proofs.Logic.{is_true}
 
 later-none : (o : Option Left) → later None o ≡ o
 later-none None = refl
@@ -17,12 +18,8 @@ pub planned-append : (call : ℕ) (plan : List Planned) (next : Planned) → pla
 planned-append call [] next = sym (later-none (left_if_planned next call))
 planned-append call (p ∷ plan) next = ap (later (left_if_planned p call)) (planned-append call plan next) ∙ later-later (left_if_planned p call) (planned_left plan call) (left_if_planned next call)
 
-yes : (b : Bool) → T b → b ≡ true
-yes true t = refl
-yes false t = absurd t
-
 pub left-same : (next : Planned) → left_if_planned next next.call ≡ Some next.left
-left-same next = rw (yes (next.call == next.call) (eqb_refl next.call)) refl
+left-same next = rw (is_true (next.call == next.call) (eqb_refl next.call)) refl
 
 pub left-other : (call : ℕ) (next : Planned) → (call ≡ next.call → ⊥) → left_if_planned next call ≡ None
 left-other call next other =

@@ -1,29 +1,19 @@
 //! What calls do to the pages, the trail and the posted bytes of a board in memory.
-ghost use Rattle.std.specs.Prelude.{◌≡◌, ◌≤◌, ◌<◌, ◌+◌, ◌++◌, ◌∷◌, [], ℕ, length, take, Some, OnOk, OnErr, IfOk, IsTrue, vec_capacity, ◌⊎◌, slice_set, option_copied, option_map};
-ghost use Rattle.pk_base.specs.Shape as spec;
+ghost use Rattle.std.specs.Prelude.{◌≡◌, ◌≤◌, ◌<◌, ◌+◌, ◌++◌, ◌∷◌, [], length, Some, OnOk, OnErr, vec_capacity, slice_set, option_copied};
 ghost use Rattle.pk_base.specs.Page.{whole, IsPage, IsFlash};
 ghost use Rattle.pk_base.specs.Mark.{program, erase, post, after};
 ghost use Rattle.pk_nand.specs.BoardState.{shape_or_none};
-ghost use Rattle.pk_nand.specs.Calls.{counted, LeftBehind, PostLeft};
-ghost use Rattle.pk_nand.specs.Seen.{state as seen, states, marks as seen_marks};
-ghost use Rattle.pk_flash.specs.Plan.{left_of};
-ghost use Rattle.pk_flash.specs.Outcomes.{choice as choice_of, program_left};
-ghost use Rattle.pk_flash.specs.Rows.{RowChosen};
+ghost use Rattle.pk_nand.specs.Calls.{counted, LeftBehind};
+ghost use Rattle.pk_nand.specs.Operations.{PostLeft};
+ghost use Rattle.pk_nand.specs.Seen.{states, marks as seen_marks};
 ghost use Rattle.pk_flash.specs.Exact.{ActsBy, PostsBy, part as part_of};
 
 use crate::pages::{block_pages_of, choose_row, is_second, leave_program};
 use crate::trail::Trail;
 use crate::types::Left;
 use pk_base::Shape;
-use pk_nand::{HostFault, Mark, NandFault, PageBytes, PageState};
+use pk_nand::{HostFault, Mark, NandFault, PageState, raise};
 use std::alloc::Global;
-
-/// One more, up to the last value.
-pub fn raise(count: &mut u64)
-    ensures { count.new ≡ counted count.old }
-{
-    *count = count.saturating_add(1);
-}
 
 /// Counts a program or an erase that failed.
 pub fn count_stop(flash_faults: &mut u64, stop_faults: &mut u64)

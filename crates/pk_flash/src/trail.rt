@@ -1,5 +1,5 @@
 //! The marks of a board in memory, with the buffers for those to come.
-ghost use Rattle.std.specs.Prelude.{◌≡◌, ◌<◌, ◌≤◌, ◌+◌, ◌++◌, ◌∷◌, [], ◌↔◌, ℕ, length, IsTrue, IfOk, OnOk, OnErr, vec_capacity};
+ghost use Rattle.std.specs.Prelude.{◌≡◌, ◌<◌, ◌≤◌, ◌+◌, ◌++◌, ◌∷◌, [], ◌↔◌, length, IsTrue, IfOk, OnOk, OnErr, vec_capacity};
 ghost use Rattle.pk_base.specs.Mark.{program, post};
 ghost use Rattle.pk_nand.specs.Seen.{mark as seen_mark, marks as seen_marks};
 ghost use Rattle.pk_flash.specs.Spare.{AreSpare};

@@ -81,7 +81,7 @@ fn refuses_absent(host: &mut Host, port: &mut MemoryPort, a: &Key) -> bool {
         && host.retrieve(port, a, &mut [0u8; 2]) == Ok(None)
 }
 
-// The Stores under a key that is there, and of a value that is too long.
+// The Stores under a key that exists, and of a value that is too long.
 fn refuses_present(host: &mut Host, port: &mut MemoryPort, a: &Key) -> bool {
     let refused = Err(HostError::Refused { status: KEY_EXISTS });
     let too_long = Err(HostError::Refused {
@@ -92,7 +92,7 @@ fn refuses_present(host: &mut Host, port: &mut MemoryPort, a: &Key) -> bool {
         && host.store(port, a, &[0; 65505], StoreRule::Any) == too_long
 }
 
-// The calls for the key that is there.
+// The calls for the key that exists.
 fn gives_front(host: &mut Host, port: &mut MemoryPort, a: &Key) -> bool {
     let mut into = [0u8; 2];
     host.retrieve(port, a, &mut into) == Ok(Some(5))

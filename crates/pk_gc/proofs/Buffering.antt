@@ -27,7 +27,8 @@ module _ (n victim output : ℕ) (other : victim ≢ output) where
       let rest = entries_puts (heads_behind heads m) (entries_behind heads es m) ms all.1 order.1 in
       let lefts = lefts_same n victim output other heads m ms all.0 all.1 order.0 in
       rest ∙ ap (λ (xs : List Move). puts (entries_of (placed_at xs)) (entries_behind heads es m)) lefts
-      ∙ elim (is_left heads m) as (λ b. puts (entries_left heads ms) (cond b (put key_cmp m.key (Some (new_place m)) es) es) ≡ puts (entries_of (placed_at (cond b (m ∷ left_of heads ms) (left_of heads ms)))) es) [
+      ∙ elim (is_left heads m) as (λ b. puts (entries_left heads ms) (cond b (put key_cmp m.key (Some (new_place m)) es) es)
+      ≡ puts (entries_of (placed_at (cond b (m ∷ left_of heads ms) (left_of heads ms)))) es) [
         | true ↦ refl
         | false ↦ refl
       ]

@@ -7,12 +7,12 @@ use Rattle.pk_base.specs.Key.{Key}
 use Rattle.pk_base.specs.Shape.{Shape, IsShape, charge}
 use Rattle.pk_base.specs.Page.{Page, Flash, IsFlash, page_at, erased, whole}
 use Rattle.pk_base.specs.Entry.{Place}
-use Rattle.pk_base.specs.EntryBytes.{IsPlace}
+use Rattle.pk_base.specs.EntryChecks.{IsPlace}
 use Rattle.pk_nand.proofs.Leaving.{page_at-slice_set, page_at-slice_set_same}
-use Rattle.pk_nand.specs.Calls.{InOrder}
+use Rattle.pk_nand.specs.Operations.{InOrder}
 use Rattle.std.proofs.Math.Nat.{mul_comm}
 use Rattle.std.proofs.lemmas.Nat.{div-add-mod', div-mul-add}
-use Rattle.pk_pool.proofs.Fitting.{apart, in_block, even_start}
+use Rattle.pk_pool.proofs.Fitting.{in_block, even_start}
 use Rattle.pk_base.proofs.ShapeLemmas.{block_pages_positive, charge_even}
 use Rattle.pk_gc.specs.declared.course.Course.{Course}
 use Rattle.pk_gc.specs.declared.moves.Move.{Move}
@@ -22,6 +22,7 @@ use Rattle.pk_segfmt.proofs.StoredLemmas.{charge_some}
 use Rattle.pk_model.specs.Laws.{AnyByRecursion}
 use Rattle.pk_steps.specs.Under.{IsValuePage}
 use Rattle.pk_moves.specs.Moves.{AreApart}
+use Rattle.pk_base.proofs.BlockLemmas.{apart}
 
 -- pages of two blocks differ
 pub disjoint : (n v o k p : ℕ) → v ≢ o → v * n ≤ k → k < v * n + n → o * n ≤ p → p < o * n + n → k ≡ p → ⊥
@@ -147,7 +148,8 @@ module _ (shape : Shape) (c : Course) (moves : List Move) (page : List ℕ) (fla
     }
 
 -- the page to which the next one goes is the next of its block
-pub in_order : (shape : Shape) (c : Course) (moves : List Move) (page : List ℕ) (flash : Flash) (es : List (Key × Place)) → IsRunning shape c moves page flash es → c.held ≡ true → InOrder shape flash (target shape c)
+pub in_order : (shape : Shape) (c : Course) (moves : List Move) (page : List ℕ) (flash : Flash) (es : List (Key × Place))
+    → IsRunning shape c moves page flash es → c.held ≡ true → InOrder shape flash (target shape c)
 in_order shape c moves page flash es runs held =
     let n : ℕ = shape.block_pages in
     let some = (runs.held_is held).0 in
@@ -161,7 +163,8 @@ in_order shape c moves page flash es runs held =
     }
 
 -- and exists
-pub target_exists : (shape : Shape) (c : Course) (moves : List Move) (page : List ℕ) (flash : Flash) (es : List (Key × Place)) → IsRunning shape c moves page flash es → c.held ≡ true → IsFlash shape flash → target shape c < length flash
+pub target_exists : (shape : Shape) (c : Course) (moves : List Move) (page : List ℕ) (flash : Flash) (es : List (Key × Place))
+    → IsRunning shape c moves page flash es → c.held ≡ true → IsFlash shape flash → target shape c < length flash
 target_exists shape c moves page flash es runs held is_flash =
     let n : ℕ = shape.block_pages in
     let some = (runs.held_is held).0 in
@@ -275,7 +278,8 @@ module _ (shape : Shape) (c : Course) (flash : Flash) (es : List (Key × Place))
         order = order_pushed moves runs.moves_are runs.order;
         covers = λ q p found within_victim small. elim (cases_lt p.page (source shape c)) [
           | inl seen ↦ any_front (λ x. (q ≡ x.key) × (x.from ≡ p.page)) moves m (runs.covers q p found within_victim (omega (arith, seen)))
-          | inr rest ↦ let is : p.page ≡ page = next.first q p found rest (omega (arith, small, source_is)) in any_last (λ x. (q ≡ x.key) × (x.from ≡ p.page)) moves m ((next.alone q p found is).0, sym is)
+          | inr rest ↦ let is : p.page ≡ page = next.first q p found rest (omega (arith, small, source_is)) in any_last
+              (λ x. (q ≡ x.key) × (x.from ≡ p.page)) moves m ((next.alone q p found is).0, sym is)
         ];
       }
     where
@@ -297,7 +301,8 @@ module _ (shape : Shape) (c : Course) (flash : Flash) (es : List (Key × Place))
 -- ---- the start
 
 -- A block of values is the victim, and an Erased one the output, which has no value.
-pub start_runs : (shape : Shape) (victim output : ℕ) (page : List ℕ) (flash : Flash) (es : List (Key × Place)) → IsShape shape → victim ≢ output → 2 ≤ output → victim < shape.blocks → output < shape.blocks
+pub start_runs : (shape : Shape) (victim output : ℕ) (page : List ℕ) (flash : Flash) (es : List (Key × Place))
+    → IsShape shape → victim ≢ output → 2 ≤ output → victim < shape.blocks → output < shape.blocks
     → ((k : ℕ) → output * shape.block_pages ≤ k → k < output * shape.block_pages + shape.block_pages → page_at flash k ≡ erased)
     → ((k : ℕ) → k / shape.block_pages ≡ output → IsValuePage shape es k → ⊥) → IsRunning shape (started victim output) [] page flash es
 start_runs shape victim output page flash es is_shape other behind victim_exists output_exists are_erased free = record {

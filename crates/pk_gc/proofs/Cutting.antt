@@ -87,7 +87,8 @@ module _ (shape : Shape) (former : Flash) (top : ℕ × Root) (was : Found) (m :
 
 -- ---- the first program
 
-module _ (shape : Shape) (board : BoardState) (top : ℕ × Root) (e : JournalEpoch) (es : List Entry) (ready : IsReady board shape) (is : Journals shape e board.pages top) (left : 0 < left_of e) (no_half : e.half ≡ false)
+module _ (shape : Shape) (board : BoardState) (top : ℕ × Root) (e : JournalEpoch) (es : List Entry)
+    (ready : IsReady board shape) (is : Journals shape e board.pages top) (left : 0 < left_of e) (no_half : e.half ≡ false)
     (spells : journal_entries e.shape e.number e.used (next_bytes e es) ≡ Some es) where
   abbrev old : ℕ → Page
   old = page_at board.pages
@@ -117,7 +118,8 @@ module _ (shape : Shape) (board : BoardState) (top : ℕ × Root) (e : JournalEp
     spells = (λ i. journal_entries (sym is.epoch_shape i) (sym is.epoch_number i) e.used (next_bytes e es)) ∙ spells;
   }
 
-module _ (shape : Shape) (old : BoardState) (top : ℕ × Root) (found : Found) (m : Map) (moves : List (Key × Place)) (blocks : List ℕ) (e : JournalEpoch) (ready : IsReady old shape) (is : Journals shape e old.pages top)
+module _ (shape : Shape) (old : BoardState) (top : ℕ × Root) (found : Found) (m : Map) (moves : List (Key × Place))
+    (blocks : List ℕ) (e : JournalEpoch) (ready : IsReady old shape) (is : Journals shape e old.pages top)
     (left : 0 < left_of e) (no_half : e.half ≡ false) (under : IsUnder shape old.pages [] top found m) (can : CanMove shape old.pages [] top.1 found moves blocks)
     (spells : journal_entries e.shape e.number e.used (next_bytes e (entries_of moves)) ≡ Some (entries_of moves)) where
   abbrev es : List Entry
@@ -140,15 +142,18 @@ module _ (shape : Shape) (old : BoardState) (top : ℕ × Root) (found : Found) 
 
   begun_stands : (new : BoardState) → new ≡ after_program old (next_page e) (next_bytes e es) → MovesStand shape old top found m moves new
   begun_stands new made =
-      program_stands shape old.pages top found m moves blocks e.used (next_bytes e es) is.is_shape under can commit old ready (commit_page shape top.1.newest e.used) (le_refl _) (omega arith) from under.is_top first_held
+      program_stands shape old.pages top found m moves blocks e.used (next_bytes e es) is.is_shape under can commit old ready
+      (commit_page shape top.1.newest e.used) (le_refl _) (omega arith) from under.is_top first_held
       new (made ∙ ap (λ (k : ℕ). after_program old k (next_bytes e es)) at_is)
 
   begun_fails : (new : BoardState) → ProgramFailed old new (next_page e) (next_bytes e es) → Goes shape old new (CrashFinds shape background old.pages m)
   begun_fails new failed =
-      program_fails shape old.pages top found m moves blocks e.used (next_bytes e es) is.is_shape under can commit old ready (commit_page shape top.1.newest e.used) (le_refl _) (omega arith) from under.is_top first_held
+      program_fails shape old.pages top found m moves blocks e.used (next_bytes e es) is.is_shape under can commit old ready
+      (commit_page shape top.1.newest e.used) (le_refl _) (omega arith) from under.is_top first_held
       new (subst (λ (k : ℕ). ProgramFailed old new k (next_bytes e es)) at_is failed)
 
-  half_moved : (new : BoardState) → IsHalfMade (record e { used = e.used + 1; half = true }) es old.pages new.pages → IsHalfMoved shape (record e { used = e.used + 1; half = true }) old.pages new.pages top found m moves blocks
+  half_moved : (new : BoardState) → IsHalfMade (record e { used = e.used + 1; half = true }) es old.pages new.pages
+      → IsHalfMoved shape (record e { used = e.used + 1; half = true }) old.pages new.pages top found m moves blocks
   half_moved new half =
       let back : e.used ≡ e.used + 1 - 1 = omega arith in
       record {
@@ -164,7 +169,8 @@ module _ (shape : Shape) (old : BoardState) (top : ℕ × Root) (found : Found) 
 pub commit_begins : CommitBegins
 commit_begins shape old new top found m moves blocks e e' ready is left no_half under can begins = (
   subst (λ (x : JournalEpoch). IsHalfMoved shape x old.pages new.pages top found m moves blocks) (sym begins.epoch_is)
-      (half_moved shape old top found m moves blocks e ready is left no_half under can begins.spells new (subst (λ (x : JournalEpoch). IsHalfMade x (entries_of moves) old.pages new.pages) begins.epoch_is begins.half)),
+      (half_moved shape old top found m moves blocks e ready is left no_half under can begins.spells new
+      (subst (λ (x : JournalEpoch). IsHalfMade x (entries_of moves) old.pages new.pages) begins.epoch_is begins.half)),
   begun_stands shape old top found m moves blocks e ready is left no_half under can begins.spells new begins.program,
 )
 
@@ -200,7 +206,8 @@ module _ (shape : Shape) (old : BoardState) (former : Flash) (top : ℕ × Root)
 
   ends_stand : (new : BoardState) → new ≡ after_program old (next_page (before_half e) + 1) written → MovesStand shape old top was m moves new
   ends_stand new made =
-      program_stands shape former top was m moves blocks (e.used - 1) written is.is_shape is.stood is.can is.commit old ready (first + 1) (omega arith) (omega arith) so_far stands_now.is_top still_held
+      program_stands shape former top was m moves blocks (e.used - 1) written is.is_shape is.stood is.can is.commit old ready
+      (first + 1) (omega arith) (omega arith) so_far stands_now.is_top still_held
       new (made ∙ ap (λ (k : ℕ). after_program old (k + 1) written) first_is)
 
   ends_fail : (new : BoardState) → ProgramFailed old new (next_page (before_half e) + 1) written → Goes shape old new (CrashFinds shape background old.pages m)

@@ -1,5 +1,6 @@
 -- The moves that remain can be made, and leave no head in the victim.
-use Rattle.std.proofs.Common.{◌≡◌, ◌≢◌, ◌⊎◌, inl, inr, ℕ, zero, suc, ◌+◌, ◌*◌, ◌/◌, ◌%◌, ◌<◌, ◌≤◌, refl, sym, ap, subst, ◌∙◌, arith, Bool, true, false, cond, T, List, [], ◌∷◌, length, take, drop, sum, get_or, count_by, ◌==◌, Option, Some, None}
+use Rattle.std.proofs.Common.{◌≡◌, ◌≢◌, ◌⊎◌, inl, inr, ℕ, zero, suc, ◌+◌, ◌*◌, ◌/◌, ◌%◌, ◌<◌, ◌≤◌, refl, sym, ap, subst, ◌∙◌, arith, Bool, true, false, cond, T, List, [], ◌∷◌, length, take, drop, sum}
+use Rattle.std.proofs.Common.{get_or, count_by, ◌==◌, Option, Some, None}
 use Rattle.std.specs.Prelude.{slice_get, slice_set, slice_index, IsSome, is_some, is_none, nat_lt}
 use Rattle.std.specs.List.{AllByRecursion}
 use Rattle.std.specs.Ordering.{eq_by_cmp}
@@ -28,11 +29,13 @@ use Rattle.pk_gc.specs.Stepping.{Hands}
 use Rattle.pk_gc.specs.Ending.{CanGive, GivesUp}
 use Rattle.pk_gc.proofs.Copying.{disjoint}
 use Rattle.pk_gc.proofs.Finishing.{begins}
-use Rattle.pk_pool.proofs.Fitting.{apart, block_of}
+use Rattle.pk_pool.proofs.Fitting.{block_of}
 use Rattle.std.proofs.Math.Nat.{mul_comm}
 use Rattle.std.proofs.lemmas.List.{get_or-drop}
 use Rattle.pk_live.specs.Values.{block_sum}
 use Rattle.pk_plan.specs.declared.owner.Owner.TheVariants.{Values as for_values}
+use Rattle.pk_base.proofs.BlockLemmas.{apart}
+use Rattle.pk_moves.proofs.Emptying.{found_page}
 
 -- a head other than those of a move is unchanged
 stays : (heads : List ℕ) (m : Move) (k : ℕ) → k ≢ m.from → k ≢ m.to → slice_get (heads_behind heads m) k ≡ slice_get heads k
@@ -49,7 +52,8 @@ index_of xs ys k same = sym (unwrap_or-slice_get xs k 0) ∙ ap (λ o. unwrap_or
 pub none_changes : (heads : List ℕ) (ms : List Move) → entries_left heads ms ≡ [] → heads_all heads ms ≡ heads
 none_changes heads [] none = refl
 none_changes heads (m ∷ ms) none =
-    elim (is_left heads m) as (λ b. is_left heads m ≡ b → entries_of (placed_at (cond b (m ∷ left_of heads ms) (left_of heads ms))) ≡ [] → heads_all (cond b (slice_set (slice_set heads m.from 0) m.to m.count) heads) ms ≡ heads) [
+    elim (is_left heads m) as (λ b. is_left heads m ≡ b → entries_of (placed_at (cond b (m ∷ left_of heads ms) (left_of heads ms))) ≡ []
+    → heads_all (cond b (slice_set (slice_set heads m.from 0) m.to m.count) heads) ms ≡ heads) [
       | true ↦ λ is n. cc
       | false ↦ λ is n. none_changes heads ms n
     ] refl none
@@ -66,14 +70,6 @@ sum_none (suc n) (x ∷ xs) none =
     omega (arith, all, rest, here)
 
 -- ---- heads of values
-
-pub found_page : (shape : Shape) (key : Key) (place : Place) (es : List (Key × Place)) (k : ℕ) → find key_cmp key es ≡ Some place → IsPageOf shape k place → IsValuePage shape es k
-found_page shape key place [] k found is = cc
-found_page shape key place (e ∷ es) k found is =
-    elim (eq_by_cmp key_cmp key e.0) as (λ b. cond b (Some e.1) (find key_cmp key es) ≡ Some place → IsValuePage shape (e ∷ es) k) [
-      | true ↦ λ f. let same : e.1 ≡ place = cc in inl (subst (λ p. IsPageOf shape k p) (sym same) is)
-      | false ↦ λ f. inr (found_page shape key place es k f is)
-    ] found
 
 module _ (shape : Shape) (is_shape : IsShape shape) where
   first_page : (place : Place) → IsPageOf shape place.page place
@@ -125,7 +121,8 @@ set_zero (x ∷ xs) (suc i) = set_zero xs i
 cleared : (heads : List ℕ) (m : Move) → m.from ≢ m.to → slice_index (heads_behind heads m) m.from ≡ 0
 cleared heads m apart =
     elim (is_left heads m) as (λ b. is_left heads m ≡ b → slice_index (cond b (slice_set (slice_set heads m.from 0) m.to m.count) heads) m.from ≡ 0) [
-      | true ↦ λ is. index_of (slice_set (slice_set heads m.from 0) m.to m.count) (slice_set heads m.from 0) m.from (get-set_other (slice_set heads m.from 0) m.to m.from m.count apart) ∙ set_zero heads m.from
+      | true ↦ λ is. index_of (slice_set (slice_set heads m.from 0) m.to m.count) (slice_set heads m.from 0) m.from (get-set_other (slice_set heads m.from 0) m.to m.from m.count apart)
+          ∙ set_zero heads m.from
       | false ↦ λ is. let few : slice_index heads m.from ≤ 0 = ltb-false 0 (slice_index heads m.from) is in omega (arith, few)
     ] refl
 
@@ -138,7 +135,8 @@ module _ (n victim output : ℕ) (other : victim ≢ output) where
   from_not_to m is = no_output m m.from is is.from_low (omega (arith, is.from_high, is.some))
 
   -- where no head was, none is
-  stays_none : (heads : List ℕ) (ms : List Move) (k : ℕ) → AllByRecursion (InBlocks n victim output) ms → victim * n ≤ k → k < victim * n + n → slice_index heads k ≡ 0 → slice_index (heads_all heads ms) k ≡ 0
+  stays_none : (heads : List ℕ) (ms : List Move) (k : ℕ) → AllByRecursion (InBlocks n victim output) ms
+      → victim * n ≤ k → k < victim * n + n → slice_index heads k ≡ 0 → slice_index (heads_all heads ms) k ≡ 0
   stays_none heads [] k all low high none = none
   stays_none heads (m ∷ ms) k all low high none = stays_none (heads_behind heads m) ms k all.1 low high (elim (cases_eq k m.from) [
     | inl same ↦ subst (λ x. slice_index (heads_behind heads m) x ≡ 0) (sym same) (cleared heads m (from_not_to m all.0))
@@ -146,9 +144,11 @@ module _ (n victim output : ℕ) (other : victim ≢ output) where
   ])
 
   -- where the head of a move was, none is
-  pub clears : (heads : List ℕ) (ms : List Move) (k : ℕ) → AllByRecursion (InBlocks n victim output) ms → victim * n ≤ k → k < victim * n + n → AnyByRecursion (λ m. m.from ≡ k) ms → slice_index (heads_all heads ms) k ≡ 0
+  pub clears : (heads : List ℕ) (ms : List Move) (k : ℕ) → AllByRecursion (InBlocks n victim output) ms
+      → victim * n ≤ k → k < victim * n + n → AnyByRecursion (λ m. m.from ≡ k) ms → slice_index (heads_all heads ms) k ≡ 0
   clears heads [] k all low high is = absurd is
-  clears heads (m ∷ ms) k all low high (inl here) = stays_none (heads_behind heads m) ms k all.1 low high (subst (λ x. slice_index (heads_behind heads m) x ≡ 0) here (cleared heads m (from_not_to m all.0)))
+  clears heads (m ∷ ms) k all low high (inl here) = stays_none (heads_behind heads m) ms k all.1 low high
+      (subst (λ x. slice_index (heads_behind heads m) x ≡ 0) here (cleared heads m (from_not_to m all.0)))
   clears heads (m ∷ ms) k all low high (inr there) = clears (heads_behind heads m) ms k all.1 low high there
 
   -- ---- the moves can be made
@@ -166,14 +166,17 @@ module _ (n victim output : ℕ) (other : victim ≢ output) where
 
   pub left_same : (heads : List ℕ) (m x : Move) → InBlocks n victim output m → InBlocks n victim output x → m.from + m.count ≤ x.from → is_left (heads_behind heads m) x ≡ is_left heads x
   left_same heads m x of_m of_x order =
-      ap (λ k. nat_lt 0 k) (index_of (heads_behind heads m) heads x.from (stays heads m x.from (λ same. let some = of_m.some in omega (arith, order, same, some)) (no_output m x.from of_m of_x.from_low (omega (arith, of_x.from_high, of_x.some)))))
+      ap (λ k. nat_lt 0 k) (index_of (heads_behind heads m) heads x.from
+      (stays heads m x.from (λ same. let some = of_m.some in omega (arith, order, same, some)) (no_output m x.from of_m of_x.from_low (omega (arith, of_x.from_high, of_x.some)))))
 
-  pub lefts_same : (heads : List ℕ) (m : Move) (ms : List Move) → InBlocks n victim output m → AllByRecursion (InBlocks n victim output) ms → AllByRecursion (λ x. m.from + m.count ≤ x.from) ms → left_of (heads_behind heads m) ms ≡ left_of heads ms
+  pub lefts_same : (heads : List ℕ) (m : Move) (ms : List Move) → InBlocks n victim output m → AllByRecursion (InBlocks n victim output) ms
+      → AllByRecursion (λ x. m.from + m.count ≤ x.from) ms → left_of (heads_behind heads m) ms ≡ left_of heads ms
   lefts_same heads m [] of_m all order = refl
   lefts_same heads m (x ∷ ms) of_m all order =
       (λ i. cond (left_same heads m x of_m all.0 order.0 i) (x ∷ lefts_same heads m ms of_m all.1 order.1 i) (lefts_same heads m ms of_m all.1 order.1 i))
 
-  set_on : (heads : List ℕ) (m : Move) (ms : List Move) → InBlocks n victim output m → AllByRecursion (InBlocks n victim output) ms → AllByRecursion (λ x. m.from + m.count ≤ x.from) ms → AllByRecursion (λ x. x.to ≢ m.to) ms
+  set_on : (heads : List ℕ) (m : Move) (ms : List Move) → InBlocks n victim output m → AllByRecursion (InBlocks n victim output) ms
+      → AllByRecursion (λ x. m.from + m.count ≤ x.from) ms → AllByRecursion (λ x. x.to ≢ m.to) ms
       → AllByRecursion (IsSet heads) ms → AllByRecursion (IsSet (heads_behind heads m)) ms
   set_on heads m [] of_m all order go set = tt
   set_on heads m (x ∷ ms) of_m all order go set =
@@ -214,7 +217,8 @@ module _ (n victim output : ℕ) (other : victim ≢ output) where
     room : (length es < cap) ⊎ IsSome (find key_cmp m.key es)
     others : length (put key_cmp m.key (Some (new_place m)) es) + count_by (is_new (put key_cmp m.key (Some (new_place m)) es)) (entries_left heads ms) ≤ cap
 
-  one_goes : (cap : ℕ) (heads : List ℕ) (es : List Entry) (m : Move) (ms : List Move) → T (is_sorted key_cmp es) → length es + count_by (is_new es) (moved_entry m ∷ entries_left heads ms) ≤ cap → OneGoes cap heads es m ms
+  one_goes : (cap : ℕ) (heads : List ℕ) (es : List Entry) (m : Move) (ms : List Move) → T (is_sorted key_cmp es)
+      → length es + count_by (is_new es) (moved_entry m ∷ entries_left heads ms) ≤ cap → OneGoes cap heads es m ms
   one_goes cap heads es m ms rising fits =
       let all = sum_by-cons (λ y. cond (is_new es y) 1 0) (moved_entry m) (entries_left heads ms) in
       let less = fewer_new es m.key (Some (new_place m)) (entries_left heads ms) in
@@ -242,16 +246,19 @@ module _ (n victim output : ℕ) (other : victim ≢ output) where
     where
       now : CanGo n cap heads es m
       now left =
-          let fits_left : length es + count_by (is_new es) (moved_entry m ∷ entries_left heads ms) ≤ cap = subst (λ b. length es + count_by (is_new es) (entries_of (placed_at (cond b (m ∷ left_of heads ms) (left_of heads ms)))) ≤ cap) left fits in
+          let fits_left : length es + count_by (is_new es) (moved_entry m ∷ entries_left heads ms) ≤ cap = subst
+          (λ b. length es + count_by (is_new es) (entries_of (placed_at (cond b (m ∷ left_of heads ms) (left_of heads ms)))) ≤ cap) left fits in
           let one = one_goes cap heads es m ms rising fits_left in
           (set.0.from_is left, get-set_other heads m.from m.to 0 (λ same. from_not_to m blocks.0 (sym same)) ∙ set.0.to_is, set.0.inside, one.room)
 
       lefts : entries_left (heads_behind heads m) ms ≡ entries_left heads ms
       lefts = ap (λ (xs : List Move). entries_of (placed_at xs)) (lefts_same heads m ms blocks.0 blocks.1 order.0)
 
-      by_left : (b : Bool) → is_left heads m ≡ b → T (is_sorted key_cmp (cond b (put key_cmp m.key (Some (new_place m)) es) es)) × (length (cond b (put key_cmp m.key (Some (new_place m)) es) es) + count_by (is_new (cond b (put key_cmp m.key (Some (new_place m)) es) es)) (entries_left heads ms) ≤ cap)
+      by_left : (b : Bool) → is_left heads m ≡ b → T (is_sorted key_cmp (cond b (put key_cmp m.key (Some (new_place m)) es) es))
+          × (length (cond b (put key_cmp m.key (Some (new_place m)) es) es) + count_by (is_new (cond b (put key_cmp m.key (Some (new_place m)) es) es)) (entries_left heads ms) ≤ cap)
       by_left true is =
-          let fits_left : length es + count_by (is_new es) (moved_entry m ∷ entries_left heads ms) ≤ cap = subst (λ b. length es + count_by (is_new es) (entries_of (placed_at (cond b (m ∷ left_of heads ms) (left_of heads ms)))) ≤ cap) is fits in
+          let fits_left : length es + count_by (is_new es) (moved_entry m ∷ entries_left heads ms) ≤ cap = subst
+          (λ b. length es + count_by (is_new es) (entries_of (placed_at (cond b (m ∷ left_of heads ms) (left_of heads ms)))) ≤ cap) is fits in
           (is_sorted-put key_cmp key_total m.key (Some (new_place m)) es rising, (one_goes cap heads es m ms rising fits_left).others)
       by_left false is = (rising, subst (λ b. length es + count_by (is_new es) (entries_of (placed_at (cond b (m ∷ left_of heads ms) (left_of heads ms)))) ≤ cap) is fits)
 
@@ -299,7 +306,11 @@ module _ (shape : Shape) (c : Course) (job : JobState) (h : Hands) (flash : Flas
     where
       others : (xs : List Move) → ((k : ℕ) → IsPageOf shape k (new_place m) → IsValuePage shape (placed_at xs) k → ⊥) → AllByRecursion (λ x. x.to ≢ m.to) xs
       others [] none = tt
-      others (x ∷ xs) none = (λ same. none x.to (same_first shape runs.is_shape (new_place m) x.to (sym same)) (inl (first_page shape runs.is_shape (new_place x))), others xs (λ k here there. none k here (inr there)))
+      others (x ∷ xs) none = (
+        λ same. none x.to (same_first shape runs.is_shape (new_place m) x.to (sym same))
+            (inl (first_page shape runs.is_shape (new_place x))),
+        others xs (λ k here there. none k here (inr there)),
+      )
 
   head_is : (k : ℕ) (count : ℕ) → k < length heads → head_of shape es k ≡ count → slice_get heads k ≡ Some count
   head_is k count inside is = slice_get-get_or heads k 0 inside ∙ ap Some (give.copied.heads_are k ∙ is)
@@ -319,9 +330,11 @@ module _ (shape : Shape) (c : Course) (job : JobState) (h : Hands) (flash : Flas
               let live : 0 < slice_index heads m.from = ltb-true 0 (slice_index heads m.from) left in
               let was = begins shape es m.from give.copied.rising (subst (λ x. 0 < x) (give.copied.heads_are m.from) live) in
               let own = move.owner was.key was.place was.found was.page_is in
-              let count : head_of shape es m.from ≡ m.count = ap (head_of shape es) (sym was.page_is) ∙ head_found shape runs.is_shape was.key was.place es give.values_apart was.found ∙ ap (charge shape) own.1 ∙ sym move.count_is in
+              let count : head_of shape es m.from ≡ m.count = ap (head_of shape es) (sym was.page_is)
+              ∙ head_found shape runs.is_shape was.key was.place es give.values_apart was.found ∙ ap (charge shape) own.1 ∙ sym move.count_is in
               head_is m.from m.count (omega (arith, from_high, end, mul_comm n shape.blocks, size)) count;
-          to_is = head_is m.to 0 (omega (arith, move.is_place.exists, size)) (head_none shape runs.is_shape es m.to (runs.free m.to (block_of n m.to c.output move.in_output (omega (arith, to_high, some)))));
+          to_is = head_is m.to 0 (omega (arith, move.is_place.exists, size))
+              (head_none shape runs.is_shape es m.to (runs.free m.to (block_of n m.to c.output move.in_output (omega (arith, to_high, some)))));
           inside = omega (arith, move.is_place.inside, move.count_is);
         },
         are_set ms all.1,
@@ -353,12 +366,14 @@ module _ (shape : Shape) (c : Course) (job : JobState) (h : Hands) (flash : Flas
   empty : block_sum (heads_all heads job.moves) h.live.block_pages c.victim ≡ 0
   empty =
       subst (λ x. block_sum (heads_all heads job.moves) x c.victim ≡ 0) (sym give.block_pages_is)
-      (sum_none n (drop (c.victim * n) (heads_all heads job.moves)) (λ i small. get_or-drop (c.victim * n) (heads_all heads job.moves) i 0 ∙ zero_at (c.victim * n + i) (omega arith) (omega (arith, small))))
+      (sum_none n (drop (c.victim * n) (heads_all heads job.moves))
+      (λ i small. get_or-drop (c.victim * n) (heads_all heads job.moves) i 0 ∙ zero_at (c.victim * n + i) (omega arith) (omega (arith, small))))
 
   goes : HasRoom h.active h.epoch (entries_left heads job.moves) → CanGoAll h.live.block_pages h.active.capacity heads h.active.entries job.moves
   goes room =
       subst (λ x. CanGoAll x h.active.capacity heads h.active.entries job.moves) (sym give.block_pages_is)
-      (go_all n c.victim c.output runs.other h.active.capacity heads h.active.entries job.moves (are_set job.moves runs.moves_are) (in_blocks job.moves runs.moves_are) runs.order (go_apart job.moves runs.apart) give.table_rising room.0)
+      (go_all n c.victim c.output runs.other h.active.capacity heads h.active.entries job.moves (are_set job.moves runs.moves_are)
+      (in_blocks job.moves runs.moves_are) runs.order (go_apart job.moves runs.apart) give.table_rising room.0)
 
 pub gives_up : GivesUp
 gives_up shape c job h flash es give = record {

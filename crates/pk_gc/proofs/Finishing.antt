@@ -14,12 +14,12 @@ use Rattle.pk_base.proofs.ShapeLemmas.{block_pages_positive}
 use Rattle.pk_segfmt.proofs.StoredLemmas.{charge_some}
 use Rattle.pk_rootfmt.specs.Root.{named}
 use Rattle.pk_model.specs.Laws.{AnyByRecursion}
-use Rattle.pk_model.proofs.MapLemmas.{key_total, left_part, right_part, missing}
+use Rattle.pk_model.proofs.MapLemmas.{key_total, missing}
 use Rattle.pk_model.proofs.Lookups.{same_key}
 use Rattle.pk_steps.specs.Under.{IsValuePage, places}
 use Rattle.pk_pool.proofs.Fitting.{in_block, block_of}
 use Rattle.pk_live.specs.Lives.{head_of}
-use Rattle.pk_base.specs.EntryBytes.{IsEntry}
+use Rattle.pk_base.specs.EntryChecks.{IsEntry}
 use Rattle.pk_moves.specs.Moves.{entries_of, IsCopy, AreCopies, AreApart}
 use Rattle.pk_moves.specs.Victims.{AreMoved}
 use Rattle.pk_moves.proofs.Emptying.{lie_in_others}
@@ -28,6 +28,7 @@ use Rattle.pk_gc.specs.declared.moves.Move.{Move}
 use Rattle.pk_gc.specs.State.{placed_at, new_place, is_left, left_of, source}
 use Rattle.pk_gc.specs.Running.{IsMove}
 use Rattle.pk_gc.specs.Copied.{IsCopied, Empties, MayMove}
+use Rattle.pk_base.proofs.Logic.{left_part, right_part}
 
 -- ---- heads and values
 
@@ -54,7 +55,8 @@ module _ (shape : Shape) where
               key = rest.key;
               place = rest.place;
               found = elim (eq_by_cmp key_cmp rest.key e.0) as (λ b. eq_by_cmp key_cmp rest.key e.0 ≡ b → cond b (Some e.1) (find key_cmp rest.key es) ≡ Some rest.place) [
-                | true ↦ λ tied. let none = missing e.0 es (left_part (below_all key_cmp e.0 es) (is_sorted key_cmp es) rising) in absurd (nowhere e.0 rest.key es rest.place (same_key rest.key e.0 tied) none rest.found)
+                | true ↦ λ tied. let none = missing e.0 es (left_part (below_all key_cmp e.0 es) (is_sorted key_cmp es) rising) in absurd
+                    (nowhere e.0 rest.key es rest.place (same_key rest.key e.0 tied) none rest.found)
                 | false ↦ λ other. rest.found
               ] refl;
               page_is = rest.page_is;
@@ -78,7 +80,8 @@ module _ (shape : Shape) where
 
 module _ (heads : List ℕ) where
   -- what holds of all moves holds of those that remain
-  all_left : (P : Move → Type 0) (Q : Key × Place → Type 0) → ((m : Move) → is_left heads m ≡ true → P m → Q (m.key, new_place m)) → (ms : List Move) → AllByRecursion P ms → AllByRecursion Q (placed_at (left_of heads ms))
+  all_left : (P : Move → Type 0) (Q : Key × Place → Type 0) → ((m : Move) → is_left heads m ≡ true → P m → Q (m.key, new_place m))
+      → (ms : List Move) → AllByRecursion P ms → AllByRecursion Q (placed_at (left_of heads ms))
   all_left P Q f [] all = tt
   all_left P Q f (m ∷ ms) all =
       elim (is_left heads m) as (λ b. is_left heads m ≡ b → AllByRecursion Q (placed_at (cond b (m ∷ left_of heads ms) (left_of heads ms)))) [
@@ -102,7 +105,8 @@ module _ (heads : List ℕ) where
         | false ↦ apart_left shape ms are.1
       ]
 
-  among_left : (key : Key) (page : ℕ) (ms : List Move) → 0 < slice_index heads page → AnyByRecursion (λ m. (key ≡ m.key) × (m.from ≡ page)) ms → AnyByRecursion (λ m. key ≡ m.0) (placed_at (left_of heads ms))
+  among_left : (key : Key) (page : ℕ) (ms : List Move) → 0 < slice_index heads page
+      → AnyByRecursion (λ m. (key ≡ m.key) × (m.from ≡ page)) ms → AnyByRecursion (λ m. key ≡ m.0) (placed_at (left_of heads ms))
   among_left key page [] some is = is
   among_left key page (m ∷ ms) some is =
       elim (is_left heads m) as (λ b. is_left heads m ≡ b → AnyByRecursion (λ x. key ≡ x.0) (placed_at (cond b (m ∷ left_of heads ms) (left_of heads ms)))) [
@@ -111,7 +115,8 @@ module _ (heads : List ℕ) where
       ] refl
     where
       dead : (m : Move) (page : ℕ) → m.from ≡ page → 0 < slice_index heads page → is_left heads m ≡ false → ⊥
-      dead m page same some not_left = let low : slice_index heads m.from ≤ 0 = ltb-false 0 (slice_index heads m.from) not_left in let here : 0 < slice_index heads m.from = subst (λ x. 0 < slice_index heads x) (sym same) some in omega (arith, low, here)
+      dead m page same some not_left = let low : slice_index heads m.from ≤ 0 = ltb-false 0
+          (slice_index heads m.from) not_left in let here : 0 < slice_index heads m.from = subst (λ x. 0 < slice_index heads x) (sym same) some in omega (arith, low, here)
 
 module _ (shape : Shape) (c : Course) (moves : List Move) (page heads : List ℕ) (flash : Flash) (es : List (Key × Place)) (is : IsCopied shape c moves page heads flash es) where
   abbrev n : ℕ
@@ -184,7 +189,8 @@ may_move shape c moves page heads flash root found blocks is unnamed among lie f
     }
 
 -- each of their entries may be in a journal page
-pub entries_are : (shape : Shape) (c : Course) (flash : Flash) (es : List (Key × Place)) (heads : List ℕ) (ms : List Move) → AllByRecursion (IsMove shape c flash es) ms → AllByRecursion (IsEntry shape) (entries_of (placed_at (left_of heads ms)))
+pub entries_are : (shape : Shape) (c : Course) (flash : Flash) (es : List (Key × Place)) (heads : List ℕ) (ms : List Move)
+    → AllByRecursion (IsMove shape c flash es) ms → AllByRecursion (IsEntry shape) (entries_of (placed_at (left_of heads ms)))
 entries_are shape c flash es heads [] all = tt
 entries_are shape c flash es heads (m ∷ ms) all =
     let rest = entries_are shape c flash es heads ms all.1 in

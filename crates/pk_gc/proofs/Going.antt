@@ -11,7 +11,7 @@ use Rattle.pk_base.specs.Key.{Key, IsKey, key_cmp}
 use Rattle.pk_base.specs.Shape.{Shape, charge, dense}
 use Rattle.pk_base.specs.Page.{page_at}
 use Rattle.pk_base.specs.Entry.{Place}
-use Rattle.pk_base.specs.EntryBytes.{IsPlace}
+use Rattle.pk_base.specs.EntryChecks.{IsPlace}
 use Rattle.pk_segfmt.specs.Head.{IsHead}
 use Rattle.pk_segfmt.specs.Value.{head_bytes}
 use Rattle.pk_segfmt.specs.Stored.{page_of}
@@ -25,8 +25,9 @@ use Rattle.pk_gc.specs.State.{source, unseen, live_from, live_unseen}
 use Rattle.pk_gc.specs.Running.{IsWholeAt}
 use Rattle.pk_gc.specs.Going.{NextIsValue}
 use Rattle.pk_gc.proofs.Finishing.{begins, begun}
-use Rattle.pk_gc.proofs.Ending.{head_found, found_page}
+use Rattle.pk_gc.proofs.Ending.{head_found}
 use Rattle.pk_gc.proofs.Counting.{live_begins}
+use Rattle.pk_moves.proofs.Emptying.{found_page}
 
 found_all : (P : Key × Place → Type 0) (key : Key) (place : Place) (es : List (Key × Place)) → AllByRecursion P es → find key_cmp key es ≡ Some place → P (key, place)
 found_all P key place [] all found = cc
@@ -37,7 +38,8 @@ found_all P key place (e ∷ es) all found =
     ] refl found
 
 -- two values with a common page are one
-common : (shape : Shape) (a b : Key) (p q : Place) (es : List (Key × Place)) (k : ℕ) → AreApart shape es → find key_cmp a es ≡ Some p → find key_cmp b es ≡ Some q → IsPageOf shape k p → IsPageOf shape k q → (a ≡ b) × (p ≡ q)
+common : (shape : Shape) (a b : Key) (p q : Place) (es : List (Key × Place)) (k : ℕ) → AreApart shape es
+    → find key_cmp a es ≡ Some p → find key_cmp b es ≡ Some q → IsPageOf shape k p → IsPageOf shape k q → (a ≡ b) × (p ≡ q)
 common shape a b p q [] k apart of_a of_b in_p in_q = cc
 common shape a b p q (e ∷ es) k apart of_a of_b in_p in_q =
     elim (eq_by_cmp key_cmp a e.0) as (λ x. eq_by_cmp key_cmp a e.0 ≡ x → cond x (Some e.1) (find key_cmp a es) ≡ Some p → (a ≡ b) × (p ≡ q)) [
@@ -102,7 +104,8 @@ next_is_value shape c moves held heads flash es page runs are sparse done behind
           alone = λ q p found same. let one = common shape q key p place es page are.apart found was.found (starts p same) (starts place page_is) in (one.0, ap (λ (x : Place). x.len) one.1);
           first = λ q p found low high. elim (cases_lt p.page page) [
             | inl before ↦ absurd (let none = dead p.page low before in let head = begun shape runs.is_shape q p es found in let there = are.heads_are p.page in omega (arith, none, head, there))
-            | inr after ↦ let one = common shape q key p place es p.page are.apart found was.found (starts p refl) (omega (arith, after, page_is), omega (arith, high, page_is)) in ap (λ (x : Place). x.page) one.1 ∙ page_is
+            | inr after ↦ let one = common shape q key p place es p.page are.apart found was.found (starts p refl)
+                (omega (arith, after, page_is), omega (arith, high, page_is)) in ap (λ (x : Place). x.page) one.1 ∙ page_is
           ];
         },
         count,

@@ -138,7 +138,8 @@ runs_deleted shape c moves page flash es key runs =
     page_without : (xs : List (Key × Place)) (k : ℕ) → IsValuePage shape (filter (λ e. not (eq_by_cmp key_cmp key e.0)) xs) k → IsValuePage shape xs k
     page_without [] k is = is
     page_without (e ∷ xs) k is =
-        elim (eq_by_cmp key_cmp key e.0) as (λ b. IsValuePage shape (cond (not b) (e ∷ filter (λ x. not (eq_by_cmp key_cmp key x.0)) xs) (filter (λ x. not (eq_by_cmp key_cmp key x.0)) xs)) k → IsValuePage shape (e ∷ xs) k) [
+        elim (eq_by_cmp key_cmp key e.0) as (λ b. IsValuePage shape (cond (not b) (e ∷ filter (λ x. not (eq_by_cmp key_cmp key x.0)) xs) (filter (λ x. not (eq_by_cmp key_cmp key x.0)) xs)) k
+        → IsValuePage shape (e ∷ xs) k) [
           | true ↦ λ i. inr (page_without xs k i)
           | false ↦ λ i. elim i [ inl here ↦ inl here | inr there ↦ inr (page_without xs k there) ]
         ] is

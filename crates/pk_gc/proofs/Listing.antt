@@ -14,7 +14,8 @@ entries_left heads ms = entries_of (placed_at (left_of heads ms))
 pub left_push : (heads : List ℕ) (ms : List Move) (m : Move) → entries_left heads (ms ++ m ∷ []) ≡ entries_left heads ms ++ entries_left heads (m ∷ [])
 left_push heads [] m = refl
 left_push heads (x ∷ ms) m =
-    elim (is_left heads x) as (λ b. entries_of (placed_at (cond b (x ∷ left_of heads (ms ++ m ∷ [])) (left_of heads (ms ++ m ∷ [])))) ≡ entries_of (placed_at (cond b (x ∷ left_of heads ms) (left_of heads ms))) ++ entries_left heads (m ∷ [])) [
+    elim (is_left heads x) as (λ b. entries_of (placed_at (cond b (x ∷ left_of heads (ms ++ m ∷ [])) (left_of heads (ms ++ m ∷ []))))
+    ≡ entries_of (placed_at (cond b (x ∷ left_of heads ms) (left_of heads ms))) ++ entries_left heads (m ∷ [])) [
       | true ↦ ap (λ (es : List Entry). moved_entry x ∷ es) (left_push heads ms m)
       | false ↦ left_push heads ms m
     ]
@@ -35,7 +36,8 @@ pub live_next : (start before after : Values) (ms : List Move) (i : ℕ) (m : Mo
     → before ≡ record start { heads = heads_all start.heads (take i ms) } → after ≡ record before { heads = heads_behind before.heads m }
     → after ≡ record start { heads = heads_all start.heads (take (i + 1) ms) }
 live_next start before after ms i m less is was now =
-    let next : heads_behind (heads_all start.heads (take i ms)) m ≡ heads_all start.heads (take (i + 1) ms) = sym (ap (λ (xs : List Move). heads_all start.heads xs) (take_next ms i m less is) ∙ heads_push start.heads (take i ms) m) in
+    let next : heads_behind (heads_all start.heads (take i ms)) m ≡ heads_all start.heads (take (i + 1) ms) = sym
+    (ap (λ (xs : List Move). heads_all start.heads xs) (take_next ms i m less is) ∙ heads_push start.heads (take i ms) m) in
     now ∙ (λ j. record (was j) { heads = heads_behind (was j).heads m }) ∙ (λ j. record start { heads = next j })
 
 pub table_next : (start before : Values) (old table after : Table) (ms : List Move) (i : ℕ) (m : Move) → i < length ms → m ≡ get_or ms i m

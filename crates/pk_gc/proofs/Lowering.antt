@@ -72,11 +72,13 @@ live_at_start shape heads victim output =
 
 -- ---- the victim
 
-chosen_pages : (shape : Shape) (live : Values) (front : Option OpenBlock) (live' : Values) (front' : Option OpenBlock) (b : ℕ) → Chooses shape live front live' front' b → live'.block_pages ≡ live.block_pages
+chosen_pages : (shape : Shape) (live : Values) (front : Option OpenBlock) (live' : Values) (front' : Option OpenBlock) (b : ℕ)
+    → Chooses shape live front live' front' b → live'.block_pages ≡ live.block_pages
 chosen_pages shape live front live' front' b is = elim is.1 [ inl same ↦ ap (λ (v : Values). v.block_pages) same.0 | inr closed ↦ ap (λ (v : Values). v.block_pages) closed.0 ]
 
 -- it is a block for values
-victim_held : (shape : Shape) (live : Values) (front : Option OpenBlock) (pool : Blocks) (live' : Values) (front' : Option OpenBlock) (b : ℕ) → IsFull shape live front pool → Chooses shape live front live' front' b → HoldsValues pool b
+victim_held : (shape : Shape) (live : Values) (front : Option OpenBlock) (pool : Blocks) (live' : Values) (front' : Option OpenBlock) (b : ℕ)
+    → IsFull shape live front pool → Chooses shape live front live' front' b → HoldsValues pool b
 victim_held shape live front pool live' front' b full is = elim is.1 [
   | inl same ↦ full.closed_owned b (subst (λ (v : Values). IsClosed v b) same.0 is.0.least.closed)
   | inr closed ↦ behind front full.open_owned (subst (λ (v : Values). IsClosed v b) closed.0 is.0.least.closed)
@@ -108,8 +110,9 @@ module _ (job : JobState) (h : Hands) (old : BoardState) (job' : JobState) (h' :
       lowers_by left (unready h.pool.states) (left_behind job' h') (unready h'.pool.states) (left_behind next hands) (unready hands.pool.states)
       (λ i. left_behind (job_is i) (hands_are i)) (ap (λ (x : Hands). unready x.pool.states) hands_are) none less
 
-  -- a block is given back
-  given : (left victim : ℕ) (next : JobState) (hands : Hands) → next.phase ≡ Idle → hands.pool ≡ with_state h.pool victim Free → job' ≡ next → h' ≡ hands → (owned : IsOwned h.pool victim) → 0 < left → LowersFrom left
+  -- a block is freed
+  given : (left victim : ℕ) (next : JobState) (hands : Hands) → next.phase ≡ Idle → hands.pool ≡ with_state h.pool victim Free
+      → job' ≡ next → h' ≡ hands → (owned : IsOwned h.pool victim) → 0 < left → LowersFrom left
   given left victim next hands idle pool_is job_is hands_are owned some =
       let same : unready hands.pool.states ≡ unready h.pool.states = ap (λ (p : Blocks). unready p.states) pool_is ∙ given_back h.pool.states victim owned.0 owned.1 in
       let none : left_behind next hands ≡ 0 = ap (λ (p : Phase). unwrap_or (left_in next.shape hands.live.heads p) 0) idle in
@@ -122,7 +125,8 @@ module _ (job : JobState) (h : Hands) (old : BoardState) (job' : JobState) (h' :
     tries : (r : Reclaimed) → Tries c job h old job' h' new r → r ≢ NeedsFreeze → LowersFrom left
     tries Worked is free =
         let made = is.finishes in
-        become left (record job { phase = Commits c.victim; entries = entries_left heads job.moves; page = job'.page }) _ made.job_is made.hands (omega arith) (more (c.left + live_unseen job.shape heads c) _ (unready h.pool.states))
+        become left (record job { phase = Commits c.victim; entries = entries_left heads job.moves; page = job'.page }) _ made.job_is made.hands
+        (omega arith) (more (c.left + live_unseen job.shape heads c) _ (unready h.pool.states))
       where
         more : (pages less u : ℕ) → 2 + u < (pages - less) + pages + 2 * 0 + 3 + u
         more pages less u = omega arith
@@ -135,23 +139,27 @@ module _ (job : JobState) (h : Hands) (old : BoardState) (job' : JobState) (h' :
     goes_on : (r : Reclaimed) → ReclaimGoesOn c job h old job' h' new r → r ≢ NeedsFreeze → LowersFrom left
     goes_on r (inl copy) free = elim copy.2 [
       | inl programs ↦
-          become left (record job { phase = Copies (programmed c); entries = [] }) h programs.job_is copy.1 (omega arith) (let falls = program_falls job.shape heads c programs.held (on.runs.held_is programs.held).0 in omega (arith, falls))
+          become left (record job { phase = Copies (programmed c); entries = [] }) h programs.job_is copy.1 (omega arith)
+          (let falls = program_falls job.shape heads c programs.held (on.runs.held_is programs.held).0 in omega (arith, falls))
       | inr others ↦ elim others [
         | inl reads ↦
-            become left (record job { phase = Copies (read_next c); entries = []; page = job'.page }) h reads.job_is copy.1 (omega arith) (let falls = read_falls job.shape heads c reads.free reads.some in omega (arith, falls))
+            become left (record job { phase = Copies (read_next c); entries = []; page = job'.page }) h reads.job_is copy.1
+            (omega arith) (let falls = read_falls job.shape heads c reads.free reads.some in omega (arith, falls))
         | inr begins ↦
             let next = on.next begins.whole begins.page begins.inside.0 begins.inside.1 begins.head begins.first in
             let key = next.1.0 in
             let place = next.1.1 in
             let is = next.1.2 in
             let count = next.1.3 in
-            let falls = begin_falls job.shape heads c begins.page (charge job.shape place.len) begins.free begins.whole (charge_some job.shape on.runs.is_shape place.len) begins.inside.0 is.inside count in
+            let falls = begin_falls job.shape heads c begins.page (charge job.shape place.len) begins.free begins.whole
+            (charge_some job.shape on.runs.is_shape place.len) begins.inside.0 is.inside count in
             become left _ h (begins.job_is on.es key place is) copy.1 (omega arith) (omega (arith, falls))
       ]
     ]
     goes_on r (inr at_end) free = tries r at_end free
 
-  begins_by : job.phase ≡ Idle → (r : Reclaimed) → IsFull job.shape h.live h.front h.pool → Begins job h.live h.front h.pool old job' h'.live h'.front h'.pool new r → r ≢ NeedsFreeze → LowersFrom (whole_reclaim job.shape - 2)
+  begins_by : job.phase ≡ Idle → (r : Reclaimed) → IsFull job.shape h.live h.front h.pool
+      → Begins job h.live h.front h.pool old job' h'.live h'.front h'.pool new r → r ≢ NeedsFreeze → LowersFrom (whole_reclaim job.shape - 2)
   begins_by idle Worked full is free =
       let left' : ℕ = steps_left job.shape h'.live.heads (started is.victim is.output) in
       let n : h'.live.block_pages ≡ job.shape.block_pages = chosen_pages job.shape h.live h.front h'.live h'.front is.victim is.chooses ∙ full.block_pages_is in
@@ -177,5 +185,7 @@ step_lowers job h old job' h' new r can steps free = by_phase job.phase refl can
     by_phase Idle idle full begun = begins_by job h old job' h' new idle r full begun.0 free
     by_phase (Copies c) is on gone = goes_on job h old job' h' new c on r gone free
     by_phase (Commits victim) is half ends =
-        become job h old job' h' new (steps_of (reclaim_rest 0 false 2)) (record job { phase = GivesBack victim; entries = []; page = job'.page }) (record h { epoch = h'.epoch }) ends.job_is ends.hands (omega arith) (omega arith)
-    by_phase (GivesBack victim) is owned gives = given job h old job' h' new (steps_of (reclaim_rest 0 false 1)) victim (record job { phase = Idle; entries = [] }) _ refl refl gives.job_is gives.hands owned (omega arith)
+        become job h old job' h' new (steps_of (reclaim_rest 0 false 2)) (record job { phase = GivesBack victim; entries = []; page = job'.page })
+        (record h { epoch = h'.epoch }) ends.job_is ends.hands (omega arith) (omega arith)
+    by_phase (GivesBack victim) is owned gives = given job h old job' h' new (steps_of (reclaim_rest 0 false 1)) victim
+        (record job { phase = Idle; entries = [] }) _ refl refl gives.job_is gives.hands owned (omega arith)

@@ -6,7 +6,7 @@ use Rattle.pk_base.specs.Shape.{Shape, charge, dense}
 use Rattle.pk_base.specs.Page.{Flash}
 use Rattle.pk_base.specs.Entry.{Entry, Place}
 use Rattle.pk_nand.specs.BoardState.{BoardState}
-use Rattle.pk_nand.specs.Calls.{after_read, ReadFailed}
+use Rattle.pk_nand.specs.Operations.{after_read, ReadFailed}
 use Rattle.pk_nand.specs.declared.types.Fault.{Fault}
 use Rattle.pk_nand.specs.declared.types.Fault.TheVariants.{Reading, Stopped}
 use Rattle.pk_live.specs.Values.{Values, IsClosed, block_sum}

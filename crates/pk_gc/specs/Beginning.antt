@@ -3,7 +3,7 @@ use Rattle.std.specs.Prelude.{◌≡◌, ◌⊎◌, ℕ, ◌<◌, ◌≤◌, [],
 use Rattle.pk_base.specs.declared.sizes.TheConstants.{ROOT_BLOCKS}
 use Rattle.pk_plan.specs.declared.owner.Owner.TheVariants.{Values as for_values}
 use Rattle.pk_nand.specs.BoardState.{BoardState}
-use Rattle.pk_nand.specs.Calls.{IsErasedBlock}
+use Rattle.pk_nand.specs.Operations.{IsErasedBlock}
 use Rattle.pk_pool.specs.declared.state.BlockState.TheVariants.{Free, Owned}
 use Rattle.pk_pool.specs.Blocks.{Blocks, IsSpare, with_state}
 use Rattle.pk_pool.specs.Taking.{ReachesIn, TakesReady, ErasesFree}
@@ -28,7 +28,7 @@ pub record Starts (job : JobState) (live : Values) (front : Option OpenBlock) (p
   pub cuts : ReachesIn p.shape output old new
   pub job_is : job' ≡ record job { phase = Copies (started victim output); moves = []; entries = [] }
 
--- The victim has no live page, and was given back.
+-- The victim has no live page, and was freed.
 pub record GivesBack (job : JobState) (live : Values) (front : Option OpenBlock) (p : Blocks) (old : BoardState) (job' : JobState) (live' : Values) (front' : Option OpenBlock) (q : Blocks) (new : BoardState) : Type 0 where
   pub victim : ℕ
   pub chosen : Values

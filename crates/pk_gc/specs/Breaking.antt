@@ -1,7 +1,8 @@
 -- A step of a reclaim whose flash operation failed.
 use Rattle.std.specs.Prelude.{◌≡◌, ◌⊎◌, ℕ, ◌+◌, ◌*◌, true, false}
 use Rattle.pk_nand.specs.BoardState.{BoardState}
-use Rattle.pk_nand.specs.Calls.{ReadFailed, ProgramFailed}
+use Rattle.pk_nand.specs.Calls.{ProgramFailed}
+use Rattle.pk_nand.specs.Operations.{ReadFailed}
 use Rattle.pk_nand.specs.declared.types.Fault.{Fault}
 use Rattle.pk_nand.specs.declared.types.Fault.TheVariants.{Reading, Stopped}
 use Rattle.pk_pool.specs.Taking.{FailsToErase}
@@ -34,7 +35,7 @@ pub record FailsToCommit (c : Course) (job : JobState) (h : Hands) (old new : Bo
   pub dead : AreDead h.live.heads (source job.shape c) (c.victim * job.shape.block_pages + job.shape.block_pages)
   pub adds : FailsToAdd (entries_left h.live.heads job.moves) h.active h.epoch old new
 
--- the erase of the output failed; or a read, or the program of a copied page or of the moves; or their second program; a block is given back
+-- the erase of the output failed; or a read, or the program of a copied page or of the moves; or their second program; a block is freed
 -- without a call
 abbrev pub BreaksIn : Phase → JobState → Hands → BoardState → BoardState → Fault → Type 0
 BreaksIn Idle job h old new e = (e ≡ Stopped) × FailsToErase h.pool old new

@@ -6,7 +6,7 @@ use Rattle.pk_base.specs.Key.{Key, key_cmp}
 use Rattle.pk_base.specs.Shape.{Shape, buffer, data_blocks}
 use Rattle.pk_base.specs.Page.{Flash}
 use Rattle.pk_base.specs.Entry.{Place}
-use Rattle.pk_base.specs.EntryBytes.{IsPlace}
+use Rattle.pk_base.specs.EntryChecks.{IsPlace}
 use Rattle.pk_base.specs.Firsts.{firsts}
 use Rattle.pk_rootfmt.specs.Root.{Root, named}
 use Rattle.pk_model.specs.Found.{Found}

@@ -6,7 +6,7 @@ use Rattle.pk_base.specs.Key.{Key, IsKey, key_cmp}
 use Rattle.pk_base.specs.Shape.{Shape, charge, dense}
 use Rattle.pk_base.specs.Page.{Flash, IsFlash, page_at}
 use Rattle.pk_base.specs.Entry.{Place}
-use Rattle.pk_base.specs.EntryBytes.{IsPlace}
+use Rattle.pk_base.specs.EntryChecks.{IsPlace}
 use Rattle.pk_segfmt.specs.Value.{value_at}
 use Rattle.pk_live.specs.Lives.{head_of}
 use Rattle.pk_moves.specs.Moves.{AreApart}

@@ -16,7 +16,7 @@ left_before job h = left_of (whole_reclaim job.shape - 2) (left_in job.shape h.l
 abbrev pub left_behind : JobState → Hands → ℕ
 left_behind job h = unwrap_or (left_in job.shape h.live.heads job.phase) 0
 
--- a step that needs no freeze lowers what remains, if a block that is taken counts twice
+-- a step that needs no freeze lowers what remains, in which a block that is taken counts twice
 abbrev pub StepLowers : Type 0
 StepLowers =
     (job : JobState) (h : Hands) (old : BoardState) (job' : JobState) (h' : Hands) (new : BoardState) (r : Reclaimed) → CanStep job h old.pages

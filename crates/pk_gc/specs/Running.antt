@@ -7,7 +7,7 @@ use Rattle.pk_base.specs.Key.{Key, IsKey, key_cmp}
 use Rattle.pk_base.specs.Shape.{Shape, IsShape, charge, dense}
 use Rattle.pk_base.specs.Page.{Flash, page_at, erased, whole}
 use Rattle.pk_base.specs.Entry.{Place}
-use Rattle.pk_base.specs.EntryBytes.{IsPlace}
+use Rattle.pk_base.specs.EntryChecks.{IsPlace}
 use Rattle.pk_seg.specs.Stored.{HasHead}
 use Rattle.pk_model.specs.Laws.{AnyByRecursion}
 use Rattle.pk_steps.specs.Under.{IsValuePage}

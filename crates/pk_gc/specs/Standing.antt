@@ -14,7 +14,7 @@ use Rattle.pk_gc.specs.State.{JobState}
 use Rattle.pk_gc.specs.Running.{IsRunning, IsSparse}
 use Rattle.pk_gc.specs.Stepping.{runs_in}
 
--- the blocks for values that are neither open nor closed: the output of a copy, and from the commit on the victim until it is given back
+-- the blocks for values that are neither open nor closed: the output of a copy, and from the commit on the victim until it is freed
 abbrev pub held_blocks : Phase → List ℕ
 held_blocks Idle = []
 held_blocks (Copies c) = c.output ∷ []

@@ -4,10 +4,11 @@ use Rattle.pk_base.specs.Key.{Key}
 use Rattle.pk_base.specs.Shape.{charge, dense, page_entries}
 use Rattle.pk_base.specs.Page.{Flash}
 use Rattle.pk_base.specs.Entry.{Place}
-use Rattle.pk_base.specs.EntryBytes.{IsEntry}
+use Rattle.pk_base.specs.EntryChecks.{IsEntry}
 use Rattle.std.specs.List.{AllByRecursion}
 use Rattle.pk_nand.specs.BoardState.{BoardState}
-use Rattle.pk_nand.specs.Calls.{after_read, after_program}
+use Rattle.pk_nand.specs.Calls.{after_program}
+use Rattle.pk_nand.specs.Operations.{after_read}
 use Rattle.pk_live.specs.Values.{Values, IsClosed, block_sum}
 use Rattle.pk_buf.specs.Table.{Table}
 use Rattle.pk_jrn.specs.Epochs.{JournalEpoch}
@@ -58,7 +59,7 @@ handed_over c h = record h {
   front = Some (record { block = c.output; used = c.used });
 }
 
--- the hands if the victim is given back
+-- the hands if the victim is freed
 abbrev pub victim_given : ℕ → Hands → Hands
 victim_given victim h = record h { pool = with_state h.pool victim Free }
 
@@ -68,7 +69,7 @@ pub record CommitsMoves (c : Course) (job : JobState) (h : Hands) (old : BoardSt
   pub adds : Adds (entries_left h.live.heads job.moves) h.active h.epoch old h'.epoch new
   pub hands : h' ≡ record (handed_over c (moved_in job h)) { epoch = h'.epoch }
 
--- No move remained, and the victim was given back without a flash operation.
+-- No move remained, and the victim was freed without a flash operation.
 pub record EndsWithout (c : Course) (job : JobState) (h : Hands) (old : BoardState) (job' : JobState) (h' : Hands) (new : BoardState) : Type 0 where
   pub job_is : job' ≡ record job { phase = Idle; entries = [] }
   pub none : entries_left h.live.heads job.moves ≡ []
@@ -99,7 +100,7 @@ pub record IsHalfCommitted (job : JobState) (e : JournalEpoch) (former flash : F
   pub each : AllByRecursion (IsEntry job.shape) job.entries
   pub half : IsHalfMade e job.entries former flash
 
--- a reclaim may start, its copy can go on, the commit of its moves can be made whole, or its victim can be given back
+-- a reclaim may start, its copy can go on, the commit of its moves can be made whole, or its victim can be freed
 abbrev pub CanStepIn : Phase → JobState → Hands → Flash → Type 0
 CanStepIn Idle job h flash = IsFull job.shape h.live h.front h.pool
 CanStepIn (Copies c) job h flash = CanGoOn c job h flash
@@ -157,7 +158,7 @@ pub record EndsMoves (victim : ℕ) (job : JobState) (h : Hands) (old : BoardSta
   pub ends : EndsCommit h.epoch job.entries old h'.epoch new
   pub hands : h' ≡ record h { epoch = h'.epoch }
 
--- the victim is given back
+-- the victim is freed
 pub record GivesVictim (victim : ℕ) (job : JobState) (h : Hands) (old : BoardState) (job' : JobState) (h' : Hands) (new : BoardState) (r : Reclaimed) : Type 0 where
   pub answer : r ≡ Ended
   pub job_is : job' ≡ record job { phase = Idle; entries = [] }

@@ -8,9 +8,9 @@ pub enum Phase {
     /// The live values of a block are copied, and then their moves are committed.
     Copies(Course),
     /// The first page of the moves' commit is programmed, and its second page is next. This block, in which no value is live any
-    /// more, is to be given back after it.
+    /// more, is to be freed after it.
     Commits(u32),
-    /// The commit of the moves is made. This block, in which no value is live any more, is to be given back.
+    /// The commit of the moves is made. This block, in which no value is live any more, is to be freed.
     GivesBack(u32),
 }
 

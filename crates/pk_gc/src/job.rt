@@ -4,7 +4,8 @@ ghost use Rattle.std.specs.Prelude.{Some, true, false, MatchOption, IfOk, IfErr,
 ghost use Rattle.std.specs.Prelude.{length, slice_set};
 ghost use Rattle.pk_base.specs.Shape as spec;
 ghost use Rattle.pk_base.specs.Page.{Flash};
-ghost use Rattle.pk_nand.specs.Calls.{IsReady, after_read};
+ghost use Rattle.pk_nand.specs.Calls.{IsReady};
+ghost use Rattle.pk_nand.specs.Operations.{after_read};
 ghost use Rattle.pk_nand.specs.declared.types.Fault.TheVariants.{Stopped};
 ghost use Rattle.pk_live.specs.Values.{IsClosed, count_of};
 ghost use Rattle.pk_live.specs.OpenBlocks.{closed_with};
@@ -211,7 +212,7 @@ impl<A: Region> ReclaimJob<A> {
         }
     }
 
-    // Chooses the victim. One without live pages is given back at once, otherwise a block is taken
+    // Chooses the victim. One without live pages is freed immediately, otherwise a block is taken
     // for the copies.
     fn begin<B: Nand>(
         &mut self,
@@ -511,7 +512,7 @@ impl<A: Region> ReclaimJob<A> {
     }
 
     // The remaining moves were made, and the output takes the next values. If none remained, the
-    // victim is given back at once.
+    // victim is freed immediately.
     fn finish(
         &mut self,
         committed: Committed,

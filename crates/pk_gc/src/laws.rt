@@ -61,7 +61,7 @@ pub fn next_value()
     ensures { NextIsValue }
 {}
 
-/// Each step that needs no freeze lowers what remains, if a block that is taken counts twice.
+/// Each step that needs no freeze lowers what remains, in which a block that is taken counts twice.
 pub fn lowers()
     ensures steps { StepLowers }
     ensures live { LiveOfBlock }

@@ -1,6 +1,6 @@
 //! Reclaims: the live values of a block are copied to another one, one commit of the journal takes
-//! their moves, and the block is given back, by steps of at most one flash operation. The map of
-//! the flash is the same at every cut of each step.
+//! their moves, and the block is freed, in steps of at most one flash operation. The map of the
+//! flash is the same at every cut of each step.
 #![tactic(auto)]
 
 mod course;

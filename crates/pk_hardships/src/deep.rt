@@ -1,4 +1,4 @@
-//! Drives of the smallest shapes cut three sessions deep, if each session begins with a freeze.
+//! Drives of the smallest shapes that are cut in three sessions, each of which begins with a freeze.
 //!
 //! An epoch that was found at opening takes no entries, so the first entry of a session needs a
 //! freeze. Each session retrieves all keys and overwrites one of them: on a full drive it begins

@@ -12,7 +12,7 @@ use std::alloc::{AllocError, Global};
 pub enum Reading {
     NotFormatted,
     Damaged(u32),
-    /// The entries that count of the keys that are there, rising by key.
+    /// The entries that count of the keys that exist, rising by key.
     Map(Vec<Item>),
 }
 

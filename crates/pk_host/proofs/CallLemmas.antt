@@ -1,5 +1,6 @@
 -- What each call answers, from the reply of its command.
-use Rattle.std.proofs.Common.{◌≡◌, ℕ, ◌≤◌, min, List, [], length, take, Bool, true, false, ◌==◌, if◌then◌else◌, Option, Some, None, Result, Ok, Err, IfOk, OnOk, is_some, unwrap_or, refl, sym, ap, subst, ◌∙◌, arith}
+use Rattle.std.proofs.Common.{◌≡◌, ℕ, ◌≤◌, min, List, [], length, take, Bool, true, false, ◌==◌, if◌then◌else◌, Option, Some, None, Result, Ok, Err, IfOk, OnOk, is_some, unwrap_or, refl, sym, ap}
+use Rattle.std.proofs.Common.{subst, ◌∙◌, arith}
 use Rattle.std.proofs.lemmas.Bool.{eqb-true}
 use Rattle.std.proofs.lemmas.List.{length-take-le, length-take}
 use Rattle.std.specs.FinMap.{get, contains_key, insert, remove}
@@ -16,11 +17,13 @@ use Rattle.pk_model.specs.Answer.{effect, success}
 use Rattle.pk_host.specs.declared.types.HostError.{HostError}
 use Rattle.pk_host.specs.declared.types.HostError.TheVariants.{Refused}
 use Rattle.pk_host.specs.Port.{PortState, Replies}
-use Rattle.pk_host.specs.Calls.{of_bytes, of_key, retrieve_of, delete_of, exist_of, existed, found, Tests, Deletes, Leaves, Fetches, IsFront}
+use Rattle.pk_host.specs.Calls.{of_bytes, of_key, retrieve_of, delete_of, exist_of}
+use Rattle.pk_host.specs.Outcomes.{existed, found, Tests, Deletes, Leaves, Fetches, IsFront}
 use Rattle.pk_host.proofs.CommandLemmas.{there, missing, same_map, success_served, key-of_key, delete_by, exist_by, retrieve_by, store_by}
 
 -- a success and a missing key are the two answers
-pub found_cases : {X : Type 0} (hit miss : X) (a : Reply) (r : Result X HostError) (P : X → Type 0) → r ≡ found hit miss a → (a.status ≡ 0 → P hit) → (a.status ≡ KEY_DOES_NOT_EXIST → P miss) → IfOk r P
+pub found_cases : {X : Type 0} (hit miss : X) (a : Reply) (r : Result X HostError) (P : X → Type 0)
+    → r ≡ found hit miss a → (a.status ≡ 0 → P hit) → (a.status ≡ KEY_DOES_NOT_EXIST → P miss) → IfOk r P
 found_cases hit miss a r P e at_hit at_miss = subst (λ x. IfOk x P) (sym e) (
     elim (a.status == 0) as (λ b. (a.status == 0) ≡ b → IfOk (if b then Ok hit else if a.status == KEY_DOES_NOT_EXIST then Ok miss else Err (Refused a.status)) P) [
       | true ↦ λ z. at_hit (eqb-true a.status 0 z)
@@ -54,7 +57,8 @@ module _ (old new : PortState) (k : Key) (k' : List ℕ) (same : k' ≡ bytes_of
   pub delete_leaves : (r : Result Bool HostError) → Replies old new (of_bytes DELETE k' 0 0 []) a → r ≡ existed a → IfOk r (λ b. Deletes old new k b)
   delete_leaves r x e = found_cases true false a r (λ b. Deletes old new k b) e
       (λ zero m told. let s = (for_delete x).answers m told in
-      s.told ∙ ap (λ (n : Map). Some n) ((there old.shape old.limit s.frames m (delete_of k) Delete a s.left refl (delete_by old.shape old.limit m k h) zero s.stepped).1.leaves ∙ ap (remove m) (key_is DELETE)))
+      s.told ∙ ap (λ (n : Map). Some n)
+      ((there old.shape old.limit s.frames m (delete_of k) Delete a s.left refl (delete_by old.shape old.limit m k h) zero s.stepped).1.leaves ∙ ap (remove m) (key_is DELETE)))
       (λ none m told. let s = (for_delete x).answers m told in
       s.told ∙ ap (λ (n : Map). Some n) (missing old.shape old.limit s.frames m (delete_of k) Delete a s.left refl (delete_by old.shape old.limit m k h) (λ own. refl) none s.stepped).1)
 

@@ -9,7 +9,8 @@ use Rattle.pk_nvme.specs.declared.status.TheConstants.{KEY_DOES_NOT_EXIST}
 use Rattle.pk_host.specs.declared.types.HostError.{HostError}
 use Rattle.pk_host.specs.declared.types.HostError.TheVariants.{Refused, Port, Memory}
 use Rattle.pk_host.specs.Port.{PortState, Took}
-use Rattle.pk_host.specs.Calls.{Gives, IsCause, Leaves, list_of, retrieve_of, retrieved}
+use Rattle.pk_host.specs.Calls.{retrieve_of}
+use Rattle.pk_host.specs.Outcomes.{Gives, IsCause, Leaves, list_of, retrieved}
 use Rattle.pk_host.specs.Listing.{listed_by}
 use Rattle.pk_host.proofs.CommandLemmas.{only_fault, keyed_fault, list_by, retrieve_by}
 
@@ -20,7 +21,8 @@ pub list_cause : (old new : PortState) (from : Key) (page : List Key) (e : HostE
     → Gives old new (list_of from) (listed_by page) (Err e) → IsCause old new (listed_by []) e
 list_cause old new from page e short (inr fault) = subst (IsCause old new (listed_by [])) (sym (err_same e Port fault.0)) fault.1
 list_cause old new from page e short (inl (a, x, is)) =
-    elim (a.status == 0) as (λ b. (a.status == 0) ≡ b → ◌≡◌ {A = Result Bool HostError} (Err e) (if b then Ok (nat_lt 0 (length page)) else Err (Refused a.status)) → IsCause old new (listed_by []) e) [
+    elim (a.status == 0) as (λ b. (a.status == 0) ≡ b
+    → ◌≡◌ {A = Result Bool HostError} (Err e) (if b then Ok (nat_lt 0 (length page)) else Err (Refused a.status)) → IsCause old new (listed_by []) e) [
       | true ↦ λ z h. absurd (let clash : ◌≡◌ {A = Result Bool HostError} (Err e) (Ok (nat_lt 0 (length page))) = h in cc)
       | false ↦ λ z h. subst (IsCause old new (listed_by [])) (sym (err_same e (Refused a.status) h)) (record {
         reply = a;
@@ -34,19 +36,22 @@ list_cause old new from page e short (inl (a, x, is)) =
 pub retrieve_cause : (old new : PortState) (k : Key) (size : ℕ) (e : HostError) → IsKey k → Gives old new (retrieve_of k size) retrieved (Err e) → IsCause old new retrieved e
 retrieve_cause old new k size e key (inr fault) = subst (IsCause old new retrieved) (sym (err_same e Port fault.0)) fault.1
 retrieve_cause old new k size e key (inl (a, x, is)) =
-    elim (a.status == 0) as (λ b. (a.status == 0) ≡ b → ◌≡◌ {A = Result (Option ℕ) HostError} (Err e) (if b then Ok (Some a.result) else if a.status == KEY_DOES_NOT_EXIST then Ok None else Err (Refused a.status)) → IsCause old new retrieved e) [
+    elim (a.status == 0) as (λ b. (a.status == 0) ≡ b
+    → ◌≡◌ {A = Result (Option ℕ) HostError} (Err e) (if b then Ok (Some a.result) else if a.status == KEY_DOES_NOT_EXIST then Ok None else Err (Refused a.status)) → IsCause old new retrieved e) [
       | true ↦ λ z h. absurd (let clash : ◌≡◌ {A = Result (Option ℕ) HostError} (Err e) (Ok (Some a.result)) = h in cc)
-      | false ↦ λ z g. elim (a.status == KEY_DOES_NOT_EXIST) as (λ b. (a.status == KEY_DOES_NOT_EXIST) ≡ b → ◌≡◌ {A = Result (Option ℕ) HostError} (Err e) (if b then Ok None else Err (Refused a.status)) → IsCause old new retrieved e) [
-        | true ↦ λ y h. absurd (let clash : ◌≡◌ {A = Result (Option ℕ) HostError} (Err e) (Ok None) = h in cc)
-        | false ↦ λ y h. subst (IsCause old new retrieved) (sym (err_same e (Refused a.status) h)) (record {
-          reply = a;
-          refused = ap (λ b. if b then Ok (Some a.result) else if a.status == KEY_DOES_NOT_EXIST then Ok None else Err (Refused a.status)) z
-              ∙ ap (λ b. if b then Ok None else Err (Refused a.status)) y;
-          unread = x.unread;
-          told = λ m told.
-              let s = x.answers m told in keyed_fault old.shape old.limit s.frames m (retrieve_of k size) Retrieve a s.left refl (retrieve_by old.shape old.limit m k key size) (λ own. refl) z y s.stepped;
-        })
-      ] refl g
+      | false ↦ λ z g. elim (a.status == KEY_DOES_NOT_EXIST) as (λ b. (a.status == KEY_DOES_NOT_EXIST) ≡ b
+          → ◌≡◌ {A = Result (Option ℕ) HostError} (Err e) (if b then Ok None else Err (Refused a.status)) → IsCause old new retrieved e) [
+            | true ↦ λ y h. absurd (let clash : ◌≡◌ {A = Result (Option ℕ) HostError} (Err e) (Ok None) = h in cc)
+            | false ↦ λ y h. subst (IsCause old new retrieved) (sym (err_same e (Refused a.status) h)) (record {
+              reply = a;
+              refused = ap (λ b. if b then Ok (Some a.result) else if a.status == KEY_DOES_NOT_EXIST then Ok None else Err (Refused a.status)) z
+                  ∙ ap (λ b. if b then Ok None else Err (Refused a.status)) y;
+              unread = x.unread;
+              told = λ m told.
+                  let s = x.answers m told in keyed_fault old.shape old.limit s.frames m
+                  (retrieve_of k size) Retrieve a s.left refl (retrieve_by old.shape old.limit m k key size) (λ own. refl) z y s.stepped;
+            })
+          ] refl g
     ] refl is
 
 pub list_causes : (old new : PortState) (from : Key) (page : List Key) (r : Result Bool HostError) → length (bytes_of from) ≤ 16

@@ -16,7 +16,8 @@ use Rattle.pk_nvme.specs.declared.status.TheConstants.{CAPACITY_EXCEEDED, INVALI
 use Rattle.pk_nvme.specs.declared.opcode.TheConstants.{STORE, RETRIEVE, DELETE, EXIST}
 use Rattle.pk_model.specs.Answer.{check, late_of, live_after, refused, reply, reply_of, map_after, effect, Answer}
 use Rattle.pk_model.specs.Run.{StepIn}
-use Rattle.pk_host.specs.Calls.{of_key, list_of, report}
+use Rattle.pk_host.specs.Calls.{of_key, report}
+use Rattle.pk_host.specs.Outcomes.{list_of}
 use Rattle.pk_host.proofs.SpellingLemmas.{in_first}
 
 zero_is_not_87 : ◌≡◌ {A = ℕ} 0 KEY_DOES_NOT_EXIST → ⊥
@@ -59,7 +60,8 @@ module _ (shape : Shape) (most frames : ℕ) (m : Map) (c : Command) (k : Opcode
   there a left is by zero (inl x) =
       elim (contains_key m (key c)) as (λ b. contains_key m (key c) ≡ b → (contains_key m (key c) ≡ true) × ServedAs a left) [
         | true ↦ λ e. (e, served a left is (by ∙ ap (λ b. check b KEY_DOES_NOT_EXIST) e) x)
-        | false ↦ λ e. absurd (let clash : KEY_DOES_NOT_EXIST ≡ 0 = sym (ap (λ (r : Reply). r.status) (refuses a left KEY_DOES_NOT_EXIST (by ∙ ap (λ b. check b KEY_DOES_NOT_EXIST) e) x).0) ∙ zero in cc)
+        | false ↦ λ e. absurd (let clash : KEY_DOES_NOT_EXIST ≡ 0 = sym (ap (λ (r : Reply). r.status) (refuses a left KEY_DOES_NOT_EXIST (by ∙ ap (λ b. check b KEY_DOES_NOT_EXIST) e) x).0)
+            ∙ zero in cc)
       ] refl
   there a left is by zero (inr u) = absurd (let clash : UNRECOVERED_ERROR ≡ 0 = sym (ap (λ (r : Reply). r.status) u.replied) ∙ zero in cc)
 
@@ -76,19 +78,22 @@ module _ (shape : Shape) (most frames : ℕ) (m : Map) (c : Command) (k : Opcode
   missing a left is by none status (inr u) = absurd (fault_is_not_87 (sym (ap (λ (r : Reply). r.status) u.replied) ∙ status))
 
   -- what is neither a success nor refused is a failed read
-  pub only_fault : (a : Reply) (left : Map) → op_of c.opcode ≡ Some k → refused shape most m c ≡ None → ((own : List ℕ) → (reply_of shape most frames m own c (Some k)).status ≡ 0) → (a.status == 0) ≡ false
+  pub only_fault : (a : Reply) (left : Map) → op_of c.opcode ≡ Some k → refused shape most m c ≡ None
+      → ((own : List ℕ) → (reply_of shape most frames m own c (Some k)).status ≡ 0) → (a.status == 0) ≡ false
       → StepIn shape most frames m c a left → a.status ≡ UNRECOVERED_ERROR
   only_fault a left is none zero e (inl x) =
       let s = served a left is none x in
       absurd (let clash : true ≡ false = sym (eq-eqb a.status 0 (ap (λ (r : Reply). r.status) s.replied ∙ zero s.own)) ∙ e in cc)
   only_fault a left is none zero e (inr u) = ap (λ (r : Reply). r.status) u.replied
 
-  pub keyed_fault : (a : Reply) (left : Map) → op_of c.opcode ≡ Some k → refused shape most m c ≡ check (contains_key m (key c)) KEY_DOES_NOT_EXIST → ((own : List ℕ) → (reply_of shape most frames m own c (Some k)).status ≡ 0)
+  pub keyed_fault : (a : Reply) (left : Map) → op_of c.opcode ≡ Some k → refused shape most m c ≡ check (contains_key m (key c)) KEY_DOES_NOT_EXIST
+      → ((own : List ℕ) → (reply_of shape most frames m own c (Some k)).status ≡ 0)
       → (a.status == 0) ≡ false → (a.status == KEY_DOES_NOT_EXIST) ≡ false → StepIn shape most frames m c a left → a.status ≡ UNRECOVERED_ERROR
   keyed_fault a left is by zero e f (inl x) =
       elim (contains_key m (key c)) as (λ b. contains_key m (key c) ≡ b → a.status ≡ UNRECOVERED_ERROR) [
         | true ↦ λ t. only_fault a left is (by ∙ ap (λ b. check b KEY_DOES_NOT_EXIST) t) zero e (inl x)
-        | false ↦ λ t. absurd (let clash : true ≡ false = sym (eq-eqb a.status KEY_DOES_NOT_EXIST (ap (λ (r : Reply). r.status) (refuses a left KEY_DOES_NOT_EXIST (by ∙ ap (λ b. check b KEY_DOES_NOT_EXIST) t) x).0)) ∙ f in cc)
+        | false ↦ λ t. absurd (let clash : true ≡ false = sym
+            (eq-eqb a.status KEY_DOES_NOT_EXIST (ap (λ (r : Reply). r.status) (refuses a left KEY_DOES_NOT_EXIST (by ∙ ap (λ b. check b KEY_DOES_NOT_EXIST) t) x).0)) ∙ f in cc)
       ] refl
   keyed_fault a left is by zero e f (inr u) = ap (λ (r : Reply). r.status) u.replied
 
@@ -123,7 +128,8 @@ module _ (shape : Shape) (most : ℕ) (m : Map) (k : Key) (h : IsKey k) where
   pub retrieve_by : (size : ℕ) → refused shape most m (of_key RETRIEVE k size 0 []) ≡ check (contains_key m (key (of_key RETRIEVE k size 0 []))) KEY_DOES_NOT_EXIST
   retrieve_by size = ap (λ b. or_else (or_else (check b INVALID_KEY_SIZE) None) (check (contains_key m (key (of_key RETRIEVE k size 0 []))) KEY_DOES_NOT_EXIST)) (key_length k h)
 
-  not_zero : (fits is_there is_new room : Bool) → or_else (check fits INVALID_VALUE_SIZE) (or_else (check is_there KEY_DOES_NOT_EXIST) (or_else (check is_new KEY_EXISTS) (check room CAPACITY_EXCEEDED))) ≡ Some 0 → ⊥
+  not_zero : (fits is_there is_new room : Bool)
+      → or_else (check fits INVALID_VALUE_SIZE) (or_else (check is_there KEY_DOES_NOT_EXIST) (or_else (check is_new KEY_EXISTS) (check room CAPACITY_EXCEEDED))) ≡ Some 0 → ⊥
   not_zero false is_there is_new room e = cc
   not_zero true false is_new room e = cc
   not_zero true true false room e = cc
@@ -135,7 +141,8 @@ module _ (shape : Shape) (most : ℕ) (m : Map) (k : Key) (h : IsKey k) where
       let c : Command = of_key STORE k (length value) options value in
       let checks : refused shape most m c ≡ or_else (check (nat_le (length value) (greatest shape)) INVALID_VALUE_SIZE) (late_of shape most m c (Some Store)) =
       ap (λ b. or_else (or_else (check b INVALID_KEY_SIZE) (check (nat_le (length value) (greatest shape)) INVALID_VALUE_SIZE)) (late_of shape most m c (Some Store))) (key_length k h) in
-      not_zero (nat_le (length value) (greatest shape)) (not (must_exist c) || contains_key m (key c)) (not (must_be_new c && contains_key m (key c))) (nat_le (live_after shape m c) most) (sym checks ∙ e)
+      not_zero (nat_le (length value) (greatest shape)) (not (must_exist c) || contains_key m (key c))
+      (not (must_be_new c && contains_key m (key c))) (nat_le (live_after shape m c) most) (sym checks ∙ e)
 
 -- a List of 65,536 bytes is never refused
 pub list_by : (shape : Shape) (most : ℕ) (m : Map) (from : Key) → length (bytes_of from) ≤ 16 → refused shape most m (list_of from) ≡ None

@@ -1,5 +1,6 @@
 -- The replies of the definition: their data fit the buffer that is asked for, and none is a read error.
-use Rattle.std.proofs.Common.{◌≡◌, ◌≢◌, ℕ, ◌-◌, ◌*◌, ◌≤◌, ◌==◌, min, refl, sym, ap, subst, ◌∙◌, arith, Bool, true, false, not, ◌&&◌, ◌||◌, nat_le, if◌then◌else◌, List, [], ◌∷◌, length, flat_map, Option, Some, None, unwrap_or, length-append}
+use Rattle.std.proofs.Common.{◌≡◌, ◌≢◌, ℕ, ◌-◌, ◌*◌, ◌≤◌, ◌==◌, min, refl, sym, ap, subst, ◌∙◌, arith, Bool, true, false, not, ◌&&◌, ◌||◌, nat_le, if◌then◌else◌, List, [], ◌∷◌, length, flat_map}
+use Rattle.std.proofs.Common.{Option, Some, None, unwrap_or, length-append}
 use Rattle.std.proofs.lemmas.Bool.{leb-true, eq-eqb}
 use Rattle.std.proofs.lemmas.List.{length-take}
 use Rattle.std.specs.FinMap.{get, contains_key, len}
@@ -11,7 +12,8 @@ use Rattle.pk_base.specs.Map.{Map, keys_from, live}
 use Rattle.pk_nvme.specs.declared.opcode.Opcode.{Opcode}
 use Rattle.pk_nvme.specs.declared.opcode.Opcode.TheVariants.{Flush, Store, Retrieve, List as ListKeys, Delete, Exist, Tick, Report}
 use Rattle.pk_nvme.specs.declared.limits.TheConstants.{COUNT_BYTES}
-use Rattle.pk_nvme.specs.declared.status.TheConstants.{SUCCESSFUL_COMPLETION, INVALID_COMMAND_OPCODE, INVALID_FIELD_IN_COMMAND, INVALID_NAMESPACE_OR_FORMAT, CAPACITY_EXCEEDED, INVALID_VALUE_SIZE, INVALID_KEY_SIZE, KEY_DOES_NOT_EXIST, UNRECOVERED_ERROR, KEY_EXISTS}
+use Rattle.pk_nvme.specs.declared.status.TheConstants.{SUCCESSFUL_COMPLETION, INVALID_COMMAND_OPCODE, INVALID_FIELD_IN_COMMAND, INVALID_NAMESPACE_OR_FORMAT, CAPACITY_EXCEEDED, INVALID_VALUE_SIZE}
+use Rattle.pk_nvme.specs.declared.status.TheConstants.{INVALID_KEY_SIZE, KEY_DOES_NOT_EXIST, UNRECOVERED_ERROR, KEY_EXISTS}
 use Rattle.pk_nvme.specs.Opcode.{op_of}
 use Rattle.pk_nvme.specs.Command.{Command, key, must_exist, must_be_new}
 use Rattle.pk_nvme.specs.Reply.{Reply}
@@ -29,14 +31,15 @@ length-numbers (n ∷ ns) = let front = length-append (u32 n) (flat_map u32 ns) 
 
 fitting_bytes : (room : ℕ) (ks : List Key) → length (flat_map listed (fitting room ks)) ≤ room
 fitting_bytes room [] = omega arith
-fitting_bytes room (k ∷ ks) = elim (nat_le (length (listed k)) room) as (λ b. nat_le (length (listed k)) room ≡ b → length (flat_map listed (if b then k ∷ fitting (room - length (listed k)) ks else [])) ≤ room) [
-  | true ↦ λ e.
-      let fits = leb-true (length (listed k)) room e in
-      let rest = fitting_bytes (room - length (listed k)) ks in
-      let whole = length-append (listed k) (flat_map listed (fitting (room - length (listed k)) ks)) in
-      omega (arith, fits, rest, whole)
-  | false ↦ λ e. omega arith
-] refl
+fitting_bytes room (k ∷ ks) = elim (nat_le (length (listed k)) room) as (λ b. nat_le (length (listed k)) room ≡ b
+    → length (flat_map listed (if b then k ∷ fitting (room - length (listed k)) ks else [])) ≤ room) [
+      | true ↦ λ e.
+          let fits = leb-true (length (listed k)) room e in
+          let rest = fitting_bytes (room - length (listed k)) ks in
+          let whole = length-append (listed k) (flat_map listed (fitting (room - length (listed k)) ks)) in
+          omega (arith, fits, rest, whole)
+      | false ↦ λ e. omega arith
+    ] refl
 
 list_fits : (size : ℕ) (ks : List Key) → 4 ≤ size → length (list_bytes (fitting (min size 65536 - 4) ks)) ≤ size
 list_fits size ks least =
@@ -113,7 +116,8 @@ module _ (shape : Shape) (most : ℕ) (m : Map) (c : Command) where
   other_late : (o : Option Opcode) → IsOther (late_of shape most m c o)
   other_late None = tt
   other_late (Some Store) =
-      other_first (check (not (must_exist c) || contains_key m (key c)) KEY_DOES_NOT_EXIST) _ (other_check (not (must_exist c) || contains_key m (key c)) KEY_DOES_NOT_EXIST (differs KEY_DOES_NOT_EXIST refl))
+      other_first (check (not (must_exist c) || contains_key m (key c)) KEY_DOES_NOT_EXIST) _
+      (other_check (not (must_exist c) || contains_key m (key c)) KEY_DOES_NOT_EXIST (differs KEY_DOES_NOT_EXIST refl))
       (other_first (check (not (must_be_new c && contains_key m (key c))) KEY_EXISTS) _ (other_check (not (must_be_new c && contains_key m (key c))) KEY_EXISTS (differs KEY_EXISTS refl))
       (other_check (nat_le (live_after shape m c) most) CAPACITY_EXCEEDED (differs CAPACITY_EXCEEDED refl)))
   other_late (Some Retrieve) = other_missing
@@ -139,7 +143,8 @@ module _ (shape : Shape) (most : ℕ) (m : Map) (c : Command) where
 
   served_well : (o : Option Opcode) → op_of c.opcode ≡ o → early shape c ≡ None → late_of shape most m c o ≡ None → (reply shape most 0 m no_numbers c).status ≢ UNRECOVERED_ERROR
   served_well None is passed late = absurd (let clash : ◌≡◌ {A = Option ℕ} (Some 1) None = sym (ap (λ (o : Option Opcode). fault_of shape c o) is) ∙ passed in cc)
-  served_well (Some k) is passed late = λ e. differs SUCCESSFUL_COMPLETION refl (sym (success_of k) ∙ sym (ap (λ (a : Reply). a.status) (serves shape most 0 m no_numbers c k is passed late).replied) ∙ e)
+  served_well (Some k) is passed late = λ e. differs SUCCESSFUL_COMPLETION refl
+      (sym (success_of k) ∙ sym (ap (λ (a : Reply). a.status) (serves shape most 0 m no_numbers c k is passed late).replied) ∙ e)
 
   -- the machine never answers so
   pub no_read_error : (reply shape most 0 m no_numbers c).status ≢ UNRECOVERED_ERROR

@@ -1,8 +1,6 @@
 -- What holds of every entry of a map, after one is put in or removed.
 use Rattle.std.proofs.Common.{◌≡◌, ℕ, ◌≤◌, refl, sym, ap, subst, ◌∙◌, true, false, cond, T, List, [], ◌∷◌, length, Option, Some, None}
 use Rattle.std.proofs.lemmas.List.{nil_from_length}
-use Rattle.std.specs.declared.cmp.Ordering.{Ordering}
-use Rattle.std.specs.declared.cmp.Ordering.TheVariants.{Less, Equal, Greater}
 use Rattle.std.specs.Ordering.{is_eq, eq_by_cmp}
 use Rattle.std.specs.Cmp.{tied_itself}
 use Rattle.std.specs.List.{AllByRecursion}
@@ -12,15 +10,8 @@ use Rattle.pk_base.specs.Key.{Key, IsKey, key_cmp}
 use Rattle.pk_base.specs.Fields.{AreBytes}
 use Rattle.pk_base.specs.Shape.{Shape, greatest}
 use Rattle.pk_base.specs.Map.{Map, IsMap}
-use Rattle.pk_model.proofs.MapLemmas.{key_total, key_antisymm, left_part, right_part, missing}
-
-equal : (o : Ordering) → is_eq o ≡ true → o ≡ Equal
-equal Less e = cc
-equal Equal e = refl
-equal Greater e = cc
-
-some_same : {X : Type 0} (x y : X) → ◌≡◌ {A = Option X} (Some x) (Some y) → x ≡ y
-some_same x y e = cc
+use Rattle.pk_model.proofs.MapLemmas.{key_total, key_antisymm, missing}
+use Rattle.pk_base.proofs.Logic.{left_part, right_part, equal, some_same}
 
 module _ (P : Key × List ℕ → Type 0) where
   -- an entry that is found is one of them

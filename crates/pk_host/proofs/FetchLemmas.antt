@@ -7,7 +7,8 @@ use Rattle.pk_base.specs.Key.{Key}
 use Rattle.pk_nvme.specs.Command.{Command}
 use Rattle.pk_host.specs.Port.{PortState}
 use Rattle.pk_host.specs.declared.sizes.TheConstants.{FIRST_BYTES}
-use Rattle.pk_host.specs.Calls.{retrieve_of, AtMostOne, AreRetrieves, TookSome, Cuts, Gets}
+use Rattle.pk_host.specs.Calls.{retrieve_of}
+use Rattle.pk_host.specs.Outcomes.{AtMostOne, AreRetrieves, TookSome, Cuts, Gets}
 
 -- a prefix that is no shorter than the value is the value
 front_whole : (value bytes : Option (List ℕ)) (whole most : ℕ) → bytes ≡ option_map (take most) value → Some whole ≡ option_map length value → whole ≤ most → bytes ≡ value
@@ -24,5 +25,10 @@ whole_first p k bytes whole o f most is h short m told =
 
 pub took_second : {P : Type 0} (took : P → List Command → P → Type 0) → ((p : P) (cs : List Command) (q : P) (ds : List Command) (r : P) → took p cs q → took q ds r → took p (cs ++ ds) r)
     → (p q r : P) (k : Key) (size : ℕ) → took p (retrieve_of k FIRST_BYTES ∷ []) q → TookSome took (AtMostOne (retrieve_of k size)) q r → TookSome took (AreRetrieves k) p r
-took_second took both p q r k size h (cs, inl none, t) = (retrieve_of k FIRST_BYTES ∷ [], inl (inr refl), both p (retrieve_of k FIRST_BYTES ∷ []) q [] r h (subst (λ (ds : List Command). took q ds r) none t))
-took_second took both p q r k size h (cs, inr one, t) = (retrieve_of k FIRST_BYTES ∷ retrieve_of k size ∷ [], inr (size, refl), both p (retrieve_of k FIRST_BYTES ∷ []) q (retrieve_of k size ∷ []) r h (subst (λ (ds : List Command). took q ds r) one t))
+took_second took both p q r k size h
+    (cs, inl none, t) = (retrieve_of k FIRST_BYTES ∷ [], inl (inr refl), both p (retrieve_of k FIRST_BYTES ∷ []) q [] r h (subst (λ (ds : List Command). took q ds r) none t))
+took_second took both p q r k size h (cs, inr one, t) = (
+  retrieve_of k FIRST_BYTES ∷ retrieve_of k size ∷ [],
+  inr (size, refl),
+  both p (retrieve_of k FIRST_BYTES ∷ []) q (retrieve_of k size ∷ []) r h (subst (λ (ds : List Command). took q ds r) one t),
+)

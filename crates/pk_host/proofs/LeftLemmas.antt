@@ -33,27 +33,35 @@ check_none false s h = cc
 -- no other number is that of a Store
 store_alone : (n : ℕ) → op_of n ≡ Some Store → (n == STORE) ≡ true
 store_alone n =
-    elim (n == FLUSH) as (λ b. (if b then Some Flush else if n == STORE then Some Store else if n == RETRIEVE then Some Retrieve else if n == LIST then Some ListKeys else if n == DELETE then Some Delete else if n == EXIST then Some Exist else if n == TICK then Some Tick else if n == REPORT then Some Report else None) ≡ Some Store → (n == STORE) ≡ true) [
+    elim (n == FLUSH) as (λ b. (if b then Some Flush else if n == STORE then Some Store else if n == RETRIEVE then Some Retrieve else if n == LIST then Some ListKeys else if n
+    == DELETE then Some Delete else if n == EXIST then Some Exist else if n == TICK then Some Tick else if n == REPORT then Some Report else None) ≡ Some Store → (n == STORE) ≡ true) [
       | true ↦ λ e. cc
-      | false ↦ elim (n == STORE) as (λ b. (if b then Some Store else if n == RETRIEVE then Some Retrieve else if n == LIST then Some ListKeys else if n == DELETE then Some Delete else if n == EXIST then Some Exist else if n == TICK then Some Tick else if n == REPORT then Some Report else None) ≡ Some Store → b ≡ true) [
-        | true ↦ λ e. refl
-        | false ↦ elim (n == RETRIEVE) as (λ b. (if b then Some Retrieve else if n == LIST then Some ListKeys else if n == DELETE then Some Delete else if n == EXIST then Some Exist else if n == TICK then Some Tick else if n == REPORT then Some Report else None) ≡ Some Store → false ≡ true) [
-          | true ↦ λ e. cc
-          | false ↦ elim (n == LIST) as (λ b. (if b then Some ListKeys else if n == DELETE then Some Delete else if n == EXIST then Some Exist else if n == TICK then Some Tick else if n == REPORT then Some Report else None) ≡ Some Store → false ≡ true) [
-            | true ↦ λ e. cc
-            | false ↦ elim (n == DELETE) as (λ b. (if b then Some Delete else if n == EXIST then Some Exist else if n == TICK then Some Tick else if n == REPORT then Some Report else None) ≡ Some Store → false ≡ true) [
-              | true ↦ λ e. cc
-              | false ↦ elim (n == EXIST) as (λ b. (if b then Some Exist else if n == TICK then Some Tick else if n == REPORT then Some Report else None) ≡ Some Store → false ≡ true) [
-                | true ↦ λ e. cc
-                | false ↦ elim (n == TICK) as (λ b. (if b then Some Tick else if n == REPORT then Some Report else None) ≡ Some Store → false ≡ true) [
+      | false ↦ elim (n == STORE) as (λ b.
+          (if b then Some Store else if n == RETRIEVE then Some Retrieve else if n == LIST then Some ListKeys else if n == DELETE then Some
+          Delete else if n == EXIST then Some Exist else if n == TICK then Some Tick else if n == REPORT then Some Report else None) ≡ Some Store → b ≡ true) [
+            | true ↦ λ e. refl
+            | false ↦ elim (n == RETRIEVE) as (λ b.
+                (if b then Some Retrieve else if n == LIST then Some ListKeys else if n == DELETE then Some Delete else if n ==
+                EXIST then Some Exist else if n == TICK then Some Tick else if n == REPORT then Some Report else None) ≡ Some Store → false ≡ true) [
                   | true ↦ λ e. cc
-                  | false ↦ elim (n == REPORT) as (λ b. (if b then Some Report else None) ≡ Some Store → false ≡ true) [ true ↦ λ e. cc | false ↦ λ e. cc ]
+                  | false ↦ elim (n == LIST) as (λ b.
+                      (if b then Some ListKeys else if n == DELETE then Some Delete else if n == EXIST then Some Exist else if n == TICK then Some Tick else if n == REPORT then Some Report else None)
+                      ≡ Some Store → false ≡ true) [
+                        | true ↦ λ e. cc
+                        | false ↦ elim (n == DELETE) as (λ b.
+                            (if b then Some Delete else if n == EXIST then Some Exist else if n == TICK then Some Tick else if n == REPORT then Some Report else None) ≡ Some Store → false ≡ true) [
+                              | true ↦ λ e. cc
+                              | false ↦ elim (n == EXIST) as (λ b. (if b then Some Exist else if n == TICK then Some Tick else if n == REPORT then Some Report else None) ≡ Some Store → false ≡ true) [
+                                | true ↦ λ e. cc
+                                | false ↦ elim (n == TICK) as (λ b. (if b then Some Tick else if n == REPORT then Some Report else None) ≡ Some Store → false ≡ true) [
+                                  | true ↦ λ e. cc
+                                  | false ↦ elim (n == REPORT) as (λ b. (if b then Some Report else None) ≡ Some Store → false ≡ true) [ true ↦ λ e. cc | false ↦ λ e. cc ]
+                                ]
+                              ]
+                            ]
+                      ]
                 ]
-              ]
-            ]
           ]
-        ]
-      ]
     ]
 
 -- ---- the map afterwards
@@ -71,7 +79,8 @@ module _ (shape : Shape) (m : Map) (c : Command) (good : IsGood (holding shape m
       let whole : length c.value ≡ c.size = handed.whole.whole ∙ ap (λ b. if b then c.size else 0) (store_alone c.opcode is) in
       let small = store_sized shape c is passed in
       let behind = first_none (check (not (must_be_new c && contains_key m (key c))) KEY_EXISTS) (check (nat_le (live_after shape m c) (limit shape)) CAPACITY_EXCEEDED)
-      (first_none (check (not (must_exist c) || contains_key m (key c)) KEY_DOES_NOT_EXIST) (or_else (check (not (must_be_new c && contains_key m (key c))) KEY_EXISTS) (check (nat_le (live_after shape m c) (limit shape)) CAPACITY_EXCEEDED)) late).1 in
+      (first_none (check (not (must_exist c) || contains_key m (key c)) KEY_DOES_NOT_EXIST)
+      (or_else (check (not (must_be_new c && contains_key m (key c))) KEY_EXISTS) (check (nat_le (live_after shape m c) (limit shape)) CAPACITY_EXCEEDED)) late).1 in
       let most = leb-true (live_after shape m c) (limit shape) (check_none (nat_le (live_after shape m c) (limit shape)) CAPACITY_EXCEEDED behind.1) in
       let is_live : live_after shape m c ≡ live shape (insert m (key c) c.value) =
       live_stored shape m (key c) c.value (live shape m) (pages_if_some shape (get m (key c))) (charge shape c.size) refl refl (ap (charge shape) (sym whole)) in

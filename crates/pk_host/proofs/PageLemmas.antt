@@ -1,5 +1,6 @@
 -- Pages of keys, one after another, are all keys.
-use Rattle.std.proofs.Common.{◌≡◌, inl, inr, ℕ, ◌-◌, ◌≤◌, ◌==◌, nat_lt, if◌then◌else◌, List, [], ◌∷◌, ◌++◌, length, filter, Bool, true, false, not, nat_le, Option, Some, None, Result, Ok, Err, IfOk, OnOk, refl, sym, ap, subst, ◌∙◌, arith, append_assoc}
+use Rattle.std.proofs.Common.{◌≡◌, inl, inr, ℕ, ◌-◌, ◌≤◌, ◌==◌, nat_lt, if◌then◌else◌, List, [], ◌∷◌, ◌++◌, length, filter, Bool, true, false, not, nat_le, Option, Some, None, Result, Ok, Err, IfOk}
+use Rattle.std.proofs.Common.{OnOk, refl, sym, ap, subst, ◌∙◌, arith, append_assoc}
 use Rattle.std.proofs.lemmas.List.{append-nil}
 use Rattle.std.proofs.lemmas.Bool.{le-leb}
 use Rattle.std.specs.List.{AllByRecursion, slice_get}
@@ -20,7 +21,8 @@ use Rattle.pk_nvme.specs.declared.limits.TheConstants.{MOST_LIST_BYTES}
 use Rattle.pk_model.specs.Answer.{refused, map_after, effect, listed, fitting, list_bytes}
 use Rattle.pk_host.specs.declared.types.HostError.{HostError}
 use Rattle.pk_host.specs.Port.{PortState, Replies, Took, LeftBySome}
-use Rattle.pk_host.specs.Calls.{of_bytes, list_of, Leaves, AreLists, TookSome}
+use Rattle.pk_host.specs.Calls.{of_bytes}
+use Rattle.pk_host.specs.Outcomes.{list_of, Leaves, AreLists, TookSome}
 use Rattle.pk_host.specs.Listing.{IsStart, list_room, above, keys_of, page_after, Pages, Follows, TellsKeys, ListsAll}
 use Rattle.pk_host.proofs.CommandLemmas.{success_served, list_by, key_named}
 use Rattle.pk_host.proofs.SpellingLemmas.{in_first, read_back, listed_least, are_keys, filter_all}
@@ -28,7 +30,7 @@ use Rattle.pk_host.proofs.RisingLemmas.{above-append, above_split, above_above, 
 
 -- ---- Lists leave the map
 
-map_after_same : (shape : Shape) (most : ℕ) (m : Map) (c : Command) (k : Opcode) → op_of c.opcode ≡ Some k → effect m c (Some k) ≡ m → map_after shape most m c ≡ m
+pub map_after_same : (shape : Shape) (most : ℕ) (m : Map) (c : Command) (k : Opcode) → op_of c.opcode ≡ Some k → effect m c (Some k) ≡ m → map_after shape most m c ≡ m
 unfolding map_after
 map_after_same shape most m c k is stays = elim (refused shape most m c) as (λ r. refused shape most m c ≡ r → map_after shape most m c ≡ m) [
   | None ↦ λ e. (let left : map_after shape most m c ≡ effect m c (Some k) = rw (e, is) refl in left ∙ stays)
@@ -158,15 +160,17 @@ two_fit from (k ∷ j ∷ ws) h r n e =
 
 not_below : (from : Key) (ks : List Key) → AllByRecursion (λ k. is_lt (key_cmp k from) ≡ false) (filter (λ k. not (is_lt (key_cmp k from))) ks)
 not_below from [] = tt
-not_below from (k ∷ ks) = elim (is_lt (key_cmp k from)) as (λ b. is_lt (key_cmp k from) ≡ b → AllByRecursion (λ k. is_lt (key_cmp k from) ≡ false) (if not b then k ∷ filter (λ k. not (is_lt (key_cmp k from))) ks else filter (λ k. not (is_lt (key_cmp k from))) ks)) [
-  | true ↦ λ e. not_below from ks
-  | false ↦ λ e. (e, not_below from ks)
-] refl
+not_below from (k ∷ ks) = elim (is_lt (key_cmp k from)) as (λ b. is_lt (key_cmp k from) ≡ b
+    → AllByRecursion (λ k. is_lt (key_cmp k from) ≡ false) (if not b then k ∷ filter (λ k. not (is_lt (key_cmp k from))) ks else filter (λ k. not (is_lt (key_cmp k from))) ks)) [
+      | true ↦ λ e. not_below from ks
+      | false ↦ λ e. (e, not_below from ks)
+    ] refl
 
 none_follows : (from : Key) (m : Map) → AllByRecursion IsKey (keys m) → page_after from m ≡ [] → above from (keys m) ≡ []
 none_follows from m are e =
     sym (above_from from (keys m))
-    ∙ two_fit from (keys_from from m) (filter_all (λ k. not (is_lt (key_cmp k from))) (keys m) are) (rising_filter (λ k. not (is_lt (key_cmp k from))) (keys m) (keys_rising m)) (not_below from (keys m)) e
+    ∙ two_fit from (keys_from from m) (filter_all (λ k. not (is_lt (key_cmp k from))) (keys m) are)
+    (rising_filter (λ k. not (is_lt (key_cmp k from))) (keys m) (keys_rising m)) (not_below from (keys m)) e
 
 same_some : (page rest all : List Key) → (page ≡ [] → all ≡ []) → all ≡ page ++ rest → nat_lt 0 (length page) ≡ nat_lt 0 (length all)
 same_some [] rest all none e = ap (λ (xs : List Key). nat_lt 0 (length xs)) (sym (none refl))
@@ -222,11 +226,11 @@ listing_goes start now next all page all' from h at pages leaves whole = record 
       ∙ add_page m all page from (pages m (h.leaves m told)) at (ap (λ (q : Key). all ++ above q (keys m)) at ∙ h.listed_keys m told);
 }
 
-nothing_above : (xs : List Key) → false ≡ nat_lt 0 (length xs) → xs ≡ []
+pub nothing_above : (xs : List Key) → false ≡ nat_lt 0 (length xs) → xs ≡ []
 nothing_above [] e = refl
 nothing_above (x ∷ xs) e = absurd (let clash : false ≡ true = e ∙ le-leb 1 (length (x ∷ xs)) (omega arith) in cc)
 
-all_above_none : (ks : List Key) → AllByRecursion IsKey ks → above [] ks ≡ ks
+pub all_above_none : (ks : List Key) → AllByRecursion IsKey ks → above [] ks ≡ ks
 all_above_none [] h = refl
 all_above_none ([] ∷ ks) h = absurd (let some = h.0.some in omega (arith, some))
 all_above_none ((x ∷ k) ∷ ks) h = ap (λ (xs : List Key). (x ∷ k) ∷ xs) (all_above_none ks h.1)

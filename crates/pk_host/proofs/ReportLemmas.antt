@@ -10,7 +10,8 @@ use Rattle.pk_nvme.specs.declared.opcode.Opcode.TheVariants.{Report}
 use Rattle.pk_model.specs.Answer.{report_bytes}
 use Rattle.pk_host.specs.declared.types.HostError.TheVariants.{Refused}
 use Rattle.pk_host.specs.Port.{PortState, Replies}
-use Rattle.pk_host.specs.Calls.{report, stored, Gives, IsRefusal, Numbers, Leaves}
+use Rattle.pk_host.specs.Calls.{report}
+use Rattle.pk_host.specs.Outcomes.{stored, Gives, IsRefusal, Numbers, Leaves}
 use Rattle.pk_host.proofs.CommandLemmas.{success_served, only_fault, report_by}
 use Rattle.pk_host.proofs.CallLemmas.{leaves_map}
 

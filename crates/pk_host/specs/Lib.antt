@@ -4,3 +4,4 @@ pub mod Listing
 pub mod Received
 pub mod TookLaws
 pub mod Good
+pub mod Outcomes

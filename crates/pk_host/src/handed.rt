@@ -4,15 +4,8 @@ ghost use Rattle.pk_base.specs.Fields.{AreBytes};
 ghost use Rattle.pk_nvme.specs.Command.{command, IsWhole};
 ghost use Rattle.pk_host.specs.Good.{IsHanded};
 
-use pk_base::KEY_BYTES;
+use pk_base::{KEY_BYTES, are_bytes};
 use pk_nvme::{Request, SUBMISSION_BYTES};
-
-// Bytes are numbers below 256.
-fn are_bytes(bytes: &[u8])
-    ensures { AreBytes bytes.now }
-{
-    let _ = bytes.len();
-}
 
 // The place of a key has 16 bytes.
 fn is_place(place: &[u8; KEY_BYTES])

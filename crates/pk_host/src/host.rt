@@ -5,7 +5,8 @@ ghost use Rattle.std.specs.List.{AllByRecursion};
 ghost use Rattle.std.specs.Option.{option_copied};
 ghost use Rattle.pk_base.specs.Key.{IsBelow, bytes_of};
 ghost use Rattle.pk_nvme.specs.Command.{key_or_none};
-ghost use Rattle.pk_host.specs.Calls.{Gives, stored, retrieved, existed, store_of, retrieve_of, delete_of, exist_of, list_of, Leaves, Deletes, Fetches, Tests};
+ghost use Rattle.pk_host.specs.Calls.{store_of, retrieve_of, delete_of, exist_of};
+ghost use Rattle.pk_host.specs.Outcomes.{Gives, stored, retrieved, existed, list_of, Leaves, Deletes, Fetches, Tests};
 ghost use Rattle.pk_host.specs.Listing.{IsStart, Pages, Follows, TellsKeys, listed_by};
 
 use crate::ask::{Asked, ask};

@@ -1,16 +1,15 @@
 //! The keys that the data of a List spell.
-ghost use Rattle.std.specs.Prelude.{◌≡◌, ◌≤◌, ◌+◌, ◌%◌, ◌++◌, [], ◌∷◌, drop, length, min};
+ghost use Rattle.std.specs.Prelude.{◌≡◌, ◌≤◌, ◌+◌, ◌++◌, [], ◌∷◌, drop, length, min};
 ghost use Rattle.std.specs.Option.{option_copied};
 ghost use Rattle.std.specs.Ordering.{is_lt};
 ghost use Rattle.pk_base.specs.Key.{key_cmp};
 ghost use Rattle.pk_nvme.specs.Command.{key_or_none};
-ghost use Rattle.pk_model.specs.Answer.{listed};
 ghost use Rattle.pk_host.specs.Listing.{first_key, keys_of, above};
 
 use crate::key_page::KeyPage;
 use crate::sizes::MOST_KEYS;
 use pk_base::{KEY_BYTES, Key, get_u16, get_u32, is_below};
-use pk_nvme::fill_behind;
+use pk_model::listed_size;
 use pk_nvme::limits::{COUNT_BYTES, NAMESPACE};
 
 /// The key that is spelled at the head of these bytes.
@@ -35,15 +34,6 @@ fn key_at(bytes: &[u8], at: usize) -> Option<Key>
         return None;
     }
     head_key(&bytes[at..])
-}
-
-/// The bytes of the spelling of a key.
-fn listed_size(key: &Key) -> usize
-    ensures size { result ≡ length (listed key.now) }
-    ensures most { result ≤ 21 }
-{
-    let len = key.bytes().len();
-    2 + len + fill_behind(len)
 }
 
 /// The key is above this one: each is if there is none.
@@ -84,7 +74,7 @@ pub fn read_keys(bytes: &[u8], from: Option<&Key>, page: &mut KeyPage)
         match key_at(bytes, at) {
             None => return,
             Some(key) => {
-                at += listed_size(&key);
+                at += listed_size(key.bytes());
                 offer(page, from, key);
             }
         }

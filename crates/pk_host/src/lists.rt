@@ -4,7 +4,7 @@ ghost use Rattle.std.specs.List.{AllByRecursion};
 ghost use Rattle.std.specs.Option.{option_copied};
 ghost use Rattle.pk_base.specs.Key.{IsBelow};
 ghost use Rattle.pk_nvme.specs.Command.{key_or_none};
-ghost use Rattle.pk_host.specs.Calls.{IsCause, Gives, list_of, Leaves, AreLists, TookSome};
+ghost use Rattle.pk_host.specs.Outcomes.{IsCause, Gives, list_of, Leaves, AreLists, TookSome};
 ghost use Rattle.pk_host.specs.Listing.{Pages, Follows, TellsKeys, ListsAll, listed_by};
 
 use crate::host::{Host, start_bytes};

@@ -1,6 +1,7 @@
 //! The sixteen numbers of a Report.
 ghost use Rattle.std.specs.Prelude.{◌∷◌, [], OnOk, IfErr};
-ghost use Rattle.pk_host.specs.Calls.{IsCause, Gives, Leaves, Numbers, report, stored};
+ghost use Rattle.pk_host.specs.Calls.{report};
+ghost use Rattle.pk_host.specs.Outcomes.{IsCause, Gives, Leaves, Numbers, stored};
 
 use crate::ask::{Asked, ask};
 use crate::host::Host;

@@ -1,7 +1,8 @@
 //! Values that are fetched whole.
 ghost use Rattle.std.specs.Prelude.{[], ◌∷◌, OnOk, IfOk, IfErr};
 ghost use Rattle.std.specs.Option.{option_map};
-ghost use Rattle.pk_host.specs.Calls.{IsCause, retrieved, retrieve_of, AtMostOne, AreRetrieves, TookSome, Leaves, Gets, Cuts, KeyHas};
+ghost use Rattle.pk_host.specs.Calls.{retrieve_of};
+ghost use Rattle.pk_host.specs.Outcomes.{IsCause, retrieved, AtMostOne, AreRetrieves, TookSome, Leaves, Gets, Cuts, KeyHas};
 
 use crate::host::Host;
 use crate::port::Port;

@@ -1,16 +1,19 @@
 -- The check of a header passes exactly the headers of shapes.
 use Rattle.std.proofs.Common.{◌≡◌, ℕ, ◌+◌, ◌*◌, ◌^◌, ◌<◌, ◌%◌, ◌≤◌, Bool, true, false, List, [], ◌∷◌, length, drop, get_or, refl, sym, ap, subst, ◌∙◌, arith, Some, None}
-use Rattle.std.specs.Prelude.{nat_le, nat_lt, not, ◌&&◌, ◌||◌, ◌==◌, if◌then◌else◌, Result, Ok, Err, is_ok, IfOk, MatchResult}
+use Rattle.std.specs.Prelude.{nat_le, nat_lt, not, ◌||◌, ◌==◌, if◌then◌else◌, Result, Ok, Err, is_ok, IfOk, MatchResult}
 use Rattle.std.specs.List.{list_any}
 use Rattle.std.proofs.lemmas.Bool.Decides.{nat_tests}
 use Rattle.std.proofs.lemmas.List.{drop_all}
 use Rattle.pk_base.specs.declared.shape.ShapeError.{ShapeError}
 use Rattle.pk_base.specs.declared.shape.ShapeError.TheVariants.{BadPage, BadBlock, TooLarge, TooSmall}
-use Rattle.pk_base.specs.Fields.{u32, spelled, zeros, first_fault}
+use Rattle.pk_base.specs.Fields.{u32, spelled, zeros}
+use Rattle.pk_base.specs.FieldFaults.{first_fault}
 use Rattle.pk_base.specs.Shape.{Shape, IsShape, checked, has_bad_page, has_bad_block, is_too_large, is_too_small, page_entries, dense, meta_blocks}
-use Rattle.pk_base.proofs.Tables.{◌⊕◌, fields_of, AllNone, all_none, first_none, unless_true, true_unless, unlike_stands, stands_unlike, number_stands, stands_number, Stand, AreSized, stand_spelled, spelled_stand}
+use Rattle.pk_base.proofs.Tables.{◌⊕◌, fields_of, AllNone, all_none, first_none, unless_true, true_unless, unlike_stands, stands_unlike, number_stands, stands_number, Stand, AreSized, stand_spelled}
+use Rattle.pk_base.proofs.Tables.{spelled_stand}
 use Rattle.pk_image.specs.Header.{image_magic, file_size, header_bytes, named_shape, is_shape, has_size, IsHeader, header_checks, header_fault, refusal_place}
 use Rattle.pk_image.specs.declared.head.ImageError.{ImageError}
+use Rattle.pk_base.proofs.Logic.{both_true}
 
 -- ---- shapes that are accepted
 
@@ -87,10 +90,6 @@ rows_header s = refl
 eqb_same : (n : ℕ) → (n == n) ≡ true
 eqb_same n = grind (arith, nat_tests)
 
-and_parts : (a b : Bool) → (a && b) ≡ true → (a ≡ true) × (b ≡ true)
-and_parts true b e = (refl, e)
-and_parts false b e = cc
-
 -- a header of a file that is not too short, or none
 long_enough : (bytes : List ℕ) (size : ℕ) → header_fault bytes size ≡ None → (nat_le 32 size ≡ true) × (first_fault (header_checks bytes size) ≡ None)
 unfolding header_fault
@@ -117,7 +116,7 @@ unfolding rows
 header_takes bytes size fits sized good =
     let each : AllNone (header_checks bytes size) = all_none (header_checks bytes size) (long_enough bytes size good).1 in
     let least : length image_magic ≡ 8 = refl in
-    let parts = and_parts (is_shape (named_shape bytes)) (size == file_size (named_shape bytes)) (unless_true 32 (has_size (named_shape bytes) size) each.1.1.1.0) in
+    let parts = both_true (is_shape (named_shape bytes)) (size == file_size (named_shape bytes)) (unless_true 32 (has_size (named_shape bytes) size) each.1.1.1.0) in
     let stands : Stand 0 (rows (named_shape bytes)) bytes =
     unlike_stands 0 image_magic bytes each.0 (omega arith)
     ⊕ number_stands 4 8 bytes fits (omega arith)

@@ -2,7 +2,8 @@
 use Rattle.std.specs.Prelude.{◌≡◌, ℕ, zero, suc, ◌+◌, ◌*◌, ◌<◌, List, [], ◌∷◌, length, take, drop, slice_index, ◌==◌, nat_le, if◌then◌else◌, Option, Some, None}
 use Rattle.pk_image.specs.declared.head.TheConstants.{HEADER_BYTES}
 use Rattle.pk_image.specs.declared.tag.TheConstants.{ERASED, WHOLE, TORN}
-use Rattle.pk_base.specs.Fields.{AreBytes, first_fault}
+use Rattle.pk_base.specs.Fields.{AreBytes}
+use Rattle.pk_base.specs.FieldFaults.{first_fault}
 use Rattle.pk_base.specs.Shape.{Shape, page_count}
 use Rattle.pk_base.specs.Page.{Page, Flash, erased, whole, torn, page_at}
 use Rattle.pk_image.specs.declared.tag.PageTag.{PageTag}

@@ -1,6 +1,6 @@
 //! The header of an image: its text and the numbers of the shape.
 ghost use Rattle.std.specs.Prelude.{◌≡◌, ◌≤◌, length, IfOk, IfErr, MatchResult, Ok, Some, None};
-ghost use Rattle.pk_base.specs.Fields.{Finds};
+ghost use Rattle.pk_base.specs.FieldFaults.{Finds};
 ghost use Rattle.pk_base.specs.Shape as spec;
 ghost use Rattle.pk_image.specs.Header.{file_size, header_bytes, named_shape, is_shape, has_size, header_fault, IsHeader, refusal_place};
 

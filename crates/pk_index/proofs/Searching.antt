@@ -28,15 +28,19 @@ last_one (Some y) f r e = cc
 
 -- the entry of the buffers, and of the runs
 all_of : (log : LogState) (flash : Flash) (top : ℕ × Root) (found : Found) (key : Key) → LogOnFlash log flash top found
-    → find key_cmp key (entries_in_order found log.pending) ≡ or_else (find key_cmp key log.active.entries) (or_else (find key_cmp key log.frozen.entries) (find key_cmp key (flat_map (λ es. es) found.runs)))
+    → find key_cmp key (entries_in_order found log.pending) ≡ or_else (find key_cmp key log.active.entries)
+    (or_else (find key_cmp key log.frozen.entries) (find key_cmp key (flat_map (λ es. es) found.runs)))
 all_of log flash top found key logs =
     found_in found log.pending key
     ∙ (λ i. or_else (find key_cmp key (sym logs.active_is i).entries) (or_else (find key_cmp key (sym logs.frozen_is i).entries) (find key_cmp key (flat_map (λ es. es) found.runs))))
 
 pub in_buffers : (log : LogState) (flash : Flash) (top : ℕ × Root) (found : Found) (key : Key) (e : RustEntry) → LogOnFlash log flash top found
     → key_of (entry e) ≡ key → entry_of log key ≡ Some (entry e).1 → IsFound key (entries_in_order found log.pending) (Some e)
-in_buffers log flash top found key e logs same is =
-    (same, all_of log flash top found key logs ∙ first_two (find key_cmp key log.active.entries) (find key_cmp key log.frozen.entries) (find key_cmp key (flat_map (λ es. es) found.runs)) (entry e).1 is)
+in_buffers log flash top found key e logs same is = (
+  same,
+  all_of log flash top found key logs
+      ∙ first_two (find key_cmp key log.active.entries) (find key_cmp key log.frozen.entries) (find key_cmp key (flat_map (λ es. es) found.runs)) (entry e).1 is,
+)
 
 behind_buffers : (log : LogState) (flash : Flash) (top : ℕ × Root) (found : Found) (key : Key) → LogOnFlash log flash top found → entry_of log key ≡ None
     → find key_cmp key (entries_in_order found log.pending) ≡ find key_cmp key (flat_map (λ es. es) found.runs)

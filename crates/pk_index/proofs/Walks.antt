@@ -20,7 +20,8 @@ use Rattle.pk_index.specs.Keys.{keys_of, not_below, keys_there}
 keys_wanted : (from : Key) (es : List (Key × Place)) → keys_of (wanted (is_wanted (From from)) es) ≡ not_below from (keys_of es)
 keys_wanted from [] = refl
 keys_wanted from (e ∷ es) =
-    elim (is_lt (key_cmp e.0 from)) as (λ b. keys_of (if not b then e ∷ wanted (is_wanted (From from)) es else wanted (is_wanted (From from)) es) ≡ (if not b then e.0 ∷ not_below from (keys_of es) else not_below from (keys_of es))) [
+    elim (is_lt (key_cmp e.0 from)) as (λ b. keys_of (if not b then e ∷ wanted (is_wanted (From from)) es else wanted (is_wanted (From from)) es)
+    ≡ (if not b then e.0 ∷ not_below from (keys_of es) else not_below from (keys_of es))) [
       | true ↦ keys_wanted from es
       | false ↦ ap (λ (ks : List Key). e.0 ∷ ks) (keys_wanted from es)
     ]
@@ -28,8 +29,12 @@ keys_wanted from (e ∷ es) =
 pub left_from : (w : Walk) (from : Key) (flash : Flash) (arena : Frames) (rs : List Kept) (active frozen : List Entry) (ess : List (List Entry)) → w.position ≡ From from
     → IsLeft w flash arena rs active frozen (wanted (is_wanted w.position) (visible (active ∷ frozen ∷ ess)))
     → (rest : List (Key × Place)) × IsLeft w flash arena rs active frozen rest × (keys_of rest ≡ keys_there from (active ∷ frozen ∷ ess))
-left_from w from flash arena rs active frozen ess at left =
-    (wanted (is_wanted w.position) (visible (active ∷ frozen ∷ ess)), left, ap (λ (p : Position). keys_of (wanted (is_wanted p) (visible (active ∷ frozen ∷ ess)))) at ∙ keys_wanted from (visible (active ∷ frozen ∷ ess)))
+left_from w from flash arena rs active frozen ess at left = (
+  wanted (is_wanted w.position) (visible (active ∷ frozen ∷ ess)),
+  left,
+  ap (λ (p : Position). keys_of (wanted (is_wanted p) (visible (active ∷ frozen ∷ ess)))) at
+      ∙ keys_wanted from (visible (active ∷ frozen ∷ ess)),
+)
 
 -- ---- the pages of the runs
 
@@ -37,7 +42,8 @@ few_read : (leases : List ℕ) (n m : ℕ) → n ≤ m → read_of leases n ≤ 
 few_read [] n m h = h
 few_read (l ∷ leases) n m h = omega arith
 
-pub few_of_four : (rs : List Kept) (a b c d : Kept) (m : ℕ) → length rs ≡ 4 → length (slice_index_or rs 0 a).firsts ≤ m → length (slice_index_or rs 1 b).firsts ≤ m → length (slice_index_or rs 2 c).firsts ≤ m → length (slice_index_or rs 3 d).firsts ≤ m
+pub few_of_four : (rs : List Kept) (a b c d : Kept) (m : ℕ) → length rs ≡ 4 → length (slice_index_or rs 0 a).firsts ≤ m
+    → length (slice_index_or rs 1 b).firsts ≤ m → length (slice_index_or rs 2 c).firsts ≤ m → length (slice_index_or rs 3 d).firsts ≤ m
     → most_read rs ≤ m + (m + (m + m))
 few_of_four (r1 ∷ r2 ∷ r3 ∷ r4 ∷ []) a b c d m four h1 h2 h3 h4 =
     let f1 = few_read r1.leases (length r1.firsts) m h1 in

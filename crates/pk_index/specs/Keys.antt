@@ -20,7 +20,7 @@ keys_of es = map (λ e. e.0) es
 abbrev pub not_below : Key → List Key → List Key
 not_below from ks = filter (λ k. not (is_lt (key_cmp k from))) ks
 
--- the keys that are there in the lists of entries and are not below this one
+-- the keys that exist in the lists of entries and are not below this one
 abbrev pub keys_there : Key → List (List Entry) → List Key
 keys_there from lists = not_below from (keys_of (visible lists))
 

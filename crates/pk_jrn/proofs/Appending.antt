@@ -1,11 +1,12 @@
 -- What the programs of an epoch's next commit leave of the epoch, cut or not.
-use Rattle.std.proofs.Common.{◌≡◌, ◌≢◌, ◌⊎◌, inl, inr, ℕ, zero, suc, ◌+◌, ◌-◌, ◌*◌, ◌^◌, ◌<◌, ◌≤◌, refl, sym, ap, subst, ◌∙◌, arith, Bool, true, false, if◌then◌else◌, List, [], ◌∷◌, ◌++◌, length, Some, Ok, zero-add, below_more, le_refl}
+use Rattle.std.proofs.Common.{◌≡◌, ◌≢◌, ◌⊎◌, inl, inr, ℕ, zero, suc, ◌+◌, ◌-◌, ◌*◌, ◌^◌, ◌<◌, ◌≤◌, refl, sym, ap, subst, ◌∙◌, arith, Bool, true, false, if◌then◌else◌, List, [], ◌∷◌, ◌++◌, length}
+use Rattle.std.proofs.Common.{Some, Ok, zero-add, below_more, le_refl}
 use Rattle.std.specs.Prelude.{slice_index}
 use Rattle.std.specs.List.{AllByRecursion}
 use Rattle.std.proofs.lemmas.Bool.{cases_lt}
 use Rattle.pk_base.specs.declared.entry.Entry.{Entry as RustEntry}
 use Rattle.pk_base.specs.Seen.{entries as seen_all}
-use Rattle.pk_base.specs.EntryBytes.{IsEntry}
+use Rattle.pk_base.specs.EntryChecks.{IsEntry}
 use Rattle.pk_base.specs.Shape.{Shape, IsShape, epoch_pages, epoch_commits, page_entries, page_count}
 use Rattle.pk_base.specs.Page.{Page, Flash, page_at, erased, whole, torn, page_in, page_of_pair, commit_page, commit_at, commits_of}
 use Rattle.pk_base.specs.Entry.{Entry}
@@ -61,7 +62,8 @@ pair_or_not u j = elim (cases_lt j u) [
   ]
 ]
 
-module _ (e : JournalEpoch) (flash : Flash) (es : List Entry) (bytes : List ℕ) (is : IsShape e.shape) (more : e.takes_more ≡ true) (whole_made : e.half ≡ false) (inside : e.used < epoch_commits e.shape)
+module _ (e : JournalEpoch) (flash : Flash) (es : List Entry) (bytes : List ℕ) (is : IsShape e.shape)
+    (more : e.takes_more ≡ true) (whole_made : e.half ≡ false) (inside : e.used < epoch_commits e.shape)
     (fits : EpochOnFlash e flash) (different : slice_index e.blocks 0 ≢ slice_index e.blocks 1) (spells : journal_entries e.shape e.number e.used bytes ≡ Some es) where
   pages : pages_of e ≡ 2 * e.used
   pages = rw whole_made refl
@@ -151,7 +153,8 @@ module _ (e : JournalEpoch) (flash : Flash) (es : List Entry) (bytes : List ℕ)
 
     commits_before : page_at cut (next_page e) ≡ whole bytes → (j : ℕ) → j < e.used + 1 → HasCommit e.shape cut e.blocks j
     commits_before here j small =
-        let below : (j : ℕ) → j < e.used → HasCommit e.shape cut e.blocks j = λ j less. let w = fits.before j less in (w.0, ap (λ (p : ℕ × Page). p.1) (same_commit j (omega (arith, less, inside)) (inl less)) ∙ w.1) in
+        let below : (j : ℕ) → j < e.used
+        → HasCommit e.shape cut e.blocks j = λ j less. let w = fits.before j less in (w.0, ap (λ (p : ℕ × Page). p.1) (same_commit j (omega (arith, less, inside)) (inl less)) ∙ w.1) in
         below_more (λ (j : ℕ). HasCommit e.shape cut e.blocks j) e.used below (bytes, read_here here) j (omega (arith, small))
 
     -- after the first program

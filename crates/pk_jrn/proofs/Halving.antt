@@ -4,13 +4,14 @@ use Rattle.std.specs.Prelude.{slice_index}
 use Rattle.std.specs.List.{AllByRecursion}
 use Rattle.pk_base.specs.declared.entry.Entry.{Entry as RustEntry}
 use Rattle.pk_base.specs.Seen.{entries as seen_all}
-use Rattle.pk_base.specs.EntryBytes.{IsEntry}
+use Rattle.pk_base.specs.EntryChecks.{IsEntry}
 use Rattle.pk_base.specs.Shape.{Shape, IsShape, epoch_pages, epoch_commits, page_entries}
 use Rattle.pk_base.specs.Page.{Flash, page_at, erased, whole, page_in}
 use Rattle.pk_base.specs.Entry.{Entry}
 use Rattle.pk_base.proofs.CommitPages.{second}
 use Rattle.pk_nand.specs.BoardState.{BoardState}
-use Rattle.pk_nand.specs.Calls.{InOrder, after_program}
+use Rattle.pk_nand.specs.Calls.{after_program}
+use Rattle.pk_nand.specs.Operations.{InOrder}
 use Rattle.pk_nand.specs.Crash.{Reached, Went}
 use Rattle.pk_nand.specs.Pairs.{IsPairCut}
 use Rattle.pk_nand.proofs.Leaving.{page_at-slice_set}
@@ -34,7 +35,8 @@ module _ (e : JournalEpoch) (board : BoardState) (es : List Entry) (bytes : List
   second_free : page_at board.pages (next_page e + 1) ≡ erased
   second_free = second_erased e board.pages es bytes is (takes_more e left) whole_made (commit_left e left) fits different spells
 
-  half_made : (new : BoardState) → new ≡ after_program board (next_page e) bytes → IsPairCut (next_page e) bytes board.pages new.pages → page_at new.pages (next_page e) ≡ whole bytes → IsHalfMade begun es board.pages new.pages
+  half_made : (new : BoardState) → new ≡ after_program board (next_page e) bytes → IsPairCut (next_page e) bytes board.pages new.pages
+      → page_at new.pages (next_page e) ≡ whole bytes → IsHalfMade begun es board.pages new.pages
   half_made new made is_cut here =
       let still : page_at new.pages (next_page e + 1) ≡ erased =
       ap (λ (b : BoardState). page_at b.pages (next_page e + 1)) made ∙ page_at-slice_set board.pages (next_page e) (next_page e + 1) (whole bytes) (λ same. omega (arith, same)) ∙ second_free in
@@ -119,7 +121,8 @@ module _ (e : JournalEpoch) (board : BoardState) (es : List Entry) (former : Fla
 
   module _ (new : BoardState) (made : new ≡ after_program board (next_page b + 1) (last_bytes e es)) (is_cut : IsPairCut (next_page b) (last_bytes e es) former new.pages) where
     still_here : page_at new.pages (next_page b) ≡ whole (last_bytes e es)
-    still_here = ap (λ (s : BoardState). page_at s.pages (next_page b)) made ∙ page_at-slice_set board.pages (next_page b + 1) (next_page b) (whole (last_bytes e es)) (λ same. omega (arith, same)) ∙ half.here
+    still_here = ap (λ (s : BoardState). page_at s.pages (next_page b)) made
+        ∙ page_at-slice_set board.pages (next_page b + 1) (next_page b) (whole (last_bytes e es)) (λ same. omega (arith, same)) ∙ half.here
 
     pub Ends-list : AddsAll b es former new.pages
     Ends-list = adds_all b former es (last_bytes e es) is half.more refl (commit_left b left) half.stood different spells new.pages is_cut still_here

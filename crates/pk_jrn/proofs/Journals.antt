@@ -1,5 +1,6 @@
 -- The reading of an epoch, commit by commit.
-use Rattle.std.proofs.Common.{◌≡◌, ℕ, zero, suc, ◌+◌, ◌*◌, ◌/◌, ◌%◌, ◌<◌, ◌≤◌, refl, sym, ap, subst, ◌∙◌, arith, Bool, true, false, List, [], ◌∷◌, ◌++◌, length, nat_le, Option, Some, None, Result, Ok, Err, add-zero, le_refl}
+use Rattle.std.proofs.Common.{◌≡◌, ℕ, zero, suc, ◌+◌, ◌*◌, ◌/◌, ◌%◌, ◌<◌, ◌≤◌, refl, sym, ap, subst, ◌∙◌, arith, Bool, true, false, List, [], ◌∷◌, ◌++◌, length, nat_le, Option, Some, None, Result, Ok}
+use Rattle.std.proofs.Common.{Err, add-zero, le_refl}
 use Rattle.std.specs.Prelude.{⊤}
 use Rattle.std.proofs.lemmas.Bool.Decides.{nat_tests}
 use Rattle.pk_base.specs.Shape.{Shape, IsShape, buffer, epoch_commits}
@@ -11,9 +12,7 @@ use Rattle.pk_jrnfmt.specs.Page.{journal_entries}
 use Rattle.pk_jrnfmt.specs.Epoch.{journal, epoch}
 use Rattle.pk_jrn.specs.Laws.{SameBlocks}
 use Rattle.pk_jrn.proofs.Places.{commit_same}
-
-pub ok_same : {A : Type 0} (x y : A) → ◌≡◌ {A = Result A Refusal} (Ok x) (Ok y) → x ≡ y
-ok_same x y e = cc
+use Rattle.pk_base.proofs.Logic.{ok_same}
 
 -- a step that gave something, and what followed
 bind_ok : {A B : Type 0} (r : Result A Refusal) (f : A → Result B Refusal) (b : B) → r >>= f ≡ Ok b → (a : A) × (r ≡ Ok a) × (f a ≡ Ok b)
@@ -44,7 +43,8 @@ module _ (shape : Shape) (number : ℕ) where
   ends_at index before p (whole bytes) pages not_whole = absurd (not_whole bytes refl)
 
   module _ (blocks : List ℕ) where
-    pub ends : (at : ℕ → Page) (index : ℕ) (before : List Entry) (n : ℕ) → IsNotWhole (commit_at shape at blocks index).1 → journal shape number index before (commits_of shape at blocks index n) ≡ Ok before
+    pub ends : (at : ℕ → Page) (index : ℕ) (before : List Entry) (n : ℕ) → IsNotWhole (commit_at shape at blocks index).1
+        → journal shape number index before (commits_of shape at blocks index n) ≡ Ok before
     ends at index before zero not_whole = refl
     ends at index before (suc n) not_whole = ends_at index before (commit_at shape at blocks index).0 (commit_at shape at blocks index).1 (commits_of shape at blocks (index + 1) n) not_whole
 
@@ -54,7 +54,8 @@ module _ (shape : Shape) (number : ℕ) where
       p = (commit_at shape at blocks index).0
 
       step : journal shape number index before (commits_of shape at blocks index (suc n))
-          ≡ (some_or (journal_entries shape number index bytes) (damaged p) >>= (λ es. ensure (nat_le (length (firsts (before ++ es))) (buffer shape)) p >>= (λ _. journal shape number (index + 1) (before ++ es) (commits_of shape at blocks (index + 1) n))))
+          ≡ (some_or (journal_entries shape number index bytes) (damaged p) >>=
+          (λ es. ensure (nat_le (length (firsts (before ++ es))) (buffer shape)) p >>= (λ _. journal shape number (index + 1) (before ++ es) (commits_of shape at blocks (index + 1) n))))
       unfolding p
       step = ap (λ (page : Page). journal shape number index before ((p, page) ∷ commits_of shape at blocks (index + 1) n)) here
 
@@ -72,7 +73,8 @@ module _ (shape : Shape) (number : ℕ) where
       refuses many = step ∙ by_cases (journal_entries shape number index bytes) refl
         where
           by_cases : (o : Option (List Entry)) → journal_entries shape number index bytes ≡ o
-              → (some_or o (damaged p) >>= (λ es. ensure (nat_le (length (firsts (before ++ es))) (buffer shape)) p >>= (λ _. journal shape number (index + 1) (before ++ es) (commits_of shape at blocks (index + 1) n)))) ≡ Err (damaged p)
+              → (some_or o (damaged p) >>= (λ es. ensure (nat_le (length (firsts (before ++ es))) (buffer shape)) p >>=
+              (λ _. journal shape number (index + 1) (before ++ es) (commits_of shape at blocks (index + 1) n)))) ≡ Err (damaged p)
           by_cases None e = refl
           by_cases (Some es) e =
               let more = many es e in
@@ -113,18 +115,21 @@ module _ (shape : Shape) (number : ℕ) where
         let e : suc n + rest ≡ suc (n + rest) = omega arith in
         let m : index + 1 + n ≡ index + suc n = omega arith in
         let w = are_whole index (le_refl index) (omega arith) in
-        let is' : journal shape number index before (commits_of shape at blocks index (suc (n + rest))) ≡ Ok all = subst (λ (k : ℕ). journal shape number index before (commits_of shape at blocks index k) ≡ Ok all) e is in
+        let is' : journal shape number index before (commits_of shape at blocks index (suc (n + rest)))
+        ≡ Ok all = subst (λ (k : ℕ). journal shape number index before (commits_of shape at blocks index k) ≡ Ok all) e is in
         let g = went_on at index before (n + rest) w.0 w.1 all is' in
         let within : length (firsts (before ++ g.0)) ≤ buffer shape = grind (arith, nat_tests, g.2) in
         ap (λ (k : ℕ). journal shape number index before (commits_of shape at' blocks index k)) e
         ∙ goes_on at' index before (n + rest) w.0 (ap (λ (p : ℕ × Page). p.1) (same index (le_refl index) (omega arith)) ∙ w.1) g.0 g.1 within
-        ∙ reads_on at at' n rest (index + 1) (before ++ g.0) all (λ j low high. are_whole j (omega (arith, low)) (omega (arith, high))) (λ j low high. same j (omega (arith, low)) (omega (arith, high)))
+        ∙ reads_on at at' n rest (index + 1) (before ++ g.0) all (λ j low high. are_whole j (omega (arith, low)) (omega (arith, high)))
+        (λ j low high. same j (omega (arith, low)) (omega (arith, high)))
         (subst (λ (k : ℕ). IsNotWhole (commit_at shape at blocks k).1) (sym m) stop) g.3
         ∙ (λ i. journal shape number (m i) all (commits_of shape at' blocks (m i) rest))
 
 -- ---- whole epochs
 
-pub epoch_is : (shape : Shape) (at : ℕ → Page) (number : ℕ) (blocks : List ℕ) (n : ℕ) → IsShape shape → length blocks ≡ 2 → epoch_commits shape ≡ n → epoch shape at number blocks ≡ journal shape number 0 [] (commits_of shape at blocks 0 n)
+pub epoch_is : (shape : Shape) (at : ℕ → Page) (number : ℕ) (blocks : List ℕ) (n : ℕ) → IsShape shape → length blocks ≡ 2
+    → epoch_commits shape ≡ n → epoch shape at number blocks ≡ journal shape number 0 [] (commits_of shape at blocks 0 n)
 unfolding epoch
 epoch_is shape at number blocks n is two size =
     let eights : shape.block_pages % 8 ≡ 0 = is.eights in
@@ -132,15 +137,18 @@ epoch_is shape at number blocks n is two size =
     let all : length blocks * (shape.block_pages / 2) ≡ n = ap (λ k. k * (shape.block_pages / 2)) two ∙ pairs ∙ size in
     ap (λ k. journal shape number 0 [] (commits_of shape at blocks 0 k)) all
 
-commits_from_same : (shape : Shape) (at at' : ℕ → Page) (blocks : List ℕ) (i n : ℕ) → ((j : ℕ) → i ≤ j → j < i + n → commit_at shape at' blocks j ≡ commit_at shape at blocks j) → commits_of shape at' blocks i n ≡ commits_of shape at blocks i n
+commits_from_same : (shape : Shape) (at at' : ℕ → Page) (blocks : List ℕ) (i n : ℕ)
+    → ((j : ℕ) → i ≤ j → j < i + n → commit_at shape at' blocks j ≡ commit_at shape at blocks j) → commits_of shape at' blocks i n ≡ commits_of shape at blocks i n
 commits_from_same shape at at' blocks i zero same = refl
 commits_from_same shape at at' blocks i (suc n) same = λ k. same i (le_refl i) (omega arith) k ∷ commits_from_same shape at at' blocks (i + 1) n (λ j low high. same j (omega arith) (omega arith)) k
 
 -- if the blocks are the same, what is read is the same
-pub reads_same : (shape : Shape) (number : ℕ) (blocks : List ℕ) (old new : Flash) → IsShape shape → length blocks ≡ 2 → SameBlocks shape blocks old new → epoch shape (page_at new) number blocks ≡ epoch shape (page_at old) number blocks
+pub reads_same : (shape : Shape) (number : ℕ) (blocks : List ℕ) (old new : Flash) → IsShape shape → length blocks ≡ 2
+    → SameBlocks shape blocks old new → epoch shape (page_at new) number blocks ≡ epoch shape (page_at old) number blocks
 reads_same shape number blocks old new is two same =
     epoch_is shape (page_at new) number blocks (epoch_commits shape) is two refl
-    ∙ ap (journal shape number 0 []) (commits_from_same shape (page_at old) (page_at new) blocks 0 (epoch_commits shape) (λ j low high. commit_same shape blocks old new is j same (omega (arith, high))))
+    ∙ ap (journal shape number 0 [])
+    (commits_from_same shape (page_at old) (page_at new) blocks 0 (epoch_commits shape) (λ j low high. commit_same shape blocks old new is j same (omega (arith, high))))
     ∙ sym (epoch_is shape (page_at old) number blocks (epoch_commits shape) is two refl)
 
 -- an epoch whose first commit has no page that is whole has no entries

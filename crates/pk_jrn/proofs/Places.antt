@@ -1,21 +1,17 @@
 -- The pages of an epoch's two blocks.
-use Rattle.std.proofs.Common.{◌≡◌, ◌≢◌, ℕ, suc, ◌+◌, ◌-◌, ◌*◌, ◌/◌, ◌%◌, ◌<◌, ◌≤◌, refl, sym, ap, subst, ◌∙◌, arith, List, Bool, true, false, if◌then◌else◌, div-add-mod', mul-le-mul_right, inl, inr}
+use Rattle.std.proofs.Common.{◌≡◌, ◌≢◌, ℕ, ◌+◌, ◌-◌, ◌*◌, ◌/◌, ◌%◌, ◌<◌, ◌≤◌, refl, sym, ap, subst, ◌∙◌, arith, List, Bool, true, false, if◌then◌else◌, div-add-mod', inl, inr}
 use Rattle.std.specs.Prelude.{slice_index}
-use Rattle.std.proofs.Math.Nat.{suc-mul}
 use Rattle.std.proofs.lemmas.Nat.{div-mul-add, mod-mul-add}
 use Rattle.std.proofs.lemmas.Bool.{cases_lt}
 use Rattle.pk_base.specs.Shape.{Shape, IsShape, epoch_pages, epoch_commits, page_count}
 use Rattle.pk_base.specs.Page.{Page, Flash, page_at, erased, page_in, page_of_pair, commit_page, commit_at}
 use Rattle.pk_base.proofs.CommitPages.{second}
 use Rattle.pk_base.proofs.EpochPages.{half, rest, low, high}
-use Rattle.pk_nand.specs.Calls.{InOrder}
+use Rattle.pk_nand.specs.Operations.{InOrder}
 use Rattle.pk_nand.specs.Crash.{SameOutside}
 use Rattle.pk_jrn.specs.Epochs.{JournalEpoch, EpochOnFlash, AllExist, AreErased, next_page, pages_of}
 use Rattle.pk_jrn.specs.Laws.{SameBlocks}
-
--- the rows of block a end if those of a later block begin, or before
-pub apart : (a b n : ℕ) → a < b → a * n + n ≤ b * n
-apart a b n h = omega (arith, mul-le-mul_right {m = suc a} {n = b} n (omega arith), suc-mul a n)
+use Rattle.pk_base.proofs.BlockLemmas.{apart}
 
 module _ (shape : Shape) (blocks : List ℕ) where
   -- the page of an index, by its block and its place in it
@@ -25,7 +21,8 @@ module _ (shape : Shape) (blocks : List ℕ) where
   module _ (index : ℕ) (inside : index < epoch_pages shape) where
     pub page_exists : AllExist shape blocks → page_in shape blocks index < page_count shape
     page_exists all =
-        let end : slice_index blocks (index / shape.block_pages) * shape.block_pages + shape.block_pages ≤ shape.blocks * shape.block_pages = apart _ shape.blocks shape.block_pages (all (index / shape.block_pages) (half shape blocks index inside)) in
+        let end : slice_index blocks (index / shape.block_pages) * shape.block_pages + shape.block_pages ≤ shape.blocks * shape.block_pages = apart _ shape.blocks shape.block_pages
+        (all (index / shape.block_pages) (half shape blocks index inside)) in
         let r = rest shape blocks index inside in
         omega (arith, end, r)
 
@@ -56,7 +53,8 @@ InOrder-place shape blocks flash u inside filled free =
 pub InOrder-next_page : (e : JournalEpoch) (flash : Flash) → e.takes_more ≡ true → e.half ≡ false → e.used < epoch_commits e.shape → EpochOnFlash e flash → InOrder e.shape flash (next_page e)
 InOrder-next_page e flash more whole_made inside fits =
     let pages : pages_of e ≡ 2 * e.used = rw whole_made refl in
-    InOrder-place e.shape e.blocks flash (2 * e.used) (omega (arith, inside)) (λ j low. fits.filled more j (omega (arith, pages, low))) (λ j low high. fits.behind more j (omega (arith, pages, low)) high)
+    InOrder-place e.shape e.blocks flash (2 * e.used) (omega (arith, inside))
+    (λ j low. fits.filled more j (omega (arith, pages, low))) (λ j low high. fits.behind more j (omega (arith, pages, low)) high)
 
 -- ---- pages of the two blocks
 
@@ -65,11 +63,13 @@ pub pages_erased : (shape : Shape) (flash : Flash) (blocks : List ℕ) (j : ℕ)
 pages_erased shape flash blocks j all small = all (j / shape.block_pages) (half shape blocks j small) (page_in shape blocks j) (low shape blocks j small) (high shape blocks j small)
 
 -- if the blocks are the same, each page of the epoch is
-pub pages_same : (shape : Shape) (blocks : List ℕ) (old new : Flash) (j : ℕ) → SameBlocks shape blocks old new → j < epoch_pages shape → page_at new (page_in shape blocks j) ≡ page_at old (page_in shape blocks j)
+pub pages_same : (shape : Shape) (blocks : List ℕ) (old new : Flash) (j : ℕ) → SameBlocks shape blocks old new
+    → j < epoch_pages shape → page_at new (page_in shape blocks j) ≡ page_at old (page_in shape blocks j)
 pages_same shape blocks old new j same small = same (j / shape.block_pages) (half shape blocks j small) (page_in shape blocks j) (low shape blocks j small) (high shape blocks j small)
 
 -- so is each commit
-pub commit_same : (shape : Shape) (blocks : List ℕ) (old new : Flash) → IsShape shape → (j : ℕ) → SameBlocks shape blocks old new → j < epoch_commits shape → commit_at shape (page_at new) blocks j ≡ commit_at shape (page_at old) blocks j
+pub commit_same : (shape : Shape) (blocks : List ℕ) (old new : Flash) → IsShape shape → (j : ℕ) → SameBlocks shape blocks old new
+    → j < epoch_commits shape → commit_at shape (page_at new) blocks j ≡ commit_at shape (page_at old) blocks j
 commit_same shape blocks old new is j same small =
     let next : page_in shape blocks (2 * j + 1) ≡ commit_page shape blocks j + 1 = second shape blocks is j in
     let one : page_at new (commit_page shape blocks j) ≡ page_at old (commit_page shape blocks j) = pages_same shape blocks old new (2 * j) same (omega (arith, small)) in

@@ -1,5 +1,6 @@
 -- Entries that are written one after another: the later one of a key counts.
-use Rattle.std.proofs.Common.{◌≡◌, ℕ, suc, ◌+◌, ◌<◌, ◌≤◌, refl, sym, ap, subst, ◌∙◌, arith, Bool, true, false, cond, ◌&&◌, ◌||◌, T, List, [], ◌∷◌, ◌++◌, reverse, length, append_assoc, append-nil, Option, Some, None, is_some}
+use Rattle.std.proofs.Common.{◌≡◌, ℕ, suc, ◌+◌, ◌<◌, ◌≤◌, refl, sym, ap, subst, ◌∙◌, arith, Bool, true, false, cond, ◌&&◌, ◌||◌, T, List, [], ◌∷◌, ◌++◌, reverse, length, append_assoc, append-nil}
+use Rattle.std.proofs.Common.{Option, Some, None, is_some}
 use Rattle.std.specs.Prelude.{⊤, MatchOption}
 use Rattle.std.specs.Ordering.{is_lt, eq_by_cmp}
 use Rattle.std.specs.Cmp.Lexicographic.{nat_list_cmp_total}
@@ -11,6 +12,7 @@ use Rattle.pk_base.specs.Entry.{Entry, Place}
 use Rattle.pk_base.specs.declared.entry.Entry.{Entry as RustEntry}
 use Rattle.pk_base.specs.Firsts.{firsts}
 use Rattle.pk_jrn.specs.Replays.{puts}
+use Rattle.pk_base.proofs.KeyLemmas.{firsts_sorted}
 
 key_antisymm : IsAntisymmetric key_cmp
 key_antisymm = slice_cmp-IsAntisymmetric nat_cmp-IsAntisymmetric
@@ -33,10 +35,6 @@ puts_are_firsts before (e ∷ es) =
     ap (puts es) (sym one) ∙ puts_are_firsts (before ++ e ∷ []) es ∙ ap (λ x. firsts (reverse x)) (append_assoc before (e ∷ []) es)
 
 -- ---- a table grows
-
-pub firsts_sorted : (es : List Entry) → T (is_sorted key_cmp (firsts es))
-firsts_sorted [] = tt
-firsts_sorted (e ∷ es) = is_sorted-put key_cmp nat_list_cmp_total e.0 e.1 (firsts es) (firsts_sorted es)
 
 pub puts_sorted : (es table : List Entry) → T (is_sorted key_cmp table) → T (is_sorted key_cmp (puts es table))
 puts_sorted [] table up = up
@@ -137,7 +135,8 @@ firsts-reverse es = same_length (firsts (reverse es)) (firsts es) (firsts_sorted
     ∙ sym (find-has q es) ∙ ap is_some (sym (find-firsts q es)) ∙ find-has q (firsts es))
 
 -- if there is no room and the key is not there, the entry makes it too long
-pub full : (n room : ℕ) (k : Key) (v : Option Place) (table : List Entry) → T (is_sorted key_cmp table) → room + length table ≡ n → room ≡ 0 → find key_cmp k table ≡ None → n < length (put key_cmp k v table)
+pub full : (n room : ℕ) (k : Key) (v : Option Place) (table : List Entry) → T (is_sorted key_cmp table)
+    → room + length table ≡ n → room ≡ 0 → find key_cmp k table ≡ None → n < length (put key_cmp k v table)
 full n room k v table up is none absent = let more = put_new k v table up absent in omega (arith, is, none, more)
 
 pub none_of : (o : Option RustEntry) (P : Type 0) (Q : RustEntry → Type 0) → MatchOption o P Q → is_some o ≡ false → P

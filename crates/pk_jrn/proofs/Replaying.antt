@@ -1,5 +1,6 @@
 -- The commits of an epoch that are read one after another into a write buffer.
-use Rattle.std.proofs.Common.{◌≡◌, ℕ, zero, suc, ◌+◌, ◌-◌, ◌^◌, ◌<◌, ◌≤◌, refl, sym, ap, subst, ◌∙◌, arith, Bool, true, false, T, List, [], ◌∷◌, ◌++◌, length, take, Some, None, Result, Ok, Err, below_more, zero-add, add-zero}
+use Rattle.std.proofs.Common.{◌≡◌, ℕ, zero, suc, ◌+◌, ◌-◌, ◌^◌, ◌<◌, ◌≤◌, refl, sym, ap, subst, ◌∙◌, arith, Bool, true, false, T, List, [], ◌∷◌, ◌++◌, length, take, Some, None, Result, Ok, Err}
+use Rattle.std.proofs.Common.{below_more, zero-add, add-zero}
 use Rattle.std.specs.Prelude.{slice_get, ◌*◌, ◌/◌, ◌%◌}
 use Rattle.std.specs.List.{AllByRecursion}
 use Rattle.std.specs.FinMap.Entries.{put, is_sorted}
@@ -8,21 +9,23 @@ use Rattle.pk_base.specs.Key.{key_cmp}
 use Rattle.pk_base.specs.Shape.{Shape, IsShape, buffer, epoch_commits}
 use Rattle.pk_base.specs.Page.{Page, page_at, erased, whole, torn, commit_page, commit_at, commits_of}
 use Rattle.pk_base.specs.Entry.{Entry, key_of}
-use Rattle.pk_base.specs.EntryBytes.{IsEntry}
+use Rattle.pk_base.specs.EntryChecks.{IsEntry}
 use Rattle.pk_base.specs.Firsts.{firsts}
 use Rattle.pk_base.specs.Refusal.{damaged}
 use Rattle.pk_buf.specs.Table.{Table, no_entries}
 use Rattle.pk_jrnfmt.specs.declared.JrnHead.{JrnHead}
 use Rattle.pk_jrnfmt.specs.declared.BadJournal.{BadJournal}
-use Rattle.pk_jrnfmt.specs.Page.{IsJournalPage, journal_entries}
+use Rattle.pk_jrnfmt.specs.Page.{journal_entries}
+use Rattle.pk_jrnfmt.specs.PageChecks.{IsJournalPage}
 use Rattle.pk_jrnfmt.specs.Epoch.{journal, epoch}
 use Rattle.pk_jrnfmt.proofs.PageLemmas.{journal_held}
 use Rattle.pk_nand.specs.BoardState.{BoardState}
-use Rattle.pk_nand.specs.Calls.{after_read}
+use Rattle.pk_nand.specs.Operations.{after_read}
 use Rattle.pk_nand.specs.Counts.{after_reads}
 use Rattle.pk_pair.specs.Pairs.{reads_of_pair, whole_number}
 use Rattle.pk_jrn.specs.Epochs.{HasCommit}
-use Rattle.pk_jrn.specs.Replays.{puts, PutOrFull, PutsOrFull, TakesPage, buffer_of, Replayed, if_whole, reads_to_end, epoch_reads, reads_before, ReplayRefused}
+use Rattle.pk_jrn.specs.Replays.{puts, PutOrFull, PutsOrFull, TakesPage, buffer_of, Replayed, reads_before, ReplayRefused}
+use Rattle.pk_jrn.specs.EpochReads.{if_whole, reads_to_end, epoch_reads}
 use Rattle.pk_jrn.proofs.Puts.{puts-snoc, puts_are_firsts, puts_too_many, firsts-reverse}
 use Rattle.pk_jrn.proofs.Journals.{IsNotWhole, ends, goes_on, refuses, epoch_is}
 
@@ -92,7 +95,8 @@ page_taken shape number index count page old false new fits within reads all =
 
 -- what a page is read as, if it is that of an epoch and index
 abbrev pub Decoded : Shape → List ℕ → Result JrnHead BadJournal → Type 0
-Decoded shape page r = (epoch index : ℕ) (entries : List Entry) → epoch < 2 ^ 64 → index < epoch_commits shape → journal_entries shape epoch index page ≡ Some entries → r ≡ Ok (record { epoch = epoch; index = index; count = length entries })
+Decoded shape page r = (epoch index : ℕ) (entries : List Entry) → epoch < 2 ^ 64 → index < epoch_commits shape
+    → journal_entries shape epoch index page ≡ Some entries → r ≡ Ok (record { epoch = epoch; index = index; count = length entries })
 
 -- it is that of another epoch or index
 pub page_of_another : (shape : Shape) (number index : ℕ) (page : List ℕ) (old : Table) (r : Result JrnHead BadJournal) (head : JrnHead) → number < 2 ^ 64 → index < epoch_commits shape
@@ -148,7 +152,8 @@ ends_here (whole bytes) more not_whole = absurd (not_whole bytes refl)
 goes_here : (page : Page) (bytes : List ℕ) (more : ℕ) → page ≡ whole bytes → if_whole page more ≡ more
 goes_here page bytes more is = ap (λ (q : Page). if_whole q more) is
 
-reads_are : (shape : Shape) (at : ℕ → Page) (blocks : List ℕ) (rest : ℕ) → IsShape shape → length blocks ≡ 2 → epoch_commits shape ≡ rest → epoch_reads shape at blocks ≡ reads_to_end shape at blocks 0 rest
+reads_are : (shape : Shape) (at : ℕ → Page) (blocks : List ℕ) (rest : ℕ) → IsShape shape → length blocks ≡ 2
+    → epoch_commits shape ≡ rest → epoch_reads shape at blocks ≡ reads_to_end shape at blocks 0 rest
 reads_are shape at blocks rest is two all =
     let eights : shape.block_pages % 8 ≡ 0 = is.eights in
     let pairs : 2 * (shape.block_pages / 2) ≡ shape.block_pages = omega (arith, eights) in
@@ -195,7 +200,8 @@ module _ (shape : Shape) (number : ℕ) (blocks : List ℕ) (old : BoardState) w
     pages_stay = ap (λ b. b.pages) r.board
 
     -- the reads of the next commit, counted by the board as it is
-    pub reads_moved : (new : BoardState) (p : ℕ) → p ≡ commit_page shape blocks i → new ≡ after_reads (reads_of_pair (page_at now.pages p)) now → new ≡ after_reads (reads_of_pair (at (commit_page shape blocks i))) now
+    pub reads_moved : (new : BoardState) (p : ℕ) → p ≡ commit_page shape blocks i
+        → new ≡ after_reads (reads_of_pair (page_at now.pages p)) now → new ≡ after_reads (reads_of_pair (at (commit_page shape blocks i))) now
     reads_moved new p is read = read ∙ (λ k. after_reads (reads_of_pair (page_at (pages_stay k) (is k))) now)
 
     room : into.capacity ≡ buffer shape
@@ -236,7 +242,8 @@ module _ (shape : Shape) (number : ℕ) (blocks : List ℕ) (old : BoardState) w
         record {
           entries = r.entries ++ es;
           board = read_more new read;
-          held = takes.2.0 ∙ ap (λ (t : Table). record t { entries = puts es t.entries }) r.held ∙ ap (λ (xs : List Entry). record { capacity = buffer shape; entries = xs }) (puts_are_firsts r.entries es);
+          held = takes.2.0 ∙ ap (λ (t : Table). record t { entries = puts es t.entries }) r.held
+              ∙ ap (λ (xs : List Entry). record { capacity = buffer shape; entries = xs }) (puts_are_firsts r.entries es);
           left = left_here (suc (epoch_commits shape - (i + 1))) step ∙ goes_on shape number blocks at i r.entries (epoch_commits shape - (i + 1)) bytes here es takes.1 within;
           reads = omega (arith, all, gone, shifted);
           before = λ j small. below_more (λ (j : ℕ). HasCommit shape old.pages blocks j) i r.before (bytes, here) j (omega (arith, small));

@@ -3,7 +3,7 @@ use Rattle.std.specs.Prelude.{◌≡◌, ◌≢◌, ℕ, ◌-◌, ◌*◌, ◌<�
 use Rattle.pk_base.specs.Shape.{Shape, epoch_pages, epoch_commits}
 use Rattle.pk_base.specs.Page.{Flash, page_at, erased, whole, page_in, commit_page, commit_at}
 use Rattle.pk_base.specs.Entry.{Entry}
-use Rattle.pk_nand.specs.Calls.{IsErasedBlock}
+use Rattle.pk_nand.specs.Operations.{IsErasedBlock}
 use Rattle.pk_jrnfmt.specs.Epoch.{epoch}
 
 -- Its number, its blocks in their order, how many commits it has, and whether it takes more. The last commit may be half made: of its pages

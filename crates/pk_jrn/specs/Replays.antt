@@ -1,12 +1,12 @@
 -- An epoch that is read from a flash into a write buffer.
-use Rattle.std.specs.Prelude.{◌≡◌, ℕ, zero, suc, ◌+◌, ◌*◌, ◌/◌, ◌<◌, ◌≤◌, Bool, true, false, List, [], ◌∷◌, length, reverse, Some, Ok, Err}
+use Rattle.std.specs.Prelude.{◌≡◌, ℕ, zero, suc, ◌+◌, ◌<◌, ◌≤◌, Bool, true, false, List, [], ◌∷◌, length, reverse, Some, Ok, Err}
 use Rattle.std.specs.FinMap.Entries.{put}
 use Rattle.std.specs.List.{AllByRecursion}
 use Rattle.pk_base.specs.Key.{key_cmp}
 use Rattle.pk_base.specs.Shape.{Shape, buffer, epoch_commits}
-use Rattle.pk_base.specs.Page.{Page, erased, whole, torn, Flash, page_at, commit_page, commit_at}
+use Rattle.pk_base.specs.Page.{Page, Flash, page_at, commit_page, commit_at}
 use Rattle.pk_base.specs.Entry.{Entry, key_of}
-use Rattle.pk_base.specs.EntryBytes.{IsEntry}
+use Rattle.pk_base.specs.EntryChecks.{IsEntry}
 use Rattle.pk_base.specs.Firsts.{firsts}
 use Rattle.pk_base.specs.Refusal.{damaged}
 use Rattle.pk_jrnfmt.specs.Page.{journal_entries}
@@ -23,22 +23,6 @@ use Rattle.pk_jrn.specs.Epochs.{HasCommit}
 -- a write buffer that holds these entries, of which the later one of a key counts
 abbrev pub buffer_of : Shape → List Entry → Table
 buffer_of shape es = record { capacity = buffer shape; entries = firsts (reverse es) }
-
--- the reads go on after a commit if it has a page that is Whole
-abbrev pub if_whole : Page → ℕ → ℕ
-if_whole erased more = 0
-if_whole (whole bytes) more = more
-if_whole torn more = 0
-
--- the reads of n commits from an index on, up to the first that has no page that is Whole, and that one
-abbrev pub reads_to_end : Shape → (ℕ → Page) → List ℕ → ℕ → ℕ → ℕ
-reads_to_end shape at blocks i zero = 0
-reads_to_end shape at blocks i (suc n) =
-    reads_of_pair (at (commit_page shape blocks i)) + if_whole (commit_at shape at blocks i).1 (reads_to_end shape at blocks (i + 1) n)
-
--- an epoch is read up to its end; one without blocks is not read
-abbrev pub epoch_reads : Shape → (ℕ → Page) → List ℕ → ℕ
-epoch_reads shape at blocks = reads_to_end shape at blocks 0 (length blocks * (shape.block_pages / 2))
 
 -- the reads of the commits before an index
 abbrev pub reads_before : Shape → (ℕ → Page) → List ℕ → ℕ → ℕ

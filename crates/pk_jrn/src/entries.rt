@@ -1,15 +1,15 @@
 //! The entries of a journal page, written into a write buffer.
-ghost use Rattle.std.specs.Prelude.{◌≡◌, ℕ, ◌<◌, List, length, MatchBool};
+ghost use Rattle.std.specs.Prelude.{◌≡◌, ℕ, ◌<◌, List, length};
 ghost use Rattle.pk_base.specs.Fields.{number_at};
 ghost use Rattle.pk_base.specs.Shape.{epoch_commits};
 ghost use Rattle.pk_base.specs.Entry.{Entry as EntrySpec};
 ghost use Rattle.pk_base.specs.Seen.{entry as seen};
-ghost use Rattle.pk_jrnfmt.specs.Page.{Decodes, IsJournalPage};
+ghost use Rattle.pk_jrnfmt.specs.PageChecks.{Decodes, IsJournalPage};
 ghost use Rattle.pk_jrn.specs.Replays.{PutOrFull, PutsOrFull, TakesPage};
 
 use pk_base::{Entry, Shape};
 use pk_buf::Buffer;
-use pk_jrnfmt::{JrnHead, decode, entry};
+use pk_jrnfmt::{decode, entry};
 use pk_region::Region;
 
 // Writes the entry, unless there is no room for its key.
@@ -46,14 +46,6 @@ fn put_all<A: Region>(shape: &Shape, page: &[u8], count: u32, into: &mut Buffer<
     true
 }
 
-// Whether a page is the one of this epoch and index.
-fn is_of(head: JrnHead, number: u64, index: u32) -> bool
-    ensures { MatchBool result ((head.epoch ≡ number) × (head.index ≡ index)) ((head.epoch ≡ number)
-        × (head.index ≡ index) → ⊥) }
-{
-    head.epoch == number && head.index == index
-}
-
 /// Writes the entries of the epoch's page of this index, unless the bytes are none or there is no room for all of them.
 pub fn take_page<A: Region>(
     shape: &Shape,
@@ -68,7 +60,7 @@ pub fn take_page<A: Region>(
 {
     match decode(shape, page) {
         Ok(head) => {
-            if is_of(head, number, index) {
+            if head.is_of(number, index) {
                 put_all(shape, page, head.count, into)
             } else {
                 false

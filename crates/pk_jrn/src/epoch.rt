@@ -3,7 +3,7 @@ ghost use Rattle.std.specs.Prelude.{◌≡◌, ◌+◌, ◌<◌, ◌≤◌, ◌�
 ghost use Rattle.std.specs.List.{AllByRecursion};
 ghost use Rattle.pk_base.specs.Shape.{page_entries, epoch_commits};
 ghost use Rattle.pk_base.specs.Page.{Flash};
-ghost use Rattle.pk_base.specs.EntryBytes.{IsEntry};
+ghost use Rattle.pk_base.specs.EntryChecks.{IsEntry};
 ghost use Rattle.pk_base.specs.Seen.{entries as seen_all};
 ghost use Rattle.pk_nand.specs.Calls.{IsReady, after_programs, ProgramsFailed};
 ghost use Rattle.pk_nand.specs.declared.types.Fault.TheVariants.{Stopped};

@@ -1,7 +1,7 @@
 //! The epochs of the journal. `append` adds entries to an epoch by the two programs of a pair:
-//! wherever they are cut, all of them or none. `replay` reads an epoch into a write buffer, if the
-//! later entry of a key counts, or names the page that refuses. Laws say what changes elsewhere on
-//! the flash leave of an epoch.
+//! at every cut all of them or none. `replay` reads an epoch into a write buffer, in which the later
+//! entry of a key counts, or names the page that refuses. Laws say what of an epoch is unchanged if
+//! other parts of the flash change.
 #![tactic(auto)]
 
 mod entries;

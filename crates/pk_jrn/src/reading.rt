@@ -5,7 +5,8 @@ ghost use Rattle.pk_nand.specs.Calls.{IsReady};
 ghost use Rattle.pk_nand.specs.Counts.{after_reads};
 ghost use Rattle.pk_buf.specs.Table.{no_entries};
 ghost use Rattle.pk_jrn.specs.Epochs.{AllExist, EpochOnFlash, found_at_opening};
-ghost use Rattle.pk_jrn.specs.Replays.{Replayed, Refused, epoch_reads};
+ghost use Rattle.pk_jrn.specs.Replays.{Replayed, Refused};
+ghost use Rattle.pk_jrn.specs.EpochReads.{epoch_reads};
 
 use crate::entries::take_page;
 use crate::error::ReplayError;
@@ -17,7 +18,7 @@ use pk_region::Region;
 
 /// Reads the commits of an epoch up to the first that has no page that is Whole, by one read each
 /// if the first page is Whole and otherwise by two, and writes their entries into an empty write
-/// buffer, if the later entry of a key counts. Returns how many commits have a page. `Damaged` with
+/// buffer, in which the later entry of a key counts. Returns how many commits have a page. `Damaged` with
 /// the first such page that is not the epoch's at its place, or whose entries bring the keys above
 /// those of a write buffer; `Fault` if a read failed. After a refusal the buffer is empty. `buf`
 /// has the size of a page and is overwritten.

@@ -1,5 +1,6 @@
 -- A lookup through the runs, from the first on.
-use Rattle.std.proofs.Common.{◌≡◌, ◌⊎◌, inl, inr, ℕ, zero, suc, ◌+◌, ◌-◌, ◌<◌, ◌≤◌, Bool, true, false, cond, List, [], ◌∷◌, ◌++◌, length, slice_get, drop, refl, ap, sym, subst, ◌∙◌, arith, Option, Some, None, MatchOption, append_assoc}
+use Rattle.std.proofs.Common.{◌≡◌, ◌⊎◌, inl, inr, ℕ, zero, suc, ◌+◌, ◌-◌, ◌<◌, ◌≤◌, Bool, true, false, cond, List, [], ◌∷◌, ◌++◌, length, slice_get, drop, refl, ap, sym, subst, ◌∙◌, arith, Option}
+use Rattle.std.proofs.Common.{Some, None, MatchOption, append_assoc}
 use Rattle.std.specs.Ordering.{eq_by_cmp}
 use Rattle.std.specs.FinMap.Entries.{find}
 use Rattle.std.proofs.lemmas.Bool.{cases_lt}
@@ -10,7 +11,8 @@ use Rattle.pk_base.specs.Seen.{entry as seen}
 use Rattle.pk_base.specs.declared.entry.Entry.{Entry as RustEntry}
 use Rattle.pk_base.specs.Page.{Flash}
 use Rattle.pk_nand.specs.BoardState.{BoardState}
-use Rattle.pk_nand.specs.Calls.{counted, IsReady, after_read, ReadFailed}
+use Rattle.pk_nand.specs.Calls.{counted, IsReady}
+use Rattle.pk_nand.specs.Operations.{after_read, ReadFailed}
 use Rattle.pk_nand.specs.Counts.{counted_by, after_reads}
 use Rattle.pk_pin.specs.Frames.{Frames}
 use Rattle.pk_run.specs.Kept.{Kept, IsPinned, RunOnFlash, empty, after_look}
@@ -159,8 +161,10 @@ drop_all (x ∷ xs) zero h = absurd (omega arith)
 drop_all (x ∷ xs) (suc i) h = drop_all xs i (omega arith)
 
 -- a run is looked into, and what comes after it is known by whether it has the key
-looks_at : (rs : List Kept) (ess : List (List Entry)) (key : Key) (now next last : BoardState) (i : ℕ) (r : Kept) (es : List Entry) (found : Option (Option Place)) → slice_get rs i ≡ Some r → slice_get ess i ≡ Some es
-    → RunLooks r key now next → find key_cmp key es ≡ found → MatchOption found (LooksFor key (drop (suc i) rs) (drop (suc i) ess) next last) (λ place. last ≡ next) → LooksFor key (drop i rs) (drop i ess) now last
+looks_at : (rs : List Kept) (ess : List (List Entry)) (key : Key) (now next last : BoardState) (i : ℕ) (r : Kept) (es : List Entry) (found : Option (Option Place))
+    → slice_get rs i ≡ Some r → slice_get ess i ≡ Some es
+    → RunLooks r key now next → find key_cmp key es ≡ found
+    → MatchOption found (LooksFor key (drop (suc i) rs) (drop (suc i) ess) next last) (λ place. last ≡ next) → LooksFor key (drop i rs) (drop i ess) now last
 looks_at rs ess key now next last i r es found got own looks is rest =
     subst (λ (ks : List Kept). LooksFor key ks (drop i ess) now last) (sym (drop_at rs i r got))
     (subst (λ (fs : List (List Entry)). LooksFor key (r ∷ drop (suc i) rs) fs now last) (sym (drop_at ess i es own))
@@ -203,7 +207,8 @@ reads_found rs arena key old now next i r at got looks =
     let few = at.few in
     (look.0 + at.made, omega (arith, few, left, look.1), look.2 ∙ ap (λ (b : BoardState). after_reads look.0 b) at.board ∙ reads_more look.0 at.made old)
 
-pub looks_found : (rs : List Kept) (arena : Frames) (key : Key) (old now next : BoardState) (i : ℕ) (r : Kept) (e : RustEntry) → Looking rs arena key old now i → slice_get rs i ≡ Some r → RunLooks r key now next
+pub looks_found : (rs : List Kept) (arena : Frames) (key : Key) (old now next : BoardState) (i : ℕ) (r : Kept) (e : RustEntry)
+    → Looking rs arena key old now i → slice_get rs i ≡ Some r → RunLooks r key now next
     → ((es : List Entry) → RunOnFlash r now.pages arena es → IsFound key es (Some e)) → (ess : List (List Entry)) → RunsOnFlash old.pages arena rs ess → LooksFor key rs ess old next
 looks_found rs arena key old now next i r e at got looks found ess each =
     let own = next_stands rs arena key old now i r ess at got each in

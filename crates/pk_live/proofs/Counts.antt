@@ -1,5 +1,6 @@
 -- The sums of blocks after one head is written.
-use Rattle.std.proofs.Common.{◌≡◌, ◌≢◌, ℕ, ◌+◌, ◌*◌, ◌/◌, ◌-◌, ◌<◌, ◌≤◌, Bool, List, length, get_or, take, drop, ap, sym, ◌∙◌, arith, sum, replicate, length-set, length-take, length-drop, get_or-set_same, get_or-set_other, get_or-take, get_or-drop, suc, min, inl, inr, false}
+use Rattle.std.proofs.Common.{◌≡◌, ◌≢◌, ℕ, ◌+◌, ◌*◌, ◌/◌, ◌-◌, ◌<◌, ◌≤◌, Bool, List, length, get_or, take, drop, ap, sym, ◌∙◌, arith, sum, replicate, length-set, length-take, length-drop}
+use Rattle.std.proofs.Common.{get_or-set_same, get_or-set_other, get_or-take, get_or-drop, suc, min, inl, inr, false}
 use Rattle.std.proofs.lemmas.List.{length-replicate, get_or-replicate}
 use Rattle.std.proofs.lemmas.List.Elements.{All-replicate}
 use Rattle.std.proofs.Math.ListN.{set}
@@ -107,6 +108,7 @@ counted_none n m pos small few =
       pages = length-replicate {A = ℕ} (n * m) 0 ∙ ap (λ k. n * k) (sym (length-replicate m false));
       blocks = length-replicate {A = ℕ} m 0 ∙ sym (length-replicate m false);
       short = All-replicate (λ h. h ≤ 256) (n * m) 0 (omega arith);
-      counted = λ b h. let h' = rw (length-replicate {A = ℕ} m 0) at h in rw (get_or-replicate {A = ℕ} m b 0 0 h') (omega (arith, sum_by-le (λ x. x) 0 (take n (drop (b * n) (replicate (n * m) 0))) (All-take-drop 0 (replicate (n * m) 0) (b * n) n zeros)));
+      counted = λ b h. let h' = rw (length-replicate {A = ℕ} m 0) at h in rw (get_or-replicate {A = ℕ} m b 0 0 h')
+          (omega (arith, sum_by-le (λ x. x) 0 (take n (drop (b * n) (replicate (n * m) 0))) (All-take-drop 0 (replicate (n * m) 0) (b * n) n zeros)));
       all = omega (arith, sum_by-le (λ x. x) 0 (replicate (n * m) 0) zeros);
     }

@@ -24,7 +24,8 @@ none_fit shape named =
 pub Lives-none : (shape : Shape) (named : List ℕ) → IsShape shape → Lives shape named (no_values shape) []
 Lives-none shape named is =
     let heads : replicate (page_count shape) 0 ≡ map (head_of shape []) (range_with_len 0 (page_count shape)) =
-    fill_by_all (head_of shape []) (replicate (page_count shape) 0) (page_count shape) 0 (length-replicate {A = ℕ} (page_count shape) 0) (λ k less. get_or-replicate {A = ℕ} (page_count shape) k 0 0 less) in
+    fill_by_all (head_of shape []) (replicate (page_count shape) 0) (page_count shape) 0
+    (length-replicate {A = ℕ} (page_count shape) 0) (λ k less. get_or-replicate {A = ℕ} (page_count shape) k 0 0 less) in
     let closed : replicate shape.blocks false ≡ map (is_used shape []) (range_with_len 0 shape.blocks) =
     fill_by_all (is_used shape []) (replicate shape.blocks false) shape.blocks false (length-replicate shape.blocks false) (λ k less. get_or-replicate shape.blocks k false false less) in
     record {

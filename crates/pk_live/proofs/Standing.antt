@@ -1,5 +1,6 @@
 -- The live map of a list of values.
-use Rattle.std.proofs.Common.{◌≡◌, ◌≢◌, inl, inr, ℕ, ◌+◌, ◌/◌, ◌<◌, ◌≤◌, Bool, true, false, not, ◌&&◌, ◌||◌, cond, List, [], ◌∷◌, ◌++◌, length, get_or, map, sum, replicate, refl, sym, subst, ap, ◌∙◌, arith, ◌==◌, length-append, append-nil, append_assoc, length-set, get_or-set_same, get_or-set_other}
+use Rattle.std.proofs.Common.{◌≡◌, ◌≢◌, inl, inr, ℕ, ◌+◌, ◌/◌, ◌<◌, ◌≤◌, Bool, true, false, not, ◌&&◌, ◌||◌, cond, List, [], ◌∷◌, ◌++◌, length, get_or, map, sum, replicate, refl, sym, subst, ap, ◌∙◌}
+use Rattle.std.proofs.Common.{arith, ◌==◌, length-append, append-nil, append_assoc, length-set, get_or-set_same, get_or-set_other}
 use Rattle.std.specs.Prelude.{count_by}
 use Rattle.std.specs.List.{list_any, range_with_len, AllByRecursion}
 use Rattle.std.proofs.Math.ListN.{set}
@@ -11,7 +12,7 @@ use Rattle.std.proofs.lemmas.List.Sums.{sum_by-set, sum_by-cons}
 use Rattle.pk_base.specs.Key.{Key}
 use Rattle.pk_base.specs.Shape.{Shape, IsShape, page_count, charge}
 use Rattle.pk_base.specs.Entry.{Place}
-use Rattle.pk_base.specs.EntryBytes.{IsPlace}
+use Rattle.pk_base.specs.EntryChecks.{IsPlace}
 use Rattle.pk_live.specs.Values.{block_sum}
 use Rattle.pk_live.proofs.Counts.{block_sum-set_same, block_sum-set_other, counted_none}
 use Rattle.pk_segfmt.specs.Value.{value_pages}
@@ -45,7 +46,8 @@ module _ (shape : Shape) where
   all_pages-more [] key place = append-nil (value_pages shape place)
   all_pages-more (e ∷ es) key place = ap (λ r. value_pages shape e.1 ++ r) (all_pages-more es key place) ∙ sym (append_assoc (value_pages shape e.1) (all_pages shape es) (value_pages shape place))
 
-  pub head_of-more : (es : List (Key × Place)) (key : Key) (place : Place) (page : ℕ) → head_of shape (es ++ (key, place) ∷ []) page ≡ head_of shape es page + cond (place.page == page) (charge shape place.len) 0
+  pub head_of-more : (es : List (Key × Place)) (key : Key) (place : Place) (page : ℕ)
+      → head_of shape (es ++ (key, place) ∷ []) page ≡ head_of shape es page + cond (place.page == page) (charge shape place.len) 0
   head_of-more [] key place page = omega arith
   head_of-more (e ∷ es) key place page =
       let rest = head_of-more es key place page in
@@ -142,14 +144,16 @@ module _ (shape : Shape) (is_shape : IsShape shape) where
 
   -- one more value, at the start
   head_first : (e : Key × Place) (es : List (Key × Place)) → IsPlace shape e.1
-      → set (map (head_of shape es) (range_with_len 0 (page_count shape))) e.1.page (charge shape e.1.len + head_of shape es e.1.page) ≡ map (head_of shape (e ∷ es)) (range_with_len 0 (page_count shape))
+      → set (map (head_of shape es) (range_with_len 0 (page_count shape))) e.1.page
+      (charge shape e.1.len + head_of shape es e.1.page) ≡ map (head_of shape (e ∷ es)) (range_with_len 0 (page_count shape))
   head_first e es is =
       map_set (head_of shape es) (head_of shape (e ∷ es)) (page_count shape) e.1.page (charge shape e.1.len + head_of shape es e.1.page) 0 is.exists
       (let here : (e.1.page == e.1.page) ≡ true = eq-eqb e.1.page e.1.page refl in rw here refl)
       (λ b ne. let other : (e.1.page == b) ≡ false = ne_eqb e.1.page b (λ same. ne (sym same)) in rw other (omega arith))
 
   no_heads : replicate (page_count shape) 0 ≡ map (head_of shape []) (range_with_len 0 (page_count shape))
-  no_heads = fill_by_all (head_of shape []) (replicate (page_count shape) 0) (page_count shape) 0 (length-replicate {A = ℕ} (page_count shape) 0) (λ k less. get_or-replicate {A = ℕ} (page_count shape) k 0 0 less)
+  no_heads = fill_by_all (head_of shape []) (replicate (page_count shape) 0) (page_count shape) 0
+      (length-replicate {A = ℕ} (page_count shape) 0) (λ k less. get_or-replicate {A = ℕ} (page_count shape) k 0 0 less)
 
   -- the live pages are the pages of the values
   pub total_is : (es : List (Key × Place)) → Placed shape es → sum (map (head_of shape es) (range_with_len 0 (page_count shape))) ≡ length (all_pages shape es)

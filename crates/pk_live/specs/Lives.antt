@@ -4,7 +4,7 @@ use Rattle.std.specs.List.{list_any, range_with_len, AllByRecursion}
 use Rattle.pk_base.specs.Key.{Key}
 use Rattle.pk_base.specs.Shape.{Shape, IsShape, page_count, charge}
 use Rattle.pk_base.specs.Entry.{Place}
-use Rattle.pk_base.specs.EntryBytes.{IsPlace}
+use Rattle.pk_base.specs.EntryChecks.{IsPlace}
 use Rattle.pk_live.specs.Values.{Values, no_values}
 use Rattle.pk_model.specs.Values.{fits, all_pages}
 

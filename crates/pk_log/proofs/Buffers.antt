@@ -8,8 +8,9 @@ use Rattle.pk_base.specs.Page.{Flash}
 use Rattle.pk_base.specs.Entry.{Entry, Place}
 use Rattle.pk_base.specs.Firsts.{firsts}
 use Rattle.pk_jrn.specs.Epochs.{AreErased}
-use Rattle.pk_jrn.proofs.Puts.{put_grows, firsts_sorted}
-use Rattle.pk_nand.specs.Calls.{IsErasedBlock}
+use Rattle.pk_jrn.proofs.Puts.{put_grows}
+use Rattle.pk_nand.specs.Operations.{IsErasedBlock}
+use Rattle.pk_base.proofs.KeyLemmas.{firsts_sorted}
 
 -- ---- buffers without entries
 

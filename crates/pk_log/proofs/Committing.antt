@@ -43,7 +43,8 @@ use Rattle.pk_steps.proofs.UnderRoot.{newest_found}
 
 -- ---- the programs
 
-module _ (log : LogState) (board : BoardState) (top : ℕ × Root) (found : Found) (logs : LogOnFlash log board.pages top found) (ready : IsReady board log.shape) (some : log.pending ≢ []) (bytes : List ℕ)
+module _ (log : LogState) (board : BoardState) (top : ℕ × Root) (found : Found)
+    (logs : LogOnFlash log board.pages top found) (ready : IsReady board log.shape) (some : log.pending ≢ []) (bytes : List ℕ)
     (spells : journal_entries log.epoch.shape log.epoch.number log.epoch.used bytes ≡ Some log.pending) where
   abbrev shape : Shape
   shape = log.shape
@@ -100,7 +101,8 @@ module _ (log : LogState) (board : BoardState) (top : ℕ × Root) (found : Foun
 
   -- a cut of its pair has the same newest root
   top_stays : (f : Flash) → IsPairCut page bytes board.pages f → newest_root shape (page_at f) ≡ Some top
-  top_stays f cut = roots_stay shape old (page_at f) top found log.pending e.used bytes logs.is_shape logs.is_top logs.is_found blocks inside before behind (outside_pair page board.pages f cut.outside)
+  top_stays f cut = roots_stay shape old (page_at f) top found log.pending e.used bytes logs.is_shape logs.is_top logs.is_found blocks inside before behind
+      (outside_pair page board.pages f cut.outside)
 
   even : page % shape.block_pages % 2 ≡ 0
   even = even_page shape top.1.newest logs.is_shape e.used
@@ -201,7 +203,8 @@ module _ (log : LogState) (board : BoardState) (top : ℕ × Root) (found : Foun
     is_shape = logs.is_shape;
     is_top = top_stays then_pages then_cut;
     root_is = logs.root_is;
-    is_found = under shape old (page_at then_pages) top found log.pending e.used bytes logs.is_shape logs.is_top logs.is_found blocks inside before behind others (found.newest ++ log.pending) (reads_all bound adds);
+    is_found = under shape old (page_at then_pages) top found log.pending e.used bytes logs.is_shape logs.is_top logs.is_found blocks inside before behind others
+        (found.newest ++ log.pending) (reads_all bound adds);
     installs = InstallerOnFlash-by_same shape log.next top board.pages then_pages
         (λ k low. others k (λ least less. let high = pair_behind_roots shape logs.is_shape top.1 blocks e.used inside in omega (arith, low, high, least))) logs.installs;
     epoch_shape = logs.epoch_shape;

@@ -1,5 +1,6 @@
 -- A step of a freeze of a log.
-use Rattle.std.proofs.Common.{◌≡◌, ℕ, ◌-◌, ◌+◌, ◌*◌, ◌/◌, ◌<◌, ◌≤◌, refl, sym, ap, subst, ◌∙◌, arith, Bool, true, false, not, ◌==◌, List, [], ◌∷◌, ◌++◌, length, reverse, nat_lt, slice_index, if◌then◌else◌, append-nil, mul-le-mul_right}
+use Rattle.std.proofs.Common.{◌≡◌, ℕ, ◌-◌, ◌+◌, ◌*◌, ◌/◌, ◌<◌, ◌≤◌, refl, sym, ap, subst, ◌∙◌, arith, Bool, true, false, not, ◌==◌, List, [], ◌∷◌, ◌++◌, length, reverse, nat_lt, slice_index}
+use Rattle.std.proofs.Common.{if◌then◌else◌, append-nil, mul-le-mul_right}
 use Rattle.std.specs.List.{concat}
 use Rattle.std.proofs.lemmas.Nat.{div-mul-add}
 use Rattle.pk_base.specs.Shape.{Shape, IsShape}
@@ -42,8 +43,10 @@ use Rattle.pk_log.specs.FreezeSteps.{freeze_begun, CanStep, LogGoesOn, LogFrozen
 use Rattle.pk_log.proofs.Buffers.{none_of_firsts, tells_some, two_erased}
 
 -- what a step did, by its answer
-module _ (pool : Blocks) (held : Held) (next : Next) (job : FreezeJob) (old : BoardState) (has_entries : Bool) (pool' : Blocks) (root' : Held) (next' : Next) (job' : FreezeJob) (new : BoardState) (answer : Bool)
-    (steps : FreezeSteps pool held next job old has_entries answer pool' root' next' job' new) (top : ℕ × Root) (found : Found) (m : Map) (is : IsFreezing pool held next job old.pages has_entries top found m) where
+module _ (pool : Blocks) (held : Held) (next : Next) (job : FreezeJob) (old : BoardState) (has_entries : Bool)
+    (pool' : Blocks) (root' : Held) (next' : Next) (job' : FreezeJob) (new : BoardState) (answer : Bool)
+    (steps : FreezeSteps pool held next job old has_entries answer pool' root' next' job' new) (top : ℕ × Root)
+    (found : Found) (m : Map) (is : IsFreezing pool held next job old.pages has_entries top found m) where
   pub installed_by : answer ≡ true → FreezeInstalled pool held next job old has_entries top found m pool' root'.root next' job' new
   installed_by e = let P : Bool → Type 0 = λ b. FreezeSteps pool held next job old has_entries b pool' root' next' job' new in subst P e steps top found m is
 
@@ -51,7 +54,8 @@ module _ (pool : Blocks) (held : Held) (next : Next) (job : FreezeJob) (old : Bo
   goes_on_by e = let P : Bool → Type 0 = λ b. FreezeSteps pool held next job old has_entries b pool' root' next' job' new in subst P e steps top found m is
 
 -- the blocks of an epoch leave, or are unchanged: as many blocks are not ready
-same_unready : (h : Bool) (pool : Blocks) (blocks : List ℕ) → AreOwned pool blocks → unready (left_by Journal pool (if h then [] else slice_index blocks 0 ∷ slice_index blocks 1 ∷ [])).states ≡ unready pool.states
+same_unready : (h : Bool) (pool : Blocks) (blocks : List ℕ) → AreOwned pool blocks
+    → unready (left_by Journal pool (if h then [] else slice_index blocks 0 ∷ slice_index blocks 1 ∷ [])).states ≡ unready pool.states
 same_unready true pool blocks are = refl
 same_unready false pool blocks are =
     let still = get-set_other pool.states (slice_index blocks 0) (slice_index blocks 1) (Leaving Journal) are.different ∙ are.second in
@@ -119,7 +123,8 @@ module _ (log : LogState) (pool : Blocks) (job : FreezeJob) (old : BoardState) (
     by_held = let P : Held → Type 0 = λ h. IsFreezing pool' h next' job' new.pages has_entries top found m in subst P on.same_root on.still
 
     -- no page of the newest epoch differs
-    in_epoch : (n k : ℕ) → n < 2 → slice_index top.1.newest n * log.shape.block_pages ≤ k → k < slice_index top.1.newest n * log.shape.block_pages + log.shape.block_pages → page_at new.pages k ≡ page_at old.pages k
+    in_epoch : (n k : ℕ) → n < 2 → slice_index top.1.newest n * log.shape.block_pages ≤ k
+        → k < slice_index top.1.newest n * log.shape.block_pages + log.shape.block_pages → page_at new.pages k ≡ page_at old.pages k
     in_epoch n k small low high =
         let blocks = blocks_of_root log.shape top.1 (valid_root log.shape (page_at old.pages) top can.logs.is_top) in
         let two : length top.1.newest ≡ 2 = blocks.two in
@@ -129,8 +134,11 @@ module _ (log : LogState) (pool : Blocks) (job : FreezeJob) (old : BoardState) (
         let here : k / log.shape.block_pages ≡ b = ap (λ x. x / log.shape.block_pages) (sym all) ∙ div-mul-add b log.shape.block_pages (k - b * log.shape.block_pages) rest in
         let twice : 2 * log.shape.block_pages ≤ b * log.shape.block_pages = mul-le-mul_right log.shape.block_pages (blocks.beyond n small) in
         let among : In b top.1.newest = member top.1.newest n (omega (arith, small, two)) in
-        let is_named : In b (named log.root) = let P : Root → Type 0 = λ r. In b (named r) in subst P (sym can.logs.root_is) (any_front (λ c. b ≡ c) (top.1.newest ++ top.1.older) (concat top.1.runs) (any_front (λ c. b ≡ c) top.1.newest top.1.older among)) in
-        on.elsewhere k (omega (arith, twice, low)) (λ taken. (all_in (IsTaken log.shape pool' new.pages log.root) (taken_by job') b by_held.taken (subst (λ x. In x (taken_by job')) here taken)).unnamed is_named)
+        let is_named : In b (named log.root) = let P : Root
+        → Type 0 = λ r. In b (named r) in subst P (sym can.logs.root_is)
+        (any_front (λ c. b ≡ c) (top.1.newest ++ top.1.older) (concat top.1.runs) (any_front (λ c. b ≡ c) top.1.newest top.1.older among)) in
+        on.elsewhere k (omega (arith, twice, low))
+        (λ taken. (all_in (IsTaken log.shape pool' new.pages log.root) (taken_by job') b by_held.taken (subst (λ x. In x (taken_by job')) here taken)).unnamed is_named)
 
     blocks_same : SameBlocks log.epoch.shape log.epoch.blocks old.pages new.pages
     blocks_same =
@@ -190,7 +198,8 @@ module _ (log : LogState) (pool : Blocks) (job : FreezeJob) (old : BoardState) (
 
   -- ---- the freeze is made
 
-  module _ (middle : Blocks) (root' : Root) (next' : Next) (job' : FreezeJob) (new : BoardState) (done : FreezeInstalled pool held log.next job old has_entries top found m middle root' next' job' new) where
+  module _ (middle : Blocks) (root' : Root) (next' : Next) (job' : FreezeJob) (new : BoardState)
+      (done : FreezeInstalled pool held log.next job old has_entries top found m middle root' next' job' new) where
     newest_two : length log.root.newest ≡ 2
     newest_two =
         let blocks = blocks_of_root log.shape top.1 (valid_root log.shape (page_at old.pages) top can.logs.is_top) in
@@ -203,7 +212,8 @@ module _ (log : LogState) (pool : Blocks) (job : FreezeJob) (old : BoardState) (
         let Q : Blocks → Type 0 = λ p. AreOwned p (two_of log.root.newest) in
         subst P (sym told_by) (subst Q (sym done.same_pool) done.former)
 
-    module _ (former : List ℕ) (pool' : Blocks) (told_by : former ≡ two_of log.root.newest) (given : pool' ≡ left_by Journal middle (if has_entries then [] else slice_index former 0 ∷ slice_index former 1 ∷ []))
+    module _ (former : List ℕ) (pool' : Blocks) (told_by : former ≡ two_of log.root.newest)
+        (given : pool' ≡ left_by Journal middle (if has_entries then [] else slice_index former 0 ∷ slice_index former 1 ∷ []))
         (fits : PoolOnFlash middle new.pages → PoolOnFlash pool' new.pages) where
       given_two : pool' ≡ left_by Journal pool (if has_entries then [] else slice_index (two_of log.root.newest) 0 ∷ slice_index (two_of log.root.newest) 1 ∷ [])
       given_two =
@@ -219,7 +229,8 @@ module _ (log : LogState) (pool : Blocks) (job : FreezeJob) (old : BoardState) (
           ∙ ap (λ xs. left_by Journal pool (if has_entries then [] else xs)) (two_newest ∙ ap (λ (r : Root). r.newest) can.logs.root_is)
           ∙ ap (λ xs. left_by Journal pool xs) (which has_entries (length found.newest == 0) top.1.newest told)
 
-      module _ (blocks : List ℕ) (blocks_are : blocks ≡ two_of root'.newest) (starts : (flash : Flash) → AreErased log.shape flash blocks → EpochOnFlash (started log.shape root'.epoch blocks) flash) where
+      module _ (blocks : List ℕ) (blocks_are : blocks ≡ two_of root'.newest)
+          (starts : (flash : Flash) → AreErased log.shape flash blocks → EpochOnFlash (started log.shape root'.epoch blocks) flash) where
         these : blocks ≡ done.first ∷ done.second ∷ []
         these = blocks_are ∙ ap (λ (r : Root). two_of r.newest) done.root_is
 
@@ -235,7 +246,8 @@ module _ (log : LogState) (pool : Blocks) (job : FreezeJob) (old : BoardState) (
               epoch_shape = refl;
               epoch_number = refl;
               epoch_blocks = these ∙ sym (ap (λ (r : Root). r.newest) done.root_is);
-              epoch_fits = starts new.pages (subst (λ (bs : List ℕ). AreErased log.shape new.pages bs) (sym these) (two_erased log.shape new.pages done.first done.second done.first_erased done.second_erased));
+              epoch_fits = starts new.pages (subst (λ (bs : List ℕ). AreErased log.shape new.pages bs)
+                  (sym these) (two_erased log.shape new.pages done.first done.second done.first_erased done.second_erased));
               active_is = logs.frozen_is ∙ ap (buffer_of log.shape) (none_older ∙ sym can.none_pending);
               frozen_is = logs.active_is ∙ ap (buffer_of log.shape) (ap (λ (es : List Entry). found.newest ++ es) can.none_pending ∙ append-nil found.newest);
               pending_are = logs.pending_are;

@@ -27,15 +27,18 @@ epoch_behind : (log : LogState) (old new : Flash) (top : ℕ × Root) (found : F
 epoch_behind log old new top found logs behind =
     let blocks = blocks_of_root log.shape top.1 (valid_root log.shape (page_at old) top logs.is_top) in
     let P : Shape → List ℕ → Type 0 = λ s bs. SameBlocks s bs old new in
-    let there : P log.shape top.1.newest = λ n small k low high. behind k (let twice : 2 * log.shape.block_pages ≤ slice_index top.1.newest n * log.shape.block_pages = mul-le-mul_right log.shape.block_pages (blocks.beyond n small) in omega (arith, twice, low)) in
-    EpochOnFlash-same log.epoch old new (subst (λ (s : Shape). IsShape s) (sym logs.epoch_shape) logs.is_shape) (subst (λ s. P s log.epoch.blocks) (sym logs.epoch_shape) (subst (λ bs. P log.shape bs) (sym logs.epoch_blocks) there)) logs.epoch_fits
+    let there : P log.shape top.1.newest = λ n small k low high. behind k
+    (let twice : 2 * log.shape.block_pages ≤ slice_index top.1.newest n * log.shape.block_pages = mul-le-mul_right log.shape.block_pages (blocks.beyond n small) in omega (arith, twice, low)) in
+    EpochOnFlash-same log.epoch old new (subst (λ (s : Shape). IsShape s) (sym logs.epoch_shape) logs.is_shape)
+    (subst (λ s. P s log.epoch.blocks) (sym logs.epoch_shape) (subst (λ bs. P log.shape bs) (sym logs.epoch_blocks) there)) logs.epoch_fits
 
 -- ---- the erase
 
 pub can_prepare : (log : LogState) (flash : Flash) (top : ℕ × Root) (found : Found) (m : Map) → MayPrepare log flash top found m → CanPrepare log.shape log.next flash top found m
 can_prepare log flash top found m may = record { installs = may.logs.installs; under = may.under }
 
-pub log_prepared : (log : LogState) (old new : BoardState) (top : ℕ × Root) (found : Found) (m : Map) (next' : Next) → MayPrepare log old.pages top found m → IsPrepared log.shape old top found m next' new
+pub log_prepared : (log : LogState) (old new : BoardState) (top : ℕ × Root) (found : Found) (m : Map) (next' : Next)
+    → MayPrepare log old.pages top found m → IsPrepared log.shape old top found m next' new
     → LogPrepared log old top found m (record log { next = next' }) new
 log_prepared log old new top found m next' may is =
     let logs = may.logs in
@@ -122,7 +125,8 @@ log_merged log old new top found m level count taken root' next' frozen' log' ma
 pub can_repeat : (log : LogState) (flash : Flash) (top : ℕ × Root) (found : Found) (m : Map) → MayFinish log flash top found m → CanRepeat log.shape log.root log.next flash top found m
 can_repeat log flash top found m may = record { installs = may.logs.installs; top_is = sym may.logs.root_is; under = may.under; half = may.half }
 
-pub log_finished : (log : LogState) (old new : BoardState) (top : ℕ × Root) (found : Found) (m : Map) (next' : Next) → MayFinish log old.pages top found m → IsRepeated log.shape old top found m next' new
+pub log_finished : (log : LogState) (old new : BoardState) (top : ℕ × Root) (found : Found) (m : Map) (next' : Next)
+    → MayFinish log old.pages top found m → IsRepeated log.shape old top found m next' new
     → LogFinished log old top found m (record log { next = next' }) new
 log_finished log old new top found m next' may is =
     let logs = may.logs in

@@ -66,7 +66,8 @@ module _ (log : LogState) (e : Entry) (flash : Flash) (top : ℕ × Root) (found
   pub keys_fit : length (put key_cmp (key_of e) e.1 log.active.entries) ≤ log.active.capacity → length (firsts (found.newest ++ (log.pending ++ e ∷ []))) ≤ buffer log.shape
   keys_fit bound =
       let capacity : log.active.capacity ≡ buffer log.shape = ap (λ (t : Table). t.capacity) logs.active_is in
-      let same : length (put key_cmp (key_of e) e.1 log.active.entries) ≡ length (firsts (found.newest ++ (log.pending ++ e ∷ []))) = ap length entries_are ∙ firsts-reverse (found.newest ++ (log.pending ++ e ∷ [])) in
+      let same : length (put key_cmp (key_of e) e.1 log.active.entries) ≡ length (firsts (found.newest ++ (log.pending ++ e ∷ []))) = ap length entries_are
+      ∙ firsts-reverse (found.newest ++ (log.pending ++ e ∷ [])) in
       omega (arith, bound, capacity, same)
 
   pub stands_pushed : needs_freeze log (key_of e) ≡ false → length log.pending < page_entries log.shape → log.epoch.half ≡ false → IsStorable log.shape e → LogOnFlash (pushed log e) flash top found

@@ -79,7 +79,8 @@ module _ (log : LogState) (old new : Flash) (top : ℕ × Root) (found : Found) 
   lists_same = found_same shape (page_at old) (page_at new) logs.is_shape root
       (λ j low. named_same root.newest newest_within j)
       (λ j low. named_same root.older (λ P is. any_front P (root.newest ++ root.older) (concat root.runs) (any_back P root.newest root.older is)) j)
-      (agree_runs shape (page_at old) (page_at new) root.counts root.runs (λ blocks among. named_same blocks (λ P is. any_back P (root.newest ++ root.older) (concat root.runs) (any_in_concat P blocks root.runs among is))))
+      (agree_runs shape (page_at old) (page_at new) root.counts root.runs
+      (λ blocks among. named_same blocks (λ P is. any_back P (root.newest ++ root.older) (concat root.runs) (any_in_concat P blocks root.runs among is))))
 
   -- a page of a block of the newest epoch
   in_epoch : (n k : ℕ) → n < 2 → slice_index root.newest n * shape.block_pages ≤ k → k < slice_index root.newest n * shape.block_pages + shape.block_pages → page_at new k ≡ page_at old k

@@ -61,7 +61,7 @@ abbrev pub freeze_begun : LogState → Root → Next → List ℕ → LogState
 freeze_begun log root next blocks = record log { root = root; next = next; epoch = started log.shape root.epoch blocks; active = log.frozen; frozen = log.active }
 
 -- The freeze's root was programmed in the first page of its pair, and the log matches the flash: an empty epoch is the newest one, the buffers
--- are exchanged, and the blocks of a former epoch without entries leave. They may be given back after the second program: no spare block is read
+-- are exchanged, and the blocks of a former epoch without entries leave. They may be freed after the second program: no spare block is read
 -- then.
 pub record LogFrozen (log : LogState) (pool : Blocks) (job : FreezeJob) (old : BoardState) (top : ℕ × Root) (found : Found) (m : Map) (log' : LogState) (pool' : Blocks) (job' : FreezeJob) (new : BoardState) : Type 0 where
   pub page : ℕ

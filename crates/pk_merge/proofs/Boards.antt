@@ -2,7 +2,8 @@
 use Rattle.std.proofs.Common.{◌≡◌, ◌⊎◌, inl, inr, ℕ, List, [], ◌∷◌, refl, sym, subst, Bool}
 use Rattle.pk_base.specs.Entry.{Entry}
 use Rattle.pk_nand.specs.BoardState.{BoardState}
-use Rattle.pk_nand.specs.Calls.{Rose, ReadFailed, ProgramFailed, EraseFailed, after_read, after_program, after_erase}
+use Rattle.pk_nand.specs.Calls.{Rose, ProgramFailed, after_program}
+use Rattle.pk_nand.specs.Operations.{ReadFailed, EraseFailed, after_read, after_erase}
 use Rattle.pk_nand.specs.Effects.{AtMostOneCall, NoFault, OnlyFlash, OnlyReading, Stops}
 use Rattle.pk_nand.specs.declared.types.Fault.{Fault}
 use Rattle.pk_nand.specs.declared.types.Fault.TheVariants.{Reading, Stopped}
@@ -55,7 +56,8 @@ takes pool old b new (inl ready) = called old old new (nothing old) ready.same
 takes pool old b new (inr free) = called old (after_erase old b) new (erases old b) free.erase
 
 -- each action
-pub acts_call : {X : Type 0} (source : Source X) (target : Kept) (pins : Bool) (out : Kept) (m : Merger) (pool : Blocks) (old : BoardState) (before : Frames) (next : Next) (out' : Kept) (m' : Merger) (pool' : Blocks) (new : BoardState) (after : Frames)
+pub acts_call : {X : Type 0} (source : Source X) (target : Kept) (pins : Bool) (out : Kept) (m : Merger) (pool : Blocks)
+    (old : BoardState) (before : Frames) (next : Next) (out' : Kept) (m' : Merger) (pool' : Blocks) (new : BoardState) (after : Frames)
     → Acts source target pins out m pool old before next out' m' pool' new after → Called old new
 acts_call source target pins out m pool old before LoadSource out' m' pool' new after (l, o, p, a) = called old (after_look_at source old) new (looks_at source old) l.board
 acts_call source target pins out m pool old before LoadTarget out' m' pool' new after (l, o, p, a) = called old (after_look target.leases old) new (looks target.leases old) l.board

@@ -73,17 +73,20 @@ bit_one : (x : Bool) → x ≡ true → bit x ≡ 1
 bit_one x e = ap bit e
 
 -- a page that the source's cursor wanted and has reached
-source_nearer : {X : Type 0} (source : Source X) (flash : Flash) (c d : Cursor) → wants_page_in source c ≡ true → FollowsIn source flash d → d.loaded ≡ suc (own_page c) → pages_in source - d.loaded < pages_in source - c.loaded
+source_nearer : {X : Type 0} (source : Source X) (flash : Flash) (c d : Cursor) → wants_page_in source c ≡ true
+    → FollowsIn source flash d → d.loaded ≡ suc (own_page c) → pages_in source - d.loaded < pages_in source - c.loaded
 source_nearer (Frozen x) flash c d wants f loaded = absurd (clash wants)
   where
     clash : false ≡ true → ⊥
     clash e = cc
 source_nearer (Run r) flash c d wants f loaded = let pages = f.pages in let before = has_not_come c wants in omega (arith, pages, before, loaded)
 
-target_nearer : (target : Kept) (flash : Flash) (c d : Cursor) → wants_page c ≡ true → Follows flash target d → d.loaded ≡ suc (own_page c) → length target.firsts - d.loaded < length target.firsts - c.loaded
+target_nearer : (target : Kept) (flash : Flash) (c d : Cursor) → wants_page c ≡ true → Follows flash target d
+    → d.loaded ≡ suc (own_page c) → length target.firsts - d.loaded < length target.firsts - c.loaded
 target_nearer target flash c d wants f loaded = let pages = f.pages in let before = has_not_come c wants in omega (arith, pages, before, loaded)
 
-module _ {X : Type 0} (source : Source X) (target : Kept) (pins : Bool) (out : Kept) (m : Merger) (pool : Blocks) (old : BoardState) (before : Frames) (es fs : List Entry) (is : IsShape out.shape) (kept : IsKept out)
+module _ {X : Type 0} (source : Source X) (target : Kept) (pins : Bool) (out : Kept) (m : Merger) (pool : Blocks)
+    (old : BoardState) (before : Frames) (es fs : List Entry) (is : IsShape out.shape) (kept : IsKept out)
     (r : Running source target pins out m pool old.pages before es fs) where
   abbrev count : ℕ
   count = length (merged out.level es fs)
@@ -95,7 +98,8 @@ module _ {X : Type 0} (source : Source X) (target : Kept) (pins : Bool) (out : K
   settled out' m' m'' s t stuck pages blocks = λ i.
       sum (pages_in source - s i) (length target.firsts - t i) (pages - length out'.firsts) (blocks - length out'.blocks) (bit_none (can_gather source target m'') stuck i)
 
-  pub fewer_steps : (next : Next) (out' : Kept) (m' m'' : Merger) (pool' : Blocks) (new : BoardState) (after : Frames) → Tells source target out m next → Acts source target pins out m pool old before next out' m' pool' new after
+  pub fewer_steps : (next : Next) (out' : Kept) (m' m'' : Merger) (pool' : Blocks) (new : BoardState) (after : Frames)
+      → Tells source target out m next → Acts source target pins out m pool old before next out' m' pool' new after
       → m''.source.loaded ≡ m'.source.loaded → m''.target.loaded ≡ m'.target.loaded → can_gather source target m'' ≡ false
       → (pages blocks : ℕ) → run_pages out.shape count ≤ pages → run_blocks out.shape count ≤ blocks → LowersTo source target out m pool out' m'' pool' pages blocks
   fewer_steps LoadSource out' m' m'' pool' new after t (l, o, p, a) s u stuck pages blocks up vp =
@@ -122,8 +126,10 @@ module _ {X : Type 0} (source : Source X) (target : Kept) (pins : Bool) (out : K
       (fewer_3 _ _ _ _ _ _ (let f : pages - length (out.firsts ++ k.first ∷ []) < pages - length out.firsts = omega (arith, more, long, up) in f))))
 
   -- for as many pages and blocks as its level may have
-  pub fewer_of_level : (next : Next) (out' : Kept) (m' m'' : Merger) (pool' : Blocks) (new : BoardState) (after : Frames) → Tells source target out m next → Acts source target pins out m pool old before next out' m' pool' new after
-      → m''.source.loaded ≡ m'.source.loaded → m''.target.loaded ≡ m'.target.loaded → can_gather source target m'' ≡ false → LowersTo source target out m pool out' m'' pool' (most_pages out) (most_blocks out)
+  pub fewer_of_level : (next : Next) (out' : Kept) (m' m'' : Merger) (pool' : Blocks) (new : BoardState) (after : Frames)
+      → Tells source target out m next → Acts source target pins out m pool old before next out' m' pool' new after
+      → m''.source.loaded ≡ m'.source.loaded → m''.target.loaded ≡ m'.target.loaded → can_gather source target m'' ≡ false
+      → LowersTo source target out m pool out' m'' pool' (most_pages out) (most_blocks out)
   fewer_of_level next out' m' m'' pool' new after t acts s u stuck =
       fewer_steps next out' m' m'' pool' new after t acts s u stuck (most_pages out) (most_blocks out) (pages_fit out es fs is r.lists) (blocks_fit out es fs is r.lists)
 

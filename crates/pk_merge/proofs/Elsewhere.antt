@@ -33,7 +33,8 @@ module _ (pool pool' : Blocks) (old new : Flash) (e : IsElsewhere pool old pool'
       let pages : SamePages r old new = λ j h. pages_same r is shape meta j (let within = st.within in omega (arith, h, within)) in
       (pages, λ es s. RunOnFlash-elsewhere r old new arena arena es pages (λ j lease got is_leased. (is_leased, refl)) s)
 
-  source_moves : {X : Type 0} (source : Source X) (arena : Frames) (es : List Entry) → Has source old arena es → IsShape pool.shape → IsOf pool.shape source → AreMeta pool (blocks_in source) → MovesIn source old new arena arena
+  source_moves : {X : Type 0} (source : Source X) (arena : Frames) (es : List Entry) → Has source old arena es
+      → IsShape pool.shape → IsOf pool.shape source → AreMeta pool (blocks_in source) → MovesIn source old new arena arena
   source_moves (Frozen x) arena es has is of meta = tt
   source_moves (Run r) arena es has is of meta = moves r.now arena es has (subst IsShape (sym of) is) (sym of) meta
 

@@ -1,4 +1,4 @@
--- A job is idle again once what its merge replaces was given back.
+-- A job is idle again once what its merge replaces was freed.
 use Rattle.std.proofs.Common.{◌≡◌, ℕ, zero, suc, ◌-◌, ◌≤◌, refl, ap, ◌∙◌, arith, List, Some, Option}
 use Rattle.pk_base.specs.Shape.{Shape}
 use Rattle.pk_run.specs.Kept.{Kept, empty}
@@ -27,7 +27,8 @@ spares_one : (shape : Shape) (spares : List (Option Kept)) (level : ℕ) (former
     → with_spare (without spares level) former.level (empty former.shape former.level) ≡ all_spare shape
 spares_one shape spares level former s f least most = (λ i. with_spare (without (s i) level) (f.same_level i) (empty (f.same_shape i) (f.same_level i))) ∙ one_back shape level least most
 
-spares_two : (shape : Shape) (spares : List (Option Kept)) (level : ℕ) (former source : Kept) → spares ≡ all_spare shape → IsFormer shape level former → IsFormer shape (level - 1) source → 2 ≤ level → level ≤ 4
+spares_two : (shape : Shape) (spares : List (Option Kept)) (level : ℕ) (former source : Kept)
+    → spares ≡ all_spare shape → IsFormer shape level former → IsFormer shape (level - 1) source → 2 ≤ level → level ≤ 4
     → with_spare (with_spare (without (without spares level) (level - 1)) former.level (empty former.shape former.level)) source.level (empty source.shape source.level) ≡ all_spare shape
 spares_two shape spares level former source s f g least most =
     (λ i. with_spare (with_spare (without (without (s i) level) (level - 1)) (f.same_level i) (empty (f.same_shape i) (f.same_level i))) (g.same_level i) (empty (g.same_shape i) (g.same_level i)))
@@ -50,7 +51,8 @@ idle_one shape j zero out former m i of least most f = absurd (omega (arith, lea
 idle_one shape j (suc zero) out former m i of least most f = (refl, record { target = refl; output = refl; spares = spares_one shape j.spares 1 former i.spares f least most; merger = of })
 idle_one shape j (suc (suc zero)) out former m i of least most f = (refl, record { target = refl; output = refl; spares = spares_one shape j.spares 2 former i.spares f least most; merger = of })
 idle_one shape j (suc (suc (suc zero))) out former m i of least most f = (refl, record { target = refl; output = refl; spares = spares_one shape j.spares 3 former i.spares f least most; merger = of })
-idle_one shape j (suc (suc (suc (suc zero)))) out former m i of least most f = (refl, record { target = refl; output = refl; spares = spares_one shape j.spares 4 former i.spares f least most; merger = of })
+idle_one shape j (suc (suc (suc (suc zero)))) out former m i of least most f =
+    (refl, record { target = refl; output = refl; spares = spares_one shape j.spares 4 former i.spares f least most; merger = of })
 idle_one shape j (suc (suc (suc (suc (suc n))))) out former m i of least most f = absurd (omega (arith, most))
 
 pub idle_two : IdleBehindTwo

@@ -8,18 +8,16 @@ use Rattle.pk_base.specs.Shape.{Shape, IsShape, page_entries}
 use Rattle.pk_base.specs.Entry.{Entry}
 use Rattle.pk_base.specs.Fields.{number_at}
 use Rattle.pk_base.specs.Page.{Flash, page_at, whole}
-use Rattle.pk_meta.specs.Page.{IsMetaPage, Decodes}
+use Rattle.pk_meta.specs.PageChecks.{IsMetaPage, Decodes}
 use Rattle.pk_meta.proofs.PageLemmas.{meta_again}
 use Rattle.pk_pin.specs.Frames.{Frames}
 use Rattle.pk_run.specs.Kept.{Kept, IsKept, RunOnFlash, page_of}
 use Rattle.pk_run.proofs.Lookups.{holds_piece}
 use Rattle.pk_run.proofs.Orders.{slice_get-drop}
 use Rattle.pk_merge.specs.Cursors.{Cursor, Follows, at_start, passed, own_page, wants_page}
+use Rattle.pk_base.proofs.ShapeLemmas.{entries_some}
 
 -- ---- numbers
-
-pub entries_some : (shape : Shape) → IsShape shape → 0 < page_entries shape
-entries_some shape is = let page : 512 ≤ shape.page_bytes = is.page_least in omega arith
 
 -- the page of a later place is not an earlier one
 later_page : (place size : ℕ) → 0 < size → place / size ≤ suc place / size
@@ -86,12 +84,14 @@ page_here flash r c f here =
     let behind = f.behind in
     subst (λ (p : ℕ). page_at flash (page_of r p) ≡ whole c.bytes) (same_page flash r c f) (f.holds (omega (arith, come, behind)))
 
-pub page_decodes : (flash : Flash) (arena : Frames) (r : Kept) (es : List Entry) (c : Cursor) → IsShape r.shape → IsKept r → RunOnFlash r flash arena es → Follows flash r c → c.place < r.count → wants_page c ≡ false
+pub page_decodes : (flash : Flash) (arena : Frames) (r : Kept) (es : List Entry) (c : Cursor) → IsShape r.shape
+    → IsKept r → RunOnFlash r flash arena es → Follows flash r c → c.place < r.count → wants_page c ≡ false
     → Decodes c.shape c.bytes
 page_decodes flash arena r es c is kept s f inside here =
     subst (λ (shape : Shape). Decodes shape c.bytes) (sym f.same_shape) (r.level, page r c.place, _, holds r flash arena es is kept c.place inside s c.bytes (page_here flash r c f here))
 
-pub page_has_place : (flash : Flash) (arena : Frames) (r : Kept) (es : List Entry) (c : Cursor) → IsShape r.shape → IsKept r → RunOnFlash r flash arena es → Follows flash r c → c.place < r.count → wants_page c ≡ false
+pub page_has_place : (flash : Flash) (arena : Frames) (r : Kept) (es : List Entry) (c : Cursor) → IsShape r.shape
+    → IsKept r → RunOnFlash r flash arena es → Follows flash r c → c.place < r.count → wants_page c ≡ false
     → c.place % page_entries c.shape < number_at 2 10 c.bytes
 page_has_place flash arena r es c is kept s f inside here =
     subst (λ (shape : Shape). c.place % page_entries shape < number_at 2 10 c.bytes) (sym f.same_shape) (entry_within r flash arena es is kept c.place inside s c.bytes (page_here flash r c f here))
@@ -102,8 +102,10 @@ pub head_is : (flash : Flash) (arena : Frames) (r : Kept) (es : List Entry) (c :
     → RunOnFlash r flash arena es → Follows flash r c → slice_get es c.place ≡ Some e
 head_is flash arena r es c e is kept inside here read s f =
     let held = holds r flash arena es is kept c.place inside s c.bytes (page_here flash r c f here) in
-    let own = read _ _ _ (subst (λ (shape : Shape). IsMetaPage shape c.bytes r.level (page r c.place) (take (page_entries r.shape) (drop (page r c.place * page_entries r.shape) es))) (sym f.same_shape) held) in
-    entry_there r flash arena es is kept c.place inside e (subst (λ (shape : Shape). slice_get (take (page_entries r.shape) (drop (page r c.place * page_entries r.shape) es)) (c.place % page_entries shape) ≡ Some e) f.same_shape own)
+    let own = read _ _ _ (subst (λ (shape : Shape). IsMetaPage shape c.bytes r.level (page r c.place) (take (page_entries r.shape) (drop (page r c.place * page_entries r.shape) es)))
+    (sym f.same_shape) held) in
+    entry_there r flash arena es is kept c.place inside e
+    (subst (λ (shape : Shape). slice_get (take (page_entries r.shape) (drop (page r c.place * page_entries r.shape) es)) (c.place % page_entries shape) ≡ Some e) f.same_shape own)
 
 module _ (flash : Flash) (r : Kept) (c : Cursor) (is : IsShape r.shape) (f : Follows flash r c) where
   -- it has reached the page of its place
@@ -118,7 +120,13 @@ module _ (flash : Flash) (r : Kept) (c : Cursor) (is : IsShape r.shape) (f : Fol
 
   -- it has not
   pub Follows-kept : (bytes : List ℕ) → wants_page c ≡ true → Follows flash r (record c { bytes = bytes })
-  Follows-kept bytes wants = record { same_shape = f.same_shape; within = f.within; pages = f.pages; behind = f.behind; holds = λ e. absurd (let before = has_not_come c wants in omega (arith, before, e)) }
+  Follows-kept bytes wants = record {
+    same_shape = f.same_shape;
+    within = f.within;
+    pages = f.pages;
+    behind = f.behind;
+    holds = λ e. absurd (let before = has_not_come c wants in omega (arith, before, e));
+  }
 
   -- it moves past an entry
   pub Follows-passed : c.place < r.count → Follows flash r (passed c)

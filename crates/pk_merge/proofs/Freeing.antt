@@ -1,4 +1,4 @@
--- Blocks and frames that are given back one after another.
+-- Blocks and frames that are freed one after another.
 use Rattle.std.proofs.Common.{◌≡◌, ◌≢◌, ℕ, zero, suc, ◌+◌, ◌<◌, refl, sym, ap, subst, ◌∙◌, arith, List, [], ◌∷◌, ◌++◌, length, get_or, drop, drop-cons, slice_get, Some, add-one}
 use Rattle.std.proofs.lemmas.Option.{slice_get_within}
 use Rattle.pk_pin.specs.Frames.{Frames, IsLeased, given}

@@ -1,13 +1,11 @@
 -- The leases of an arena: what a step and what giving back leaves of those of others.
-use Rattle.std.proofs.Common.{◌≡◌, ℕ, zero, suc, ◌≤◌, Bool, true, false, cond, List, [], ◌∷◌, ◌++◌, slice_get, get_or, Some, None, Option, refl, sym, ap, subst, ◌∙◌, arith, inl, inr}
-use Rattle.std.specs.Prelude.{◌==◌}
-use Rattle.std.proofs.lemmas.Bool.Decides.{eqb_tells}
+use Rattle.std.proofs.Common.{◌≡◌, ℕ, zero, suc, ◌≤◌, Bool, true, false, cond, List, [], ◌∷◌, ◌++◌, slice_get, get_or, Some, None, Option, refl, sym, ap, subst, ◌∙◌, arith}
 use Rattle.pk_nand.specs.BoardState.{BoardState}
 use Rattle.pk_pin.specs.Frames.{Frames, AreLeases, leased, times, KeepsPage}
 use Rattle.pk_pin.proofs.Leases.{times-append, lease_alone, leases_taken, leases_filled, leases_given}
 use Rattle.pk_pool.specs.Blocks.{Blocks}
 use Rattle.pk_run.specs.Kept.{Kept, with_lease}
-use Rattle.pk_run.proofs.Others.{RunOnFlash-given}
+use Rattle.pk_run.proofs.Others.{RunOnFlash-given, among}
 use Rattle.pk_merge.specs.declared.source.Source.{Source}
 use Rattle.pk_merge.specs.declared.next.Next.{Next}
 use Rattle.pk_merge.specs.declared.next.Next.TheVariants.{LoadSource, LoadTarget, Gather, TakeBlock, Program, End}
@@ -30,7 +28,8 @@ turned i l xs ys =
     omega (arith, a, b, c, d)
 
 -- a page that is kept is one lease more
-page_leases : (pins : Bool) (old new : Frames) (bytes : List ℕ) (lease : Option ℕ) (others own : List ℕ) → KeepsPage pins old new bytes lease → AreLeases old (others ++ own) → AreLeases new (others ++ with_lease own lease)
+page_leases : (pins : Bool) (old new : Frames) (bytes : List ℕ) (lease : Option ℕ) (others own : List ℕ)
+    → KeepsPage pins old new bytes lease → AreLeases old (others ++ own) → AreLeases new (others ++ with_lease own lease)
 page_leases pins old new bytes None others own k all = subst (λ (a : Frames). AreLeases a (others ++ own)) (sym k.1) all
 page_leases pins old new bytes (Some l) others own k all =
     let taken = leases_taken old (others ++ own) l all k.1 in
@@ -42,7 +41,8 @@ kept_leases out out' before after same kept others all =
     subst (λ (a : Frames). AreLeases a (others ++ out'.leases)) (sym kept) (subst (λ (ls : List ℕ). AreLeases before (others ++ ls)) (sym same) all)
 
 -- each action
-pub acts_lease : {X : Type 0} (source : Source X) (target : Kept) (pins : Bool) (out : Kept) (m : Merger) (pool : Blocks) (old : BoardState) (before : Frames) (next : Next) (out' : Kept) (m' : Merger) (pool' : Blocks) (new : BoardState) (after : Frames)
+pub acts_lease : {X : Type 0} (source : Source X) (target : Kept) (pins : Bool) (out : Kept) (m : Merger) (pool : Blocks)
+    (old : BoardState) (before : Frames) (next : Next) (out' : Kept) (m' : Merger) (pool' : Blocks) (new : BoardState) (after : Frames)
     → Acts source target pins out m pool old before next out' m' pool' new after → LeavesLeases out before out' after
 acts_lease source target pins out m pool old before LoadSource out' m' pool' new after (l, o, p, a) = kept_leases out out' before after (ap (λ (r : Kept). r.leases) o) a
 acts_lease source target pins out m pool old before LoadTarget out' m' pool' new after (l, o, p, a) = kept_leases out out' before after (ap (λ (r : Kept). r.leases) o) a
@@ -54,26 +54,6 @@ acts_lease source target pins out m pool old before Program out' m' pool' new af
     subst (λ (ls : List ℕ). AreLeases after (others ++ ls)) (sym own) (page_leases pins before after _ k.lease others out.leases k.frame all)
 
 -- ---- the leases of a run
-
-itself : (l : ℕ) → (l == l) ≡ true
-itself l = elim (eqb_tells l l) [
-  | inl e ↦ e.0
-  | inr ne ↦ absurd (ne.1 refl)
-]
-
--- a lease that is in a list is there at least once
-among : (ls : List ℕ) (j l : ℕ) → slice_get ls j ≡ Some l → times l ls ≡ 0 → ⊥
-among [] j l got none = cc
-among (x ∷ ls) zero l got none =
-    let same : x ≡ l = cc in
-    let here : times l (l ∷ ls) ≡ 0 = subst (λ (y : ℕ). times l (y ∷ ls) ≡ 0) same none in
-    let more : times l (l ∷ ls) ≡ suc (times l ls) = rw (itself l) refl in
-    absurd (omega (arith, here, more))
-among (x ∷ ls) (suc j) l got none =
-    elim (x == l) as (λ b. cond b (suc (times l ls)) (times l ls) ≡ 0 → ⊥) [
-      | true ↦ λ e. absurd (omega (arith, e))
-      | false ↦ λ e. among ls j l got e
-    ] none
 
 -- the row with its first lease put to those before
 moved : (a : Frames) (before ls behind : List ℕ) (l : ℕ) → AreLeases a (before ++ ((l ∷ ls) ++ behind)) → AreLeases a ((before ++ l ∷ []) ++ (ls ++ behind))

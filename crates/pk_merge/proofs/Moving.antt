@@ -1,5 +1,6 @@
 -- What a block that is taken, and a page that is programmed, leave of the runs that are merged.
-use Rattle.std.proofs.Common.{◌≡◌, ◌≢◌, ◌⊎◌, inl, inr, ℕ, zero, suc, ◌+◌, ◌-◌, ◌*◌, ◌/◌, ◌%◌, ◌<◌, ◌≤◌, refl, sym, ap, subst, ◌∙◌, arith, List, [], ◌∷◌, ◌++◌, length, slice_get, set, Some, length-append, div-lt_iff_lt-mul}
+use Rattle.std.proofs.Common.{◌≡◌, ◌≢◌, ◌⊎◌, inl, inr, ℕ, zero, suc, ◌+◌, ◌-◌, ◌*◌, ◌/◌, ◌%◌, ◌<◌, ◌≤◌, refl, sym, ap, subst, ◌∙◌, arith, List, [], ◌∷◌, ◌++◌, length, slice_get, set, Some}
+use Rattle.std.proofs.Common.{length-append, div-lt_iff_lt-mul}
 use Rattle.std.specs.Prelude.{⊤, slice_index}
 use Rattle.std.proofs.Math.Nat.{suc-mul}
 use Rattle.std.proofs.Math.ListN.{get_or-append}
@@ -9,7 +10,8 @@ use Rattle.pk_base.specs.Entry.{Entry}
 use Rattle.pk_base.specs.Page.{Flash, page_at, page_in, whole, erased}
 use Rattle.pk_base.specs.Mark.{after_all, all_posted}
 use Rattle.pk_nand.specs.BoardState.{BoardState, shape_of}
-use Rattle.pk_nand.specs.Calls.{after_program, IsErasedBlock}
+use Rattle.pk_nand.specs.Calls.{after_program}
+use Rattle.pk_nand.specs.Operations.{IsErasedBlock}
 use Rattle.pk_nand.proofs.CutLemmas.{cut_end}
 use Rattle.pk_nand.proofs.Leaving.{page_at-slice_set}
 use Rattle.pk_pin.specs.Frames.{Frames}
@@ -26,7 +28,8 @@ use Rattle.pk_merge.specs.Cursors.{Cursor, Follows, own_page}
 use Rattle.pk_merge.specs.Sources.{Has, FollowsIn, IsOf, blocks_in}
 use Rattle.pk_merge.specs.Merging.{Merger, StandsIn}
 use Rattle.pk_merge.specs.Outputs.{AreMeta, BlocksApart, IsOutput, OthersStand, next_bytes}
-use Rattle.pk_merge.proofs.Places.{apart, rest, block_there, page_of_place, other_page}
+use Rattle.pk_merge.proofs.Places.{rest, block_there, page_of_place, other_page}
+use Rattle.pk_base.proofs.BlockLemmas.{apart}
 
 -- a run's pages are the same, and it is as before
 abbrev pub Moves : Kept → Flash → Flash → Frames → Frames → Type 0
@@ -54,7 +57,8 @@ follows_moved : {X : Type 0} (source : Source X) (old new : Flash) (before after
 follows_moved (Frozen b) old new before after c moves f = f
 follows_moved (Run r) old new before after c moves f = Follows-moved r.now old new c moves.0 f
 
-pub stands_moved : {X : Type 0} (source : Source X) (target : Kept) (old new : Flash) (before after : Frames) (es fs : List Entry) (m : Merger) → MovesIn source old new before after → Moves target old new before after
+pub stands_moved : {X : Type 0} (source : Source X) (target : Kept) (old new : Flash) (before after : Frames) (es fs : List Entry) (m : Merger)
+    → MovesIn source old new before after → Moves target old new before after
     → StandsIn source target old before es fs m → StandsIn source target new after es fs m
 stands_moved source target old new before after es fs m sources targets s = record {
   has = has_moved source old new before after es sources s.has;
@@ -67,7 +71,8 @@ stands_moved source target old new before after es fs m sources targets s = reco
 -- ---- a block that is taken
 
 pub same_but : (shape : Shape) (b : ℕ) (old new : BoardState) → ReachesIn shape b old new → SameButBlock shape b old.pages new.pages
-same_but shape b old new r = subst (λ (f : Flash). SameButBlock shape b old.pages f) (sym r.1.stands) (r.1.cuts (after_all (shape_of old) r.0 old.pages) (all_posted r.0) (cut_end (shape_of old) old.pages r.0))
+same_but shape b old new r = subst (λ (f : Flash). SameButBlock shape b old.pages f) (sym r.1.stands)
+    (r.1.cuts (after_all (shape_of old) r.0 old.pages) (all_posted r.0) (cut_end (shape_of old) old.pages r.0))
 
 pub spare_is_none : (pool : Blocks) (b c : ℕ) → IsSpare pool b → slice_get pool.states c ≡ Some (Owned Meta) → c ≢ b
 spare_is_none pool b c spare own e = elim spare [
@@ -97,7 +102,8 @@ outside_block shape some blocks b j ne =
     ]
 
 module _ (pool : Blocks) (b : ℕ) (old new : Flash) (spare : IsSpare pool b) (same : SameButBlock pool.shape b old new) where
-  pub pages_by_take : (r : Kept) → IsShape r.shape → pool.shape ≡ r.shape → AreMeta pool r.blocks → (j : ℕ) → j < length r.blocks * r.shape.block_pages → page_at new (page_of r j) ≡ page_at old (page_of r j)
+  pub pages_by_take : (r : Kept) → IsShape r.shape → pool.shape ≡ r.shape → AreMeta pool r.blocks → (j : ℕ)
+      → j < length r.blocks * r.shape.block_pages → page_at new (page_of r j) ≡ page_at old (page_of r j)
   pages_by_take r is shape meta j inside =
       let least : 8 ≤ r.shape.block_pages = is.block_least in
       let some : 0 < r.shape.block_pages = omega arith in
@@ -113,7 +119,8 @@ module _ (pool : Blocks) (b : ℕ) (old new : Flash) (spare : IsSpare pool b) (s
       let pages : SamePages r old new = λ j h. pages_by_take r is shape meta j (let within = st.within in omega (arith, h, within)) in
       (pages, λ es s. RunOnFlash-elsewhere r old new arena arena es pages (λ j lease got is_leased. (is_leased, refl)) s)
 
-  pub source_by_take : {X : Type 0} (source : Source X) (arena : Frames) (es : List Entry) → Has source old arena es → IsShape pool.shape → IsOf pool.shape source → AreMeta pool (blocks_in source) → MovesIn source old new arena arena
+  pub source_by_take : {X : Type 0} (source : Source X) (arena : Frames) (es : List Entry) → Has source old arena es
+      → IsShape pool.shape → IsOf pool.shape source → AreMeta pool (blocks_in source) → MovesIn source old new arena arena
   source_by_take (Frozen x) arena es has is of meta = tt
   source_by_take (Run r) arena es has is of meta = moves_by_take r.now arena es has (subst IsShape (sym of) is) (sym of) meta
 
@@ -133,7 +140,8 @@ index_last [] b = refl
 index_last (x ∷ xs) b = index_last xs b
 
 -- the output with a block that was taken
-pub output_with : (pool : Blocks) (out : Kept) (b : ℕ) (old new : Flash) → IsShape out.shape → pool.shape ≡ out.shape → IsSpare pool b → b < pool.shape.blocks → SameButBlock pool.shape b old new → IsErasedBlock pool.shape new b
+pub output_with : (pool : Blocks) (out : Kept) (b : ℕ) (old new : Flash) → IsShape out.shape → pool.shape ≡ out.shape
+    → IsSpare pool b → b < pool.shape.blocks → SameButBlock pool.shape b old new → IsErasedBlock pool.shape new b
     → AreMeta pool out.blocks → length out.firsts ≤ length out.blocks * out.shape.block_pages → IsOutput out old → IsOutput (record out { blocks = out.blocks ++ b ∷ [] }) new
 output_with pool out b old new is shape spare exists same erased_all meta within o = record {
   different = λ i j c got had. elim (from_more out.blocks b i c got) [
@@ -165,7 +173,8 @@ output_with pool out b old new is shape spare exists same erased_all meta within
     same_page : (j : ℕ) → j < length out.blocks * out.shape.block_pages → page_in out.shape (out.blocks ++ b ∷ []) j ≡ page_in out.shape out.blocks j
     same_page j h = ap (λ (k : ℕ). k * out.shape.block_pages + j % out.shape.block_pages) (get_or-append out.blocks (b ∷ []) 0 (j / out.shape.block_pages) ((div-lt_iff_lt-mul some).1 h))
 
-    last_erased : (j : ℕ) → length out.blocks * out.shape.block_pages ≤ j → j < length (out.blocks ++ b ∷ []) * out.shape.block_pages → page_at new (page_in out.shape (out.blocks ++ b ∷ []) j) ≡ erased
+    last_erased : (j : ℕ) → length out.blocks * out.shape.block_pages ≤ j
+        → j < length (out.blocks ++ b ∷ []) * out.shape.block_pages → page_at new (page_in out.shape (out.blocks ++ b ∷ []) j) ≡ erased
     last_erased j behind small =
         let long : length (out.blocks ++ b ∷ []) ≡ suc (length out.blocks) = let e = length-append out.blocks (b ∷ []) in omega (arith, e) in
         let all : length (out.blocks ++ b ∷ []) * out.shape.block_pages ≡ suc (length out.blocks) * out.shape.block_pages = ap (λ (k : ℕ). k * out.shape.block_pages) long in
@@ -173,7 +182,8 @@ output_with pool out b old new is shape spare exists same erased_all meta within
         let less : r < out.shape.block_pages = omega (arith, behind, small, all, suc-mul (length out.blocks) out.shape.block_pages) in
         let here : length out.blocks * out.shape.block_pages + r ≡ j = omega (arith, behind) in
         let page : page_in out.shape (out.blocks ++ b ∷ []) j ≡ b * out.shape.block_pages + r =
-        ap (page_in out.shape (out.blocks ++ b ∷ [])) (sym here) ∙ page_of_place out.shape some (out.blocks ++ b ∷ []) (length out.blocks) r less ∙ ap (λ (k : ℕ). k * out.shape.block_pages + r) (index_last out.blocks b) in
+        ap (page_in out.shape (out.blocks ++ b ∷ [])) (sym here) ∙ page_of_place out.shape some (out.blocks ++ b ∷ []) (length out.blocks) r less
+        ∙ ap (λ (k : ℕ). k * out.shape.block_pages + r) (index_last out.blocks b) in
         let e = subst (λ (x : Shape). IsErasedBlock x new b) shape erased_all in
         e (page_in out.shape (out.blocks ++ b ∷ []) j) (omega (arith, page)) (omega (arith, page, less))
 
@@ -194,6 +204,7 @@ module _ (out : Kept) (more : List Entry) (old new : BoardState) (before after :
         λ es s. others r es apart_from shape s,
       )
 
-  pub source_by_program : {X : Type 0} (source : Source X) (es : List Entry) → Has source old.pages before es → IsOf out.shape source → BlocksApart (blocks_in source) out.blocks → MovesIn source old.pages new.pages before after
+  pub source_by_program : {X : Type 0} (source : Source X) (es : List Entry) → Has source old.pages before es
+      → IsOf out.shape source → BlocksApart (blocks_in source) out.blocks → MovesIn source old.pages new.pages before after
   source_by_program (Frozen x) es has of apart_from = tt
   source_by_program (Run r) es has of apart_from = moves_by_program r.now es has of apart_from

@@ -1,38 +1,21 @@
 -- What remains of a merge of two sorted lists, after the entry that comes next.
-use Rattle.std.proofs.Common.{◌≡◌, ℕ, refl, sym, ap, subst, ◌∙◌, Bool, true, false, ◌&&◌, T, List, [], ◌∷◌, ◌++◌, filter, not, ◌||◌, ◌==◌, is_some, if◌then◌else◌}
-use Rattle.std.specs.declared.cmp.Ordering.{Ordering}
+use Rattle.std.proofs.Common.{◌≡◌, ℕ, refl, sym, ap, subst, ◌∙◌, true, false, T, List, [], ◌∷◌, ◌++◌, filter, not, ◌||◌, ◌==◌, is_some, if◌then◌else◌}
 use Rattle.std.specs.declared.cmp.Ordering.TheVariants.{Less, Equal, Greater}
 use Rattle.std.specs.Ordering.{is_lt}
 use Rattle.std.specs.List.{list_all, AllByRecursion}
 use Rattle.std.proofs.Common.{Option, Some, None}
 use Rattle.std.specs.Cmp.{IsTotalOrder}
 use Rattle.std.specs.Cmp.Lexicographic.{nat_list_cmp_total}
-use Rattle.std.specs.FinMap.Entries.{put, is_sorted, below_all, by_order, is_sorted-put}
+use Rattle.std.specs.FinMap.Entries.{put, is_sorted, below_all, by_order}
 use Rattle.pk_base.specs.Key.{Key, key_cmp}
 use Rattle.pk_base.specs.Entry.{Entry, Place}
 use Rattle.pk_base.specs.Firsts.{firsts}
 use Rattle.pk_meta.specs.Over.{over, kept_at}
-use Rattle.pk_run.proofs.Orders.{same_key, turned, below_less}
+use Rattle.pk_base.proofs.Logic.{left_part, right_part, both, less}
+use Rattle.pk_base.proofs.KeyLemmas.{same_key, turned, below_less, firsts_sorted}
 
 key_total : IsTotalOrder key_cmp
 key_total = nat_list_cmp_total
-
-pub left_part : (a b : Bool) → T (a && b) → T a
-left_part true b p = tt
-left_part false b p = p
-
-pub right_part : (a b : Bool) → T (a && b) → T b
-right_part true b p = p
-right_part false b p = absurd p
-
-pub both : (a b : Bool) → T a → T b → T (a && b)
-both true b p q = q
-both false b p q = p
-
-less : (o : Ordering) → T (is_lt o) → o ≡ Less
-less Less p = refl
-less Equal p = absurd p
-less Greater p = absurd p
 
 -- ---- keys below others
 
@@ -99,14 +82,12 @@ over_target f fs vp = firsts_front f fs (left_part _ _ vp)
 
 pub kept_front : (level : ℕ) (e : Entry) (es : List Entry) → kept_at level (e ∷ es) ≡ kept_at level (e ∷ []) ++ kept_at level es
 kept_front level e es =
-    elim (level == 4) as (λ b. (if b then filter (λ x. is_some x.1) (e ∷ es) else e ∷ es) ≡ (if b then filter (λ x. is_some x.1) (e ∷ []) else e ∷ []) ++ (if b then filter (λ x. is_some x.1) es else es)) [
-      | true ↦ elim (is_some e.1) as (λ b. (if b then e ∷ filter (λ x. is_some x.1) es else filter (λ x. is_some x.1) es) ≡ (if b then e ∷ [] else []) ++ filter (λ x. is_some x.1) es) [ true ↦ refl | false ↦ refl ]
+    elim (level == 4) as (λ b. (if b then filter (λ x. is_some x.1) (e ∷ es) else e ∷ es)
+    ≡ (if b then filter (λ x. is_some x.1) (e ∷ []) else e ∷ []) ++ (if b then filter (λ x. is_some x.1) es else es)) [
+      | true ↦ elim (is_some e.1) as (λ b. (if b then e ∷ filter (λ x. is_some x.1) es else filter (λ x. is_some x.1) es)
+          ≡ (if b then e ∷ [] else []) ++ filter (λ x. is_some x.1) es) [ true ↦ refl | false ↦ refl ]
       | false ↦ refl
     ]
-
-pub firsts_sorted : (es : List Entry) → T (is_sorted key_cmp (firsts es))
-firsts_sorted [] = tt
-firsts_sorted (e ∷ es) = is_sorted-put key_cmp key_total e.0 e.1 (firsts es) (firsts_sorted es)
 
 below_put_only : (k : Key) (es : List Entry) → T (below_all key_cmp k es) → T (below_all key_cmp k (filter (λ x. is_some x.1) es))
 below_put_only k [] h = tt

@@ -1,21 +1,17 @@
 -- The pages of a run's blocks.
-use Rattle.std.proofs.Common.{◌≡◌, ℕ, suc, ◌+◌, ◌-◌, ◌*◌, ◌/◌, ◌%◌, ◌<◌, ◌≤◌, sym, ap, subst, ◌∙◌, arith, List, length, slice_get, Some, mod-lt, div-add-mod', div-lt_iff_lt-mul, mul-le-mul_right}
+use Rattle.std.proofs.Common.{◌≡◌, ℕ, ◌+◌, ◌-◌, ◌*◌, ◌/◌, ◌%◌, ◌<◌, ◌≤◌, sym, ap, subst, ◌∙◌, arith, List, length, slice_get, Some, mod-lt, div-add-mod', div-lt_iff_lt-mul}
 use Rattle.std.specs.Prelude.{slice_index}
-use Rattle.std.proofs.Math.Nat.{suc-mul}
 use Rattle.std.proofs.lemmas.Nat.{div-mul-add, mod-mul-add}
 use Rattle.std.proofs.lemmas.Option.{slice_get-get_or}
 use Rattle.pk_base.specs.Shape.{Shape, IsShape, page_count}
 use Rattle.pk_base.specs.Page.{Page, Flash, page_at, erased, whole, page_in}
 use Rattle.pk_base.specs.Entry.{Entry}
-use Rattle.pk_nand.specs.Calls.{InOrder}
+use Rattle.pk_nand.specs.Operations.{InOrder}
 use Rattle.pk_pin.specs.Frames.{Frames}
 use Rattle.pk_run.specs.Kept.{Kept, IsKept, RunOnFlash, page_of}
 use Rattle.pk_run.proofs.Lookups.{page_stands}
 use Rattle.pk_merge.specs.Outputs.{IsOutput, BlocksApart}
-
--- the rows of block a end if those of a later block begin, or before
-pub apart : (a b n : ℕ) → a < b → a * n + n ≤ b * n
-apart a b n h = omega (arith, mul-le-mul_right {m = suc a} {n = b} n (omega arith), suc-mul a n)
+use Rattle.pk_base.proofs.BlockLemmas.{apart}
 
 same_rest : (x y n r s : ℕ) → x ≡ y → x * n + r ≡ y * n + s → r ≡ s
 same_rest x y n r s e same = let f : x * n ≡ y * n = ap (λ k. k * n) e in omega (arith, f, same)
@@ -45,7 +41,8 @@ module _ (shape : Shape) (some : 0 < shape.block_pages) (blocks : List ℕ) wher
       omega (arith, end, r)
 
   -- no two indices have the same page
-  pub only_index : ((i j b : ℕ) → slice_get blocks i ≡ Some b → slice_get blocks j ≡ Some b → i ≡ j) → (i j : ℕ) → i < length blocks * n → j < length blocks * n → page_in shape blocks j ≡ page_in shape blocks i → j ≡ i
+  pub only_index : ((i j b : ℕ) → slice_get blocks i ≡ Some b → slice_get blocks j ≡ Some b → i ≡ j) → (i j : ℕ)
+      → i < length blocks * n → j < length blocks * n → page_in shape blocks j ≡ page_in shape blocks i → j ≡ i
   only_index different i j inside small same =
       let places : slice_index blocks (j / n) ≡ slice_index blocks (i / n) = sym (block_of_page j) ∙ ap (λ k. k / n) same ∙ block_of_page i in
       let quotients : j / n ≡ i / n = different (j / n) (i / n) (slice_index blocks (i / n)) (block_there j small ∙ ap (λ (b : ℕ). Some b) places) (block_there i inside) in
@@ -53,7 +50,8 @@ module _ (shape : Shape) (some : 0 < shape.block_pages) (blocks : List ℕ) wher
       sym (div-add-mod' j n) ∙ (λ k. quotients k * n + rests k) ∙ div-add-mod' i n
 
 -- nor have those of two lists of blocks that are apart
-pub other_page : (shape : Shape) (some : 0 < shape.block_pages) (blocks others : List ℕ) (i j : ℕ) → BlocksApart others blocks → i < length blocks * shape.block_pages → j < length others * shape.block_pages
+pub other_page : (shape : Shape) (some : 0 < shape.block_pages) (blocks others : List ℕ) (i j : ℕ)
+    → BlocksApart others blocks → i < length blocks * shape.block_pages → j < length others * shape.block_pages
     → page_in shape others j ≡ page_in shape blocks i → ⊥
 other_page shape some blocks others i j apart inside small same =
     let n : ℕ = shape.block_pages in
@@ -64,7 +62,8 @@ whole_erased : (p : Page) (bytes : List ℕ) → p ≡ whole bytes → p ≡ era
 whole_erased p bytes is other = cc
 
 -- the next page of an output is the next of its block
-pub InOrder-output : (r : Kept) (flash : Flash) (arena : Frames) (es : List Entry) → IsShape r.shape → IsKept r → RunOnFlash r flash arena es → IsOutput r flash → length r.firsts < length r.blocks * r.shape.block_pages
+pub InOrder-output : (r : Kept) (flash : Flash) (arena : Frames) (es : List Entry) → IsShape r.shape → IsKept r
+    → RunOnFlash r flash arena es → IsOutput r flash → length r.firsts < length r.blocks * r.shape.block_pages
     → InOrder r.shape flash (page_of r (length r.firsts))
 InOrder-output r flash arena es is kept s out inside =
     let least : 8 ≤ r.shape.block_pages = is.block_least in

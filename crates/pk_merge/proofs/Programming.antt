@@ -1,8 +1,6 @@
 -- An output to which a page or a block is added, and what this leaves of other runs.
-use Rattle.std.proofs.Common.{◌≡◌, ◌≢◌, ◌⊎◌, inl, inr, ℕ, ◌+◌, ◌*◌, ◌<◌, ◌≤◌, refl, sym, ap, subst, ◌∙◌, arith, Bool, true, false, not, ◌||◌, ◌==◌, T, is_some, List, [], ◌∷◌, ◌++◌, length, map, slice_get, get_or, set, Some, None, Option, option_map, length-append}
-use Rattle.std.specs.Ordering.{is_lt}
-use Rattle.std.specs.declared.cmp.Ordering.{Ordering}
-use Rattle.std.specs.declared.cmp.Ordering.TheVariants.{Less, Equal, Greater}
+use Rattle.std.proofs.Common.{◌≡◌, ◌≢◌, ◌⊎◌, inl, inr, ℕ, ◌+◌, ◌*◌, ◌<◌, ◌≤◌, refl, sym, ap, subst, ◌∙◌, arith, Bool, true, false, not, ◌||◌, ◌==◌, T, is_some, List, [], ◌∷◌, ◌++◌, length, map}
+use Rattle.std.proofs.Common.{slice_get, get_or, set, Some, None, Option, option_map, length-append}
 use Rattle.std.specs.List.{list_all, AllByRecursion}
 use Rattle.std.specs.FinMap.Entries.{is_sorted, below_all}
 use Rattle.std.proofs.lemmas.Bool.{cases_lt}
@@ -12,7 +10,7 @@ use Rattle.pk_base.specs.Entry.{Entry, key_of}
 use Rattle.pk_base.specs.Seen.{entry as seen, entries as seen_all}
 use Rattle.pk_base.specs.declared.entry.Entry.{Entry as RustEntry}
 use Rattle.pk_base.specs.Page.{Flash, page_at, whole, page_in}
-use Rattle.pk_meta.specs.Page.{IsContent}
+use Rattle.pk_meta.specs.PageChecks.{IsContent}
 use Rattle.pk_meta.proofs.Reading.{meta_entries_again}
 use Rattle.pk_nand.specs.BoardState.{BoardState}
 use Rattle.pk_nand.specs.Calls.{after_program}
@@ -23,16 +21,11 @@ use Rattle.pk_pin.specs.Frames.{Frames, leased, KeepsPage}
 use Rattle.pk_run.specs.Kept.{Kept, IsNext, IsPinnedAlike, RunOnFlash, page_of, with_page}
 use Rattle.pk_run.proofs.Others.{RunOnFlash-outside, RunOnFlash-taken, RunOnFlash-filled}
 use Rattle.pk_merge.specs.Outputs.{BlocksApart, IsOutput, ProgramsPage, OthersStand, next_bytes, SameButNext}
-use Rattle.pk_merge.proofs.Overs.{left_part, right_part}
 use Rattle.pk_merge.proofs.Places.{only_index, other_page}
 use Rattle.pk_level.specs.Arenas.{IsPinnedIf}
+use Rattle.pk_base.proofs.Logic.{left_part, right_part, less}
 
 -- ---- sorted entries rise
-
-less : (o : Ordering) → T (is_lt o) → o ≡ Less
-less Less p = refl
-less Equal p = absurd p
-less Greater p = absurd p
 
 all_below : (k : Key) (es : List Entry) → T (below_all key_cmp k es) → AllByRecursion (IsBelow k) (map key_of es)
 all_below k [] h = tt
@@ -45,20 +38,23 @@ sorted_rises (e ∷ es) h = (all_below e.0 es (left_part _ _ h), sorted_rises es
 -- ---- frames
 
 -- a page that is kept leaves every run
-pub kept_stands : (pins : Bool) (old new : Frames) (bytes : List ℕ) (lease : Option ℕ) → KeepsPage pins old new bytes lease → (r : Kept) (flash : Flash) (es : List Entry) → RunOnFlash r flash old es → RunOnFlash r flash new es
+pub kept_stands : (pins : Bool) (old new : Frames) (bytes : List ℕ) (lease : Option ℕ) → KeepsPage pins old new bytes lease
+    → (r : Kept) (flash : Flash) (es : List Entry) → RunOnFlash r flash old es → RunOnFlash r flash new es
 kept_stands pins old new bytes None k r flash es s = subst (λ (a : Frames). RunOnFlash r flash a es) (sym k.1) s
 kept_stands pins old new bytes (Some l) k r flash es s =
     let taken = RunOnFlash-taken r flash old es l k.1 s in
     subst (λ (a : Frames). RunOnFlash r flash a es) (sym k.2) (RunOnFlash-filled r flash (leased old l) es l bytes taken.1 taken.0)
 
-alike : (pins : Bool) (r : Kept) (flash : Flash) (old new : Frames) (bytes : List ℕ) (lease : Option ℕ) → KeepsPage pins old new bytes lease → IsPinnedIf pins r → page_at flash (page_of r (length r.firsts)) ≡ whole bytes
+alike : (pins : Bool) (r : Kept) (flash : Flash) (old new : Frames) (bytes : List ℕ) (lease : Option ℕ)
+    → KeepsPage pins old new bytes lease → IsPinnedIf pins r → page_at flash (page_of r (length r.firsts)) ≡ whole bytes
     → IsPinnedAlike r flash new lease
 alike pins r flash old new bytes None k pinned here = subst (λ (b : Bool). IsPinnedIf b r) k.0 pinned
 alike pins r flash old new bytes (Some l) k pinned here =
     (subst (λ (b : Bool). IsPinnedIf b r) k.0 pinned, record { leased = k.3; bytes = here ∙ ap (λ (xs : List ℕ). whole xs) (sym k.4) })
 
 -- every page has a frame, or none has, after it too
-pub pinned_page : (pins : Bool) (r : Kept) (old new : Frames) (bytes : List ℕ) (first : Key) (lease : Option ℕ) (n : ℕ) → KeepsPage pins old new bytes lease → IsPinnedIf pins r → IsPinnedIf pins (with_page r first lease n)
+pub pinned_page : (pins : Bool) (r : Kept) (old new : Frames) (bytes : List ℕ) (first : Key) (lease : Option ℕ) (n : ℕ)
+    → KeepsPage pins old new bytes lease → IsPinnedIf pins r → IsPinnedIf pins (with_page r first lease n)
 pinned_page true r old new bytes first None n k pinned = absurd (clash k.0)
   where
     clash : true ≡ false → ⊥
@@ -112,7 +108,8 @@ module _ (r : Kept) (flash : Flash) (is : IsShape r.shape) (inside : length r.fi
     exist = out.exist;
     unused = λ j past small.
         let more = length-append r.firsts (first ∷ []) in
-        page_at-slice_set flash next (page_of r j) (whole bytes) (λ e. let same = only_index r.shape some r.blocks out.different (length r.firsts) j inside small e in absurd (omega (arith, same, past, more)))
+        page_at-slice_set flash next (page_of r j) (whole bytes)
+        (λ e. let same = only_index r.shape some r.blocks out.different (length r.firsts) j inside small e in absurd (omega (arith, same, past, more)))
         ∙ out.unused j (omega (arith, past, more)) small;
   }
 
@@ -133,18 +130,22 @@ next_page pins r flash old new more es first lease is content exists keeps pinne
       alike = alike pins r _ old new (next_bytes r more) lease keeps pinned here;
     }
 
-pages_after : (r : Kept) (more : List Entry) (old new : BoardState) → new ≡ after_program old (page_of r (length r.firsts)) (next_bytes r more) → new.pages ≡ set old.pages (page_of r (length r.firsts)) (whole (next_bytes r more))
+pages_after : (r : Kept) (more : List Entry) (old new : BoardState) → new ≡ after_program old (page_of r (length r.firsts)) (next_bytes r more)
+    → new.pages ≡ set old.pages (page_of r (length r.firsts)) (whole (next_bytes r more))
 pages_after r more old new e = ap (λ (b : BoardState). b.pages) e
 
 module _ (pins : Bool) (r : Kept) (more : List Entry) (old : BoardState) (before : Frames) (new : BoardState) (after : Frames) (lease : Option ℕ) (is : IsShape r.shape)
-    (inside : length r.firsts < length r.blocks * r.shape.block_pages) (program : new ≡ after_program old (page_of r (length r.firsts)) (next_bytes r more)) (keeps : KeepsPage pins before after (next_bytes r more) lease) where
+    (inside : length r.firsts < length r.blocks * r.shape.block_pages)
+    (program : new ≡ after_program old (page_of r (length r.firsts)) (next_bytes r more)) (keeps : KeepsPage pins before after (next_bytes r more) lease) where
   others_after : OthersStand r old.pages before new.pages after
   others_after other es apart same s =
-      kept_stands pins before after (next_bytes r more) lease keeps other new.pages es (subst (λ (f : Flash). RunOnFlash other f before es) (sym (pages_after r more old new program)) (others_stand r old.pages is inside (next_bytes r more) before other es apart same s))
+      kept_stands pins before after (next_bytes r more) lease keeps other new.pages es
+      (subst (λ (f : Flash). RunOnFlash other f before es) (sym (pages_after r more old new program)) (others_stand r old.pages is inside (next_bytes r more) before other es apart same s))
 
   pub programs_page : (r' : Kept) (first : Key) → IsOutput r old.pages → page_of r (length r.firsts) < length old.pages → IsContent r.shape r.level (length r.firsts) more → IsPinnedIf pins r
       → r' ≡ with_page r first lease (length more) → option_map key_of (slice_get more 0) ≡ Some first
-      → ((flash : Flash) (arena : Frames) (es next : List Entry) → RunOnFlash r flash arena es → IsNext r flash arena es next first lease → length next ≡ length more → RunOnFlash r' flash arena (es ++ next))
+      → ((flash : Flash) (arena : Frames) (es next : List Entry) → RunOnFlash r flash arena es
+      → IsNext r flash arena es next first lease → length next ≡ length more → RunOnFlash r' flash arena (es ++ next))
       → Reached old new (λ flash _. SameButNext r old.pages flash) → ProgramsPage pins r more old before r' new after
   programs_page r' first out exists content pinned run begins adds cuts =
       let pages = pages_after r more old new program in
@@ -156,10 +157,13 @@ module _ (pins : Bool) (r : Kept) (more : List Entry) (old : BoardState) (before
         frame = keeps;
         stands = λ es s rising deepest.
             adds new.pages after es more
-            (kept_stands pins before after (next_bytes r more) lease keeps r new.pages es (subst (λ (f : Flash). RunOnFlash r f before es) (sym pages) (output_stands r old.pages is inside (next_bytes r more) before es out s)))
+            (kept_stands pins before after (next_bytes r more) lease keeps r new.pages es
+            (subst (λ (f : Flash). RunOnFlash r f before es) (sym pages) (output_stands r old.pages is inside (next_bytes r more) before es out s)))
             (subst (λ (f : Flash). IsNext r f after es more first lease) (sym pages) (next_page pins r old.pages before after more es first lease is content exists keeps pinned begins rising deepest))
             refl;
-        output = subst (λ (f : Flash). IsOutput r' f) (sym pages) (subst (λ (x : Kept). IsOutput x (set old.pages (page_of r (length r.firsts)) (whole (next_bytes r more)))) (sym run) (output_again r old.pages is inside (next_bytes r more) first lease (length more) out));
+        output = subst (λ (f : Flash). IsOutput r' f) (sym pages)
+            (subst (λ (x : Kept). IsOutput x (set old.pages (page_of r (length r.firsts)) (whole (next_bytes r more))))
+            (sym run) (output_again r old.pages is inside (next_bytes r more) first lease (length more) out));
         others = others_after;
         cuts = cuts;
       }

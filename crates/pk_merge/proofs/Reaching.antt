@@ -50,7 +50,8 @@ pair_within shape b p is low high =
     let rest : p % n ≡ d = ap (λ (k : ℕ). k % n) (sym e) ∙ mod-mul-add b n d less in
     (omega (arith, rest, low), omega (arith, rest, low, less, eights))
 
-widened : (shape : Shape) (b p : ℕ) (old new : Flash) → IsShape shape → b * shape.block_pages ≤ p → p < b * shape.block_pages + shape.block_pages → SameOutsidePair shape p old new → SameButBlock shape b old new
+widened : (shape : Shape) (b p : ℕ) (old new : Flash) → IsShape shape → b * shape.block_pages ≤ p
+    → p < b * shape.block_pages + shape.block_pages → SameOutsidePair shape p old new → SameButBlock shape b old new
 widened shape b p old new is low high s =
     let ends = pair_within shape b p is low high in
     record {
@@ -59,11 +60,13 @@ widened shape b p old new is low high s =
       above = λ k h. s.above k (omega (arith, h, ends.1));
     }
 
-reached_wider : (shape : Shape) (b p : ℕ) (old new : BoardState) → IsShape shape → b * shape.block_pages ≤ p → p < b * shape.block_pages + shape.block_pages → Reached old new (λ flash _. SameOutsidePair shape p old.pages flash) → ReachesIn shape b old new
+reached_wider : (shape : Shape) (b p : ℕ) (old new : BoardState) → IsShape shape → b * shape.block_pages ≤ p
+    → p < b * shape.block_pages + shape.block_pages → Reached old new (λ flash _. SameOutsidePair shape p old.pages flash) → ReachesIn shape b old new
 reached_wider shape b p old new is low high (marks, r) =
     (marks, record { trail = r.trail; posted = r.posted; same_shape = r.same_shape; cuts = λ f q cut. widened shape b p old.pages f is low high (r.cuts f q cut); stands = r.stands })
 
-went_wider : (shape : Shape) (b p : ℕ) (old new : BoardState) → IsShape shape → b * shape.block_pages ≤ p → p < b * shape.block_pages + shape.block_pages → Went old new (λ flash _. SameOutsidePair shape p old.pages flash) → WentIn shape b old new
+went_wider : (shape : Shape) (b p : ℕ) (old new : BoardState) → IsShape shape → b * shape.block_pages ≤ p
+    → p < b * shape.block_pages + shape.block_pages → Went old new (λ flash _. SameOutsidePair shape p old.pages flash) → WentIn shape b old new
 went_wider shape b p old new is low high (marks, r) =
     (marks, record { trail = r.trail; posted = r.posted; same_shape = r.same_shape; cuts = λ f q cut. widened shape b p old.pages f is low high (r.cuts f q cut); stands = r.stands })
 
@@ -87,19 +90,27 @@ module _ {X : Type 0} (source : Source X) (target : Kept) (pins : Bool) (out : K
   high : page_of out (length out.firsts) < b * out.shape.block_pages + out.shape.block_pages
   high = let e = rest out.shape some out.blocks (length out.firsts) in omega (arith, e)
 
-  pub acts_reach : (next : Next) (out' : Kept) (m' : Merger) (pool' : Blocks) (new : BoardState) (after : Frames) → Tells source target out m next → Acts source target pins out m pool old before next out' m' pool' new after → StepReaches pool out old new
+  pub acts_reach : (next : Next) (out' : Kept) (m' : Merger) (pool' : Blocks) (new : BoardState) (after : Frames)
+      → Tells source target out m next → Acts source target pins out m pool old before next out' m' pool' new after → StepReaches pool out old new
   acts_reach LoadSource out' m' pool' new after t (l, o, p, a) = inl (looked old (after_look_at source old) new l.board (look_is_in source old))
   acts_reach LoadTarget out' m' pool' new after t (l, o, p, a) = inl (looked old (after_look target.leases old) new l.board (look_is target.leases old))
   acts_reach Gather out' m' pool' new after t (e, o, p, q, a) = inl (inl e)
   acts_reach End out' m' pool' new after t (e, o, p, q, a) = inl (inl e)
   acts_reach TakeBlock out' m' pool' new after t (k, e, a, fits) = inr (k.block, inl k.spare, subst (λ (s : Shape). ReachesIn s k.block old new) r.shapes.of_pool k.cuts)
   acts_reach Program out' m' pool' new after t (k, e, p) =
-      inr (b, inr (length out.firsts / n, block_there out.shape some out.blocks (length out.firsts) (place t.1)), reached_wider out.shape b (page_of out (length out.firsts)) old new is low high k.cuts)
+      inr (
+        b,
+        inr (length out.firsts / n, block_there out.shape some out.blocks (length out.firsts) (place t.1)),
+        reached_wider out.shape b (page_of out (length out.firsts)) old new is low high k.cuts,
+      )
 
   pub stops_in : (m' : Merger) (new : BoardState) → Fails source target out m pool old Stopped m' new → StepWent pool out old new
   stops_in m' new (inl erase) = (erase.block, inl (inl erase.lowest.here), subst (λ (s : Shape). WentIn s erase.block old new) r.shapes.of_pool erase.cuts)
-  stops_in m' new (inr program) =
-      (b, inr (length out.firsts / n, block_there out.shape some out.blocks (length out.firsts) program.place), went_wider out.shape b (page_of out (length out.firsts)) old new is low high program.cuts)
+  stops_in m' new (inr program) = (
+    b,
+    inr (length out.firsts / n, block_there out.shape some out.blocks (length out.firsts) program.place),
+    went_wider out.shape b (page_of out (length out.firsts)) old new is low high program.cuts,
+  )
 
   -- after a read that failed the merge runs as before
   pub reads_again : (m' : Merger) (new : BoardState) → FailsToRead source target m old m' new → Running source target pins out m' pool new.pages before es fs

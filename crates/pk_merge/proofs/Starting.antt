@@ -25,7 +25,8 @@ pinned_none true shape level = refl
 pinned_none false shape level = refl
 
 -- at its start a merge that can be begun runs
-pub starts : {X : Type 0} (source : Source X) (target : Kept) (pins : Bool) (shape : Shape) (level : ℕ) (m : Merger) (pool : Blocks) (flash : Flash) (arena : Frames) (es fs : List Entry) → IsShape shape → IsMergerOf shape m
+pub starts : {X : Type 0} (source : Source X) (target : Kept) (pins : Bool) (shape : Shape) (level : ℕ) (m : Merger) (pool : Blocks) (flash : Flash) (arena : Frames) (es fs : List Entry)
+    → IsShape shape → IsMergerOf shape m
     → CanBegin source target pins shape level pool flash arena es fs → Running source target pins (empty shape level) (restarted m) pool flash arena es fs
 starts source target pins shape level m pool flash arena es fs is own b = record {
   lists = b.lists;

@@ -16,8 +16,10 @@ use Rattle.pk_merge.proofs.Stepping.{acts_on, acts_level, acts_leave, gathers_on
 use Rattle.pk_merge.proofs.Reaching.{acts_reach}
 use Rattle.pk_merge.proofs.Counting.{fewer_steps, fewer_of_level}
 
-module _ {X : Type 0} (source : Source X) (target : Kept) (pins : Bool) (out : Kept) (m : Merger) (pool : Blocks) (old : BoardState) (before : Frames) (out' : Kept) (m' : Merger) (pool' : Blocks) (new : BoardState) (after : Frames)
-    (is : IsShape out.shape) (kept : IsKept out) (s : Steps source target pins out m pool old before out' m' pool' new after) (es fs : List Entry) (r : Running source target pins out m pool old.pages before es fs) where
+module _ {X : Type 0} (source : Source X) (target : Kept) (pins : Bool) (out : Kept) (m : Merger) (pool : Blocks)
+    (old : BoardState) (before : Frames) (out' : Kept) (m' : Merger) (pool' : Blocks) (new : BoardState) (after : Frames)
+    (is : IsShape out.shape) (kept : IsKept out) (s : Steps source target pins out m pool old before out' m' pool' new after)
+    (es fs : List Entry) (r : Running source target pins out m pool old.pages before es fs) where
   pub runs_on : Running source target pins out' m' pool' new.pages after es fs
   runs_on =
       gathers_on source target pins out' s.between pool' new.pages after es fs
@@ -32,7 +34,8 @@ module _ {X : Type 0} (source : Source X) (target : Kept) (pins : Bool) (out : K
   pub lowers_rest : (pages blocks : ℕ) → run_pages out.shape (length (merged out.level es fs)) ≤ pages → run_blocks out.shape (length (merged out.level es fs)) ≤ blocks
       → LowersTo source target out m pool out' m' pool' pages blocks
   lowers_rest pages blocks up vp =
-      fewer_steps source target pins out m pool old before es fs is kept r s.next out' s.between m' pool' new after s.tells s.acts s.gathers.source_pages s.gathers.target_pages s.stuck pages blocks up vp
+      fewer_steps source target pins out m pool old before es fs is kept r s.next out' s.between m'
+      pool' new after s.tells s.acts s.gathers.source_pages s.gathers.target_pages s.stuck pages blocks up vp
 
   pub lowers : LowersTo source target out m pool out' m' pool' (most_pages out) (most_blocks out)
   lowers = fewer_of_level source target pins out m pool old before es fs is kept r s.next out' s.between m' pool' new after s.tells s.acts s.gathers.source_pages s.gathers.target_pages s.stuck

@@ -1,5 +1,6 @@
 -- Each action leaves a merge running.
-use Rattle.std.proofs.Common.{◌≡◌, inl, inr, ℕ, suc, ◌+◌, ◌*◌, ◌/◌, ◌<◌, ◌≤◌, refl, sym, ap, subst, ◌∙◌, arith, Bool, true, false, not, cond, if◌then◌else◌, ◌==◌, is_some, filter, List, [], ◌∷◌, ◌++◌, length, slice_get, set, Some, None, Option, length-append, append-nil, suc-mul}
+use Rattle.std.proofs.Common.{◌≡◌, inl, inr, ℕ, suc, ◌+◌, ◌*◌, ◌/◌, ◌<◌, ◌≤◌, refl, sym, ap, subst, ◌∙◌, arith, Bool, true, false, not, cond, if◌then◌else◌, ◌==◌, is_some, filter, List, [], ◌∷◌, ◌++◌}
+use Rattle.std.proofs.Common.{length, slice_get, set, Some, None, Option, length-append, append-nil, suc-mul}
 use Rattle.std.specs.Prelude.{slice_index}
 use Rattle.std.proofs.lemmas.List.Sums.{sum_by-set}
 use Rattle.std.proofs.lemmas.Option.{slice_get_within, get_or_from_slice_get}
@@ -51,11 +52,13 @@ nothing : (level : ℕ) → kept_at level [] ≡ []
 nothing level = kept_none (level == 4)
 
 -- nothing remains after the end
-pub left_end : {X : Type 0} (source : Source X) (target : Kept) (flash : Flash) (arena : Frames) (es fs : List Entry) (m : Merger) (level : ℕ) → StandsIn source target flash arena es fs m → IsAtEnd source target m → left level es fs m ≡ []
+pub left_end : {X : Type 0} (source : Source X) (target : Kept) (flash : Flash) (arena : Frames) (es fs : List Entry) (m : Merger) (level : ℕ)
+    → StandsIn source target flash arena es fs m → IsAtEnd source target m → left level es fs m ≡ []
 left_end source target flash arena es fs m level s end =
     let many = many_in source flash arena es s.has in
     let more = s.stands.many in
-    let none : left level es fs m ≡ kept_at level [] = λ i. kept_at level (over (drop_end es m.source.place (omega (arith, many, end.0)) i) (drop_end fs m.target.place (omega (arith, more, end.1)) i)) in
+    let none : left level es fs m ≡ kept_at level [] = λ i. kept_at level
+    (over (drop_end es m.source.place (omega (arith, many, end.0)) i) (drop_end fs m.target.place (omega (arith, more, end.1)) i)) in
     none ∙ nothing level
 
 -- one frame fewer is free if one was taken
@@ -102,7 +105,8 @@ gathers_on source target pins out m pool flash before es fs r m' g =
       frames = r.frames;
     }
 
-module _ {X : Type 0} (source : Source X) (target : Kept) (pins : Bool) (out : Kept) (m : Merger) (pool : Blocks) (old : BoardState) (before : Frames) (es fs : List Entry) (is : IsShape out.shape) (kept : IsKept out)
+module _ {X : Type 0} (source : Source X) (target : Kept) (pins : Bool) (out : Kept) (m : Merger) (pool : Blocks)
+    (old : BoardState) (before : Frames) (es fs : List Entry) (is : IsShape out.shape) (kept : IsKept out)
     (r : Running source target pins out m pool old.pages before es fs) where
   abbrev count : ℕ
   count = length (merged out.level es fs)
@@ -116,7 +120,13 @@ module _ {X : Type 0} (source : Source X) (target : Kept) (pins : Bool) (out : K
         lists = r.lists;
         shapes = record { of_merger = r.shapes.of_merger; of_target = r.shapes.of_target; of_source = r.shapes.of_source; of_pool = r.shapes.of_pool; of_frames = r.shapes.of_frames };
         merging = record {
-          cursors = record { has = c.has; stands = c.stands; rising = c.rising; source_at = subst (FollowsIn source old.pages) (ap (λ (x : Merger). x.source) l.merger) l.follows; target_at = c.target_at };
+          cursors = record {
+            has = c.has;
+            stands = c.stands;
+            rising = c.rising;
+            source_at = subst (FollowsIn source old.pages) (ap (λ (x : Merger). x.source) l.merger) l.follows;
+            target_at = c.target_at;
+          };
           entries = r.merging.entries;
           stands = r.merging.stands;
           makes = r.merging.makes;
@@ -137,7 +147,13 @@ module _ {X : Type 0} (source : Source X) (target : Kept) (pins : Bool) (out : K
         lists = r.lists;
         shapes = record { of_merger = r.shapes.of_merger; of_target = r.shapes.of_target; of_source = r.shapes.of_source; of_pool = r.shapes.of_pool; of_frames = r.shapes.of_frames };
         merging = record {
-          cursors = record { has = c.has; stands = c.stands; rising = c.rising; source_at = c.source_at; target_at = subst (Follows old.pages target) (ap (λ (x : Merger). x.target) l.merger) l.follows };
+          cursors = record {
+            has = c.has;
+            stands = c.stands;
+            rising = c.rising;
+            source_at = c.source_at;
+            target_at = subst (Follows old.pages target) (ap (λ (x : Merger). x.target) l.merger) l.follows;
+          };
           entries = r.merging.entries;
           stands = r.merging.stands;
           makes = r.merging.makes;
@@ -150,19 +166,22 @@ module _ {X : Type 0} (source : Source X) (target : Kept) (pins : Bool) (out : K
       }))
 
   -- a block that is taken
-  pub takes_block : (out' : Kept) (pool' : Blocks) (new : BoardState) → 1 ≤ length m.gathered → length out.firsts ≡ length out.blocks * out.shape.block_pages → TakesBlock pool out old pool' out' new → PoolOnFlash pool' new.pages → Running source target pins out' m pool' new.pages before es fs
+  pub takes_block : (out' : Kept) (pool' : Blocks) (new : BoardState) → 1 ≤ length m.gathered → length out.firsts ≡ length out.blocks * out.shape.block_pages
+      → TakesBlock pool out old pool' out' new → PoolOnFlash pool' new.pages → Running source target pins out' m pool' new.pages before es fs
   takes_block out' pool' new waits used_up t fits =
       let b : ℕ = t.block in
       let c = r.merging.cursors in
       let shape : pool.shape ≡ out.shape = r.shapes.of_pool in
       let same = same_but pool.shape b old new t.cuts in
       let of_source : IsOf pool.shape source = subst (λ (s : Shape). IsOf s source) (sym shape) r.shapes.of_source in
-      let meta_more : (blocks : List ℕ) → AreMeta pool blocks → AreMeta (with_state pool b (Owned Meta)) blocks = λ blocks meta i x got. get-set_other pool.states b x (Owned Meta) (spare_is_none pool b x t.spare (meta i x got)) ∙ meta i x got in
+      let meta_more : (blocks : List ℕ) → AreMeta pool blocks
+      → AreMeta (with_state pool b (Owned Meta)) blocks = λ blocks meta i x got. get-set_other pool.states b x (Owned Meta) (spare_is_none pool b x t.spare (meta i x got)) ∙ meta i x got in
       let own_more : AreMeta (with_state pool b (Owned Meta)) (out.blocks ++ b ∷ []) = λ i x got. elim (from_more out.blocks b i x got) [
         | inl here ↦ meta_more out.blocks r.blocks.own i x here
         | inr last ↦ rw last.1 (elim t.spare [ inl free ↦ set_is pool.states b Free (Owned Meta) free | inr ready ↦ set_is pool.states b Ready (Owned Meta) ready ])
       ] in
-      let apart_more : (blocks : List ℕ) → AreMeta pool blocks → BlocksApart blocks out.blocks → BlocksApart blocks (out.blocks ++ b ∷ []) = λ blocks meta apart i j x got had. elim (from_more out.blocks b j x had) [
+      let apart_more : (blocks : List ℕ) → AreMeta pool blocks → BlocksApart blocks out.blocks
+      → BlocksApart blocks (out.blocks ++ b ∷ []) = λ blocks meta apart i j x got had. elim (from_more out.blocks b j x had) [
         | inl here ↦ apart i j x got here
         | inr last ↦ spare_apart pool blocks b i t.spare meta (got ∙ ap (λ (y : ℕ). Some y) last.1)
       ] in
@@ -172,13 +191,20 @@ module _ {X : Type 0} (source : Source X) (target : Kept) (pins : Bool) (out : K
       subst (λ (x : Kept). Running source target pins x m pool' new.pages before es fs) (sym t.run_is)
       (record {
         lists = r.lists;
-        shapes = record { of_merger = r.shapes.of_merger; of_target = r.shapes.of_target; of_source = r.shapes.of_source; of_pool = ap (λ (p : Blocks). p.shape) t.pool_is ∙ shape; of_frames = r.shapes.of_frames };
+        shapes = record {
+          of_merger = r.shapes.of_merger;
+          of_target = r.shapes.of_target;
+          of_source = r.shapes.of_source;
+          of_pool = ap (λ (p : Blocks). p.shape) t.pool_is ∙ shape;
+          of_frames = r.shapes.of_frames;
+        };
         merging = record {
           cursors = stands_moved source target old.pages new.pages before before es fs m
               (source_by_take pool b old.pages new.pages t.spare same source before es c.has (subst IsShape (sym shape) is) of_source r.blocks.of_source)
               (moves_by_take pool b old.pages new.pages t.spare same target before fs c.stands (subst IsShape (sym r.shapes.of_target) is) (shape ∙ sym r.shapes.of_target) r.blocks.of_target) c;
           entries = r.merging.entries;
-          stands = RunOnFlash-block out b new.pages before r.merging.entries is ((moves_by_take pool b old.pages new.pages t.spare same out before r.merging.entries r.merging.stands is shape r.blocks.own).1 r.merging.entries r.merging.stands);
+          stands = RunOnFlash-block out b new.pages before r.merging.entries is
+              ((moves_by_take pool b old.pages new.pages t.spare same out before r.merging.entries r.merging.stands is shape r.blocks.own).1 r.merging.entries r.merging.stands);
           makes = r.merging.makes;
           full = r.merging.full;
           output = output_with pool out b old.pages new.pages is shape t.spare t.exists same t.erased r.blocks.own r.merging.stands.within r.merging.output;
@@ -207,7 +233,8 @@ module _ {X : Type 0} (source : Source X) (target : Kept) (pins : Bool) (out : K
           omega (arith, waits, used_up, all, suc-mul (length out.blocks) out.shape.block_pages)
 
   -- a page that is programmed
-  pub programs : (out' : Kept) (m' : Merger) (new : BoardState) (after : Frames) → HasNextPage source target m → length out.firsts < length out.blocks * out.shape.block_pages → ProgramsPage pins out m.gathered old before out' new after
+  pub programs : (out' : Kept) (m' : Merger) (new : BoardState) (after : Frames) → HasNextPage source target m
+      → length out.firsts < length out.blocks * out.shape.block_pages → ProgramsPage pins out m.gathered old before out' new after
       → m' ≡ record m { gathered = [] } → Running source target pins out' m' pool new.pages after es fs
   programs out' m' new after next inside p taken =
       let c = r.merging.cursors in
@@ -221,13 +248,20 @@ module _ {X : Type 0} (source : Source X) (target : Kept) (pins : Bool) (out : K
       let low = rest out.shape some out.blocks (length out.firsts) in
       let full = full_before source target out m old.pages before es fs is kept r.lists g next.some in
       let long = length-append out.firsts (p.first ∷ []) in
-      let in_block : (b * pool.shape.block_pages ≤ page_of out (length out.firsts)) × (page_of out (length out.firsts) < b * pool.shape.block_pages + pool.shape.block_pages) = rw r.shapes.of_pool (omega arith, omega (arith, low)) in
+      let in_block : (b * pool.shape.block_pages ≤ page_of out (length out.firsts))
+      × (page_of out (length out.firsts) < b * pool.shape.block_pages + pool.shape.block_pages) = rw r.shapes.of_pool (omega arith, omega (arith, low)) in
       let pages : new.pages ≡ set old.pages (page_of out (length out.firsts)) (whole (next_bytes out m.gathered)) = ap (λ (x : BoardState). x.pages) p.program in
       subst (λ (x : Merger). Running source target pins out' x pool new.pages after es fs) (sym taken)
       (subst (λ (x : Kept). Running source target pins x (record m { gathered = [] }) pool new.pages after es fs) (sym p.run_is)
       (record {
         lists = r.lists;
-        shapes = record { of_merger = r.shapes.of_merger; of_target = r.shapes.of_target; of_source = r.shapes.of_source; of_pool = r.shapes.of_pool; of_frames = bytes_after pins before after (next_bytes out m.gathered) lease p.frame ∙ r.shapes.of_frames };
+        shapes = record {
+          of_merger = r.shapes.of_merger;
+          of_target = r.shapes.of_target;
+          of_source = r.shapes.of_source;
+          of_pool = r.shapes.of_pool;
+          of_frames = bytes_after pins before after (next_bytes out m.gathered) lease p.frame ∙ r.shapes.of_frames;
+        };
         merging = record {
           cursors =
               let s = stands_moved source target old.pages new.pages before after es fs m
@@ -236,17 +270,20 @@ module _ {X : Type 0} (source : Source X) (target : Kept) (pins : Bool) (out : K
               record { has = s.has; stands = s.stands; rising = s.rising; source_at = s.source_at; target_at = s.target_at };
           entries = g.entries ++ m.gathered;
           stands = subst (λ (x : Kept). RunOnFlash x new.pages after (g.entries ++ m.gathered)) p.run_is
-              (p.stands g.entries g.stands (next_rises source target out m old.pages before es fs is kept r.lists g next.some) (next_deepest source target out m old.pages before es fs is kept r.lists g next.some));
+              (p.stands g.entries g.stands (next_rises source target out m old.pages before es fs is kept r.lists g next.some)
+              (next_deepest source target out m old.pages before es fs is kept r.lists g next.some));
           makes = g.makes ∙ sym (row_assoc g.entries m.gathered (left out.level es fs m));
           full = elim next.all [
-            | inl page ↦ inl (let e = suc-mul (length out.firsts) (page_entries out.shape) in let f : length m.gathered ≡ page_entries out.shape = page ∙ ap page_entries r.shapes.of_merger in full_more full f long)
+            | inl page ↦ inl (let e = suc-mul (length out.firsts) (page_entries out.shape) in let f : length m.gathered ≡ page_entries out.shape = page
+                ∙ ap page_entries r.shapes.of_merger in full_more full f long)
             | inr end ↦ inr (left_end source target old.pages before es fs m out.level c end)
           ];
           output = subst (λ (x : Kept). IsOutput x new.pages) p.run_is p.output;
           no_spare = let spare = r.merging.no_spare in omega (arith, spare, long);
         };
         blocks = record {
-          fits = subst (λ (f : Flash). PoolOnFlash pool f) (sym pages) (PoolOnFlash-programmed pool old.pages b (page_of out (length out.firsts)) (next_bytes out m.gathered) (owned_not_ready pool b own) in_block r.blocks.fits);
+          fits = subst (λ (f : Flash). PoolOnFlash pool f) (sym pages)
+              (PoolOnFlash-programmed pool old.pages b (page_of out (length out.firsts)) (next_bytes out m.gathered) (owned_not_ready pool b own) in_block r.blocks.fits);
           own = r.blocks.own;
           of_source = r.blocks.of_source;
           of_target = r.blocks.of_target;
@@ -263,10 +300,12 @@ module _ {X : Type 0} (source : Source X) (target : Kept) (pins : Bool) (out : K
       full_more : out.count ≡ length out.firsts * page_entries out.shape → length m.gathered ≡ page_entries out.shape → length (out.firsts ++ p.first ∷ []) ≡ length out.firsts + 1
           → out.count + length m.gathered ≡ length (out.firsts ++ p.first ∷ []) * page_entries out.shape
       full_more full page long =
-          let all : length (out.firsts ++ p.first ∷ []) * page_entries out.shape ≡ suc (length out.firsts) * page_entries out.shape = ap (λ (k : ℕ). k * page_entries out.shape) (let e : length (out.firsts ++ p.first ∷ []) ≡ suc (length out.firsts) = omega (arith, long) in e) in
+          let all : length (out.firsts ++ p.first ∷ []) * page_entries out.shape ≡ suc (length out.firsts) * page_entries out.shape = ap
+          (λ (k : ℕ). k * page_entries out.shape) (let e : length (out.firsts ++ p.first ∷ []) ≡ suc (length out.firsts) = omega (arith, long) in e) in
           omega (arith, full, page, all, suc-mul (length out.firsts) (page_entries out.shape))
 
-  same_rest : (out' : Kept) (m' : Merger) (pool' : Blocks) (flash : Flash) (after : Frames) → out' ≡ out → pool' ≡ pool → after ≡ before → Running source target pins out m' pool flash before es fs → Running source target pins out' m' pool' flash after es fs
+  same_rest : (out' : Kept) (m' : Merger) (pool' : Blocks) (flash : Flash) (after : Frames) → out' ≡ out → pool' ≡ pool → after ≡ before
+      → Running source target pins out m' pool flash before es fs → Running source target pins out' m' pool' flash after es fs
   same_rest out' m' pool' flash after o p a run =
       subst (λ (x : Frames). Running source target pins out' m' pool' flash x es fs) (sym a)
       (subst (λ (x : Blocks). Running source target pins out' m' x flash before es fs) (sym p)
@@ -277,21 +316,24 @@ module _ {X : Type 0} (source : Source X) (target : Kept) (pins : Bool) (out : K
       subst (λ (x : BoardState). Running source target pins out m' pool x.pages before es fs) (sym n) (subst (λ (x : Merger). Running source target pins out x pool old.pages before es fs) (sym e) r)
 
   -- each action
-  pub acts_on : (next : Next) (out' : Kept) (m' : Merger) (pool' : Blocks) (new : BoardState) (after : Frames) → Tells source target out m next → Acts source target pins out m pool old before next out' m' pool' new after
+  pub acts_on : (next : Next) (out' : Kept) (m' : Merger) (pool' : Blocks) (new : BoardState) (after : Frames)
+      → Tells source target out m next → Acts source target pins out m pool old before next out' m' pool' new after
       → Running source target pins out' m' pool' new.pages after es fs
   acts_on LoadSource out' m' pool' new after t (l, o, p, a) = same_rest out' m' pool' new.pages after o p a (loads_source m' new l)
   acts_on LoadTarget out' m' pool' new after t (l, o, p, a) = same_rest out' m' pool' new.pages after o p a (loads_target m' new l)
   acts_on Gather out' m' pool' new after t (n, e, o, p, a) = same_rest out' m' pool' new.pages after o p a (same_all m' new n e)
   acts_on End out' m' pool' new after t (n, e, o, p, a) = same_rest out' m' pool' new.pages after o p a (same_all m' new n e)
   acts_on TakeBlock out' m' pool' new after t (b, e, a, fits) =
-      subst (λ (x : Frames). Running source target pins out' m' pool' new.pages x es fs) (sym a) (subst (λ (x : Merger). Running source target pins out' x pool' new.pages before es fs) (sym e) (takes_block out' pool' new t.0.some t.1 b fits))
+      subst (λ (x : Frames). Running source target pins out' m' pool' new.pages x es fs) (sym a)
+      (subst (λ (x : Merger). Running source target pins out' x pool' new.pages before es fs) (sym e) (takes_block out' pool' new t.0.some t.1 b fits))
   acts_on Program out' m' pool' new after t (b, e, p) =
       let within = r.merging.stands.within in
       let ne = t.1 in
       subst (λ (x : Blocks). Running source target pins out' m' x new.pages after es fs) (sym p) (programs out' m' new after t.0 (omega (arith, within, ne)) b e)
 
 -- no action leaves the level
-pub acts_level : {X : Type 0} (source : Source X) (target : Kept) (pins : Bool) (out : Kept) (m : Merger) (pool : Blocks) (old : BoardState) (before : Frames) (next : Next) (out' : Kept) (m' : Merger) (pool' : Blocks) (new : BoardState) (after : Frames)
+pub acts_level : {X : Type 0} (source : Source X) (target : Kept) (pins : Bool) (out : Kept) (m : Merger) (pool : Blocks)
+    (old : BoardState) (before : Frames) (next : Next) (out' : Kept) (m' : Merger) (pool' : Blocks) (new : BoardState) (after : Frames)
     → Acts source target pins out m pool old before next out' m' pool' new after → out'.level ≡ out.level
 acts_level source target pins out m pool old before LoadSource out' m' pool' new after (l, o, p, a) = ap (λ (r : Kept). r.level) o
 acts_level source target pins out m pool old before LoadTarget out' m' pool' new after (l, o, p, a) = ap (λ (r : Kept). r.level) o
@@ -301,7 +343,8 @@ acts_level source target pins out m pool old before TakeBlock out' m' pool' new 
 acts_level source target pins out m pool old before Program out' m' pool' new after (k, e, p) = ap (λ (r : Kept). r.level) k.run_is
 
 -- at the end the output represents the whole merge, in as many blocks as it needs
-pub stands_done : {X : Type 0} (source : Source X) (target : Kept) (pins : Bool) (out : Kept) (m : Merger) (pool : Blocks) (flash : Flash) (arena : Frames) (es fs : List Entry) → IsShape out.shape → IsDone source target m
+pub stands_done : {X : Type 0} (source : Source X) (target : Kept) (pins : Bool) (out : Kept) (m : Merger) (pool : Blocks) (flash : Flash) (arena : Frames) (es fs : List Entry)
+    → IsShape out.shape → IsDone source target m
     → Running source target pins out m pool flash arena es fs → IsOutputWhole pins out flash arena (merged out.level es fs)
 stands_done source target pins out m pool flash arena es fs is done r =
     let g = r.merging in
@@ -312,22 +355,27 @@ stands_done source target pins out m pool flash arena es fs is done r =
     let waits : length m.gathered ≡ 0 = ap length done.1 in
     record {
       stands = subst (λ (xs : List Entry). RunOnFlash out flash arena xs) (sym (g.makes ∙ ap (λ (xs : List Entry). g.entries ++ xs) none ∙ append-nil g.entries)) g.stands;
-      blocks = sym (pages_are (run_pages out.shape out.count) out.shape.block_pages (length out.blocks) (omega arith) (let e = g.stands.pages in omega (arith, e, within)) (let e = g.stands.pages in omega (arith, e, spare, waits)));
+      blocks = sym (pages_are (run_pages out.shape out.count) out.shape.block_pages (length out.blocks) (omega arith)
+          (let e = g.stands.pages in omega (arith, e, within)) (let e = g.stands.pages in omega (arith, e, spare, waits)));
       pinned = r.frames.pinned;
     }
 
-look_same : (other : Kept) (es : List Entry) (old new : BoardState) (before after : Frames) → new.pages ≡ old.pages → after ≡ before → RunOnFlash other old.pages before es → RunOnFlash other new.pages after es
+look_same : (other : Kept) (es : List Entry) (old new : BoardState) (before after : Frames) → new.pages ≡ old.pages
+    → after ≡ before → RunOnFlash other old.pages before es → RunOnFlash other new.pages after es
 look_same other es old new before after p a s = subst (λ (x : Frames). RunOnFlash other new.pages x es) (sym a) (subst (λ (f : Flash). RunOnFlash other f before es) (sym p) s)
 
 -- each action leaves the other runs
-pub acts_leave : {X : Type 0} (source : Source X) (target : Kept) (pins : Bool) (out : Kept) (m : Merger) (pool : Blocks) (old : BoardState) (before : Frames) (next : Next) (out' : Kept) (m' : Merger) (pool' : Blocks) (new : BoardState) (after : Frames)
+pub acts_leave : {X : Type 0} (source : Source X) (target : Kept) (pins : Bool) (out : Kept) (m : Merger) (pool : Blocks)
+    (old : BoardState) (before : Frames) (next : Next) (out' : Kept) (m' : Merger) (pool' : Blocks) (new : BoardState) (after : Frames)
     → IsShape out.shape → pool.shape ≡ out.shape → Acts source target pins out m pool old before next out' m' pool' new after → LeavesRuns pool out old.pages before new.pages after
 acts_leave source target pins out m pool old before LoadSource out' m' pool' new after is shape (l, o, p, a) other es same meta apart s =
     look_same other es old new before after (ap (λ (b : BoardState). b.pages) l.board ∙ look_pages_in source old) a s
 acts_leave source target pins out m pool old before LoadTarget out' m' pool' new after is shape (l, o, p, a) other es same meta apart s =
     look_same other es old new before after (ap (λ (b : BoardState). b.pages) l.board ∙ look_pages target.leases old) a s
-acts_leave source target pins out m pool old before Gather out' m' pool' new after is shape (n, e, o, p, a) other es same meta apart s = look_same other es old new before after (ap (λ (b : BoardState). b.pages) n) a s
-acts_leave source target pins out m pool old before End out' m' pool' new after is shape (n, e, o, p, a) other es same meta apart s = look_same other es old new before after (ap (λ (b : BoardState). b.pages) n) a s
+acts_leave source target pins out m pool old before Gather out' m' pool' new after is shape
+    (n, e, o, p, a) other es same meta apart s = look_same other es old new before after (ap (λ (b : BoardState). b.pages) n) a s
+acts_leave source target pins out m pool old before End out' m' pool' new after is shape
+    (n, e, o, p, a) other es same meta apart s = look_same other es old new before after (ap (λ (b : BoardState). b.pages) n) a s
 acts_leave source target pins out m pool old before TakeBlock out' m' pool' new after is shape (t, e, a, fits) other es same meta apart s =
     subst (λ (x : Frames). RunOnFlash other new.pages x es) (sym a)
     ((moves_by_take pool t.block old.pages new.pages t.spare (same_but pool.shape t.block old new t.cuts) other before es s (subst IsShape (sym same) is) (shape ∙ sym same) meta).1 es s)

@@ -1,5 +1,6 @@
 -- What a merge does next, and the entry that it takes.
-use Rattle.std.proofs.Common.{◌≡◌, ◌≢◌, ◌⊎◌, inl, inr, ℕ, zero, suc, ◌+◌, ◌<◌, ◌≤◌, refl, sym, ap, subst, ◌∙◌, arith, Bool, true, false, not, ◌&&◌, ◌||◌, ◌==◌, T, List, [], ◌∷◌, ◌++◌, length, drop, slice_get, Some, append_assoc, length-append, le_refl}
+use Rattle.std.proofs.Common.{◌≡◌, ◌≢◌, ◌⊎◌, inl, inr, ℕ, zero, suc, ◌+◌, ◌<◌, ◌≤◌, refl, sym, ap, subst, ◌∙◌, arith, Bool, true, false, not, ◌&&◌, ◌||◌, ◌==◌, T, List, [], ◌∷◌, ◌++◌, length, drop}
+use Rattle.std.proofs.Common.{slice_get, Some, append_assoc, length-append, le_refl}
 use Rattle.std.specs.Prelude.{nat_lt, IsTrue}
 use Rattle.std.proofs.lemmas.Bool.Decides.{nat_tests}
 use Rattle.std.specs.declared.cmp.Ordering.TheVariants.{Less, Equal, Greater}
@@ -94,11 +95,13 @@ module _ {X : Type 0} (source : Source X) (target : Kept) (m : Merger) where
         target_here = λ h. t.second (is_below _ _ h);
       }
 
-  pub wants_target : can_gather source target m ≡ false → length m.gathered ≢ page_entries m.shape → (m.source.place < count_of source → wants_page_in source m.source ≡ false) → (IsAtEnd source target m → ⊥)
+  pub wants_target : can_gather source target m ≡ false → length m.gathered ≢ page_entries m.shape
+      → (m.source.place < count_of source → wants_page_in source m.source ≡ false) → (IsAtEnd source target m → ⊥)
       → (m.target.place < target.count) × (wants_page m.target ≡ true)
   unfolding can_gather
   wants_target e room first some =
-      let w = wants (length m.gathered == page_entries m.shape) (is_left_of_source source target m) (is_left_of_target source target m) (wants_page_in source m.source) (wants_page m.target) e (not_same _ _ room)
+      let w = wants (length m.gathered == page_entries m.shape) (is_left_of_source source target m)
+      (is_left_of_target source target m) (wants_page_in source m.source) (wants_page m.target) e (not_same _ _ room)
       (λ a. first (below_is _ _ a)) (λ a b. some (not_below_is _ _ a, not_below_is _ _ b)) in
       (below_is _ _ w.0, w.1)
 
@@ -117,7 +120,8 @@ regrouped : (xs ys zs : List Entry) → (xs ++ ys) ++ zs ≡ xs ++ (ys ++ zs)
 regrouped xs ys zs = simp append_assoc
 
 regroup : (level : ℕ) (g : List Entry) (e : Entry) (rest whole : List Entry) → whole ≡ e ∷ rest → g ++ kept_at level whole ≡ (g ++ kept_at level (e ∷ [])) ++ kept_at level rest
-regroup level g e rest whole is = ap (λ (xs : List Entry). g ++ kept_at level xs) is ∙ ap (λ (xs : List Entry). g ++ xs) (kept_front level e rest) ∙ sym (regrouped g (kept_at level (e ∷ [])) (kept_at level rest))
+regroup level g e rest whole is = ap (λ (xs : List Entry). g ++ kept_at level xs) is
+    ∙ ap (λ (xs : List Entry). g ++ xs) (kept_front level e rest) ∙ sym (regrouped g (kept_at level (e ∷ [])) (kept_at level rest))
 
 module _ (level : ℕ) (es fs : List Entry) (i j : ℕ) (g : List Entry) (up : T (is_sorted key_cmp es)) (vp : T (is_sorted key_cmp fs)) where
   pub left_source : (e : Entry) → slice_get es i ≡ Some e → length fs ≤ j → g ++ left_of level es fs i j ≡ (g ++ kept_at level (e ∷ [])) ++ left_of level es fs (suc i) j
@@ -135,13 +139,16 @@ module _ (level : ℕ) (es fs : List Entry) (i j : ℕ) (g : List Entry) (up : T
     both_are = λ k. over (drop_is es i e got k) (drop_is fs j f had k)
 
     pub left_less : key_cmp e.0 f.0 ≡ Less → g ++ left_of level es fs i j ≡ (g ++ kept_at level (e ∷ [])) ++ left_of level es fs (suc i) j
-    left_less low = regroup level g e _ _ (both_are ∙ over_less e f (drop (suc i) es) (drop (suc j) fs) (at es i e up got) (at fs j f vp had) low ∙ ap (λ (xs : List Entry). e ∷ over (drop (suc i) es) xs) (sym (drop_is fs j f had)))
+    left_less low = regroup level g e _ _ (both_are ∙ over_less e f (drop (suc i) es) (drop (suc j) fs) (at es i e up got) (at fs j f vp had) low
+        ∙ ap (λ (xs : List Entry). e ∷ over (drop (suc i) es) xs) (sym (drop_is fs j f had)))
 
     pub left_equal : key_cmp e.0 f.0 ≡ Equal → g ++ left_of level es fs i j ≡ (g ++ kept_at level (e ∷ [])) ++ left_of level es fs (suc i) (suc j)
     left_equal same = regroup level g e _ _ (both_are ∙ over_equal e f (drop (suc i) es) (drop (suc j) fs) (at es i e up got) (at fs j f vp had) same)
 
     pub left_greater : key_cmp e.0 f.0 ≡ Greater → g ++ left_of level es fs i j ≡ (g ++ kept_at level (f ∷ [])) ++ left_of level es fs i (suc j)
-    left_greater above = regroup level g f _ _ (both_are ∙ over_greater e f (drop (suc i) es) (drop (suc j) fs) (at es i e up got) (at fs j f vp had) above ∙ ap (λ (xs : List Entry). f ∷ over xs (drop (suc j) fs)) (sym (drop_is es i e got)))
+    left_greater above = regroup level g f _ _
+        (both_are ∙ over_greater e f (drop (suc i) es) (drop (suc j) fs) (at es i e up got) (at fs j f vp had) above
+        ∙ ap (λ (xs : List Entry). f ∷ over xs (drop (suc j) fs)) (sym (drop_is es i e got)))
 
 -- ---- a merge goes on
 
@@ -170,7 +177,8 @@ module _ {X : Type 0} (source : Source X) (target : Kept) (level : ℕ) (m : Mer
   pub goes_source : (e : Entry) → SourceHead e → m.source.place < count_of source → target.count ≤ m.target.place → GoesOn source target level m (takes_source level e m)
   goes_source e head inside past = record {
     stands = λ flash arena es fs s. record { has = s.has; stands = s.stands; rising = s.rising; source_at = passes_in source flash m.source is s.source_at inside; target_at = s.target_at };
-    same = λ flash arena es fs s. left_source level es fs m.source.place m.target.place m.gathered s.rising s.stands.rising e (head flash arena es s.has s.source_at) (let many = s.stands.many in omega (arith, past, many));
+    same = λ flash arena es fs s. left_source level es fs m.source.place m.target.place m.gathered s.rising s.stands.rising e
+        (head flash arena es s.has s.source_at) (let many = s.stands.many in omega (arith, past, many));
     shape = refl;
     source_pages = refl;
     target_pages = refl;
@@ -180,7 +188,8 @@ module _ {X : Type 0} (source : Source X) (target : Kept) (level : ℕ) (m : Mer
   pub goes_target : (f : Entry) → TargetHead f → m.target.place < target.count → count_of source ≤ m.source.place → GoesOn source target level m (takes_target level f m)
   goes_target f head inside past = record {
     stands = λ flash arena es fs s. record { has = s.has; stands = s.stands; rising = s.rising; source_at = s.source_at; target_at = passes_on flash s.target_at };
-    same = λ flash arena es fs s. left_target level es fs m.source.place m.target.place m.gathered s.rising s.stands.rising f (head flash arena fs s.stands s.target_at) (let many = many_in source flash arena es s.has in omega (arith, past, many));
+    same = λ flash arena es fs s. left_target level es fs m.source.place m.target.place m.gathered s.rising s.stands.rising f
+        (head flash arena fs s.stands s.target_at) (let many = many_in source flash arena es s.has in omega (arith, past, many));
     shape = refl;
     source_pages = refl;
     target_pages = refl;
@@ -197,7 +206,8 @@ module _ {X : Type 0} (source : Source X) (target : Kept) (level : ℕ) (m : Mer
     pub goes_less : key_cmp (key_of e) (key_of f) ≡ Less → GoesOn source target level m (takes_source level e m)
     goes_less low = record {
       stands = λ flash arena es fs s. record { has = s.has; stands = s.stands; rising = s.rising; source_at = passes_in source flash m.source is s.source_at inside; target_at = s.target_at };
-      same = λ flash arena es fs s. left_less level es fs m.source.place m.target.place m.gathered s.rising s.stands.rising e f (head flash arena es s.has s.source_at) (tail flash arena fs s.stands s.target_at) low;
+      same = λ flash arena es fs s. left_less level es fs m.source.place m.target.place m.gathered s.rising s.stands.rising e f
+          (head flash arena es s.has s.source_at) (tail flash arena fs s.stands s.target_at) low;
       shape = refl;
       source_pages = refl;
       target_pages = refl;
@@ -206,8 +216,15 @@ module _ {X : Type 0} (source : Source X) (target : Kept) (level : ℕ) (m : Mer
 
     pub goes_equal : key_cmp (key_of e) (key_of f) ≡ Equal → GoesOn source target level m (takes_both level e m)
     goes_equal same = record {
-      stands = λ flash arena es fs s. record { has = s.has; stands = s.stands; rising = s.rising; source_at = passes_in source flash m.source is s.source_at inside; target_at = passes_here flash s.target_at };
-      same = λ flash arena es fs s. left_equal level es fs m.source.place m.target.place m.gathered s.rising s.stands.rising e f (head flash arena es s.has s.source_at) (tail flash arena fs s.stands s.target_at) same;
+      stands = λ flash arena es fs s. record {
+        has = s.has;
+        stands = s.stands;
+        rising = s.rising;
+        source_at = passes_in source flash m.source is s.source_at inside;
+        target_at = passes_here flash s.target_at;
+      };
+      same = λ flash arena es fs s. left_equal level es fs m.source.place m.target.place m.gathered s.rising s.stands.rising e f
+          (head flash arena es s.has s.source_at) (tail flash arena fs s.stands s.target_at) same;
       shape = refl;
       source_pages = refl;
       target_pages = refl;
@@ -217,7 +234,8 @@ module _ {X : Type 0} (source : Source X) (target : Kept) (level : ℕ) (m : Mer
     pub goes_greater : key_cmp (key_of e) (key_of f) ≡ Greater → GoesOn source target level m (takes_target level f m)
     goes_greater above = record {
       stands = λ flash arena es fs s. record { has = s.has; stands = s.stands; rising = s.rising; source_at = s.source_at; target_at = passes_here flash s.target_at };
-      same = λ flash arena es fs s. left_greater level es fs m.source.place m.target.place m.gathered s.rising s.stands.rising e f (head flash arena es s.has s.source_at) (tail flash arena fs s.stands s.target_at) above;
+      same = λ flash arena es fs s. left_greater level es fs m.source.place m.target.place m.gathered s.rising s.stands.rising e f
+          (head flash arena es s.has s.source_at) (tail flash arena fs s.stands s.target_at) above;
       shape = refl;
       source_pages = refl;
       target_pages = refl;
@@ -239,7 +257,8 @@ module _ {X : Type 0} (source : Source X) (target : Kept) (level : ℕ) where
   }
 
 -- no more entries are taken than there are
-pub taken_within : {X : Type 0} (source : Source X) (target : Kept) (flash : Flash) (arena : Frames) (es fs : List Entry) (m : Merger) → StandsIn source target flash arena es fs m → taken m ≤ count_of source + target.count
+pub taken_within : {X : Type 0} (source : Source X) (target : Kept) (flash : Flash) (arena : Frames) (es fs : List Entry) (m : Merger)
+    → StandsIn source target flash arena es fs m → taken m ≤ count_of source + target.count
 taken_within source target flash arena es fs m s = let f = s.target_at.within in let e = source_within source flash m.source s.source_at in omega (arith, e, f)
   where
     source_within : {X : Type 0} (source : Source X) (flash : Flash) (c : Cursor) → FollowsIn source flash c → c.place ≤ count_of source

@@ -83,7 +83,7 @@ module _ {X : Type 0} (source : Source X) (target : Kept) where
 
 -- ---- the end
 
--- these frames are given back, the last first
+-- these frames are freed, the last first
 abbrev pub given_all : Frames → List ℕ → Frames
 given_all arena [] = arena
 given_all arena (l ∷ ls) = given (given_all arena ls) l

@@ -16,13 +16,13 @@ pub record IsFormer (shape : Shape) (level : ℕ) (r : Kept) : Type 0 where
   pub same_shape : r.shape ≡ shape
   pub same_level : r.level ≡ level
 
--- Once the output was taken and the former run of its level given back, a job is idle again.
+-- Once the output was taken and the former run of its level freed, a job is idle again.
 abbrev pub IdleBehindOne : Type 0
 IdleBehindOne =
     (shape : Shape) (j : Job) (level : ℕ) (out former : Kept) (m : Merger) → IsIdle shape j → m.shape ≡ shape → 1 ≤ level → level ≤ LEVELS → IsFormer shape level former
     → (held_at (done_with shape j level out m) level ≡ Some out) × IsIdle shape (ended (given_to (taken_from (done_with shape j level out m) level) former))
 
--- So it is if, besides, a run was taken for the level above, the source's, and the former one of that level given back.
+-- So it is if, besides, a run was taken for the level above, the source's, and the former one of that level freed.
 abbrev pub IdleBehindTwo : Type 0
 IdleBehindTwo =
     (shape : Shape) (j : Job) (level : ℕ) (out former source : Kept) (m : Merger) → IsIdle shape j → m.shape ≡ shape → 2 ≤ level → level ≤ LEVELS → IsFormer shape level former → IsFormer shape (level - 1) source

@@ -7,9 +7,11 @@ use Rattle.pk_base.specs.Key.{Key, key_cmp}
 use Rattle.pk_base.specs.Shape.{page_entries}
 use Rattle.pk_base.specs.Entry.{Entry}
 use Rattle.pk_base.specs.Page.{Flash, page_at, erased}
-use Rattle.pk_meta.specs.Page.{IsContent, meta_bytes}
+use Rattle.pk_meta.specs.Page.{meta_bytes}
+use Rattle.pk_meta.specs.PageChecks.{IsContent}
 use Rattle.pk_nand.specs.BoardState.{BoardState}
-use Rattle.pk_nand.specs.Calls.{IsErasedBlock, ProgramFailed, after_program}
+use Rattle.pk_nand.specs.Calls.{ProgramFailed, after_program}
+use Rattle.pk_nand.specs.Operations.{IsErasedBlock}
 use Rattle.pk_nand.specs.Crash.{Reached, Went}
 use Rattle.pk_nand.specs.Pairs.{SameOutsidePair}
 use Rattle.pk_pin.specs.Frames.{Frames, free_frames, KeepsPage}

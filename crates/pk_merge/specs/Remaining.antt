@@ -20,7 +20,7 @@ module _ {X : Type 0} (source : Source X) (target : Kept) where
     others = if can_gather source target m then 1 else 0;
   }
 
-  -- the steps that remain at most, if a block counts twice
+  -- the steps that remain at most; a block counts twice
   abbrev pub steps_left : Kept → Merger → ℕ → ℕ → ℕ
   steps_left out m pages blocks = steps_of (rest_of out m pages blocks)
 

@@ -5,7 +5,7 @@ use Rattle.std.specs.FinMap.Entries.{is_sorted}
 use Rattle.pk_base.specs.Key.{key_cmp}
 use Rattle.pk_base.specs.Shape.{Shape, page_entries, cap, run_pages, run_blocks}
 use Rattle.pk_base.specs.Entry.{Entry}
-use Rattle.pk_base.specs.EntryBytes.{IsEntry}
+use Rattle.pk_base.specs.EntryChecks.{IsEntry}
 use Rattle.pk_base.specs.Page.{Flash}
 use Rattle.pk_meta.specs.Over.{over, kept_at}
 use Rattle.pk_pin.specs.Frames.{Frames, free_frames}

@@ -5,7 +5,7 @@ use Rattle.pk_base.specs.Entry.{Entry}
 use Rattle.pk_base.specs.Page.{Flash}
 use Rattle.pk_pin.specs.Frames.{Frames}
 use Rattle.pk_nand.specs.BoardState.{BoardState}
-use Rattle.pk_nand.specs.Calls.{ReadFailed}
+use Rattle.pk_nand.specs.Operations.{ReadFailed}
 use Rattle.pk_run.specs.Kept.{RunOnFlash, page_of, after_look}
 use Rattle.pk_merge.specs.declared.source.Source.{Source}
 use Rattle.pk_merge.specs.declared.source.Source.TheVariants.{Frozen, Run}

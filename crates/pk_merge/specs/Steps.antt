@@ -1,7 +1,7 @@
 -- What a step of a merge does: one action, and then entries are taken; and why it fails.
 use Rattle.std.specs.Prelude.{◌≡◌, ◌⊎◌, suc, Bool, false, []}
 use Rattle.pk_nand.specs.BoardState.{BoardState}
-use Rattle.pk_nand.specs.Calls.{ReadFailed}
+use Rattle.pk_nand.specs.Operations.{ReadFailed}
 use Rattle.pk_nand.specs.declared.types.Fault.{Fault}
 use Rattle.pk_nand.specs.declared.types.Fault.TheVariants.{Reading, Stopped}
 use Rattle.pk_pin.specs.Frames.{Frames}

@@ -3,27 +3,23 @@ use Rattle.std.proofs.Common.{◌≡◌, ℕ, zero, suc, ◌+◌, ◌^◌, ◌<�
 use Rattle.std.specs.Prelude.{nat_le, ◌&&◌, if◌then◌else◌, bytes_eq, Result, Ok, Err, IfOk}
 use Rattle.std.specs.List.{AllByRecursion, list_all}
 use Rattle.std.specs.Ordering.{is_lt}
-use Rattle.std.specs.declared.cmp.Ordering.{Ordering}
-use Rattle.std.specs.declared.cmp.Ordering.TheVariants.{Less, Equal, Greater}
 use Rattle.std.specs.FinMap.Entries.{is_sorted, below_all}
 use Rattle.std.proofs.lemmas.Bool.Decides.{nat_tests}
 use Rattle.std.proofs.lemmas.Slice.Eq.{bytes_eq-Decides}
 use Rattle.pk_base.specs.Key.{Key, key_cmp, IsBelow, IsRising}
 use Rattle.pk_base.specs.Shape.{Shape, IsShape, page_entries}
 use Rattle.pk_base.specs.Entry.{Entry, key_of}
-use Rattle.pk_base.specs.EntryBytes.{IsEntry, is_entry, are_entries, entries_from}
+use Rattle.pk_base.specs.EntryBytes.{is_entry, are_entries, entries_from}
+use Rattle.pk_base.specs.EntryChecks.{IsEntry}
 use Rattle.pk_meta.specs.declared.MetaHead.{MetaHead}
 use Rattle.pk_meta.specs.declared.BadMeta.{BadMeta}
-use Rattle.pk_meta.specs.Page.{IsContent, IsMetaPage, meta_bytes, meta_entries}
-use Rattle.pk_base.proofs.Sound.{both_true, if_some, are_sound, entry_true, least_true}
+use Rattle.pk_meta.specs.Page.{meta_bytes, meta_entries}
+use Rattle.pk_meta.specs.PageChecks.{IsContent, IsMetaPage}
+use Rattle.pk_base.proofs.Sound.{if_some, are_sound, entry_true, least_true}
 use Rattle.pk_meta.proofs.PageLemmas.{meta_again, Exact, found, only}
+use Rattle.pk_base.proofs.Logic.{both_true, lt_less}
 
 -- ---- rising keys
-
-lt_less : (o : Ordering) → is_lt o ≡ true → o ≡ Less
-lt_less Less e = refl
-lt_less Equal e = cc
-lt_less Greater e = cc
 
 below_sound : (key : Key) (es : List Entry) → below_all key_cmp key es ≡ true → AllByRecursion (IsBelow key) (map key_of es)
 below_sound key [] e = tt

@@ -1,8 +1,7 @@
 -- What comes of a Retrieve or a List of a pair, from whose answer it is.
-use Rattle.std.proofs.Common.{◌≡◌, ◌==◌, inl, inr, ℕ, ◌≤◌, List, [], length, Bool, true, false, ◌||◌, if◌then◌else◌, nat_lt, Some, None, Result, Ok, Err, IfOk, IfErr, OnOk, refl, sym, ap, subst, ◌∙◌}
+use Rattle.std.proofs.Common.{◌≡◌, ◌==◌, inl, inr, ℕ, ◌≤◌, List, [], length, Bool, true, false, ◌||◌, if◌then◌else◌, nat_lt, Some, Result, Ok, Err, IfOk, IfErr, OnOk, refl, sym, ap, subst, ◌∙◌}
 use Rattle.std.proofs.lemmas.Bool.{eqb-true, eq-eqb}
 use Rattle.pk_base.specs.Key.{Key, IsKey, bytes_of}
-use Rattle.pk_base.specs.Shape.{Shape}
 use Rattle.pk_base.specs.Map.{Map}
 use Rattle.pk_nvme.specs.Command.{Command}
 use Rattle.pk_nvme.specs.Reply.{Reply}
@@ -10,11 +9,12 @@ use Rattle.pk_nvme.specs.Opcode.{op_of}
 use Rattle.pk_nvme.specs.declared.opcode.Opcode.{Opcode}
 use Rattle.pk_nvme.specs.declared.status.TheConstants.{UNRECOVERED_ERROR}
 use Rattle.pk_nand.specs.Calls.{Rose}
-use Rattle.pk_model.specs.Answer.{refused, map_after, effect}
+use Rattle.pk_model.specs.Answer.{refused, effect}
 use Rattle.pk_host.specs.declared.types.HostError.{HostError}
 use Rattle.pk_host.specs.declared.types.HostError.TheVariants.{Refused as HostRefused, Port as HostPort}
 use Rattle.pk_host.specs.Port.{PortState, Replies, Took}
-use Rattle.pk_host.specs.Calls.{Gives, AtMostOne, IsCause as IsHostCause, retrieve_of, list_of, retrieved}
+use Rattle.pk_host.specs.Calls.{retrieve_of}
+use Rattle.pk_host.specs.Outcomes.{Gives, AtMostOne, IsCause as IsHostCause, list_of, retrieved}
 use Rattle.pk_host.specs.Listing.{listed_by}
 use Rattle.pk_host.proofs.CauseLemmas.{retrieve_cause, list_cause}
 use Rattle.pk_mirror.specs.declared.error.Side.{Side}
@@ -27,22 +27,17 @@ use Rattle.pk_mirror.specs.Asks.{SecondAnswers, Asks, StaysUnlessPort, KeepsMaps
 use Rattle.pk_mirror.proofs.ReplyLemmas.{Tells, retrieved_tells, listed_tells}
 use Rattle.pk_mirror.proofs.PairLemmas.{by_map, still_pair, one_leaves, ok_never, err_by, err_never}
 use Rattle.pk_mirror.proofs.WriteLemmas.{refused_or_port, refused_by, on_refused, on_port, refused_is, on_split, true_false}
+use Rattle.pk_host.proofs.PageLemmas.{map_after_same}
 
 -- ---- a command that leaves the map
 
-pub same_after : (shape : Shape) (most : ℕ) (m : Map) (c : Command) (k : Opcode) → op_of c.opcode ≡ Some k → effect m c (Some k) ≡ m → map_after shape most m c ≡ m
-unfolding map_after
-same_after shape most m c k is stays = elim (refused shape most m c) as (λ r. refused shape most m c ≡ r → map_after shape most m c ≡ m) [
-  | None ↦ λ e. (let left : map_after shape most m c ≡ effect m c (Some k) = rw (e, is) refl in left ∙ stays)
-  | Some s ↦ λ e. rw e refl
-] refl
-
-pub one_keeps : (old new : PortState) (c : Command) (k : Opcode) (cs : List Command) → op_of c.opcode ≡ Some k → ((m : Map) → effect m c (Some k) ≡ m) → AtMostOne c cs → Took old new cs → new.map ≡ old.map
+pub one_keeps : (old new : PortState) (c : Command) (k : Opcode) (cs : List Command) → op_of c.opcode ≡ Some k
+    → ((m : Map) → effect m c (Some k) ≡ m) → AtMostOne c cs → Took old new cs → new.map ≡ old.map
 one_keeps old new c k cs is stays one t = by_map old.map (new.map ≡ old.map)
     (λ none. t.untold none ∙ sym none)
     (λ m told. elim (one_leaves old new c cs one t m told) as (λ x. new.map ≡ old.map) [
       | inl same ↦ same ∙ sym told
-      | inr after ↦ after ∙ ap (λ (n : Map). Some n) (same_after old.shape old.limit m c k is (stays m)) ∙ sym told
+      | inr after ↦ after ∙ ap (λ (n : Map). Some n) (map_after_same old.shape old.limit m c k is (stays m)) ∙ sym told
     ])
 
 -- ---- a refusal reports a failed read
@@ -122,7 +117,8 @@ module _ {X : Type 0} (old new : Mirrored) (p p' q q' : PortState) (c : Command)
         (λ same rose. inr (inl rose))
   ]
     where
-      by_second : (s : SecondAnswers old new p p' q q' c of result) → is_port s.error ≡ false → (answer : Result X HostError) → s.answer ≡ answer → Gives q q' c of answer → StaysUnlessPort new p p' q q'
+      by_second : (s : SecondAnswers old new p p' q q' c of result) → is_port s.error ≡ false
+          → (answer : Result X HostError) → s.answer ≡ answer → Gives q q' c of answer → StaysUnlessPort new p p' q q'
       by_second s off (Ok x) is g = inl (ap (λ (x : Mirrored). x.split) s.splits ∙ or_false (is_port s.error) (port_failed s.answer) off (ap (port_failed {X = X}) is))
       by_second s off (Err error) is g = refused_or_port of tells q q' c error (StaysUnlessPort new p p' q q') g
           (λ a r e same fails. inl (ap (λ (x : Mirrored). x.split) s.splits ∙ or_false (is_port s.error) (port_failed s.answer) off (ap (port_failed {X = X}) is ∙ refused_is error a.status same)))
@@ -132,7 +128,8 @@ module _ {X : Type 0} (old new : Mirrored) (p p' q q' : PortState) (c : Command)
 
   -- an error of a side, by its cause
   by_cause : (F : MirrorError → Type 0) (side : Side) (drive drive' : PortState) (answer : Result X HostError) → Gives drive drive' c of answer → Decides side answer result
-      → ((a : Reply) → Replies drive drive' c a → ((error : HostError) → answer ≡ Err error → of a ≡ Err error) → (a.status == 0) ≡ false → answer ≡ Err (HostRefused a.status) → F (Refused side a.status))
+      → ((a : Reply) → Replies drive drive' c a → ((error : HostError) → answer ≡ Err error → of a ≡ Err error)
+      → (a.status == 0) ≡ false → answer ≡ Err (HostRefused a.status) → F (Refused side a.status))
       → (Rose drive.port_faults drive'.port_faults → F (Port side)) → IfErr result F
   by_cause F side drive drive' (Ok x) g d refused port = err_never result x F d
   by_cause F side drive drive' (Err error) g d refused port = err_by result d.0 F d.1 (refused_or_port of tells drive drive' c error (F d.0) g
@@ -159,7 +156,8 @@ module _ {X : Type 0} (old new : Mirrored) (p p' q q' : PortState) (c : Command)
   ask_unread m told = elim w [
     | inl s ↦ err_by result Split IsReadError s.answer tt
     | inr (inl f) ↦ by_cause IsReadError First p p' f.answer f.gives f.decides (λ a r e fails is. unread p p' a (HostRefused a.status) r (e (HostRefused a.status) is) m told) (λ h. tt)
-    | inr (inr s) ↦ by_cause IsReadError Second q q' s.answer s.gives s.decides (λ a r e fails is. unread q q' a (HostRefused a.status) r (e (HostRefused a.status) is) m (pair.in_step s.in_step ∙ told)) (λ h. tt)
+    | inr (inr s) ↦ by_cause IsReadError Second q q' s.answer s.gives s.decides
+        (λ a r e fails is. unread q q' a (HostRefused a.status) r (e (HostRefused a.status) is) m (pair.in_step s.in_step ∙ told)) (λ h. tt)
   ]
 
   first_failed : (error : HostError) → Gives p p' c of (Err error) → is_unanswered error ≡ true → HasFailed p p'
@@ -167,7 +165,8 @@ module _ {X : Type 0} (old new : Mirrored) (p p' q q' : PortState) (c : Command)
       (λ a r e same fails. inr (r.unread (eqb-true a.status UNRECOVERED_ERROR (sym (ap is_unanswered same) ∙ off))))
       (λ same rose. inl rose)
 
-  first_decides : (answer : Result X HostError) → Gives p p' c of answer → Decides First answer result → unanswered answer ≡ false → (m : Map) → p.map ≡ Some m → IfErr result (λ e. BothFailed p p' q q' e)
+  first_decides : (answer : Result X HostError) → Gives p p' c of answer → Decides First answer result
+      → unanswered answer ≡ false → (m : Map) → p.map ≡ Some m → IfErr result (λ e. BothFailed p p' q q' e)
   first_decides (Ok x) g d off m told = err_never result x (λ e. BothFailed p p' q q' e) d
   first_decides (Err error) g d off m told = absurd (refused_or_port of tells p p' c error ⊥ g
       (λ a r e same fails. no_first (Err error) a off (ap (λ (x : HostError). Err x) same) (unread p p' a error r e m told))
@@ -202,7 +201,8 @@ module _ {X : Type 0} (old new : Mirrored) (p p' q q' : PortState) (c : Command)
 -- ---- two failures
 
 -- the first's failure and then the second's: the pair is split if a port failed
-pub splits_both : (old seen mid later new : Mirrored) (first second : Bool) → old.split ≡ false → seen ≡ old → mid ≡ record seen { split = seen.split || first } → later ≡ mid → new ≡ record later { split = later.split || second }
+pub splits_both : (old seen mid later new : Mirrored) (first second : Bool) → old.split ≡ false → seen ≡ old
+    → mid ≡ record seen { split = seen.split || first } → later ≡ mid → new ≡ record later { split = later.split || second }
     → new ≡ record old { split = first || second }
 splits_both old seen mid later new first second step view one same two =
     let before : mid ≡ record old { split = old.split || first } = one ∙ ap (λ (x : Mirrored). record x { split = x.split || first }) view in

@@ -1,5 +1,6 @@
 -- One key on both drives: what each has of it, and what a delete or a store makes of it on the second.
-use Rattle.std.proofs.Common.{◌≡◌, inl, inr, ℕ, ◌≤◌, ◌==◌, min, nat_le, if◌then◌else◌, List, [], ◌∷◌, length, take, Bool, true, false, not, ◌&&◌, Option, Some, None, is_some, Result, Ok, Err, MatchBool, refl, sym, ap, subst, ◌∙◌, arith}
+use Rattle.std.proofs.Common.{◌≡◌, inl, inr, ℕ, ◌≤◌, ◌==◌, min, nat_le, if◌then◌else◌, List, [], ◌∷◌, length, take, Bool, true, false, not, ◌&&◌, Option, Some, None, is_some, Result, Ok, Err}
+use Rattle.std.proofs.Common.{MatchBool, refl, sym, ap, subst, ◌∙◌, arith}
 use Rattle.std.proofs.lemmas.Bool.{le-leb}
 use Rattle.std.proofs.lemmas.List.{take_all}
 use Rattle.std.specs.FinMap.{get, contains_key, insert, remove}
@@ -18,7 +19,8 @@ use Rattle.pk_host.specs.declared.types.HostError.{HostError}
 use Rattle.pk_host.specs.declared.types.HostError.TheVariants.{Refused as HostRefused, Port as HostPort}
 use Rattle.pk_host.specs.declared.types.StoreRule.TheVariants.{Any}
 use Rattle.pk_host.specs.Port.{PortState, Took}
-use Rattle.pk_host.specs.Calls.{Gives, store_of, retrieve_of, delete_of, exist_of, list_of, stored, retrieved, existed, Fetches, IsFront, Tests, Deletes, Leaves}
+use Rattle.pk_host.specs.Calls.{store_of, retrieve_of, delete_of, exist_of}
+use Rattle.pk_host.specs.Outcomes.{Gives, list_of, stored, retrieved, existed, Fetches, IsFront, Tests, Deletes, Leaves}
 use Rattle.pk_host.proofs.CommandLemmas.{keyed_fault, delete_by, exist_by, key-of_key}
 use Rattle.pk_mirror.specs.declared.error.Side.{Side}
 use Rattle.pk_mirror.specs.declared.error.Side.TheVariants.{First, Second}
@@ -120,14 +122,16 @@ visits_there p q q' k there yes_there tests same a b ea eb part = (
   },
 )
 
-pub visits_lacking : (p q q' : PortState) (k : Key) (into : List ℕ) → Fetches p k None into → ((b : Map) → q.map ≡ Some b → contains_key b k ≡ false) → q'.map ≡ q.map → Visits IsPart HaveSame p q q' (k ∷ [])
+pub visits_lacking : (p q q' : PortState) (k : Key) (into : List ℕ) → Fetches p k None into
+    → ((b : Map) → q.map ≡ Some b → contains_key b k ≡ false) → q'.map ≡ q.map → Visits IsPart HaveSame p q q' (k ∷ [])
 visits_lacking p q q' k into f lacked same a b ea eb part = (
   b,
   same ∙ eb,
   record { keeps = part; done = (missing_key b k (lacked b eb) ∙ sym (found_none (get a k) into (f a ea)), tt); still = λ key d. d },
 )
 
-pub visits_stored : (p q q' : PortState) (k : Key) (into value : List ℕ) (len : ℕ) → Fetches p k (Some len) into → ((m : Map) → p.map ≡ Some m → (v : List ℕ) → get m k ≡ Some v → length v ≤ length into)
+pub visits_stored : (p q q' : PortState) (k : Key) (into value : List ℕ) (len : ℕ) → Fetches p k (Some len) into
+    → ((m : Map) → p.map ≡ Some m → (v : List ℕ) → get m k ≡ Some v → length v ≤ length into)
     → value ≡ take len into → Leaves q q' (λ m. insert m k value) → Visits IsPart HaveSame p q q' (k ∷ [])
 visits_stored p q q' k into value len f fits is leaves a b ea eb part =
     let (v, ev, front) = found_some (get a k) len into (f a ea) in
@@ -200,13 +204,15 @@ store_fits shape most m k v is small fits =
     ∙ ap (λ b. check b CAPACITY_EXCEEDED) (le-leb (live_after shape m c) most (omega (arith, pages, fits)))
 
 -- a value of the first that the second lacks is not refused, but for a failed read
-pub store_unread : (p p1 q q' : PortState) (k : Key) (into value : List ℕ) (len size : ℕ) (x : Option ℕ) (error : HostError) (e : MirrorError) → IsKey k → Alike p q → Gives p p1 (retrieve_of k size) retrieved (Ok x)
+pub store_unread : (p p1 q q' : PortState) (k : Key) (into value : List ℕ) (len size : ℕ) (x : Option ℕ) (error : HostError) (e : MirrorError)
+    → IsKey k → Alike p q → Gives p p1 (retrieve_of k size) retrieved (Ok x)
     → greatest p.shape ≤ length into → Fetches p k (Some len) into → value ≡ take len into → Gives q q' (store_of k value Any) stored (Err error) → IsOn Second error e → OnlyReadsFail IsPart p q e
 store_unread p p1 q q' k into value len size x error e is alike found wide f front g on a b ea eb part =
     refused_or_port stored stored_tells q q' (store_of k value Any) error (IsReadError e) g
     (λ r replies err same fails.
     let s = replies.answers b eb in
-    subst IsReadError (sym (on_refused Second error r.status e same on)) (unless_refused q.shape q.limit b (store_of k value Any) Store refl s.frames r s.left (λ frames own. refl) fits fails s.stepped))
+    subst IsReadError (sym (on_refused Second error r.status e same on))
+    (unless_refused q.shape q.limit b (store_of k value Any) Store refl s.frames r s.left (λ frames own. refl) fits fails s.stepped))
     (λ same rose. subst IsReadError (sym (on_port Second error e same on)) tt)
   where
     room : (v : List ℕ) → get a k ≡ Some v → length v ≤ length into

@@ -1,8 +1,6 @@
 -- Maps of which one is part of the other.
 use Rattle.std.proofs.Common.{◌≡◌, inl, inr, ℕ, zero, suc, ◌-◌, ◌≤◌, cond, List, [], ◌∷◌, length, map, true, false, Option, Some, None, is_some, refl, sym, ap, subst, ◌∙◌, arith}
 use Rattle.std.specs.List.{AllByRecursion}
-use Rattle.std.specs.declared.cmp.Ordering.{Ordering}
-use Rattle.std.specs.declared.cmp.Ordering.TheVariants.{Less, Equal, Greater}
 use Rattle.std.specs.Ordering.{is_eq, eq_by_cmp}
 use Rattle.std.specs.Cmp.{tied_itself}
 use Rattle.std.specs.FinMap.{get, contains_key, insert, remove, entries, keys, len, get-entries, get-insert, get-remove, len-entries, len-remove, empty_of_len, same_map}
@@ -14,14 +12,7 @@ use Rattle.pk_base.specs.Map.{Map, IsMap, live, pages_if_some}
 use Rattle.pk_model.proofs.MapLemmas.{key_total, key_antisymm}
 use Rattle.pk_model.proofs.Machines.{live-empty, live-remove}
 use Rattle.pk_mirror.specs.Agreement.{NoOther, HaveSame, IsPart}
-
-equal : (o : Ordering) → is_eq o ≡ true → o ≡ Equal
-equal Less e = cc
-equal Equal e = refl
-equal Greater e = cc
-
-pub some_same : {X : Type 0} (x y : X) → ◌≡◌ {A = Option X} (Some x) (Some y) → x ≡ y
-some_same x y e = cc
+use Rattle.pk_base.proofs.Logic.{equal, some_same}
 
 -- ---- entries
 

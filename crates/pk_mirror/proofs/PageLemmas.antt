@@ -1,6 +1,7 @@
 -- Pages of keys that are visited, one after another.
-use Rattle.std.proofs.Common.{◌≡◌, inl, inr, ◌==◌, ℕ, ◌-◌, ◌<◌, ◌≤◌, if◌then◌else◌, nat_lt, List, [], ◌∷◌, ◌++◌, length, filter, slice_index_or, Bool, true, false, Option, Some, None, is_some, Result, Ok, Err, IfErr, refl, sym, ap, subst, ◌∙◌, arith, length-append}
-use Rattle.std.proofs.lemmas.Bool.{le-leb, ltb-true}
+use Rattle.std.proofs.Common.{◌≡◌, inl, inr, ◌==◌, ℕ, ◌-◌, ◌<◌, ◌≤◌, if◌then◌else◌, nat_lt, List, [], ◌∷◌, ◌++◌, length, filter, slice_index_or, Bool, true, false, Option, Some, None, is_some, Result}
+use Rattle.std.proofs.Common.{Ok, Err, IfErr, refl, sym, ap, subst, ◌∙◌, arith, length-append}
+use Rattle.std.proofs.lemmas.Bool.{ltb-true}
 use Rattle.std.specs.List.{AllByRecursion}
 use Rattle.std.specs.Ordering.{is_lt}
 use Rattle.std.specs.FinMap.{get, keys}
@@ -10,9 +11,9 @@ use Rattle.pk_nvme.specs.Command.{Command, key_or_none}
 use Rattle.pk_host.specs.declared.types.HostError.{HostError}
 use Rattle.pk_host.specs.declared.types.HostError.TheVariants.{Refused as HostRefused, Port as HostPort}
 use Rattle.pk_host.specs.Port.{PortState, Took}
-use Rattle.pk_host.specs.Calls.{Gives, TookSome}
+use Rattle.pk_host.specs.Outcomes.{Gives, TookSome}
 use Rattle.pk_host.specs.Listing.{above, page_after, Pages, Follows, TellsKeys, listed_by}
-use Rattle.pk_host.proofs.PageLemmas.{next_page}
+use Rattle.pk_host.proofs.PageLemmas.{next_page, nothing_above}
 use Rattle.pk_host.proofs.RisingLemmas.{are_above, all_middle, snoc_of}
 use Rattle.pk_mirror.specs.Ranks.{IsText, keys_left}
 use Rattle.pk_mirror.specs.declared.error.MirrorError.{MirrorError}
@@ -59,10 +60,6 @@ pub above_none : (k : Key) → IsKey k → is_lt (key_cmp [] k) ≡ true
 above_none [] h = absurd (let some = h.some in omega (arith, some))
 above_none (x ∷ k) h = refl
 
-pub none_follow : (xs : List Key) → false ≡ nat_lt 0 (length xs) → xs ≡ []
-none_follow [] e = refl
-none_follow (x ∷ xs) e = absurd (let clash : false ≡ true = e ∙ le-leb 1 (length (x ∷ xs)) (omega arith) in cc)
-
 -- a page that was given has a key
 pub page_some : (old new : PortState) (c : Command) (page : List Key) (more : Bool) → more ≡ true → Gives old new c (listed_by page) (Ok more) → 0 < length page
 page_some old new c page more yes_more (inr fault) = absurd (let clash : ◌≡◌ {A = Result Bool HostError} (Ok more) (Err HostPort) = fault.0 in cc)
@@ -99,7 +96,8 @@ module _ (Keeps : Map → Map → Type 0) (Done : Map → Map → Key → Type 0
     -- keys that the drive lacks whose keys are listed need off visit
     (listed : (a b : Map) → first.map ≡ Some a → second.map ≡ Some b → Keeps a b → (l : Map) × (lister.map ≡ Some l) × ((key : Key) → get l key ≡ None → Done a b key))
     (known : TellsKeys lister) where
-  pub turns_some : (page : List Key) (next : Key) → 0 < length page → next ≡ slice_index_or page (length page - 1) [] → Pages lister (key_or_none last) page → first1.map ≡ first.map → second1.map ≡ second.map
+  pub turns_some : (page : List Key) (next : Key) → 0 < length page → next ≡ slice_index_or page (length page - 1) []
+      → Pages lister (key_or_none last) page → first1.map ≡ first.map → second1.map ≡ second.map
       → Visits Keeps Done first1 second1 second' page → Turns Keeps Done first second second' last (Some next)
   turns_some page next some is pages same too visits a b ea eb keeps up =
       let (l, el, lacks) = listed a b ea eb keeps in
@@ -128,7 +126,7 @@ module _ (Keeps : Map → Map → Type 0) (Done : Map → Map → Key → Type 0
   turns_none more stop follows too a b ea eb keeps up =
       let (l, el, lacks) = listed a b ea eb keeps in
       let from : Key = key_or_none last in
-      let none : above from (keys l) ≡ [] = none_follow (above from (keys l)) (sym stop ∙ follows l el) in
+      let none : above from (keys l) ≡ [] = nothing_above (above from (keys l)) (sym stop ∙ follows l el) in
       let each = of_filter (λ k. is_lt (key_cmp from k)) (λ k. ⊥) (keys l) (subst (AllByRecursion (λ k. ⊥)) (sym none) tt) in (
         b,
         too ∙ eb,
@@ -146,17 +144,20 @@ module _ (Keeps : Map → Map → Type 0) (Done : Map → Map → Key → Type 0
   pub turned_none : VisitsUpTo Keeps Done first second second None
   turned_none a b ea eb keeps = (b, eb, keeps, λ key off. absurd off)
 
-  pub turned_more : (first1 second1 second' : PortState) (last : Option Key) (next : Key) → first1.map ≡ first.map → VisitsUpTo Keeps Done first second second1 last → Turns Keeps Done first1 second1 second' last (Some next)
+  pub turned_more : (first1 second1 second' : PortState) (last : Option Key) (next : Key) → first1.map ≡ first.map
+      → VisitsUpTo Keeps Done first second second1 last → Turns Keeps Done first1 second1 second' last (Some next)
       → VisitsUpTo Keeps Done first second second' (Some next)
   turned_more first1 second1 second' last next same h g a b ea eb keeps =
       let (b1, e1, k1, up) = h a b ea eb keeps in g a b1 (same ∙ ea) e1 k1 up
 
-  pub turned_all : (first1 second1 second' : PortState) (last : Option Key) → first1.map ≡ first.map → VisitsUpTo Keeps Done first second second1 last → Turns Keeps Done first1 second1 second' last None
+  pub turned_all : (first1 second1 second' : PortState) (last : Option Key) → first1.map ≡ first.map
+      → VisitsUpTo Keeps Done first second second1 last → Turns Keeps Done first1 second1 second' last None
       → VisitsAll Keeps Done first second second'
   turned_all first1 second1 second' last same h g a b ea eb keeps =
       let (b1, e1, k1, up) = h a b ea eb keeps in g a b1 (same ∙ ea) e1 k1 up
 
-module _ (Keeps : Map → Map → Type 0) (Done : Map → Map → Key → Type 0) (room : Map → Map → ℕ) (opcode : ℕ) {P Q : Type 0} (stateP : P → PortState) (tookP : P → List Command → P → Type 0) (stateQ : Q → PortState) (tookQ : Q → List Command → Q → Type 0) where
+module _ (Keeps : Map → Map → Type 0) (Done : Map → Map → Key → Type 0) (room : Map → Map → ℕ) (opcode : ℕ) {P Q : Type 0}
+    (stateP : P → PortState) (tookP : P → List Command → P → Type 0) (stateQ : Q → PortState) (tookQ : Q → List Command → Q → Type 0) where
   -- All keys up to the last were visited, from two ports on to two others.
   pub record IsTurning (first first' : P) (second second' : Q) (last : Option Key) : Type 0 where
     pub took_first : TookSome tookP AreAsking first first'
@@ -179,7 +180,8 @@ module _ (Keeps : Map → Map → Type 0) (Done : Map → Map → Key → Type 0
       → (a b : Map) → (stateP first).map ≡ Some a → (stateQ second).map ≡ Some b → Keeps a b → (b' : Map) × ((stateQ second').map ≡ Some b') × Keeps a b'
   turning_keeps first first' second second' last h a b ea eb keeps = let (b', e, k, up) = h.visits a b ea eb keeps in (b', e, k)
 
-  pub turning_goes : ((p : P) (cs : List Command) (q : P) (ds : List Command) (r : P) → tookP p cs q → tookP q ds r → tookP p (cs ++ ds) r) → ((p : Q) (cs : List Command) (q : Q) (ds : List Command) (r : Q) → tookQ p cs q → tookQ q ds r → tookQ p (cs ++ ds) r)
+  pub turning_goes : ((p : P) (cs : List Command) (q : P) (ds : List Command) (r : P) → tookP p cs q → tookP q ds r → tookP p (cs ++ ds) r)
+      → ((p : Q) (cs : List Command) (q : Q) (ds : List Command) (r : Q) → tookQ p cs q → tookQ q ds r → tookQ p (cs ++ ds) r)
       → (first mid first' : P) (second halfway second' : Q) (last : Option Key) (next : Key) → IsTurning first mid second halfway last → TookSome tookP AreAsking mid first'
       → TookSome tookQ (Spent Keeps room opcode (stateP mid) (stateQ halfway) (stateQ second')) halfway second'
       → (stateP first').map ≡ (stateP mid).map → Turns Keeps Done (stateP mid) (stateQ halfway) (stateQ second') last (Some next) → IsText next → IsTurning first first' second second' (Some next)
@@ -192,7 +194,8 @@ module _ (Keeps : Map → Map → Type 0) (Done : Map → Map → Key → Type 0
   }
 
   -- a failure after the pages
-  pub turning_fails : (first mid : P) (second halfway : Q) (last : Option Key) (e : MirrorError) → IsTurning first mid second halfway last → OnlyReadsFail Keeps (stateP mid) (stateQ halfway) e → OnlyReadsFail Keeps (stateP first) (stateQ second) e
+  pub turning_fails : (first mid : P) (second halfway : Q) (last : Option Key) (e : MirrorError) → IsTurning first mid second halfway last
+      → OnlyReadsFail Keeps (stateP mid) (stateQ halfway) e → OnlyReadsFail Keeps (stateP first) (stateQ second) e
   turning_fails first mid second halfway last e h fails a b ea eb keeps = let (b1, e1, k1, up) = h.visits a b ea eb keeps in fails a b1 (h.same ∙ ea) e1 k1
 
 -- ---- places of pages
@@ -201,13 +204,17 @@ pub short_from : (o : Option Key) → ((k : Key) → o ≡ Some k → IsText k) 
 short_from None text = omega arith
 short_from (Some k) text = (text k refl).is_key.most
 
-pub falls_next : (last : Option Key) (next : Key) → IsText next → keys_left (Some next) < keys_left last → (key : Key) → ◌≡◌ {A = Option Key} (Some next) (Some key) → IsText key × (keys_left (Some next) < keys_left last)
+pub falls_next : (last : Option Key) (next : Key) → IsText next → keys_left (Some next) < keys_left last
+    → (key : Key) → ◌≡◌ {A = Option Key} (Some next) (Some key) → IsText key × (keys_left (Some next) < keys_left last)
 falls_next last next text falls key e = (subst IsText (let is : next ≡ key = cc in is) text, falls)
 
-pub turns_as : (Keeps : Map → Map → Type 0) (Done : Map → Map → Key → Type 0) (first second second' : PortState) (o last f f' : Option Key) → o ≡ last → f ≡ f' → Turns Keeps Done first second second' o f → Turns Keeps Done first second second' last f'
-turns_as Keeps Done first second second' o last f f' e g h = subst (λ (x : Option Key). Turns Keeps Done first second second' x f') e (subst (λ (x : Option Key). Turns Keeps Done first second second' o x) g h)
+pub turns_as : (Keeps : Map → Map → Type 0) (Done : Map → Map → Key → Type 0) (first second second' : PortState) (o last f f' : Option Key)
+    → o ≡ last → f ≡ f' → Turns Keeps Done first second second' o f → Turns Keeps Done first second second' last f'
+turns_as Keeps Done first second second' o last f f' e g h = subst (λ (x : Option Key). Turns Keeps Done first second second' x f') e
+    (subst (λ (x : Option Key). Turns Keeps Done first second second' o x) g h)
 
-pub smaller_as : (o last f : Option Key) (next : Key) → o ≡ last → f ≡ Some next → ((key : Key) → f ≡ Some key → IsText key × (keys_left f < keys_left o)) → IsText next × (keys_left (Some next) < keys_left last)
+pub smaller_as : (o last f : Option Key) (next : Key) → o ≡ last → f ≡ Some next
+    → ((key : Key) → f ≡ Some key → IsText key × (keys_left f < keys_left o)) → IsText next × (keys_left (Some next) < keys_left last)
 smaller_as o last f next e g h =
     let both = h next g in (both.0, subst (λ (x : Option Key). keys_left (Some next) < keys_left x) e (subst (λ (x : Option Key). keys_left x < keys_left o) g both.1))
 
@@ -238,6 +245,7 @@ module _ (old new : Mirrored) (p p' q q' : PortState) (cs ds : List Command) (pa
   unresynced split = still_pair p p' q q' cs ds t u old new pair same (λ off. absurd (let clash : true ≡ false = sym split ∙ off in cc))
 
 -- if the first's map is known, a resync is refused on a failed read alone
-pub resync_unread : (mirror : Mirrored) (p q : PortState) (r : Result (Unit {0}) MirrorError) → IsPair mirror p q → IfErr r (λ e. OnlyReadsFail AreAny p q e) → (m : Map) → p.map ≡ Some m → IfErr r IsReadError
+pub resync_unread : (mirror : Mirrored) (p q : PortState) (r : Result (Unit {0}) MirrorError) → IsPair mirror p q
+    → IfErr r (λ e. OnlyReadsFail AreAny p q e) → (m : Map) → p.map ≡ Some m → IfErr r IsReadError
 resync_unread mirror p q (Ok x) pair h m told = tt
 resync_unread mirror p q (Err e) pair h m told = let (b, eb) = other_tells p.map q.map m pair.both_tell told in h m b told eb tt

@@ -8,14 +8,16 @@ use Rattle.pk_nvme.specs.Command.{Command}
 use Rattle.pk_nvme.specs.declared.opcode.TheConstants.{STORE, DELETE}
 use Rattle.pk_model.proofs.MapLemmas.{key_total}
 use Rattle.pk_host.specs.Port.{PortState, Took}
-use Rattle.pk_host.specs.Calls.{TookSome, Fetches, Deletes, Tests, Leaves, delete_of, store_of}
+use Rattle.pk_host.specs.Calls.{delete_of, store_of}
+use Rattle.pk_host.specs.Outcomes.{TookSome, Fetches, Deletes, Tests, Leaves}
 use Rattle.pk_host.specs.declared.types.StoreRule.TheVariants.{Any}
 use Rattle.pk_mirror.specs.Causes.{OnlyAsks, AreAsking}
 use Rattle.pk_mirror.specs.Agreement.{NoOther, AreAny, IsPart}
 use Rattle.pk_mirror.specs.Visits.{Visits, VisitsAll}
 use Rattle.pk_mirror.specs.Spending.{OnlyLooks, LooksOr, opcode_count, AreOfResync, Spent, Spending, Deleted, Deleting, Stored, Storing}
-use Rattle.pk_mirror.proofs.MapLemmas.{part_insert, len_of_part, some_len, some_same}
+use Rattle.pk_mirror.proofs.MapLemmas.{part_insert, len_of_part, some_len}
 use Rattle.pk_mirror.proofs.KeyLemmas.{found_some}
+use Rattle.pk_base.proofs.Logic.{some_same}
 
 -- ---- lists of commands
 
@@ -105,7 +107,8 @@ module _ (Keeps : Map → Map → Type 0) (room : Map → Map → ℕ) (opcode :
   }
 
   -- commands that only look
-  pub spent_looks : ((c : Command) → OnlyLooks c → IsOther opcode c) → (first second second' : PortState) (cs : List Command) → AllByRecursion OnlyLooks cs → second'.map ≡ second.map → Spent Keeps room opcode first second second' cs
+  pub spent_looks : ((c : Command) → OnlyLooks c → IsOther opcode c) → (first second second' : PortState) (cs : List Command)
+      → AllByRecursion OnlyLooks cs → second'.map ≡ second.map → Spent Keeps room opcode first second second' cs
   spent_looks other first second second' cs looks same = record {
     only = only_map OnlyLooks (LooksOr opcode) (λ c h. inl h) cs looks;
     left = λ a b b' ea eb eb' keeps.
@@ -138,7 +141,8 @@ module _ (Keeps : Map → Map → Type 0) (room : Map → Map → ℕ) (opcode :
         omega (arith, one, two, sum);
   }
 
-  pub spending_spent : (first second second' : PortState) (cs : List Command) → maps_between second second' → Spent Keeps room opcode first second second' cs → Spending Keeps room opcode first second cs
+  pub spending_spent : (first second second' : PortState) (cs : List Command) → maps_between second second'
+      → Spent Keeps room opcode first second second' cs → Spending Keeps room opcode first second cs
   unfolding maps_between
   spending_spent first second second' cs to h = record {
     only = h.only;
@@ -154,11 +158,13 @@ module _ (Keeps : Map → Map → Type 0) (room : Map → Map → ℕ) (opcode :
   -- ---- ports
 
   -- what was done is within the room
-  pub took_settled : {Q : Type 0} (state : Q → PortState) (took : Q → List Command → Q → Type 0) → ((p : Q) (cs : List Command) (q : Q) → took p cs q → Took (state p) (state q) cs) → (first : PortState) (p q : Q)
+  pub took_settled : {Q : Type 0} (state : Q → PortState) (took : Q → List Command → Q → Type 0)
+      → ((p : Q) (cs : List Command) (q : Q) → took p cs q → Took (state p) (state q) cs) → (first : PortState) (p q : Q)
       → TookSome took (Spent Keeps room opcode first (state p) (state q)) p q → TookSome took (Spending Keeps room opcode first (state p)) p q
   took_settled state took known first p q h = (h.0, spending_spent first (state p) (state q) h.0 (between (state p) (state q) h.0 (known p h.0 q h.2)) h.1, h.2)
 
-  module _ {Q : Type 0} (state : Q → PortState) (took : Q → List Command → Q → Type 0) (both : (p : Q) (cs : List Command) (q : Q) (ds : List Command) (r : Q) → took p cs q → took q ds r → took p (cs ++ ds) r) (first first1 : PortState) (p q r : Q)
+  module _ {Q : Type 0} (state : Q → PortState) (took : Q → List Command → Q → Type 0)
+      (both : (p : Q) (cs : List Command) (q : Q) (ds : List Command) (r : Q) → took p cs q → took q ds r → took p (cs ++ ds) r) (first first1 : PortState) (p q r : Q)
       (same : first1.map ≡ first.map) (goes : Goes first (state p) (state q)) (h : TookSome took (Spent Keeps room opcode first (state p) (state q)) p q) where
     pub took_spent : TookSome took (Spent Keeps room opcode first1 (state q) (state r)) q r → TookSome took (Spent Keeps room opcode first (state p) (state r)) p r
     took_spent g = (h.0 ++ g.0, spent_more first first1 (state p) (state q) (state r) h.0 g.0 same goes h.1 g.1, both p h.0 q g.0 r h.2 g.2)
@@ -175,7 +181,8 @@ module _ (Keeps : Map → Map → Type 0) (room : Map → Map → ℕ) (opcode :
     moved_first_spent h = (h.0, record { only = h.1.only; left = λ a b b' ea eb eb' keeps. h.1.left a b b' (same ∙ ea) eb eb' keeps }, h.2)
 
 -- a phase that goes on keeps what it keeps
-pub goes_same : (Keeps : Map → Map → Type 0) (first second second' : PortState) → second'.map ≡ second.map → (a b : Map) → first.map ≡ Some a → second.map ≡ Some b → Keeps a b → (b' : Map) × (second'.map ≡ Some b') × Keeps a b'
+pub goes_same : (Keeps : Map → Map → Type 0) (first second second' : PortState) → second'.map ≡ second.map → (a b : Map)
+    → first.map ≡ Some a → second.map ≡ Some b → Keeps a b → (b' : Map) × (second'.map ≡ Some b') × Keeps a b'
 goes_same Keeps first second second' same a b ea eb keeps = (b, same ∙ eb, keeps)
 
 pub goes_visits : (Keeps : Map → Map → Type 0) (Done : Map → Map → Key → Type 0) (first second second' : PortState) (keys : List Key) → Visits Keeps Done first second second' keys
@@ -209,7 +216,8 @@ module _ (first q q' : PortState) (k : Key) where
     most = λ a b ea eb keeps. let less = fewer b k (has b eb) in omega (arith, less);
   }
 
-module _ (p q q' : PortState) (k : Key) (value : List ℕ) (has : (a b : Map) → p.map ≡ Some a → q.map ≡ Some b → (v : List ℕ) × (get a k ≡ Some v)) (lacked : (b : Map) → q.map ≡ Some b → contains_key b k ≡ false) where
+module _ (p q q' : PortState) (k : Key) (value : List ℕ) (has : (a b : Map) → p.map ≡ Some a → q.map ≡ Some b → (v : List ℕ) × (get a k ≡ Some v))
+    (lacked : (b : Map) → q.map ≡ Some b → contains_key b k ≡ false) where
   pub stored_one : Leaves q q' (λ m. insert m k value) → Stored p q q' (store_of k value Any ∷ [])
   stored_one leaves = record {
     only = (inr refl, tt);
@@ -233,7 +241,8 @@ found_has p k len into f a b q ea eb = let (v, ev, front) = found_some (get a k)
 
 -- ---- both phases
 
-pub goes_all : (first second second1 : PortState) → VisitsAll AreAny NoOther first second second1 → (a b : Map) → first.map ≡ Some a → second.map ≡ Some b → (b1 : Map) × (second1.map ≡ Some b1) × IsPart a b1
+pub goes_all : (first second second1 : PortState) → VisitsAll AreAny NoOther first second second1
+    → (a b : Map) → first.map ≡ Some a → second.map ≡ Some b → (b1 : Map) × (second1.map ≡ Some b1) × IsPart a b1
 goes_all first second second1 h a b ea eb = let (b1, e1, k1, part) = h a b ea eb tt in (b1, e1, part)
 
 abbrev OfResync : Command → Type 0

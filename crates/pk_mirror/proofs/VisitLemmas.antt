@@ -6,7 +6,7 @@ use Rattle.pk_base.specs.Map.{Map}
 use Rattle.pk_nvme.specs.Command.{Command}
 use Rattle.pk_host.specs.Port.{PortState, Took}
 use Rattle.pk_host.specs.TookLaws.{took_both}
-use Rattle.pk_host.specs.Calls.{TookSome}
+use Rattle.pk_host.specs.Outcomes.{TookSome}
 use Rattle.pk_mirror.specs.declared.error.Side.TheVariants.{First, Second}
 use Rattle.pk_mirror.specs.declared.error.MirrorError.{MirrorError}
 use Rattle.pk_mirror.specs.declared.error.MirrorError.TheVariants.{Refused, Port, Split}
@@ -30,7 +30,8 @@ module _ (Keeps : Map → Map → Type 0) (Done : Map → Map → Key → Type 0
   pub visits_none : (first second : PortState) → Visits Keeps Done first second second []
   visits_none first second a b ea eb keeps = (b, eb, record { keeps = keeps; done = tt; still = λ k h. h })
 
-  pub visits_more : (first first1 second second1 second' : PortState) (ks ls : List Key) → first1.map ≡ first.map → Visits Keeps Done first second second1 ks → Visits Keeps Done first1 second1 second' ls
+  pub visits_more : (first first1 second second1 second' : PortState) (ks ls : List Key) → first1.map ≡ first.map
+      → Visits Keeps Done first second second1 ks → Visits Keeps Done first1 second1 second' ls
       → Visits Keeps Done first second second' (ks ++ ls)
   visits_more first first1 second second1 second' ks ls same h g a b ea eb keeps =
       let v = h a b ea eb keeps in
@@ -45,11 +46,13 @@ module _ (Keeps : Map → Map → Type 0) (Done : Map → Map → Key → Type 0
       )
 
   -- a failure after visits
-  pub fails_later : (first first1 second second1 : PortState) (ks : List Key) (e : MirrorError) → first1.map ≡ first.map → Visits Keeps Done first second second1 ks → OnlyReadsFail Keeps first1 second1 e → OnlyReadsFail Keeps first second e
+  pub fails_later : (first first1 second second1 : PortState) (ks : List Key) (e : MirrorError) → first1.map ≡ first.map
+      → Visits Keeps Done first second second1 ks → OnlyReadsFail Keeps first1 second1 e → OnlyReadsFail Keeps first second e
   fails_later first first1 second second1 ks e same h g a b ea eb keeps = let v = h a b ea eb keeps in g a v.0 (same ∙ ea) v.1 v.2.keeps
 
 -- a failure if nothing was done to the maps before
-pub fails_kept : (Keeps : Map → Map → Type 0) (first first1 second second1 : PortState) (e : MirrorError) → first1.map ≡ first.map → second1.map ≡ second.map → OnlyReadsFail Keeps first1 second1 e → OnlyReadsFail Keeps first second e
+pub fails_kept : (Keeps : Map → Map → Type 0) (first first1 second second1 : PortState) (e : MirrorError)
+    → first1.map ≡ first.map → second1.map ≡ second.map → OnlyReadsFail Keeps first1 second1 e → OnlyReadsFail Keeps first second e
 fails_kept Keeps first first1 second second1 e same too g a b ea eb keeps = g a b (same ∙ ea) (too ∙ eb) keeps
 
 -- ---- causes
@@ -68,7 +71,8 @@ refused_later start old new cs status t r = record {
 }
 
 -- a cause in a later call is one of both
-pub cause_later : (first first1 first' second second1 second' : PortState) (cs ds : List Command) (e : MirrorError) → Took first first1 cs → Took second second1 ds → IsCause first1 first' second1 second' e
+pub cause_later : (first first1 first' second second1 second' : PortState) (cs ds : List Command) (e : MirrorError)
+    → Took first first1 cs → Took second second1 ds → IsCause first1 first' second1 second' e
     → IsCause first first' second second' e
 cause_later first first1 first' second second1 second' cs ds (Refused First status) t u h = refused_later first first1 first' cs status t h
 cause_later first first1 first' second second1 second' cs ds (Refused Second status) t u h = refused_later second second1 second' ds status u h
@@ -124,7 +128,8 @@ module _ {P : Type 0} (took : P → List Command → P → Type 0) (both : (p : 
 
 -- ---- a page of visits
 
-module _ (Keeps : Map → Map → Type 0) (Done : Map → Map → Key → Type 0) (room : Map → Map → ℕ) (opcode : ℕ) {P Q : Type 0} (stateP : P → PortState) (tookP : P → List Command → P → Type 0) (stateQ : Q → PortState) (tookQ : Q → List Command → Q → Type 0) where
+module _ (Keeps : Map → Map → Type 0) (Done : Map → Map → Key → Type 0) (room : Map → Map → ℕ) (opcode : ℕ) {P Q : Type 0}
+    (stateP : P → PortState) (tookP : P → List Command → P → Type 0) (stateQ : Q → PortState) (tookQ : Q → List Command → Q → Type 0) where
   -- These keys were visited, from two ports on to two others.
   pub record IsVisiting (first first' : P) (second second' : Q) (keys : List Key) : Type 0 where
     pub took_first : TookSome tookP AreAsking first first'
@@ -133,15 +138,22 @@ module _ (Keeps : Map → Map → Type 0) (Done : Map → Map → Key → Type 0
     pub visits : Visits Keeps Done (stateP first) (stateQ second) (stateQ second') keys
 
   pub visiting_begins : (first : P) (second : Q) → tookP first [] first → tookQ second [] second → IsVisiting first first second second []
-  visiting_begins first second p q = record { took_first = asking_none tookP first p; took_second = ([], spent_none Keeps room opcode (stateP first) (stateQ second), q); same = refl; visits = visits_none Keeps Done (stateP first) (stateQ second) }
+  visiting_begins first second p q = record {
+    took_first = asking_none tookP first p;
+    took_second = ([], spent_none Keeps room opcode (stateP first) (stateQ second), q);
+    same = refl;
+    visits = visits_none Keeps Done (stateP first) (stateQ second);
+  }
 
-  pub visiting_goes : ((p : P) (cs : List Command) (q : P) (ds : List Command) (r : P) → tookP p cs q → tookP q ds r → tookP p (cs ++ ds) r) → ((p : Q) (cs : List Command) (q : Q) (ds : List Command) (r : Q) → tookQ p cs q → tookQ q ds r → tookQ p (cs ++ ds) r)
+  pub visiting_goes : ((p : P) (cs : List Command) (q : P) (ds : List Command) (r : P) → tookP p cs q → tookP q ds r → tookP p (cs ++ ds) r)
+      → ((p : Q) (cs : List Command) (q : Q) (ds : List Command) (r : Q) → tookQ p cs q → tookQ q ds r → tookQ p (cs ++ ds) r)
       → (first mid first' : P) (second halfway second' : Q) (keys : List Key) (k : Key) (more : List Key) → IsVisiting first mid second halfway keys → TookSome tookP AreAsking mid first'
       → TookSome tookQ (Spent Keeps room opcode (stateP mid) (stateQ halfway) (stateQ second')) halfway second'
       → (stateP first').map ≡ (stateP mid).map → Visits Keeps Done (stateP mid) (stateQ halfway) (stateQ second') (k ∷ []) → more ≡ keys ++ k ∷ [] → IsVisiting first first' second second' more
   visiting_goes bothP bothQ first mid first' second halfway second' keys k more h p q same visits is = record {
     took_first = asking_more tookP bothP first mid first' h.took_first p;
-    took_second = took_spent Keeps room opcode stateQ tookQ bothQ (stateP first) (stateP mid) second halfway second' h.same (goes_visits Keeps Done (stateP first) (stateQ second) (stateQ halfway) keys h.visits) h.took_second q;
+    took_second = took_spent Keeps room opcode stateQ tookQ bothQ (stateP first) (stateP mid) second halfway second' h.same
+        (goes_visits Keeps Done (stateP first) (stateQ second) (stateQ halfway) keys h.visits) h.took_second q;
     same = same ∙ h.same;
     visits = subst (Visits Keeps Done (stateP first) (stateQ second) (stateQ second')) (sym is)
         (visits_more Keeps Done (stateP first) (stateP mid) (stateQ second) (stateQ halfway) (stateQ second') keys (k ∷ []) h.same h.visits visits);
@@ -153,5 +165,6 @@ module _ (Keeps : Map → Map → Type 0) (Done : Map → Map → Key → Type 0
   visiting_keeps first first' second second' keys h = goes_visits Keeps Done (stateP first) (stateQ second) (stateQ second') keys h.visits
 
   -- all of them
-  pub visiting_all : (first first' : P) (second second' : Q) (keys all : List Key) → keys ≡ all → IsVisiting first first' second second' keys → Visits Keeps Done (stateP first) (stateQ second) (stateQ second') all
+  pub visiting_all : (first first' : P) (second second' : Q) (keys all : List Key) → keys ≡ all
+      → IsVisiting first first' second second' keys → Visits Keeps Done (stateP first) (stateQ second) (stateQ second') all
   visiting_all first first' second second' keys all is h = subst (Visits Keeps Done (stateP first) (stateQ second) (stateQ second')) is h.visits

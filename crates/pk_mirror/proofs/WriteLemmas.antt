@@ -14,7 +14,7 @@ use Rattle.pk_host.specs.declared.types.HostError.{HostError}
 use Rattle.pk_host.specs.declared.types.HostError.TheVariants.{Refused as HostRefused, Port as HostPort, Memory}
 use Rattle.pk_host.specs.Port.{PortState, Replies, Took}
 use Rattle.pk_host.specs.TookLaws.{took_none}
-use Rattle.pk_host.specs.Calls.{Gives, AtMostOne, Leaves}
+use Rattle.pk_host.specs.Outcomes.{Gives, AtMostOne, Leaves}
 use Rattle.pk_mirror.specs.declared.error.Side.{Side}
 use Rattle.pk_mirror.specs.declared.error.Side.TheVariants.{First, Second}
 use Rattle.pk_mirror.specs.declared.error.MirrorError.{MirrorError}
@@ -34,7 +34,8 @@ module _ {X : Type 0} (of : Reply → Result X HostError) (tells : Tells of) (ol
       let s = r.answers m told in s.told ∙ ap (λ (n : Map). Some n) (answer_leaves of old.shape old.limit s.frames m c a s.left x tells (sym e) s.stepped)
 
   -- a refusal is that of a reply, and a port that failed is none
-  pub refused_or_port : (error : HostError) (P : Type 0) → Gives old new c of (Err error) → ((a : Reply) → Replies old new c a → of a ≡ Err error → error ≡ HostRefused a.status → (a.status == 0) ≡ false → P)
+  pub refused_or_port : (error : HostError) (P : Type 0) → Gives old new c of (Err error)
+      → ((a : Reply) → Replies old new c a → of a ≡ Err error → error ≡ HostRefused a.status → (a.status == 0) ≡ false → P)
       → (error ≡ HostPort → Rose old.port_faults new.port_faults → P) → P
   refused_or_port error P (inl (a, r, e)) refused port = let h = tells.refusal a error (sym e) in refused a r (sym e) h.0 h.1
   refused_or_port error P (inr fault) refused port = port (err_same error HostPort fault.0) fault.1
@@ -88,7 +89,8 @@ module _ {X : Type 0} (old new : Mirrored) (p p' q q' : PortState) (c : Command)
       (λ a r e same fails. by_map p.map (p'.map ≡ p.map)
       (λ none. t.untold none ∙ sym none)
       (λ m told. let s = r.answers m told in
-      s.told ∙ ap (λ (n : Map). Some n) (refusal_leaves p.shape p.limit m c k is s.frames a s.left (λ frames own. ap (λ (b : Reply). b.status) (plain p.shape p.limit frames m own)) fails s.stepped) ∙ sym told))
+      s.told ∙ ap (λ (n : Map). Some n) (refusal_leaves p.shape p.limit m c k is s.frames a s.left (λ frames own. ap (λ (b : Reply). b.status) (plain p.shape p.limit frames m own)) fails s.stepped)
+      ∙ sym told))
       (λ same rose. true_false (is_port error) (port_is error same) off)
 
   both_done : (x y : X) → old.split ≡ false → Gives p p' c of (Ok x) → Gives q q' c of (Ok y) → (m : Map) → p.map ≡ Some m
@@ -171,8 +173,10 @@ module _ {X : Type 0} (old new : Mirrored) (p p' q q' : PortState) (c : Command)
   -- ---- why it is not done
 
   caused_by : (side : Side) (drive drive' : PortState) (error : HostError) → Gives drive drive' c of (Err error) → Decides {X = X} side (Err error) result
-      → ((status : ℕ) → RefusedBy drive drive' status → IsCause p p' q q' (Refused side status)) → (Rose drive.port_faults drive'.port_faults → IsCause p p' q q' (Port side)) → IfErr result (λ e. (e ≡ Split → ⊥) → IsCause p p' q q' e)
-  caused_by side drive drive' error g d refused port = err_by result d.0 (λ e. (e ≡ Split → ⊥) → IsCause p p' q q' e) d.1 (λ off. refused_or_port of tells drive drive' c error (IsCause p p' q q' d.0) g
+      → ((status : ℕ) → RefusedBy drive drive' status → IsCause p p' q q' (Refused side status))
+      → (Rose drive.port_faults drive'.port_faults → IsCause p p' q q' (Port side)) → IfErr result (λ e. (e ≡ Split → ⊥) → IsCause p p' q q' e)
+  caused_by side drive drive' error g d refused port = err_by result d.0 (λ e. (e ≡ Split → ⊥) → IsCause p p' q q' e) d.1
+      (λ off. refused_or_port of tells drive drive' c error (IsCause p p' q q' d.0) g
       (λ a r e same fails. subst (IsCause p p' q q') (sym (on_refused side error a.status d.0 same d.2)) (refused a.status (refused_by of tells drive drive' c a r fails)))
       (λ same rose. subst (IsCause p p' q q') (sym (on_port side error d.0 same d.2)) (port rose)))
 
@@ -201,7 +205,8 @@ module _ {X : Type 0} (old new : Mirrored) (p p' q q' : PortState) (c : Command)
   ]
 
   -- the second answers as the first did, but for a failed read
-  unread_second : (x : X) (a b : Reply) (error : HostError) → old.split ≡ false → Replies p p' c a → of a ≡ Ok x → Replies q q' c b → of b ≡ Err error → (m : Map) → p.map ≡ Some m → b.status ≡ UNRECOVERED_ERROR
+  unread_second : (x : X) (a b : Reply) (error : HostError) → old.split ≡ false → Replies p p' c a
+      → of a ≡ Ok x → Replies q q' c b → of b ≡ Err error → (m : Map) → p.map ≡ Some m → b.status ≡ UNRECOVERED_ERROR
   unread_second x a b error step r ok s err m told =
       let f = r.answers m told in
       let g = s.answers m (second_told step m told) in
@@ -243,5 +248,6 @@ module _ {X : Type 0} (old new : Mirrored) (p p' q q' : PortState) (c : Command)
     | inl s ↦ if_ok_never result Split _ s.answer
     | inr (inl e) ↦ if_ok_never result e.decides.0 _ e.decides.1
     | inr (inr (inl e)) ↦ if_ok_never result e.decides.0 _ e.decides.1
-    | inr (inr (inr b)) ↦ let first = if_ok_of result b.done (λ x. Leaves p p' (f x)) b.answer h in if_ok_by result b.done (λ x. Leaves p p' (f x) × Leaves p q' (f x)) b.answer (first, second_too (f b.done) b.in_step b.same first)
+    | inr (inr (inr b)) ↦ let first = if_ok_of result b.done (λ x. Leaves p p' (f x)) b.answer h in if_ok_by result b.done
+        (λ x. Leaves p p' (f x) × Leaves p q' (f x)) b.answer (first, second_too (f b.done) b.in_step b.same first)
   ]

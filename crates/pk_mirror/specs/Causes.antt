@@ -7,7 +7,8 @@ use Rattle.pk_nvme.specs.Reply.{Reply}
 use Rattle.pk_nvme.specs.declared.status.TheConstants.{SUCCESSFUL_COMPLETION, UNRECOVERED_ERROR}
 use Rattle.pk_nand.specs.Calls.{Rose}
 use Rattle.pk_host.specs.Port.{PortState, Replies, Took}
-use Rattle.pk_host.specs.Calls.{list_of, retrieve_of, TookSome}
+use Rattle.pk_host.specs.Calls.{retrieve_of}
+use Rattle.pk_host.specs.Outcomes.{list_of, TookSome}
 use Rattle.pk_host.specs.declared.types.HostError.{HostError}
 use Rattle.pk_host.specs.declared.types.HostError.TheVariants.{Refused as HostRefused, Port as HostPort, Memory}
 use Rattle.pk_mirror.specs.declared.error.Side.{Side}

@@ -1,8 +1,8 @@
-//! A pair of drives that is written as one, over the ports that are lent to each call.
+//! Two drives that are used as one, over the ports that are lent to each call.
 //!
 //! A store or a delete goes to the first drive and then to the second. Wherever that ends, each of
-//! them holds the map before it or the one after it, and both the latter if it was answered with
-//! success; `resync` makes the second's map the first's again.
+//! them holds the map before it or the one after it, and both hold the one after it if the answer
+//! was success; `resync` makes the second drive's map equal to the first's again.
 #![tactic(auto)]
 
 mod buffers;

@@ -4,7 +4,7 @@ ghost use Rattle.std.specs.Prelude.{◌≡◌, ◌<◌, ◌≤◌, ◌^◌, [], 
 ghost use Rattle.std.specs.FinMap as map;
 ghost use Rattle.pk_base.specs.Map.{Map};
 ghost use Rattle.pk_base.specs.Shape.{greatest};
-ghost use Rattle.pk_host.specs.Calls.{TookSome};
+ghost use Rattle.pk_host.specs.Outcomes.{TookSome};
 ghost use Rattle.pk_host.specs.Port.{PortState};
 ghost use Rattle.pk_mirror.specs.Pair.{Alike};
 ghost use Rattle.pk_mirror.specs.Asks.{KeepsMaps};

@@ -18,10 +18,10 @@ use Rattle.pk_host.specs.TookLaws.{left_both}
 use Rattle.pk_port.specs.Chained.{installs_of, installs}
 use Rattle.pk_mirror.specs.Causes.{OnlyAsks, AreAsking}
 use Rattle.pk_mirror.specs.Spending.{OnlyLooks, LooksOr, opcode_count}
-use Rattle.pk_mirror.proofs.AskLemmas.{same_after}
 use Rattle.pk_mirrorwords.specs.PairTasks.{PairTask, put, get, delete, list, resync, change_of, after_change}
 use Rattle.pk_mirrorwords.specs.PairAnswers.{AreChange, AreOfFirst, AreOfPair, AreOfSecond}
 use Rattle.pk_mirrorrun.specs.PairTold.{map_left_by, most_pair_roots}
+use Rattle.pk_host.proofs.PageLemmas.{map_after_same}
 
 -- ---- maps
 
@@ -38,8 +38,8 @@ none_left shape most m [] = refl
 none_left shape most m (c ∷ cs) = inl (none_left shape most m cs)
 
 asks_keep : (shape : Shape) (most : ℕ) (m : Map) (c : Command) → OnlyAsks c → map_after shape most m c ≡ m
-asks_keep shape most m c (inl (from, e)) = same_after shape most m c ListKeys (ap (λ (d : Command). op_of d.opcode) e) refl
-asks_keep shape most m c (inr (key, size, e)) = same_after shape most m c Retrieve (ap (λ (d : Command). op_of d.opcode) e) refl
+asks_keep shape most m c (inl (from, e)) = map_after_same shape most m c ListKeys (ap (λ (d : Command). op_of d.opcode) e) refl
+asks_keep shape most m c (inr (key, size, e)) = map_after_same shape most m c Retrieve (ap (λ (d : Command). op_of d.opcode) e) refl
 
 asks_left : (shape : Shape) (most : ℕ) (m m' : Map) (asks change : List Command) → AreAsking asks → LeftBySome shape most m (asks ++ change) m' → LeftBySome shape most m change m'
 asks_left shape most m m' [] change are h = h
@@ -47,7 +47,8 @@ asks_left shape most m m' (c ∷ asks) change are (inl h) = asks_left shape most
 asks_left shape most m m' (c ∷ asks) change are (inr h) =
     asks_left shape most m m' asks change are.1 (subst (λ (n : Map). LeftBySome shape most n (asks ++ change) m') (asks_keep shape most m c are.0) h)
 
-change_left : (shape : Shape) (most : ℕ) (m m' : Map) (o : Option Command) (change : List Command) → AreChange o change → LeftBySome shape most m change m' → (m' ≡ m) ⊎ (m' ≡ after_change shape most m o)
+change_left : (shape : Shape) (most : ℕ) (m m' : Map) (o : Option Command) (change : List Command)
+    → AreChange o change → LeftBySome shape most m change m' → (m' ≡ m) ⊎ (m' ≡ after_change shape most m o)
 change_left shape most m m' None change none h = inl (subst (λ (cs : List Command). LeftBySome shape most m cs m') none h)
 change_left shape most m m' (Some c) change (inl none) h = inl (subst (λ (cs : List Command). LeftBySome shape most m cs m') none h)
 change_left shape most m m' (Some c) change (inr one) h = subst (λ (cs : List Command). LeftBySome shape most m cs m') one h
@@ -72,7 +73,8 @@ looks_none c (inl (inl (from, e))) = ap (λ (d : Command). installs_of d) e
 looks_none c (inl (inr (key, size, e))) = ap (λ (d : Command). installs_of d) e
 looks_none c (inr (key, e)) = ap (λ (d : Command). installs_of d) e
 
-by_opcode : (opcode size : ℕ) → (opcode ≡ DELETE) ⊎ (opcode ≡ STORE) → (if only_looks opcode then 0 else most_installs opcode size) ≤ 10 * ((if opcode == DELETE then 1 else 0) + (if opcode == STORE then 1 else 0))
+by_opcode : (opcode size : ℕ) → (opcode ≡ DELETE) ⊎ (opcode ≡ STORE)
+    → (if only_looks opcode then 0 else most_installs opcode size) ≤ 10 * ((if opcode == DELETE then 1 else 0) + (if opcode == STORE then 1 else 0))
 by_opcode opcode size (inl e) = subst (λ (o : ℕ). (if only_looks o then 0 else most_installs o size) ≤ 10 * ((if o == DELETE then 1 else 0) + (if o == STORE then 1 else 0))) (sym e) (omega arith)
 by_opcode opcode size (inr e) = subst (λ (o : ℕ). (if only_looks o then 0 else most_installs o size) ≤ 10 * ((if o == DELETE then 1 else 0) + (if o == STORE then 1 else 0))) (sym e) (omega arith)
 
@@ -85,7 +87,8 @@ few_installs : (cs : List Command) → AreOfPair cs → installs cs ≤ 10 * (op
 few_installs [] h = omega arith
 few_installs (c ∷ cs) h = let one = one_installs c h.0 in let rest = few_installs cs h.1 in omega (arith, one, rest)
 
-pub second_installs : (first second : PortState) (m other : Map) (cs : List Command) → first.map ≡ Some m → second.map ≡ Some other → AreOfSecond first second cs → installs cs ≤ most_pair_roots m other
+pub second_installs : (first second : PortState) (m other : Map) (cs : List Command) → first.map ≡ Some m
+    → second.map ≡ Some other → AreOfSecond first second cs → installs cs ≤ most_pair_roots m other
 second_installs first second m other cs told too are =
     let few = are.few m other told too in
     let each = few_installs cs are.only in

@@ -6,7 +6,8 @@ use Rattle.pk_base.specs.Page.{Flash}
 use Rattle.pk_base.specs.Map.{Map}
 use Rattle.pk_nvme.specs.Command.{Command}
 use Rattle.pk_nand.specs.BoardState.{BoardState}
-use Rattle.pk_nand.specs.Calls.{Rose, longer, after_post, PostFailed}
+use Rattle.pk_nand.specs.Calls.{Rose, longer}
+use Rattle.pk_nand.specs.Operations.{after_post, PostFailed}
 use Rattle.pk_nand.specs.Effects.{OnlyFlash}
 use Rattle.pk_model.specs.Growth.{Goes}
 use Rattle.pk_model.specs.Kept.{rise}
@@ -33,9 +34,7 @@ use Rattle.pk_mirrorwords.specs.PairTasks.{PairTask}
 use Rattle.pk_mirrorwords.specs.PairAnswers.{PairSaid, PairFault, AreOfFirst, AreOfSecond}
 use Rattle.pk_mirrorrun.specs.PairTold.{EitherUnread, map_left_by, text_by, Walk, BothWalked, end_by, KeptFirst, KeptSecond, PairAnswered, PairEnds, most_pair_roots, UsedRoots, PairTold}
 use Rattle.pk_mirrorrun.proofs.Commands.{kept_first, first_installs, second_installs}
-
-some_same : {X : Type 0} (x y : X) → ◌≡◌ {A = Option X} (Some x) (Some y) → x ≡ y
-some_same x y e = cc
+use Rattle.pk_base.proofs.Logic.{some_same}
 
 -- ---- one drive
 
@@ -77,12 +76,14 @@ module _ (shape : Shape) (start : Map) (cs : List Command) (p q : Standing) wher
   second_kept w =
       let run = kept_by w in (
         run.0,
-        weaken_went run.0 p.on.board q.on.board (KeptSilently shape p.on.frames start cs (rise p.on.board.read_faults q.on.board.read_faults)) (KeptSecond shape) (λ f posted k. record { map = k.1.map_left; held = k.1.held; silent = k.0 }) run.1,
+        weaken_went run.0 p.on.board q.on.board (KeptSilently shape p.on.frames start cs (rise p.on.board.read_faults q.on.board.read_faults))
+            (KeptSecond shape) (λ f posted k. record { map = k.1.map_left; held = k.1.held; silent = k.0 }) run.1,
         run.2,
       )
 
 -- a drive that served a command was not worn before it
-unworn_by : (shape : Shape) (start : Map) (p q : Standing) → p.on.board.shape ≡ Some shape → Holds shape p.on.board.pages start → p.on.stopped ≡ false → p.halt ≡ None → q.halt ≡ None → Walk shape NotEmpty p q
+unworn_by : (shape : Shape) (start : Map) (p q : Standing) → p.on.board.shape ≡ Some shape
+    → Holds shape p.on.board.pages start → p.on.stopped ≡ false → p.halt ≡ None → q.halt ≡ None → Walk shape NotEmpty p q
     → is_worn p.on.board ≡ false
 unworn_by shape start p q has holds going before none walk =
     let w = all_served shape start walk.0 p q before none (chained shape start p walk.0 q has holds going walk.2) in
@@ -115,8 +116,12 @@ module _ (task : PairTask) (shape : Shape) (m other : Map) (cs ds : List Command
 
   first_silent : (failed : Type 0) → Goes shape a b (KeptFirst task failed shape m)
   first_silent failed =
-      let run = kept_by shape m cs p p' walk in
-      (run.0, weaken_went run.0 a b (KeptSilently shape p.on.frames m cs (rise a.read_faults b.read_faults)) (KeptFirst task failed shape m) (silent failed (rise a.read_faults b.read_faults)) run.1, run.2)
+      let run = kept_by shape m cs p p' walk in (
+        run.0,
+        weaken_went run.0 a b (KeptSilently shape p.on.frames m cs (rise a.read_faults b.read_faults))
+            (KeptFirst task failed shape m) (silent failed (rise a.read_faults b.read_faults)) run.1,
+        run.2,
+      )
 
   ended : (end : WordEnd) → PairEnds task shape m a b c d end → PairTold task shape m other a b c d end
   ended end ends = record {
@@ -272,22 +277,27 @@ module _ (task : PairTask) (shape : Shape) (m other : Map) (p p' q q' : Standing
   tells-halted end by = told-halted task shape m other walk.0 too.0 p p' q q' walk.1 few_roots one two p'.halt q'.halt end first second refl refl (sym by)
 
   -- what was said after commands was said of drives that were not worn
-  unworn : p'.halt ≡ None → q'.halt ≡ None → (text : List ℕ) → PairSaid (BothWalked shape p p' q q') task (seen shape p.on.board p.faults) (seen shape p'.on.board p'.faults) (seen shape q.on.board q.faults) (seen shape q'.on.board q'.faults) m text
+  unworn : p'.halt ≡ None → q'.halt ≡ None → (text : List ℕ)
+      → PairSaid (BothWalked shape p p' q q') task (seen shape p.on.board p.faults) (seen shape p'.on.board p'.faults) (seen shape q.on.board q.faults) (seen shape q'.on.board q'.faults) m text
       → PairSaid (BothUnworn p.on.board q.on.board) task (seen shape p.on.board p.faults) (seen shape p'.on.board p'.faults) (seen shape q.on.board q.faults) (seen shape q'.on.board q'.faults) m text
   unworn none nor text (inl (asked, done)) = inl ((unworn_by shape m p p' has holds going first none asked.0, unworn_by shape other q q' has' holds' going' second nor asked.1), done)
   unworn none nor text (inr unread) = inr unread
 
-  pub tells-posted : end_by p'.halt q'.halt ≡ None → (text : List ℕ) → PairSaid (BothWalked shape p p' q q') task (seen shape p.on.board p.faults) (seen shape p'.on.board p'.faults) (seen shape q.on.board q.faults) (seen shape q'.on.board q'.faults) m text
+  pub tells-posted : end_by p'.halt q'.halt ≡ None → (text : List ℕ)
+      → PairSaid (BothWalked shape p p' q q') task (seen shape p.on.board p.faults) (seen shape p'.on.board p'.faults) (seen shape q.on.board q.faults) (seen shape q'.on.board q'.faults) m text
       → (last : BoardState) → last ≡ after_post p'.on.board text → PairTold task shape m other p.on.board last q.on.board q'.on.board Done
   tells-posted by text said last is =
       let (none, nor) = both_none p'.halt q'.halt by in
-      told-posted task shape m other walk.0 too.0 p p' q q' walk.1 few_roots one two (all_served shape m walk.0 p p' first none one) (all_served shape other too.0 q q' second nor two) text (unworn none nor text said) last is
+      told-posted task shape m other walk.0 too.0 p p' q q' walk.1 few_roots one two (all_served shape m walk.0 p p' first none one)
+      (all_served shape other too.0 q q' second nor two) text (unworn none nor text said) last is
 
-  pub tells-unposted : end_by p'.halt q'.halt ≡ None → (text : List ℕ) → PairSaid (BothWalked shape p p' q q') task (seen shape p.on.board p.faults) (seen shape p'.on.board p'.faults) (seen shape q.on.board q.faults) (seen shape q'.on.board q'.faults) m text
+  pub tells-unposted : end_by p'.halt q'.halt ≡ None → (text : List ℕ)
+      → PairSaid (BothWalked shape p p' q q') task (seen shape p.on.board p.faults) (seen shape p'.on.board p'.faults) (seen shape q.on.board q.faults) (seen shape q'.on.board q'.faults) m text
       → (last : BoardState) → PostFailed p'.on.board last text → PairTold task shape m other p.on.board last q.on.board q'.on.board Output
   tells-unposted by text said last failed =
       let (none, nor) = both_none p'.halt q'.halt by in
-      told-unposted task shape m other walk.0 too.0 p p' q q' walk.1 few_roots one two (all_served shape m walk.0 p p' first none one) (all_served shape other too.0 q q' second nor two) text (unworn none nor text said) last failed
+      told-unposted task shape m other walk.0 too.0 p p' q q' walk.1 few_roots one two (all_served shape m walk.0 p p' first none one)
+      (all_served shape other too.0 q q' second nor two) text (unworn none nor text said) last failed
 
   pub faults-never : end_by p'.halt q'.halt ≡ None → p.faults ≡ 0 → q.faults ≡ 0
       → PairFault (seen shape p.on.board p.faults) (seen shape p'.on.board p'.faults) (seen shape q.on.board q.faults) (seen shape q'.on.board q'.faults) → ⊥

@@ -6,7 +6,8 @@ use Rattle.pk_base.specs.Map.{Map}
 use Rattle.pk_nvme.specs.Command.{Command}
 use Rattle.pk_nvme.specs.declared.opcode.TheConstants.{STORE, DELETE}
 use Rattle.pk_host.specs.Port.{PortState, Took}
-use Rattle.pk_host.specs.Calls.{AtMostOne, TookSome, store_of, delete_of}
+use Rattle.pk_host.specs.Calls.{store_of, delete_of}
+use Rattle.pk_host.specs.Outcomes.{AtMostOne, TookSome}
 use Rattle.pk_host.specs.declared.types.StoreRule.TheVariants.{Any}
 use Rattle.pk_words.specs.Lines.{status_line}
 use Rattle.pk_mirror.specs.declared.error.Side.{Side}
@@ -115,7 +116,8 @@ module _ {P : Type 0} (took : P → List Command → P → Type 0) (both : (p : 
     both p h.0 q g.0 r h.2 g.2,
   )
 
-pub second_alone : {P : Type 0} (took : P → List Command → P → Type 0) (first second : PortState) (p q : P) → TookSome took (AreOfResync first second) p q → TookSome took (AreOfSecond first second) p q
+pub second_alone : {P : Type 0} (took : P → List Command → P → Type 0) (first second : PortState) (p q : P)
+    → TookSome took (AreOfResync first second) p q → TookSome took (AreOfSecond first second) p q
 second_alone took first second p q h = (
   h.0,
   record {
@@ -157,7 +159,8 @@ resync_failed p p' q q' (Port Second) cause unread = inr cause
 resync_failed p p' q q' Split cause unread = absurd cause
 
 -- a refusal is said as it is
-pub said_refused : (asked : Type 0) (task : PairTask) (p p' q q' : PortState) (m : Map) (side : Side) (status : ℕ) (text : List ℕ) → text ≡ status_line status → asked ⊎ ResyncFails p p' q q' (Err (Refused side status))
+pub said_refused : (asked : Type 0) (task : PairTask) (p p' q q' : PortState) (m : Map) (side : Side) (status : ℕ) (text : List ℕ)
+    → text ≡ status_line status → asked ⊎ ResyncFails p p' q q' (Err (Refused side status))
     → PairFails task p p' q q' m (Refused side status) → PairSaid asked task p p' q q' m text
 said_refused asked task p p' q q' m side status text is (inr (unread, read)) fails = inr (unread, is ∙ ap status_line read)
 said_refused asked task p p' q q' m side status text is (inl some) (inl done) = inl (some, record { spelled = is ∙ done.spelled; first_left = done.first_left; second_left = done.second_left })

@@ -1,5 +1,6 @@
 -- The keys of a pair, page by page into one text.
-use Rattle.std.proofs.Common.{◌≡◌, inl, inr, ℕ, ◌⊎◌, ◌+◌, ◌-◌, ◌*◌, ◌<◌, ◌≤◌, List, [], ◌∷◌, ◌++◌, length, map, take, slice_index_or, Bool, true, false, Option, Some, None, Result, Ok, Err, refl, sym, ap, subst, ◌∙◌, arith}
+use Rattle.std.proofs.Common.{◌≡◌, inl, inr, ℕ, ◌⊎◌, ◌+◌, ◌-◌, ◌*◌, ◌<◌, ◌≤◌, List, [], ◌∷◌, ◌++◌, length, map, take, slice_index_or, Bool, true, false, Option, Some, None, Result, Ok, Err, refl, sym}
+use Rattle.std.proofs.Common.{ap, subst, ◌∙◌, arith}
 use Rattle.std.proofs.lemmas.List.{append-nil, append_assoc, length-append, take_all}
 use Rattle.std.proofs.lemmas.Grind.{flat_map-append}
 use Rattle.std.specs.FinMap.{keys, entries}
@@ -14,9 +15,10 @@ use Rattle.pk_nvme.specs.Command.{Command, key_or_none}
 use Rattle.pk_nand.specs.Calls.{Rose}
 use Rattle.pk_host.specs.declared.types.HostError.{HostError}
 use Rattle.pk_host.specs.Port.{PortState, Took}
-use Rattle.pk_host.specs.Calls.{Gives, TookSome, AtMostOne, list_of, retrieve_of}
+use Rattle.pk_host.specs.Calls.{retrieve_of}
+use Rattle.pk_host.specs.Outcomes.{Gives, TookSome, AtMostOne, list_of}
 use Rattle.pk_host.specs.Listing.{above, Pages, Follows, listed_by}
-use Rattle.pk_host.proofs.PageLemmas.{next_page}
+use Rattle.pk_host.proofs.PageLemmas.{next_page, nothing_above, all_above_none}
 use Rattle.pk_words.specs.Lines.{key_line, key_lines}
 use Rattle.pk_words.proofs.LineLemmas.{one_more}
 use Rattle.pk_mirror.specs.Ranks.{IsText, keys_left}
@@ -29,7 +31,7 @@ use Rattle.pk_mirror.specs.Causes.{Decides, IsCause, IsReadError, AreAsking}
 use Rattle.pk_mirror.specs.Asks.{Asks, KeepsMaps, StaysUnlessPort}
 use Rattle.pk_mirror.proofs.PairLemmas.{rose_later}
 use Rattle.pk_mirror.proofs.VisitLemmas.{asking_none, asking_more}
-use Rattle.pk_mirror.proofs.PageLemmas.{parts, none_follow, page_some}
+use Rattle.pk_mirror.proofs.PageLemmas.{parts, page_some}
 use Rattle.pk_mirrorwords.specs.PairTasks.{list}
 use Rattle.pk_mirrorwords.specs.PairAnswers.{IsToldPair, IsInStep, PairUnread, PairFault, PairDone, PairFails}
 use Rattle.pk_mirrorwords.specs.PairPages.{keys_after, IsListed, ListGoesOn, PageFails}
@@ -55,7 +57,8 @@ added_more page text next initial i key less h is added short = record {
   most = omega (arith, h.most, short);
 }
 
-pub added_room : (page : List Key) (text initial : RoomyList) (i : ℕ) → i < length page → length initial.items + 33 * length page ≤ initial.room → AreAdded page text initial i → length text.items + 33 ≤ text.room
+pub added_room : (page : List Key) (text initial : RoomyList) (i : ℕ) → i < length page
+    → length initial.items + 33 * length page ≤ initial.room → AreAdded page text initial i → length text.items + 33 ≤ text.room
 added_room page text initial i less room h = let same = ap (λ (t : RoomyList). t.room) h.lines in let most = h.most in omega (arith, less, room, same, most)
 
 pub added_all : (page : List Key) (text initial : RoomyList) (i : ℕ) → length page ≤ i → AreAdded page text initial i → text ≡ record initial { items = initial.items ++ key_lines page }
@@ -88,18 +91,12 @@ asked_some old new p p' q q' c page more given w = elim w [
   | inr (inr f) ↦ page_some q q' c page more given (subst (λ (r : Result Bool HostError). Gives q q' c (listed_by page) r) (decides_ok Second f.answer more f.decides) f.gives)
 ]
 
--- all keys are above none
-all_above : (ks : List Key) → AllByRecursion IsKey ks → above [] ks ≡ ks
-all_above [] h = refl
-all_above ([] ∷ ks) h = absurd (let some = h.0.some in omega (arith, some))
-all_above ((x ∷ k) ∷ ks) h = ap (λ (l : List Key). (x ∷ k) ∷ l) (all_above ks h.1)
-
 names_known : (es : List (Key × List ℕ)) → AllByRecursion (λ e. IsKey e.0 × AreBytes e.0) es → AllByRecursion IsKey (map (λ e. e.0) es)
 names_known [] h = tt
 names_known (e ∷ es) h = (h.0.0, names_known es h.1)
 
 left_above : (shape : Shape) (last : Option Key) (m : Map) → IsMap shape m → keys_after last m ≡ above (key_or_none last) (keys m)
-left_above shape None m is = sym (all_above (keys m) (names_known (entries m) is.keys))
+left_above shape None m is = sym (all_above_none (keys m) (names_known (entries m) is.keys))
 left_above shape (Some key) m is = refl
 
 module _ (p : PortState) (last : Option Key) (text : List ℕ) (listed : IsListed p last text) (sized : (m : Map) → p.map ≡ Some m → IsMap p.shape m) where
@@ -110,7 +107,8 @@ module _ (p : PortState) (last : Option Key) (text : List ℕ) (listed : IsListe
         let (front, e) = parts page next some is in
         left_above p.shape last m (sized m told) ∙ next_page (key_or_none last) m front next (sym (pages m told) ∙ e) ∙ ap (λ (ks : List Key). ks ++ above next (keys m)) (sym (pages m told))
 
-    pub page_room : 0 < length page → (shape : Shape) → IsShape shape → p.shape ≡ shape → p.limit ≡ limit p.shape → (room : ℕ) → 33 * limit shape ≤ room → (m : Map) → p.map ≡ Some m → live p.shape m ≤ p.limit
+    pub page_room : 0 < length page → (shape : Shape) → IsShape shape → p.shape ≡ shape → p.limit ≡ limit p.shape
+        → (room : ℕ) → 33 * limit shape ≤ room → (m : Map) → p.map ≡ Some m → live p.shape m ≤ p.limit
         → length text + 33 * length page ≤ room
     page_room some shape is_shape same limit_is room wide m told within =
         let next : Key = slice_index_or page (length page - 1) [] in
@@ -143,7 +141,7 @@ module _ (p : PortState) (last : Option Key) (text : List ℕ) (listed : IsListe
   pub goes_none : (more : Bool) → more ≡ false → Follows p (key_or_none last) more → ListGoesOn p last None text text
   goes_none more stop follows m told =
       let (front, split, lines, most) = listed.lines m told in
-      let none : keys_after last m ≡ [] = left_above p.shape last m (sized m told) ∙ none_follow (above (key_or_none last) (keys m)) (sym stop ∙ follows m told) in
+      let none : keys_after last m ≡ [] = left_above p.shape last m (sized m told) ∙ nothing_above (above (key_or_none last) (keys m)) (sym stop ∙ follows m told) in
       lines ∙ ap key_lines (sym (split ∙ ap (λ (ks : List Key). front ++ ks) none ∙ append-nil front))
 
 -- before the first page
@@ -155,7 +153,8 @@ pub listed_as : (p q : PortState) (last : Option Key) (text : List ℕ) → q.ma
 listed_as p q last text same h = record { lines = λ m told. h.lines m (sym same ∙ told) }
 
 -- why a page has no answer
-pub page_fails : (old : Mirrored) (p p' q q' : PortState) (e : MirrorError) → (◌≡◌ {A = Result Bool MirrorError} (Err e) (Err Split) → old.split ≡ true) → ((e ≡ Split → ⊥) → IsCause p p' q q' e) → IsReadError e → PageFails old p p' q q' e
+pub page_fails : (old : Mirrored) (p p' q q' : PortState) (e : MirrorError) → (◌≡◌ {A = Result Bool MirrorError} (Err e) (Err Split) → old.split ≡ true)
+    → ((e ≡ Split → ⊥) → IsCause p p' q q' e) → IsReadError e → PageFails old p p' q q' e
 page_fails old p p' q q' (Refused First status) split causes unread = let h = causes (λ e. cc) in (inl (h.unread unread), unread)
 page_fails old p p' q q' (Refused Second status) split causes unread = let h = causes (λ e. cc) in (inr (h.unread unread), unread)
 page_fails old p p' q q' (Port First) split causes unread = inl (causes (λ e. cc))
@@ -192,7 +191,8 @@ module _ {P Q : Type 0} (stateP : P → PortState) (tookP : P → List Command �
     pub stays : (mirror.split ≡ false) ⊎ PairFault (stateP first) (stateP first') (stateQ second) (stateQ second')
     pub text : (k : Key) → last ≡ Some k → IsText k
 
-  pub paging_begins : (first : P) (second : Q) (mirror : Mirrored) (text : List ℕ) → text ≡ [] → tookP first [] first → tookQ second [] second → IsInStep mirror (stateP first) (stateQ second) → IsPaging first first second second mirror text None
+  pub paging_begins : (first : P) (second : Q) (mirror : Mirrored) (text : List ℕ) → text ≡ [] → tookP first [] first
+      → tookQ second [] second → IsInStep mirror (stateP first) (stateQ second) → IsPaging first first second second mirror text None
   paging_begins first second mirror text empty p q pair = record {
     took_first = asking_none tookP first p;
     took_second = asking_none tookQ second q;
@@ -204,17 +204,21 @@ module _ {P Q : Type 0} (stateP : P → PortState) (tookP : P → List Command �
     text = λ k e. absurd (let clash : ◌≡◌ {A = Option Key} None (Some k) = e in cc);
   }
 
-  module _ (bothP : (p : P) (cs : List Command) (q : P) (ds : List Command) (r : P) → tookP p cs q → tookP q ds r → tookP p (cs ++ ds) r) (bothQ : (p : Q) (cs : List Command) (q : Q) (ds : List Command) (r : Q) → tookQ p cs q → tookQ q ds r → tookQ p (cs ++ ds) r)
+  module _ (bothP : (p : P) (cs : List Command) (q : P) (ds : List Command) (r : P) → tookP p cs q → tookP q ds r → tookP p (cs ++ ds) r)
+      (bothQ : (p : Q) (cs : List Command) (q : Q) (ds : List Command) (r : Q) → tookQ p cs q → tookQ q ds r → tookQ p (cs ++ ds) r)
       (knownP : (p : P) (cs : List Command) (q : P) → tookP p cs q → Took (stateP p) (stateP q) cs) (knownQ : (p : Q) (cs : List Command) (q : Q) → tookQ p cs q → Took (stateQ p) (stateQ q) cs)
       (first mid first' : P) (second halfway second' : Q) (mirror after : Mirrored) (text new : List ℕ) (last : Option Key) (h : IsPaging first mid second halfway mirror text last)
       (p : TookSome tookP AreAsking mid first') (q : TookSome tookQ AreAsking halfway second') (keeps : KeepsMaps (stateP mid) (stateP first') (stateQ halfway) (stateQ second')) where
-    still_stays : (mirror.split ≡ false → StaysUnlessPort after (stateP mid) (stateP first') (stateQ halfway) (stateQ second')) → (after.split ≡ false) ⊎ PairFault (stateP first) (stateP first') (stateQ second) (stateQ second')
+    still_stays : (mirror.split ≡ false → StaysUnlessPort after (stateP mid) (stateP first') (stateQ halfway) (stateQ second'))
+        → (after.split ≡ false) ⊎ PairFault (stateP first) (stateP first') (stateQ second) (stateQ second')
     still_stays stays = elim h.stays [
       | inl off ↦ elim (stays off) [
         | inl now ↦ inl now
-        | inr fault ↦ inr (fault_later (stateP first) (stateP mid) (stateP first') (stateQ second) (stateQ halfway) (stateQ second') _ _ (knownP first h.took_first.0 mid h.took_first.2) (knownQ second h.took_second.0 halfway h.took_second.2) fault)
+        | inr fault ↦ inr (fault_later (stateP first) (stateP mid) (stateP first') (stateQ second) (stateQ halfway)
+            (stateQ second') _ _ (knownP first h.took_first.0 mid h.took_first.2) (knownQ second h.took_second.0 halfway h.took_second.2) fault)
       ]
-      | inr fault ↦ inr (fault_before (stateP first) (stateP mid) (stateP first') (stateQ second) (stateQ halfway) (stateQ second') _ _ (knownP mid p.0 first' p.2) (knownQ halfway q.0 second' q.2) fault)
+      | inr fault ↦ inr (fault_before (stateP first) (stateP mid) (stateP first') (stateQ second)
+          (stateQ halfway) (stateQ second') _ _ (knownP mid p.0 first' p.2) (knownQ halfway q.0 second' q.2) fault)
     ]
 
     pub paging_goes : (next : Key) → (mirror.split ≡ false → StaysUnlessPort after (stateP mid) (stateP first') (stateQ halfway) (stateQ second')) → IsToldPair after (stateP first') (stateQ second')
@@ -230,16 +234,23 @@ module _ {P Q : Type 0} (stateP : P → PortState) (tookP : P → List Command �
       text = λ k e. subst IsText (let is : next ≡ k = cc in is) goes.1;
     }
 
-    pub paging_ends : (m : Map) → (stateP first).map ≡ Some m → (stateQ second).map ≡ Some m → ListGoesOn (stateP mid) last None text new → PairDone list (stateP first) (stateP first') (stateQ second') m new
+    pub paging_ends : (m : Map) → (stateP first).map ≡ Some m → (stateQ second).map ≡ Some m
+        → ListGoesOn (stateP mid) last None text new → PairDone list (stateP first) (stateP first') (stateQ second') m new
     paging_ends m told too goes = record {
       spelled = goes m (h.same_first ∙ told);
       first_left = keeps.first_keeps ∙ h.same_first ∙ told;
       second_left = keeps.second_keeps ∙ h.same_second ∙ too;
     }
 
-    pub paging_fails : (m : Map) (e : MirrorError) → PageFails mirror (stateP mid) (stateP first') (stateQ halfway) (stateQ second') e → PairFails list (stateP first) (stateP first') (stateQ second) (stateQ second') m e
-    paging_fails m (Refused side status) (unread, is) = inr (unread_later (stateP first) (stateP mid) (stateP first') (stateQ second) (stateQ halfway) (stateQ second') _ _ (knownP first h.took_first.0 mid h.took_first.2) (knownQ second h.took_second.0 halfway h.took_second.2) unread, is)
-    paging_fails m (Port side) fault = fault_later (stateP first) (stateP mid) (stateP first') (stateQ second) (stateQ halfway) (stateQ second') _ _ (knownP first h.took_first.0 mid h.took_first.2) (knownQ second h.took_second.0 halfway h.took_second.2) fault
+    pub paging_fails : (m : Map) (e : MirrorError) → PageFails mirror (stateP mid) (stateP first') (stateQ halfway) (stateQ second') e
+        → PairFails list (stateP first) (stateP first') (stateQ second) (stateQ second') m e
+    paging_fails m (Refused side status) (unread, is) = inr (
+      unread_later (stateP first) (stateP mid) (stateP first') (stateQ second) (stateQ halfway) (stateQ second') _ _
+          (knownP first h.took_first.0 mid h.took_first.2) (knownQ second h.took_second.0 halfway h.took_second.2) unread,
+      is,
+    )
+    paging_fails m (Port side) fault = fault_later (stateP first) (stateP mid) (stateP first') (stateQ second) (stateQ halfway)
+        (stateQ second') _ _ (knownP first h.took_first.0 mid h.took_first.2) (knownQ second h.took_second.0 halfway h.took_second.2) fault
     paging_fails m Split split = elim h.stays [
       | inl off ↦ absurd (let clash : true ≡ false = sym split ∙ off in cc)
       | inr fault ↦ fault_before (stateP first) (stateP mid) (stateP first') (stateQ second) (stateQ halfway) (stateQ second') _ _ (knownP mid p.0 first' p.2) (knownQ halfway q.0 second' q.2) fault

@@ -14,7 +14,7 @@ use Rattle.pk_model.specs.Answer.{refused, reply, reply_of, map_after, Answer}
 use Rattle.pk_host.specs.declared.types.HostError.{HostError}
 use Rattle.pk_host.specs.declared.types.HostError.TheVariants.{Refused as HostRefused, Port as HostPort, Memory}
 use Rattle.pk_host.specs.Port.{PortState}
-use Rattle.pk_host.specs.Calls.{Fetches, IsFront, stored, existed}
+use Rattle.pk_host.specs.Outcomes.{Fetches, IsFront, stored, existed}
 use Rattle.pk_words.specs.Lines.{status_line, value_line}
 use Rattle.pk_mirror.specs.declared.error.Side.{Side}
 use Rattle.pk_mirror.specs.declared.error.Side.TheVariants.{First, Second}
@@ -31,15 +31,13 @@ use Rattle.pk_mirror.proofs.MapLemmas.{value_fits}
 use Rattle.pk_mirrorwords.specs.PairTasks.{PairTask, status_by, answered_line, text_of, map_left}
 use Rattle.pk_mirrorwords.specs.PairAnswers.{PairDone, PairFails}
 
-some_same : {X : Type 0} (x y : X) → ◌≡◌ {A = Option X} (Some x) (Some y) → x ≡ y
-some_same x y e = cc
-
 refused_same : (s t : Side) (n k : ℕ) → Refused s n ≡ Refused t k → n ≡ k
 refused_same s t n k e = cc
 
 -- ---- the status of a reply
 
-module _ (shape : Shape) (most : ℕ) (m : Map) (c : Command) (k : Opcode) (is : op_of c.opcode ≡ Some k) (zero : (frames : ℕ) (own : List ℕ) → (reply_of shape most frames m own c (Some k)).status ≡ 0) where
+module _ (shape : Shape) (most : ℕ) (m : Map) (c : Command) (k : Opcode) (is : op_of c.opcode ≡ Some k)
+    (zero : (frames : ℕ) (own : List ℕ) → (reply_of shape most frames m own c (Some k)).status ≡ 0) where
   answer_status : (frames : ℕ) (a : Reply) (left : Map) → Answer shape most frames m c a left → a.status ≡ status_by (refused shape most m c)
   unfolding reply
   answer_status frames a left x = elim (refused shape most m c) as (λ r. refused shape most m c ≡ r → a.status ≡ status_by r) [
@@ -61,19 +59,23 @@ there_line there = status_line (if there then SUCCESSFUL_COMPLETION else KEY_DOE
 
 existed_line : (a : Reply) (there : Bool) → ◌≡◌ {A = Result Bool HostError} (existed a) (Ok there) → a.status ≡ (if there then 0 else KEY_DOES_NOT_EXIST)
 existed_line a there e =
-    elim (a.status == 0) as (λ b. (a.status == 0) ≡ b → ◌≡◌ {A = Result Bool HostError} (if b then Ok true else if a.status == KEY_DOES_NOT_EXIST then Ok false else Err (HostRefused a.status)) (Ok there) → a.status ≡ (if there then 0 else KEY_DOES_NOT_EXIST)) [
+    elim (a.status == 0) as (λ b. (a.status == 0) ≡ b
+    → ◌≡◌ {A = Result Bool HostError} (if b then Ok true else if a.status == KEY_DOES_NOT_EXIST then Ok false else Err (HostRefused a.status)) (Ok there)
+    → a.status ≡ (if there then 0 else KEY_DOES_NOT_EXIST)) [
       | true ↦ λ t h. eqb-true a.status 0 t ∙ ap (λ (b : Bool). if b then 0 else KEY_DOES_NOT_EXIST) (let same : true ≡ there = cc in same)
       | false ↦ λ t h. missing h
     ] refl e
   where
     missing : ◌≡◌ {A = Result Bool HostError} (if a.status == KEY_DOES_NOT_EXIST then Ok false else Err (HostRefused a.status)) (Ok there) → a.status ≡ (if there then 0 else KEY_DOES_NOT_EXIST)
-    missing h = elim (a.status == KEY_DOES_NOT_EXIST) as (λ b. (a.status == KEY_DOES_NOT_EXIST) ≡ b → ◌≡◌ {A = Result Bool HostError} (if b then Ok false else Err (HostRefused a.status)) (Ok there) → a.status ≡ (if there then 0 else KEY_DOES_NOT_EXIST)) [
-      | true ↦ λ t h. eqb-true a.status KEY_DOES_NOT_EXIST t ∙ ap (λ (b : Bool). if b then 0 else KEY_DOES_NOT_EXIST) (let same : false ≡ there = cc in same)
-      | false ↦ λ t h. absurd (let clash : ◌≡◌ {A = Result Bool HostError} (Err (HostRefused a.status)) (Ok there) = h in cc)
-    ] refl h
+    missing h = elim (a.status == KEY_DOES_NOT_EXIST) as (λ b. (a.status == KEY_DOES_NOT_EXIST) ≡ b
+        → ◌≡◌ {A = Result Bool HostError} (if b then Ok false else Err (HostRefused a.status)) (Ok there) → a.status ≡ (if there then 0 else KEY_DOES_NOT_EXIST)) [
+          | true ↦ λ t h. eqb-true a.status KEY_DOES_NOT_EXIST t ∙ ap (λ (b : Bool). if b then 0 else KEY_DOES_NOT_EXIST) (let same : false ≡ there = cc in same)
+          | false ↦ λ t h. absurd (let clash : ◌≡◌ {A = Result Bool HostError} (Err (HostRefused a.status)) (Ok there) = h in cc)
+        ] refl h
 
 module _ {X : Type 0} (old new : Mirrored) (p p' q q' : PortState) (c : Command) (k : Opcode) (of : Reply → Result X HostError) (tells : Tells of) (is : op_of c.opcode ≡ Some k)
-    (plain : (shape : Shape) (most frames : ℕ) (m : Map) (own : List ℕ) → (reply_of shape most frames m own c (Some k)).status ≡ 0) (step : old.split ≡ false) (pair : IsPair old p q) (m : Map) (told : p.map ≡ Some m)
+    (plain : (shape : Shape) (most frames : ℕ) (m : Map) (own : List ℕ) → (reply_of shape most frames m own c (Some k)).status ≡ 0)
+    (step : old.split ≡ false) (pair : IsPair old p q) (m : Map) (told : p.map ≡ Some m)
     (task : PairTask) (text_is : text_of p.shape p.limit task m ≡ answered_line p.shape p.limit m c) (left_is : map_left p.shape p.limit task m ≡ map_after p.shape p.limit m c) where
   -- the first's answer, if both did it
   done_reply : (x : X) → Writes old new p p' q q' c of (Ok x) → (a : Reply) × (of a ≡ Ok x) × (a.status ≡ status_by (refused p.shape p.limit m c))
@@ -95,7 +97,8 @@ module _ {X : Type 0} (old new : Mirrored) (p p' q q' : PortState) (c : Command)
         ]
   ]
 
-  pub write_done : (x : X) (line : List ℕ) → ((a : Reply) → of a ≡ Ok x → line ≡ status_line a.status) → Writes old new p p' q q' c of (Ok x) → Mirrors p p' q' c (Ok x) m → PairDone task p p' q' m line
+  pub write_done : (x : X) (line : List ℕ) → ((a : Reply) → of a ≡ Ok x → line ≡ status_line a.status)
+      → Writes old new p p' q q' c of (Ok x) → Mirrors p p' q' c (Ok x) m → PairDone task p p' q' m line
   write_done x line by w mirrors =
       let (a, ok, status) = done_reply x w in record {
         spelled = by a ok ∙ ap status_line status ∙ sym text_is;
@@ -136,7 +139,8 @@ module _ {X : Type 0} (old new : Mirrored) (p p' q q' : PortState) (c : Command)
       first_second HostPort e on same = let clash : Refused First status ≡ Port Second = same ∙ on in cc
       first_second Memory e on same = on
 
-  pub write_fails : (e : MirrorError) → Writes old new p p' q q' c of (Err e) → (◌≡◌ {A = Result X MirrorError} (Err e) (Err Split) → old.split ≡ true) → (e ≢ Split → IsCause p p' q q' e) → FirstKept old new p p' q q' e → SecondReadFailed e
+  pub write_fails : (e : MirrorError) → Writes old new p p' q q' c of (Err e) → (◌≡◌ {A = Result X MirrorError} (Err e) (Err Split) → old.split ≡ true)
+      → (e ≢ Split → IsCause p p' q q' e) → FirstKept old new p p' q q' e → SecondReadFailed e
       → PairFails task p p' q q' m e
   write_fails (Refused First status) w split causes kept second = first_refuses status w kept.1 kept.2
   write_fails (Refused Second status) w split causes kept second = let h = causes (λ e. cc) in inr (inr (h.unread second), second)
@@ -167,7 +171,8 @@ asked_fails task p p' q q' m (Port Second) off causes unread = inr (causes (λ e
 asked_fails task p p' q q' m Split off causes unread = absurd (off refl)
 
 -- a drive that answered has a map of its shape, within its limit
-pub asks_within : {X : Type 0} (old new : Mirrored) (p p' q q' : PortState) (c : Command) (of : Reply → Result X HostError) (x : X) → Asks old new p p' q q' c of (Ok x) → IsPair old p q → (m : Map) → p.map ≡ Some m
+pub asks_within : {X : Type 0} (old new : Mirrored) (p p' q q' : PortState) (c : Command) (of : Reply → Result X HostError) (x : X)
+    → Asks old new p p' q q' c of (Ok x) → IsPair old p q → (m : Map) → p.map ≡ Some m
     → IsMap p.shape m × (live p.shape m ≤ p.limit)
 asks_within {X} old new p p' q q' c of x w pair m told = elim w [
   | inl s ↦ absurd (let clash : ◌≡◌ {A = Result X MirrorError} (Ok x) (Err Split) = s.answer in cc)
@@ -189,7 +194,8 @@ pub both_kept : (old : Mirrored) (p p' q q' : PortState) → IsPair old p q → 
 both_kept old p p' q q' pair step keeps m told = (keeps.first_keeps ∙ told, keeps.second_keeps ∙ pair.in_step step ∙ told)
 
 -- the value of a key, from its first bytes in a buffer of the greatest value
-pub value_found : (p : PortState) (key : Key) (o : Option ℕ) (len : ℕ) (into text : List ℕ) (m : Map) → o ≡ Some len → Fetches p key o into → length into ≡ greatest p.shape → IsMap p.shape m → p.map ≡ Some m → text ≡ value_line (Some (take len into))
+pub value_found : (p : PortState) (key : Key) (o : Option ℕ) (len : ℕ) (into text : List ℕ) (m : Map) → o ≡ Some len
+    → Fetches p key o into → length into ≡ greatest p.shape → IsMap p.shape m → p.map ≡ Some m → text ≡ value_line (Some (take len into))
     → text ≡ value_line (get m key)
 value_found p key o len into text m is fetches wide sized told spelled =
     let (v, ev, whole) = found_some (get m key) len into (subst (λ (x : Option ℕ). IsFront (get m key) x into) is (fetches m told)) in
@@ -197,6 +203,7 @@ value_found p key o len into text m is fetches wide sized told spelled =
     let fits : length v ≤ length into = subst (λ (n : ℕ). length v ≤ n) (sym wide) small in
     spelled ∙ ap value_line (ap (λ (x : List ℕ). Some x) (whole fits) ∙ sym ev)
 
-pub value_missing : (p : PortState) (key : Key) (o : Option ℕ) (into text : List ℕ) (m : Map) → o ≡ None → Fetches p key o into → p.map ≡ Some m → text ≡ value_line None → text ≡ value_line (get m key)
+pub value_missing : (p : PortState) (key : Key) (o : Option ℕ) (into text : List ℕ) (m : Map) → o ≡ None
+    → Fetches p key o into → p.map ≡ Some m → text ≡ value_line None → text ≡ value_line (get m key)
 value_missing p key o into text m is fetches told spelled =
     let none = found_none (get m key) into (subst (λ (x : Option ℕ). IsFront (get m key) x into) is (fetches m told)) in spelled ∙ ap value_line (sym none)

@@ -9,7 +9,7 @@ use Rattle.pk_nvme.specs.declared.opcode.TheConstants.{STORE, DELETE}
 use Rattle.pk_nvme.specs.declared.status.TheConstants.{UNRECOVERED_ERROR}
 use Rattle.pk_nand.specs.Calls.{Rose}
 use Rattle.pk_host.specs.Port.{PortState}
-use Rattle.pk_host.specs.Calls.{AtMostOne}
+use Rattle.pk_host.specs.Outcomes.{AtMostOne}
 use Rattle.pk_words.specs.Lines.{failed_line, status_line}
 use Rattle.pk_mirror.specs.Pair.{Mirrored, IsPair}
 use Rattle.pk_mirror.specs.Causes.{AreAsking}

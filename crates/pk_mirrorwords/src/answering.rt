@@ -3,7 +3,8 @@ ghost use Rattle.std.specs.Prelude.{◌≡◌, ◌⊎◌, ◌+◌, ◌*◌, ◌<
 ghost use Rattle.pk_base.specs.Map.{Map};
 ghost use Rattle.pk_base.specs.Shape.{greatest};
 ghost use Rattle.pk_nvme.specs.Bytes.{RoomyList};
-ghost use Rattle.pk_host.specs.Calls.{AtMostOne, TookSome, store_of, delete_of, retrieve_of};
+ghost use Rattle.pk_host.specs.Calls.{store_of, delete_of, retrieve_of};
+ghost use Rattle.pk_host.specs.Outcomes.{AtMostOne, TookSome};
 ghost use Rattle.pk_host.specs.declared.types.StoreRule.TheVariants.{Any};
 ghost use Rattle.pk_words.specs.Lines.{key_lines};
 ghost use Rattle.pk_words.specs.declared.sizes.TheConstants.{LINE_BYTES};

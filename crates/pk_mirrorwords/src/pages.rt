@@ -5,7 +5,7 @@ ghost use Rattle.std.specs.Option.{option_copied};
 ghost use Rattle.pk_base.specs.Map.{Map};
 ghost use Rattle.pk_base.specs.Shape.{limit};
 ghost use Rattle.pk_nvme.specs.Bytes.{RoomyList};
-ghost use Rattle.pk_host.specs.Calls.{TookSome};
+ghost use Rattle.pk_host.specs.Outcomes.{TookSome};
 ghost use Rattle.pk_words.specs.Lines.{key_lines};
 ghost use Rattle.pk_words.specs.declared.sizes.TheConstants.{LINE_BYTES};
 ghost use Rattle.pk_mirror.specs.Asks.{KeepsMaps, StaysUnlessPort};

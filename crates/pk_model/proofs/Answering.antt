@@ -11,6 +11,7 @@ use Rattle.pk_nvme.specs.Opcode.{op_of}
 use Rattle.pk_nvme.specs.declared.opcode.Opcode.{Opcode}
 use Rattle.pk_nvme.specs.declared.opcode.Opcode.TheVariants.{Store, List as ListKeys}
 use Rattle.pk_model.specs.Answer.{check, is_namespace, is_key_length, size_fault, fault_of, early, late_of, refused, reply, reply_of, map_after, effect}
+use Rattle.pk_base.proofs.Logic.{both_true}
 
 module _ (shape : Shape) (most frames : ℕ) (m : Map) (own : List ℕ) (c : Command) where
   -- it is refused
@@ -50,11 +51,6 @@ check_none : (b : Bool) (s : ℕ) → check b s ≡ None → IsTrue b
 check_none true s h = refl
 check_none false s h = cc
 
-both_true : (a b : Bool) → a && b ≡ true → (a ≡ true) × (b ≡ true)
-both_true true true h = (refl, refl)
-both_true true false h = cc
-both_true false b h = cc
-
 -- the size of a command that passed has the bounds of its kind
 passed_size : (shape : Shape) (c : Command) (k : Opcode) → op_of c.opcode ≡ Some k → early shape c ≡ None → size_fault shape k c.size ≡ None
 passed_size shape c k is e =
@@ -90,7 +86,8 @@ pub record IsSpace (n : ℕ) : Type 0 where
 pub key_spaced : (shape : Shape) (c : Command) (k : Opcode) → ((n : ℕ) → is_namespace k n ≡ (n == 1)) → op_of c.opcode ≡ Some k → early shape c ≡ None → IsSpace c.namespace
 key_spaced shape c k only is e =
     let faults : fault_of shape c (Some k) ≡ None = ap (fault_of shape c) (sym is) ∙ e in
-    let passed = check_none (is_namespace k c.namespace) 0x0B (first_none (check (is_namespace k c.namespace) 0x0B) (or_else (check (is_key_length k c.key_len) 0x86) (size_fault shape k c.size)) faults).0 in
+    let passed = check_none (is_namespace k c.namespace) 0x0B
+    (first_none (check (is_namespace k c.namespace) 0x0B) (or_else (check (is_key_length k c.key_len) 0x86) (size_fault shape k c.size)) faults).0 in
     let one : c.namespace ≡ 1 = eqb→eq c.namespace 1 (subst T (sym (sym (only c.namespace) ∙ passed)) tt) in
     record { some = omega (arith, one); most = omega (arith, one) }
 

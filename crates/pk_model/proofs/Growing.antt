@@ -4,13 +4,15 @@ use Rattle.pk_base.specs.Shape.{Shape}
 use Rattle.pk_base.specs.Page.{Flash}
 use Rattle.pk_base.specs.Mark.{Mark, after, after_all, all_posted, post}
 use Rattle.pk_nand.specs.BoardState.{BoardState, shape_of, shape_or_none}
-use Rattle.pk_nand.specs.Calls.{longer, after_post, PostFailed}
+use Rattle.pk_nand.specs.Calls.{longer}
+use Rattle.pk_nand.specs.Operations.{after_post, PostFailed}
 use Rattle.pk_nand.specs.Crash.{ReachedBy, WentBy}
 use Rattle.pk_nand.proofs.Reaching.{Reached-then, Went-then, Went-reached, Reached-start, Reached-post, longer-nil}
 use Rattle.pk_nand.proofs.CutLemmas.{cut_end}
 use Rattle.pk_model.specs.Growth.{GrowsAlong, Reaches, Goes}
 
-pub GrowsAlong-append : (shape : Shape) (start : Flash) (first second : List Mark) → GrowsAlong shape start first → GrowsAlong shape (after_all shape first start) second → GrowsAlong shape start (first ++ second)
+pub GrowsAlong-append : (shape : Shape) (start : Flash) (first second : List Mark) → GrowsAlong shape start first
+    → GrowsAlong shape (after_all shape first start) second → GrowsAlong shape start (first ++ second)
 GrowsAlong-append shape start [] second before behind = behind
 GrowsAlong-append shape start (mark ∷ first) second before behind = (before.0, GrowsAlong-append shape (after shape mark start) first second before.1 behind)
 
@@ -32,7 +34,8 @@ at_end marks a b P run = let T : Flash → Type 0 = λ f. P f (all_posted marks)
 
 -- ---- two parts of a run
 
-module _ (shape : Shape) (first : List Mark) (a b : BoardState) (P : Flash → List ℕ → Type 0) (has : a.shape ≡ Some shape) (begun : ReachedBy first a b P) (grown : GrowsAlong shape a.pages first) where
+module _ (shape : Shape) (first : List Mark) (a b : BoardState) (P : Flash → List ℕ → Type 0)
+    (has : a.shape ≡ Some shape) (begun : ReachedBy first a b P) (grown : GrowsAlong shape a.pages first) where
   -- the tree grows along both
   pub grows_behind : (second : List Mark) → GrowsAlong shape b.pages second → GrowsAlong shape a.pages (first ++ second)
   grows_behind second more =
@@ -82,7 +85,8 @@ Goes-post_failed shape old bytes P fronts new failed =
       )
       | inr nothing ↦ (
         [],
-        Went-reached [] old new P (Reached-start old new P same_shape pages nothing.1 (failed.left.posted_is ∙ (ap (λ t. longer old.posted t) nothing.0 ∙ longer-nil old.posted)) (fronts [] bytes refl)),
+        Went-reached [] old new P (Reached-start old new P same_shape pages nothing.1
+            (failed.left.posted_is ∙ (ap (λ t. longer old.posted t) nothing.0 ∙ longer-nil old.posted)) (fronts [] bytes refl)),
         tt,
       )
     ]

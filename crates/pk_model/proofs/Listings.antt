@@ -35,12 +35,14 @@ pub lists : (from : Key) (bytes : List ℕ) (count left : ℕ) (ks : List Key) �
 lists from bytes count left [] = (sym (append-nil bytes), omega arith)
 lists from bytes count left (k ∷ ks) =
     let size : ℕ = length (listed k) in
-    elim (is_lt (key_cmp k from)) as (λ b. Lists bytes count (fitting left (if not b then k ∷ wanted from ks else wanted from ks)) (offered_all from (if b then room_left bytes count left else offered (room_left bytes count left) k) ks)) [
+    elim (is_lt (key_cmp k from)) as (λ b. Lists bytes count (fitting left (if not b then k ∷ wanted from ks else wanted from ks))
+    (offered_all from (if b then room_left bytes count left else offered (room_left bytes count left) k) ks)) [
       | true ↦ lists from bytes count left ks
-      | false ↦ elim (nat_le size left) as (λ b. Lists bytes count (if b then k ∷ fitting (left - size) (wanted from ks) else []) (offered_all from (if b then room_left (bytes ++ listed k) (count + 1) (left - size) else no_room bytes count left) ks)) [
-        | true ↦ (let more = lists from (bytes ++ listed k) (count + 1) (left - size) ks in (more.0 ∙ append_assoc bytes (listed k) _, more.1 ∙ omega arith))
-        | false ↦ (let stays = offered_all-full from bytes count left ks in (ap (λ l. l.bytes) stays ∙ sym (append-nil bytes), ap (λ l. l.count) stays ∙ omega arith))
-      ]
+      | false ↦ elim (nat_le size left) as (λ b. Lists bytes count (if b then k ∷ fitting (left - size) (wanted from ks) else [])
+          (offered_all from (if b then room_left (bytes ++ listed k) (count + 1) (left - size) else no_room bytes count left) ks)) [
+            | true ↦ (let more = lists from (bytes ++ listed k) (count + 1) (left - size) ks in (more.0 ∙ append_assoc bytes (listed k) _, more.1 ∙ omega arith))
+            | false ↦ (let stays = offered_all-full from bytes count left ks in (ap (λ l. l.bytes) stays ∙ sym (append-nil bytes), ap (λ l. l.count) stays ∙ omega arith))
+          ]
     ]
 
 -- how many keys were listed, and they

@@ -1,5 +1,6 @@
 -- What the machine in memory answers, and the live pages of its map.
-use Rattle.std.proofs.Common.{◌≡◌, ℕ, zero, suc, ◌+◌, ◌-◌, ◌*◌, ◌/◌, ◌%◌, ◌==◌, ◌≤◌, ◌&&◌, ◌||◌, not, nat_le, min, refl, sym, ap, subst, cond, ◌∙◌, arith, List, [], ◌∷◌, ◌++◌, length, take, replicate, flat_map, Bool, true, false, Option, Some, None, Result, Ok, Err, IfOk, is_some, unwrap_or, if◌then◌else◌, div-add-mod'}
+use Rattle.std.proofs.Common.{◌≡◌, ℕ, zero, suc, ◌+◌, ◌-◌, ◌*◌, ◌/◌, ◌%◌, ◌==◌, ◌≤◌, ◌&&◌, ◌||◌, not, nat_le, min, refl, sym, ap, subst, cond, ◌∙◌, arith, List, [], ◌∷◌, ◌++◌, length, take, replicate}
+use Rattle.std.proofs.Common.{flat_map, Bool, true, false, Option, Some, None, Result, Ok, Err, IfOk, is_some, unwrap_or, if◌then◌else◌, div-add-mod'}
 use Rattle.std.proofs.lemmas.List.{nil_from_length, take_min}
 use Rattle.std.proofs.lemmas.Bool.{leb-true}
 use Rattle.std.specs.Int.{div_ceil}
@@ -41,7 +42,8 @@ module _ (old : Machine) (r : Request) (k : Opcode) where
       record { reply_is = answer ∙ sym refuses.replied; map_is = ap (λ (m : Map). record old { map = m }) (sym refuses.leaves) }
 
   pub served_answer : (new : Machine) → op_of r.opcode ≡ Some k → Passes → (a : Answer) (v : List ℕ) → late_of old.shape (limit old.shape) old.map (command_of r v) (Some k) ≡ None
-      → replied a ≡ reply_of old.shape (limit old.shape) 0 old.map no_numbers (command_of r v) (Some k) → new ≡ record old { map = effect old.map (command_of r v) (Some k) } → Answers old new (command_of r v) a
+      → replied a ≡ reply_of old.shape (limit old.shape) 0 old.map no_numbers (command_of r v) (Some k)
+      → new ≡ record old { map = effect old.map (command_of r v) (Some k) } → Answers old new (command_of r v) a
   served_answer new is passes a v late answer left =
       let serves_it = serves old.shape (limit old.shape) 0 old.map no_numbers (command_of r v) k is (passes v) late in
       record { reply_is = answer ∙ sym serves_it.replied; map_is = left ∙ ap (λ (m : Map). record old { map = m }) (sym serves_it.leaves) }

@@ -6,7 +6,8 @@ use Rattle.pk_base.specs.Map.{Map}
 use Rattle.pk_base.specs.Mark.{Mark, program, erase, after, posted_by, all_posted}
 use Rattle.pk_nand.specs.BoardState.{BoardState, shape_of, shape_or_none}
 use Rattle.pk_nand.specs.Cut.{Cut, Interrupted}
-use Rattle.pk_nand.specs.Calls.{longer, LeftBy, after_program, after_erase, ProgramFailed, EraseFailed}
+use Rattle.pk_nand.specs.Calls.{longer, LeftBy, after_program, ProgramFailed}
+use Rattle.pk_nand.specs.Operations.{after_erase, EraseFailed}
 use Rattle.pk_nand.proofs.Leaving.{interrupted_done}
 use Rattle.pk_nand.proofs.CutLemmas.{interrupted_none}
 use Rattle.pk_nand.proofs.Reaching.{Reached-start, Reached-erase, Reached-program, Went-reached, silent_cuts, longer-nil}
@@ -56,7 +57,8 @@ module _ (shape : Shape) (old : BoardState) (P : Flash → List ℕ → Type 0) 
     pub Goes-erase : (new : BoardState) → EraseFailed old new block → Goes shape old new P
     Goes-erase new failed = Goes-failed (erase block) refl within grows new failed.left (ap (λ s. s.shape) failed.rest) (ap (λ s. s.posted) failed.rest) refl
 
-  module _ (page : ℕ) (bytes : List ℕ) (within : (f : Flash) → Interrupted shape (program page bytes) old.pages f [] → P f []) (grows : Grows shape old.pages (after shape (program page bytes) old.pages)) where
+  module _ (page : ℕ) (bytes : List ℕ) (within : (f : Flash) → Interrupted shape (program page bytes) old.pages f [] → P f [])
+      (grows : Grows shape old.pages (after shape (program page bytes) old.pages)) where
     pub Reaches-program : (new : BoardState) → new ≡ after_program old page bytes → Reaches shape old new P
     Reaches-program new made =
         let Q : BoardState → Type 0 = λ b. Reaches shape old b P in

@@ -1,7 +1,6 @@
 //! The data of a List, written key by key.
-ghost use Rattle.std.specs.Prelude.{◌≡◌, ◌≤◌, ◌<◌, ◌^◌, ◌+◌, ◌-◌, ◌%◌, ◌++◌, ◌∷◌, length, [], false, IfOk};
+ghost use Rattle.std.specs.Prelude.{◌≡◌, ◌≤◌, ◌<◌, ◌^◌, ◌+◌, ◌-◌, ◌++◌, ◌∷◌, length, [], false, IfOk};
 ghost use Rattle.pk_base.specs.declared.sizes.TheConstants.{KEY_BYTES};
-ghost use Rattle.pk_base.specs.Fields.{u16 as u16_bytes};
 ghost use Rattle.pk_model.specs.Answer.{item_bytes};
 ghost use Rattle.pk_model.specs.Listing.{offered_bytes, offered_from};
 
@@ -94,9 +93,11 @@ impl Page {
 }
 
 /// The bytes of a listed key: its length, itself and zeros up to a multiple of four.
-fn listed_size(key: &[u8]) -> usize
+#[inline(always)]
+pub fn listed_size(key: &[u8]) -> usize
     requires { length key.now ≤ KEY_BYTES }
-    ensures { result ≡ length (item_bytes key.now) }
+    ensures size { result ≡ length (item_bytes key.now) }
+    ensures most { result ≤ 21 }
 {
     2 + key.len() + fill_behind(key.len())
 }

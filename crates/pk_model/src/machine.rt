@@ -256,7 +256,7 @@ impl MapMachine {
         }
     }
 
-    /// Whether the key of a request is there.
+    /// Whether the key of a request exists.
     fn exist(&self, alloc: Global, request: &Request) -> Result<Answer, AllocError>
         requires opcode { request.now.opcode ≡ EXIST }
         requires passed { (v : List ℕ) → early self.now.shape (command_of request.now v) ≡ None }

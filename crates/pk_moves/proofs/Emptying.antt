@@ -1,5 +1,6 @@
 -- Where values lie of which those of one block are moved to another.
-use Rattle.std.proofs.Common.{◌≡◌, ◌⊎◌, inl, inr, ℕ, suc, ◌+◌, ◌-◌, ◌*◌, ◌/◌, ◌<◌, ◌≤◌, refl, sym, ap, subst, ◌∙◌, arith, true, false, cond, T, List, [], ◌∷◌, length, nat_le, if◌then◌else◌, ◌==◌, Option, Some, None, leb→le, leb-false, length-append}
+use Rattle.std.proofs.Common.{◌≡◌, ◌⊎◌, inl, inr, ℕ, suc, ◌+◌, ◌-◌, ◌*◌, ◌/◌, ◌<◌, ◌≤◌, refl, sym, ap, subst, ◌∙◌, arith, true, false, cond, T, List, [], ◌∷◌, length, nat_le, if◌then◌else◌, ◌==◌}
+use Rattle.std.proofs.Common.{Option, Some, None, leb→le, leb-false, length-append}
 use Rattle.std.specs.List.{sum_by}
 use Rattle.std.proofs.lemmas.List.Sums.{sum_by-cons}
 use Rattle.std.proofs.lemmas.List.{length-map}
@@ -14,16 +15,17 @@ use Rattle.std.proofs.lemmas.List.FromFn.{length-range_with_len}
 use Rattle.pk_base.specs.Key.{Key, key_cmp}
 use Rattle.pk_base.specs.Shape.{Shape, IsShape, charge, dense, data_blocks, limit}
 use Rattle.pk_base.specs.Entry.{Place}
-use Rattle.pk_base.specs.EntryBytes.{IsPlace}
+use Rattle.pk_base.specs.EntryChecks.{IsPlace}
 use Rattle.pk_segfmt.specs.Value.{value_pages}
 use Rattle.pk_segfmt.proofs.StoredLemmas.{charge_some}
 use Rattle.pk_model.specs.Values.{all_pages}
 use Rattle.pk_model.specs.Laws.{AnyByRecursion, IsPageOf}
-use Rattle.pk_model.proofs.MapLemmas.{key_total, left_part, right_part, missing}
+use Rattle.pk_model.proofs.MapLemmas.{key_total, missing}
 use Rattle.pk_model.proofs.Lookups.{same_key}
 use Rattle.pk_steps.specs.Under.{IsValuePage}
 use Rattle.pk_moves.specs.Moves.{moved}
 use Rattle.pk_moves.specs.Victims.{exchanged, AreMoved, LieInOthers, NoneLeft, OneIsSparse, FitOnePage, LeavesRoom}
+use Rattle.pk_base.proofs.Logic.{left_part, right_part}
 
 -- ---- keys that are found
 
@@ -38,12 +40,14 @@ some_same : (a b : Place) → ◌≡◌ {A = Option Place} (Some a) (Some b) →
 some_same a b e = cc
 
 -- a key goes to the place of one of its moves, or stays where it was
-find_moved : (key : Key) (place : Place) (moves es : List (Key × Place)) → find key_cmp key (moved moves es) ≡ Some place → GoesTo key place moves ⊎ ((find key_cmp key es ≡ Some place) × (IsOf key moves → ⊥))
+find_moved : (key : Key) (place : Place) (moves es : List (Key × Place)) → find key_cmp key (moved moves es) ≡ Some place
+    → GoesTo key place moves ⊎ ((find key_cmp key es ≡ Some place) × (IsOf key moves → ⊥))
 find_moved key place [] es found = inr (found, λ none. none)
 find_moved key place (m ∷ moves) es found = elim (find_moved key place moves (put key_cmp m.0 m.1 es) found) [
   | inl goes ↦ inl (inr goes)
   | inr rest ↦
-      elim (eq_by_cmp key_cmp key m.0) as (λ b. eq_by_cmp key_cmp key m.0 ≡ b → cond b (Some m.1) (find key_cmp key es) ≡ Some place → GoesTo key place (m ∷ moves) ⊎ ((find key_cmp key es ≡ Some place) × (IsOf key (m ∷ moves) → ⊥))) [
+      elim (eq_by_cmp key_cmp key m.0) as (λ b. eq_by_cmp key_cmp key m.0 ≡ b → cond b (Some m.1) (find key_cmp key es) ≡ Some place
+      → GoesTo key place (m ∷ moves) ⊎ ((find key_cmp key es ≡ Some place) × (IsOf key (m ∷ moves) → ⊥))) [
         | true ↦ λ tied f. inl (inl (same_key key m.0 tied, some_same m.1 place f))
         | false ↦ λ other f. inr (f, λ is. elim is [ inl same ↦ differs key m.0 other same | inr among ↦ rest.1 among ])
       ] refl (sym (find-put key_cmp key_total key m.0 m.1 es) ∙ rest.0)
@@ -72,7 +76,8 @@ owner shape (e ∷ es) k rising (inr there) =
       key = rest.key;
       place = rest.place;
       found = elim (eq_by_cmp key_cmp rest.key e.0) as (λ b. eq_by_cmp key_cmp rest.key e.0 ≡ b → cond b (Some e.1) (find key_cmp rest.key es) ≡ Some rest.place) [
-        | true ↦ λ tied. let none = missing e.0 es (left_part (below_all key_cmp e.0 es) (is_sorted key_cmp es) rising) in absurd (nowhere e.0 rest.key es rest.place (same_key rest.key e.0 tied) none rest.found)
+        | true ↦ λ tied. let none = missing e.0 es (left_part (below_all key_cmp e.0 es) (is_sorted key_cmp es) rising) in absurd
+            (nowhere e.0 rest.key es rest.place (same_key rest.key e.0 tied) none rest.found)
         | false ↦ λ other. rest.found
       ] refl;
       is_page = rest.is_page;
@@ -89,7 +94,7 @@ found_in P key place (e ∷ es) all found =
       | false ↦ λ f. found_in P key place es all.1 f
     ] found
 
-found_page : (shape : Shape) (key : Key) (place : Place) (es : List (Key × Place)) (k : ℕ) → find key_cmp key es ≡ Some place → IsPageOf shape k place → IsValuePage shape es k
+pub found_page : (shape : Shape) (key : Key) (place : Place) (es : List (Key × Place)) (k : ℕ) → find key_cmp key es ≡ Some place → IsPageOf shape k place → IsValuePage shape es k
 found_page shape key place [] k found is = cc
 found_page shape key place (e ∷ es) k found is =
     elim (eq_by_cmp key_cmp key e.0) as (λ b. cond b (Some e.1) (find key_cmp key es) ≡ Some place → IsValuePage shape (e ∷ es) k) [
@@ -118,7 +123,8 @@ record WasThere (shape : Shape) (victim : ℕ) (es : List (Key × Place)) (k : �
   before : IsValuePage shape es k
   not_in_victim : k / shape.block_pages ≡ victim → ⊥
 
-lies : (shape : Shape) (victim output : ℕ) (es moves : List (Key × Place)) (k : ℕ) → AreMoved shape victim output es moves → IsValuePage shape (moved moves es) k → (k / shape.block_pages ≡ output) ⊎ WasThere shape victim es k
+lies : (shape : Shape) (victim output : ℕ) (es moves : List (Key × Place)) (k : ℕ) → AreMoved shape victim output es moves
+    → IsValuePage shape (moved moves es) k → (k / shape.block_pages ≡ output) ⊎ WasThere shape victim es k
 lies shape victim output es moves k are is =
     let own = owner shape (moved moves es) k (rising_moved moves es are.rising) is in
     elim (find_moved own.key own.place moves es own.found) [

@@ -1,5 +1,6 @@
--- The entries that name copies leave the map.
-use Rattle.std.proofs.Common.{◌≡◌, inl, inr, ℕ, zero, suc, ◌+◌, ◌-◌, ◌*◌, ◌/◌, ◌%◌, ◌<◌, ◌≤◌, mod-lt, div-add-mod', refl, sym, ap, subst, ◌∙◌, arith, Bool, true, not, T, List, [], ◌∷◌, ◌++◌, length, drop, nat_le, nat_eq, ◌==◌, Some, Ok, le→leb, le_trans, append_assoc, append-nil, add-zero}
+-- The entries that name copies do not change the map.
+use Rattle.std.proofs.Common.{◌≡◌, inl, inr, ℕ, zero, suc, ◌+◌, ◌-◌, ◌*◌, ◌/◌, ◌%◌, ◌<◌, ◌≤◌, mod-lt, div-add-mod', refl, sym, ap, subst, ◌∙◌, arith, Bool, true, not, T, List, [], ◌∷◌, ◌++◌, length}
+use Rattle.std.proofs.Common.{drop, nat_le, nat_eq, ◌==◌, Some, Ok, le→leb, le_trans, append_assoc, append-nil, add-zero}
 use Rattle.std.specs.List.{list_any, list_all, starts_with, AllByRecursion}
 use Rattle.std.specs.FinMap.Entries.{put, find, is_sorted}
 use Rattle.std.proofs.lemmas.Nat.{div-mul-add}
@@ -16,28 +17,31 @@ use Rattle.pk_rootfmt.specs.Root.{Root, named}
 use Rattle.pk_model.specs.Found.{Found, entries_in_order}
 use Rattle.pk_model.specs.Values.{placed, fits, values_of, all_pages}
 use Rattle.pk_model.specs.Reading.{map_under}
-use Rattle.pk_model.proofs.MapLemmas.{left_part, right_part}
 use Rattle.pk_model.proofs.StrangePages.{bind_ok}
-use Rattle.pk_model.proofs.Lookups.{firsts_sorted, Has, find-values, passed}
-use Rattle.pk_model.proofs.ValueSets.{values_sound, values_complete, Reads, fits_parts, parts_fit, is_true}
+use Rattle.pk_model.proofs.Lookups.{Has, find-values}
+use Rattle.pk_model.proofs.ValueSets.{values_sound, values_complete, Reads, fits_parts, parts_fit}
 use Rattle.pk_model.proofs.Stores.{placed-put, reads-put, entries_in_order-push}
 use Rattle.pk_model.proofs.Merges.{placed_sorted}
 use Rattle.pk_model.proofs.HeldMap.{nothing_fits}
-use Rattle.pk_steps.specs.Under.{IsNamed, counting, places}
+use Rattle.pk_steps.specs.Under.{counting, places}
 use Rattle.pk_steps.proofs.Untouched.{values_under, erases}
 use Rattle.pk_steps.proofs.Places.{In, in_value, value_in, not_of, any_in_back, all_of, few_blocks}
 use Rattle.pk_steps.proofs.Committing.{commits, commits_pair, commit_done}
 use Rattle.pk_moves.specs.Moves.{entries_of, moved, AreCopies, CanMove, MovesLeaveMap, PlacesMove, MovesCommit, MovesPair, MovesCommitted, Copies}
 use Rattle.pk_steps.proofs.Counting.{sorted_read}
 use Rattle.pk_moves.proofs.Moved.{put_same, page_moved, differ_moved, HaveLength, length_moved}
+use Rattle.pk_base.proofs.Logic.{is_true, left_part, right_part, passed}
+use Rattle.pk_base.proofs.KeyLemmas.{firsts_sorted}
 
 -- ---- a copy is read as the value
 
 module _ (shape : Shape) (at : ℕ → Page) where
-  copied_from : (old new : ℕ) (front : List ℕ) (left n : ℕ) (bytes : List ℕ) → ((i : ℕ) → i < n → at (new + i) ≡ at (old + i)) → value_from shape at old front left n ≡ Ok bytes → value_from shape at new front left n ≡ Ok bytes
+  copied_from : (old new : ℕ) (front : List ℕ) (left n : ℕ) (bytes : List ℕ) → ((i : ℕ) → i < n → at (new + i) ≡ at (old + i))
+      → value_from shape at old front left n ≡ Ok bytes → value_from shape at new front left n ≡ Ok bytes
   copied_from old new front left zero bytes same ok = ok
   copied_from old new front left (suc n) bytes same ok =
-      elim (at old) as (λ p. at old ≡ p → value_page old front left p (λ b. value_from shape at (old + 1) [] (left - shape.page_bytes) n) ≡ Ok bytes → value_page new front left (at new) (λ b. value_from shape at (new + 1) [] (left - shape.page_bytes) n) ≡ Ok bytes) [
+      elim (at old) as (λ p. at old ≡ p → value_page old front left p (λ b. value_from shape at (old + 1) [] (left - shape.page_bytes) n) ≡ Ok bytes
+      → value_page new front left (at new) (λ b. value_from shape at (new + 1) [] (left - shape.page_bytes) n) ≡ Ok bytes) [
         | erased ↦ λ e f. cc
         | torn ↦ λ e f. cc
         | whole b ↦ λ e f.
@@ -56,7 +60,8 @@ module _ (shape : Shape) (at : ℕ → Page) where
       next a i = omega arith
 
   -- the same value is read at the new place
-  pub copied : (key : Key) (old new : Place) (v : List ℕ) → new.len ≡ old.len → ((i : ℕ) → i < charge shape old.len → at (new.page + i) ≡ at (old.page + i)) → value_at shape at key old ≡ Ok v → value_at shape at key new ≡ Ok v
+  pub copied : (key : Key) (old new : Place) (v : List ℕ) → new.len ≡ old.len
+      → ((i : ℕ) → i < charge shape old.len → at (new.page + i) ≡ at (old.page + i)) → value_at shape at key old ≡ Ok v → value_at shape at key new ≡ Ok v
   unfolding value_at
   copied key old new v len same ok =
       let bytes = bind_ok (value_from shape at old.page (head_bytes key old.len) (32 + old.len) (charge shape old.len)) _ v ok in
@@ -67,18 +72,21 @@ module _ (shape : Shape) (at : ℕ → Page) where
   abbrev Stand : List (Key × Place) → List (Key × List ℕ) → Type 0
   Stand moves vs = AllByRecursion (λ m. (v : List ℕ) × (find key_cmp m.0 vs ≡ Some v) × (value_at shape at m.0 m.1 ≡ Ok v)) moves
 
-  reads_moved : (named_blocks : List ℕ) (moves es : List (Key × Place)) (vs : List (Key × List ℕ)) → T (is_sorted key_cmp vs) → Stand moves vs → Reads shape named_blocks at es vs → Reads shape named_blocks at (moved moves es) vs
+  reads_moved : (named_blocks : List ℕ) (moves es : List (Key × Place)) (vs : List (Key × List ℕ)) → T (is_sorted key_cmp vs)
+      → Stand moves vs → Reads shape named_blocks at es vs → Reads shape named_blocks at (moved moves es) vs
   reads_moved named_blocks [] es vs rises stand reads = reads
   reads_moved named_blocks (m ∷ moves) es vs rises stand reads =
       reads_moved named_blocks moves (put key_cmp m.0 m.1 es) vs rises stand.1
       (subst (λ xs. Reads shape named_blocks at (put key_cmp m.0 m.1 es) xs) (put_same m.0 stand.0.0 vs rises stand.0.1)
       (reads-put shape named_blocks at m.0 m.1 stand.0.0 es vs stand.0.2 reads))
 
-stand_copies : (shape : Shape) (flash : Flash) (blocks : List ℕ) (es : List (Key × Place)) (vs : List (Key × List ℕ)) (moves : List (Key × Place)) → values_of shape (page_at flash) blocks [] es ≡ Ok vs → AreCopies shape flash es moves → Stand shape (page_at flash) moves vs
+stand_copies : (shape : Shape) (flash : Flash) (blocks : List ℕ) (es : List (Key × Place)) (vs : List (Key × List ℕ)) (moves : List (Key × Place))
+    → values_of shape (page_at flash) blocks [] es ≡ Ok vs → AreCopies shape flash es moves → Stand shape (page_at flash) moves vs
 stand_copies shape flash blocks es vs [] ok copies = tt
 stand_copies shape flash blocks es vs (m ∷ moves) ok copies =
     let copy = copies.0.2 in
-    let has : Has shape (page_at flash) m.0 (Some copies.0.0) (find key_cmp m.0 vs) = subst (λ x. Has shape (page_at flash) m.0 x (find key_cmp m.0 vs)) copies.0.1 (find-values shape (page_at flash) blocks [] es vs ok m.0) in
+    let has : Has shape (page_at flash) m.0 (Some copies.0.0) (find key_cmp m.0 vs) = subst
+    (λ x. Has shape (page_at flash) m.0 x (find key_cmp m.0 vs)) copies.0.1 (find-values shape (page_at flash) blocks [] es vs ok m.0) in
     ((has.0, has.2, copied shape (page_at flash) m.0 copies.0.0 m.1 has.0 copy.same_len copy.same_pages has.1), stand_copies shape flash blocks es vs moves ok copies.1)
 
 same_lengths : (shape : Shape) (flash : Flash) (es moves : List (Key × Place)) → AreCopies shape flash es moves → HaveLength shape es moves
@@ -88,7 +96,8 @@ same_lengths shape flash es (m ∷ moves) copies = ((copies.0.0, copies.0.1, cop
 -- ---- the places
 
 places_one : (found : Found) (extra : List Entry) (k : Key) (place : Place) → places found (extra ++ (k, Some place) ∷ []) ≡ put key_cmp k place (places found extra)
-places_one found extra k place = ap (λ es. placed (firsts es)) (entries_in_order-push found extra (k, Some place)) ∙ placed-put k place (counting found extra) (firsts_sorted (entries_in_order found extra))
+places_one found extra k place = ap (λ es. placed (firsts es)) (entries_in_order-push found extra (k, Some place))
+    ∙ placed-put k place (counting found extra) (firsts_sorted (entries_in_order found extra))
 
 pub places_move : PlacesMove
 places_move found extra [] = ap (places found) (append-nil extra)

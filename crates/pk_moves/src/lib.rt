@@ -27,7 +27,7 @@ pub fn blocks()
     ensures none_left { NoneLeft }
 {}
 
-/// There is a block whose values can be moved by one page of the journal, and every value has room
+/// There is a block whose values can be moved by one commit of the journal, and every value has room
 /// after their copies.
 pub fn victims()
     ensures one_is_sparse { OneIsSparse }

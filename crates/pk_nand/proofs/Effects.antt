@@ -1,7 +1,8 @@
 -- What flash operations do to a board apart from its pages: single ones, and two parts of a run.
 use Rattle.std.proofs.Common.{◌≡◌, ℕ, List, refl, sym, ap, subst, ◌∙◌}
 use Rattle.pk_nand.specs.BoardState.{BoardState}
-use Rattle.pk_nand.specs.Calls.{Rose, after_program, after_erase, ProgramFailed, EraseFailed}
+use Rattle.pk_nand.specs.Calls.{Rose, after_program, ProgramFailed}
+use Rattle.pk_nand.specs.Operations.{after_erase, EraseFailed}
 use Rattle.pk_nand.specs.Effects.{OnlyFlash, Works, Stops}
 
 -- ---- single calls
@@ -39,7 +40,7 @@ stops_program old new page bytes failed =
 
 -- ---- two parts
 
-only_then : (a b c : BoardState) → OnlyFlash a b → OnlyFlash b c → OnlyFlash a c
+pub only_then : (a b c : BoardState) → OnlyFlash a b → OnlyFlash b c → OnlyFlash a c
 only_then a b c first second =
     let T : BoardState → Type 0 = λ s. c ≡ record s {
       pages = c.pages;
@@ -61,7 +62,7 @@ works_then a b c first second = record {
   rest = only_then a b c first.rest second.rest;
 }
 
-rose_from : {a b c : ℕ} → b ≡ a → Rose b c → Rose a c
+pub rose_from : {a b c : ℕ} → b ≡ a → Rose b c → Rose a c
 rose_from {a} {b} {c} same rose = let T : ℕ → Type 0 = λ n. Rose n c in subst T same rose
 
 pub stops_then : (a b c : BoardState) → Works a b → Stops b c → Stops a c

@@ -74,7 +74,8 @@ module _ (shape : Shape) (page : ℕ) (bytes : List ℕ) (even : page % shape.bl
 
 -- ---- on a board
 
-module _ (shape : Shape) (page : ℕ) (bytes : List ℕ) (old : BoardState) (same : shape_of old ≡ shape) (even : page % shape.block_pages % 2 ≡ 0) (start : Flash) (so_far : IsPairCut page bytes start old.pages) where
+module _ (shape : Shape) (page : ℕ) (bytes : List ℕ) (old : BoardState) (same : shape_of old ≡ shape)
+    (even : page % shape.block_pages % 2 ≡ 0) (start : Flash) (so_far : IsPairCut page bytes start old.pages) where
   abbrev P : Flash → List ℕ → Type 0
   P flash _ = IsPairCut page bytes start flash
 

@@ -3,7 +3,8 @@ use Rattle.std.proofs.Common.{◌≡◌, inl, inr, ℕ, List, [], ◌∷◌, ◌
 use Rattle.pk_base.specs.Page.{Flash}
 use Rattle.pk_base.specs.Mark.{post}
 use Rattle.pk_nand.specs.BoardState.{BoardState}
-use Rattle.pk_nand.specs.Calls.{longer, after_post, PostFailed}
+use Rattle.pk_nand.specs.Calls.{longer}
+use Rattle.pk_nand.specs.Operations.{after_post, PostFailed}
 use Rattle.pk_nand.specs.Crash.{ReachedBy}
 use Rattle.pk_nand.specs.Resting.{Standing, RestsFlash}
 use Rattle.pk_nand.proofs.Reaching.{Reached-start, Reached-then, Reached-post, longer-nil}

@@ -33,7 +33,8 @@ pub digits_fit : (old now : RoomyList) (bytes digits : List ℕ) (i x : ℕ) →
 digits_fit old now bytes digits i x room h before is =
     let two : length digits ≡ 2 = ap length is ∙ length-hex_text (x ∷ []) in
     let so_far : length (hex_text (take i bytes)) ≡ 2 * i = length-hex_text (take i bytes) ∙ ap (λ (n : ℕ). 2 * n) (length-take-le i bytes (omega arith)) in
-    let len : length now.items ≡ length old.items + 2 * i = ap (λ (r : RoomyList). length r.items) before ∙ length-append old.items (hex_text (take i bytes)) ∙ ap (λ (n : ℕ). length old.items + n) so_far in
+    let len : length now.items ≡ length old.items + 2 * i = ap (λ (r : RoomyList). length r.items) before
+    ∙ length-append old.items (hex_text (take i bytes)) ∙ ap (λ (n : ℕ). length old.items + n) so_far in
     let same : now.room ≡ old.room = ap (λ (r : RoomyList). r.room) before in
     omega arith
 

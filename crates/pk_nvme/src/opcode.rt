@@ -13,7 +13,7 @@ pub const RETRIEVE: u8 = 0x02;
 pub const LIST: u8 = 0x06;
 /// The opcode of a Delete: a key and its value are taken away.
 pub const DELETE: u8 = 0x10;
-/// The opcode of an Exist: whether a key is there.
+/// The opcode of an Exist: whether a key exists.
 pub const EXIST: u8 = 0x14;
 /// The opcode of a Tick, of the vendor's own: steps of the work in the background.
 pub const TICK: u8 = 0xC0;

@@ -20,5 +20,5 @@ pub const INVALID_KEY_SIZE: u8 = 0x86;
 pub const KEY_DOES_NOT_EXIST: u8 = 0x87;
 /// A flash operation failed.
 pub const UNRECOVERED_ERROR: u8 = 0x88;
-/// The key is there, and the Store asked for a new one.
+/// The key exists, and the Store asked for a new one.
 pub const KEY_EXISTS: u8 = 0x89;

@@ -1,20 +1,21 @@
 -- Boards on which a pair is programmed.
-use Rattle.std.proofs.Common.{◌≡◌, inl, inr, ◌<◌, ◌≤◌, ℕ, suc, ◌+◌, ◌-◌, ◌*◌, ◌/◌, ◌%◌, refl, sym, ap, subst, ◌∙◌, arith, le_refl, List, [], ◌∷◌, ◌++◌, length, mod-lt}
+use Rattle.std.proofs.Common.{◌≡◌, inl, inr, ◌<◌, ◌≤◌, ℕ, ◌+◌, ◌-◌, ◌*◌, ◌/◌, ◌%◌, refl, arith, le_refl, List, [], ◌∷◌, ◌++◌, length}
 use Rattle.std.specs.Prelude.{slice_index}
-use Rattle.std.proofs.Math.Nat.{suc-mul, mul-le-mul_right}
 use Rattle.pk_base.specs.Shape.{Shape, IsShape, epoch_commits, page_count}
-use Rattle.pk_base.specs.Page.{Page, Flash, page_at, erased, whole, commit_page}
+use Rattle.pk_base.specs.Page.{Flash, commit_page}
 use Rattle.pk_base.proofs.EpochPages.{half}
 use Rattle.pk_base.proofs.CommitPages.{room}
 use Rattle.pk_base.specs.Mark.{program}
 use Rattle.pk_nand.specs.BoardState.{BoardState, shape_of}
-use Rattle.pk_nand.specs.Calls.{InOrder, after_program, ProgramFailed}
+use Rattle.pk_nand.specs.Calls.{after_program, ProgramFailed}
+use Rattle.pk_nand.specs.Operations.{InOrder}
 use Rattle.pk_nand.specs.Crash.{Reached, Went}
-use Rattle.pk_nand.specs.Pairs.{IsPairCut, HoldsAtMost}
+use Rattle.pk_nand.specs.Pairs.{IsPairCut}
 use Rattle.pk_nand.proofs.Pairing.{IsPairCut-start, Reached-in_pair, Went-in_pair_failed, program_done}
 use Rattle.pk_nand.proofs.Reaching.{Reached-then, Went-then}
 use Rattle.pk_nand.proofs.Writing.{InOrder-next}
 use Rattle.pk_pair.specs.Pairs.{AllExist}
+use Rattle.pk_base.proofs.BlockLemmas.{apart}
 
 module _ (old : BoardState) (page : ℕ) (bytes : List ℕ) (even : page % (shape_of old).block_pages % 2 ≡ 0) where
   module _ (room : page % (shape_of old).block_pages + 1 < (shape_of old).block_pages) (order : InOrder (shape_of old) old.pages page) where
@@ -55,10 +56,6 @@ went_both a b c P first second = (first.0 ++ second.0, Went-then first.0 second.
 
 abbrev pub pages_of : BoardState → Flash
 pages_of board = board.pages
-
--- the rows of block a end if those of a later block begin, or before
-apart : (a b n : ℕ) → a < b → a * n + n ≤ b * n
-apart a b n h = omega (arith, mul-le-mul_right {m = suc a} {n = b} n (omega arith), suc-mul a n)
 
 -- the pages of a commit of blocks that exist
 pub pair_exists : (shape : Shape) (blocks : List ℕ) (index : ℕ) → IsShape shape → index < epoch_commits shape → AllExist shape blocks → commit_page shape blocks index + 1 < page_count shape

@@ -3,7 +3,7 @@ use Rattle.std.specs.Prelude.{◌≡◌, ◌⊎◌, ℕ, ◌+◌, ◌<◌, List,
 use Rattle.pk_base.specs.Shape.{Shape}
 use Rattle.pk_base.specs.Page.{Page, Flash, page_at, erased, whole, torn}
 use Rattle.pk_nand.specs.BoardState.{BoardState}
-use Rattle.pk_nand.specs.Calls.{after_read, ReadFailed}
+use Rattle.pk_nand.specs.Operations.{after_read, ReadFailed}
 
 -- the blocks of an epoch are blocks of the flash
 abbrev pub AllExist : Shape → List ℕ → Type 0

@@ -3,7 +3,8 @@ ghost use Rattle.std.specs.Prelude.{◌≡◌, ◌<◌, ◌+◌, ◌%◌, ◌^�
 ghost use Rattle.pk_base.specs.Shape as spec;
 ghost use Rattle.pk_base.specs.Page.{Flash, page_at, whole};
 ghost use Rattle.pk_nand.specs.BoardState.{shape_of};
-ghost use Rattle.pk_nand.specs.Calls.{IsReady, InOrder, after_program, after_programs, ProgramFailed, ProgramsFailed};
+ghost use Rattle.pk_nand.specs.Calls.{IsReady, after_program, after_programs, ProgramFailed, ProgramsFailed};
+ghost use Rattle.pk_nand.specs.Operations.{InOrder};
 ghost use Rattle.pk_nand.specs.Crash.{Reached, Went};
 ghost use Rattle.pk_nand.specs.Pairs.{programs_of_pair, IsPairCut};
 ghost use Rattle.pk_nand.specs.declared.types.Fault.TheVariants.{Stopped};

@@ -24,10 +24,11 @@ use Rattle.pk_gc.specs.Stepping.{runs_in}
 use Rattle.pk_parts.specs.Parts.{Parts, index_of, sight_of, is_half, is_reclaim_due}
 use Rattle.pk_parts.specs.Agreeing.{DriveOnFlashWith, DriveOnFlash, IsWhole}
 use Rattle.pk_parts.specs.Ticking.{MayTick, Advances, WantsReclaim, wants_reclaim}
-use Rattle.pk_parts.proofs.Halves.{whole_of, not_both}
+use Rattle.pk_parts.proofs.Halves.{whole_of}
 use Rattle.pk_parts.proofs.Unchanging.{own_whole}
 use Rattle.pk_parts.proofs.Staying.{stays_same, stays_frees, step_stays}
 use Rattle.pk_parts.proofs.Ticking.{ticks_nothing, ticks_failed, step_agrees, step_ticks, step_lowers, kept_drive, busy_spare, idle_fine, stopped_idle, stopped_worked, worked_idle}
+use Rattle.pk_base.proofs.Logic.{not_both}
 
 -- ---- answers
 
@@ -47,7 +48,8 @@ level_some shape frozen runs level due none = elim (next_told shape frozen runs 
   | inr (inr (inr four)) ↦ (let e = four.0 in omega (arith, e, none))
 ]
 
-merge_busy : (p : Phase) (x : Index) (flash : Flash) (root : Root) (found : Found) → MergeStands p x flash root found → is_between p && (length x.log.frozen.entries == 0) ≡ false → merging p ≡ 0 → length x.log.frozen.entries ≡ 0 → ⊥
+merge_busy : (p : Phase) (x : Index) (flash : Flash) (root : Root) (found : Found) → MergeStands p x flash root found
+    → is_between p && (length x.log.frozen.entries == 0) ≡ false → merging p ≡ 0 → length x.log.frozen.entries ≡ 0 → ⊥
 merge_busy NoMerge x flash root found stands busy none empty = true_false (sym (eq-eqb (length x.log.frozen.entries) 0 empty) ∙ busy)
 merge_busy (Running level) x flash root found stands busy none empty = level_some x.log.shape (length (firsts found.older)) (map length found.runs) level stands.into.due none
 merge_busy (Ready level) x flash root found stands busy none empty = level_some x.log.shape (length (firsts found.older)) (map length found.runs) level stands.into.due none
@@ -105,7 +107,8 @@ module _ (d : Parts) (old new : BoardState) (m : MayTick d old) (none_half : is_
     busy = λ idle. absurd (busy_spare d old m.agrees shared one.block one.lowest.here idle);
   }
 
-  pub idle_advances : (d' : Parts) → ErasesNone d.pool old d'.pool new → d' ≡ record d { pool = d'.pool } → has_no_merge (index_of d) ≡ true → (length (taken_by d.schedule.freeze) == 0) ≡ true → wants_reclaim d ≡ false → Advances d d' old new Idle
+  pub idle_advances : (d' : Parts) → ErasesNone d.pool old d'.pool new → d' ≡ record d { pool = d'.pool } → has_no_merge (index_of d) ≡ true
+      → (length (taken_by d.schedule.freeze) == 0) ≡ true → wants_reclaim d ≡ false → Advances d d' old new Idle
   idle_advances d' none rest merged frozen reclaimed =
       let same = kept_drive d d' old new none rest in
       record {
@@ -118,7 +121,17 @@ module _ (d : Parts) (old new : BoardState) (m : MayTick d old) (none_half : is_
         finishes = no_pair;
         number = λ _. (let e = ap (λ (e : Parts). e.log.root.number) same in omega (arith, e));
         lowers = λ e. absurd (worked_idle (sym e));
-        idle = λ _. (record { whole = none_half; no_merge = merged; no_freeze = none_there (taken_by d.schedule.freeze) (eqb-true (length (taken_by d.schedule.freeze)) 0 frozen); no_reclaim = (neither (runs_in d.reclaim.phase) (is_reclaim_due d) reclaimed).0; none_due = (neither (runs_in d.reclaim.phase) (is_reclaim_due d) reclaimed).1; none_free = none.none_free }, same);
+        idle = λ _. (
+          record {
+            whole = none_half;
+            no_merge = merged;
+            no_freeze = none_there (taken_by d.schedule.freeze) (eqb-true (length (taken_by d.schedule.freeze)) 0 frozen);
+            no_reclaim = (neither (runs_in d.reclaim.phase) (is_reclaim_due d) reclaimed).0;
+            none_due = (neither (runs_in d.reclaim.phase) (is_reclaim_due d) reclaimed).1;
+            none_free = none.none_free;
+          },
+          same,
+        );
         busy = λ _. refl;
       }
 

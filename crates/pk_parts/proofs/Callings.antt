@@ -15,7 +15,15 @@ pub few_none : (old : BoardState) → FewCalls 0 old old
 few_none old = record { reads_made = 0; programs_made = 0; erases_made = 0; few = omega arith; reads = refl; programs = refl; erases = refl }
 
 pub few_within : (n k : ℕ) (old new : BoardState) → n ≤ k → FewCalls n old new → FewCalls k old new
-few_within n k old new less f = record { reads_made = f.reads_made; programs_made = f.programs_made; erases_made = f.erases_made; few = (let few = f.few in omega (arith, few, less)); reads = f.reads; programs = f.programs; erases = f.erases }
+few_within n k old new less f = record {
+  reads_made = f.reads_made;
+  programs_made = f.programs_made;
+  erases_made = f.erases_made;
+  few = (let few = f.few in omega (arith, few, less));
+  reads = f.reads;
+  programs = f.programs;
+  erases = f.erases;
+}
 
 -- one call more
 pub few_more : (n : ℕ) (a b c : BoardState) → FewCalls n a b → AtMostOneCall b c → FewCalls (n + 1) a c

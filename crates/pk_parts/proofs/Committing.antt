@@ -1,5 +1,6 @@
 -- A commit of the pending entries keeps the map.
-use Rattle.std.proofs.Common.{◌≡◌, ◌≢◌, ◌⊎◌, inl, inr, ℕ, ◌+◌, ◌-◌, ◌/◌, ◌<◌, ◌≤◌, if◌then◌else◌, arith, Bool, true, false, List, [], ◌++◌, length, reverse, Some, Result, Ok, Err, refl, sym, ap, subst, ◌∙◌, append-nil}
+use Rattle.std.proofs.Common.{◌≡◌, ◌≢◌, ◌⊎◌, inl, inr, ℕ, ◌+◌, ◌-◌, ◌/◌, ◌<◌, ◌≤◌, if◌then◌else◌, arith, Bool, true, false, List, [], ◌++◌, length, reverse, Some, Result, Ok, Err, refl, sym, ap}
+use Rattle.std.proofs.Common.{subst, ◌∙◌, append-nil}
 use Rattle.std.specs.Prelude.{slice_get, IsOk, IfErr, OnOk, OnErr}
 use Rattle.std.specs.List.{flat_map}
 use Rattle.pk_base.specs.Shape.{Shape, epoch_commits, commit_programs}
@@ -111,7 +112,8 @@ module _ (d : Parts) (old new : BoardState) (top : ℕ × Root) (found : Found) 
       let same = sym (places_committed found d.log.pending) in
       let fits : PoolOnFlash d.pool new.pages = still_fits its d.pool old.pages new.pages block owned others agrees.placed.shape_is agrees.placed.fits in
       let values : ValuesOnFlash its d.space d.pool (outputs_of d) new.pages (places found d.log.pending) =
-      flash_elsewhere its d.space d.pool (outputs_of d) old.pages new.pages (places found d.log.pending) agrees.placed (values_same its d.pool old.pages new.pages block owned others (outputs_of d)) fits in
+      flash_elsewhere its d.space d.pool (outputs_of d) old.pages new.pages (places found d.log.pending) agrees.placed
+      (values_same its d.pool old.pages new.pages block owned others (outputs_of d)) fits in
       record {
         shape_is = refl;
         is_flash = ready.flash;
@@ -123,7 +125,8 @@ module _ (d : Parts) (old new : BoardState) (top : ℕ × Root) (found : Found) 
         former_read = λ k is. agrees.placed.outputs_are.unread k (subst (λ (es : List (Key × Place)). IsValuePage its es k) (sym same) is);
         reclaim =
             subst (λ (es : List (Key × Place)). ReclaimOnFlash its d.reclaim d.space.live d.pool new.pages es) same
-            (reclaim_elsewhere its d.reclaim d.space d.pool d.pool old.pages new.pages (places found d.log.pending) agrees.reclaim agrees.placed refl (λ k held not_open. values_same its d.pool old.pages new.pages block owned others [] k held (λ none. none)));
+            (reclaim_elsewhere its d.reclaim d.space d.pool d.pool old.pages new.pages (places found d.log.pending) agrees.reclaim agrees.placed refl
+            (λ k held not_open. values_same its d.pool old.pages new.pages block owned others [] k held (λ none. none)));
         keys_are = agrees.keys_are ∙ ap length same;
       }
 
@@ -139,7 +142,8 @@ module _ (shape : Shape) (top : ℕ × Root) (found : Found) (es : List Entry) (
     ],
   )
 
-pub maps_of : (d : Parts) (board : BoardState) (top : ℕ × Root) (found : Found) (without m : Map) → DriveOnFlashWith d d.log.shape board.pages top found without m → Maps d.log board top found without m
+pub maps_of : (d : Parts) (board : BoardState) (top : ℕ × Root) (found : Found) (without m : Map)
+    → DriveOnFlashWith d d.log.shape board.pages top found without m → Maps d.log board top found without m
 maps_of d board top found without m agrees = record { logs = agrees.index.logs; without = agrees.committed; all = agrees.pending }
 
 -- ---- the whole commit
@@ -212,30 +216,35 @@ commit_stops log old new failed =
 
 -- ---- the newest root
 
-number_same : (shape : Shape) (old new : Flash) (top : ℕ × Root) → newest_root shape (page_at old) ≡ Some top → newest_root shape (page_at new) ≡ Some top → root_number shape new ≡ root_number shape old
+number_same : (shape : Shape) (old new : Flash) (top : ℕ × Root) → newest_root shape (page_at old) ≡ Some top
+    → newest_root shape (page_at new) ≡ Some top → root_number shape new ≡ root_number shape old
 unfolding root_number
 number_same shape old new top was is = rw (was, is) refl
 
-roots_of : (old new : BoardState) (shape : Shape) (top : ℕ × Root) → IsReady old shape → IsReady new shape → newest_root shape (page_at old.pages) ≡ Some top → newest_root shape (page_at new.pages) ≡ Some top → roots new ≡ roots old
+roots_of : (old new : BoardState) (shape : Shape) (top : ℕ × Root) → IsReady old shape → IsReady new shape
+    → newest_root shape (page_at old.pages) ≡ Some top → newest_root shape (page_at new.pages) ≡ Some top → roots new ≡ roots old
 roots_of old new shape top before after was is =
     let same = number_same shape old.pages new.pages top was is in
     ap (λ (s : Shape). root_number s new.pages) (shape_is new shape after) ∙ same ∙ ap (λ (s : Shape). root_number s old.pages) (sym (shape_is old shape before))
 
-top_in_cut : (shape : Shape) (top : ℕ × Root) (found : Found) (es : List Entry) (m0 m1 : Map) (flash : Flash) (posted : List ℕ) → LogCut shape top found es m0 m1 flash posted → newest_root shape (page_at flash) ≡ Some top
+top_in_cut : (shape : Shape) (top : ℕ × Root) (found : Found) (es : List Entry) (m0 m1 : Map) (flash : Flash) (posted : List ℕ)
+    → LogCut shape top found es m0 m1 flash posted → newest_root shape (page_at flash) ≡ Some top
 top_in_cut shape top found es m0 m1 flash posted cut = elim cut.1 [ inl without ↦ without.is_top | inr all ↦ all.is_top ]
 
 -- the maps of a drive of which a pair may be half made
 maps_between : (d : Parts) (board : BoardState) (m : Map) (s : StandsBetween d d.log.shape board.pages m) → Maps d.log board s.top s.found s.without m
 maps_between d board m s = record { logs = s.with.index.logs; without = s.with.committed; all = s.with.pending }
 
-pub commit_roots : (d : Parts) (m : Map) (old new : BoardState) → IsReady old d.log.shape → IsReady new d.log.shape → StandsBetween d d.log.shape old.pages m → CommitReaches d.log old new → roots new ≡ roots old
+pub commit_roots : (d : Parts) (m : Map) (old new : BoardState) → IsReady old d.log.shape → IsReady new d.log.shape
+    → StandsBetween d d.log.shape old.pages m → CommitReaches d.log old new → roots new ≡ roots old
 commit_roots d m old new before after there reaches =
     let run = reaches there.top there.found there.without m (maps_between d old m there) in
     roots_of old new d.log.shape there.top before after there.with.index.logs.is_top
     (top_in_cut d.log.shape there.top there.found d.log.pending there.without m new.pages (all_posted run.0)
     (at_end run.0 old new (LogCut d.log.shape there.top there.found d.log.pending there.without m) run.1))
 
-pub commit_roots_err : (d : Parts) (m : Map) (old new : BoardState) → IsReady old d.log.shape → IsReady new d.log.shape → StandsBetween d d.log.shape old.pages m → CommitGoes d.log old new → roots new ≡ roots old
+pub commit_roots_err : (d : Parts) (m : Map) (old new : BoardState) → IsReady old d.log.shape
+    → IsReady new d.log.shape → StandsBetween d d.log.shape old.pages m → CommitGoes d.log old new → roots new ≡ roots old
 commit_roots_err d m old new before after there goes =
     let run = goes there.top there.found there.without m (maps_between d old m there) in
     roots_of old new d.log.shape there.top before after there.with.index.logs.is_top
@@ -258,7 +267,8 @@ no_more_left log log' old new (inr all) =
 
 -- ---- by what the call answered
 
-pub left_ok : (r : Result Unit Fault) (log log' : LogState) (old new : BoardState) → OnOk r (CommitsNone log old log' new ⊎ CommitsAll log old log' new) → OnOk r (left_of log'.epoch ≤ left_of log.epoch)
+pub left_ok : (r : Result Unit Fault) (log log' : LogState) (old new : BoardState)
+    → OnOk r (CommitsNone log old log' new ⊎ CommitsAll log old log' new) → OnOk r (left_of log'.epoch ≤ left_of log.epoch)
 left_ok (Ok x) log log' old new made = no_more_left log log' old new made
 left_ok (Err e) log log' old new made = tt
 
@@ -302,13 +312,15 @@ some_programs (Ok x) log log' old new (inr all) failed some = both_programs 1 lo
 some_programs (Err e) log log' old new made failed some = failed_programs log old new failed
 
 -- and both of them if none failed
-pub all_programs : (r : Result Unit Fault) (log log' : LogState) (old new : BoardState) → OnOk r (CommitsNone log old log' new ⊎ CommitsAll log old log' new) → OnOk r (log.pending ≢ [] → ProgramsOfCommit commit_programs old new)
+pub all_programs : (r : Result Unit Fault) (log log' : LogState) (old new : BoardState)
+    → OnOk r (CommitsNone log old log' new ⊎ CommitsAll log old log' new) → OnOk r (log.pending ≢ [] → ProgramsOfCommit commit_programs old new)
 all_programs (Ok x) log log' old new (inl none) = λ some. absurd (some none.none)
 all_programs (Ok x) log log' old new (inr all) = λ some. both_programs commit_programs log log' old new (omega arith) all
 all_programs (Err e) log log' old new made = tt
 
 -- if none were, nothing was done
-pub nothing_done : (r : Result Unit Fault) (d : Parts) (log' : LogState) (old new : BoardState) → OnOk r (CommitsNone d.log old log' new ⊎ CommitsAll d.log old log' new) → OnErr r (CommitFailed d.log old new)
+pub nothing_done : (r : Result Unit Fault) (d : Parts) (log' : LogState) (old new : BoardState)
+    → OnOk r (CommitsNone d.log old log' new ⊎ CommitsAll d.log old log' new) → OnErr r (CommitFailed d.log old new)
     → d.log.pending ≡ [] → IsOk r × (with_log d log' ≡ d) × (new ≡ old)
 nothing_done (Ok x) d log' old new (inl none) failed is = (refl, ap (λ (l : LogState). with_log d l) none.kept, none.board)
 nothing_done (Ok x) d log' old new (inr all) failed is = absurd (all.some is)
@@ -316,7 +328,8 @@ nothing_done (Err e) d log' old new made failed is = absurd (failed.some is)
 
 -- ---- the step
 
-pub rest_ok : (r : Result Unit Fault) (d : Parts) (log' : LogState) (old new : BoardState) → OnOk r (CommitsNone d.log old log' new ⊎ CommitsAll d.log old log' new) → OnOk r (OnlyCommits d (with_log d log'))
+pub rest_ok : (r : Result Unit Fault) (d : Parts) (log' : LogState) (old new : BoardState)
+    → OnOk r (CommitsNone d.log old log' new ⊎ CommitsAll d.log old log' new) → OnOk r (OnlyCommits d (with_log d log'))
 rest_ok (Ok x) d log' old new (inl none) = let P : LogState → Type 0 = λ l. OnlyCommits d (with_log d l) in subst P (sym none.kept) refl
 rest_ok (Ok x) d log' old new (inr all) = let P : LogState → Type 0 = λ l. OnlyCommits d (with_log d l) in subst P (sym all.taken) refl
 rest_ok (Err e) d log' old new made = tt

@@ -6,8 +6,6 @@ use Rattle.pk_base.specs.Shape.{Shape, buffer, epoch_commits}
 use Rattle.pk_base.proofs.ShapeLemmas.{block_pages_positive}
 use Rattle.pk_buf.specs.Table.{Table}
 use Rattle.pk_jrn.specs.Epochs.{left_of}
-use Rattle.pk_root.specs.declared.next.Next.{Next}
-use Rattle.pk_root.specs.declared.next.Next.TheVariants.{Erase, Program, Again}
 use Rattle.pk_log.specs.State.{LogState, needs_freeze}
 use Rattle.pk_log.specs.Logs.{LogOnFlash}
 use Rattle.pk_work.specs.Backlog.{is_tight}
@@ -17,7 +15,6 @@ use Rattle.pk_nand.specs.BoardState.{BoardState}
 use Rattle.pk_nand.specs.Calls.{IsReady}
 use Rattle.pk_model.specs.Wear.{roots}
 use Rattle.pk_model.proofs.Steps.{RootsUpTo-le, Step-broken}
-use Rattle.pk_compact.specs.FreezeSteps.{install_steps}
 use Rattle.pk_work.specs.Rest.{whole_freeze}
 use Rattle.pk_work.specs.Work.{emptying, repeating}
 use Rattle.pk_work.specs.Calls.{room_calls, room_roots, commit_calls}
@@ -37,7 +34,7 @@ use Rattle.pk_parts.proofs.Rooming.{stands_after}
 use Rattle.pk_parts.proofs.Staying.{stays_same, stays_then}
 use Rattle.pk_parts.proofs.Steps.{none_step, keeps_later, may_after, leaves_none, leaves_twice}
 use Rattle.pk_parts.proofs.Freezing.{no_need, left_some, frozen_is_room}
-use Rattle.pk_schedule.proofs.Backlogs.{index_backlog}
+use Rattle.pk_schedule.proofs.Backlogs.{index_backlog, installs_most}
 use Rattle.pk_parts.proofs.Callings.{few_none, few_within, few_then, spends_within, spends_then}
 use Rattle.pk_parts.proofs.ReadSteps.{Passes, passes_none, step_passes, reading_passes, reads_nothing, reading_failed, reading_then, reading_end}
 
@@ -48,7 +45,8 @@ pub reads_later : (r : Result Unit Fault) (a b c : Parts) (n k most : ℕ) (s0 s
     → KeepsAll a b s0 s1 → Passes n s0 s1 → KeepsOrReads b c k s1 s2 r → KeepsOrReads a c most s0 s2 r
 reads_later r a b c n k most s0 s1 s2 ready same few keeps passes second =
     reading_then r (λ (x : Unit). KeepsAll b c s1 s2) (λ (x : Unit). KeepsAll a c s0 s2) (KeepsAll b c s1 s2) (KeepsAll a c s0 s2) (BreaksAll b s1 s2) (BreaksAll a s0 s2)
-    a.log.shape n k most s0 s1 s2 few passes (λ x kept. KeepsAll-then a b c s0 s1 s2 ready keeps kept) (λ kept. KeepsAll-then a b c s0 s1 s2 ready keeps kept) (λ broken. BreaksAll-then a b s0 s1 s2 ready keeps broken)
+    a.log.shape n k most s0 s1 s2 few passes (λ x kept. KeepsAll-then a b c s0 s1 s2 ready keeps kept)
+    (λ kept. KeepsAll-then a b c s0 s1 s2 ready keeps kept) (λ broken. BreaksAll-then a b s0 s1 s2 ready keeps broken)
     (subst (λ (s : Shape). StepOrRead (λ (x : Unit). KeepsAll b c s1 s2) (KeepsAll b c s1 s2) (BreaksAll b s1 s2) s k s1 s2 r) same second)
 
 -- what it answered may be forgotten
@@ -210,14 +208,9 @@ ongoing_begin a s0 may none none_merges = record {
   stays = stays_same a a refl;
 }
 
-few_installs : (next : Next) → install_steps next ≤ 3
-few_installs (Erase beside) = omega arith
-few_installs (Program page) = omega arith
-few_installs (Again page) = omega arith
-
 -- it has few steps
 freeze_few : (d : Parts) → freeze_left_of d ≤ 7
-freeze_few d = let few = few_installs d.log.next in omega (arith, few)
+freeze_few d = let few = installs_most d.log.next in omega (arith, few)
 
 -- ended steps of it, whatever they answered
 ended_keeps : {T : Type 0} (x : T) (b c : Parts) (k : ℕ) (s1 s2 : BoardState) → StepKeeps b c k s1 s2 (Ok x) → StepKeeps {T = Unit {0}} b c k s1 s2 (Ok tt)
@@ -341,13 +334,15 @@ merges_last d board may number =
     omega (arith, number, left)
 
 module _ (a b : Parts) (s0 s1 : BoardState) (may : MayStep a s0) where
-  pub freeze_lasts : roots s0 + room_calls a.log.shape < 18446744073709551615 → (step : KeepsOrReads {T = Unit {0}} a b (merges_left a + 1) s0 s1 (Ok tt)) → roots s1 + whole_freeze < 18446744073709551615
+  pub freeze_lasts : roots s0 + room_calls a.log.shape < 18446744073709551615
+      → (step : KeepsOrReads {T = Unit {0}} a b (merges_left a + 1) s0 s1 (Ok tt)) → roots s1 + whole_freeze < 18446744073709551615
   freeze_lasts number step =
       let left = left_most a s0 may in
       let most = step.roots_few in
       omega (arith, number, left, most)
 
-  pub room_made : (r : Result Unit Fault) (c : Parts) (s2 : BoardState) → b.log.shape ≡ a.log.shape → KeepsOrReads {T = Unit {0}} a b (merges_left a + 1) s0 s1 (Ok tt) → StepKeeps b c whole_freeze s1 s2 r
+  pub room_made : (r : Result Unit Fault) (c : Parts) (s2 : BoardState) → b.log.shape ≡ a.log.shape
+      → KeepsOrReads {T = Unit {0}} a b (merges_left a + 1) s0 s1 (Ok tt) → StepKeeps b c whole_freeze s1 s2 r
       → KeepsOrReads a c (room_calls a.log.shape) s0 s2 r
   room_made r c s2 same step second =
       let left = left_most a s0 may in
@@ -370,13 +365,15 @@ module _ (a b : Parts) (s0 s1 : BoardState) (may : MayStep a s0) where
 pub none_reads : (d : Parts) (most : ℕ) (board : BoardState) → IsReady board d.log.shape → KeepsOrReads {T = Unit {0}} d d most board board (Ok tt)
 none_reads d most board ready = keeps_reads (Ok tt) d d most board board (none_step d most board tt ready)
 
-pub room_committed : (r : Result Unit Fault) (a b c : Parts) (s0 s1 s2 : BoardState) → IsReady s0 a.log.shape → b.log.shape ≡ a.log.shape → StepKeeps {T = Unit {0}} a b 0 s0 s1 (Ok tt) → KeepsOrReads b c (room_calls b.log.shape) s1 s2 r
+pub room_committed : (r : Result Unit Fault) (a b c : Parts) (s0 s1 s2 : BoardState) → IsReady s0 a.log.shape
+    → b.log.shape ≡ a.log.shape → StepKeeps {T = Unit {0}} a b 0 s0 s1 (Ok tt) → KeepsOrReads b c (room_calls b.log.shape) s1 s2 r
     → KeepsOrReads a c (room_calls a.log.shape) s0 s2 r
 room_committed r a b c s0 s1 s2 ready same first second =
     let calls : room_calls b.log.shape ≡ room_calls a.log.shape = ap (λ (s : Shape). room_calls s) same in
     reads_later r a b c 0 (room_calls b.log.shape) (room_calls a.log.shape) s0 s1 s2 ready same (omega (arith, calls)) first.ended (passes_keeps tt a b 0 s0 s1 first) second
 
-pub committed_spends : (a b : Parts) (s0 s1 s2 : BoardState) → b.log.shape ≡ a.log.shape → Spends commit_calls 0 s0 s1 → Spends (emptying b.log.shape 4 + whole_freeze) room_roots s1 s2 → Spends (room_calls a.log.shape) room_roots s0 s2
+pub committed_spends : (a b : Parts) (s0 s1 s2 : BoardState) → b.log.shape ≡ a.log.shape → Spends commit_calls 0 s0 s1
+    → Spends (emptying b.log.shape 4 + whole_freeze) room_roots s1 s2 → Spends (room_calls a.log.shape) room_roots s0 s2
 committed_spends a b s0 s1 s2 same first second =
     let whole : emptying b.log.shape 4 ≡ emptying a.log.shape 4 = ap (λ (s : Shape). emptying s 4) same in
     spends_then commit_calls (emptying b.log.shape 4 + whole_freeze) (room_calls a.log.shape) 0 room_roots room_roots s0 s1 s2 (omega (arith, whole)) (omega arith) first second

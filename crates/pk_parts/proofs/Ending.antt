@@ -67,7 +67,8 @@ may_end d flash m h =
       turn = inl (ap runs_in h.half.phase);
     }
 
-pub some_end : (d : Parts) (board : BoardState) → MayCommit d board → commits_in d.reclaim.phase ≡ true → (top : ℕ × Root) × (found : Found) × (m : Map) × MayReclaim (space_of d) board.pages top found m
+pub some_end : (d : Parts) (board : BoardState) → MayCommit d board → commits_in d.reclaim.phase ≡ true
+    → (top : ℕ × Root) × (found : Found) × (m : Map) × MayReclaim (space_of d) board.pages top found m
 some_end d board may commits =
     let m = may.stands.0 in
     let h = commit_here d board.pages m may.stands.1 commits in
@@ -200,10 +201,12 @@ module _ (d : Parts) (x' : Space) (old new : BoardState) (may : MayCommit d old)
   ended_at NeedsFreeze w sound program = copies_commits d.reclaim.phase w.course its_phase.0 w.copies its_phase.1
   ended_at Ended e sound program = absurd (subst (λ (p : Phase). RoomBehind p (space_of d) x') its_phase.1 e.room)
 
-  pub commit_ended : (r : Reclaimed) (result : Result Reclaimed Fault) → steps.Does (space_of d) old x' new r → NoFault old new → RepeatsIn d.reclaim.phase old new result → FinishesCommitOr d (over_space d x') old new (Ok tt)
+  pub commit_ended : (r : Reclaimed) (result : Result Reclaimed Fault) → steps.Does (space_of d) old x' new r
+      → NoFault old new → RepeatsIn d.reclaim.phase old new result → FinishesCommitOr d (over_space d x') old new (Ok tt)
   commit_ended r result does sound repeats = ended_at r does sound (one_program result repeats)
 
-  failed_at : (e : Fault) (result : Result Reclaimed Fault) → result ≡ Err e → (result ≡ Err Stopped → steps.ReclaimBroken (space_of d) old new × Stops old new) → RepeatsIn d.reclaim.phase old new result
+  failed_at : (e : Fault) (result : Result Reclaimed Fault) → result ≡ Err e
+      → (result ≡ Err Stopped → steps.ReclaimBroken (space_of d) old new × Stops old new) → RepeatsIn d.reclaim.phase old new result
       → FinishesCommitOr d (over_space d x') old new (Err e)
   failed_at Reading result is broken repeats = absurd (not_read result repeats is)
   failed_at Stopped result is broken repeats =
@@ -213,6 +216,7 @@ module _ (d : Parts) (x' : Space) (old new : BoardState) (may : MayCommit d old)
         record { fails = fails_commit d old new both.0 commits; stops = both.1; program = one_program result repeats; no_root = omega (arith, same_roots); ready = ready },
       )
 
-  pub commit_failed : (e : Fault) (result : Result Reclaimed Fault) → result ≡ Err e → (result ≡ Err Stopped → steps.ReclaimBroken (space_of d) old new × Stops old new) → RepeatsIn d.reclaim.phase old new result
+  pub commit_failed : (e : Fault) (result : Result Reclaimed Fault) → result ≡ Err e
+      → (result ≡ Err Stopped → steps.ReclaimBroken (space_of d) old new × Stops old new) → RepeatsIn d.reclaim.phase old new result
       → FinishesCommitOr d (over_space d x') old new (Err e)
   commit_failed e result is broken repeats = failed_at e result is broken repeats

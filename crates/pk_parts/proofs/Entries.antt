@@ -1,26 +1,23 @@
 -- Entries that wait for a commit: what the drive represents after them.
-use Rattle.std.proofs.Common.{◌≡◌, inl, inr, ℕ, ◌+◌, ◌-◌, ◌*◌, ◌/◌, ◌<◌, ◌≤◌, refl, sym, ap, subst, ◌∙◌, arith, true, cond, T, List, [], ◌∷◌, ◌++◌, length, Option, Some, None, Ok, length-append, is_some}
-use Rattle.std.proofs.lemmas.List.FromFn.{length-range_with_len}
-use Rattle.std.proofs.Math.Nat.{mul-le-mul_right}
+use Rattle.std.proofs.Common.{◌≡◌, inl, inr, ℕ, ◌+◌, ◌-◌, ◌/◌, ◌<◌, ◌≤◌, refl, sym, ap, subst, ◌∙◌, arith, true, cond, T, List, [], ◌∷◌, ◌++◌, length, Option, Some, None, Ok, is_some}
 use Rattle.std.specs.Prelude.{MatchOption, slice_set}
 use Rattle.std.specs.Ordering as order
 use Rattle.std.specs.Cmp.{tied_itself}
 use Rattle.std.specs.FinMap.{insert, remove, entries, entries-insert}
 use Rattle.std.specs.FinMap.Entries.{put, find, is_sorted, find-put, length-put, length_without}
 use Rattle.pk_base.specs.Key.{Key, key_cmp}
-use Rattle.pk_base.specs.Shape.{Shape, IsShape, charge, greatest, buffer, limit, data_blocks, dense}
+use Rattle.pk_base.specs.Shape.{Shape, IsShape, charge, greatest, buffer, data_blocks}
 use Rattle.pk_base.specs.Page.{Flash, page_at}
 use Rattle.pk_base.specs.Entry.{Entry, Place}
 use Rattle.pk_base.specs.Firsts.{firsts}
 use Rattle.pk_base.specs.Map.{Map, live, pages_in}
-use Rattle.pk_segfmt.specs.Value.{value_pages, value_at}
+use Rattle.pk_segfmt.specs.Value.{value_at}
 use Rattle.pk_segfmt.proofs.StoredLemmas.{charge_some}
 use Rattle.pk_rootfmt.specs.Root.{Root, named}
 use Rattle.pk_model.specs.Found.{Found, entries_in_order}
 use Rattle.pk_model.specs.Values.{placed, fits, all_pages}
 use Rattle.pk_model.specs.Laws.{AnyByRecursion, IsPageOf}
 use Rattle.pk_model.proofs.MapLemmas.{key_total}
-use Rattle.pk_model.proofs.Lookups.{firsts_sorted}
 use Rattle.pk_model.proofs.ValueSets.{values_sound, fits_parts}
 use Rattle.pk_model.proofs.Stores.{placed-put, reads-put, entries_in_order-push}
 use Rattle.pk_model.proofs.Merges.{placed_sorted}
@@ -50,30 +47,15 @@ use Rattle.pk_schedule.proofs.Keeping.{index_pushed}
 use Rattle.pk_parts.proofs.Halves.{whole_like}
 use Rattle.pk_parts.proofs.Reclaiming.{reclaim_stored, reclaim_gone, zero_fewer, replaced_fewer}
 use Rattle.pk_parts.proofs.Writing.{named_owner, journal_or_values, meta_or_values}
+use Rattle.pk_base.proofs.KeyLemmas.{firsts_sorted}
+use Rattle.pk_steps.proofs.Outputs.{values_most}
+use Rattle.pk_scan.proofs.ValuesHeld.{limit_few}
 
 -- ---- numbers
-
-few_keys : (shape : Shape) → IsShape shape → (es : List (Key × Place)) → length es ≤ length (all_pages shape es)
-few_keys shape is [] = omega arith
-few_keys shape is (e ∷ es) =
-    let rest = few_keys shape is es in
-    let some = charge_some shape is e.1.len in
-    let both = length-append (value_pages shape e.1) (all_pages shape es) in
-    let own = length-range_with_len e.1.page (charge shape e.1.len) in
-    omega (arith, rest, some, both, own)
 
 few_blocks : (shape : Shape) → IsShape shape → data_blocks shape ≤ 4096
 unfolding data_blocks
 few_blocks shape is = let most = is.blocks_most in omega (arith, most)
-
-limit_few : (shape : Shape) → IsShape shape → limit shape ≤ 1048576
-unfolding limit
-limit_few shape is =
-    let few = few_blocks shape is in
-    let pages = is.block_most in
-    let part : dense shape ≤ 256 = omega (arith, pages) in
-    let product : (data_blocks shape - 1) * dense shape ≤ 4096 * dense shape = mul-le-mul_right (dense shape) (omega (arith, few)) in
-    omega (arith, product, part)
 
 -- ---- the places before
 
@@ -93,7 +75,7 @@ module _ (d : Parts) (shape : Shape) (flash : Flash) (top : ℕ × Root) (found 
   keys_small =
       let parts = fits_parts shape (named top.1) (all_pages shape (places found d.log.pending)) (subst T (sym fit) tt) in
       let few = parts.few in
-      let keys = few_keys shape shape_is (places found d.log.pending) in
+      let keys = values_most shape shape_is (places found d.log.pending) in
       let most = limit_few shape shape_is in
       omega (arith, few, keys, most, with.keys_are)
 
@@ -155,7 +137,8 @@ module _ (d : Parts) (flash : Flash) (m : Map) (key : Key) (value : List ℕ) (p
   }
 
   places_are : places p.found (d.log.pending ++ e ∷ []) ≡ put key_cmp key place es
-  places_are = ap (λ xs. placed (firsts xs)) (entries_in_order-push p.found d.log.pending e) ∙ placed-put key place (counting p.found d.log.pending) (firsts_sorted (entries_in_order p.found d.log.pending))
+  places_are = ap (λ xs. placed (firsts xs)) (entries_in_order-push p.found d.log.pending e)
+      ∙ placed-put key place (counting p.found d.log.pending) (firsts_sorted (entries_in_order p.found d.log.pending))
 
   module _ (space : DataState) (placed_now : ValuesOnFlash d.log.shape space d.pool (outputs_of d) flash (put key_cmp key place es)) (o : Option Span)
       (space_is : space ≡ with_head (with_heads d.space (heads_without o d.space.live.heads)) page (charge d.log.shape (length value))) where
@@ -184,7 +167,8 @@ module _ (d : Parts) (flash : Flash) (m : Map) (key : Key) (value : List ℕ) (p
     reclaims_now : ReclaimOnFlash d.log.shape d.reclaim space.live d.pool flash (put key_cmp key place es)
     reclaims_now =
         let heads : List ℕ = slice_set (heads_without o d.space.live.heads) page (charge d.log.shape (length value)) in
-        let now = reclaim_stored d.log.shape d.reclaim d.space d.pool flash es key place heads p.with.reclaim p.with.placed p.in_open (charge_some d.log.shape (shape_is d d.log.shape flash p.top p.found p.without m p.with) (length value))
+        let now = reclaim_stored d.log.shape d.reclaim d.space d.pool flash es key place heads p.with.reclaim p.with.placed p.in_open
+        (charge_some d.log.shape (shape_is d d.log.shape flash p.top p.found p.without m p.with) (length value))
         (λ k other. replaced_fewer o d.space.live.heads page (charge d.log.shape (length value)) k other) in
         subst (λ (l : Values). ReclaimOnFlash d.log.shape d.reclaim l d.pool flash (put key_cmp key place es)) (sym (ap (λ (x : DataState). x.live) space_is)) now
 
@@ -265,7 +249,8 @@ old_short d flash m key value page (Some q) p = (found_place d.log.shape key q (
 
 -- ---- a key loses its value
 
-keys_gone : (key : Key) (place : Place) (es : List (Key × Place)) (keys : ℕ) → T (is_sorted key_cmp es) → find key_cmp key es ≡ Some place → keys ≡ length es → (keys - 1 ≡ length (without key es)) × (1 ≤ keys)
+keys_gone : (key : Key) (place : Place) (es : List (Key × Place)) (keys : ℕ) → T (is_sorted key_cmp es)
+    → find key_cmp key es ≡ Some place → keys ≡ length es → (keys - 1 ≡ length (without key es)) × (1 ≤ keys)
 keys_gone key place es keys sorted is same =
     let all : cond (is_some (find key_cmp key es)) 1 0 + length (without key es) ≡ length es = length_without key_cmp key_total key es sorted in
     let one : 1 + length (without key es) ≡ length es = subst (λ (o : Option Place). cond (is_some o) 1 0 + length (without key es) ≡ length es) is all in
@@ -300,7 +285,8 @@ module _ (d : Parts) (flash : Flash) (m : Map) (key : Key) (old : Place) (p : Dr
   gone_keys = keys_gone key old values_before d.keys (rising d d.log.shape flash p.top p.found p.without m p.with) p.old_is p.with.keys_are
 
   places_gone : places p.found (d.log.pending ++ gone ∷ []) ≡ without key values_before
-  places_gone = ap (λ xs. placed (firsts xs)) (entries_in_order-push p.found d.log.pending gone) ∙ placed-gone key (counting p.found d.log.pending) (firsts_sorted (entries_in_order p.found d.log.pending))
+  places_gone = ap (λ xs. placed (firsts xs)) (entries_in_order-push p.found d.log.pending gone)
+      ∙ placed-gone key (counting p.found d.log.pending) (firsts_sorted (entries_in_order p.found d.log.pending))
 
   pub gone_agrees : (space : DataState) → ValuesOnFlash d.log.shape space d.pool (outputs_of d) flash (without key values_before)
       → (at : ℕ) → space ≡ with_head d.space at 0 → LogOnFlash (pushed d.log gone) flash p.top p.found

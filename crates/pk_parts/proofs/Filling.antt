@@ -121,7 +121,8 @@ few_not_erased p old new fails = record {
   erases = ap (λ (b : BoardState). b.erases) fails.failed.rest;
 }
 
-few_taken : (shape : Shape) (d : DataState) (p : Blocks) (old : BoardState) (count : ℕ) (d' : DataState) (q : Blocks) (new : BoardState) → TakesNextOrOpens shape d p old count d' q new → FewCalls 1 old new
+few_taken : (shape : Shape) (d : DataState) (p : Blocks) (old : BoardState) (count : ℕ) (d' : DataState) (q : Blocks) (new : BoardState)
+    → TakesNextOrOpens shape d p old count d' q new → FewCalls 1 old new
 few_taken shape d p old count d' q new (inl next) = few_same 1 old new next.same_board
 few_taken shape d p old count d' q new (inr opens) = few_chosen p old opens.block new opens.choice
 
@@ -139,7 +140,8 @@ module _ (shape : Shape) (key : Key) (value : List ℕ) (d : DataState) (p : Blo
       let f = fails.failed in
       let mid : BoardState = written shape key fails.page value f.made fails.between in
       let within = f.within in
-      let pages = few_then f.made 1 fails.between mid new (few_written shape key fails.page value f.made fails.between) (few_failed_program mid new (fails.page + f.made) (page_of shape key value f.made) f.failed) in
+      let pages = few_then f.made 1 fails.between mid new (few_written shape key fails.page value f.made fails.between)
+      (few_failed_program mid new (fails.page + f.made) (page_of shape key value f.made) f.failed) in
       few_within (1 + (f.made + 1)) (1 + count) old new (omega (arith, within))
       (few_then 1 (f.made + 1) old fails.between new (few_taken shape d p old count fails.space fails.pool fails.between fails.reserved.taken) pages)
 
@@ -147,6 +149,7 @@ module _ (shape : Shape) (key : Key) (value : List ℕ) (d : DataState) (p : Blo
   few_fails (inl erase) = few_within 1 (1 + count) old new (omega arith) (few_not_erased p old new erase)
   few_fails (inr write) = few_not_written write
 
-  pub few_placed : (r : Result ℕ Fault) (d' : DataState) (q : Blocks) → IfOk r (λ page. PlacesValue shape key value d p old page d' q new) → OnErr r (FailsToPlace shape key value d p old new) → FewCalls (place_calls count) old new
+  pub few_placed : (r : Result ℕ Fault) (d' : DataState) (q : Blocks) → IfOk r (λ page. PlacesValue shape key value d p old page d' q new)
+      → OnErr r (FailsToPlace shape key value d p old new) → FewCalls (place_calls count) old new
   few_placed (Ok page) d' q places fails = few_places page d' q places
   few_placed (Err e) d' q places fails = few_fails fails

@@ -81,7 +81,8 @@ may_settle d flash m h = record {
 pub some_settle : (d : Parts) (board : BoardState) → MayCommit d board → repeats_next d.log.next ≡ true → (m : Map) × HalfHere d board.pages m
 some_settle d board may repeats = (may.stands.0, half_here d board.pages may.stands.0 may.stands.1 repeats)
 
-module _ (d : Parts) (log' : LogState) (pool' : Blocks) (old new : BoardState) (ready : IsReady new d.log.shape) (settles : Settles (index_of d) old (index log' d.levels d.arena pool' d.schedule) new) where
+module _ (d : Parts) (log' : LogState) (pool' : Blocks) (old new : BoardState) (ready : IsReady new d.log.shape)
+    (settles : Settles (index_of d) old (index log' d.levels d.arena pool' d.schedule) new) where
   abbrev then_index : Index
   then_index = index log' d.levels d.arena pool' d.schedule
 
@@ -116,12 +117,14 @@ module _ (d : Parts) (log' : LogState) (pool' : Blocks) (old new : BoardState) (
     placed_then : ValuesOnFlash d.log.shape d.space pool' (outputs_of d) new.pages (places h.found [])
     placed_then =
         let shapes = its.stands.pool_shape ∙ (same_shape ∙ sym h.with.index.pool_shape) in
-        ValuesOnFlash-kept d.log.shape d.space (freed d.pool) pool' (outputs_of d) old.pages new.pages (places h.found []) placed_before shapes its.values.size its.values.as_many its.values.owned its.values.no_more
+        ValuesOnFlash-kept d.log.shape d.space (freed d.pool) pool' (outputs_of d) old.pages new.pages
+        (places h.found []) placed_before shapes its.values.size its.values.as_many its.values.owned its.values.no_more
         (λ k held no_output. its.values.pages k held) its.stands.pool_fits
 
     reclaim_then : ReclaimOnFlash d.log.shape d.reclaim d.space.live pool' new.pages (places h.found [])
     reclaim_then =
-        reclaim_elsewhere d.log.shape d.reclaim d.space (freed d.pool) pool' old.pages new.pages (places h.found []) reclaim_before placed_before its.values.as_many (λ k held not_open. its.values.pages k held)
+        reclaim_elsewhere d.log.shape d.reclaim d.space (freed d.pool) pool' old.pages new.pages
+        (places h.found []) reclaim_before placed_before its.values.as_many (λ k held not_open. its.values.pages k held)
 
     with_then : DriveOnFlashWith then_drive d.log.shape new.pages h.top h.found m m
     with_then = record {
@@ -210,7 +213,8 @@ pub root_or : (r : Result Unit Fault) (d : Parts) (log' : LogState) (pool' : Blo
     → OnOk r ((levels : Levels) (arena : Frames) → Settles (index d.log levels arena d.pool d.schedule) old (index log' levels arena pool' d.schedule) new)
     → OnErr r ((levels : Levels) (arena : Frames) → SettleBreaks (index d.log levels arena d.pool d.schedule) old new) → IfErr r (λ e. e ≡ Stopped) → OnErr r (Stops old new) → OnOk r (Works old new)
     → OneProgram old new → roots new ≤ roots old → log' ≡ record d.log { next = log'.next } → FinishesRootOr d (record d { log = log'; pool = pool' }) old new r
-root_or (Ok u) d log' pool' old new may repeats ready settles breaks stopped stops works program fewer same = finishes_root d log' pool' old new ready (settles d.levels d.arena) may repeats works program
+root_or (Ok u) d log' pool' old new may repeats ready settles breaks stopped stops works program fewer same =
+    finishes_root d log' pool' old new ready (settles d.levels d.arena) may repeats works program
 root_or (Err e) d log' pool' old new may repeats ready settles breaks stopped stops works program fewer same = (
   stopped,
   ap (λ (l : LogState). l.pending) same,

@@ -7,17 +7,15 @@ use Rattle.pk_base.proofs.ShapeLemmas.{block_pages_positive}
 use Rattle.pk_work.specs.Backlog.{is_tight}
 use Rattle.pk_jrn.specs.Epochs.{left_of}
 use Rattle.pk_log.specs.State.{LogState, needs_freeze}
+use Rattle.pk_base.proofs.ZeroLemmas.{some_is_not_zero}
 
 not_same : (n : ℕ) → 0 < n → (0 == n) ≡ false
 not_same n more = grind (arith, nat_tests)
 
-not_none : (n : ℕ) → 0 < n → (n == 0) ≡ false
-not_none n more = grind (arith, nat_tests)
-
 pub no_need : (log : LogState) (key : Key) → log.active.entries ≡ [] → 0 < log.active.capacity → 0 < left_of log.epoch → needs_freeze log key ≡ false
 no_need log key none some left =
     let full : (0 == log.active.capacity) ≡ false = not_same log.active.capacity some in
-    let no_page : (left_of log.epoch == 0) ≡ false = not_none (left_of log.epoch) left in
+    let no_page : (left_of log.epoch == 0) ≡ false = some_is_not_zero (left_of log.epoch) left in
     rw (none, full, no_page) (last (length log.pending == 0))
   where
     last : (b : Bool) → (b && false) ≡ false

@@ -29,15 +29,23 @@ module _ (d : Parts) (old : BoardState) (m : MayTick d old) (half : is_half d �
         let s = done.stands in
         let same = f.same_roots in
         let number = ap (λ (l : LogState). l.root.number) f.log in
-        made_advances d old m d' new f.ready (program_calls old new f.program) f.works.rest (omega (arith, same)) (λ _. f.program) (λ _. is_whole d' s.whole) done.grows (busy_half d old m.agrees shared half)
+        made_advances d old m d' new f.ready (program_calls old new f.program) f.works.rest (omega (arith, same))
+        (λ _. f.program) (λ _. is_whole d' s.whole) done.grows (busy_half d old m.agrees shared half)
         (ap (λ (l : LogState). l.pending) f.log ∙ m.none)
         (record {
-          stands = record { top = s.top; found = s.found; without = s.without; with = with_settled d' d.log.shape new.pages s.top s.found s.without m.agrees.all s.whole.settles s.with; course = inl s.whole };
+          stands = record {
+            top = s.top;
+            found = s.found;
+            without = s.without;
+            with = with_settled d' d.log.shape new.pages s.top s.found s.without m.agrees.all s.whole.settles s.with;
+            course = inl s.whole;
+          };
           cuts = done.cuts;
         }) f.works.no_fault (ap (λ (e : Parts). frames_of e) f.rest) (ap (λ (e : Parts). e.stopped) f.rest) (stays_frees d d' f.stays) (omega (arith, number)) f.lowers
 
     pub half_stops : d'.log.pending ≡ d.log.pending → FailsToFinish d old new → Advances d (record d' { stopped = true }) old new (Fault true)
     half_stops same fails =
         let fewer = fails.no_root in
-        stop_advances d old m (record d' { stopped = true }) new fails.ready (program_calls old new fails.program) fails.stops.rest (omega (arith, fewer)) (λ _. fails.program) (busy_half d old m.agrees shared half)
+        stop_advances d old m (record d' { stopped = true }) new fails.ready (program_calls old new fails.program) fails.stops.rest
+        (omega (arith, fewer)) (λ _. fails.program) (busy_half d old m.agrees shared half)
         (same ∙ m.none) refl (fails.fails d.log.shape m.agrees.all (its_stand d old m)) fails.stops

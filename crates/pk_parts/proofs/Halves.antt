@@ -19,6 +19,7 @@ use Rattle.pk_schedule.specs.Index.{Index, IsSettled, HalfStands}
 use Rattle.pk_parts.specs.Parts.{Parts, index_of, settled_parts, commits_in, is_half}
 use Rattle.pk_parts.specs.Agreeing.{DriveOnFlashWith, IsWhole, IsHalfRoot, IsHalfCommit, IsHalfAtMost}
 use Rattle.pk_parts.specs.Moves.{StandsFor, StandsBetween, MayStep, MayCommit}
+use Rattle.pk_base.proofs.Logic.{not_both}
 
 true_false : true ≡ false → ⊥
 true_false e = cc
@@ -35,7 +36,8 @@ pool_same d settles = freed_same d.pool settles.none_leaves
 pub parts_same : (d : Parts) → IsSettled (index_of d) → settled_parts d ≡ d
 parts_same d settles = λ i. record d { pool = pool_same d settles i }
 
-pub with_whole : (d : Parts) (shape : Shape) (flash : Flash) (top : ℕ × Root) (found : Found) (without all : Map) → IsSettled (index_of d) → DriveOnFlashWith (settled_parts d) shape flash top found without all
+pub with_whole : (d : Parts) (shape : Shape) (flash : Flash) (top : ℕ × Root) (found : Found) (without all : Map)
+    → IsSettled (index_of d) → DriveOnFlashWith (settled_parts d) shape flash top found without all
     → DriveOnFlashWith d shape flash top found without all
 with_whole d shape flash top found without all settles with = subst (λ (p : Parts). DriveOnFlashWith p shape flash top found without all) (parts_same d settles) with
 
@@ -70,9 +72,6 @@ commit_half d half whole = or_then (repeats_next d.log.next) (commits_in d.recla
 
 pub is_whole : (d : Parts) → IsWhole d → is_half d ≡ false
 is_whole d whole = ap (λ (a : Bool). a || commits_in d.reclaim.phase) whole.settles.whole ∙ whole.moves
-
-pub not_both : (b : Bool) → b ≡ true → b ≡ false → ⊥
-not_both b is none = true_false (sym is ∙ none)
 
 module _ (d : Parts) (flash : Flash) (top : ℕ × Root) (found : Found) (m : Map) where
   root_repeats : IsHalfRoot d flash m → repeats_next d.log.next ≡ true
@@ -114,7 +113,8 @@ counted_index x flash m (inl settles) = ap (λ (p : Blocks). used_by Values p.st
 counted_index x flash m (inr half) = half.counted
 
 -- a drive remains whole if its installer, its blocks, its reclaim and its epoch are as far
-pub whole_like : (d e : Parts) → repeats_next e.log.next ≡ repeats_next d.log.next → (NoneLeaves d.pool → NoneLeaves e.pool) → e.reclaim.phase ≡ d.reclaim.phase → e.log.epoch.half ≡ d.log.epoch.half → IsWhole d → IsWhole e
+pub whole_like : (d e : Parts) → repeats_next e.log.next ≡ repeats_next d.log.next → (NoneLeaves d.pool → NoneLeaves e.pool)
+    → e.reclaim.phase ≡ d.reclaim.phase → e.log.epoch.half ≡ d.log.epoch.half → IsWhole d → IsWhole e
 whole_like d e next pool phase epoch whole = record {
   settles = record { whole = next ∙ whole.settles.whole; none_leaves = pool whole.settles.none_leaves };
   moves = ap commits_in phase ∙ whole.moves;

@@ -53,12 +53,15 @@ module _ (d : Parts) (old new : BoardState) (top : ℕ × Root) (found : Found) 
   still_placed : ValuesOnFlash d.log.shape d.space free (outputs_of d) new.pages (places moved.then_found [])
   still_placed =
       let same_shape = moved.stands.pool_shape ∙ (moved.same_shape ∙ sym a.index.pool_shape) in
-      let now = ValuesOnFlash-kept d.log.shape d.space d.pool free (outputs_of d) old.pages new.pages (places found []) (committed_placed d old.pages top found without all a none) same_shape moved.values.size moved.values.as_many moved.values.owned moved.values.no_more (λ k held no_output. moved.values.pages k held) moved.stands.pool_fits in
+      let now = ValuesOnFlash-kept d.log.shape d.space d.pool free (outputs_of d) old.pages new.pages (places found [])
+      (committed_placed d old.pages top found without all a none) same_shape moved.values.size moved.values.as_many moved.values.owned moved.values.no_more
+      (λ k held no_output. moved.values.pages k held) moved.stands.pool_fits in
       subst (ValuesOnFlash d.log.shape d.space free (outputs_of d) new.pages) (sym moved.same_places) now
 
   still_reclaims : ReclaimOnFlash d.log.shape d.reclaim d.space.live free new.pages (places moved.then_found [])
   still_reclaims =
-      let now = reclaim_elsewhere d.log.shape d.reclaim d.space d.pool free old.pages new.pages (places found []) (committed_reclaim d old.pages top found without all a none) (committed_placed d old.pages top found without all a none) moved.values.as_many (λ k held not_open. moved.values.pages k held) in
+      let now = reclaim_elsewhere d.log.shape d.reclaim d.space d.pool free old.pages new.pages (places found []) (committed_reclaim d old.pages top found without all a none)
+      (committed_placed d old.pages top found without all a none) moved.values.as_many (λ k held not_open. moved.values.pages k held) in
       subst (ReclaimOnFlash d.log.shape d.reclaim d.space.live free new.pages) (sym moved.same_places) now
 
   -- the drive agrees with the flash after the step, for the same map, as if the blocks that leave were free
@@ -74,7 +77,8 @@ module _ (d : Parts) (old new : BoardState) (top : ℕ × Root) (found : Found) 
     former_read = λ k is. a.former_read k (subst (λ es. IsValuePage d.log.shape es k) moved.same_places is);
     reclaim = subst (λ (es : List Entry). ReclaimOnFlash d.log.shape d.reclaim d.space.live free new.pages (places moved.then_found es)) (sym moved.none_pending) still_reclaims;
     keys_are =
-        a.keys_are ∙ (ap (λ (es : List Entry). length (places found es)) none ∙ (ap length (sym moved.same_places) ∙ ap (λ (es : List Entry). length (places moved.then_found es)) (sym moved.none_pending)));
+        a.keys_are ∙ (ap (λ (es : List Entry). length (places found es)) none
+        ∙ (ap length (sym moved.same_places) ∙ ap (λ (es : List Entry). length (places moved.then_found es)) (sym moved.none_pending)));
   }
 
   -- the pair of its root may be half made

@@ -32,7 +32,8 @@ use Rattle.pk_schedule.specs.declared.phase.Phase.TheVariants.{Idle as Between, 
 use Rattle.pk_schedule.specs.declared.phase.Stepped.{Stepped}
 use Rattle.pk_schedule.specs.declared.phase.Stepped.TheVariants.{Worked, Idle}
 use Rattle.pk_schedule.specs.Index.{Index, IndexOnFlash, settled}
-use Rattle.pk_schedule.specs.Steps.{MayWork, MayFreeze, IndexMoves, Moves, Unmoved, StandsStill, Breaks, KeepsActive, FreezeMoves, Freezes, FreezeBreaks, Less, LessIsLeft, backlog_of, merge_left, has_no_merge, is_between}
+use Rattle.pk_schedule.specs.Steps.{MayWork, MayFreeze, IndexMoves, Moves, Unmoved, StandsStill, Breaks, KeepsActive, FreezeMoves, Freezes, FreezeBreaks, Less, LessIsLeft, backlog_of, merge_left}
+use Rattle.pk_schedule.specs.Steps.{has_no_merge, is_between}
 use Rattle.pk_log.specs.State.{LogState}
 use Rattle.pk_jrn.specs.Epochs.{JournalEpoch}
 use Rattle.pk_work.specs.Backlog.{due_level}
@@ -188,7 +189,12 @@ module _ (d : Parts) (old : BoardState) (may : MayEmpty d old) where
         };
         same_places = λ was. ap (λ (f : Found). places f d.log.pending) (same_found d d.log.shape old.pages m was there);
         still = inl (ap (λ (f : Flash). reading d.log.shape f []) same);
-        cuts = ([], Reached-start old new (CrashFinds d.log.shape commit old.pages m) (ap (λ (b : BoardState). b.shape) read_only) same (ap (λ (b : BoardState). b.trail) read_only) (ap (λ (b : BoardState). b.posted) read_only) (refl, inl refl), tt);
+        cuts = (
+          [],
+          Reached-start old new (CrashFinds d.log.shape commit old.pages m) (ap (λ (b : BoardState). b.shape) read_only) same
+              (ap (λ (b : BoardState). b.trail) read_only) (ap (λ (b : BoardState). b.posted) read_only) (refl, inl refl),
+          tt,
+        );
       }))
 
 -- ---- the board
@@ -303,7 +309,8 @@ module _ (d : Parts) (old : BoardState) (may : MayEmpty d old) (x : Index) (new 
       let S : Index → Type 0 = λ y. Stays d (with_index d y) in
       subst S (sym unmoved.rest) (record { fresh = record { stays = λ e. e; begun = inl refl }; blocks = record { used = refl; open_same = refl } })
 
-  merge_came : (r : Result Stepped Fault) → MergeStep (index_of d) old x new r → old.read_faults ≤ last_count → Came (λ (s : Stepped). KeepsAllBetween d its old new) (KeepsAll d its old new) (BreaksAll d old new) old new r
+  merge_came : (r : Result Stepped Fault) → MergeStep (index_of d) old x new r → old.read_faults ≤ last_count
+      → Came (λ (s : Stepped). KeepsAllBetween d its old new) (KeepsAll d its old new) (BreaksAll d old new) old new r
   merge_came (Ok Idle) step few = let idle = step.idle refl in (keeps_between d its old new (KeepsAll-none d its old new (ap (with_index d) idle.1) idle.2), step.sound)
   merge_came (Ok Worked) step few = (moved_keeps d old may x new step.ready (whole_epoch step.active) (step.moves refl), step.sound)
   merge_came (Err Reading) step few =
@@ -433,7 +440,8 @@ module _ (d : Parts) (old : BoardState) (may : MayEmpty d old) (x : Index) (new 
   pub freeze_breaks : has_no_merge (index_of d) ≡ true → FreezeBreaks (index_of d) old new → Breaks (index_of d) old new
   freeze_breaks none breaks frames top found m ok = breaks frames top found m (inl (record { may = ok; none_merges = none }))
 
-  pub freeze_went : Moves (index_of d) old x new → FreezeDone → (x.log.shape ≡ d.log.shape) × (x.log.pending ≡ d.log.pending) → Works old new → AtMostOneCall old new → roots new ≤ roots old + 1 → IsReady new d.log.shape
+  pub freeze_went : Moves (index_of d) old x new → FreezeDone → (x.log.shape ≡ d.log.shape) × (x.log.pending ≡ d.log.pending)
+      → Works old new → AtMostOneCall old new → roots new ≤ roots old + 1 → IsReady new d.log.shape
       → FreezesOnce d its old new (Ok tt)
   freeze_went moves freezes same works calls few ready = record {
     step = record {
@@ -453,7 +461,8 @@ module _ (d : Parts) (old : BoardState) (may : MayEmpty d old) (x : Index) (new 
     stays = freeze_stays moves freezes;
   }
 
-  pub freeze_failed : (fault : Fault) → (x.log.shape ≡ d.log.shape) × (x.log.pending ≡ d.log.pending) → fault ≡ Stopped → Breaks (index_of d) old new → Stops old new → AtMostOneCall old new → roots new ≤ roots old + 1
+  pub freeze_failed : (fault : Fault) → (x.log.shape ≡ d.log.shape) × (x.log.pending ≡ d.log.pending)
+      → fault ≡ Stopped → Breaks (index_of d) old new → Stops old new → AtMostOneCall old new → roots new ≤ roots old + 1
       → IsReady new d.log.shape → FreezesOnce d its old new (Err fault)
   freeze_failed fault same stopped broken stops calls few ready = record {
     step = record {

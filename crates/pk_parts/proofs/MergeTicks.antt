@@ -18,7 +18,6 @@ use Rattle.pk_parts.specs.Emptying.{MayEmpty, MergesOnce, FreezesOnce}
 use Rattle.pk_parts.specs.Reclaiming.{FailsAll}
 use Rattle.pk_parts.specs.Merging.{DoesMerge, FailsMerge, Merges, CannotMerge, FreezesOn}
 use Rattle.pk_parts.specs.Ticking.{MayTick, Advances, WantsFreeze}
-use Rattle.pk_parts.proofs.Halves.{not_both}
 use Rattle.pk_parts.proofs.Indexing.{with_index}
 use Rattle.pk_parts.proofs.Unchanging.{agrees_ready}
 use Rattle.pk_parts.proofs.Staying.{stays_frees}
@@ -29,6 +28,7 @@ use Rattle.pk_parts.proofs.Ticking.{busy_wanted}
 use Rattle.pk_pool.specs.Blocks.{IsShared}
 use Rattle.pk_nand.specs.Calls.{IsReady}
 use Rattle.pk_parts.proofs.TickSteps.{its_whole, whole_holds, whole_fails, read_grows, made_advances, unread_advances, stop_advances}
+use Rattle.pk_base.proofs.Logic.{not_both}
 
 -- ---- made by a Tick or by a command
 
@@ -89,7 +89,8 @@ module _ (d : Parts) (old : BoardState) (may : MayEmpty d old) (x : Index) (new 
         grows = is.grows;
         number = is.numbers;
         less = λ wants.
-            freeze_less d x merged some.1.whole.settles.whole (freeze_wanted d wants) freezes (moved_many d old may x new moves) is.same_shape some.1.with.index.logs.is_shape is.stands.logs.epoch_shape;
+            freeze_less d x merged some.1.whole.settles.whole (freeze_wanted d wants) freezes
+            (moved_many d old may x new moves) is.same_shape some.1.with.index.logs.is_shape is.stands.logs.epoch_shape;
       }
 
   pub freeze_fails : Breaks (index_of d) old new → FailsAll d old new
@@ -118,7 +119,8 @@ module _ (d : Parts) (old : BoardState) (m : MayTick d old) (none_half : is_half
     pub tick_unread : MergesOnce d d' old new (Err Reading) → CannotMerge d d' old new → Advances d d' old new (Fails false)
     tick_unread once is =
         let number = ap (λ (e : Parts). e.log.root.number) is.rest in
-        unread_advances d old m d' new once.step.ready once.calls once.step.rest once.step.roots_few no_pair no_pair (read_grows d.log.shape old new is.only) (busy_merge d old old m none_half is.busy) once.none_pending
+        unread_advances d old m d' new once.step.ready once.calls once.step.rest once.step.roots_few no_pair no_pair
+        (read_grows d.log.shape old new is.only) (busy_merge d old old m none_half is.busy) once.none_pending
         is.seen (is.stands d.log.shape m.agrees.all (its_whole d old m none_half)) is.only is.read is.flash once.leaves.frames (ap (λ (e : Parts). e.stopped) once.leaves.rest)
         (stays_frees d d' once.stays) (omega (arith, number))
 
@@ -130,7 +132,8 @@ module _ (d : Parts) (old : BoardState) (m : MayTick d old) (none_half : is_half
     pub tick_frozen : FreezesOnce d d' old new (Ok tt) → FreezesOn d d' old new → WantsFreeze d → IsShared d.pool.shape d.pool.states → Advances d d' old new Goes
     tick_frozen once is wants shared =
         made_advances d old m d' new once.step.ready once.calls once.step.works.rest once.step.roots_few no_pair no_pair is.grows (busy_wanted d old m.agrees shared wants) once.none_pending
-        (whole_holds d old m d' new none_half is.holds) once.step.works.no_fault once.leaves.frames (ap (λ (e : Parts). e.stopped) once.leaves.rest) (stays_frees d d' once.stays) is.number (is.less wants)
+        (whole_holds d old m d' new none_half is.holds) once.step.works.no_fault once.leaves.frames
+        (ap (λ (e : Parts). e.stopped) once.leaves.rest) (stays_frees d d' once.stays) is.number (is.less wants)
 
     pub tick_unfrozen : (e : Fault) → FreezesOnce d d' old new (Err e) → FailsAll d old new → WantsFreeze d → IsShared d.pool.shape d.pool.states
         → Advances d (record d' { stopped = true }) old new (Fails true)

@@ -36,7 +36,8 @@ open_is shape pool flash (Some o) page count is inside some =
     let high = inside.1 in
     ap Some (sym (block_of shape.block_pages page o.block (omega (arith, low)) (omega (arith, high, within, some))))
 
-pub put_noted : (d : Parts) (flash : Flash) (m : Map) (k : Key) (value : List ℕ) (page len : ℕ) (old : Option Place) (log' : LogState) (space' : DataState) (keys' : ℕ) → length value ≡ len → Puts d d.log.shape flash m k value page old
+pub put_noted : (d : Parts) (flash : Flash) (m : Map) (k : Key) (value : List ℕ) (page len : ℕ) (old : Option Place) (log' : LogState) (space' : DataState) (keys' : ℕ)
+    → length value ≡ len → Puts d d.log.shape flash m k value page old
     → log' ≡ pushed d.log (k, Some (record { page = page; len = len })) → space'.open_block ≡ d.space.open_block → IsNoted (record d { log = log'; space = space'; keys = keys' }) k
 put_noted d flash m k value page len old log' space' keys' is_len p is same =
     let T : LogState → Type 0 = λ l. IsNoted (record d { log = l; space = space'; keys = keys' }) k in

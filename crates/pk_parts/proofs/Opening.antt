@@ -36,7 +36,8 @@ use Rattle.pk_parts.proofs.Reclaiming.{reclaim_rests}
 use Rattle.pk_schedule.proofs.Keeping.{IsFound, index_opens}
 
 -- the lists are what a log is opened with
-log_opens : {A : Type 0} (shape : Shape) (flash : Flash) (frames : ℕ) (f : Opened A) (found : Found) (m : Map) → ListsOnFlash shape flash frames f found m → Opens f.root f.root_page f.epoch f.active f.frozen flash found
+log_opens : {A : Type 0} (shape : Shape) (flash : Flash) (frames : ℕ) (f : Opened A) (found : Found) (m : Map)
+    → ListsOnFlash shape flash frames f found m → Opens f.root f.root_page f.epoch f.active f.frozen flash found
 log_opens shape flash frames f found m has =
     let S : Shape → Type 0 = λ s. Opens (record { shape = s; root = f.root.root }) f.root_page f.epoch f.active f.frozen flash found in
     let epoch_is = has.epoch_is.1 in
@@ -52,7 +53,8 @@ log_opens shape flash frames f found m has =
     })
 
 -- and the blocks with their owners those that values are found in
-values_found : {A : Type 0} (shape : Shape) (flash : Flash) (f : Opened A) (found : Found) → IsShape shape → BlocksOnFlash shape flash f found → FoundAtOpening shape (named f.root.root) f.live f.pool flash (places found [])
+values_found : {A : Type 0} (shape : Shape) (flash : Flash) (f : Opened A) (found : Found) → IsShape shape
+    → BlocksOnFlash shape flash f found → FoundAtOpening shape (named f.root.root) f.live f.pool flash (places found [])
 values_found shape flash f found is has = record {
   is_shape = is;
   shape_is = has.owners.pool_shape;
@@ -97,7 +99,8 @@ module _ {A : Type 0} (shape : Shape) (flash : Flash) (frames : ℕ) (f : Opened
       (idle.0, idle.1, subst (λ (x : Shape). IsIdle x s.job) own idle.2) (pins ∙ ap (λ (x : Shape). pinned x (length f.arena.used)) own)
 
   pub opens_on : IsShape f.root.shape → IsFlash shape flash → FoundOnFlash shape flash frames f
-      → log ≡ opened f.root f.root_page f.epoch f.active f.frozen → ((x : Flash) (found : Found) → Opens f.root f.root_page f.epoch f.active f.frozen x found → LogOnFlash log x (f.root_page, f.root.root) found)
+      → log ≡ opened f.root f.root_page f.epoch f.active f.frozen
+      → ((x : Flash) (found : Found) → Opens f.root f.root_page f.epoch f.active f.frozen x found → LogOnFlash log x (f.root_page, f.root.root) found)
       → space ≡ with_none_open f.live → ((s : Shape) (named : List ℕ) (p : Blocks) (x : Flash) (es : List (Key × Place)) → FoundAtOpening s named f.live p x es → ValuesOnFlash s space p [] x es)
       → (s.phase ≡ Idle) × (s.freeze ≡ NoFreeze) × IsIdle f.root.shape s.job → s.job.pinned ≡ pinned f.root.shape (length f.arena.used)
       → (job.shape ≡ f.root.shape) × (job.phase ≡ NoReclaim) × (job.moves ≡ [])
@@ -105,7 +108,8 @@ module _ {A : Type 0} (shape : Shape) (flash : Flash) (frames : ℕ) (f : Opened
   opens_on held is_flash was log_is stands space_is places_so idle pins rests =
       let is : IsShape shape = subst IsShape was.lists.shape_is held in
       let none : log.pending ≡ [] = ap (λ (l : LogState). l.pending) log_is in
-      let placed : ValuesOnFlash shape space f.pool [] flash (places was.found []) = places_so shape (named f.root.root) f.pool flash (places was.found []) (values_found shape flash f was.found is was.blocks) in
+      let placed : ValuesOnFlash shape space f.pool [] flash (places was.found []) = places_so shape
+      (named f.root.root) f.pool flash (places was.found []) (values_found shape flash f was.found is was.blocks) in
       record {
         top = (f.root_page, f.root.root);
         found = was.found;

@@ -5,7 +5,7 @@ use Rattle.pk_nand.specs.BoardState.{BoardState}
 use Rattle.pk_root.specs.Installing.{repeats_next}
 use Rattle.pk_parts.specs.Parts.{Parts, commits_in}
 use Rattle.pk_parts.specs.Pairing.{FinishesOr, FinishesRootOr, SettlesOr, FinishesCommitOr, CommitsOr}
-use Rattle.pk_parts.proofs.Halves.{not_both}
+use Rattle.pk_base.proofs.Logic.{not_both}
 
 pub settled_half : (d d' : Parts) (old new : BoardState) (r : Result Unit Fault) → repeats_next d.log.next ≡ true → FinishesRootOr d d' old new r → SettlesOr d d' old new r
 settled_half d d' old new r half is = record { half = λ e. is; whole = λ e. absurd (not_both (repeats_next d.log.next) half e) }

@@ -20,8 +20,9 @@ use Rattle.pk_call.specs.Moving.{commits_for}
 use Rattle.pk_parts.specs.Parts.{Parts, sight_of}
 use Rattle.pk_parts.specs.Moves.{StandsFor}
 use Rattle.pk_parts.specs.Placing.{PlacesValue}
-use Rattle.pk_parts.proofs.Rooming.{entries_some}
 use Rattle.pk_parts.specs.Programming.{Programs}
+use Rattle.pk_base.proofs.Logic.{not_both}
+use Rattle.pk_base.proofs.ShapeLemmas.{entries_some}
 
 -- ---- counts
 
@@ -46,18 +47,15 @@ written_programs shape key page value (suc k) board =
     let rest = written_programs shape key page value k board in
     record { programs = ap counted rest.programs; erases = rest.erases }
 
-no_yes : (b : Bool) → b ≡ true → b ≡ false → ⊥
-no_yes true e f = cc
-no_yes false e f = cc
-
-pub place_programs : (shape : Shape) (key : Key) (value : List ℕ) (d : DataState) (p : Blocks) (old : BoardState) (page : ℕ) (d' : DataState) (q : Blocks) (new : BoardState) → PlacesValue shape key value d p old page d' q new
+pub place_programs : (shape : Shape) (key : Key) (value : List ℕ) (d : DataState) (p : Blocks) (old : BoardState) (page : ℕ) (d' : DataState) (q : Blocks) (new : BoardState)
+    → PlacesValue shape key value d p old page d' q new
     → fits_open shape d (charge shape (length value)) ≡ true → Programs (charge shape (length value)) old new
 place_programs shape key value d p old page d' q new is room = elim is.reserved.taken [
   | inl next ↦ (
       let T : BoardState → Type 0 = λ b. Programs (charge shape (length value)) b new in
       let U : BoardState → Type 0 = λ b. Programs (charge shape (length value)) is.between b in
       subst T next.same_board (subst U (sym is.writes) (written_programs shape key page value (charge shape (length value)) is.between)))
-  | inr opens ↦ absurd (no_yes (fits_open shape d (charge shape (length value))) room opens.no_room)
+  | inr opens ↦ absurd (not_both (fits_open shape d (charge shape (length value))) room opens.no_room)
 ]
 
 -- ---- the steps of a Store and of a Delete
@@ -77,7 +75,7 @@ pub pushed_more : (log log' : LogState) (e : Entry) → log' ≡ pushed log e �
 pushed_more log log' e is = ap (λ (l : LogState). length l.pending) is ∙ length-append log.pending (e ∷ [])
 
 pub not_wanted_ok : {X E : Type 0} (A : Type 0) (r : Result X E) (b : Bool) → b ≡ true → OnOk r (b ≡ false → A)
-not_wanted_ok A (Ok x) b wanted = λ e. absurd (no_yes b wanted e)
+not_wanted_ok A (Ok x) b wanted = λ e. absurd (not_both b wanted e)
 not_wanted_ok A (Err e) b wanted = tt
 
 commits_one : (n m : ℕ) → n ≡ m → ◌≡◌ {A = ℕ} (if n == m then commit_programs else 0) commit_programs
@@ -87,13 +85,16 @@ commits_none : (n m : ℕ) → (n ≡ m → ⊥) → ◌≡◌ {A = ℕ} (if n =
 commits_none n m other = ap {B = ℕ} (λ b. if b then commit_programs else 0) (ne_eqb n m other)
 
 -- a commit after one more entry
-commit_part : (r : Result Unit Fault) (a n c : Parts) (s1 s2 : BoardState) → length a.log.pending < page_entries a.log.shape → length n.log.pending ≡ length a.log.pending + 1 → n.log.shape ≡ a.log.shape
-    → OnOk r (length n.log.pending < page_entries n.log.shape → (c ≡ n) × (s2 ≡ s1)) → OnOk r (page_entries n.log.shape ≤ length n.log.pending → Programs commit_programs s1 s2) → OnOk r (Programs (commits_for a.log.shape (sight_of a)) s1 s2)
+commit_part : (r : Result Unit Fault) (a n c : Parts) (s1 s2 : BoardState) → length a.log.pending < page_entries a.log.shape
+    → length n.log.pending ≡ length a.log.pending + 1 → n.log.shape ≡ a.log.shape
+    → OnOk r (length n.log.pending < page_entries n.log.shape → (c ≡ n) × (s2 ≡ s1))
+    → OnOk r (page_entries n.log.shape ≤ length n.log.pending → Programs commit_programs s1 s2) → OnOk r (Programs (commits_for a.log.shape (sight_of a)) s1 s2)
 commit_part (Err e) a n c s1 s2 few more shapes idle full = tt
 commit_part (Ok x) a n c s1 s2 few more shapes idle full =
     let entries : page_entries n.log.shape ≡ page_entries a.log.shape = ap (λ s. page_entries s) shapes in
     elim (cases_lt (length a.log.pending + 1) (page_entries a.log.shape)) [
-      | inl less ↦ subst (λ k. Programs k s1 s2) (sym (commits_none (length a.log.pending + 1) (page_entries a.log.shape) (λ e. omega (arith, less, e)))) (programs_none s1 s2 (idle (omega (arith, entries, more, less))).1)
+      | inl less ↦ subst (λ k. Programs k s1 s2) (sym (commits_none (length a.log.pending + 1) (page_entries a.log.shape) (λ e. omega (arith, less, e))))
+          (programs_none s1 s2 (idle (omega (arith, entries, more, less))).1)
       | inr most ↦ subst (λ k. Programs k s1 s2) (sym (commits_one (length a.log.pending + 1) (page_entries a.log.shape) (omega (arith, most, few)))) (full (omega (arith, entries, more, most)))
     ]
 
@@ -110,8 +111,10 @@ module _ (r : Result Unit Fault) (a b n c : Parts) (s0 s1 s2 : BoardState) (size
       then_ok r s0 s1 s2 (charge a.log.shape size) (commits_for a.log.shape (sight_of a)) (fits_open a.log.shape a.space (charge a.log.shape size) ≡ true) first
       (commit_part r a n c s1 s2 few (more ∙ ap (λ (l : LogState). length l.pending + 1) same) (shapes ∙ ap (λ (l : LogState). l.shape) same) idle full)
 
-pub take_programs : (r : Result Unit Fault) (a n c : Parts) (s1 s2 : BoardState) → length a.log.pending < page_entries a.log.shape → length n.log.pending ≡ length a.log.pending + 1 → n.log.shape ≡ a.log.shape
-    → OnOk r (length n.log.pending < page_entries n.log.shape → (c ≡ n) × (s2 ≡ s1)) → OnOk r (page_entries n.log.shape ≤ length n.log.pending → Programs commit_programs s1 s2) → OnOk r (Programs (commits_for a.log.shape (sight_of a)) s1 s2)
+pub take_programs : (r : Result Unit Fault) (a n c : Parts) (s1 s2 : BoardState)
+    → length a.log.pending < page_entries a.log.shape → length n.log.pending ≡ length a.log.pending + 1 → n.log.shape ≡ a.log.shape
+    → OnOk r (length n.log.pending < page_entries n.log.shape → (c ≡ n) × (s2 ≡ s1))
+    → OnOk r (page_entries n.log.shape ≤ length n.log.pending → Programs commit_programs s1 s2) → OnOk r (Programs (commits_for a.log.shape (sight_of a)) s1 s2)
 take_programs r a n c s1 s2 few more shapes idle full = commit_part r a n c s1 s2 few more shapes idle full
 
 -- if no freeze is needed, what makes room does nothing
@@ -124,7 +127,8 @@ put_idle (Ok x) a b s0 s1 s2 k size idle made = λ none.
     let T : Parts → BoardState → Type 0 = λ d s. fits_open d.log.shape d.space (charge d.log.shape size) ≡ true → Programs (charge d.log.shape size + commits_for d.log.shape (sight_of d)) s s2 in
     subst (λ d. T d s0) same.0 (subst (λ s. T b s) same.1 made)
 
-pub take_idle : (r : Result Unit Fault) (a b : Parts) (s0 s1 s2 : BoardState) (k : Key) → (needs_freeze a.log k ≡ false → (b ≡ a) × (s1 ≡ s0)) → OnOk r (Programs (commits_for b.log.shape (sight_of b)) s1 s2)
+pub take_idle : (r : Result Unit Fault) (a b : Parts) (s0 s1 s2 : BoardState) (k : Key)
+    → (needs_freeze a.log k ≡ false → (b ≡ a) × (s1 ≡ s0)) → OnOk r (Programs (commits_for b.log.shape (sight_of b)) s1 s2)
     → OnOk r (needs_freeze a.log k ≡ false → Programs (commits_for a.log.shape (sight_of a)) s0 s2)
 take_idle (Err e) a b s0 s1 s2 k idle made = tt
 take_idle (Ok x) a b s0 s1 s2 k idle made = λ none.

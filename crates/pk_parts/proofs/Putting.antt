@@ -7,7 +7,7 @@ use Rattle.pk_base.specs.Entry.{Place}
 use Rattle.pk_base.specs.Key.{Key, key_cmp}
 use Rattle.pk_base.specs.Shape.{Shape, charge}
 use Rattle.pk_base.specs.Page.{Flash}
-use Rattle.pk_base.specs.EntryBytes.{IsPlace}
+use Rattle.pk_base.specs.EntryChecks.{IsPlace}
 use Rattle.pk_base.specs.Map.{Map}
 use Rattle.pk_base.specs.Mark.{all_posted}
 use Rattle.pk_plan.specs.declared.owner.Owner.TheVariants.{Values as for_values}
@@ -30,7 +30,8 @@ use Rattle.pk_parts.proofs.Changing.{IsStill, kept_goes, changes, change_goes}
 
 -- ---- a step that keeps the map leaves what a change requires
 
-pub may_put_after : (a b : Parts) (shape : Shape) (m : Map) (old new : BoardState) (key : Key) (value : List ℕ) (place : Option Place) → MayPut a shape old.pages m key value place → Keeps a b shape m old new
+pub may_put_after : (a b : Parts) (shape : Shape) (m : Map) (old new : BoardState) (key : Key) (value : List ℕ) (place : Option Place)
+    → MayPut a shape old.pages m key value place → Keeps a b shape m old new
     → MayPut b shape new.pages m key value place
 may_put_after a b shape m old new key value place may keeps = record {
   stands = keeps.stands;
@@ -39,7 +40,8 @@ may_put_after a b shape m old new key value place may keeps = record {
   room = may.room;
 }
 
-pub may_take_after : (a b : Parts) (shape : Shape) (m : Map) (old new : BoardState) (key : Key) (place : Place) → MayTake a shape old.pages m key place → Keeps a b shape m old new → MayTake b shape new.pages m key place
+pub may_take_after : (a b : Parts) (shape : Shape) (m : Map) (old new : BoardState) (key : Key) (place : Place)
+    → MayTake a shape old.pages m key place → Keeps a b shape m old new → MayTake b shape new.pages m key place
 may_take_after a b shape m old new key place may keeps = record {
   stands = keeps.stands;
   old_is = ap (find key_cmp key) (keeps.same_places may.stands) ∙ may.old_is;
@@ -52,7 +54,8 @@ reclaim_same a b count is shapes spaces used needs = rw (shapes, spaces, used) n
 
 -- ---- a step that keeps the map, and a change after it
 
-module _ (shape : Shape) (s0 s1 : BoardState) (has : s0.shape ≡ Some shape) (m m' : Map) (first : Reaches shape s0 s1 (CrashFinds shape commit s0.pages m)) (still : IsStill shape s1.pages s0.pages m) where
+module _ (shape : Shape) (s0 s1 : BoardState) (has : s0.shape ≡ Some shape) (m m' : Map)
+    (first : Reaches shape s0 s1 (CrashFinds shape commit s0.pages m)) (still : IsStill shape s1.pages s0.pages m) where
   silent : all_posted first.0 ≡ []
   silent = (at_end first.0 s0 s1 (CrashFinds shape commit s0.pages m) first.1).0
 
@@ -130,7 +133,15 @@ puts_of b its shape flash m key value page old same may written place in_open = 
 }
 
 pub drops_of : (d : Parts) (shape : Shape) (flash : Flash) (m : Map) (key : Key) (old : Place) → MayTake d shape flash m key old → Drops d shape flash m key old
-drops_of d shape flash m key old may = record { top = may.stands.top; found = may.stands.found; without = may.stands.without; with = may.stands.with; whole = may.stands.whole; old_is = may.old_is; bytes = may.bytes }
+drops_of d shape flash m key old may = record {
+  top = may.stands.top;
+  found = may.stands.found;
+  without = may.stands.without;
+  with = may.stands.with;
+  whole = may.stands.whole;
+  old_is = may.old_is;
+  bytes = may.bytes;
+}
 
 -- for some map
 pub some_puts : (a b : Parts) (s0 s1 : BoardState) (key : Key) (value : List ℕ) (page : ℕ) (old : Option Place)
@@ -138,11 +149,18 @@ pub some_puts : (a b : Parts) (s0 s1 : BoardState) (key : Key) (value : List ℕ
     → IsWritten b a.log.shape s1.pages key value page → IsPlace a.log.shape (record { page = page; len = length value }) → IsInOpen a.log.shape b.space page (charge a.log.shape (length value))
     → (flash : Flash) × (m : Map) × (x : List ℕ) × (length x ≡ length value) × Puts b b.log.shape flash m key x page old
 some_puts a b s0 s1 key value page old may keeps same written place in_open =
-    let mid = may_put_after a b a.log.shape may.0 s0 s1 key value old may.1 (keeps a.log.shape may.0 may.1.stands) in
-    (s1.pages, may.0, value, refl, subst (λ (s : Shape). Puts b s s1.pages may.0 key value page old) (sym same) (puts_of b a.log.shape a.log.shape s1.pages may.0 key value page old refl mid written place in_open))
+    let mid = may_put_after a b a.log.shape may.0 s0 s1 key value old may.1 (keeps a.log.shape may.0 may.1.stands) in (
+      s1.pages,
+      may.0,
+      value,
+      refl,
+      subst (λ (s : Shape). Puts b s s1.pages may.0 key value page old) (sym same)
+          (puts_of b a.log.shape a.log.shape s1.pages may.0 key value page old refl mid written place in_open),
+    )
 
 -- what a change requires, for some map, after a step that keeps it
-pub some_may_put : (a b : Parts) (s0 s1 : BoardState) (key : Key) (value : List ℕ) (place : Option Place) → (m : Map) × MayPut a a.log.shape s0.pages m key value place → KeepsAll a b s0 s1 → b.log.shape ≡ a.log.shape
+pub some_may_put : (a b : Parts) (s0 s1 : BoardState) (key : Key) (value : List ℕ) (place : Option Place)
+    → (m : Map) × MayPut a a.log.shape s0.pages m key value place → KeepsAll a b s0 s1 → b.log.shape ≡ a.log.shape
     → (m : Map) × MayPut b b.log.shape s1.pages m key value place
 some_may_put a b s0 s1 key value place may keeps same =
     (may.0, subst (λ (s : Shape). MayPut b s s1.pages may.0 key value place) (sym same) (may_put_after a b a.log.shape may.0 s0 s1 key value place may.1 (keeps a.log.shape may.0 may.1.stands)))
@@ -170,7 +188,8 @@ some_put a b c s0 s1 key value page old may keeps same same' written place in_op
     )
 
 module _ (a b c : Parts) (s0 s1 : BoardState) (key : Key) (value : List ℕ) (page : ℕ) (old : Option Place) (ready : IsReady s0 a.log.shape) (keeps : KeepsAll a b s0 s1)
-    (written : IsWritten b a.log.shape s1.pages key value page) (place : IsPlace a.log.shape (record { page = page; len = length value })) (in_open : IsInOpen a.log.shape b.space page (charge a.log.shape (length value)))
+    (written : IsWritten b a.log.shape s1.pages key value page) (place : IsPlace a.log.shape (record { page = page; len = length value }))
+    (in_open : IsInOpen a.log.shape b.space page (charge a.log.shape (length value)))
     (noted : (shape : Shape) (flash : Flash) (m : Map) → Puts b shape flash m key value page old → StandsFor c shape flash (insert m key value)) where
   there : (shape : Shape) (m : Map) → MayPut a shape s0.pages m key value old → StandsFor c shape s1.pages (insert m key value)
   there shape m may =
@@ -206,7 +225,11 @@ module _ (a c : Parts) (s0 : BoardState) (key : Key) (old : Place) (ready : IsRe
   pub take_changed : (r : Result Unit Fault) (e : Parts) (s2 : BoardState) → OnOk r (KeepsAll c e s0 s2) → OnOk r (TakesAll a e s0 s2 key old)
   take_changed (Ok x) e s2 kept = λ shape m may.
       let two = kept shape (remove m key) (noted shape s0.pages m (drops_of a shape s0.pages m key old may)) in
-      record { stands = two.stands; cuts = (two.cuts.0, weaken two.cuts.0 s0 s2 (CrashFinds shape commit s0.pages (remove m key)) (CrashFinds shape (change (remove m key)) s0.pages m) (taken_cut shape m) two.cuts.1, two.cuts.2) }
+      record {
+        stands = two.stands;
+        cuts =
+            (two.cuts.0, weaken two.cuts.0 s0 s2 (CrashFinds shape commit s0.pages (remove m key)) (CrashFinds shape (change (remove m key)) s0.pages m) (taken_cut shape m) two.cuts.1, two.cuts.2);
+      }
   take_changed (Err f) e s2 kept = tt
 
   pub take_failed : (r : Result Unit Fault) (s2 : BoardState) → OnErr r (BreaksAll c s0 s2) → OnErr r (FailsToTake a s0 s2 key old)

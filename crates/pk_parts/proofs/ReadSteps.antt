@@ -1,39 +1,22 @@
 -- Steps of which one may fail by a read: one after another, and what else is said of them.
-use Rattle.std.proofs.Common.{◌≡◌, ℕ, ◌+◌, ◌≤◌, refl, subst, ◌∙◌, arith, Result, Ok, Err}
+use Rattle.std.proofs.Common.{◌≡◌, ℕ, ◌+◌, ◌≤◌, refl, ◌∙◌, arith, Result, Ok, Err}
 use Rattle.std.specs.Prelude.{IfErr, OnOk}
 use Rattle.pk_base.specs.Shape.{Shape}
 use Rattle.pk_nand.specs.declared.types.Fault.{Fault}
 use Rattle.pk_nand.specs.declared.types.Fault.TheVariants.{Reading, Stopped}
 use Rattle.pk_nand.specs.BoardState.{BoardState}
-use Rattle.pk_nand.specs.Calls.{IsReady, Rose}
+use Rattle.pk_nand.specs.Calls.{IsReady}
 use Rattle.pk_nand.specs.Effects.{OnlyFlash, NoFault}
 use Rattle.pk_model.specs.Wear.{roots}
 use Rattle.pk_model.specs.Steps.{Step}
 use Rattle.pk_model.proofs.Steps.{RootsUpTo-le}
 use Rattle.pk_parts.specs.Emptying.{Unread, Halts, Came, ReadsUpTo, StepOrRead, OnRunning}
+use Rattle.pk_nand.proofs.Effects.{only_then, rose_from}
 
 -- ---- the board
 
-only_then : (a b c : BoardState) → OnlyFlash a b → OnlyFlash b c → OnlyFlash a c
-only_then a b c first second =
-    let T : BoardState → Type 0 = λ s. c ≡ record s {
-      pages = c.pages;
-      trail = c.trail;
-      reads = c.reads;
-      programs = c.programs;
-      erases = c.erases;
-      flash_faults = c.flash_faults;
-      read_faults = c.read_faults;
-      stop_faults = c.stop_faults;
-      failed_at = c.failed_at;
-    } in
-    subst T first second
-
 no_fault_then : (a b c : BoardState) → NoFault a b → NoFault b c → NoFault a c
 no_fault_then a b c first second = (second.0 ∙ first.0, second.1 ∙ first.1, second.2 ∙ first.2, second.3 ∙ first.3)
-
-rose_from : {a b c : ℕ} → b ≡ a → Rose b c → Rose a c
-rose_from {a} {b} {c} same rose = let T : ℕ → Type 0 = λ n. Rose n c in subst T same rose
 
 unread_behind : (a b c : BoardState) → NoFault a b → Unread b c → Unread a c
 unread_behind a b c first second = record {
@@ -48,13 +31,15 @@ halts_behind a b c first second = record { flash = rose_from first.0 second.flas
 
 -- ---- what is said otherwise
 
-came_says : {T : Type 0} (r : Result T Fault) (E E' : T → Type 0) (K K' B B' : Type 0) (old new : BoardState) → ((x : T) → E x → E' x) → (K → K') → (B → B') → Came E K B old new r → Came E' K' B' old new r
+came_says : {T : Type 0} (r : Result T Fault) (E E' : T → Type 0) (K K' B B' : Type 0) (old new : BoardState)
+    → ((x : T) → E x → E' x) → (K → K') → (B → B') → Came E K B old new r → Came E' K' B' old new r
 came_says (Ok x) E E' K K' B B' old new f g h came = (f x came.0, came.1)
 came_says (Err Reading) E E' K K' B B' old new f g h came = (g came.0, came.1)
 came_says (Err Stopped) E E' K K' B B' old new f g h came = (h came.0, came.1)
 
 -- it did not end
-came_failed : {T U : Type 0} (e : Fault) (E : T → Type 0) (E' : U → Type 0) (K K' B B' : Type 0) (old new : BoardState) → (K → K') → (B → B') → Came E K B old new (Err e) → Came E' K' B' old new (Err e)
+came_failed : {T U : Type 0} (e : Fault) (E : T → Type 0) (E' : U → Type 0) (K K' B B' : Type 0) (old new : BoardState)
+    → (K → K') → (B → B') → Came E K B old new (Err e) → Came E' K' B' old new (Err e)
 came_failed Reading E E' K K' B B' old new g h came = (g came.0, came.1)
 came_failed Stopped E E' K K' B B' old new g h came = (h came.0, came.1)
 
@@ -109,7 +94,8 @@ reads_nothing (Err Stopped) E K B shape n old new step =
     }
 
 -- nothing was left to do
-pub reading_end : {T : Type 0} (x : T) (E : T → Type 0) (K B : Type 0) (shape : Shape) (n : ℕ) (old new : BoardState) → Passes n old new → IsReady new shape → E x → StepOrRead E K B shape n old new (Ok x)
+pub reading_end : {T : Type 0} (x : T) (E : T → Type 0) (K B : Type 0) (shape : Shape) (n : ℕ) (old new : BoardState)
+    → Passes n old new → IsReady new shape → E x → StepOrRead E K B shape n old new (Ok x)
 reading_end x E K B shape n old new passes ready ended = record { came = (ended, passes.no_fault); rest = passes.rest; reads = passes.reads; roots_few = passes.roots_few; ready = ready }
 
 -- it failed, as a part of what was to be done

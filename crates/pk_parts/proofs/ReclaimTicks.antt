@@ -30,10 +30,10 @@ use Rattle.pk_parts.proofs.SpaceSteps.{leaves_stay, unread_stays}
 use Rattle.pk_parts.proofs.Stored.{blocks_between, blocks_at}
 use Rattle.pk_parts.proofs.Ticking.{busy_reclaim}
 use Rattle.pk_parts.proofs.ReclaimWork.{worked_less, ended_less}
-use Rattle.pk_parts.proofs.Halves.{not_both}
 use Rattle.pk_parts.proofs.TickSteps.{its_whole, whole_fails, made_advances, unread_advances, stop_advances}
 use Rattle.pk_model.specs.Sight.{IsIdle}
 use Rattle.pk_pool.specs.Blocks.{IsShared}
+use Rattle.pk_base.proofs.Logic.{not_both}
 
 true_false : true ≡ false → ⊥
 true_false e = cc
@@ -78,7 +78,8 @@ module _ (d : Parts) (old : BoardState) (m : MayTick d old) (none_half : is_half
   pub may_reclaim : MayReclaim d old
   may_reclaim = record { may = record { ready = agrees_ready d old m.agrees; stands = (m.agrees.all, its) }; none_pending = m.none; turn = turn_of d wants }
 
-  module _ (new : BoardState) (calls : AtMostOneCall old new) (rest : OnlyFlash old new) (same_roots : roots new ≡ roots old) (grows : Grows d.log.shape old.pages new.pages) (ready : IsReady new d.log.shape) where
+  module _ (new : BoardState) (calls : AtMostOneCall old new) (rest : OnlyFlash old new)
+      (same_roots : roots new ≡ roots old) (grows : Grows d.log.shape old.pages new.pages) (ready : IsReady new d.log.shape) where
     installs : roots new ≤ roots old + 1
     installs = omega (arith, same_roots)
 
@@ -111,7 +112,8 @@ module _ (d : Parts) (old : BoardState) (m : MayTick d old) (none_half : is_half
         let stays = unread_stays d d' old new unread in
         let same = ap (λ (e : Parts). (counts_of e).blocks) unread.rest in
         let number = ap (λ (e : Parts). e.log.root.number) unread.rest in
-        unread_advances d old m d' new ready calls rest installs no_pair no_pair grows (busy shared) (ap (λ (e : Parts). e.log.pending) unread.rest ∙ m.none) (ap (λ (e : Parts). sight_of e) unread.rest)
+        unread_advances d old m d' new ready calls rest installs no_pair no_pair grows (busy shared)
+        (ap (λ (e : Parts). e.log.pending) unread.rest ∙ m.none) (ap (λ (e : Parts). sight_of e) unread.rest)
         (unread.stands d.log.shape m.agrees.all its) unread.only unread.read unread.flash stays.frames stays.stopped
         (record { fresh = stays.fresh; no_more = omega (arith, same) }) (omega (arith, number))
 

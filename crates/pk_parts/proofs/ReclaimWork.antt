@@ -41,7 +41,8 @@ not_due_at d false e space = refl
 not_due_at d true e space =
     let all = eqb-true (counts_of d).blocks (data_blocks d.log.shape - 1) e in
     let full : nat_le (data_blocks d.log.shape - 1) (used_by Values d.pool.states) ≡ true = le-leb (data_blocks d.log.shape - 1) (used_by Values d.pool.states) (omega (arith, all)) in
-    sym (both (not (fits_open d.log.shape d.space (most_pages d.log.shape)))) ∙ (ap (λ x. not (fits_open d.log.shape d.space (most_pages d.log.shape)) && x) (sym full) ∙ space (most_pages d.log.shape) (omega arith))
+    sym (both (not (fits_open d.log.shape d.space (most_pages d.log.shape))))
+    ∙ (ap (λ x. not (fits_open d.log.shape d.space (most_pages d.log.shape)) && x) (sym full) ∙ space (most_pages d.log.shape) (omega arith))
 
 space_not_due : (d : Parts) → HasSpace (space_of d) → is_reclaim_due d ≡ false
 space_not_due d space = not_due_at d ((counts_of d).blocks == data_blocks d.log.shape - 1) refl space
@@ -111,7 +112,8 @@ module _ (b c : Parts) (due due' : Bool) where
   works_may p (Commits other) wants falls on none may = absurd (false_true (sym (ap (λ x. x && is_tight_for c) (none on)) ∙ may))
   works_may p (GivesBack other) wants falls on none may = absurd (false_true (sym (ap (λ x. x && is_tight_for c) (none on)) ∙ may))
 
-  ends_lower : (p : Phase) → Wants p → FallsTo p b Idle c → RoomBehind p (space_of b) (space_of c) → (HasSpace (space_of c) → due' ≡ false) → ((runs_in p ≡ true) → c.log ≡ b.log → c.space ≡ b.space → due' ≡ due) → Less p due b Idle due' c
+  ends_lower : (p : Phase) → Wants p → FallsTo p b Idle c → RoomBehind p (space_of b) (space_of c) → (HasSpace (space_of c) → due' ≡ false)
+      → ((runs_in p ≡ true) → c.log ≡ b.log → c.space ≡ b.space → due' ≡ due) → Less p due b Idle due' c
   ends_lower Idle (inl runs) falls from none same = absurd (false_true runs)
   ends_lower Idle (inr is) falls from none same =
       subst (λ x. Less Idle x b Idle due' c) (sym is) (subst (λ y. Less Idle true b Idle y c) (sym (none from)) (record { none_ready = falls.none_ready; less = falls.less }))
@@ -129,7 +131,8 @@ module _ (b c : Parts) (due due' : Bool) where
           record { none_ready = ready; less = omega (arith, less, ready, whole) }
       by false shapes = record { none_ready = falls.none_ready; less = falls.less }
 
-  ends_may : (p : Phase) → RoomBehind p (space_of b) (space_of c) → (HasSpace (space_of c) → due' ≡ false) → ((runs_in p ≡ true) → c.log ≡ b.log → c.space ≡ b.space → due' ≡ due) → may_at Idle due' c ≡ true → may_at p due b ≡ true
+  ends_may : (p : Phase) → RoomBehind p (space_of b) (space_of c) → (HasSpace (space_of c) → due' ≡ false)
+      → ((runs_in p ≡ true) → c.log ≡ b.log → c.space ≡ b.space → due' ≡ due) → may_at Idle due' c ≡ true → may_at p due b ≡ true
   ends_may Idle from none same may = absurd (false_true (sym (ap (λ x. x && is_tight_for c) (none from)) ∙ may))
   ends_may (Copies e) from none same may = absurd (false_true (sym (ap (λ x. x && is_tight_for c) (none from)) ∙ may))
   ends_may (Commits victim) from none same may = absurd from
@@ -183,7 +186,8 @@ module _ (b c : Parts) (leaves : LeavesIndex b c) where
   held_one (Commits victim) runs = refl
   held_one (GivesBack victim) runs = refl
 
-  pub ended_less : (runs_in b.reclaim.phase ≡ true) ⊎ (is_reclaim_due b ≡ true) → FallsTo b.reclaim.phase b c.reclaim.phase c → c.reclaim.phase ≡ Idle → used_by Values c.pool.states + 1 ≡ used_by Values b.pool.states
+  pub ended_less : (runs_in b.reclaim.phase ≡ true) ⊎ (is_reclaim_due b ≡ true) → FallsTo b.reclaim.phase b c.reclaim.phase c
+      → c.reclaim.phase ≡ Idle → used_by Values c.pool.states + 1 ≡ used_by Values b.pool.states
       → RoomBehind b.reclaim.phase (space_of b) (space_of c) → (sight_of c).work < (sight_of b).work
   ended_less wants falls idle given from =
       let falls' : FallsTo b.reclaim.phase b Idle c = subst (λ q. FallsTo b.reclaim.phase b q c) idle falls in

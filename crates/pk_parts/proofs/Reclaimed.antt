@@ -1,7 +1,7 @@
 -- A step of a reclaim, stated for the drive.
 use Rattle.std.proofs.Common.{◌≡◌, inl, inr, ℕ, ◌/◌, [], List, length, refl, sym, ◌∙◌, ap, subst, true, false, Some, Result, Ok, Err}
-use Rattle.std.specs.Prelude.{slice_get, IfOk, IfErr, ◌++◌, ◌∷◌}
-use Rattle.std.specs.List.{concat, AllByRecursion}
+use Rattle.std.specs.Prelude.{slice_get, IfOk, IfErr, ◌++◌}
+use Rattle.std.specs.List.{concat}
 use Rattle.pk_base.specs.Shape.{Shape}
 use Rattle.pk_base.specs.Page.{Flash, IsFlash}
 use Rattle.pk_base.specs.Entry.{Entry}
@@ -34,7 +34,7 @@ use Rattle.pk_compact.specs.FreezeSteps.{IsTaken, taken_by}
 use Rattle.pk_log.specs.State.{LogState}
 use Rattle.pk_log.specs.Logs.{LogOnFlash}
 use Rattle.pk_schedule.specs.Index.{Index, IndexOnFlash, IsSettled}
-use Rattle.pk_schedule.proofs.Keeping.{KeepsTaken, index_then}
+use Rattle.pk_schedule.proofs.Keeping.{KeepsTaken, index_then, member_all}
 use Rattle.pk_reclaim.specs.Space as spaces
 use Rattle.pk_reclaim.specs.Space.{Space, SpaceOnFlash, HalfIn}
 use Rattle.pk_reclaim.specs.Steps as steps
@@ -77,22 +77,26 @@ whole_in d flash top found m whole = half_in d.reclaim.phase (space_of d) flash 
 -- it may make a step of a reclaim
 pub may_reclaim : (d : Parts) (board : BoardState) (may : MayReclaim d board) → (top : ℕ × Root) × (found : Found) × (m : Map) × spaces.MayReclaim (space_of d) board.pages top found m
 may_reclaim d board may =
-    let s = may.may.stands.1 in
-    (s.top, s.found, may.may.stands.0, record { stands = space_stands d d.log.shape board.pages s.top s.found s.without may.may.stands.0 may.none_pending s.with (whole_in d board.pages s.top s.found may.may.stands.0 s.whole) s.whole.settles.none_leaves; turn = may.turn })
+    let s = may.may.stands.1 in (
+      s.top,
+      s.found,
+      may.may.stands.0,
+      record {
+        stands = space_stands d d.log.shape board.pages s.top s.found s.without may.may.stands.0 may.none_pending s.with
+            (whole_in d board.pages s.top s.found may.may.stands.0 s.whole) s.whole.settles.none_leaves;
+        turn = may.turn;
+      },
+    )
 
 -- for each map that it represents
 pub may_for : (d : Parts) (board : BoardState) (shape : Shape) (m : Map) → MayReclaim d board → (s : StandsFor d shape board.pages m) → spaces.MayReclaim (space_of d) board.pages s.top s.found m
-may_for d board shape m may s = record { stands = space_stands d shape board.pages s.top s.found s.without m may.none_pending s.with (whole_in d board.pages s.top s.found m s.whole) s.whole.settles.none_leaves; turn = may.turn }
+may_for d board shape m may s =
+    record { stands = space_stands d shape board.pages s.top s.found s.without m may.none_pending s.with (whole_in d board.pages s.top s.found m s.whole) s.whole.settles.none_leaves; turn = may.turn }
 
 -- ---- the index after a step
 
--- what holds of each of a list
-of_each : (P : ℕ → Type 0) (xs : List ℕ) (x : ℕ) → AllByRecursion P xs → AnyByRecursion (λ c. x ≡ c) xs → P x
-of_each P [] x all is = absurd is
-of_each P (y ∷ ys) x all (inl e) = subst P (sym e) all.0
-of_each P (y ∷ ys) x all (inr is) = of_each P ys x all.1 is
-
-module _ (x : Index) (frames : ℕ) (old new : Flash) (top : ℕ × Root) (found : Found) (stands : IndexOnFlash x frames old top found) (pool' : Blocks) (others : KeepsOthers x.log.shape top.1 x.pool old pool' new) where
+module _ (x : Index) (frames : ℕ) (old new : Flash) (top : ℕ × Root) (found : Found) (stands : IndexOnFlash x frames old top found)
+    (pool' : Blocks) (others : KeepsOthers x.log.shape top.1 x.pool old pool' new) where
   at_shape : (b k : ℕ) → k / x.pool.shape.block_pages ≡ b → k / x.log.shape.block_pages ≡ b
   at_shape b k here = ap (λ (s : Shape). k / s.block_pages) (sym stands.pool_shape) ∙ here
 
@@ -111,7 +115,7 @@ module _ (x : Index) (frames : ℕ) (old new : Flash) (top : ℕ × Root) (found
     owned = others.journal;
     used = others.journal_used;
     same = λ b k is here.
-        let t = of_each (IsTaken x.log.shape x.pool old top.1) (taken_by x.schedule.freeze) b stands.freeze.taken is in
+        let t = member_all (IsTaken x.log.shape x.pool old top.1) (taken_by x.schedule.freeze) b stands.freeze.taken is in
         let at : k / x.log.shape.block_pages ≡ b = at_shape b k here in
         others.journal_pages k (subst (λ (n : ℕ). slice_get x.pool.states n ≡ Some (Owned Journal)) (sym at) t.owned)
         (λ newest. t.unnamed (any_front (λ c. b ≡ c) (top.1.newest ++ top.1.older) (concat top.1.runs)
@@ -126,7 +130,8 @@ module _ (x : Index) (frames : ℕ) (old new : Flash) (top : ℕ × Root) (found
       let L : LogState → Type 0 = λ l. LogOnFlash l new top (with_newest found newest) in
       let I : LogState → Type 0 = λ l. IndexOnFlash (record x { log = l; pool = pool' }) frames new top (with_newest found newest) in
       subst I (sym keeps)
-      (index_then x frames old new top found stands pool' (runs_apart fits) taken_apart (record x.log.epoch { used = log'.epoch.used; half = log'.epoch.half }) (record x.log.active { entries = log'.active.entries }) x.log.pending newest (subst L keeps logs))
+      (index_then x frames old new top found stands pool' (runs_apart fits) taken_apart (record x.log.epoch { used = log'.epoch.used; half = log'.epoch.half })
+      (record x.log.active { entries = log'.active.entries }) x.log.pending newest (subst L keeps logs))
 
 -- ---- the drive after a step
 
@@ -141,7 +146,8 @@ module _ (d : Parts) (x' : Space) (keeps : KeepsLog (space_of d) x') where
   pub leaves_index : LeavesIndex d (over_space d x')
   leaves_index = ap (λ (l : LogState). record d { log = l; space = x'.values; reclaim = x'.job; pool = x'.pool }) keeps
 
-  module _ (shape : Shape) (old new : BoardState) (top : ℕ × Root) (found : Found) (without m : Map) (none : d.log.pending ≡ []) (ready : IsReady new d.log.shape) (with : DriveOnFlashWith d shape old.pages top found without m) where
+  module _ (shape : Shape) (old new : BoardState) (top : ℕ × Root) (found : Found) (without m : Map) (none : d.log.pending ≡ [])
+      (ready : IsReady new d.log.shape) (with : DriveOnFlashWith d shape old.pages top found without m) where
     pub drive_moved : (moves : SpaceMoves (space_of d) old top found m x' new) → DriveOnFlashWith (over_space d x') shape new.pages top (with_newest found moves.newest) m m
     drive_moved moves =
         let s = moves.stands in
@@ -149,8 +155,10 @@ module _ (d : Parts) (x' : Space) (keeps : KeepsLog (space_of d) x') where
         let is : x'.log.shape ≡ shape = same_shape ∙ with.shape_is in
         let empty : x'.log.pending ≡ [] = same_pending ∙ none in
         let under : IsUnder shape new.pages [] top then m = subst (λ t. IsUnder t new.pages [] top then m) is s.under in
-        let placed : ValuesOnFlash shape x'.values x'.pool (held_blocks x'.job.phase) new.pages (places then []) = subst (λ t. ValuesOnFlash t x'.values x'.pool (held_blocks x'.job.phase) new.pages (places then [])) is s.placed in
-        let reclaim : ReclaimOnFlash shape x'.job x'.values.live x'.pool new.pages (places then []) = subst (λ t. ReclaimOnFlash t x'.job x'.values.live x'.pool new.pages (places then [])) is s.reclaim in
+        let placed : ValuesOnFlash shape x'.values x'.pool (held_blocks x'.job.phase) new.pages (places then []) = subst
+        (λ t. ValuesOnFlash t x'.values x'.pool (held_blocks x'.job.phase) new.pages (places then [])) is s.placed in
+        let reclaim : ReclaimOnFlash shape x'.job x'.values.live x'.pool new.pages (places then []) = subst
+        (λ t. ReclaimOnFlash t x'.job x'.values.live x'.pool new.pages (places then [])) is s.reclaim in
         record {
           shape_is = is;
           is_flash = subst (λ t. IsFlash t new.pages) with.shape_is ready.flash;
@@ -166,7 +174,8 @@ module _ (d : Parts) (x' : Space) (keeps : KeepsLog (space_of d) x') where
 
 -- ---- which pair is half made then
 
-module _ (d : Parts) (x' : Space) (keeps : KeepsLog (space_of d) x') (flash : Flash) (top : ℕ × Root) (found : Found) (m : Map) (was : repeats_next d.log.next ≡ false) (stands : SpaceOnFlash x' flash top found m) where
+module _ (d : Parts) (x' : Space) (keeps : KeepsLog (space_of d) x') (flash : Flash) (top : ℕ × Root)
+    (found : Found) (m : Map) (was : repeats_next d.log.next ≡ false) (stands : SpaceOnFlash x' flash top found m) where
   pub settles_then : IsSettled (index_of (over_space d x'))
   settles_then = record { whole = ap (λ (l : LogState). repeats_next l.next) keeps ∙ was; none_leaves = stands.none_leaves }
 
@@ -180,7 +189,8 @@ module _ (d : Parts) (x' : Space) (keeps : KeepsLog (space_of d) x') (flash : Fl
   course_then = course_at x'.job.phase refl stands.half
 
 -- every map that it represented
-pub holds_all : (d : Parts) (x' : Space) (old new : BoardState) → MayReclaim d old → KeepsLog (space_of d) x' → IsReady new d.log.shape → steps.ReclaimMoves (space_of d) old x' new → HoldsAll d (over_space d x') old new
+pub holds_all : (d : Parts) (x' : Space) (old new : BoardState) → MayReclaim d old → KeepsLog (space_of d) x'
+    → IsReady new d.log.shape → steps.ReclaimMoves (space_of d) old x' new → HoldsAll d (over_space d x') old new
 holds_all d x' old new may keeps ready moves shape m was =
     let now = moves was.top was.found m (may_for d old shape m may was) in
     record {
@@ -263,7 +273,8 @@ cannot_read d x' old new may u =
       stands = λ shape m was.
           let again = u.again was.top was.found m (may_for d old shape m may was) in
           let X : Space → Flash → Type 0 = λ x f. spaces.MayReclaim x f was.top was.found m in
-          let here : X (record (space_of d) { job = record d.reclaim { page = page } }) old.pages = subst (λ f. X (record (space_of d) { job = record d.reclaim { page = page } }) f) pages (subst (λ x. X x new.pages) u.rest again) in
+          let here : X (record (space_of d) { job = record d.reclaim { page = page } }) old.pages = subst
+          (λ f. X (record (space_of d) { job = record d.reclaim { page = page } }) f) pages (subst (λ x. X x new.pages) u.rest again) in
           let R : Shape → List Entry → Type 0 = λ t p. ReclaimOnFlash t (record d.reclaim { page = page }) d.space.live d.pool old.pages (places was.found p) in
           let reclaim : R shape d.log.pending = subst (λ p. R shape p) (sym may.none_pending) (subst (λ t. R t []) was.with.shape_is here.stands.reclaim) in
           subst (λ e. StandsFor e shape old.pages m) (sym is)

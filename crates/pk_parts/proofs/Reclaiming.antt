@@ -67,7 +67,8 @@ abbrev pub SameButOpen : Shape → Blocks → Option OpenBlock → Flash → Fla
 SameButOpen shape pool taking old new = (k : ℕ) → HoldsValues pool (k / shape.block_pages) → IsNotOpen taking (k / shape.block_pages) → page_at new k ≡ page_at old k
 
 -- the victim and the output are such blocks
-of_copy : (shape : Shape) (c : Course) (d : DataState) (pool : Blocks) (flash : Flash) (es : List (Key × Place)) (b : ℕ) → IsClosed d.live c.victim → ValuesOnFlash shape d pool (c.output ∷ []) flash es
+of_copy : (shape : Shape) (c : Course) (d : DataState) (pool : Blocks) (flash : Flash) (es : List (Key × Place)) (b : ℕ)
+    → IsClosed d.live c.victim → ValuesOnFlash shape d pool (c.output ∷ []) flash es
     → (b ≡ c.victim) ⊎ (b ≡ c.output) → HoldsValues pool b × IsNotOpen d.open_block b
 of_copy shape c d pool flash es b closed placed (inl is) =
     let told = placed.closed_owned c.victim closed in
@@ -105,7 +106,8 @@ live_fewer heads fewer page (suc n) less =
     omega (arith, here, rest)
 
 -- it is as sparse if no more is live in the victim
-fewer_in_victim : (shape : Shape) (c : Course) (heads fewer : List ℕ) → ((k : ℕ) → k / shape.block_pages ≡ c.victim → slice_index fewer k ≤ slice_index heads k) → IsSparse shape c heads → IsSparse shape c fewer
+fewer_in_victim : (shape : Shape) (c : Course) (heads fewer : List ℕ)
+    → ((k : ℕ) → k / shape.block_pages ≡ c.victim → slice_index fewer k ≤ slice_index heads k) → IsSparse shape c heads → IsSparse shape c fewer
 fewer_in_victim shape c heads fewer less sparse =
     let live = live_fewer heads fewer (unseen shape c) (c.victim * shape.block_pages + shape.block_pages - unseen shape c)
     (λ k low high. less k (block_of shape.block_pages k c.victim (omega (arith, low)) (omega (arith, low, high)))) in
@@ -116,23 +118,27 @@ page_in_open : (shape : Shape) (pool : Blocks) (flash : Flash) (o : OpenBlock) (
     → (o.block * shape.block_pages ≤ page) × (page + count ≤ o.block * shape.block_pages + o.used) → page ≤ k → k < page + count → k / shape.block_pages ≡ o.block
 page_in_open shape pool flash o page count k is inside low high = let most = is.within in block_of shape.block_pages k o.block (omega (arith, inside.0, low)) (omega (arith, inside.1, high, most))
 
-pub not_of_open : (shape : Shape) (d : DataState) (pool : Blocks) (outputs : List ℕ) (flash : Flash) (es : List (Key × Place)) (page count k : ℕ) → ValuesOnFlash shape d pool outputs flash es → IsInOpen shape d page count
+pub not_of_open : (shape : Shape) (d : DataState) (pool : Blocks) (outputs : List ℕ) (flash : Flash) (es : List (Key × Place)) (page count k : ℕ)
+    → ValuesOnFlash shape d pool outputs flash es → IsInOpen shape d page count
     → page ≤ k → k < page + count → IsNotOpen d.open_block (k / shape.block_pages) → ⊥
 not_of_open shape d pool outputs flash es page count k placed = by d.open_block placed.open_is
   where
-    by : (o : Option OpenBlock) → MatchOption o (Unit {0}) (λ x. IsOpenIn shape pool flash x) → MatchOption o ⊥ (λ x. (x.block * shape.block_pages ≤ page) × (page + count ≤ x.block * shape.block_pages + x.used))
+    by : (o : Option OpenBlock) → MatchOption o (Unit {0}) (λ x. IsOpenIn shape pool flash x)
+        → MatchOption o ⊥ (λ x. (x.block * shape.block_pages ≤ page) × (page + count ≤ x.block * shape.block_pages + x.used))
         → page ≤ k → k < page + count → IsNotOpen o (k / shape.block_pages) → ⊥
     by None is inside low high other = inside
     by (Some o) is inside low high other = other (page_in_open shape pool flash o page count k is inside low high)
 
-stands_stored : (p : Phase) (shape : Shape) (job : JobState) (d : DataState) (pool : Blocks) (flash : Flash) (es : List (Key × Place)) (key : Key) (place : Place) (heads : List ℕ) → ReclaimStands p shape job d.live flash es
+stands_stored : (p : Phase) (shape : Shape) (job : JobState) (d : DataState) (pool : Blocks) (flash : Flash) (es : List (Key × Place)) (key : Key) (place : Place) (heads : List ℕ)
+    → ReclaimStands p shape job d.live flash es
     → ValuesOnFlash shape d pool (held_blocks p) flash es → IsInOpen shape d place.page (charge shape place.len) → 0 < charge shape place.len
     → ((k : ℕ) → (k ≡ place.page → ⊥) → slice_index heads k ≤ slice_index d.live.heads k)
     → ReclaimStands p shape job (record d.live { heads = heads }) flash (put key_cmp key place es)
 stands_stored Idle shape job d pool flash es key place heads was placed inside some fewer = tt
 stands_stored (Copies c) shape job d pool flash es key place heads was placed inside some fewer =
     let other : (k : ℕ) → IsPageOf shape k place → (k / shape.block_pages ≡ c.victim) ⊎ (k / shape.block_pages ≡ c.output) → ⊥ = λ k page_of here.
-    not_of_open shape d pool (c.output ∷ []) flash es place.page (charge shape place.len) k placed inside page_of.0 page_of.1 (of_copy shape c d pool flash es (k / shape.block_pages) was.closed placed here).1 in
+    not_of_open shape d pool (c.output ∷ []) flash es place.page (charge shape place.len) k placed inside page_of.0 page_of.1
+    (of_copy shape c d pool flash es (k / shape.block_pages) was.closed placed here).1 in
     record {
       runs = runs_stored shape c job.moves job.page flash es key place was.runs other;
       sparse = fewer_in_victim shape c d.live.heads heads (λ k in_victim. fewer k (λ e. other k (omega (arith, e), omega (arith, e, some)) (inl in_victim))) was.sparse;
@@ -141,7 +147,8 @@ stands_stored (Copies c) shape job d pool flash es key place heads was placed in
 stands_stored (Commits victim) shape job d pool flash es key place heads was placed inside some fewer = tt
 stands_stored (GivesBack victim) shape job d pool flash es key place heads was placed inside some fewer = tt
 
-pub reclaim_stored : (shape : Shape) (job : JobState) (d : DataState) (pool : Blocks) (flash : Flash) (es : List (Key × Place)) (key : Key) (place : Place) (heads : List ℕ) → ReclaimOnFlash shape job d.live pool flash es
+pub reclaim_stored : (shape : Shape) (job : JobState) (d : DataState) (pool : Blocks) (flash : Flash) (es : List (Key × Place)) (key : Key) (place : Place) (heads : List ℕ)
+    → ReclaimOnFlash shape job d.live pool flash es
     → ValuesOnFlash shape d pool (held_blocks job.phase) flash es → IsInOpen shape d place.page (charge shape place.len) → 0 < charge shape place.len
     → ((k : ℕ) → (k ≡ place.page → ⊥) → slice_index heads k ≤ slice_index d.live.heads k)
     → ReclaimOnFlash shape job (record d.live { heads = heads }) pool flash (put key_cmp key place es)

@@ -25,6 +25,7 @@ use Rattle.pk_parts.specs.Parts.{Parts, index_of, sight_of, backlog_of, is_recla
 use Rattle.pk_parts.specs.Ticking.{WantsFreeze}
 use Rattle.pk_parts.proofs.Ticking.{no_merge_is, due_so}
 use Rattle.pk_parts.proofs.Indexing.{with_index}
+use Rattle.pk_base.proofs.ZeroLemmas.{some_is_not_zero}
 
 false_true : false ≡ true → ⊥
 false_true e = cc
@@ -136,7 +137,8 @@ and_false : (b c : Bool) → c ≡ false → b && c ≡ false
 and_false true c e = e
 and_false false c e = refl
 
-module _ (d : Parts) (x' : Index) (merged : has_no_merge (index_of d) ≡ true) (was_whole : repeats_next d.log.next ≡ false) (wanted : freeze_rest_of d.schedule.freeze d.log.next ≡ None → may_freeze d ≡ true)
+module _ (d : Parts) (x' : Index) (merged : has_no_merge (index_of d) ≡ true) (was_whole : repeats_next d.log.next ≡ false)
+    (wanted : freeze_rest_of d.schedule.freeze d.log.next ≡ None → may_freeze d ≡ true)
     (many : used_by for_values x'.pool.states ≡ used_by for_values d.pool.states) (shape : x'.log.shape ≡ d.log.shape) where
   abbrev later : Parts
   later = with_index d x'
@@ -155,7 +157,8 @@ module _ (d : Parts) (x' : Index) (merged : has_no_merge (index_of d) ≡ true) 
   reclaim_same : reclaiming d.log.shape (backlog_of later) ≡ reclaiming d.log.shape (backlog_of d)
   reclaim_same = ap (λ o. reclaiming_from d.log.shape o false) (left_same d x' many shape)
 
-  lowers_left : (left unready' : ℕ) → Lowers (freeze_left d.schedule.freeze d.log.next) (unready d.pool.states) left unready' → Lowers (left_of whole_freeze (backlog_of d).freeze) (backlog_of d).unready left unready'
+  lowers_left : (left unready' : ℕ) → Lowers (freeze_left d.schedule.freeze d.log.next) (unready d.pool.states) left unready'
+      → Lowers (left_of whole_freeze (backlog_of d).freeze) (backlog_of d).unready left unready'
   lowers_left left unready' lowers =
       let least = left_least d.schedule.freeze d.log.next in
       record { none_ready = lowers.none_ready; less = (let less = lowers.less in omega (arith, less, least)) }
@@ -194,7 +197,8 @@ module _ (d : Parts) (x' : Index) (merged : has_no_merge (index_of d) ≡ true) 
       let merge = merge_same phase in
       let freeze : freeze_rest_of x'.schedule.freeze x'.log.next ≡ None = ap (λ (y : Index). freeze_rest_of y.schedule.freeze x'.log.next) f.rest in
       let empty : length x'.log.active.entries ≡ 0 = ap (λ t. length t.entries) f.active ∙ none_frozen in
-      let some : 0 < pages_left x'.log.epoch = fresh_left x'.log.epoch.takes_more (epoch_commits x'.log.epoch.shape) x'.log.epoch.used f.takes_more f.unused (let e = ap (λ (s : Shape). epoch_commits s) (epoch ∙ shape) in let least = is.block_least in omega (arith, e, least)) in
+      let some : 0 < pages_left x'.log.epoch = fresh_left x'.log.epoch.takes_more (epoch_commits x'.log.epoch.shape) x'.log.epoch.used f.takes_more f.unused
+      (let e = ap (λ (s : Shape). epoch_commits s) (epoch ∙ shape) in let least = is.block_least in omega (arith, e, least)) in
       let none : may_freeze later ≡ false = and_false (has_moves (is_reclaim_due later) d.reclaim.phase) (is_tight x'.log.shape (length x'.log.active.entries) (pages_left x'.log.epoch))
       (frozen_room x'.log.shape (length x'.log.active.entries) (pages_left x'.log.epoch) (subst IsShape (sym shape) is) empty some) in
       freeze_ends d.log.shape (backlog_of d) (backlog_of later) (record {
@@ -222,15 +226,14 @@ pub freeze_wanted : (d : Parts) → WantsFreeze d → freeze_rest_of d.schedule.
 freeze_wanted d (inl some) none = absurd (some_none (freeze_left d.schedule.freeze d.log.next) (sym (freeze_some_left d.schedule.freeze d.log.next some) ∙ none))
 freeze_wanted d (inr (runs, may)) none = may
 
-not_zero : (n : ℕ) → 0 < n → (n == 0) ≡ false
-not_zero n some = grind (arith, nat_tests)
-
 -- by what a step of a freeze did
-pub freeze_less : (d : Parts) (x' : Index) → has_no_merge (index_of d) ≡ true → repeats_next d.log.next ≡ false → (freeze_rest_of d.schedule.freeze d.log.next ≡ None → may_freeze d ≡ true) → FreezeMoves (index_of d) x' ⊎ Freezes (index_of d) x'
-    → used_by for_values x'.pool.states ≡ used_by for_values d.pool.states → x'.log.shape ≡ d.log.shape → IsShape d.log.shape → x'.log.epoch.shape ≡ x'.log.shape → (sight_of (with_index d x')).work < (sight_of d).work
+pub freeze_less : (d : Parts) (x' : Index) → has_no_merge (index_of d) ≡ true → repeats_next d.log.next ≡ false
+    → (freeze_rest_of d.schedule.freeze d.log.next ≡ None → may_freeze d ≡ true) → FreezeMoves (index_of d) x' ⊎ Freezes (index_of d) x'
+    → used_by for_values x'.pool.states ≡ used_by for_values d.pool.states → x'.log.shape ≡ d.log.shape
+    → IsShape d.log.shape → x'.log.epoch.shape ≡ x'.log.shape → (sight_of (with_index d x')).work < (sight_of d).work
 freeze_less d x' merged was_whole wanted f many shape is epoch =
     subst (λ (s : Shape). work s (backlog_of (with_index d x')) < work d.log.shape (backlog_of d)) (sym shape) (by f)
   where
     by : FreezeMoves (index_of d) x' ⊎ Freezes (index_of d) x' → work d.log.shape (backlog_of (with_index d x')) < work d.log.shape (backlog_of d)
-    by (inl goes) = freeze_goes d x' merged was_whole wanted many shape goes (not_zero (length (taken_by x'.schedule.freeze)) goes.some)
+    by (inl goes) = freeze_goes d x' merged was_whole wanted many shape goes (some_is_not_zero (length (taken_by x'.schedule.freeze)) goes.some)
     by (inr over) = freeze_over d x' merged was_whole wanted many shape is epoch over

@@ -110,7 +110,8 @@ module _ (a b : Parts) (s0 s1 s2 : BoardState) (ready : IsReady s0 a.log.shape) 
       record {
         stands = done.stands;
         still = inr (ap (reading shape s2.pages) (sym empty) ∙ reads_as c shape s2.pages m done.stands);
-        cuts = Reaches-then shape is.cuts.0 s0 s1 (CrashFinds shape commit s0.pages m) (board_has a s0 shape m ready stands) (first_cuts shape m stands) is.cuts.2 s2 (CrashFinds shape background s1.pages m)
+        cuts = Reaches-then shape is.cuts.0 s0 s1 (CrashFinds shape commit s0.pages m)
+            (board_has a s0 shape m ready stands) (first_cuts shape m stands) is.cuts.2 s2 (CrashFinds shape background s1.pages m)
             (seen_half shape m stands) done.cuts;
       }
 
@@ -133,7 +134,12 @@ same_unread a b s0 s1 unread shape m stands =
     record {
       stands = subst S (sym same) (unread.stands shape m stands);
       still = inl (ap (λ (f : Flash). reading shape f []) same);
-      cuts = ([], Reached-start s0 s1 (CrashFinds shape commit s0.pages m) (ap (λ (s : BoardState). s.shape) only) same (ap (λ (s : BoardState). s.trail) only) (ap (λ (s : BoardState). s.posted) only) (refl, inl refl), tt);
+      cuts = (
+        [],
+        Reached-start s0 s1 (CrashFinds shape commit s0.pages m) (ap (λ (s : BoardState). s.shape) only) same
+            (ap (λ (s : BoardState). s.trail) only) (ap (λ (s : BoardState). s.posted) only) (refl, inl refl),
+        tt,
+      );
     }
 
 -- ---- steps with their answers
@@ -154,7 +160,8 @@ moves_kept r b c k s1 s2 step =
 
 pub moves_failed : (e : Fault) (b c : Parts) (k most : ℕ) (s1 s2 : BoardState) → k ≤ most → MovesOrReads {T = Unit {0}} b c k s1 s2 (Err e) → MovesOrReads {T = Unit {0}} b c most s1 s2 (Err e)
 moves_failed e b c k most s1 s2 few step =
-    reading_failed e (λ (x : Unit). SameMapAll b c s1 s2) (λ (x : Unit). SameMapAll b c s1 s2) (SameMapAll b c s1 s2) (SameMapAll b c s1 s2) (BreaksAll b s1 s2) (BreaksAll b s1 s2) b.log.shape k most s1 s2 few
+    reading_failed e (λ (x : Unit). SameMapAll b c s1 s2) (λ (x : Unit). SameMapAll b c s1 s2)
+    (SameMapAll b c s1 s2) (SameMapAll b c s1 s2) (BreaksAll b s1 s2) (BreaksAll b s1 s2) b.log.shape k most s1 s2 few
     (λ kept. kept) (λ broken. broken) step
 
 pub moves_within : (b c : Parts) (k most : ℕ) (s1 s2 : BoardState) → k ≤ most → MovesOrReads {T = Unit {0}} b c k s1 s2 (Ok tt) → MovesOrReads {T = Unit {0}} b c most s1 s2 (Ok tt)

@@ -16,7 +16,7 @@ use Rattle.pk_nand.specs.declared.types.Fault.{Fault}
 use Rattle.pk_run.specs.Search.{IsFound}
 use Rattle.pk_level.specs.Levels.{RunsOnFlash}
 use Rattle.pk_model.specs.Found.{Found, entries_in_order}
-use Rattle.pk_model.proofs.Lookups.{flat, find-firsts, firsts_sorted, find-placed}
+use Rattle.pk_model.proofs.Lookups.{flat, find-firsts, find-placed}
 use Rattle.pk_steps.specs.Under.{IsUnder, places}
 use Rattle.pk_steps.specs.Lookups.{IsValueOf}
 use Rattle.pk_steps.proofs.Counting.{finds}
@@ -24,6 +24,7 @@ use Rattle.pk_log.specs.Logs.{LogOnFlash}
 use Rattle.pk_parts.specs.Parts.{Parts}
 use Rattle.pk_parts.specs.Finding.{named_by, named_by_found, IsPlaceIn}
 use Rattle.pk_parts.specs.Quiet.{Looks}
+use Rattle.pk_base.proofs.KeyLemmas.{firsts_sorted}
 
 -- ---- the place of a value
 

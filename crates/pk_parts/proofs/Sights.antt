@@ -21,6 +21,7 @@ commits_seen d log' old new (inr all) =
     let T : LogState → Type 0 = λ l. Commits (sight_of d) (sight_of (with_log d l)) in
     subst T (sym all.taken) refl
 
-pub seen_ok : (r : Result Unit Fault) (d : Parts) (log' : LogState) (old new : BoardState) → OnOk r (CommitsNone d.log old log' new ⊎ CommitsAll d.log old log' new) → OnOk r (Commits (sight_of d) (sight_of (with_log d log')))
+pub seen_ok : (r : Result Unit Fault) (d : Parts) (log' : LogState) (old new : BoardState)
+    → OnOk r (CommitsNone d.log old log' new ⊎ CommitsAll d.log old log' new) → OnOk r (Commits (sight_of d) (sight_of (with_log d log')))
 seen_ok (Ok x) d log' old new made = commits_seen d log' old new made
 seen_ok (Err e) d log' old new made = tt

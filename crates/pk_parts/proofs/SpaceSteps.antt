@@ -35,9 +35,11 @@ use Rattle.pk_call.specs.Calling.{FewCalls}
 use Rattle.pk_parts.proofs.Halves.{not_made}
 use Rattle.pk_parts.proofs.Callings.{few_none, few_one, few_program, few_within, few_then, spends_still, spends_within}
 use Rattle.pk_parts.proofs.Inside.{one_call}
-use Rattle.pk_parts.proofs.SameMaps.{same_held, same_finished, breaks_finished, same_unread, breaks_failed, moves_kept, moves_later, moves_within, moves_none, may_moved, passes_moved, stays_none, stays_both}
-use Rattle.pk_parts.proofs.Whole.{none_then, only_then, halts_then}
+use Rattle.pk_parts.proofs.SameMaps.{same_held, same_finished, breaks_finished, same_unread, breaks_failed, moves_kept, moves_later, moves_within, moves_none, may_moved, passes_moved, stays_none}
+use Rattle.pk_parts.proofs.SameMaps.{stays_both}
+use Rattle.pk_parts.proofs.Whole.{none_then, halts_then}
 use Rattle.pk_parts.proofs.Spacing.{left_at, roots_at, AwaitsAt, works_less, works_roots, ends_less, ends_roots}
+use Rattle.pk_nand.proofs.Effects.{only_then}
 
 true_false : true ≡ false → ⊥
 true_false e = cc
@@ -49,7 +51,8 @@ and_right true y e = e
 and_right false y e = cc
 
 pub wanted_full : (d : Parts) (count : ℕ) → needs count d ≡ true → data_blocks d.log.shape - 1 ≤ used_by Values d.pool.states
-wanted_full d count wanted = leb→le (data_blocks d.log.shape - 1) (used_by Values d.pool.states) (subst T (sym (and_right _ (nat_le (data_blocks d.log.shape - 1) (used_by Values d.pool.states)) wanted)) tt)
+wanted_full d count wanted = leb→le (data_blocks d.log.shape - 1) (used_by Values d.pool.states)
+    (subst T (sym (and_right _ (nat_le (data_blocks d.log.shape - 1) (used_by Values d.pool.states)) wanted)) tt)
 
 turn_at : (p : Phase) (d : Parts) (count : ℕ) → AwaitsAt p count d → used_by Values d.pool.states ≤ data_blocks d.log.shape - 1 + length (held_blocks p)
     → (runs_in p ≡ true) ⊎ (used_by Values d.pool.states ≡ data_blocks d.log.shape - 1)
@@ -61,7 +64,8 @@ turn_at (GivesBack victim) d count (inr wanted) few = inl refl
 
 some_at : (p : Phase) (d : Parts) (count : ℕ) → AwaitsAt p count d → 1 ≤ left_at p count d
 some_at Idle d count (inl runs) = absurd (true_false (sym runs))
-some_at Idle d count (inr wanted) = let steps : where_so (needs count d) (whole_reclaim d.log.shape - 1) ≡ whole_reclaim d.log.shape - 1 = ap (λ x. where_so x (whole_reclaim d.log.shape - 1)) wanted in omega (arith, steps)
+some_at Idle d count (inr wanted) = let steps : where_so (needs count d) (whole_reclaim d.log.shape - 1)
+    ≡ whole_reclaim d.log.shape - 1 = ap (λ x. where_so x (whole_reclaim d.log.shape - 1)) wanted in omega (arith, steps)
 some_at (Copies c) d count awaits = omega arith
 some_at (Commits victim) d count awaits = omega arith
 some_at (GivesBack victim) d count awaits = omega arith
@@ -105,7 +109,8 @@ module _ (count : ℕ) (b : Parts) (s0 : BoardState) (may : MaySpace count b s0)
   pub may_reclaim : MayReclaim b s0
   may_reclaim = record { may = may.may; none_pending = may.none_pending; turn = turn_at b.reclaim.phase b count awaits it.with.placed.few }
 
-  module _ (c : Parts) (s1 : BoardState) (none : c.log.pending ≡ []) (same_roots : roots s1 ≡ roots s0) (calls : AtMostOneCall s0 s1) (rest : OnlyFlash s0 s1) (ready : IsReady s1 b.log.shape) (reads : s0.reads ≤ last_count) where
+  module _ (c : Parts) (s1 : BoardState) (none : c.log.pending ≡ []) (same_roots : roots s1 ≡ roots s0)
+      (calls : AtMostOneCall s0 s1) (rest : OnlyFlash s0 s1) (ready : IsReady s1 b.log.shape) (reads : s0.reads ≤ last_count) where
     one_spent : Spends 1 (space_roots count b) s0 s1
     one_spent = spends_still 1 (space_roots count b) s0 s1 (few_one s0 s1 calls) same_roots
 
@@ -239,9 +244,11 @@ module _ (count : ℕ) (b : Parts) (s0 : BoardState) (may : MaySpace count b s0)
         let same = ap (λ (d : Parts). d.log.shape) made.0.leaves in
         let less = ends_less count b c same most b.reclaim.phase awaits it.with.reclaim.full made.1.given made.1.from in
         let roots_less = ends_roots count b c same most b.reclaim.phase awaits it.with.reclaim.full made.1.given made.1.from in
-        stepped sound made.0 (stays_whole made.0 (ap commits_in made.1.idle)) (subst (λ (p : Phase). 1 + left_at p count c ≤ space_left count b) (sym made.1.idle) less) (subst (λ (p : Phase). roots_at p count c ≤ space_roots count b) (sym made.1.idle) roots_less)
+        stepped sound made.0 (stays_whole made.0 (ap commits_in made.1.idle)) (subst (λ (p : Phase). 1 + left_at p count c ≤ space_left count b) (sym made.1.idle) less)
+        (subst (λ (p : Phase). roots_at p count c ≤ space_roots count b) (sym made.1.idle) roots_less)
 
-    pub space_worked : (x : Reclaimed) → x ≡ Worked → NoFault s0 s1 → DoesReclaim b c s0 s1 x → (e : Parts) (s2 : BoardState) (r : Result Unit Fault) → CommitsOr c e s1 s2 r → SpacesOnce count b e s0 s2 r
+    pub space_worked : (x : Reclaimed) → x ≡ Worked → NoFault s0 s1 → DoesReclaim b c s0 s1 x
+        → (e : Parts) (s2 : BoardState) (r : Result Unit Fault) → CommitsOr c e s1 s2 r → SpacesOnce count b e s0 s2 r
     space_worked x is sound made e s2 r ends = worked_then sound (subst (λ y. DoesReclaim b c s0 s1 y) is made) e s2 r ends
 
     pub space_may_end : (x : Reclaimed) → x ≡ Worked → NoFault s0 s1 → DoesReclaim b c s0 s1 x → MayCommit c s1
@@ -299,7 +306,8 @@ module _ (count : ℕ) (b : Parts) (s0 : BoardState) (may : MaySpace count b s0)
       let calls = calls_left waits.course waits.tight in
       let number = may.number in
       let few : roots s0 + room_calls b.log.shape < 18446744073709551615 = omega (arith, number, here, calls) in
-      subst (λ (d : Parts). roots s1 + room_calls d.log.shape < 18446744073709551615) (sym waits.same) (subst (λ (s : BoardState). roots s + room_calls b.log.shape < 18446744073709551615) (sym waits.board) few)
+      subst (λ (d : Parts). roots s1 + room_calls d.log.shape < 18446744073709551615) (sym waits.same)
+      (subst (λ (s : BoardState). roots s + room_calls b.log.shape < 18446744073709551615) (sym waits.board) few)
 
   pub waits_may : (c : Parts) (s1 : BoardState) → Waits b c s0 s1 → MayStep c s1
   waits_may c s1 waits = subst (λ (d : Parts). MayStep d s1) (sym waits.same) (subst (λ (s : BoardState). MayStep b s) (sym waits.board) may.may)
@@ -310,7 +318,8 @@ module _ (count : ℕ) (b : Parts) (s0 : BoardState) (may : MaySpace count b s0)
         let there : d.reclaim.phase ≡ Copies course = ap (λ (x : Parts). x.reclaim.phase) leaves.rest ∙ copies in
         let before : space_left count b ≡ left_at (Copies course) count b = ap (λ p. left_at p count b) copies in
         let after : space_left count d ≡ left_at (Copies course) count d = ap (λ p. left_at p count d) there in
-        let steps : steps_left d.log.shape d.space.live.heads course ≡ steps_left b.log.shape b.space.live.heads course = λ i. steps_left (leaves.same_shape i) (ap (λ (x : Parts). x.space.live.heads) leaves.rest i) course in
+        let steps : steps_left d.log.shape d.space.live.heads course ≡ steps_left b.log.shape b.space.live.heads course = λ i. steps_left
+        (leaves.same_shape i) (ap (λ (x : Parts). x.space.live.heads) leaves.rest i) course in
         let none : where_so (true && is_tight_for d) (room_calls d.log.shape) ≡ 0 = ap (λ x. where_so x (room_calls d.log.shape)) wide in
         let calls = calls_left course tight in
         omega (arith, before, after, steps, none, calls)
@@ -335,7 +344,8 @@ module _ (count : ℕ) (b : Parts) (s0 : BoardState) (may : MaySpace count b s0)
         let all = roots_before in
         omega (arith, few, none, all)
 
-    frozen_once : (r : Result Unit Fault) → KeepsOrReads b d (room_calls b.log.shape) s0 s2 r → Spends (room_calls b.log.shape) room_roots s0 s2 → OnOk r (HasRoom d) → OnRunning (d.log.pending ≡ []) r → OnRunning (LeavesValues b d) r → OnRunning (Stays b d) r
+    frozen_once : (r : Result Unit Fault) → KeepsOrReads b d (room_calls b.log.shape) s0 s2 r → Spends (room_calls b.log.shape) room_roots s0 s2
+        → OnOk r (HasRoom d) → OnRunning (d.log.pending ≡ []) r → OnRunning (LeavesValues b d) r → OnRunning (Stays b d) r
         → SpacesOnce count b d s0 s2 r
     frozen_once (Ok x) step spends room none leaves stays = record {
       made = room_calls b.log.shape;
@@ -371,13 +381,16 @@ module _ (count : ℕ) (b : Parts) (s0 : BoardState) (may : MaySpace count b s0)
       stays = tt;
     }
 
-  pub space_frozen : (c d : Parts) (s1 s2 : BoardState) (r : Result Unit Fault) → Waits b c s0 s1 → KeepsOrReads c d (room_calls c.log.shape) s1 s2 r → Spends (emptying c.log.shape 4 + whole_freeze) room_roots s1 s2 → OnOk r (HasRoom d)
+  pub space_frozen : (c d : Parts) (s1 s2 : BoardState) (r : Result Unit Fault) → Waits b c s0 s1
+      → KeepsOrReads c d (room_calls c.log.shape) s1 s2 r → Spends (emptying c.log.shape 4 + whole_freeze) room_roots s1 s2 → OnOk r (HasRoom d)
       → OnRunning (d.log.pending ≡ []) r → OnRunning (LeavesValues c d) r → OnRunning (Stays c d) r → SpacesOnce count b d s0 s2 r
   space_frozen c d s1 s2 r waits step spends room none leaves stays =
       let kept = subst (λ (s : BoardState). KeepsOrReads b d (room_calls b.log.shape) s s2 r) waits.board (subst (λ (x : Parts). KeepsOrReads x d (room_calls x.log.shape) s1 s2 r) waits.same step) in
       let spent =
-      subst (λ (s : BoardState). Spends (emptying b.log.shape 4 + whole_freeze) room_roots s s2) waits.board (subst (λ (x : Parts). Spends (emptying x.log.shape 4 + whole_freeze) room_roots s1 s2) waits.same spends) in
-      frozen_once waits.course waits.copies waits.tight d s2 r kept (spends_within (emptying b.log.shape 4 + whole_freeze) (room_calls b.log.shape) room_roots room_roots s0 s2 (omega arith) (omega arith) spent) room none
+      subst (λ (s : BoardState). Spends (emptying b.log.shape 4 + whole_freeze) room_roots s s2) waits.board
+      (subst (λ (x : Parts). Spends (emptying x.log.shape 4 + whole_freeze) room_roots s1 s2) waits.same spends) in
+      frozen_once waits.course waits.copies waits.tight d s2 r kept
+      (spends_within (emptying b.log.shape 4 + whole_freeze) (room_calls b.log.shape) room_roots room_roots s0 s2 (omega arith) (omega arith) spent) room none
       (subst (λ (x : Parts). OnRunning (LeavesValues x d) r) waits.same leaves) (subst (λ (x : Parts). OnRunning (Stays x d) r) waits.same stays)
 
 -- if the moves needed a freeze

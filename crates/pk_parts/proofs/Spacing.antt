@@ -58,7 +58,8 @@ module _ (count : ℕ) (b c : Parts) (same_shape : c.log.shape ≡ b.log.shape) 
       let ready = falls.none_ready in
       let tight : where_so (is_tight_for c) (room_calls c.log.shape) ≡ where_so (is_tight_for b) (room_calls b.log.shape) = λ i. where_so (tight_same b c on i) (room_calls (same_shape i)) in
       let steps : where_so (needs count b) (whole_reclaim b.log.shape - 1) ≡ whole_reclaim b.log.shape - 1 = ap (λ x. where_so x (whole_reclaim b.log.shape - 1)) wanted in
-      let moves : where_so (needs count b && is_tight_for b) (room_calls b.log.shape) ≡ where_so (is_tight_for b) (room_calls b.log.shape) = ap (λ x. where_so (x && is_tight_for b) (room_calls b.log.shape)) wanted in
+      let moves : where_so (needs count b && is_tight_for b) (room_calls b.log.shape) ≡ where_so (is_tight_for b)
+      (room_calls b.log.shape) = ap (λ x. where_so (x && is_tight_for b) (room_calls b.log.shape)) wanted in
       omega (arith, less, ready, tight, steps, moves)
   works_less (Copies e) (Copies d) awaits falls on =
       let less = falls.less in
@@ -138,12 +139,14 @@ module _ (count : ℕ) (b c : Parts) (same_shape : c.log.shape ≡ b.log.shape) 
       both true = refl
       both false = refl
 
-  -- a value needs a reclaim as before, if a block is given back
-  needs_same : (victim : ℕ) → (runs_in (GivesBack victim) ≡ true → used_by Values b.pool.states ≡ data_blocks b.log.shape) → used_by Values c.pool.states + 1 ≡ used_by Values b.pool.states → RoomBehind (GivesBack victim) (space_of b) (space_of c) → needs count c ≡ needs count b
+  -- a value needs a reclaim as before, if a block is freed
+  needs_same : (victim : ℕ) → (runs_in (GivesBack victim) ≡ true → used_by Values b.pool.states ≡ data_blocks b.log.shape)
+      → used_by Values c.pool.states + 1 ≡ used_by Values b.pool.states → RoomBehind (GivesBack victim) (space_of b) (space_of c) → needs count c ≡ needs count b
   needs_same victim full given from =
       let all = full refl in
       let before : needs count b ≡ not (fits_open b.log.shape b.space count) = full_needs (used_by Values b.pool.states) (fits_open b.log.shape b.space count) (omega (arith, all)) in
-      let after : needs_reclaim b.log.shape b.space c.pool count ≡ not (fits_open b.log.shape b.space count) = full_needs (used_by Values c.pool.states) (fits_open b.log.shape b.space count) (omega (arith, all, given)) in
+      let after : needs_reclaim b.log.shape b.space c.pool count ≡ not (fits_open b.log.shape b.space count) = full_needs
+      (used_by Values c.pool.states) (fits_open b.log.shape b.space count) (omega (arith, all, given)) in
       (λ i. needs_reclaim (same_shape i) (from.1 i) c.pool count) ∙ (after ∙ sym before)
 
   pub ends_less : (p : Phase) → AwaitsAt p count b → (runs_in p ≡ true → used_by Values b.pool.states ≡ data_blocks b.log.shape) → used_by Values c.pool.states + 1 ≡ used_by Values b.pool.states
@@ -162,7 +165,8 @@ module _ (count : ℕ) (b c : Parts) (same_shape : c.log.shape ≡ b.log.shape) 
   ends_less (GivesBack victim) awaits full given from =
       let same = needs_same victim full given from in
       let steps : where_so (needs count c) (whole_reclaim c.log.shape - 1) ≡ where_so (needs count b) (whole_reclaim b.log.shape - 1) = λ i. where_so (same i) (whole_reclaim (same_shape i) - 1) in
-      let moves : where_so (needs count c && is_tight_for c) (room_calls c.log.shape) ≡ where_so (needs count b && is_tight_for b) (room_calls b.log.shape) = λ i. where_so (same i && tight_same b c from.0 i) (room_calls (same_shape i)) in
+      let moves : where_so (needs count c && is_tight_for c) (room_calls c.log.shape) ≡ where_so (needs count b && is_tight_for b)
+      (room_calls b.log.shape) = λ i. where_so (same i && tight_same b c from.0 i) (room_calls (same_shape i)) in
       omega (arith, steps, moves)
 
   -- no more roots

@@ -21,7 +21,16 @@ pub reads_between : (d : Parts) (shape : Shape) (flash : Flash) (m : Map) → St
 reads_between d shape flash m is = under_reads shape flash d.log.pending is.top is.found m is.with.pending
 
 pub agrees_between : (d : Parts) (told : Option Shape) (shape : Shape) (flash : Flash) (m : Map) → told ≡ Some shape → StandsBetween d shape flash m → DriveOnFlash d told flash
-agrees_between d told shape flash m is stands = record { shape = shape; top = stands.top; found = stands.found; without = stands.without; all = m; told_is = is; with = stands.with; course = stands.course }
+agrees_between d told shape flash m is stands = record {
+  shape = shape;
+  top = stands.top;
+  found = stands.found;
+  without = stands.without;
+  all = m;
+  told_is = is;
+  with = stands.with;
+  course = stands.course;
+}
 
 pub agrees_so : (d : Parts) (told : Option Shape) (shape : Shape) (flash : Flash) (m : Map) → told ≡ Some shape → StandsFor d shape flash m → DriveOnFlash d told flash
 agrees_so d told shape flash m is stands = agrees_between d told shape flash m is (between d shape flash m stands)

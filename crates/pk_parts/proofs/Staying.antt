@@ -26,6 +26,7 @@ use Rattle.pk_parts.specs.Parts.{Parts, outputs_of, block_if_open}
 use Rattle.pk_parts.specs.Moves.{StandsFor}
 use Rattle.pk_parts.specs.Placing.{PlacesValue}
 use Rattle.pk_parts.specs.Staying.{StaysFresh, SameUse, Stays, StaysOrOpens, StaysOrFrees}
+use Rattle.pk_base.proofs.Logic.{some_same}
 
 -- ---- no step
 
@@ -94,7 +95,8 @@ pub stays_then_ok : {X E : Type 0} (r : Result X E) (a b c : Parts) → Stays a 
 stays_then_ok (Ok x) a b c first second = stays_then a b c first second
 stays_then_ok (Err e) a b c first second = tt
 
-pub opens_behind_ok : {X E : Type 0} (r : Result X E) (a b c : Parts) (count : ℕ) → Stays a b → b.log.shape ≡ a.log.shape → b.space ≡ a.space → OnOk r (StaysOrOpens b c count) → OnOk r (StaysOrOpens a c count)
+pub opens_behind_ok : {X E : Type 0} (r : Result X E) (a b c : Parts) (count : ℕ) → Stays a b
+    → b.log.shape ≡ a.log.shape → b.space ≡ a.space → OnOk r (StaysOrOpens b c count) → OnOk r (StaysOrOpens a c count)
 opens_behind_ok (Ok x) a b c count first shapes spaces second = opens_behind a b c count first shapes spaces second
 opens_behind_ok (Err e) a b c count first shapes spaces second = tt
 
@@ -110,12 +112,14 @@ commit_stays d log' old new (inr all) =
     let T : LogState → Type 0 = λ l. Stays d (record d { log = l }) in
     subst T (sym all.taken) (record { fresh = record { stays = λ e. e; begun = inl refl }; blocks = record { used = refl; open_same = refl } })
 
-pub commit_stays_ok : (r : Result Unit Fault) (d : Parts) (log' : LogState) (old new : BoardState) → OnOk r (CommitsNone d.log old log' new ⊎ CommitsAll d.log old log' new) → OnOk r (Stays d (record d { log = log' }))
+pub commit_stays_ok : (r : Result Unit Fault) (d : Parts) (log' : LogState) (old new : BoardState)
+    → OnOk r (CommitsNone d.log old log' new ⊎ CommitsAll d.log old log' new) → OnOk r (Stays d (record d { log = log' }))
 commit_stays_ok (Ok x) d log' old new made = commit_stays d log' old new made
 commit_stays_ok (Err e) d log' old new made = tt
 
 -- an entry is noted
-pub note_stays : (d : Parts) (e : Entry) (log' : LogState) (space' : DataState) (keys' : ℕ) → log' ≡ pushed d.log e → space'.open_block ≡ d.space.open_block → Stays d (record d { log = log'; space = space'; keys = keys' })
+pub note_stays : (d : Parts) (e : Entry) (log' : LogState) (space' : DataState) (keys' : ℕ) → log' ≡ pushed d.log e
+    → space'.open_block ≡ d.space.open_block → Stays d (record d { log = log'; space = space'; keys = keys' })
 note_stays d e log' space' keys' is same =
     let T : LogState → Type 0 = λ l. Stays d (record d { log = l; space = space'; keys = keys' }) in
     subst T (sym is) (record { fresh = record { stays = λ x. x; begun = inl refl }; blocks = record { used = refl; open_same = ap block_if_open same } })
@@ -130,9 +134,6 @@ erase_stays d q old new (inr none) = stays_same d (record d { pool = q }) (ap (�
 
 -- ---- a value is placed
 
-some_same : (x y : ℕ) → ◌≡◌ {A = Option ℕ} (Some x) (Some y) → x ≡ y
-some_same x y e = cc
-
 written_block : (space : DataState) (count : ℕ) → block_if_open (with_written space count).open_block ≡ block_if_open space.open_block
 written_block space count = by space.open_block
   where
@@ -144,7 +145,8 @@ spare_or_values : (p : Blocks) (b : ℕ) → IsSpare p b → HoldsValues p b →
 spare_or_values p b (inl free) held = cc
 spare_or_values p b (inr ready) held = cc
 
-not_the_open : (shape : Shape) (pool : Blocks) (flash : Flash) (o : Option OpenBlock) (b : ℕ) → MatchOption o (Unit {0}) (λ x. IsOpenIn shape pool flash x) → IsSpare pool b → ◌≡◌ {A = Option ℕ} (Some b) (block_if_open o) → ⊥
+not_the_open : (shape : Shape) (pool : Blocks) (flash : Flash) (o : Option OpenBlock) (b : ℕ)
+    → MatchOption o (Unit {0}) (λ x. IsOpenIn shape pool flash x) → IsSpare pool b → ◌≡◌ {A = Option ℕ} (Some b) (block_if_open o) → ⊥
 not_the_open shape pool flash None b is spare e = cc
 not_the_open shape pool flash (Some o) b is spare e = spare_or_values pool b spare (subst (HoldsValues pool) (some_same o.block b (sym e)) is.owned)
 
@@ -159,7 +161,8 @@ held_few (Copies c) used all full some = let same = full refl in omega (arith, s
 held_few (Commits victim) used all full some = let same = full refl in omega (arith, same, some)
 held_few (GivesBack victim) used all full some = let same = full refl in omega (arith, same, some)
 
-pub place_stays : (d : Parts) (key : Key) (value : List ℕ) (old : BoardState) (page : ℕ) (space : DataState) (q : Blocks) (new : BoardState) → PlacesValue d.log.shape key value d.space d.pool old page space q new
+pub place_stays : (d : Parts) (key : Key) (value : List ℕ) (old : BoardState) (page : ℕ) (space : DataState) (q : Blocks) (new : BoardState)
+    → PlacesValue d.log.shape key value d.space d.pool old page space q new
     → (m : Map) × StandsFor d d.log.shape old.pages m → StaysOrOpens d (record d { space = space; pool = q }) (charge d.log.shape (length value))
 place_stays d key value old page space q new is stands = record {
   fresh = record { stays = λ e. e; begun = inl refl };
@@ -171,10 +174,12 @@ place_stays d key value old page space q new is stands = record {
     | inr opens ↦ inr (inl (record {
       no_room = opens.no_room;
       used =
-          let more : used_by Values q.states ≡ used_by Values d.pool.states + 1 = ap (λ (p : Blocks). used_by Values p.states) opens.taken ∙ used_adopted d.pool.shape d.pool.states opens.block Values opens.spare in
+          let more : used_by Values q.states ≡ used_by Values d.pool.states + 1 = ap (λ (p : Blocks). used_by Values p.states) opens.taken
+          ∙ used_adopted d.pool.shape d.pool.states opens.block Values opens.spare in
           let few = held_few d.reclaim.phase (used_by Values d.pool.states) (data_blocks d.log.shape) stands.1.with.reclaim.full (some_data d.log.shape stands.1.with.placed.is_shape) in
           omega (arith, more, few);
-      other = λ e. not_the_open d.log.shape d.pool old.pages d.space.open_block opens.block stands.1.with.placed.open_is opens.spare (sym (counted ∙ ap (λ (s : DataState). block_if_open s.open_block) opens.opens) ∙ e);
+      other = λ e. not_the_open d.log.shape d.pool old.pages d.space.open_block opens.block stands.1.with.placed.open_is opens.spare
+          (sym (counted ∙ ap (λ (s : DataState). block_if_open s.open_block) opens.opens) ∙ e);
     }))
   ];
 }
@@ -184,7 +189,8 @@ place_stays d key value old page space q new is stands = record {
 
 -- ---- the same of a drive that is another name for it, or of a count
 
-pub opens_put : {X E : Type 0} (r : Result X E) (a b c : Parts) (size : ℕ) → Stays a b → b.log.shape ≡ a.log.shape → b.space ≡ a.space → OnOk r (StaysOrOpens b c (charge b.log.shape size)) → OnOk r (StaysOrOpens a c (charge a.log.shape size))
+pub opens_put : {X E : Type 0} (r : Result X E) (a b c : Parts) (size : ℕ) → Stays a b → b.log.shape ≡ a.log.shape
+    → b.space ≡ a.space → OnOk r (StaysOrOpens b c (charge b.log.shape size)) → OnOk r (StaysOrOpens a c (charge a.log.shape size))
 opens_put r a b c size first shapes spaces second = opens_behind_ok r a b c (charge a.log.shape size) first shapes spaces (subst (λ s. OnOk r (StaysOrOpens b c (charge s size))) shapes second)
 
 pub step_stays : (d d' : Parts) (old new : BoardState) → ErasesOne d.pool old d'.pool new ⊎ ErasesNone d.pool old d'.pool new → d' ≡ record d { pool = d'.pool } → Stays d d'

@@ -137,7 +137,8 @@ module _ (a b : Parts) (n : ℕ) (s0 s1 : BoardState) (u : Unit {0}) (leaves : L
   module _ (r : Result Unit Fault) (e : Parts) (s2 : BoardState) (ready : IsReady s0 a.log.shape) where
     pub step_puts_later : (key : Key) (value : List ℕ) (place : Option Place) → StepPuts b e 0 s1 s2 key value place r → PutsOrReads a e n s0 s2 key value place r
     step_puts_later key value place second =
-        reading_then r (λ (x : Unit). PutsAll b e s1 s2 key value place) (λ (x : Unit). PutsAll a e s0 s2 key value place) ⊥ (KeepsAll a e s0 s2) (FailsToPut b s1 s2 key value place) (FailsToPut a s0 s2 key value place)
+        reading_then r (λ (x : Unit). PutsAll b e s1 s2 key value place) (λ (x : Unit). PutsAll a e s0 s2 key value place) ⊥
+        (KeepsAll a e s0 s2) (FailsToPut b s1 s2 key value place) (FailsToPut a s0 s2 key value place)
         a.log.shape n 0 n s0 s1 s2 (omega arith) made
         (λ x puts. puts_later (Ok x) a b e s0 s1 s2 key value place ready keeps puts) (λ none. absurd none) (λ fails. fails_later (Err Stopped) a b s0 s1 s2 key value place ready keeps fails)
         (subst (λ (s : Shape). StepOrRead (λ (x : Unit). PutsAll b e s1 s2 key value place) ⊥ (FailsToPut b s1 s2 key value place) s 0 s1 s2 r) leaves.same_shape
@@ -156,7 +157,8 @@ module _ (a b : Parts) (n : ℕ) (s0 s1 : BoardState) (u : Unit {0}) (leaves : L
 module _ (e : Fault) (a b : Parts) (n : ℕ) (s0 s1 : BoardState) (ready : IsReady s0 a.log.shape) (step : KeepsOrReads {T = Unit {0}} a b n s0 s1 (Err e)) where
   pub put_failed_before : (key : Key) (value : List ℕ) (place : Option Place) → PutsOrReads a b n s0 s1 key value place (Err e)
   put_failed_before key value place =
-      reading_failed e (λ (x : Unit). KeepsAll a b s0 s1) (λ (x : Unit). PutsAll a b s0 s1 key value place) (KeepsAll a b s0 s1) (KeepsAll a b s0 s1) (BreaksAll a s0 s1) (FailsToPut a s0 s1 key value place)
+      reading_failed e (λ (x : Unit). KeepsAll a b s0 s1) (λ (x : Unit). PutsAll a b s0 s1 key value place)
+      (KeepsAll a b s0 s1) (KeepsAll a b s0 s1) (BreaksAll a s0 s1) (FailsToPut a s0 s1 key value place)
       a.log.shape n n s0 s1 (omega arith) (λ kept. kept) (put_broken a s0 s1 key value place ready) step
 
   pub take_failed_before : (key : Key) (place : Place) → TakesOrReads a b n s0 s1 key place (Err e)

@@ -9,7 +9,8 @@ use Rattle.pk_segfmt.specs.Stored.{page_of}
 use Rattle.pk_rootfmt.specs.Root.{Root}
 use Rattle.pk_nand.specs.BoardState.{BoardState}
 use Rattle.pk_nand.specs.Cut.{Interrupted, Touches}
-use Rattle.pk_nand.specs.Calls.{after_program, after_erase, ProgramFailed, EraseFailed}
+use Rattle.pk_nand.specs.Calls.{after_program, ProgramFailed}
+use Rattle.pk_nand.specs.Operations.{after_erase, EraseFailed}
 use Rattle.pk_nand.proofs.Leaving.{interrupted_done}
 use Rattle.pk_nand.proofs.Touching.{untouched}
 use Rattle.pk_seg.specs.Stored.{written, WriteFailed}
@@ -84,7 +85,8 @@ module _ (shape : Shape) (root : Root) (found : Found) (pending : List Entry) (k
       within_program f cut = (refl, λ k is. untouched shape (program page bytes) k _ _ (λ here. unread k here is) (cut.pages k) ∙ so_far k is)
 
       grows_program : Grows shape old.pages (after shape (program page bytes) old.pages)
-      grows_program = grows_still old.pages (after shape (program page bytes) old.pages) so_far (within_program (after shape (program page bytes) old.pages) (interrupted_done shape (program page bytes) old.pages)).1
+      grows_program = grows_still old.pages (after shape (program page bytes) old.pages) so_far
+          (within_program (after shape (program page bytes) old.pages) (interrupted_done shape (program page bytes) old.pages)).1
 
       pub still_program : (new : BoardState) → new ≡ after_program old page bytes → Reaches shape old new StillCut
       still_program new made = Reaches-program shape old StillCut has page bytes within_program grows_program new made
@@ -93,7 +95,8 @@ module _ (shape : Shape) (root : Root) (found : Found) (pending : List Entry) (k
       still_program_failed new failed = Goes-program shape old StillCut has page bytes within_program grows_program new failed
 
   -- the pages of a value, whole pairs
-  module _ (old : BoardState) (has : old.shape ≡ Some shape) (so_far : SameStill old.pages) (key : Key) (page : ℕ) (value : List ℕ) (even : page % shape.block_pages % 2 ≡ 0) (unread : (k : ℕ) → page ≤ k → k < page + charge shape (length value) → IsStill shape root found pending kept k → ⊥) where
+  module _ (old : BoardState) (has : old.shape ≡ Some shape) (so_far : SameStill old.pages) (key : Key) (page : ℕ) (value : List ℕ)
+      (even : page % shape.block_pages % 2 ≡ 0) (unread : (k : ℕ) → page ≤ k → k < page + charge shape (length value) → IsStill shape root found pending kept k → ⊥) where
     shape_stays : (n : ℕ) → (written shape key page value n old).shape ≡ Some shape
     shape_stays zero = has
     shape_stays (suc n) = shape_stays n
@@ -116,7 +119,8 @@ module _ (shape : Shape) (root : Root) (found : Found) (pending : List Entry) (k
         let before = still_written n (omega (arith, most)) in
         let now : BoardState = written shape key page value n old in
         still_then old now (written shape key page value (suc n) old) has before
-        (still_program now (shape_stays n) (still_end old now before) (page + n) (page_of shape key value n) (untouched_value n (page_of shape key value n) (omega (arith, most))) (written shape key page value (suc n) old) refl)
+        (still_program now (shape_stays n) (still_end old now before) (page + n) (page_of shape key value n)
+        (untouched_value n (page_of shape key value n) (omega (arith, most))) (written shape key page value (suc n) old) refl)
 
     pub still_write_failed : (new : BoardState) → WriteFailed shape key page value old new → Goes shape old new StillCut
     still_write_failed new failed =
@@ -125,7 +129,8 @@ module _ (shape : Shape) (root : Root) (found : Found) (pending : List Entry) (k
         let before = still_written n (omega (arith, within)) in
         let now : BoardState = written shape key page value n old in
         still_goes old now new has before
-        (still_program_failed now (shape_stays n) (still_end old now before) (page + n) (page_of shape key value n) (untouched_value n (page_of shape key value n) (omega (arith, within))) new failed.failed)
+        (still_program_failed now (shape_stays n) (still_end old now before) (page + n) (page_of shape key value n)
+        (untouched_value n (page_of shape key value n) (omega (arith, within))) new failed.failed)
 
 -- ---- counts
 

@@ -27,7 +27,8 @@ module _ (f r : Fault) (d e : Parts) (same : r ≡ f) (rest : e ≡ failed_by d 
       by Reading is_rest = tt
       by Stopped is_rest = ap (λ (x : Parts). x.stopped) is_rest
 
-  pub fails_step : (E E' : Unit {0} → Type 0) (K : Parts → Type 0) (B : Type 0) (shape : Shape) (most : ℕ) (old new : BoardState) → StepOrRead E (K d) B shape most old new (Err f) → StepOrRead E' (K e) B shape most old new (Err r)
+  pub fails_step : (E E' : Unit {0} → Type 0) (K : Parts → Type 0) (B : Type 0) (shape : Shape) (most : ℕ) (old new : BoardState)
+      → StepOrRead E (K d) B shape most old new (Err f) → StepOrRead E' (K e) B shape most old new (Err r)
   fails_step E E' K B shape most old new step =
       subst (λ (x : Fault). StepOrRead E' (K e) B shape most old new (Err x)) (sym same)
       (record { came = by f rest step.came; rest = step.rest; reads = step.reads; roots_few = step.roots_few; ready = step.ready })

@@ -20,19 +20,22 @@ delete_least shape is = let most = store_least shape is in omega (arith, most)
 
 -- the second calls begin with the same shape
 module _ (shape shape' : Shape) (s0 s1 s2 : BoardState) (same : shape' ≡ shape) where
-  pub spends_put : (len : ℕ) → Spends (room_calls shape) room_roots s0 s1 → Spends (place_calls (charge shape' len) + commit_calls) 0 s1 s2 → Spends (put_calls shape (charge shape len)) room_roots s0 s2
+  pub spends_put : (len : ℕ) → Spends (room_calls shape) room_roots s0 s1
+      → Spends (place_calls (charge shape' len) + commit_calls) 0 s1 s2 → Spends (put_calls shape (charge shape len)) room_roots s0 s2
   spends_put len room put =
       let count = charge shape len in
       let here = subst (λ (s : Shape). Spends (place_calls (charge s len) + commit_calls) 0 s1 s2) same put in
       spends_then (room_calls shape) (place_calls count + commit_calls) (put_calls shape count) room_roots 0 room_roots s0 s1 s2 (omega arith) (omega arith) room here
 
-  pub spends_found : (len : ℕ) → Spends lookup_calls 0 s0 s1 → Spends (put_calls shape' (charge shape' len)) room_roots s1 s2 → Spends (lookup_calls + put_calls shape (charge shape len)) room_roots s0 s2
+  pub spends_found : (len : ℕ) → Spends lookup_calls 0 s0 s1 → Spends (put_calls shape' (charge shape' len)) room_roots s1 s2
+      → Spends (lookup_calls + put_calls shape (charge shape len)) room_roots s0 s2
   spends_found len look put =
       let puts = put_calls shape (charge shape len) in
       let here = subst (λ (s : Shape). Spends (put_calls s (charge s len)) room_roots s1 s2) same put in
       spends_then lookup_calls puts (lookup_calls + puts) 0 room_roots room_roots s0 s1 s2 (omega arith) (omega arith) look here
 
-  pub spends_behind : (len : ℕ) → Spends (reclaim_calls shape) room_roots s0 s1 → Spends (lookup_calls + put_calls shape' (charge shape' len)) room_roots s1 s2 → Spends (space_and_put_calls shape (charge shape len)) store_roots s0 s2
+  pub spends_behind : (len : ℕ) → Spends (reclaim_calls shape) room_roots s0 s1
+      → Spends (lookup_calls + put_calls shape' (charge shape' len)) room_roots s1 s2 → Spends (space_and_put_calls shape (charge shape len)) store_roots s0 s2
   spends_behind len reclaims found =
       let count = charge shape len in
       let here = subst (λ (s : Shape). Spends (lookup_calls + put_calls s (charge s len)) room_roots s1 s2) same found in

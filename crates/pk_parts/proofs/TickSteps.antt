@@ -56,7 +56,8 @@ module _ (d : Parts) (old : BoardState) (m : MayTick d old) where
     grown grows = subst (λ o. Grows (shape_or_none o) old.pages new.pages) (sym (agrees_ready d old m.agrees).shape_is) grows
 
     -- a step that worked: the map is unchanged, and less work remains
-    pub made_advances : (is_half d ≡ true → is_half d' ≡ false) → Grows d.log.shape old.pages new.pages → (IsIdle d.log.shape old.pages (sight_of d) → ⊥) → d'.log.pending ≡ [] → ReclaimHolds d' d.log.shape m.agrees.all old new
+    pub made_advances : (is_half d ≡ true → is_half d' ≡ false) → Grows d.log.shape old.pages new.pages
+        → (IsIdle d.log.shape old.pages (sight_of d) → ⊥) → d'.log.pending ≡ [] → ReclaimHolds d' d.log.shape m.agrees.all old new
         → NoFault old new → frames_of d' ≡ frames_of d → d'.stopped ≡ d.stopped → StaysOrFrees d d'
         → d'.log.root.number ≤ d.log.root.number + 1 → (sight_of d').work < (sight_of d).work → Advances d d' old new Worked
     made_advances finishes grows busy none here sound frames stopped frees number less =
@@ -92,7 +93,8 @@ module _ (d : Parts) (old : BoardState) (m : MayTick d old) where
         }
 
     -- a step of which a read failed: the state of the drive is unchanged
-    pub unread_advances : (is_half d ≡ true → is_half d' ≡ false) → Grows d.log.shape old.pages new.pages → (IsIdle d.log.shape old.pages (sight_of d) → ⊥) → d'.log.pending ≡ [] → sight_of d' ≡ sight_of d → StandsFor d' d.log.shape old.pages m.agrees.all → OnlyReading old new → Rose old.read_faults new.read_faults
+    pub unread_advances : (is_half d ≡ true → is_half d' ≡ false) → Grows d.log.shape old.pages new.pages → (IsIdle d.log.shape old.pages (sight_of d) → ⊥)
+        → d'.log.pending ≡ [] → sight_of d' ≡ sight_of d → StandsFor d' d.log.shape old.pages m.agrees.all → OnlyReading old new → Rose old.read_faults new.read_faults
         → Rose old.flash_faults new.flash_faults
         → frames_of d' ≡ frames_of d → d'.stopped ≡ d.stopped → StaysOrFrees d d' → d'.log.root.number ≤ d.log.root.number + 1 → Advances d d' old new (Fault false)
     unread_advances finishes grows busy none seen stands only rose flash frames stopped frees number =
@@ -138,7 +140,8 @@ module _ (d : Parts) (old : BoardState) (m : MayTick d old) where
         }
 
     -- a step that stopped the drive
-    pub stop_advances : (IsIdle d.log.shape old.pages (sight_of d) → ⊥) → d'.log.pending ≡ [] → d'.stopped ≡ true → Goes d.log.shape old new (CrashFinds d.log.shape background old.pages m.agrees.all) → Stops old new
+    pub stop_advances : (IsIdle d.log.shape old.pages (sight_of d) → ⊥) → d'.log.pending ≡ [] → d'.stopped ≡ true
+        → Goes d.log.shape old new (CrashFinds d.log.shape background old.pages m.agrees.all) → Stops old new
         → Advances d d' old new (Fault true)
     stop_advances busy none stopped goes stops = record {
       ticks = record {

@@ -1,5 +1,6 @@
 -- A background step: a spare block is erased, or nothing is done.
-use Rattle.std.proofs.Common.{◌≡◌, ◌≢◌, inl, inr, ℕ, zero, suc, ◌+◌, ◌-◌, ◌*◌, ◌/◌, ◌<◌, ◌≤◌, refl, sym, ap, subst, ◌∙◌, arith, Bool, true, false, cond, List, [], ◌∷◌, ◌++◌, length, Option, Some, None, Ok, nat_le}
+use Rattle.std.proofs.Common.{◌≡◌, ◌≢◌, inl, inr, ℕ, zero, suc, ◌+◌, ◌-◌, ◌*◌, ◌/◌, ◌<◌, ◌≤◌, refl, sym, ap, subst, ◌∙◌, arith, Bool, true, false, cond, List, [], ◌∷◌, ◌++◌, length, Option, Some}
+use Rattle.std.proofs.Common.{None, Ok, nat_le}
 use Rattle.std.specs.Prelude.{slice_get, filter, count_by, map, unwrap_or, MatchOption, MatchBool, ◌&&◌, ◌==◌, not}
 use Rattle.std.proofs.lemmas.Bool.{le-leb, eqb-true, eq-eqb}
 use Rattle.std.proofs.lemmas.Bool.Decides.{leb_tells}
@@ -13,16 +14,17 @@ use Rattle.pk_rootfmt.specs.Root.{Root, named}
 use Rattle.pk_rootfmt.specs.Newest.{newest_root}
 use Rattle.pk_plan.specs.declared.owner.Owner.TheVariants.{Journal, Meta, Values}
 use Rattle.pk_nand.specs.BoardState.{BoardState, shape_or_none}
-use Rattle.pk_nand.specs.Calls.{IsReady, after_erase, EraseFailed}
+use Rattle.pk_nand.specs.Calls.{IsReady}
+use Rattle.pk_nand.specs.Operations.{after_erase, EraseFailed}
 use Rattle.pk_nand.proofs.Reaching.{Reached-start}
 use Rattle.pk_nand.proofs.Touching.{untouched_after}
 use Rattle.pk_pool.specs.declared.state.BlockState.{BlockState}
 use Rattle.pk_pool.specs.declared.state.BlockState.TheVariants.{Root as RootBlock, Free, Ready, Owned, Leaving}
-use Rattle.pk_pool.specs.Blocks.{Blocks, PoolOnFlash, IsShared, IsOwned, IsNowhere, NoneLeaves, is_root, is_free, is_ready, is_owned_by, used_by, with_state, freed, freed_state}
+use Rattle.pk_pool.specs.Blocks.{Blocks, PoolOnFlash, IsShared, IsOwned, IsNowhere, NoneLeaves, is_free, is_ready, is_owned_by, used_by, with_state, freed, freed_state}
 use Rattle.pk_pool.specs.Unready.{unready}
 use Rattle.pk_pool.specs.Taking.{ErasesOne, ErasesNone}
 use Rattle.pk_pool.proofs.States.{free_is_not_root}
-use Rattle.pk_pool.proofs.Sharing.{count-set, behind_roots}
+use Rattle.pk_pool.proofs.Sharing.{count-set, behind_roots, all_counted, none_free}
 use Rattle.pk_pool.proofs.Leaving.{shared_freed, state_after}
 use Rattle.pk_schedule.proofs.Settled.{none_leaves_set}
 use Rattle.pk_run.specs.Kept.{Kept as KeptRun, empty}
@@ -45,7 +47,7 @@ use Rattle.pk_data.specs.Placed.{HoldsValues, ValuesOnFlash, IsOpenIn}
 use Rattle.pk_live.specs.declared.open_block.OpenBlock.{OpenBlock}
 use Rattle.pk_data.proofs.Unchanged.{block_elsewhere}
 use Rattle.pk_model.specs.Growth.{Grows, Reaches, Goes}
-use Rattle.pk_model.specs.Wear.{number_of, root_number, roots}
+use Rattle.pk_model.specs.Wear.{roots}
 use Rattle.pk_call.specs.Drive.{HoldsMap}
 use Rattle.pk_nand.specs.Effects.{AtMostOneCall}
 use Rattle.pk_call.specs.Seen.{stopped_by}
@@ -61,9 +63,10 @@ use Rattle.pk_parts.specs.Ticking.{Ticks, HasNoStep, WantsReclaim, WantsFreeze}
 use Rattle.pk_parts.proofs.Reclaiming.{reclaim_elsewhere, holds_none}
 use Rattle.pk_parts.proofs.Unread.{KeepsOwners, SameRead, same_top, still_without, still_all, agrees_elsewhere}
 use Rattle.pk_parts.proofs.Stills.{IsStill, SameStill, StillCut, read_still, still_end, went_end, still_erase, still_erase_failed}
-use Rattle.pk_parts.proofs.Writing.{IsIndexed, spare_still, beside_still}
-use Rattle.pk_parts.proofs.Halves.{with_settled, whole_of, whole_like, is_whole, not_both, counted_of, pool_same}
+use Rattle.pk_parts.proofs.Writing.{IsIndexed, spare_still, beside_still, same_roots}
+use Rattle.pk_parts.proofs.Halves.{with_settled, whole_of, whole_like, is_whole, counted_of, pool_same}
 use Rattle.pk_parts.proofs.Unchanging.{own, own_whole, for_its_map}
+use Rattle.pk_base.proofs.Logic.{not_both, both_true}
 
 pub yes_no : (b : Bool) → b ≡ false → b ≡ true → ⊥
 yes_no true e f = cc
@@ -94,7 +97,8 @@ merge_beside (ReadyOutput level) x q = refl
 
 -- ---- nothing is done
 
-pub ticks_nothing : (d : Parts) (old new : BoardState) (d' : Parts) (answer : Ticked) → d' ≡ d → new ≡ old → d.log.pending ≡ [] → stopped_by answer ≡ false → (answer ≡ Fault false → ⊥) → Ticks old new (sight_of d) (sight_of d') answer
+pub ticks_nothing : (d : Parts) (old new : BoardState) (d' : Parts) (answer : Ticked) → d' ≡ d → new ≡ old → d.log.pending ≡ []
+    → stopped_by answer ≡ false → (answer ≡ Fault false → ⊥) → Ticks old new (sight_of d) (sight_of d') answer
 ticks_nothing d old new d' answer same_drive same_board none runs fine =
     let T : BoardState → Type 0 = λ b. Ticks old b (sight_of d) (sight_of d') answer in
     let U : Parts → Type 0 = λ x. Ticks old old (sight_of d) (sight_of x) answer in
@@ -136,15 +140,11 @@ worked_idle e = cc
 
 -- ---- a spare block is erased
 
-same_roots : (shape : Shape) (old new : BoardState) → old.shape ≡ Some shape → new.shape ≡ Some shape → newest_root shape (page_at new.pages) ≡ newest_root shape (page_at old.pages) → roots new ≡ roots old
-unfolding root_number
-same_roots shape old new has has_new same =
-    ap (λ s. root_number (shape_or_none s) new.pages) has_new ∙ ap number_of same ∙ ap (λ s. root_number (shape_or_none s) old.pages) (sym has)
-
 free_or_values : (p : Blocks) (b : ℕ) → slice_get p.states b ≡ Some Free → HoldsValues p b → ⊥
 free_or_values p b free held = cc
 
-module _ (d : Parts) (old new : BoardState) (a : DriveOnFlash d old.shape old.pages) (whole : IsWhole d) (block : ℕ) (free : slice_get d.pool.states block ≡ Some Free) (shared : IsShared d.pool.shape d.pool.states) where
+module _ (d : Parts) (old new : BoardState) (a : DriveOnFlash d old.shape old.pages) (whole : IsWhole d)
+    (block : ℕ) (free : slice_get d.pool.states block ≡ Some Free) (shared : IsShared d.pool.shape d.pool.states) where
   -- the pages of the index are kept
   abbrev pub Kept : ℕ → Type 0
   Kept = IsIndexed d.pool d.log.shape
@@ -160,14 +160,16 @@ module _ (d : Parts) (old new : BoardState) (a : DriveOnFlash d old.shape old.pa
   grown new same = inl (subst (λ o. newest_root (shape_or_none o) (page_at new.pages) ≡ newest_root (shape_or_none o) (page_at old.pages)) (sym has) same)
 
   unread : (k : ℕ) → k / d.log.shape.block_pages ≡ block → IsStill d.log.shape a.top.1 a.found d.log.pending Kept k → ⊥
-  unread = spare_still d d.log.shape old.pages a.top a.found a.without a.all (own_whole d old a whole) block (inl free) (behind_roots d.pool.shape d.pool.states block Free free_is_not_root free shared)
+  unread = spare_still d d.log.shape old.pages a.top a.found a.without a.all (own_whole d old a whole) block
+      (inl free) (behind_roots d.pool.shape d.pool.states block Free free_is_not_root free shared)
 
   -- a cut at which no page differs that is read is one of the step
   cut_is : d.log.pending ≡ [] → (f : Flash) (q : List ℕ) → Still f q → CrashFinds d.log.shape background old.pages a.all f q
   cut_is none f q is =
       let w = own_whole d old a whole in
       let s = d.log.shape in
-      let held = under_reads s f [] a.top a.found a.without (still_without d d.space d.pool s old.pages f a.top a.found a.without a.all w (read_still s a.top.1 a.found d.log.pending Kept old.pages f is.1)) in
+      let held = under_reads s f [] a.top a.found a.without
+      (still_without d d.space d.pool s old.pages f a.top a.found a.without a.all w (read_still s a.top.1 a.found d.log.pending Kept old.pages f is.1)) in
       let first = under_reads s old.pages [] a.top a.found a.without w.committed in
       let second = subst (λ p. reading s old.pages p ≡ Ok a.all) none (under_reads s old.pages d.log.pending a.top a.found a.all w.pending) in
       (is.0, held ∙ (sym first ∙ second))
@@ -200,7 +202,8 @@ module _ (d : Parts) (old new : BoardState) (a : DriveOnFlash d old.shape old.pa
     placed : ValuesOnFlash d.log.shape d.space q (outputs_of d) new.pages (places a.found d.log.pending)
     placed =
         subst (λ p. ValuesOnFlash d.log.shape d.space p (outputs_of d) new.pages (places a.found d.log.pending)) (sym marked)
-        (block_elsewhere d.log.shape d.space d.pool (outputs_of d) block Free Ready old.pages new.pages (places a.found d.log.pending) (own_whole d old a whole).placed free refl refl values_same (subst (λ p. PoolOnFlash p new.pages) marked fits))
+        (block_elsewhere d.log.shape d.space d.pool (outputs_of d) block Free Ready old.pages new.pages (places a.found d.log.pending)
+        (own_whole d old a whole).placed free refl refl values_same (subst (λ p. PoolOnFlash p new.pages) marked fits))
 
     journal_same : used_by Journal q.states ≡ used_by Journal d.pool.states
     journal_same =
@@ -223,7 +226,8 @@ module _ (d : Parts) (old new : BoardState) (a : DriveOnFlash d old.shape old.pa
         let its : q.shape ≡ d.log.shape = ap (λ p. p.shape) marked ∙ (own_whole d old a whole).placed.shape_is in
         agrees_elsewhere d d.space q d.log.shape old.pages new.pages a.top a.found a.without a.all (own_whole d old a whole) same ready.flash owners
         (beside_still d d.log.shape old.pages a.top a.found a.without a.all (own_whole d old a whole) q new.pages owners its fits journal_same meta_same kept_same) placed
-        (reclaim_elsewhere d.log.shape d.reclaim d.space d.pool q old.pages new.pages (places a.found d.log.pending) (own_whole d old a whole).reclaim (own_whole d old a whole).placed values_many (λ k held not_open. all_same k held))
+        (reclaim_elsewhere d.log.shape d.reclaim d.space d.pool q old.pages new.pages (places a.found d.log.pending)
+        (own_whole d old a whole).reclaim (own_whole d old a whole).placed values_many (λ k held not_open. all_same k held))
 
     less_left : unready q.states + 1 ≡ unready d.pool.states
     less_left =
@@ -235,7 +239,8 @@ module _ (d : Parts) (old new : BoardState) (a : DriveOnFlash d old.shape old.pa
         let merge = merge_beside d.schedule.phase (index_of d) q in
         let due : is_reclaim_due (record d { pool = q }) ≡ is_reclaim_due d = due_so d d.log.shape (used_by Values q.states) refl values_many in
         let may : may_freeze (record d { pool = q }) ≡ may_freeze d = ap (λ b. has_moves b d.reclaim.phase && is_tight d.log.shape (length d.log.active.entries) (pages_left d.log.epoch)) due in
-        let backlog : backlog_of (record d { pool = q }) ≡ record (backlog_of d) { unready = unready q.states } = λ i. record (backlog_of d) { merge = merge i; reclaim = reclaim_left d.log.shape d.space.live.heads (due i) d.reclaim.phase; may_freeze = may i; unready = unready q.states } in
+        let backlog : backlog_of (record d { pool = q }) ≡ record (backlog_of d) { unready = unready q.states } = λ i.
+        record (backlog_of d) { merge = merge i; reclaim = reclaim_left d.log.shape d.space.live.heads (due i) d.reclaim.phase; may_freeze = may i; unready = unready q.states } in
         let same = ap (work d.log.shape) backlog in
         let less = erase_lowers d.log.shape (backlog_of d) (unready q.states) (omega (arith, less_left)) in
         omega (arith, same, less)
@@ -259,8 +264,14 @@ module _ (d : Parts) (old new : BoardState) (a : DriveOnFlash d old.shape old.pa
         let works = works_erase old new block made in
         record {
           stands = λ _. for_its_map d old a (λ s f m. HoldsMap s f new (sight_of (record d { pool = q })) m)
-              (record { shape_is = ready.shape_is; frames_is = refl; map_is = under_reads d.log.shape new.pages d.log.pending a.top a.found a.all (still_all d d.space d.pool d.log.shape old.pages new.pages a.top a.found a.without a.all (own_whole d old a whole) same) });
-          cuts = λ _. for_its_map d old a (λ s f m. Reaches s old new (CrashFinds s background old.pages m)) (reached.0, weaken reached.0 old new Still (CrashFinds d.log.shape background old.pages a.all) (cut_is none) reached.1, reached.2);
+              (record {
+                shape_is = ready.shape_is;
+                frames_is = refl;
+                map_is = under_reads d.log.shape new.pages d.log.pending a.top a.found a.all
+                    (still_all d d.space d.pool d.log.shape old.pages new.pages a.top a.found a.without a.all (own_whole d old a whole) same);
+              });
+          cuts = λ _. for_its_map d old a (λ s f m. Reaches s old new (CrashFinds s background old.pages m))
+              (reached.0, weaken reached.0 old new Still (CrashFinds d.log.shape background old.pages a.all) (cut_is none) reached.1, reached.2);
           cuts_stopped = λ e. absurd (yes_no false refl e);
           idle_rests = λ e. absurd (worked_idle e);
           unmade = λ e. absurd (worked_fine e);
@@ -286,7 +297,8 @@ module _ (d : Parts) (old new : BoardState) (a : DriveOnFlash d old.shape old.pa
       record {
         stands = λ e. absurd (yes_no true e refl);
         cuts = λ e. absurd (yes_no true e refl);
-        cuts_stopped = λ _. for_its_map d old a (λ s f m. Goes s old new (CrashFinds s background old.pages m)) (went.0, weaken_went went.0 old new Still (CrashFinds d.log.shape background old.pages a.all) (cut_is none) went.1, went.2);
+        cuts_stopped = λ _. for_its_map d old a (λ s f m. Goes s old new (CrashFinds s background old.pages m))
+            (went.0, weaken_went went.0 old new Still (CrashFinds d.log.shape background old.pages a.all) (cut_is none) went.1, went.2);
         idle_rests = λ e. absurd (stopped_idle true e);
         unmade = λ e. absurd (stopped_fine e);
         grows = λ e. absurd (yes_no true e refl);
@@ -300,31 +312,11 @@ module _ (d : Parts) (old new : BoardState) (a : DriveOnFlash d old.shape old.pa
         no_stop = λ e. absurd (yes_no true e refl);
         installs =
             (let e = same_roots d.log.shape old new has (ap (λ b. b.shape) made ∙ has)
-            (same_top d.log.shape a.top.1 a.found d.log.pending old.pages new.pages (read_still d.log.shape a.top.1 a.found d.log.pending Kept old.pages new.pages (went_end d.log.shape a.top.1 a.found d.log.pending Kept old.pages old new went))) in omega (arith, e));
+            (same_top d.log.shape a.top.1 a.found d.log.pending old.pages new.pages
+            (read_still d.log.shape a.top.1 a.found d.log.pending Kept old.pages new.pages (went_end d.log.shape a.top.1 a.found d.log.pending Kept old.pages old new went))) in omega (arith, e));
       }
 
 -- ---- counts of blocks
-
-all_counted : (states : List BlockState)
-    → count_by is_root states + count_by is_free states + count_by is_ready states + used_by Journal states + used_by Meta states + used_by Values states ≡ length states
-all_counted [] = refl
-all_counted (RootBlock ∷ ss) = omega (arith, all_counted ss, sum_by-cons {X = BlockState})
-all_counted (Free ∷ ss) = omega (arith, all_counted ss, sum_by-cons {X = BlockState})
-all_counted (Ready ∷ ss) = omega (arith, all_counted ss, sum_by-cons {X = BlockState})
-all_counted (Owned Journal ∷ ss) = omega (arith, all_counted ss, sum_by-cons {X = BlockState})
-all_counted (Owned Meta ∷ ss) = omega (arith, all_counted ss, sum_by-cons {X = BlockState})
-all_counted (Owned Values ∷ ss) = omega (arith, all_counted ss, sum_by-cons {X = BlockState})
-all_counted (Leaving Journal ∷ ss) = omega (arith, all_counted ss, sum_by-cons {X = BlockState})
-all_counted (Leaving Meta ∷ ss) = omega (arith, all_counted ss, sum_by-cons {X = BlockState})
-all_counted (Leaving Values ∷ ss) = omega (arith, all_counted ss, sum_by-cons {X = BlockState})
-
-none_free : (states : List BlockState) → IsNowhere Free states → count_by is_free states ≡ 0
-none_free [] h = refl
-none_free (Free ∷ ss) h = absurd (h 0 refl)
-none_free (RootBlock ∷ ss) h = omega (arith, none_free ss (λ k. h (suc k)), sum_by-cons {X = BlockState})
-none_free (Ready ∷ ss) h = omega (arith, none_free ss (λ k. h (suc k)), sum_by-cons {X = BlockState})
-none_free (Owned o ∷ ss) h = omega (arith, none_free ss (λ k. h (suc k)), sum_by-cons {X = BlockState})
-none_free (Leaving o ∷ ss) h = omega (arith, none_free ss (λ k. h (suc k)), sum_by-cons {X = BlockState})
 
 -- a block that leaves is not erased
 pub ready_freed : (states : List BlockState) → count_by is_ready (map freed_state states) ≡ count_by is_ready states
@@ -348,11 +340,14 @@ count_free flash a zero u less before behind = omega (arith, less)
 count_free flash a (suc n) zero less before behind =
     let here : is_erased (page_at flash a) ≡ true = ap is_erased (behind a (omega arith) (omega arith)) in
     let rest = count_free flash (a + 1) n 0 (omega arith) (λ k low high. absurd (omega (arith, low, high))) (λ k low high. behind k (omega (arith, low)) (omega (arith, high))) in
-    ap (λ b. length (cond b (a ∷ filter (λ p. is_erased (page_at flash p)) (range_with_len (a + 1) n)) (filter (λ p. is_erased (page_at flash p)) (range_with_len (a + 1) n)))) here ∙ omega (arith, rest)
+    ap (λ b. length (cond b (a ∷ filter (λ p. is_erased (page_at flash p)) (range_with_len (a + 1) n)) (filter (λ p. is_erased (page_at flash p)) (range_with_len (a + 1) n)))) here
+    ∙ omega (arith, rest)
 count_free flash a (suc n) (suc u) less before behind =
     let here : is_erased (page_at flash a) ≡ false = not_erased (page_at flash a) (before a (omega arith) (omega arith)) in
-    let rest = count_free flash (a + 1) n u (omega (arith, less)) (λ k low high. before k (omega (arith, low)) (omega (arith, high))) (λ k low high. behind k (omega (arith, low)) (omega (arith, high))) in
-    ap (λ b. length (cond b (a ∷ filter (λ p. is_erased (page_at flash p)) (range_with_len (a + 1) n)) (filter (λ p. is_erased (page_at flash p)) (range_with_len (a + 1) n)))) here ∙ (rest ∙ omega arith)
+    let rest = count_free flash (a + 1) n u (omega (arith, less)) (λ k low high. before k (omega (arith, low)) (omega (arith, high)))
+    (λ k low high. behind k (omega (arith, low)) (omega (arith, high))) in
+    ap (λ b. length (cond b (a ∷ filter (λ p. is_erased (page_at flash p)) (range_with_len (a + 1) n)) (filter (λ p. is_erased (page_at flash p)) (range_with_len (a + 1) n)))) here
+    ∙ (rest ∙ omega arith)
   where
     not_erased : (p : Page) → p ≢ erased → is_erased p ≡ false
     not_erased erased not = absurd (not refl)
@@ -377,11 +372,6 @@ room_is shape pool flash (Some o) is =
     ap (λ k. nat_le (most_pages shape) k) (count_free flash (o.block * n) n o.used is.within is.written is.unwritten) ∙ le_same (most_pages shape) n o.used is.within
 
 -- ---- when nothing remains to be done
-
-both_true : (a b : Bool) → a && b ≡ true → (a ≡ true) × (b ≡ true)
-both_true true true e = (refl, refl)
-both_true true false e = cc
-both_true false b e = cc
 
 between_merges : (p : Phase) → is_between p ≡ true → merging p ≡ 0
 between_merges NoMerge e = refl
@@ -414,7 +404,8 @@ module _ (d : Parts) (old : BoardState) (a : DriveOnFlash d old.shape old.pages)
   ready_are : count_by is_ready states ≡ count_by is_ready d.pool.states
   ready_are = ready_freed d.pool.states
 
-  all_blocks : 2 + length (named a.top.1) + length (taken_by d.schedule.freeze) + length (output d.schedule).blocks + used_by Values states + count_by is_ready states + count_by is_free states ≡ d.log.shape.blocks
+  all_blocks : 2 + length (named a.top.1) + length (taken_by d.schedule.freeze) + length
+      (output d.schedule).blocks + used_by Values states + count_by is_ready states + count_by is_free states ≡ d.log.shape.blocks
   all_blocks =
       let all = all_counted states in
       let split = length-append (a.top.1.newest ++ a.top.1.older) (concat a.top.1.runs) in
@@ -534,7 +525,8 @@ none_erased d d' old new r is e = subst (Erases d d' old new) e is
 pub kept_drive : (d d' : Parts) (old new : BoardState) → ErasesNone d.pool old d'.pool new → d' ≡ record d { pool = d'.pool } → d' ≡ d
 kept_drive d d' old new is rest = rest ∙ ap (λ p. record d { pool = p }) is.kept
 
-module _ (d d' : Parts) (old new : BoardState) (a : DriveOnFlash d old.shape old.pages) (whole : IsWhole d) (one : ErasesOne d.pool old d'.pool new) (rest : d' ≡ record d { pool = d'.pool }) (shared : IsShared d.pool.shape d.pool.states)
+module _ (d d' : Parts) (old new : BoardState) (a : DriveOnFlash d old.shape old.pages) (whole : IsWhole d)
+    (one : ErasesOne d.pool old d'.pool new) (rest : d' ≡ record d { pool = d'.pool }) (shared : IsShared d.pool.shape d.pool.states)
     (ready : IsReady new d.pool.shape) (owned : (b : ℕ) → IsOwned d.pool b → slice_get d'.pool.states b ≡ slice_get d.pool.states b) (fits : PoolOnFlash d'.pool new.pages) where
   own_ready : IsReady new d.log.shape
   own_ready = subst (λ s. IsReady new s) (own_whole d old a whole).placed.shape_is ready
@@ -546,4 +538,5 @@ module _ (d d' : Parts) (old new : BoardState) (a : DriveOnFlash d old.shape old
   step_lowers = subst (λ x. (sight_of x).work < (sight_of d).work) (sym rest) (lowers_erased d old new a whole one.block one.lowest.here shared one.erase own_ready d'.pool one.marked fits owned)
 
   pub step_ticks : d.log.pending ≡ [] → Ticks old new (sight_of d) (sight_of d') Worked
-  step_ticks none = subst (λ x. Ticks old new (sight_of d) (sight_of x) Worked) (sym rest) (ticks_erased d old new a whole one.block one.lowest.here shared one.erase own_ready d'.pool one.marked fits owned none)
+  step_ticks none = subst (λ x. Ticks old new (sight_of d) (sight_of x) Worked) (sym rest)
+      (ticks_erased d old new a whole one.block one.lowest.here shared one.erase own_ready d'.pool one.marked fits owned none)

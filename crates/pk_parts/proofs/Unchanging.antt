@@ -7,7 +7,8 @@ use Rattle.pk_base.specs.Page.{IsFlash}
 use Rattle.pk_base.specs.Entry.{Place}
 use Rattle.pk_base.specs.Map.{Map}
 use Rattle.pk_nand.specs.BoardState.{BoardState}
-use Rattle.pk_nand.specs.Calls.{Rose, counted, last_count, ReadFailed, IsReady}
+use Rattle.pk_nand.specs.Calls.{Rose, counted, last_count, IsReady}
+use Rattle.pk_nand.specs.Operations.{ReadFailed}
 use Rattle.pk_nand.specs.Counts.{counted_by, after_reads}
 use Rattle.pk_level.specs.Levels.{ReadsUpTo, ReadFailsWithin}
 use Rattle.pk_model.specs.Reading.{reading}
@@ -18,6 +19,7 @@ use Rattle.pk_parts.specs.Agreeing.{DriveOnFlashWith, DriveOnFlash, IsWhole}
 use Rattle.pk_parts.specs.Finding.{IsPlaceIn}
 use Rattle.pk_parts.specs.Quiet.{ReadsOnly, ReadsFailing, Looks}
 use Rattle.pk_parts.proofs.Halves.{with_whole}
+use Rattle.pk_base.proofs.Logic.{some_same}
 
 -- ---- the board
 
@@ -62,15 +64,13 @@ reads_break old mid new most k n at before less failed =
       flash = subst (λ f. Rose f new.flash_faults) same_flash failed.flash;
     }
   where
-    broken : (mid new : BoardState) (k at : ℕ) → ReadFailed (after_reads k mid) new at → new ≡ record mid { reads = new.reads; flash_faults = new.flash_faults; read_faults = new.read_faults; failed_at = new.failed_at }
+    broken : (mid new : BoardState) (k at : ℕ) → ReadFailed (after_reads k mid) new at
+        → new ≡ record mid { reads = new.reads; flash_faults = new.flash_faults; read_faults = new.read_faults; failed_at = new.failed_at }
     broken mid new k at failed =
         failed.rest
         ∙ (λ i. record mid { reads = ap (λ b. b.reads) (sym failed.rest) i; flash_faults = new.flash_faults; read_faults = new.read_faults; failed_at = ap (λ b. b.failed_at) (sym failed.rest) i })
 
 -- ---- the map of a drive
-
-same_some : (a b : Shape) → ◌≡◌ {A = Option Shape} (Some a) (Some b) → a ≡ b
-same_some a b e = cc
 
 pub same_ok : {E : Type 0} (x y : Map) → ◌≡◌ {A = Result Map E} (Ok x) (Ok y) → x ≡ y
 same_ok x y e = cc
@@ -87,7 +87,7 @@ module _ (d : Parts) (board : BoardState) (a : DriveOnFlash d board.shape board.
   -- what holds of its one map holds of every map that it represents
   pub for_its_map : (P : Shape → ℕ → Map → Type 0) → P d.log.shape (frames_of d) a.all → (shape : Shape) (frames : ℕ) (m : Map) → HoldsMap shape frames board (sight_of d) m → P shape frames m
   for_its_map P here shape frames m st =
-      let same_shape : d.log.shape ≡ shape = a.with.shape_is ∙ same_some a.shape shape (sym a.told_is ∙ st.shape_is) in
+      let same_shape : d.log.shape ≡ shape = a.with.shape_is ∙ some_same a.shape shape (sym a.told_is ∙ st.shape_is) in
       let read = under_reads d.log.shape board.pages d.log.pending a.top a.found a.all own.pending in
       let Q : Shape → Type 0 = λ s. P s frames m in
       let R : ℕ → Type 0 = λ f. P d.log.shape f m in
@@ -112,7 +112,8 @@ pub looked_reads : {X Y : Type 0} (r : Result X Y) (old new : BoardState) (n p :
 looked_reads (Ok x) old new n p few least (k, most, made) = less_reads old new (0 + k) (4 - p) (omega (arith, most, least)) (reads_more old old new 0 k (reads_none old few) made)
 looked_reads (Err y) old new n p few least made = tt
 
-pub looked_failing : {X Y : Type 0} (r : Result X Y) (old new : BoardState) (n p : ℕ) → old.reads ≤ last_count → n + p ≤ 4 → OnErr r (ReadFailsWithin n old new) → OnErr r (ReadsFailing old new (4 - p))
+pub looked_failing : {X Y : Type 0} (r : Result X Y) (old new : BoardState) (n p : ℕ) → old.reads ≤ last_count
+    → n + p ≤ 4 → OnErr r (ReadFailsWithin n old new) → OnErr r (ReadsFailing old new (4 - p))
 looked_failing (Ok x) old new n p few least made = tt
 looked_failing (Err y) old new n p few least (k, at, less, failed) = less_failing old new (0 + n) (4 - p) (omega (arith, least)) (reads_break old old new 0 k n at (reads_none old few) less failed)
 

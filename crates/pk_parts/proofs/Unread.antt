@@ -32,7 +32,8 @@ abbrev pub SameRead : Shape → Root → Found → List Entry → Flash → Flas
 SameRead shape root found pending old new = (k : ℕ) → IsReadBy shape root found pending k → page_at new k ≡ page_at old k
 
 -- the newest root is the same
-pub same_top : (shape : Shape) (root : Root) (found : Found) (pending : List Entry) (old new : Flash) → SameRead shape root found pending old new → newest_root shape (page_at new) ≡ newest_root shape (page_at old)
+pub same_top : (shape : Shape) (root : Root) (found : Found) (pending : List Entry) (old new : Flash)
+    → SameRead shape root found pending old new → newest_root shape (page_at new) ≡ newest_root shape (page_at old)
 same_top shape root found pending old new same = newest_root_same shape (page_at old) (page_at new) (λ k low. same k (inl (inl low)))
 
 -- what others own stays with them

@@ -5,8 +5,8 @@ use Rattle.pk_nand.specs.declared.types.Fault.{Fault}
 use Rattle.pk_nand.specs.declared.types.Fault.TheVariants.{Reading, Stopped}
 use Rattle.pk_nand.specs.BoardState.{BoardState}
 use Rattle.pk_nand.specs.Calls.{IsReady, Rose}
-use Rattle.pk_nand.specs.Effects.{NoFault, Stops, OnlyFlash}
-use Rattle.pk_nand.proofs.Effects.{works_then, stops_then}
+use Rattle.pk_nand.specs.Effects.{NoFault, Stops}
+use Rattle.pk_nand.proofs.Effects.{works_then, stops_then, only_then}
 use Rattle.pk_model.specs.Wear.{roots}
 use Rattle.pk_root.specs.Installing.{repeats_next}
 use Rattle.pk_work.specs.Backlog.{due_level}
@@ -21,10 +21,11 @@ use Rattle.pk_parts.specs.Moves.{StandsBetween, MayCommit, LeavesValues}
 use Rattle.pk_parts.specs.Emptying.{ReadsUpTo, Halts, MayEmpty, MergesOnce, MergesWhole, FreezesOnce, FreezesWhole, merges_left, merges_due}
 use Rattle.pk_parts.specs.Pairing.{FinishesRoot, FailsToFinish, SettlesOr}
 use Rattle.pk_parts.proofs.Callings.{few_one, few_program, few_then}
-use Rattle.pk_parts.proofs.Halves.{not_made, not_both}
+use Rattle.pk_parts.proofs.Halves.{not_made}
 use Rattle.pk_parts.proofs.Keeping.{KeepsAll-none, KeepsAll-finished, BreaksAll-finished, keeps_whole}
 use Rattle.pk_parts.proofs.Staying.{stays_then}
 use Rattle.pk_parts.proofs.Steps.{leaves_twice}
+use Rattle.pk_base.proofs.Logic.{not_both}
 
 worked_idle : {E : Type 0} → ◌≡◌ {A = Result Stepped E} (Ok Worked) (Ok Idle) → ⊥
 worked_idle e = cc
@@ -64,9 +65,6 @@ root_leaves b c s1 s2 fin =
 
 pub none_then : (a b c : BoardState) → NoFault a b → NoFault b c → NoFault a c
 none_then a b c first second = (second.0 ∙ first.0, second.1 ∙ first.1, second.2 ∙ first.2, second.3 ∙ first.3)
-
-pub only_then : (a b c : BoardState) → OnlyFlash a b → OnlyFlash b c → OnlyFlash a c
-only_then a b c first second = let T : BoardState → Type 0 = λ x. OnlyFlash x c → OnlyFlash a c in subst T (sym first) (λ is. is) second
 
 pub halts_then : (a b c : BoardState) → NoFault a b → Stops b c → Halts a c
 halts_then a b c sound stops = record {

@@ -1,5 +1,6 @@
 -- A value that was written into a block for values: what the drive represents, at every cut and afterwards.
-use Rattle.std.proofs.Common.{◌≡◌, ◌⊎◌, inl, inr, ℕ, zero, suc, ◌+◌, ◌*◌, ◌/◌, ◌%◌, ◌<◌, ◌≤◌, refl, sym, ap, subst, ◌∙◌, arith, true, false, List, [], ◌∷◌, ◌++◌, length, Option, Some, None, Result, Ok, Err, slice_get, div-lt_iff_lt-mul}
+use Rattle.std.proofs.Common.{◌≡◌, ◌⊎◌, inl, inr, ℕ, zero, suc, ◌+◌, ◌*◌, ◌/◌, ◌%◌, ◌<◌, ◌≤◌, refl, sym, ap, subst, ◌∙◌, arith, true, false, List, [], ◌++◌, length, Option, Some, None, Result, Ok}
+use Rattle.std.proofs.Common.{Err, slice_get, div-lt_iff_lt-mul}
 use Rattle.std.specs.List.{concat}
 use Rattle.std.proofs.lemmas.Bool.{cases_eq, le-leb}
 use Rattle.std.proofs.lemmas.Nat.{div-add-mod'}
@@ -54,9 +55,10 @@ use Rattle.pk_schedule.proofs.Settled.{none_leaves_set}
 use Rattle.pk_parts.proofs.Halves.{whole_like}
 use Rattle.pk_parts.proofs.Standing.{found_once}
 use Rattle.pk_parts.proofs.Reclaiming.{SameButOpen, runs_or_rests, reclaim_rests, reclaim_elsewhere, not_of_open}
-use Rattle.pk_schedule.proofs.Keeping.{IsBeside}
+use Rattle.pk_schedule.proofs.Keeping.{IsBeside, any_split}
 use Rattle.pk_parts.proofs.Unread.{IsReadBy, SameRead, KeepsOwners, same_top, still_without, agrees_elsewhere}
-use Rattle.pk_parts.proofs.Stills.{IsStill, SameStill, StillCut, still_then, still_goes, still_end, went_end, still_none, still_erase, still_erase_failed, still_written, still_write_failed, works_written, stops_written}
+use Rattle.pk_parts.proofs.Stills.{IsStill, SameStill, StillCut, still_then, still_goes, still_end, went_end, still_none, still_erase, still_erase_failed, still_written, still_write_failed}
+use Rattle.pk_parts.proofs.Stills.{works_written, stops_written}
 
 -- ---- blocks and their owners
 
@@ -83,11 +85,6 @@ journal_or_values p b is held = cc
 
 pub meta_or_values : (p : Blocks) (b : ℕ) → slice_get p.states b ≡ Some (Owned Meta) → HoldsValues p b → ⊥
 meta_or_values p b is held = cc
-
-any_split : (P : ℕ → Type 0) (xs ys : List ℕ) → AnyByRecursion P (xs ++ ys) → AnyByRecursion P xs ⊎ AnyByRecursion P ys
-any_split P [] ys is = inr is
-any_split P (x ∷ xs) ys (inl is) = inl (inl is)
-any_split P (x ∷ xs) ys (inr is) = elim (any_split P xs ys is) [ inl front ↦ inl (inr front) | inr back ↦ inr back ]
 
 -- a root block is not free
 behind_roots : (shape : Shape) (states : List BlockState) (b : ℕ) → IsShared shape states → slice_get states b ≡ Some Free → 2 ≤ b
@@ -152,8 +149,16 @@ module _ (d : Parts) (shape : Shape) (old : Flash) (top : ℕ × Root) (found : 
   pub erased_unread : (q : Blocks) (now : Flash) → KeepsOwners d.pool q → SameRead shape top.1 found d.log.pending old now
       → (k : ℕ) → 2 * shape.block_pages ≤ k → HoldsValues q (k / shape.block_pages) → page_at now k ≡ erased → IsReadBy shape top.1 found d.log.pending k → ⊥
   erased_unread q now owners same k high held none is = elim is [
-    | inl first ↦ elim first [ inl low ↦ omega (arith, low, high) | inr rest ↦ elim rest [ inl in_named ↦ by_named in_named | inr value ↦ not_erased _ (value_page_whole shape old [] top found without with.committed k value) was ] ]
-    | inr second ↦ elim second [ inl low ↦ omega (arith, low, high) | inr rest ↦ elim rest [ inl in_named ↦ by_named in_named | inr value ↦ not_erased _ (value_page_whole shape old d.log.pending top found all with.pending k value) was ] ]
+    | inl first ↦ elim first [
+      | inl low ↦ omega
+          (arith, low, high)
+      | inr rest ↦ elim rest [ inl in_named ↦ by_named in_named | inr value ↦ not_erased _ (value_page_whole shape old [] top found without with.committed k value) was ]
+    ]
+    | inr second ↦ elim second [
+      | inl low ↦ omega
+          (arith, low, high)
+      | inr rest ↦ elim rest [ inl in_named ↦ by_named in_named | inr value ↦ not_erased _ (value_page_whole shape old d.log.pending top found all with.pending k value) was ]
+    ]
   ]
     where
       was : page_at old k ≡ erased
@@ -181,7 +186,8 @@ module _ (d : Parts) (shape : Shape) (old : Flash) (top : ℕ × Root) (found : 
   erased_still q now owners same k high held none (inr (inr meta)) = meta_or_values q (k / shape.block_pages) (owners (k / shape.block_pages) Meta meta) held
 
   -- so the blocks of the journal and of runs are as before
-  pub beside_still : (q : Blocks) (now : Flash) → KeepsOwners d.pool q → q.shape ≡ shape → PoolOnFlash q now → used_by Journal q.states ≡ used_by Journal d.pool.states → used_by Meta q.states ≡ used_by Meta d.pool.states
+  pub beside_still : (q : Blocks) (now : Flash) → KeepsOwners d.pool q → q.shape ≡ shape → PoolOnFlash q now
+      → used_by Journal q.states ≡ used_by Journal d.pool.states → used_by Meta q.states ≡ used_by Meta d.pool.states
       → SameStill shape top.1 found d.log.pending (IsIndexed d.pool shape) old now → IsBeside d.pool old q now
   beside_still q now owners q_shape fits journal meta same =
       let its : d.pool.shape ≡ shape = with.placed.shape_is in
@@ -250,7 +256,8 @@ module _ (d : Parts) (page count : ℕ) (space : DataState) (q : Blocks) (old ne
       | inl next ↦ still_none d.log.shape top.1 found d.log.pending (IsIndexed d.pool d.log.shape) old.pages old ready.shape_is start new next.same_board
       | inr opens ↦ elim opens.choice [
         | inl taken ↦ still_none d.log.shape top.1 found d.log.pending (IsIndexed d.pool d.log.shape) old.pages old ready.shape_is start new taken.same
-        | inr free ↦ still_erase d.log.shape top.1 found d.log.pending (IsIndexed d.pool d.log.shape) old.pages old ready.shape_is start opens.block (spare_still d d.log.shape old.pages top found without all with opens.block opens.spare opens.place.0) new free.erase
+        | inr free ↦ still_erase d.log.shape top.1 found d.log.pending (IsIndexed d.pool d.log.shape) old.pages old ready.shape_is start opens.block
+            (spare_still d d.log.shape old.pages top found without all with opens.block opens.spare opens.place.0) new free.erase
       ]
     ]
 
@@ -274,12 +281,14 @@ module _ (d : Parts) (page count : ℕ) (space : DataState) (q : Blocks) (old ne
 
 -- ---- the clauses, for every shape and map
 
-pub keeps_for : (before after : Parts) (old new : BoardState) → ((m : Map) → StandsFor before before.log.shape old.pages m → Keeps before after before.log.shape m old new) → KeepsAll before after old new
+pub keeps_for : (before after : Parts) (old new : BoardState)
+    → ((m : Map) → StandsFor before before.log.shape old.pages m → Keeps before after before.log.shape m old new) → KeepsAll before after old new
 keeps_for before after old new f shape m stands =
     let is : before.log.shape ≡ shape = stands.with.shape_is in
     subst (λ (s : Shape). Keeps before after s m old new) is (f m (subst (λ (s : Shape). StandsFor before s old.pages m) (sym is) stands))
 
-pub breaks_for : (before : Parts) (old new : BoardState) → ((m : Map) → StandsFor before before.log.shape old.pages m → Goes before.log.shape old new (CrashFinds before.log.shape commit old.pages m)) → BreaksAll before old new
+pub breaks_for : (before : Parts) (old new : BoardState)
+    → ((m : Map) → StandsFor before before.log.shape old.pages m → Goes before.log.shape old new (CrashFinds before.log.shape commit old.pages m)) → BreaksAll before old new
 breaks_for before old new f shape m stands =
     let is : before.log.shape ≡ shape = stands.with.shape_is in
     subst (λ (s : Shape). Goes s old new (CrashFinds s commit old.pages m)) is (f m (subst (λ (s : Shape). StandsFor before s old.pages m) (sym is) stands))
@@ -287,13 +296,17 @@ breaks_for before old new f shape m stands =
 -- a cut at which no page differs that is read is one of a step that keeps the map
 pub still_commits : (d : Parts) (shape : Shape) (old : Flash) (top : ℕ × Root) (found : Found) (without all : Map) → DriveOnFlashWith d shape old top found without all
     → (f : Flash) (q : List ℕ) → StillCut shape top.1 found d.log.pending (IsIndexed d.pool shape) old f q → CrashFinds shape commit old all f q
-still_commits d shape old top found without all with f q is =
-    (is.0, inl (under_reads shape f [] top found without (still_without d d.space d.pool shape old f top found without all with (λ k is_read. is.1 k (inl is_read))) ∙ sym (under_reads shape old [] top found without with.committed)))
+still_commits d shape old top found without all with f q is = (
+  is.0,
+  inl (under_reads shape f [] top found without (still_without d d.space d.pool shape old f top found without all with (λ k is_read. is.1 k (inl is_read)))
+      ∙ sym (under_reads shape old [] top found without with.committed)),
+)
 
 -- ---- the value is written
 
 -- no block is opened if all of them are in use
-never_opens : (shape : Shape) (space : DataState) (pool : Blocks) (count : ℕ) → fits_open shape space count ≡ false → needs_reclaim shape space pool count ≡ false → used_by Values pool.states ≡ data_blocks shape → ⊥
+never_opens : (shape : Shape) (space : DataState) (pool : Blocks) (count : ℕ) → fits_open shape space count ≡ false
+    → needs_reclaim shape space pool count ≡ false → used_by Values pool.states ≡ data_blocks shape → ⊥
 never_opens shape space pool count none room full =
     let few : nat_le (data_blocks shape - 1) (used_by Values pool.states) ≡ false = ap (λ b. not b && nat_le (data_blocks shape - 1) (used_by Values pool.states)) (sym none) ∙ room in
     true_false (sym (le-leb (data_blocks shape - 1) (used_by Values pool.states) (omega (arith, full))) ∙ few)
@@ -307,7 +320,8 @@ still_open None count b other = other
 still_open (Some o) count b other = other
 
 -- no other page differs after the programs of a value
-written_outside : (shape : Shape) (key : Key) (page : ℕ) (value : List ℕ) (n : ℕ) (old : BoardState) (k : ℕ) → (page ≤ k → k < page + n → ⊥) → page_at (written shape key page value n old).pages k ≡ page_at old.pages k
+written_outside : (shape : Shape) (key : Key) (page : ℕ) (value : List ℕ) (n : ℕ) (old : BoardState) (k : ℕ)
+    → (page ≤ k → k < page + n → ⊥) → page_at (written shape key page value n old).pages k ≡ page_at old.pages k
 written_outside shape key page value zero old k out = refl
 written_outside shape key page value (suc n) old k out =
     page_at-slice_set (written shape key page value n old).pages (page + n) k (whole (page_of shape key value n)) (λ e. out (omega (arith, e)) (omega (arith, e)))
@@ -333,7 +347,8 @@ module _ (d : Parts) (key : Key) (value : List ℕ) (old : BoardState) (page : �
         let before = reserve_reaches d page count is.space q old is.between is.reserved ready top found without all with in
         let so_far = still_end shape top.1 found d.log.pending (IsIndexed d.pool shape) old.pages old is.between before in
         let unread = pages_unread d page count is.space q old is.between is.reserved ready top found without all with in
-        let more = still_written shape top.1 found d.log.pending (IsIndexed d.pool shape) old.pages is.between is.reserved.ready.shape_is so_far key page value (even_page d page count is.space q old is.between is.reserved with.index.logs.is_shape) unread count (omega arith) in
+        let more = still_written shape top.1 found d.log.pending (IsIndexed d.pool shape) old.pages is.between is.reserved.ready.shape_is so_far key page value
+        (even_page d page count is.space q old is.between is.reserved with.index.logs.is_shape) unread count (omega arith) in
         still_then shape top.1 found d.log.pending (IsIndexed d.pool shape) old.pages old is.between new ready.shape_is before
         (subst (λ (b : BoardState). Reaches shape is.between b (StillCut shape top.1 found d.log.pending (IsIndexed d.pool shape) old.pages)) (sym is.writes) more)
 
@@ -360,16 +375,19 @@ module _ (d : Parts) (key : Key) (value : List ℕ) (old : BoardState) (page : �
             let count : ℕ = charge shape (length value) in
             let values = is.placed (outputs_of d) (places found d.log.pending) with.placed in
             let opens : space.open_block ≡ more_used d.space.open_block count = ap (λ (x : DataState). x.open_block) is.counted ∙ ap (λ (x : DataState). more_used x.open_block count) next.kept in
-            let other : IsNotOpen space.open_block (k / shape.block_pages) = subst (λ (o : Option OpenBlock). IsNotOpen o (k / shape.block_pages)) (sym opens) (still_open d.space.open_block count (k / shape.block_pages) not_open) in
+            let other : IsNotOpen space.open_block (k / shape.block_pages) = subst (λ (o : Option OpenBlock). IsNotOpen o (k / shape.block_pages))
+            (sym opens) (still_open d.space.open_block count (k / shape.block_pages) not_open) in
             ap (λ (b : BoardState). page_at b.pages k) is.writes
-            ∙ written_outside shape key page value count is.between k (λ low high. not_of_open shape space q (outputs_of d) new.pages (places found d.log.pending) page count k values is.in_open low high other)
+            ∙ written_outside shape key page value count is.between k
+            (λ low high. not_of_open shape space q (outputs_of d) new.pages (places found d.log.pending) page count k values is.in_open low high other)
             ∙ ap (λ (b : BoardState). page_at b.pages k) next.same_board
 
     pub placed_agrees : DriveOnFlashWith after shape new.pages top found without all
     placed_agrees =
         let values = is.placed (outputs_of d) (places found d.log.pending) with.placed in
         let owners = owners_reserved d page (charge shape (length value)) is.space q old is.between is.reserved in
-        let beside = beside_still d shape old.pages top found without all with q new.pages owners values.shape_is values.fits (journal_reserved d page (charge shape (length value)) is.space q old is.between is.reserved)
+        let beside = beside_still d shape old.pages top found without all with q new.pages owners values.shape_is values.fits
+        (journal_reserved d page (charge shape (length value)) is.space q old is.between is.reserved)
         (meta_reserved d page (charge shape (length value)) is.space q old is.between is.reserved) same_placed in
         agrees_elsewhere d space q shape old.pages new.pages top found without all with (λ k is. same_placed k (inl is)) ready_new.flash owners beside values placed_reclaims
 
@@ -384,7 +402,12 @@ module _ (d : Parts) (key : Key) (value : List ℕ) (old : BoardState) (page : �
       };
       same_places = λ was. ap (λ (f : Found). places f d.log.pending) (found_once d d shape old.pages was.top top was.found found was.without all without all was.with with);
       still = (still_commits d shape old.pages top found without all with new.pages [] (refl, same_placed)).1;
-      cuts = (placed_reaches.0, weaken placed_reaches.0 old new (StillCut shape top.1 found d.log.pending (IsIndexed d.pool shape) old.pages) (CrashFinds shape commit old.pages all) (still_commits d shape old.pages top found without all with) placed_reaches.1, placed_reaches.2);
+      cuts = (
+        placed_reaches.0,
+        weaken placed_reaches.0 old new (StillCut shape top.1 found d.log.pending (IsIndexed d.pool shape) old.pages)
+            (CrashFinds shape commit old.pages all) (still_commits d shape old.pages top found without all with) placed_reaches.1,
+        placed_reaches.2,
+      );
     }
 
   pub placed_keeps_all : KeepsAll d after old new
@@ -417,13 +440,18 @@ module _ (d : Parts) (key : Key) (value : List ℕ) (old new : BoardState) (shar
   pub breaks_placing : FailsToPlace d.log.shape key value d.space d.pool old new → BreaksAll d old new
   breaks_placing failed = breaks_for d old new (λ m stands.
       let with = stands.with in
-      let went = placing_goes stands.top stands.found stands.without m with failed in
-      (went.0, weaken_went went.0 old new (StillCut d.log.shape stands.top.1 stands.found d.log.pending (IsIndexed d.pool d.log.shape) old.pages) (CrashFinds d.log.shape commit old.pages m) (still_commits d d.log.shape old.pages stands.top stands.found stands.without m with) went.1, went.2))
+      let went = placing_goes stands.top stands.found stands.without m with failed in (
+        went.0,
+        weaken_went went.0 old new (StillCut d.log.shape stands.top.1 stands.found d.log.pending (IsIndexed d.pool d.log.shape) old.pages)
+            (CrashFinds d.log.shape commit old.pages m) (still_commits d d.log.shape old.pages stands.top stands.found stands.without m with) went.1,
+        went.2,
+      ))
 
 -- ---- the roots
 
 -- a board on which the newest root is the same
-same_roots : (shape : Shape) (old new : BoardState) → old.shape ≡ Some shape → new.shape ≡ Some shape → newest_root shape (page_at new.pages) ≡ newest_root shape (page_at old.pages) → roots new ≡ roots old
+pub same_roots : (shape : Shape) (old new : BoardState) → old.shape ≡ Some shape → new.shape ≡ Some shape
+    → newest_root shape (page_at new.pages) ≡ newest_root shape (page_at old.pages) → roots new ≡ roots old
 unfolding root_number
 same_roots has_shape old new has has_new same =
     ap (λ s. root_number (shape_or_none s) new.pages) has_new ∙ ap number_of same ∙ ap (λ s. root_number (shape_or_none s) old.pages) (sym has)
@@ -451,7 +479,8 @@ value_written d key value old page space q new is ready ready_new room is_key sh
       found = λ shape' top' found' without' all' other.
           let same : d.log.shape ≡ shape' = other.shape_is in
           subst (λ (s : Shape). DriveOnFlashWith after s new.pages top' found' without' all') same
-          (placed_agrees d key value old page space q new is ready ready_new room top' found' without' all' (subst (λ (s : Shape). DriveOnFlashWith d s old.pages top' found' without' all') (sym same) other));
+          (placed_agrees d key value old page space q new is ready ready_new room top' found' without' all'
+          (subst (λ (s : Shape). DriveOnFlashWith d s old.pages top' found' without' all') (sym same) other));
       written = record {
         there = value_again shape with.index.logs.is_shape key value is_key (page_at new.pages) page is.stored;
         apart = λ top' found' without' all' other k here is_value.
@@ -491,7 +520,8 @@ value_broken d behind key value old new e failed is_stopped shared ready ready_n
       works = tt;
       stops = stops_placing d key value old new shared ready failed;
       stopped = is_stopped;
-      roots_few = same_roots d.log.shape old new ready.shape_is ready_new.shape_is (same_top d.log.shape stands.1.top.1 stands.1.found d.log.pending old.pages new.pages (λ k is_read. same k (inl is_read)));
+      roots_few = same_roots d.log.shape old new ready.shape_is ready_new.shape_is
+          (same_top d.log.shape stands.1.top.1 stands.1.found d.log.pending old.pages new.pages (λ k is_read. same k (inl is_read)));
       ready = ready_new;
     }
 
@@ -501,6 +531,7 @@ pub place_step : (r : Result ℕ Fault) (d : Parts) (key : Key) (value : List �
     → IsShared d.pool.shape d.pool.states → MayStep d old → IsReady new d.log.shape
     → needs_reclaim d.log.shape d.space d.pool (charge d.log.shape (length value)) ≡ false → IsKey key → length value ≤ greatest d.log.shape
     → StepPlaces d (record d { space = space; pool = q }) old new key value r
-place_step (Ok page) d key value old space q new places fails stopped shared may after room is_key short = value_written d key value old page space q new places may.ready after room is_key short may.stands
+place_step (Ok page) d key value old space q new places fails stopped shared may after room is_key short =
+    value_written d key value old page space q new places may.ready after room is_key short may.stands
 place_step (Err e) d key value old space q new places fails stopped shared may after room is_key short =
     value_broken d (record d { space = space; pool = q }) key value old new e fails stopped shared may.ready after may.stands

@@ -7,7 +7,7 @@ use Rattle.pk_base.specs.Fields.{AreBytes}
 use Rattle.pk_base.specs.Key.{Key, key_cmp}
 use Rattle.pk_base.specs.Shape.{Shape, charge, limit}
 use Rattle.pk_base.specs.Page.{Flash}
-use Rattle.pk_base.specs.EntryBytes.{IsPlace}
+use Rattle.pk_base.specs.EntryChecks.{IsPlace}
 use Rattle.pk_base.specs.Map.{Map, live}
 use Rattle.pk_rootfmt.specs.Root.{Root}
 use Rattle.pk_model.specs.Found.{Found}

@@ -81,7 +81,7 @@ pub record SettlesOr (before after : Parts) (old new : BoardState) (result : Res
 
 -- ---- of the commit of a reclaim's moves
 
--- The second program of the commit was made: the victim can be given back, and less of the reclaim remains.
+-- The second program of the commit was made: the victim can be freed, and less of the reclaim remains.
 pub record FinishesCommit (before after : Parts) (old new : BoardState) : Type 0 where
   pub finishes : FinishesHalf before after old new
   pub victim : ℕ

@@ -80,7 +80,7 @@ RunsOn (Copies c) before after = after.log ≡ before.log
 RunsOn (Commits victim) before after = HasSpace (space_of after)
 RunsOn (GivesBack victim) before after = HasSpace (space_of after)
 
--- A block was given back, and no reclaim runs.
+-- A block was freed, and no reclaim runs.
 pub record ReclaimEnded (before after : Parts) : Type 0 where
   pub idle : after.reclaim.phase ≡ Idle
   pub given : used_by Values after.pool.states + 1 ≡ used_by Values before.pool.states

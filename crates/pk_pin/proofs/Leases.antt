@@ -1,5 +1,6 @@
 -- Leases of an arena: what taking, giving back and filling a frame leaves of those that somebody has.
-use Rattle.std.proofs.Common.{◌≡◌, ◌≢◌, ℕ, zero, suc, ◌+◌, ◌<◌, Bool, true, false, cond, List, [], ◌∷◌, ◌++◌, length, map, get_or, replicate, refl, ap, sym, subst, ◌∙◌, arith, Some, inl, inr, get_or-set_same, get_or-set_other}
+use Rattle.std.proofs.Common.{◌≡◌, ◌≢◌, ℕ, zero, suc, ◌+◌, ◌<◌, Bool, true, false, cond, List, [], ◌∷◌, ◌++◌, length, map, get_or, replicate, refl, ap, sym, subst, ◌∙◌, arith, Some, inl, inr}
+use Rattle.std.proofs.Common.{get_or-set_same, get_or-set_other}
 use Rattle.std.specs.Prelude.{count_by, slice_get, ◌==◌}
 use Rattle.std.proofs.Math.ListN.{set}
 use Rattle.std.proofs.lemmas.List.Sums.{sum_by-set, sum_by-cons}
@@ -74,7 +75,8 @@ pub leases_taken : (a : Frames) (ls : List ℕ) (l : ℕ) → AreLeases a ls →
 leases_taken a ls l all free i =
     let was : times l ls ≡ 0 = rw (get_or_from_slice_get a.used l false false free) at (all l) in
     elim (cases_eq i l) [
-      | inl e ↦ subst (λ j. times j (l ∷ ls) ≡ cond (get_or (set a.used l true) j false) 1 0) (sym e) (rw (get_or-set_same a.used l true false (slice_get_within a.used l false free)) (times-cons_same l ls ∙ ap suc was))
+      | inl e ↦ subst (λ j. times j (l ∷ ls) ≡ cond (get_or (set a.used l true) j false) 1 0) (sym e)
+          (rw (get_or-set_same a.used l true false (slice_get_within a.used l false free)) (times-cons_same l ls ∙ ap suc was))
       | inr ne ↦ rw (get_or-set_other a.used l i true false ne) (times-cons_other i l ls ne ∙ all i)
     ]
 

@@ -32,7 +32,7 @@ frame_of a i = slice_index_or a.frames i []
 abbrev pub leased : Frames → ℕ → Frames
 leased a i = record a { used = slice_set a.used i true }
 
--- frame i is given back
+-- frame i is freed
 abbrev pub given : Frames → ℕ → Frames
 given a i = record a { used = slice_set a.used i false }
 

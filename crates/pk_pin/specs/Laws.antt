@@ -10,7 +10,7 @@ NoneLeased = (page frames : ℕ) (bytes : List (List ℕ)) → AreLeases (record
 abbrev pub LeaseTaken : Type 0
 LeaseTaken = (a : Frames) (ls : List ℕ) (l : ℕ) → AreLeases a ls → slice_get a.used l ≡ Some false → AreLeases (leased a l) (l ∷ ls)
 
--- if a frame is given back, its lease is gone and all others are unchanged
+-- if a frame is freed, its lease is gone and all others are unchanged
 abbrev pub LeaseGiven : Type 0
 LeaseGiven = (a : Frames) (before behind : List ℕ) (l : ℕ) → AreLeases a (before ++ l ∷ behind) → AreLeases (given a l) (before ++ behind)
 

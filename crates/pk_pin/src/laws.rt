@@ -11,7 +11,7 @@ pub fn lease_taken()
     ensures { LeaseTaken }
 {}
 
-/// If a frame is given back, its lease is gone and all others are unchanged.
+/// If a frame is freed, its lease is gone and all others are unchanged.
 pub fn lease_given()
     ensures { LeaseGiven }
 {}

@@ -1,8 +1,8 @@
 -- What programs and erases leave of a pool's view of a flash.
-use Rattle.std.proofs.Common.{◌≡◌, ◌≢◌, ◌⊎◌, inl, inr, ℕ, suc, ◌+◌, ◌-◌, ◌*◌, ◌/◌, ◌%◌, ◌<◌, ◌≤◌, List, [], ◌∷◌, length, Some, refl, sym, ap, ◌∙◌, subst, arith, zero-add}
+use Rattle.std.proofs.Common.{◌≡◌, ◌≢◌, ◌⊎◌, inl, inr, ℕ, ◌+◌, ◌-◌, ◌*◌, ◌/◌, ◌%◌, ◌<◌, ◌≤◌, List, [], ◌∷◌, length, Some, refl, sym, ap, ◌∙◌, subst, arith, zero-add}
 use Rattle.std.specs.Prelude.{slice_get}
 use Rattle.std.proofs.Math.ListN.{set}
-use Rattle.std.proofs.Math.Nat.{suc-mul, mul-le-mul_right, mul-mod_left, mul_assoc, mul_comm}
+use Rattle.std.proofs.Math.Nat.{mul-mod_left, mul_assoc, mul_comm}
 use Rattle.std.proofs.lemmas.Nat.{div-mul-add, div-add-mod'}
 use Rattle.std.proofs.lemmas.Option.{same_Some}
 use Rattle.std.proofs.lemmas.Bool.{cases_eq, cases_lt}
@@ -11,7 +11,8 @@ use Rattle.pk_base.specs.Page.{Flash, page_at}
 use Rattle.pk_base.specs.Mark.{Mark, program, erase, after}
 use Rattle.pk_nand.specs.BoardState.{BoardState, shape_of}
 use Rattle.pk_nand.specs.Cut.{Interrupted, touched_block}
-use Rattle.pk_nand.specs.Calls.{IsReady, InOrder, LeftBehind, after_erase, EraseFailed, IsErasedBlock}
+use Rattle.pk_nand.specs.Calls.{IsReady, LeftBehind}
+use Rattle.pk_nand.specs.Operations.{InOrder, after_erase, EraseFailed, IsErasedBlock}
 use Rattle.pk_nand.specs.Crash.{SameOutside}
 use Rattle.pk_nand.proofs.Leaving.{erased_leaves, page-erased_in, interrupted_done, IsFlash-after, IsFlash-left, full_erase}
 use Rattle.pk_nand.proofs.Reaching.{Reached-start, Reached-erase, Went-erase_failed}
@@ -23,6 +24,7 @@ use Rattle.pk_pool.specs.Blocks.{Blocks, PoolOnFlash, IsOwned, with_state}
 use Rattle.pk_pool.specs.Laws.{IsNotReady, IsInBlock}
 use Rattle.pk_pool.specs.Taking.{SameButBlock, ReachesIn, WentIn}
 use Rattle.pk_pool.proofs.States.{get-set_other, get-set_same, free_is_not_ready, owned_is_not_ready}
+use Rattle.pk_base.proofs.BlockLemmas.{apart}
 
 -- ---- pages of a block
 
@@ -38,10 +40,6 @@ block_of n k b low high =
     let e : b * n + (k - b * n) ≡ k = omega arith in
     let P : ℕ → Type 0 = λ x. x / n ≡ b in
     subst P e (div-mul-add b n (k - b * n) (omega arith))
-
--- a block ends if a later one begins, or before
-pub apart : (a b n : ℕ) → a < b → a * n + n ≤ b * n
-apart a b n h = omega (arith, mul-le-mul_right {m = suc a} {n = b} n (omega arith), suc-mul a n)
 
 -- a block of whole pairs begins at an even page
 pub even_start : (b n : ℕ) → n % 8 ≡ 0 → b * n % 2 ≡ 0
@@ -126,7 +124,8 @@ PoolOnFlash-erase p f g b out some not_ready cut fits = PoolOnFlash-but_block p 
 pub PoolOnFlash-program : (p : Blocks) (f g : Flash) (b at : ℕ) (bytes out : List ℕ) → IsNotReady p b → IsInBlock p.shape b at
     → Interrupted p.shape (program at bytes) f g out → PoolOnFlash p f → PoolOnFlash p g
 PoolOnFlash-program p f g b at bytes out not_ready inside cut fits =
-    PoolOnFlash-but_block p f g b not_ready (but_block p.shape f g b (program at bytes) out (omega (arith, inside.0, inside.1)) (ap Some (block_of p.shape.block_pages at b inside.0 inside.1)) cut) fits
+    PoolOnFlash-but_block p f g b not_ready
+    (but_block p.shape f g b (program at bytes) out (omega (arith, inside.0, inside.1)) (ap Some (block_of p.shape.block_pages at b inside.0 inside.1)) cut) fits
 
 pub PoolOnFlash-programmed : (p : Blocks) (f : Flash) (b at : ℕ) (bytes : List ℕ) → IsNotReady p b → IsInBlock p.shape b at
     → PoolOnFlash p f → PoolOnFlash p (after p.shape (program at bytes) f)

@@ -20,7 +20,7 @@ count-set p states b s t h =
     rw (get_or_from_slice_get states b s t h) at (sum_by-set (λ x. cond (p x) 1 0) states b t t (slice_get_within states b s h))
 
 -- each block is counted once
-all_counted : (states : List BlockState)
+pub all_counted : (states : List BlockState)
     → count_by is_root states + count_by is_free states + count_by is_ready states + used_by Journal states + used_by Meta states + used_by Values states ≡ length states
 all_counted [] = refl
 all_counted (Root ∷ ss) = omega (arith, all_counted ss, sum_by-cons {X = BlockState})
@@ -41,7 +41,7 @@ none_ready (Free ∷ ss) h = omega (arith, none_ready ss (λ k. h (suc k)), sum_
 none_ready (Owned o ∷ ss) h = omega (arith, none_ready ss (λ k. h (suc k)), sum_by-cons {X = BlockState})
 none_ready (Leaving o ∷ ss) h = omega (arith, none_ready ss (λ k. h (suc k)), sum_by-cons {X = BlockState})
 
-none_free : (states : List BlockState) → IsNowhere Free states → count_by is_free states ≡ 0
+pub none_free : (states : List BlockState) → IsNowhere Free states → count_by is_free states ≡ 0
 none_free [] h = refl
 none_free (Free ∷ ss) h = absurd (h 0 refl)
 none_free (Root ∷ ss) h = omega (arith, none_free ss (λ k. h (suc k)), sum_by-cons {X = BlockState})

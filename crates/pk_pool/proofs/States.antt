@@ -56,12 +56,12 @@ pub leaving_is_not_ready : {o : Owner} → Leaving o ≡ Ready → ⊥
 leaving_is_not_ready e = cc
 
 -- what is in a list of one element, and in one that was written to
-nowhere_replicate : {X : Type 0} (n k : ℕ) (x y : X) → slice_get (replicate n x) k ≡ Some y → x ≡ y
+pub nowhere_replicate : {X : Type 0} (n k : ℕ) (x y : X) → slice_get (replicate n x) k ≡ Some y → x ≡ y
 nowhere_replicate zero k x y h = cc
 nowhere_replicate (suc n) zero x y h = same_Some x y h
 nowhere_replicate (suc n) (suc k) x y h = nowhere_replicate n k x y h
 
-set_one : {X : Type 0} (xs : List X) (i k : ℕ) (x y : X) → slice_get (set xs i x) k ≡ Some y → (y ≡ x) ⊎ (slice_get xs k ≡ Some y)
+pub set_one : {X : Type 0} (xs : List X) (i k : ℕ) (x y : X) → slice_get (set xs i x) k ≡ Some y → (y ≡ x) ⊎ (slice_get xs k ≡ Some y)
 set_one xs i k x y h = elim (cases_eq k i) [
   | inl same ↦ inl (get-set_same xs i x y (subst (λ j. slice_get (set xs i x) j ≡ Some y) same h))
   | inr other ↦ inr (sym (get-set_other xs i k x other) ∙ h)

@@ -2,7 +2,7 @@
 use Rattle.std.specs.Prelude.{◌≡◌, ◌⊎◌, ℕ, ◌<◌, ◌≤◌, Bool, true, false, List, [], ◌∷◌, length, count_by, slice_get, slice_set, Some, replicate, map}
 use Rattle.pk_base.specs.Shape.{Shape}
 use Rattle.pk_base.specs.Page.{Flash}
-use Rattle.pk_nand.specs.Calls.{IsErasedBlock}
+use Rattle.pk_nand.specs.Operations.{IsErasedBlock}
 use Rattle.pk_plan.specs.declared.owner.Owner.{Owner}
 use Rattle.pk_plan.specs.declared.owner.Owner.TheVariants.{Journal, Meta, Values}
 use Rattle.pk_plan.specs.Quotas.{quota_of, IsPlan}

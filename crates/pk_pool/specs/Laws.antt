@@ -4,7 +4,7 @@ use Rattle.pk_base.specs.Shape.{Shape}
 use Rattle.pk_base.specs.Page.{Flash}
 use Rattle.pk_base.specs.Mark.{program, erase}
 use Rattle.pk_nand.specs.Cut.{Interrupted}
-use Rattle.pk_nand.specs.Calls.{InOrder, IsErasedBlock}
+use Rattle.pk_nand.specs.Operations.{InOrder, IsErasedBlock}
 use Rattle.pk_nand.specs.Crash.{SameOutside}
 use Rattle.pk_pool.specs.declared.state.BlockState.TheVariants.{Ready}
 use Rattle.pk_pool.specs.Blocks.{Blocks, PoolOnFlash}

@@ -3,7 +3,8 @@ ghost use Rattle.std.specs.Prelude.{◌≡◌, ℕ, ◌+◌, ◌*◌, ◌<◌, �
 ghost use Rattle.pk_base.specs.Page.{Flash};
 ghost use Rattle.pk_plan.specs.Quotas.{quota_of};
 ghost use Rattle.pk_plan.specs.declared.owner.Owner.{Owner};
-ghost use Rattle.pk_nand.specs.Calls.{IsReady, IsErasedBlock};
+ghost use Rattle.pk_nand.specs.Calls.{IsReady};
+ghost use Rattle.pk_nand.specs.Operations.{IsErasedBlock};
 ghost use Rattle.pk_nand.specs.declared.types.Fault.TheVariants.{Stopped};
 ghost use Rattle.pk_pool.specs.declared.state.BlockState.TheVariants.{Free, Ready, Owned, Leaving};
 ghost use Rattle.pk_pool.specs.Blocks as spec;

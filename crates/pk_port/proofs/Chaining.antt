@@ -1,25 +1,25 @@
 -- A chain of commands through a port, folded into one run.
-use Rattle.std.proofs.Common.{◌≡◌, inl, inr, ℕ, ◌+◌, ◌≤◌, ◌⊎◌, if◌then◌else◌, List, [], ◌∷◌, ◌++◌, Option, Some, true, false, refl, sym, ap, subst, ◌∙◌, arith, append-nil, append_assoc}
+use Rattle.std.proofs.Common.{◌≡◌, inl, inr, ℕ, ◌+◌, ◌≤◌, ◌⊎◌, if◌then◌else◌, List, [], ◌∷◌, ◌++◌, Some, true, false, refl, sym, ap, subst, ◌∙◌, arith, append-nil, append_assoc}
 use Rattle.pk_base.specs.Shape.{Shape}
 use Rattle.pk_base.specs.Map.{Map}
 use Rattle.pk_nvme.specs.Command.{Command}
-use Rattle.pk_nand.specs.BoardState.{BoardState}
 use Rattle.pk_nand.specs.Calls.{Rose}
 use Rattle.pk_nand.specs.Effects.{OnlyFlash}
 use Rattle.pk_model.specs.Growth.{Goes}
 use Rattle.pk_model.specs.Kept.{rise}
 use Rattle.pk_model.specs.Reading.{Holds}
 use Rattle.pk_model.specs.Run.{Exchange}
-use Rattle.pk_model.specs.Wear.{roots, is_worn}
+use Rattle.pk_model.specs.Wear.{roots}
 use Rattle.pk_model.proofs.Growing.{weaken_went, Goes-reaches}
 use Rattle.pk_call.specs.Calling.{only_looks}
 use Rattle.pk_call.specs.Exec.{most_installs}
 use Rattle.pk_port.specs.Asking.{KeptSilently, Asked}
-use Rattle.pk_port.specs.Steps.{Mounted, Standing, Runs, Serves, Stops, HasCause, Fails, Stepped, Chain}
-use Rattle.pk_port.specs.Chained.{installs_of, installs, AllServed, WhyHalted, HaltedAt, Chained}
+use Rattle.pk_port.specs.Steps.{Mounted, Standing, Runs, Serves, Stops, HasCause, Chain}
+use Rattle.pk_port.specs.Chained.{installs_of, installs, AllServed, HaltedAt, Chained}
 use Rattle.pk_port.specs.declared.halt.Halt.{Halt}
 use Rattle.pk_port.specs.declared.halt.Halt.TheVariants.{Stopped, Worn}
-use Rattle.pk_port.proofs.Growing.{silent-more, asked-none, asked-next, asked-stops, flash-then}
+use Rattle.pk_port.proofs.Growing.{silent-more, asked-none, asked-next, asked-stops}
+use Rattle.pk_nand.proofs.Effects.{only_then}
 
 -- ---- roots
 
@@ -66,7 +66,8 @@ module _ (shape : Shape) (start : Map) (p : Standing) where
   asked_at mid done w = subst (λ (n : ℕ). Asked shape n start p.on.board mid.on.board done) (sym w.same_frames) w.asked
 
   -- one more was served
-  served_next : (mid next : Standing) (done : List Command) (c : Command) (x : Exchange) → AllServed shape start done p mid → Serves shape mid.on next.on c x → next.faults ≡ mid.faults → next.halt ≡ mid.halt → AllServed shape start (done ++ c ∷ []) p next
+  served_next : (mid next : Standing) (done : List Command) (c : Command) (x : Exchange) → AllServed shape start done p mid
+      → Serves shape mid.on next.on c x → next.faults ≡ mid.faults → next.halt ≡ mid.halt → AllServed shape start (done ++ c ∷ []) p next
   served_next mid next done c x w s faults halt =
       let more = asked-next shape start p.on.board done mid.on next.on c (asked_at mid done w) x s in
       let one = roots_next shape mid.on next.on c x s in
@@ -89,7 +90,8 @@ module _ (shape : Shape) (start : Map) (p : Standing) where
     cause = h.cause;
     kept = (
       h.kept.0,
-      weaken_went h.kept.0 p.on.board q.on.board (KeptSilently shape p.on.frames start done (rise p.on.board.read_faults q.on.board.read_faults)) (KeptSilently shape p.on.frames start (done ++ more) (rise p.on.board.read_faults q.on.board.read_faults))
+      weaken_went h.kept.0 p.on.board q.on.board (KeptSilently shape p.on.frames start done (rise p.on.board.read_faults q.on.board.read_faults))
+          (KeptSilently shape p.on.frames start (done ++ more) (rise p.on.board.read_faults q.on.board.read_faults))
           (silent-more shape p.on.frames start done more (rise p.on.board.read_faults q.on.board.read_faults) (rise p.on.board.read_faults q.on.board.read_faults) (λ k few. few)) h.kept.1,
       h.kept.2,
     );
@@ -110,12 +112,14 @@ module _ (shape : Shape) (start : Map) (p : Standing) where
     cause = cause;
     kept = subst (λ (on : Mounted). Goes shape p.on.board on.board (KeptSilently shape p.on.frames start done (rise p.on.board.read_faults on.board.read_faults))) (sym same) h.kept;
     rose = subst (λ (on : Mounted). p.on.board.read_faults ≤ on.board.read_faults) (sym same) h.rose;
-    why = subst (λ (on : Mounted). Rose p.on.board.stop_faults on.board.stop_faults ⊎ ((on.board.stop_faults ≡ p.on.board.stop_faults) × (on.stopped ≡ false) × (roots on.board ≤ roots p.on.board + installs done))) (sym same) h.why;
+    why = subst (λ (on : Mounted). Rose p.on.board.stop_faults on.board.stop_faults
+        ⊎ ((on.board.stop_faults ≡ p.on.board.stop_faults) × (on.stopped ≡ false) × (roots on.board ≤ roots p.on.board + installs done))) (sym same) h.why;
     rest = subst (λ (on : Mounted). OnlyFlash p.on.board on.board) (sym same) h.rest;
   }
 
   -- a command stopped the drive
-  halted_stops : (mid next : Standing) (done : List Command) (c : Command) → AllServed shape start done p mid → Stops shape mid.on next.on c → next.halt ≡ Some Stopped → HaltedAt shape start (done ++ c ∷ []) p next
+  halted_stops : (mid next : Standing) (done : List Command) (c : Command) → AllServed shape start done p mid
+      → Stops shape mid.on next.on c → next.halt ≡ Some Stopped → HaltedAt shape start (done ++ c ∷ []) p next
   halted_stops mid next done c w s is =
       let up = s.up in
       let before = w.asked.rose in
@@ -127,11 +131,12 @@ module _ (shape : Shape) (start : Map) (p : Standing) where
             (asked-stops shape start p.on.board done mid.on next.on c (asked_at mid done w) s);
         rose = omega (arith, up, before);
         why = inl (subst (λ (n : ℕ). Rose n next.on.board.stop_faults) w.asked.no_stop s.stop);
-        rest = flash-then p.on.board mid.on.board next.on.board w.asked.rest s.rest;
+        rest = only_then p.on.board mid.on.board next.on.board w.asked.rest s.rest;
       }
 
   -- nothing was done
-  halted_idle : (mid next : Standing) (done : List Command) → AllServed shape start done p mid → (halt : Halt) → HasCause mid.on halt → next.on ≡ mid.on → next.halt ≡ Some halt → HaltedAt shape start done p next
+  halted_idle : (mid next : Standing) (done : List Command) → AllServed shape start done p mid → (halt : Halt)
+      → HasCause mid.on halt → next.on ≡ mid.on → next.halt ≡ Some halt → HaltedAt shape start done p next
   halted_idle mid next done w halt cause same is =
       let now : HaltedAt shape start done p (record mid { halt = Some halt }) = record {
         halt = halt;
@@ -160,7 +165,8 @@ module _ (shape : Shape) (start : Map) (p : Standing) where
   ]
 
 -- What a chain of commands did, from a drive that runs on a board that holds a map.
-pub chained : (shape : Shape) (start : Map) (p : Standing) (cs : List Command) (q : Standing) → p.on.board.shape ≡ Some shape → Holds shape p.on.board.pages start → p.on.stopped ≡ false → Chain shape p cs q → Chained shape start cs p q
+pub chained : (shape : Shape) (start : Map) (p : Standing) (cs : List Command) (q : Standing) → p.on.board.shape ≡ Some shape
+    → Holds shape p.on.board.pages start → p.on.stopped ≡ false → Chain shape p cs q → Chained shape start cs p q
 chained shape start p cs q has holds going chain = chained_from shape start p p [] (record {
   asked = asked-none shape p.on.frames start p.on.board has holds;
   going = going;

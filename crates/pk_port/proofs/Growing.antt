@@ -1,15 +1,13 @@
 -- Commands one after another through a port, and a text after them.
-use Rattle.std.proofs.Common.{◌≡◌, inl, inr, ℕ, ◌+◌, ◌≤◌, List, [], ◌∷◌, ◌++◌, Option, Some, Result, Ok, refl, sym, ap, subst, ◌∙◌, arith, append-nil, append_assoc, replicate}
+use Rattle.std.proofs.Common.{◌≡◌, inl, inr, ℕ, ◌+◌, ◌≤◌, List, [], ◌∷◌, ◌++◌, Option, Some, refl, sym, ap, subst, ◌∙◌, arith, append-nil, append_assoc, replicate}
 use Rattle.std.proofs.lemmas.Fn.{FoldsTo-push}
 use Rattle.pk_base.specs.Shape.{Shape, limit}
 use Rattle.pk_base.specs.Page.{Flash}
 use Rattle.pk_base.specs.Mark.{all_posted, post}
 use Rattle.pk_base.specs.Map.{Map}
-use Rattle.pk_base.specs.Refusal.{Refusal}
 use Rattle.pk_nvme.specs.Command.{Command}
 use Rattle.pk_nand.specs.BoardState.{BoardState}
-use Rattle.pk_nand.specs.Calls.{after_post, PostFailed}
-use Rattle.pk_nand.specs.Effects.{OnlyFlash}
+use Rattle.pk_nand.specs.Operations.{after_post, PostFailed}
 use Rattle.pk_nand.proofs.Reaching.{Reached-start, Reached-post}
 use Rattle.pk_model.specs.Answer.{reply, map_after}
 use Rattle.pk_model.specs.Growth.{Reaches, Goes}
@@ -24,9 +22,8 @@ use Rattle.pk_serve.proofs.Answering.{reply_other, answers}
 use Rattle.pk_serve.proofs.Counting.{at_most-zero, at_most-more, at_most-one, commands-push, faults-push, faults-one}
 use Rattle.pk_port.specs.Asking.{KeptSilently, KeptWord, Asked}
 use Rattle.pk_port.specs.Steps.{Mounted, Serves, Stops}
-
-ok_same : (x y : Map) → ◌≡◌ {A = Result Map Refusal} (Ok x) (Ok y) → x ≡ y
-ok_same x y e = cc
+use Rattle.pk_base.proofs.Logic.{ok_same}
+use Rattle.pk_nand.proofs.Effects.{only_then}
 
 -- more commands, and more faults
 pub silent-more : (shape : Shape) (frames : ℕ) (start : Map) (cs more : List Command) (n later : Option ℕ) → ((k : ℕ) → AtMost n k → AtMost later k)
@@ -77,23 +74,10 @@ asked-none shape frames start a has holds = record {
   rest = refl;
 }
 
-pub asked-none-all : (shape : Shape) (frames : ℕ) (start : Map) (a : BoardState) (has : a.shape ≡ Some shape) (holds : Holds shape a.pages start) → (asked-none shape frames start a has holds).answered.all ≡ []
+pub asked-none-all : (shape : Shape) (frames : ℕ) (start : Map) (a : BoardState) (has : a.shape ≡ Some shape) (holds : Holds shape a.pages start)
+    → (asked-none shape frames start a has holds).answered.all ≡ []
 unfolding asked-none
 asked-none-all shape frames start a has holds = refl
-
--- two parts of a run
-pub flash-then : (a b c : BoardState) → OnlyFlash a b → OnlyFlash b c → OnlyFlash a c
-flash-then a b c first second = second ∙ ap (λ (s : BoardState). record s {
-  pages = c.pages;
-  trail = c.trail;
-  reads = c.reads;
-  programs = c.programs;
-  erases = c.erases;
-  flash_faults = c.flash_faults;
-  read_faults = c.read_faults;
-  stop_faults = c.stop_faults;
-  failed_at = c.failed_at;
-}) first
 
 module _ (shape : Shape) (frames : ℕ) (start : Map) (a b : BoardState) (cs : List Command) (w : Asked shape frames start a b cs) where
   -- the bound on faults after one more command
@@ -137,7 +121,8 @@ module _ (shape : Shape) (frames : ℕ) (start : Map) (a b : BoardState) (cs : L
               unserved = [];
               from_front = append-nil (commands (w.answered.all ++ x ∷ [])) ∙ pushed x c refl;
               map_left = map_after shape (limit shape) w.left c;
-              ran = FoldsTo-push (StepWithin shape frames) start w.answered.all w.left x (map_after shape (limit shape) w.left c) w.answered.ran (inl (answers shape (limit shape) frames w.left c), λ _. omega arith);
+              ran = FoldsTo-push (StepWithin shape frames) start w.answered.all w.left x
+                  (map_after shape (limit shape) w.left c) w.answered.ran (inl (answers shape (limit shape) frames w.left c), λ _. omega arith);
               held = behind;
               unposted = records 0 (w.answered.all ++ x ∷ []);
               begins = refl;
@@ -178,17 +163,20 @@ module _ (shape : Shape) (start : Map) (a : BoardState) (cs : List Command) (old
           are = pushed shape old.frames start a old.board cs w x c s.is;
           ran = FoldsTo-push (StepWithin shape old.frames) start w.answered.all w.left x s.left w.answered.ran (subst W same s.step);
           few = elim (faults-one x) [
-            | inl good ↦ few_more shape old.frames start a old.board cs w n x 0 good.1 (few_same shape old.frames start a old.board cs w n (at_most-more a.read_faults old.board.read_faults new.board.read_faults (faults w.answered.all) s.up w.answered.few))
-            | inr bad ↦ few_more shape old.frames start a old.board cs w n x 1 bad.1 (at_most-one a.read_faults old.board.read_faults new.board.read_faults (faults w.answered.all) w.rose (s.metered.failed bad.0) w.answered.few)
+            | inl good ↦ few_more shape old.frames start a old.board cs w n x 0 good.1
+                (few_same shape old.frames start a old.board cs w n (at_most-more a.read_faults old.board.read_faults new.board.read_faults (faults w.answered.all) s.up w.answered.few))
+            | inr bad ↦ few_more shape old.frames start a old.board cs w n x 1 bad.1
+                (at_most-one a.read_faults old.board.read_faults new.board.read_faults (faults w.answered.all) w.rose (s.metered.failed bad.0) w.answered.few)
           ];
         };
         metered = FoldsTo-push Metered (meter a) w.answered.all (meter old.board) x (meter new.board) w.metered s.metered;
         held = s.holds;
         shape_is = w.shape_is;
-        reached = Reaches-then shape more.0 a old.board (KeptSilently shape old.frames start (cs ++ c ∷ []) n) w.shape_is more.1 more.2 new.board (StepCut shape s.map c) (seen_cut s.map same s.up) s.reached;
+        reached = Reaches-then shape more.0 a old.board (KeptSilently shape old.frames start (cs ++ c ∷ []) n) w.shape_is more.1 more.2 new.board
+            (StepCut shape s.map c) (seen_cut s.map same s.up) s.reached;
         rose = (let up = s.up in let rose = w.rose in omega (arith, up, rose));
         no_stop = s.no_stop ∙ w.no_stop;
-        rest = flash-then a old.board new.board w.rest s.rest;
+        rest = only_then a old.board new.board w.rest s.rest;
       }
 
   pub asked-next-all : (x : Exchange) (s : Serves shape old new c x) → (asked-next x s).answered.all ≡ w.answered.all ++ x ∷ []

@@ -27,16 +27,15 @@ use Rattle.pk_host.proofs.DataLemmas.{data_fit}
 use Rattle.pk_port.specs.Ready.{Ready, Fits}
 use Rattle.pk_port.specs.Steps.{mount, seen, Serves, Fails}
 use Rattle.pk_port.specs.declared.halt.Halt.TheVariants.{Stopped}
+use Rattle.pk_base.proofs.Logic.{ok_same}
 
 ok_told : (r : Result Map Refusal) (m : Map) → result_ok r ≡ Some m → r ≡ Ok m
 ok_told (Ok x) m e = cc
 ok_told (Err refusal) m e = cc
 
-ok_same : (x y : Map) → ◌≡◌ {A = Result Map Refusal} (Ok x) (Ok y) → x ≡ y
-ok_same x y e = cc
-
 -- what is passed, of a board of this shape
-pub value_on : (shape : Shape) (board : BoardState) (opcode size : ℕ) (handed value : List ℕ) → board.shape ≡ Some shape → IsValue shape opcode size handed value → IsValue (shape_of board) opcode size handed value
+pub value_on : (shape : Shape) (board : BoardState) (opcode size : ℕ) (handed value : List ℕ)
+    → board.shape ≡ Some shape → IsValue shape opcode size handed value → IsValue (shape_of board) opcode size handed value
 value_on shape board opcode size handed value has h = let T : Shape → Type 0 = λ s. IsValue s opcode size handed value in subst T (sym (ap shape_or_none has)) h
 
 -- what a drive says of its roots is said of the board that it agrees with
@@ -98,7 +97,8 @@ module _ (agrees : Option Shape → Flash → Type 0) (shape : Shape) (old : Boa
         new_is = λ k. record { board = new; stopped = (goes_on ∙ sym going) k; frames = done.stands.frames_is k };
       }
 
-      pub replies_so : rep.status < 256 → rep.result < 2 ^ 32 → (rep.status ≡ 0x88 → Rose old.read_faults new.read_faults) → (before behind : ℕ) → Replies (seen shape old before) (seen shape new behind) c rep
+      pub replies_so : rep.status < 256 → rep.result < 2 ^ 32 → (rep.status ≡ 0x88 → Rose old.read_faults new.read_faults)
+          → (before behind : ℕ) → Replies (seen shape old before) (seen shape new behind) c rep
       replies_so small field unread before behind = record {
         status_size = small;
         result_size = field;

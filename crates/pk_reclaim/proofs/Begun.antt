@@ -1,4 +1,4 @@
--- A reclaim begins: a victim was chosen, and a block taken for its copies; or a victim without live pages was given back.
+-- A reclaim begins: a victim was chosen, and a block taken for its copies; or a victim without live pages was freed.
 use Rattle.std.proofs.Common.{◌≡◌, inl, inr, ℕ, ◌+◌, ◌-◌, ◌*◌, ◌<◌, ◌≤◌, refl, sym, ap, subst, ◌∙◌, arith, true, false, List, [], ◌∷◌, sum, take, drop, append-nil}
 use Rattle.std.proofs.lemmas.Option.{slice_get_within}
 use Rattle.pk_base.specs.Key.{Key}
@@ -8,7 +8,8 @@ use Rattle.pk_base.specs.Entry.{Entry, Place}
 use Rattle.pk_base.specs.Map.{Map}
 use Rattle.pk_plan.specs.declared.owner.Owner.TheVariants.{Values as for_values}
 use Rattle.pk_nand.specs.BoardState.{BoardState}
-use Rattle.pk_nand.specs.Calls.{IsReady, IsErasedBlock}
+use Rattle.pk_nand.specs.Calls.{IsReady}
+use Rattle.pk_nand.specs.Operations.{IsErasedBlock}
 use Rattle.pk_rootfmt.specs.Root.{Root}
 use Rattle.pk_pool.specs.Blocks.{Blocks, used_by}
 use Rattle.pk_model.specs.Found.{Found}
@@ -49,7 +50,8 @@ sparse_started shape live victim output same few =
     let counted : count_of live victim ≡ sum (take n (drop (victim * n) live.heads)) = λ i. sum (take (same i) (drop (victim * same i) live.heads)) in
     omega (arith, few, all, counted)
 
-module _ (log : LogState) (values values' : DataState) (pool pool' : Blocks) (moves : List Move) (entries : List Entry) (page : List ℕ) (old new : BoardState) (top : ℕ × Root) (found : Found) (m : Map)
+module _ (log : LogState) (values values' : DataState) (pool pool' : Blocks) (moves : List Move)
+    (entries : List Entry) (page : List ℕ) (old new : BoardState) (top : ℕ × Root) (found : Found) (m : Map)
     (ready : IsReady old log.shape) (may : MayReclaim (space_in log values pool moves entries page Idle) old.pages top found m) (job' : JobState) where
   abbrev shape : Shape
   shape = log.shape
@@ -139,11 +141,12 @@ module _ (log : LogState) (values values' : DataState) (pool pool' : Blocks) (mo
       then_places = refl;
       as_many = refl;
       stands = stands;
-      others = others_kept shape top.1 pool old.pages pool' new.pages owners (low_quiet quiet new.pages same) (meta_quiet quiet new.pages same) (λ k owned other. journal_quiet quiet new.pages same k owned);
+      others = others_kept shape top.1 pool old.pages pool' new.pages owners (low_quiet quiet new.pages same)
+          (meta_quiet quiet new.pages same) (λ k owned other. journal_quiet quiet new.pages same k owned);
       cuts = reaches;
     })
 
-  -- ---- a block without live pages was given back
+  -- ---- a block without live pages was freed
 
   module _ (g : GivesBack (job_in log moves entries page Idle) values.live values.open_block pool old job' values'.live values'.open_block pool' new) where
     given : ValuesOnFlash shape values' pool' [] new.pages es × (used_by for_values pool'.states + 1 ≡ used_by for_values pool.states)

@@ -4,7 +4,8 @@ use Rattle.pk_base.specs.Shape.{Shape}
 use Rattle.pk_base.specs.Page.{Flash, page_at}
 use Rattle.pk_base.specs.Mark.{Mark, program, erase}
 use Rattle.pk_nand.specs.BoardState.{BoardState, shape_of, shape_or_none}
-use Rattle.pk_nand.specs.Calls.{IsReady, after_read, after_program, after_erase, LeftBy, ReadFailed, ProgramFailed, EraseFailed}
+use Rattle.pk_nand.specs.Calls.{IsReady, after_program, LeftBy, ProgramFailed}
+use Rattle.pk_nand.specs.Operations.{after_read, after_erase, ReadFailed, EraseFailed}
 use Rattle.pk_nand.specs.Cut.{Interrupted, Touches}
 use Rattle.pk_nand.specs.Effects.{AtMostOneCall, NoFault, OnlyFlash, OnlyReading}
 use Rattle.pk_nand.proofs.Effects.{stops_erase, stops_program}
@@ -30,10 +31,12 @@ pub sound_read : (old new : BoardState) → new ≡ after_read old → Sound old
 sound_read old new made = let T : BoardState → Type 0 = λ b. Sound old b in subst T (sym made) (record { fault = (refl, refl, refl, refl); calls = inr (inl (refl, refl, refl)); rest = refl })
 
 pub sound_program : (old new : BoardState) (at : ℕ) (bytes : List ℕ) → new ≡ after_program old at bytes → Sound old new
-sound_program old new at bytes made = let T : BoardState → Type 0 = λ b. Sound old b in subst T (sym made) (record { fault = (refl, refl, refl, refl); calls = inr (inr (inl (refl, refl, refl))); rest = refl })
+sound_program old new at bytes made = let T : BoardState
+    → Type 0 = λ b. Sound old b in subst T (sym made) (record { fault = (refl, refl, refl, refl); calls = inr (inr (inl (refl, refl, refl))); rest = refl })
 
 pub sound_erase : (old new : BoardState) (block : ℕ) → new ≡ after_erase old block → Sound old new
-sound_erase old new block made = let T : BoardState → Type 0 = λ b. Sound old b in subst T (sym made) (record { fault = (refl, refl, refl, refl); calls = inr (inr (inr (refl, refl, refl))); rest = refl })
+sound_erase old new block made = let T : BoardState
+    → Type 0 = λ b. Sound old b in subst T (sym made) (record { fault = (refl, refl, refl, refl); calls = inr (inr (inr (refl, refl, refl))); rest = refl })
 
 -- ---- one that failed
 
@@ -77,7 +80,8 @@ number_same : (shape : Shape) (old new : Flash) → newest_root shape (page_at n
 unfolding root_number
 number_same shape old new same = rw same refl
 
-pub roots_stay : (shape : Shape) (old new : BoardState) → IsReady old shape → new.shape ≡ old.shape → newest_root shape (page_at new.pages) ≡ newest_root shape (page_at old.pages) → SameRoots shape old new
+pub roots_stay : (shape : Shape) (old new : BoardState) → IsReady old shape → new.shape ≡ old.shape
+    → newest_root shape (page_at new.pages) ≡ newest_root shape (page_at old.pages) → SameRoots shape old new
 roots_stay shape old new ready told same = record {
   grows = inl same;
   same =
@@ -90,7 +94,8 @@ pub roots_low : (shape : Shape) (old new : BoardState) → IsReady old shape →
 roots_low shape old new ready told same = roots_stay shape old new ready told (newest_root_same shape (page_at old.pages) (page_at new.pages) same)
 
 -- a mark that was interrupted, and touches none of their pages
-low_left : (shape : Shape) (mark : Mark) (old new : BoardState) → ((k : ℕ) → k < 2 * shape.block_pages → Touches shape mark k → ⊥) → shape_of old ≡ shape → LeftBy mark old new → SameLow shape old.pages new.pages
+low_left : (shape : Shape) (mark : Mark) (old new : BoardState) → ((k : ℕ) → k < 2 * shape.block_pages → Touches shape mark k → ⊥)
+    → shape_of old ≡ shape → LeftBy mark old new → SameLow shape old.pages new.pages
 low_left shape mark old new apart told (inl marked) k low = untouched shape mark k _ _ (apart k low) ((subst (λ (s : Shape). Interrupted s mark old.pages new.pages []) told marked.0).pages k)
 low_left shape mark old new apart told (inr none) k low = ap (λ (f : Flash). page_at f k) none.0
 
@@ -105,9 +110,11 @@ no_partner n at k low high is =
 pub program_low : (shape : Shape) (old new : BoardState) (at : ℕ) (bytes : List ℕ) → IsReady old shape → 2 * shape.block_pages ≤ at → ProgramFailed old new at bytes → SameRoots shape old new
 program_low shape old new at bytes ready high failed =
     roots_low shape old new ready (ap (λ (b : BoardState). b.shape) failed.rest)
-    (low_left shape (program at bytes) old new (λ k low is. elim is [ inl same ↦ omega (arith, low, high, same) | inr partner ↦ no_partner shape.block_pages at k low high partner ]) (ap shape_or_none ready.shape_is) failed.left)
+    (low_left shape (program at bytes) old new (λ k low is. elim is [ inl same ↦ omega (arith, low, high, same) | inr partner ↦ no_partner shape.block_pages at k low high partner ])
+    (ap shape_or_none ready.shape_is) failed.left)
 
 pub erase_low : (shape : Shape) (old new : BoardState) (block : ℕ) → IsReady old shape → 0 < shape.block_pages → 2 ≤ block → EraseFailed old new block → SameRoots shape old new
 erase_low shape old new block ready some behind failed =
     roots_low shape old new ready (ap (λ (b : BoardState). b.shape) failed.rest)
-    (low_left shape (erase block) old new (λ k low is. let less : k / shape.block_pages < 2 = (div-lt_iff_lt-mul some).1 low in omega (arith, less, behind, is)) (ap shape_or_none ready.shape_is) failed.left)
+    (low_left shape (erase block) old new (λ k low is. let less : k / shape.block_pages < 2 = (div-lt_iff_lt-mul some).1 low in omega (arith, less, behind, is))
+    (ap shape_or_none ready.shape_is) failed.left)

@@ -41,7 +41,8 @@ use Rattle.pk_reclaim.proofs.Ready.{job_in, space_in}
 use Rattle.pk_reclaim.proofs.Copies.{quiet, in_output}
 
 -- the bytes that were read matter no more than they are held
-pub other_page : (shape : Shape) (c : Course) (moves : List Move) (page other : List ℕ) (flash : Flash) (es : List (Key × Place)) → c.held ≡ false → IsRunning shape c moves page flash es → IsRunning shape c moves other flash es
+pub other_page : (shape : Shape) (c : Course) (moves : List Move) (page other : List ℕ) (flash : Flash) (es : List (Key × Place))
+    → c.held ≡ false → IsRunning shape c moves page flash es → IsRunning shape c moves other flash es
 other_page shape c moves page other flash es free runs = record {
   is_shape = runs.is_shape;
   other = runs.other;
@@ -66,7 +67,8 @@ other_page shape c moves page other flash es free runs = record {
     not_both : false ≡ true → ⊥
     not_both e = cc
 
-module _ (log : LogState) (values : DataState) (pool : Blocks) (moves : List Move) (entries : List Entry) (page : List ℕ) (old new : BoardState) (top : ℕ × Root) (found : Found) (m : Map) (ready : IsReady old log.shape) where
+module _ (log : LogState) (values : DataState) (pool : Blocks) (moves : List Move) (entries : List Entry)
+    (page : List ℕ) (old new : BoardState) (top : ℕ × Root) (found : Found) (m : Map) (ready : IsReady old log.shape) where
   abbrev shape : Shape
   shape = log.shape
 
@@ -95,10 +97,12 @@ module _ (log : LogState) (values : DataState) (pool : Blocks) (moves : List Mov
 
   -- ---- the program of a copied page
 
-  module _ (c : Course) (stands : SpaceOnFlash (space_in log values pool moves entries page (Copies c)) old.pages top found m) (e : Fault) (f : FailsToCopy c (job_in log moves entries page (Copies c)) old new e) where
+  module _ (c : Course) (stands : SpaceOnFlash (space_in log values pool moves entries page (Copies c)) old.pages top found m)
+      (e : Fault) (f : FailsToCopy c (job_in log moves entries page (Copies c)) old new e) where
     pub copy_breaks : Goes shape old new (CrashFinds shape background old.pages m)
     copy_breaks =
-        program_goes (quiet log values pool c moves entries page old new top found m ready stands) (target shape c) page (in_output log values pool c moves entries page old new top found m ready stands f.held) new f.failed
+        program_goes (quiet log values pool c moves entries page old new top found m ready stands) (target shape c) page
+        (in_output log values pool c moves entries page old new top found m ready stands f.held) new f.failed
 
     high : 2 * shape.block_pages ≤ target shape c
     high =

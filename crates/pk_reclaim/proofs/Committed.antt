@@ -134,11 +134,13 @@ module _ (log : LogState) (values : DataState) (pool : Blocks) (c : Course) (mov
 
     next_newest : AnyByRecursion (λ b. next_page log.epoch / shape.block_pages ≡ b) top.1.newest
     next_newest =
-        subst (λ (k : ℕ). AnyByRecursion (λ b. k / shape.block_pages ≡ b) top.1.newest) page_is (in_newest before old.pages top found m stands log.epoch.used inside (commit_page shape top.1.newest log.epoch.used) (omega arith) (omega arith))
+        subst (λ (k : ℕ). AnyByRecursion (λ b. k / shape.block_pages ≡ b) top.1.newest) page_is
+        (in_newest before old.pages top found m stands log.epoch.used inside (commit_page shape top.1.newest log.epoch.used) (omega arith) (omega arith))
 
     next_journal : slice_get pool.states (next_page log.epoch / shape.block_pages) ≡ Some (Owned Journal)
     next_journal =
-        subst (λ (k : ℕ). slice_get pool.states (k / shape.block_pages) ≡ Some (Owned Journal)) page_is (for_journal before old.pages top found m stands log.epoch.used inside (commit_page shape top.1.newest log.epoch.used) (omega arith) (omega arith))
+        subst (λ (k : ℕ). slice_get pool.states (k / shape.block_pages) ≡ Some (Owned Journal)) page_is
+        (for_journal before old.pages top found m stands log.epoch.used inside (commit_page shape top.1.newest log.epoch.used) (omega arith) (omega arith))
 
   -- ---- the program failed
 
@@ -147,7 +149,8 @@ module _ (log : LogState) (values : DataState) (pool : Blocks) (c : Course) (mov
 
   -- ---- it was made
 
-  module _ (log' : LogState) (values' : DataState) (pool' : Blocks) (job' : JobState) (new : BoardState) (ready' : IsReady new log.shape) (log_is : log' ≡ record log { active = log'.active; epoch = log'.epoch })
+  module _ (log' : LogState) (values' : DataState) (pool' : Blocks) (job' : JobState) (new : BoardState)
+      (ready' : IsReady new log.shape) (log_is : log' ≡ record log { active = log'.active; epoch = log'.epoch })
       (commits : CommitsMoves c job hands old job' (hands_of values' pool' log'.active log'.epoch) new) where
     abbrev then_found : Found
     then_found = with_newest found (found.newest ++ left_entries)
@@ -303,13 +306,15 @@ module _ (log : LogState) (values : DataState) (pool : Blocks) (c : Course) (mov
 
 -- ---- the same, for all that is before and after
 
-module _ (log log' : LogState) (values values' : DataState) (pool pool' : Blocks) (c : Course) (moves : List Move) (entries : List Entry) (page : List ℕ) (old new : BoardState) (top : ℕ × Root) (found : Found) (m : Map)
+module _ (log log' : LogState) (values values' : DataState) (pool pool' : Blocks) (c : Course) (moves : List Move)
+    (entries : List Entry) (page : List ℕ) (old new : BoardState) (top : ℕ × Root) (found : Found) (m : Map)
     (ready : IsReady old log.shape) (ready' : IsReady new log.shape) (stands : SpaceOnFlash (space_in log values pool moves entries page (Copies c)) old.pages top found m)
     (whole : c.left ≡ 0) (dead : AreDead values.live.heads (source log.shape c) (c.victim * log.shape.block_pages + log.shape.block_pages)) (job' : JobState) where
   abbrev IsCommit : Type 0
   IsCommit = CommitsMoves c (job_in log moves entries page (Copies c)) (hands_of values pool log.active log.epoch) old job' (hands_of values' pool' log'.active log'.epoch) new
 
-  pub committed_moves : log' ≡ record log { active = log'.active; epoch = log'.epoch } → IsCommit → SpaceMoves (space_in log values pool moves entries page (Copies c)) old top found m (space log' values' pool' job') new
+  pub committed_moves : log' ≡ record log { active = log'.active; epoch = log'.epoch } → IsCommit
+      → SpaceMoves (space_in log values pool moves entries page (Copies c)) old top found m (space log' values' pool' job') new
   committed_moves log_is is = commit_moves log values pool c moves entries page old top found m ready stands whole dead log' values' pool' job' new ready' log_is is
 
   pub committed_room : log' ≡ record log { active = log'.active; epoch = log'.epoch } → IsCommit → HasRoom (space log' values' pool' job')

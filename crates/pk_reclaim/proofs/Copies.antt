@@ -6,7 +6,8 @@ use Rattle.pk_base.specs.Page.{Flash}
 use Rattle.pk_base.specs.Entry.{Entry, Place}
 use Rattle.pk_base.specs.Map.{Map}
 use Rattle.pk_nand.specs.BoardState.{BoardState}
-use Rattle.pk_nand.specs.Calls.{IsReady, after_read, after_program}
+use Rattle.pk_nand.specs.Calls.{IsReady, after_program}
+use Rattle.pk_nand.specs.Operations.{after_read}
 use Rattle.pk_segfmt.proofs.StoredLemmas.{charge_some}
 use Rattle.pk_rootfmt.specs.Root.{Root}
 use Rattle.pk_pool.specs.Blocks.{Blocks}
@@ -36,7 +37,12 @@ use Rattle.pk_reclaim.proofs.Ready.{job_in, space_in, are_held, hands}
 
 -- a read leaves the pages
 still_read : (old new : BoardState) → new ≡ after_read old → IsStill old new
-still_read old new is = record { shape = ap (λ (s : BoardState). s.shape) is; pages = ap (λ (s : BoardState). s.pages) is; trail = ap (λ (s : BoardState). s.trail) is; posted = ap (λ (s : BoardState). s.posted) is }
+still_read old new is = record {
+  shape = ap (λ (s : BoardState). s.shape) is;
+  pages = ap (λ (s : BoardState). s.pages) is;
+  trail = ap (λ (s : BoardState). s.trail) is;
+  posted = ap (λ (s : BoardState). s.posted) is;
+}
 
 module _ (log : LogState) (values : DataState) (pool : Blocks) (c : Course) (moves : List Move) (entries : List Entry) (page : List ℕ) (old new : BoardState) (top : ℕ × Root) (found : Found) (m : Map)
     (ready : IsReady old log.shape) (stands : SpaceOnFlash (space_in log values pool moves entries page (Copies c)) old.pages top found m) where
@@ -82,10 +88,12 @@ module _ (log : LogState) (values : DataState) (pool : Blocks) (c : Course) (mov
 
     -- ---- the first page of the next one was
 
-    pub begin_moves : BeginsValue c (job_in log moves entries page (Copies c)) (hands log values pool moves entries page old.pages top found m) old job' new → SpaceMoves before old top found m (space log values pool job') new
+    pub begin_moves : BeginsValue c (job_in log moves entries page (Copies c)) (hands log values pool moves entries page old.pages top found m) old job' new
+        → SpaceMoves before old top found m (space log values pool job') new
     begin_moves r =
         let still = still_read old new r.board in
-        let next = next_is_value shape c moves page values.live.heads old.pages es r.page copying.runs (are_held log values pool moves entries page old.pages top found m c stands ready.flash) copying.sparse r.whole r.inside.0 r.inside.1 r.head r.first in
+        let next = next_is_value shape c moves page values.live.heads old.pages es r.page copying.runs
+        (are_held log values pool moves entries page old.pages top found m c stands ready.flash) copying.sparse r.whole r.inside.0 r.inside.1 r.head r.first in
         let key = next.1.0 in
         let place = next.1.1 in
         let is = next.1.2 in
@@ -98,9 +106,11 @@ module _ (log : LogState) (values : DataState) (pool : Blocks) (c : Course) (mov
         (goes_on c' ms job'.page new.pages still.pages refl (record { runs = r.runs es key place copying.runs is; sparse = sparse; closed = copying.closed })))
 
     -- the values are copied still
-    pub begin_phase : BeginsValue c (job_in log moves entries page (Copies c)) (hands log values pool moves entries page old.pages top found m) old job' new → (then : Course) × (job'.phase ≡ Copies then)
+    pub begin_phase : BeginsValue c (job_in log moves entries page (Copies c)) (hands log values pool moves entries page old.pages top found m) old job' new
+        → (then : Course) × (job'.phase ≡ Copies then)
     begin_phase r =
-        let next = next_is_value shape c moves page values.live.heads old.pages es r.page copying.runs (are_held log values pool moves entries page old.pages top found m c stands ready.flash) copying.sparse r.whole r.inside.0 r.inside.1 r.head r.first in
+        let next = next_is_value shape c moves page values.live.heads old.pages es r.page copying.runs
+        (are_held log values pool moves entries page old.pages top found m c stands ready.flash) copying.sparse r.whole r.inside.0 r.inside.1 r.head r.first in
         (_, ap (λ (j : JobState). j.phase) (r.job_is es next.1.0 next.1.1 next.1.2))
 
   -- ---- a page was programmed
@@ -161,6 +171,7 @@ module _ (log : LogState) (values : DataState) (pool : Blocks) (c : Course) (mov
       then_places = refl;
       as_many = refl;
       stands = stands_behind;
-      others = others_kept shape top.1 pool old.pages pool new.pages (owners_same pool) (low_quiet quiet new.pages same) (meta_quiet quiet new.pages same) (λ k owned other. journal_quiet quiet new.pages same k owned);
+      others = others_kept shape top.1 pool old.pages pool new.pages (owners_same pool) (low_quiet quiet new.pages same)
+          (meta_quiet quiet new.pages same) (λ k owned other. journal_quiet quiet new.pages same k owned);
       cuts = program_reaches quiet (target shape c) page (in_output p.held) new p.board;
     })

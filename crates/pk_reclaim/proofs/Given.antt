@@ -1,4 +1,4 @@
--- A reclaim ended: no move remained, or its moves were committed before; the victim was given back.
+-- A reclaim ended: no move remained, or its moves were committed before; the victim was freed.
 use Rattle.std.proofs.Common.{◌≡◌, inl, ℕ, ◌+◌, ◌-◌, ◌*◌, ◌≤◌, refl, sym, ap, subst, ◌∙◌, arith, true, false, List, [], Option, Some}
 use Rattle.std.proofs.lemmas.Bool.{le-leb}
 use Rattle.pk_base.specs.Key.{Key}
@@ -43,7 +43,8 @@ pub record SameParts (d d' : DataState) (p q : Blocks) (t t' : Table) (e e' : Jo
   pub active : t' ≡ t
   pub epoch : e' ≡ e
 
-pub same_parts : (d d' : DataState) (p q : Blocks) (active active' : Table) (epoch epoch' : JournalEpoch) → hands_of d' q active' epoch' ≡ hands_of d p active epoch → SameParts d d' p q active active' epoch epoch'
+pub same_parts : (d d' : DataState) (p q : Blocks) (active active' : Table) (epoch epoch' : JournalEpoch)
+    → hands_of d' q active' epoch' ≡ hands_of d p active epoch → SameParts d d' p q active active' epoch epoch'
 same_parts d d' p q active active' epoch epoch' same = record {
   values = λ i. record { live = (ap (λ (h : Hands). h.live) same) i; open_block = (ap (λ (h : Hands). h.front) same) i };
   pool = ap (λ (h : Hands). h.pool) same;
@@ -53,14 +54,16 @@ same_parts d d' p q active active' epoch epoch' same = record {
 
 -- ---- a block that was filled no more than a victim may be takes every value
 
-pub output_fits : (shape : Shape) (d : DataState) (output used count : ℕ) → IsShape shape → d.open_block ≡ Some (record { block = output; used = used }) → used ≤ dense shape → count ≤ most_pages shape → fits_open shape d count ≡ true
+pub output_fits : (shape : Shape) (d : DataState) (output used count : ℕ) → IsShape shape
+    → d.open_block ≡ Some (record { block = output; used = used }) → used ≤ dense shape → count ≤ most_pages shape → fits_open shape d count ≡ true
 output_fits shape d output used count is_shape is few most =
     let room = leaves_room shape is_shape in
     ap (λ (o : Option OpenBlock). has_left shape o count) is ∙ le-leb (used + count) shape.block_pages (omega (arith, few, most, room))
 
 -- ---- the end without moves
 
-module _ (log log' : LogState) (values values' : DataState) (pool pool' : Blocks) (c : Course) (moves : List Move) (entries : List Entry) (page : List ℕ) (old new : BoardState) (top : ℕ × Root) (found : Found) (m : Map)
+module _ (log log' : LogState) (values values' : DataState) (pool pool' : Blocks) (c : Course) (moves : List Move)
+    (entries : List Entry) (page : List ℕ) (old new : BoardState) (top : ℕ × Root) (found : Found) (m : Map)
     (stands : SpaceOnFlash (space_in log values pool moves entries page (Copies c)) old.pages top found m) (log_is : log' ≡ record log { active = log'.active; epoch = log'.epoch })
     (whole : c.left ≡ 0) (dead : AreDead values.live.heads (source log.shape c) (c.victim * log.shape.block_pages + log.shape.block_pages)) (job' : JobState)
     (e : EndsWithout c (job_in log moves entries page (Copies c)) (hands_of values pool log.active log.epoch) old job' (hands_of values' pool' log'.active log'.epoch) new) where
@@ -77,7 +80,8 @@ module _ (log log' : LogState) (values values' : DataState) (pool pool' : Blocks
   same_log = log_is ∙ (λ i. record log { active = (ap (λ (h : Hands). h.active) e.hands) i; epoch = (ap (λ (h : Hands). h.epoch) e.hands) i })
 
   ended : ValuesOnFlash shape values' pool' [] new.pages es × (used_by for_values pool'.states + 1 ≡ used_by for_values pool.states)
-  ended = end_placed shape c (job_in log moves entries page (Copies c)) job' values values' pool pool' log.active log'.active log.epoch log'.epoch old new es stands.placed (can_give log values pool moves entries page old.pages top found m c stands whole dead) e
+  ended = end_placed shape c (job_in log moves entries page (Copies c)) job' values values' pool pool' log.active log'.active log.epoch log'.epoch old new es stands.placed
+      (can_give log values pool moves entries page old.pages top found m c stands whole dead) e
 
   owners : SameOwners pool pool'
   owners = subst (λ (q : Blocks). SameOwners pool q) (sym (ap (λ (h : Hands). h.pool) e.hands)) (owners_given pool c.victim (stands.placed.closed_owned c.victim stands.reclaim.stands.closed).0)
@@ -121,8 +125,10 @@ module _ (log log' : LogState) (values values' : DataState) (pool pool' : Blocks
 
 -- ---- the giving back after the commit
 
-module _ (log log' : LogState) (values values' : DataState) (pool pool' : Blocks) (victim : ℕ) (moves : List Move) (entries : List Entry) (page : List ℕ) (old new : BoardState) (top : ℕ × Root) (found : Found) (m : Map)
-    (stands : SpaceOnFlash (space_in log values pool moves entries page (GivesBack victim)) old.pages top found m) (log_is : log' ≡ record log { active = log'.active; epoch = log'.epoch }) (job' : JobState) (r : Reclaimed)
+module _ (log log' : LogState) (values values' : DataState) (pool pool' : Blocks) (victim : ℕ) (moves : List Move)
+    (entries : List Entry) (page : List ℕ) (old new : BoardState) (top : ℕ × Root) (found : Found) (m : Map)
+    (stands : SpaceOnFlash (space_in log values pool moves entries page (GivesBack victim)) old.pages top found m)
+    (log_is : log' ≡ record log { active = log'.active; epoch = log'.epoch }) (job' : JobState) (r : Reclaimed)
     (g : GivesVictim victim (job_in log moves entries page (GivesBack victim)) (hands_of values pool log.active log.epoch) old job' (hands_of values' pool' log'.active log'.epoch) new r) where
   abbrev start : Space
   start = space_in log values pool moves entries page (GivesBack victim)
@@ -134,7 +140,8 @@ module _ (log log' : LogState) (values values' : DataState) (pool pool' : Blocks
   log_same = log_is ∙ (λ i. record log { active = parts.active i; epoch = parts.epoch i })
 
   given : ValuesOnFlash log.shape values' pool' [] new.pages (places found []) × (used_by for_values pool'.states + 1 ≡ used_by for_values pool.states)
-  given = victim_given_back log.shape victim (job_in log moves entries page (GivesBack victim)) job' values values' pool pool' log.active log'.active log.epoch log'.epoch old new r (places found []) stands.placed g
+  given = victim_given_back log.shape victim
+      (job_in log moves entries page (GivesBack victim)) job' values values' pool pool' log.active log'.active log.epoch log'.epoch old new r (places found []) stands.placed g
 
   owners_behind : SameOwners pool pool'
   owners_behind = subst (λ (q : Blocks). SameOwners pool q) (sym parts.pool) (owners_given pool victim (stands.placed.outputs_are.owned victim (inl refl)))

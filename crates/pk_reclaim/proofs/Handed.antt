@@ -29,7 +29,8 @@ use Rattle.pk_reclaim.specs.Steps.{ReclaimMoves, Does}
 use Rattle.pk_reclaim.proofs.Stepping.{Somewhere}
 use Rattle.pk_reclaim.proofs.Whole.{Below, Whole, whole}
 
-module _ (log : LogState) (values : DataState) (pool pool' : Blocks) (job job' : JobState) (live' : Values) (front' : Option OpenBlock) (active' : Table) (epoch' : JournalEpoch) (old new : BoardState) where
+module _ (log : LogState) (values : DataState) (pool pool' : Blocks) (job job' : JobState) (live' : Values)
+    (front' : Option OpenBlock) (active' : Table) (epoch' : JournalEpoch) (old new : BoardState) where
   abbrev hands : Hands
   hands = hands_of values pool log.active log.epoch
 

@@ -1,4 +1,4 @@
--- A block that a reclaim holds: it is taken, written, and given back. The open block is closed before.
+-- A block that a reclaim holds: it is taken, written, and freed. The open block is closed before.
 use Rattle.std.proofs.Common.{◌≡◌, ◌≢◌, inl, inr, ℕ, ◌+◌, ◌/◌, ◌≤◌, Bool, true, false, List, [], ◌∷◌, Option, Some, None, refl, sym, ap, subst, ◌∙◌, arith, length-set}
 use Rattle.std.specs.Prelude.{slice_get, slice_set, MatchOption}
 use Rattle.std.proofs.Math.ListN.{set}
@@ -40,7 +40,8 @@ state_of live open_block = record { live = live; open_block = open_block }
 abbrev pub closing : DataState → DataState
 closing d = record { live = record d.live { closed = closed_with d.open_block d.live.closed }; open_block = None }
 
-closed : (shape : Shape) (live : Values) (open_block : Option OpenBlock) (p : Blocks) (outputs : List ℕ) (flash : Flash) (es : List (Key × Place)) → ValuesOnFlash shape (state_of live open_block) p outputs flash es
+closed : (shape : Shape) (live : Values) (open_block : Option OpenBlock) (p : Blocks) (outputs : List ℕ) (flash : Flash) (es : List (Key × Place))
+    → ValuesOnFlash shape (state_of live open_block) p outputs flash es
     → ValuesOnFlash shape (closing (state_of live open_block)) p outputs flash es
 closed shape live None p outputs flash es placed = placed
 closed shape live (Some o) p outputs flash es placed = record {
@@ -81,11 +82,13 @@ closed shape live (Some o) p outputs flash es placed = record {
     set_true : (cs : List Bool) (i : ℕ) (x : Bool) → slice_get cs i ≡ Some x → slice_get (set cs i true) i ≡ Some true
     set_true cs i x is = set_is cs i x true is
 
-pub ValuesOnFlash-closed : (shape : Shape) (d : DataState) (p : Blocks) (outputs : List ℕ) (flash : Flash) (es : List (Key × Place)) → ValuesOnFlash shape d p outputs flash es → ValuesOnFlash shape (closing d) p outputs flash es
+pub ValuesOnFlash-closed : (shape : Shape) (d : DataState) (p : Blocks) (outputs : List ℕ) (flash : Flash) (es : List (Key × Place))
+    → ValuesOnFlash shape d p outputs flash es → ValuesOnFlash shape (closing d) p outputs flash es
 ValuesOnFlash-closed shape d = closed shape d.live d.open_block
 
 -- a victim was chosen
-pub chosen : (shape of_job : Shape) (d d' : DataState) (victim : ℕ) (p : Blocks) (outputs : List ℕ) (flash : Flash) (es : List (Key × Place)) → Chooses of_job d.live d.open_block d'.live d'.open_block victim
+pub chosen : (shape of_job : Shape) (d d' : DataState) (victim : ℕ) (p : Blocks) (outputs : List ℕ) (flash : Flash) (es : List (Key × Place))
+    → Chooses of_job d.live d.open_block d'.live d'.open_block victim
     → ValuesOnFlash shape d p outputs flash es → ValuesOnFlash shape d' p outputs flash es
 chosen shape of_job d d' victim p outputs flash es chooses placed = elim chooses.1 [
   | inl kept ↦ (
@@ -156,7 +159,7 @@ programmed_output shape d p output page bytes flash es placed here =
     (λ k held no_output. page_at-slice_set flash page k (whole bytes) (λ same. no_output (inl (ap (λ x. x / shape.block_pages) same ∙ here))))
     (programmed_pool shape p page bytes flash placed.is_shape placed.shape_is (for_values, subst (λ b. HoldsValues p b) (sym here) (placed.outputs_are.owned output (inl refl))) placed.fits)
 
--- ---- it is given back
+-- ---- it is freed
 
 module _ (shape : Shape) (d : DataState) (p : Blocks) (b : ℕ) (flash : Flash) (es : List (Key × Place)) (placed : ValuesOnFlash shape d p (b ∷ []) flash es) where
   abbrev without_it : Blocks
@@ -174,7 +177,8 @@ module _ (shape : Shape) (d : DataState) (p : Blocks) (b : ℕ) (flash : Flash) 
       let same : Owned for_values ≡ Free = get-set_same p.states b Free (Owned for_values) (subst (λ k. HoldsValues without_it k) e is) in cc in
       (ne, sym (get-set_other p.states b c Free ne) ∙ is)
 
-  open_stays : (open_block : Option OpenBlock) → IsNotOpen open_block b → MatchOption open_block (Unit {0}) (λ o. IsOpenIn shape p flash o) → MatchOption open_block (Unit {0}) (λ o. IsOpenIn shape without_it flash o)
+  open_stays : (open_block : Option OpenBlock) → IsNotOpen open_block b → MatchOption open_block (Unit {0}) (λ o. IsOpenIn shape p flash o)
+      → MatchOption open_block (Unit {0}) (λ o. IsOpenIn shape without_it flash o)
   open_stays None other open_is = tt
   open_stays (Some o) other open_is = record {
     owned = keeps o.block (λ e. other (sym e)) open_is.owned;

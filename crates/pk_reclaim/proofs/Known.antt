@@ -8,7 +8,7 @@ use Rattle.pk_base.specs.Key.{Key, IsKey, key_cmp}
 use Rattle.pk_base.specs.Shape.{Shape, IsShape, limit}
 use Rattle.pk_base.specs.Page.{Page, Flash, IsFlash, page_at}
 use Rattle.pk_base.specs.Entry.{Entry, Place}
-use Rattle.pk_base.specs.EntryBytes.{IsEntry}
+use Rattle.pk_base.specs.EntryChecks.{IsEntry}
 use Rattle.pk_base.specs.Firsts.{firsts}
 use Rattle.pk_base.specs.Map.{Map}
 use Rattle.pk_rootfmt.specs.Root.{Root, named}
@@ -18,7 +18,7 @@ use Rattle.pk_model.specs.Found.{Found, found_under, entries_in_order}
 use Rattle.pk_model.specs.Values.{placed, all_pages}
 use Rattle.pk_model.proofs.Entries.{counting_all, journal_are, meta_are}
 use Rattle.pk_model.proofs.HeldMap.{nothing_fits}
-use Rattle.pk_model.proofs.Lookups.{firsts_sorted, same_key}
+use Rattle.pk_model.proofs.Lookups.{same_key}
 use Rattle.pk_model.proofs.Merges.{placed_sorted}
 use Rattle.pk_model.proofs.ValueSets.{values_sound, fits_parts}
 use Rattle.pk_steps.specs.Under.{IsUnder, counting, places}
@@ -30,6 +30,7 @@ use Rattle.pk_data.specs.State.{DataState}
 use Rattle.pk_data.specs.Placed.{ValuesOnFlash, AreApart as ApartInData}
 use Rattle.pk_data.proofs.Standing.{total_of}
 use Rattle.pk_moves.specs.Moves.{AreApart}
+use Rattle.pk_base.proofs.KeyLemmas.{firsts_sorted}
 
 -- ---- keys
 
@@ -41,14 +42,16 @@ keys_placed shape ((key, Some place) ∷ es) all = (all.0.0, keys_placed shape e
 pub keys_known : (shape : Shape) (flash : Flash) (root : Root) (found : Found) → found_under shape (page_at flash) root ≡ Ok found → AllByRecursion (λ e. IsKey e.0) (places found [])
 keys_known shape flash root found is =
     keys_placed shape (firsts (entries_in_order found []))
-    (counting_all (IsEntry shape) shape (page_at flash) (λ k number index bytes es stands read. journal_are shape number index bytes es read) (λ k level index count bytes es stands read. meta_are shape level index count bytes es read) root found [] is tt)
+    (counting_all (IsEntry shape) shape (page_at flash) (λ k number index bytes es stands read. journal_are shape number index bytes es read)
+    (λ k level index count bytes es stands read. meta_are shape level index count bytes es read) root found [] is tt)
 
 pub rising_known : (found : Found) → T (is_sorted key_cmp (places found []))
 rising_known found = placed_sorted (counting found []) (firsts_sorted (entries_in_order found []))
 
 -- ---- values
 
-value_known : (shape : Shape) (at : ℕ → Page) (key : Key) (place : Place) (es : List (Key × Place)) (vs : List (Key × List ℕ)) → AllZip (λ e v. (v.0 ≡ e.0) × (value_at shape at e.0 e.1 ≡ Ok v.1)) es vs
+value_known : (shape : Shape) (at : ℕ → Page) (key : Key) (place : Place) (es : List (Key × Place)) (vs : List (Key × List ℕ))
+    → AllZip (λ e v. (v.0 ≡ e.0) × (value_at shape at e.0 e.1 ≡ Ok v.1)) es vs
     → find key_cmp key es ≡ Some place → (v : List ℕ) × (value_at shape at key place ≡ Ok v)
 value_known shape at key place [] vs all found = cc
 value_known shape at key place (e ∷ es) [] all found = absurd all
@@ -64,7 +67,8 @@ module _ (shape : Shape) (flash : Flash) (top : ℕ × Root) (found : Found) (m 
   pub values_known : (key : Key) (place : Place) → find key_cmp key (places found []) ≡ Some place → (v : List ℕ) × (value_at shape (page_at flash) key place ≡ Ok v)
   values_known key place is =
       let values = values_under shape flash [] top.1 found m under.is_map in
-      value_known shape (page_at flash) key place (places found []) values.values (values_sound shape (named top.1) (page_at flash) (places found []) values.values (nothing_fits shape (named top.1)) values.read).read is
+      value_known shape (page_at flash) key place (places found []) values.values
+      (values_sound shape (named top.1) (page_at flash) (places found []) values.values (nothing_fits shape (named top.1)) values.read).read is
 
   pub pages_few : length (all_pages shape (places found [])) ≤ limit shape
   pages_few =
@@ -76,14 +80,16 @@ module _ (shape : Shape) (flash : Flash) (top : ℕ × Root) (found : Found) (m 
   live_few d pool outputs placed = subst (λ (n : ℕ). n ≤ limit shape) (sym (total_of shape d pool outputs flash (places found []) placed)) pages_few
 
 -- one map has as many keys, wherever its values are
-pub as_many_known : (shape : Shape) (old new : Flash) (top : ℕ × Root) (found then_found : Found) (m : Map) → IsShape shape → IsFlash shape old → IsFlash shape new → IsUnder shape old [] top found m → IsUnder shape new [] top then_found m
+pub as_many_known : (shape : Shape) (old new : Flash) (top : ℕ × Root) (found then_found : Found) (m : Map) → IsShape shape
+    → IsFlash shape old → IsFlash shape new → IsUnder shape old [] top found m → IsUnder shape new [] top then_found m
     → length (places then_found []) ≡ length (places found [])
 as_many_known shape old new top found then_found m is_shape is_old is_new was now =
     sym (counts shape new [] top then_found m is_shape is_new now).len_is ∙ (counts shape old [] top found m is_shape is_old was).len_is
 
 -- ---- the live map
 
-pub heads_known : (shape : Shape) (d : DataState) (pool : Blocks) (outputs : List ℕ) (flash : Flash) (es : List (Key × Place)) → ValuesOnFlash shape d pool outputs flash es → (k : ℕ) → slice_index d.live.heads k ≡ head_of shape es k
+pub heads_known : (shape : Shape) (d : DataState) (pool : Blocks) (outputs : List ℕ) (flash : Flash) (es : List (Key × Place))
+    → ValuesOnFlash shape d pool outputs flash es → (k : ℕ) → slice_index d.live.heads k ≡ head_of shape es k
 heads_known shape d pool outputs flash es placed k = ap (λ (hs : List ℕ). slice_index hs k) placed.heads_are ∙ heads_read shape placed.is_shape es k placed.places
 
 pub apart_known : (shape : Shape) (es : List (Key × Place)) → ApartInData shape es → AreApart shape es

@@ -68,7 +68,7 @@ module _ (pool : Blocks) (b : ℕ) (s t : BlockState) (here : slice_get pool.sta
     none_leaves = none_leaves_then stays;
   }
 
--- a spare block is taken for values, or one of values given back
+-- a spare block is taken for values, or one of values freed
 pub owners_taken : (pool : Blocks) (b : ℕ) → IsSpare pool b → SameOwners pool (with_state pool b (Owned for_values))
 owners_taken pool b (inl free) = owners_set pool b Free (Owned for_values) free refl refl refl refl refl
 owners_taken pool b (inr ready) = owners_set pool b Ready (Owned for_values) ready refl refl refl refl refl

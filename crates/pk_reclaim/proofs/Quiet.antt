@@ -1,4 +1,4 @@
--- A block that is for nobody but values, and of which no value is read: what becomes of it leaves map and log.
+-- A block that only values may use, and of which no value is read: whatever happens to it does not change map and log.
 use Rattle.std.proofs.Common.{◌≡◌, inl, inr, ℕ, ◌*◌, ◌/◌, ◌<◌, ◌≤◌, refl, sym, ap, subst, ◌∙◌, arith, List, [], ◌++◌, Some, div-lt_iff_lt-mul}
 use Rattle.std.specs.Prelude.{slice_get}
 use Rattle.std.specs.List.{concat}
@@ -10,7 +10,8 @@ use Rattle.pk_base.proofs.ShapeLemmas.{block_pages_positive}
 use Rattle.pk_plan.specs.declared.owner.Owner.TheVariants.{Journal, Meta}
 use Rattle.pk_nand.specs.BoardState.{BoardState, shape_or_none}
 use Rattle.pk_nand.specs.Cut.{Interrupted, Touches}
-use Rattle.pk_nand.specs.Calls.{after_program, after_erase, ProgramFailed, EraseFailed}
+use Rattle.pk_nand.specs.Calls.{after_program, ProgramFailed}
+use Rattle.pk_nand.specs.Operations.{after_erase, EraseFailed}
 use Rattle.pk_nand.proofs.Touching.{untouched, untouched_after, partner_block}
 use Rattle.pk_rootfmt.specs.Root.{Root, named}
 use Rattle.pk_pool.specs.declared.state.BlockState.TheVariants.{Owned}
@@ -131,10 +132,13 @@ module _ {log : LogState} {pool : Blocks} {old : BoardState} {top : ℕ × Root}
     in_programmed k (inr partner) = sym (partner_block shape at k partner) ∙ here
 
     pub program_quiet : (new : BoardState) → new ≡ after_program old at bytes → SameBut new.pages
-    program_quiet new made = subst (λ (s : BoardState). SameBut s.pages) (sym made) (subst (λ (s : Shape). SameBut (after s (program at bytes) old.pages)) (sym (ap shape_or_none q.has)) (done (program at bytes) in_programmed))
+    program_quiet new made = subst (λ (s : BoardState). SameBut s.pages) (sym made)
+        (subst (λ (s : Shape). SameBut (after s (program at bytes) old.pages)) (sym (ap shape_or_none q.has)) (done (program at bytes) in_programmed))
 
     pub program_reaches : (new : BoardState) → new ≡ after_program old at bytes → Reaches shape old new Finds
-    program_reaches new made = Reaches-program shape old Finds q.has at bytes (λ f cut. finds f (within (program at bytes) in_programmed f cut)) (grows _ (done (program at bytes) in_programmed)) new made
+    program_reaches new made = Reaches-program shape old Finds q.has at bytes
+        (λ f cut. finds f (within (program at bytes) in_programmed f cut)) (grows _ (done (program at bytes) in_programmed)) new made
 
     pub program_goes : (new : BoardState) → ProgramFailed old new at bytes → Goes shape old new Finds
-    program_goes new failed = Goes-program shape old Finds q.has at bytes (λ f cut. finds f (within (program at bytes) in_programmed f cut)) (grows _ (done (program at bytes) in_programmed)) new failed
+    program_goes new failed = Goes-program shape old Finds q.has at bytes
+        (λ f cut. finds f (within (program at bytes) in_programmed f cut)) (grows _ (done (program at bytes) in_programmed)) new failed

@@ -13,7 +13,6 @@ use Rattle.pk_buf.specs.Table.{Table}
 use Rattle.pk_pool.specs.Blocks.{Blocks, used_by}
 use Rattle.pk_rootfmt.specs.Root.{Root}
 use Rattle.pk_model.specs.Found.{Found}
-use Rattle.pk_model.proofs.Lookups.{firsts_sorted}
 use Rattle.pk_steps.specs.Under.{places}
 use Rattle.pk_live.specs.Lives.{head_of}
 use Rattle.pk_gc.specs.declared.course.Course.{Course}
@@ -35,14 +34,17 @@ use Rattle.pk_reclaim.specs.Hands.{hands_of}
 use Rattle.pk_log.specs.State.{LogState}
 use Rattle.pk_reclaim.specs.Space.{Space, SpaceOnFlash, MayReclaim, IsTurn, space}
 use Rattle.pk_reclaim.proofs.Known.{keys_known, rising_known, values_known, live_few, heads_known, apart_known}
+use Rattle.pk_base.proofs.KeyLemmas.{firsts_sorted}
 
 -- ---- the open block
 
-open_held : (shape : Shape) (pool : Blocks) (flash : Flash) (o : Option OpenBlock) → MatchOption o (Unit {0}) (λ x. IsOpenIn shape pool flash x) → MatchOption o (Unit {0}) (λ x. HoldsValues pool x.block)
+open_held : (shape : Shape) (pool : Blocks) (flash : Flash) (o : Option OpenBlock)
+    → MatchOption o (Unit {0}) (λ x. IsOpenIn shape pool flash x) → MatchOption o (Unit {0}) (λ x. HoldsValues pool x.block)
 open_held shape pool flash None is = tt
 open_held shape pool flash (Some o) is = is.owned
 
-open_below : (shape : Shape) (pool : Blocks) (flash : Flash) (n : ℕ) (o : Option OpenBlock) → n ≡ shape.blocks → MatchOption o (Unit {0}) (λ x. IsOpenIn shape pool flash x) → MatchOption o (Unit {0}) (λ x. x.block < n)
+open_below : (shape : Shape) (pool : Blocks) (flash : Flash) (n : ℕ) (o : Option OpenBlock) → n ≡ shape.blocks
+    → MatchOption o (Unit {0}) (λ x. IsOpenIn shape pool flash x) → MatchOption o (Unit {0}) (λ x. x.block < n)
 open_below shape pool flash n None size is = tt
 open_below shape pool flash n (Some o) size is = let exists = is.exists in omega (arith, exists, size)
 
@@ -130,7 +132,8 @@ module _ (log : LogState) (values : DataState) (pool : Blocks) (moves : List Mov
       es = es;
       runs = stands.reclaim.stands.runs;
       no_half = stands.half;
-      next = λ whole at low high live dead. next_is_value log.shape c moves page values.live.heads flash es at stands.reclaim.stands.runs (are_held is_flash) stands.reclaim.stands.sparse whole low high live dead;
+      next = λ whole at low high live dead. next_is_value log.shape c moves page values.live.heads flash es at stands.reclaim.stands.runs
+          (are_held is_flash) stands.reclaim.stands.sparse whole low high live dead;
       end = λ whole dead. gives_up log.shape c (job (Copies c)) hands flash es (can_give whole dead);
     }
 

@@ -1,4 +1,4 @@
--- A closed block without live pages is given back.
+-- A closed block without live pages is freed.
 use Rattle.std.proofs.Common.{◌≡◌, ◌≢◌, ℕ, ◌/◌, ◌<◌, true, false, not, ◌==◌, Bool, List, Option, Some, None, sym, ap, subst, ◌∙◌, arith, length-set}
 use Rattle.std.specs.Prelude.{slice_get, MatchOption}
 use Rattle.std.proofs.Math.ListN.{set}
@@ -29,7 +29,8 @@ use Rattle.pk_data.proofs.Opening.{any_block}
 abbrev with_closed : DataState → List Bool → DataState
 with_closed d closed = record d { live = record d.live { closed = closed } }
 
-module _ (shape : Shape) (d : DataState) (p : Blocks) (outputs : List ℕ) (flash : Flash) (es : List (Key × Place)) (b : ℕ) (placed : ValuesOnFlash shape d p outputs flash es) (closed : IsClosed d.live b) where
+module _ (shape : Shape) (d : DataState) (p : Blocks) (outputs : List ℕ) (flash : Flash) (es : List (Key × Place))
+    (b : ℕ) (placed : ValuesOnFlash shape d p outputs flash es) (closed : IsClosed d.live b) where
   abbrev then_pool : Blocks
   then_pool = with_state p b Free
 
@@ -56,7 +57,8 @@ module _ (shape : Shape) (d : DataState) (p : Blocks) (outputs : List ℕ) (flas
       let clash : true ≡ false = unused ∙ ap not used in
       cc
 
-  open_stays : (open_block : Option OpenBlock) → IsNotOpen open_block b → MatchOption open_block (Unit {0}) (λ o. IsOpenIn shape p flash o) → MatchOption open_block (Unit {0}) (λ o. IsOpenIn shape then_pool flash o)
+  open_stays : (open_block : Option OpenBlock) → IsNotOpen open_block b → MatchOption open_block (Unit {0}) (λ o. IsOpenIn shape p flash o)
+      → MatchOption open_block (Unit {0}) (λ o. IsOpenIn shape then_pool flash o)
   open_stays None other open_is = tt
   open_stays (Some o) other open_is = record {
     owned = kept o.block (λ e. other (sym e)) open_is.owned;

@@ -11,7 +11,7 @@ use Rattle.pk_base.specs.Key.{Key, key_cmp}
 use Rattle.pk_base.specs.Shape.{Shape, IsShape, charge}
 use Rattle.pk_base.specs.Page.{Flash, page_at}
 use Rattle.pk_base.specs.Entry.{Place}
-use Rattle.pk_base.specs.EntryBytes.{IsPlace}
+use Rattle.pk_base.specs.EntryChecks.{IsPlace}
 use Rattle.pk_pool.specs.Blocks.{Blocks, PoolOnFlash}
 use Rattle.pk_pool.proofs.States.{get-set_other, get-set_same, set_is}
 use Rattle.pk_pool.proofs.Fitting.{block_of}
@@ -68,8 +68,12 @@ module _ (shape : Shape) (is_shape : IsShape shape) (victim output : ℕ) (other
           let pages : x.from ≡ m.from = sym was.2 ∙ (ap (λ (p : Place). p.page) one ∙ from) in
           let some = of_m.some in
           let above = order.0 in
-          omega (arith, pages, some, above) in
-          (was.0, find-put key_cmp key_total x.key m.key (new_place m) es ∙ not_tied (Some (new_place m)) (find key_cmp x.key es) (Some was.0) (eq_by_cmp key_cmp x.key m.key) (λ tied. apart (same_key x.key m.key tied)) was.1, was.2);
+          omega (arith, pages, some, above) in (
+            was.0,
+            find-put key_cmp key_total x.key m.key (new_place m) es
+                ∙ not_tied (Some (new_place m)) (find key_cmp x.key es) (Some was.0) (eq_by_cmp key_cmp x.key m.key) (λ tied. apart (same_key x.key m.key tied)) was.1,
+            was.2,
+          );
     },
     later heads es m old ms found from of_m blocks.1 order.1 are.1,
   )
@@ -114,7 +118,8 @@ both : (o : Option OpenBlock) (b c : ℕ) → IsOpenAt o b → IsNotOpen o c →
 both None b c here other same = absurd here
 both (Some o) b c here other same = other (sym same ∙ here)
 
-open_owned : (shape : Shape) (p : Blocks) (flash : Flash) (o : Option OpenBlock) (b : ℕ) → MatchOption o (Unit {0}) (λ x. IsOpenIn shape p flash x) → IsOpenAt o b → HoldsValues p b × (b < shape.blocks)
+open_owned : (shape : Shape) (p : Blocks) (flash : Flash) (o : Option OpenBlock) (b : ℕ)
+    → MatchOption o (Unit {0}) (λ x. IsOpenIn shape p flash x) → IsOpenAt o b → HoldsValues p b × (b < shape.blocks)
 open_owned shape p flash None b open_is here = absurd here
 open_owned shape p flash (Some o) b open_is here = (subst (λ k. HoldsValues p k) (sym here) open_is.owned, subst (λ k. k < shape.blocks) (sym here) open_is.exists)
 
@@ -146,7 +151,8 @@ relocated c moves d = record {
   open_block = Some (record { block = c.output; used = c.used });
 }
 
-module _ (shape : Shape) (c : Course) (job : JobState) (d : DataState) (h : Hands) (p : Blocks) (flash new : Flash) (es : List (Key × Place)) (placed : ValuesOnFlash shape d p (c.output ∷ []) flash es)
+module _ (shape : Shape) (c : Course) (job : JobState) (d : DataState) (h : Hands) (p : Blocks)
+    (flash new : Flash) (es : List (Key × Place)) (placed : ValuesOnFlash shape d p (c.output ∷ []) flash es)
     (give : CanGive shape c job h flash es) (live_is : h.live ≡ d.live) where
   runs : IsRunning shape c job.moves job.page flash es
   runs = give.copied.runs
@@ -194,7 +200,8 @@ module _ (shape : Shape) (c : Course) (job : JobState) (d : DataState) (h : Hand
 
   live : AreLive shape (heads_all d.live.heads job.moves) (moved (placed_at (left_of d.live.heads job.moves)) es)
   live =
-      all_live shape runs.is_shape c.victim c.output runs.other d.live.heads es job.moves (record { places = placed.places; apart = placed.apart; heads_are = placed.heads_are }) give.copied.rising blocks runs.order
+      all_live shape runs.is_shape c.victim c.output runs.other d.live.heads es job.moves
+      (record { places = placed.places; apart = placed.apart; heads_are = placed.heads_are }) give.copied.rising blocks runs.order
       (relocations job.moves runs.moves_are) runs.apart (λ k here there. runs.free k (copied_page job.moves k runs.moves_are here).block there)
 
   -- a page of a value is in the output, or where it lay
@@ -216,7 +223,8 @@ module _ (shape : Shape) (c : Course) (job : JobState) (d : DataState) (h : Hand
   not_output : IsNotOpen d.open_block c.output
   not_output = placed.outputs_are.not_open c.output (inl refl)
 
-  pub ValuesOnFlash-relocated : SameValues shape p [] flash new → PoolOnFlash p new → ValuesOnFlash shape (relocated c job.moves d) p (c.victim ∷ []) new (moved (placed_at (left_of d.live.heads job.moves)) es)
+  pub ValuesOnFlash-relocated : SameValues shape p [] flash new → PoolOnFlash p new
+      → ValuesOnFlash shape (relocated c job.moves d) p (c.victim ∷ []) new (moved (placed_at (left_of d.live.heads job.moves)) es)
   ValuesOnFlash-relocated same fits = record {
     is_shape = placed.is_shape;
     shape_is = placed.shape_is;

@@ -80,10 +80,12 @@ module _ (log : LogState) (values : DataState) (pool : Blocks) (victim : ℕ) (m
   second_high = let low = high before old.pages top found m stands index inside in omega (arith, low, first_is)
 
   second_newest : AnyByRecursion (λ b. second / shape.block_pages ≡ b) top.1.newest
-  second_newest = subst (λ (k : ℕ). AnyByRecursion (λ b. k / shape.block_pages ≡ b) top.1.newest) first_is (in_newest before old.pages top found m stands index inside (first + 1) (omega arith) (omega arith))
+  second_newest = subst (λ (k : ℕ). AnyByRecursion (λ b. k / shape.block_pages ≡ b) top.1.newest) first_is
+      (in_newest before old.pages top found m stands index inside (first + 1) (omega arith) (omega arith))
 
   second_journal : slice_get pool.states (second / shape.block_pages) ≡ Some (Owned Journal)
-  second_journal = subst (λ (k : ℕ). slice_get pool.states (k / shape.block_pages) ≡ Some (Owned Journal)) first_is (for_journal before old.pages top found m stands index inside (first + 1) (omega arith) (omega arith))
+  second_journal = subst (λ (k : ℕ). slice_get pool.states (k / shape.block_pages) ≡ Some (Owned Journal)) first_is
+      (for_journal before old.pages top found m stands index inside (first + 1) (omega arith) (omega arith))
 
   -- ---- the program failed
 
@@ -109,7 +111,8 @@ module _ (log : LogState) (values : DataState) (pool : Blocks) (victim : ℕ) (m
 
     made : MovesStand shape old top half.was m half.moves new
     made =
-        commit_ends shape old new half.former top half.was m half.moves half.blocks log.epoch log'.epoch ready half.half (subst (λ (es : List Entry). EndsCommit log.epoch es old log'.epoch new) half.entries_are g.ends)
+        commit_ends shape old new half.former top half.was m half.moves half.blocks log.epoch log'.epoch ready half.half
+        (subst (λ (es : List Entry). EndsCommit log.epoch es old log'.epoch new) half.entries_are g.ends)
 
     under : IsUnder shape new.pages [] top found m
     under = subst (λ (f : Found). IsUnder shape new.pages [] top f m) (sym half.found_is) made.under
@@ -147,7 +150,8 @@ module _ (log : LogState) (values : DataState) (pool : Blocks) (victim : ℕ) (m
         let clash : Some (Owned for_values) ≡ Some (Owned Journal) = sym held ∙ (ap (λ (x : ℕ). slice_get pool.states (x / shape.block_pages)) here ∙ second_journal) in cc)
 
     fits : PoolOnFlash pool new.pages
-    fits = subst (λ (f : Flash). PoolOnFlash pool f) (sym pages_are) (programmed_pool shape pool second bytes old.pages stands.placed.is_shape stands.placed.shape_is (Journal, second_journal) stands.placed.fits)
+    fits = subst (λ (f : Flash). PoolOnFlash pool f) (sym pages_are)
+        (programmed_pool shape pool second bytes old.pages stands.placed.is_shape stands.placed.shape_is (Journal, second_journal) stands.placed.fits)
 
     placed : ValuesOnFlash shape values pool (victim ∷ []) new.pages (places found [])
     placed = flash_elsewhere shape values pool (victim ∷ []) old.pages new.pages (places found []) stands.placed same_values fits
@@ -207,7 +211,8 @@ module _ (log : LogState) (values : DataState) (pool : Blocks) (victim : ℕ) (m
 -- ---- by what the step did
 
 -- it is the one program, also if it fails, and no page is read
-pub repeats_in : (phase : Phase) (job job' : JobState) (h h' : Hands) (old new : BoardState) (r : Result Reclaimed Fault) → IfOk r (λ x. StepsIn phase job h old job' h' new x) → IfErr r (λ e. BreaksIn phase job h old new e)
+pub repeats_in : (phase : Phase) (job job' : JobState) (h h' : Hands) (old new : BoardState) (r : Result Reclaimed Fault)
+    → IfOk r (λ x. StepsIn phase job h old job' h' new x) → IfErr r (λ e. BreaksIn phase job h old new e)
     → RepeatsIn phase old new r
 repeats_in Idle job job' h h' old new r steps breaks = tt
 repeats_in (Copies c) job job' h h' old new r steps breaks = tt

@@ -52,7 +52,8 @@ tight_if active k most cap (suc left) none few = elim (cases_lt cap (active + k)
 ]
 
 -- if the moves have no room, the active buffer or the epoch is tight
-pub tight_known : (shape : Shape) (active : Table) (e : JournalEpoch) (heads : List ℕ) (ms : List Move) → active.capacity ≡ buffer shape → length ms ≤ dense shape → (MovesHaveRoom active e (entries_left heads ms) → ⊥)
+pub tight_known : (shape : Shape) (active : Table) (e : JournalEpoch) (heads : List ℕ) (ms : List Move)
+    → active.capacity ≡ buffer shape → length ms ≤ dense shape → (MovesHaveRoom active e (entries_left heads ms) → ⊥)
     → is_tight shape (length active.entries) (left_of e) ≡ true
 tight_known shape active e heads ms capacity few none =
     let least = entries_few heads ms in

@@ -82,7 +82,8 @@ module _ (log log' : LogState) (values values' : DataState) (pool pool' : Blocks
   }
   kept_in (GivesBack victim) r g = same_kept (ap (λ (h : Hands). h.active) g.hands) (ap (λ (h : Hands). h.epoch) g.hands)
 
-  pub keeps_log : (phase : Phase) (r : Reclaimed) → log' ≡ record log { active = log'.active; epoch = log'.epoch } → StepsIn phase (job_in log moves entries page phase) hands old job' hands' new r → KeepsLog (before phase) after
+  pub keeps_log : (phase : Phase) (r : Reclaimed) → log' ≡ record log { active = log'.active; epoch = log'.epoch }
+      → StepsIn phase (job_in log moves entries page phase) hands old job' hands' new r → KeepsLog (before phase) after
   keeps_log phase r log_is steps = let kept = kept_in phase r steps in log_is ∙ (λ i. record log { active = kept.active i; epoch = kept.epoch i })
 
   -- ---- the board
@@ -123,9 +124,11 @@ module _ (log log' : LogState) (values values' : DataState) (pool pool' : Blocks
     roots_in (Copies c) e s (inl read) =
         roots_low log.shape old new ready (ap (λ (b : BoardState). b.shape) read.failed.rest) (λ k low. ap (λ (b : BoardState). page_at b.pages k) read.failed.rest)
     roots_in (Copies c) e s (inr (inl copy)) = copy_roots log values pool moves entries page old new s.top s.found s.m ready c s.may.stands e copy
-    roots_in (Copies c) e s (inr (inr commit)) = commit_roots log values pool moves entries page old new s.top s.found s.m ready c s.may.stands commit.adds.room.1 (next_bytes log.epoch (entries_left values.live.heads moves)) commit.adds.fails.failed
+    roots_in (Copies c) e s (inr (inr commit)) = commit_roots log values pool moves entries page old new s.top s.found s.m ready c s.may.stands commit.adds.room.1
+        (next_bytes log.epoch (entries_left values.live.heads moves)) commit.adds.fails.failed
     roots_in (Commits victim) e s b =
-        program_low log.shape old new (next_page (before_half log.epoch) + 1) (last_bytes log.epoch entries) ready (second_high log values pool victim moves entries page old s.top s.found s.m ready s.may.stands) b.1.failed
+        program_low log.shape old new (next_page (before_half log.epoch) + 1) (last_bytes log.epoch entries) ready
+        (second_high log values pool victim moves entries page old s.top s.found s.m ready s.may.stands) b.1.failed
     roots_in (GivesBack victim) e s b = absurd b
 
     reading_stops : {X : Type 0} → Reading ≡ Stopped → X
@@ -154,7 +157,8 @@ module _ (log log' : LogState) (values values' : DataState) (pool pool' : Blocks
     stopped_reads : {X : Type 0} → Stopped ≡ Reading → X
     stopped_reads e = cc
 
-    unread_copy : (c : Course) → FailsToRead c old new Reading → log' ≡ log → values' ≡ values → pool' ≡ pool → job' ≡ job_in log moves entries job'.page (Copies c) → Unread (before (Copies c)) old after new
+    unread_copy : (c : Course) → FailsToRead c old new Reading → log' ≡ log → values' ≡ values → pool' ≡ pool
+        → job' ≡ job_in log moves entries job'.page (Copies c) → Unread (before (Copies c)) old after new
     unread_copy c read l v q j =
         let then = space_in log values pool moves entries job'.page (Copies c) in
         let same : after ≡ then = λ i. space (l i) (v i) (q i) (j i) in
@@ -166,7 +170,8 @@ module _ (log log' : LogState) (values values' : DataState) (pool pool' : Blocks
           flash = read.failed.flash;
         })
 
-    pub unread_in : (phase : Phase) → BreaksIn phase (job_in log moves entries page phase) hands old new Reading → log' ≡ log → values' ≡ values → pool' ≡ pool → job' ≡ job_in log moves entries job'.page phase → Unread (before phase) old after new
+    pub unread_in : (phase : Phase) → BreaksIn phase (job_in log moves entries page phase) hands old new Reading → log' ≡ log
+        → values' ≡ values → pool' ≡ pool → job' ≡ job_in log moves entries job'.page phase → Unread (before phase) old after new
     unread_in Idle b l v q j = stopped_reads (sym b.0)
     unread_in (Copies c) (inl read) l v q j = unread_copy c read l v q j
     unread_in (Copies c) (inr (inl copy)) l v q j = stopped_reads (sym copy.fault)

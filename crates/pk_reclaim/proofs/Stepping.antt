@@ -65,7 +65,8 @@ module _ (log log' : LogState) (values values' : DataState) (pool pool' : Blocks
   can phase s = can_step_in log values pool moves entries page old.pages s.top s.found s.m phase ready.flash s.may
 
   -- less remains
-  falls : (phase : Phase) (r : Reclaimed) → Somewhere (before phase) old → StepsIn phase (job_in log moves entries page phase) hands old job' hands' new r → r ≢ NeedsFreeze → Falls (before phase) after
+  falls : (phase : Phase) (r : Reclaimed) → Somewhere (before phase) old
+      → StepsIn phase (job_in log moves entries page phase) hands old job' hands' new r → r ≢ NeedsFreeze → Falls (before phase) after
   falls phase r s steps other =
       let less = step_lowers (job_in log moves entries page phase) hands old job' hands' new r (can phase s) steps other in
       let same : log'.shape ≡ job'.shape = ap (λ (l : LogState). l.shape) log_is ∙ sym job_shape in
@@ -109,7 +110,8 @@ module _ (log log' : LogState) (values values' : DataState) (pool pool' : Blocks
       ⊎ (ReadsNext c (job_in log moves entries page (Copies c)) old job' new ⊎ BeginsValue c (job_in log moves entries page (Copies c)) hands old job' new)
 
   module _ (c : Course) (s : Somewhere (before (Copies c)) old) where
-    copy_moves : Copied c → (top : ℕ × Root) (found : Found) (m : Map) → MayReclaim (before (Copies c)) old.pages top found m → SpaceMoves (before (Copies c)) old top found m (space log values pool job') new
+    copy_moves : Copied c → (top : ℕ × Root) (found : Found) (m : Map) → MayReclaim (before (Copies c)) old.pages top found m
+        → SpaceMoves (before (Copies c)) old top found m (space log values pool job') new
     copy_moves (inl p) top found m may = program_moves log values pool c moves entries page old new top found m ready may.stands job' p
     copy_moves (inr (inl r)) top found m may = read_moves log values pool c moves entries page old new top found m ready may.stands job' r
     copy_moves (inr (inr b)) top found m may = begin_moves log values pool c moves entries page old new top found m ready may.stands job' b
@@ -192,11 +194,12 @@ module _ (log log' : LogState) (values values' : DataState) (pool pool' : Blocks
         falls = falls (Commits victim) Worked s steps worked_needs;
         runs = ap runs_in phase;
         log = subst (λ (p : Phase). LogIn p (before (Commits victim)) after) (sym phase) tt;
-        room = subst (λ (p : Phase). RoomIn p after) (sym phase) (repeat_room log values pool victim moves entries page old s.top s.found s.m ready s.may.stands log' values' pool' job' new r log_is g);
+        room = subst (λ (p : Phase). RoomIn p after) (sym phase)
+            (repeat_room log values pool victim moves entries page old s.top s.found s.m ready s.may.stands log' values' pool' job' new r log_is g);
         pair = repeat_whole log values pool victim moves entries page old s.top s.found s.m ready s.may.stands log' values' pool' job' new r log_is g;
       })
 
-  -- ---- a victim is given back
+  -- ---- a victim is freed
 
   gives_does : (victim : ℕ) (r : Reclaimed) → Somewhere (before (GivesBack victim)) old → StepsIn (GivesBack victim) (job_in log moves entries page (GivesBack victim)) hands old job' hands' new r
       → Does (before (GivesBack victim)) old after new r

@@ -23,7 +23,12 @@ pub record IsStill (old new : BoardState) : Type 0 where
   pub posted : new.posted ≡ old.posted
 
 pub still_same : (old new : BoardState) → new ≡ old → IsStill old new
-still_same old new same = record { shape = ap (λ (s : BoardState). s.shape) same; pages = ap (λ (s : BoardState). s.pages) same; trail = ap (λ (s : BoardState). s.trail) same; posted = ap (λ (s : BoardState). s.posted) same }
+still_same old new same = record {
+  shape = ap (λ (s : BoardState). s.shape) same;
+  pages = ap (λ (s : BoardState). s.pages) same;
+  trail = ap (λ (s : BoardState). s.trail) same;
+  posted = ap (λ (s : BoardState). s.posted) same;
+}
 
 still_in : (p : Phase) (found : Found) → StillIn p found found.newest
 still_in Idle found = tt
@@ -43,7 +48,12 @@ still_moves x x' old new top found m still was owners stands = record {
   as_many = refl;
   stands = stands;
   others = others_kept x.log.shape top.1 x.pool old.pages x'.pool new.pages owners (λ k low. same k) (λ k owned. same k) (λ k owned other. same k);
-  cuts = ([], Reached-start old new (CrashFinds x.log.shape background old.pages m) still.shape still.pages still.trail still.posted (refl, under_reads x.log.shape old.pages [] top found m was.under), tt);
+  cuts = (
+    [],
+    Reached-start old new (CrashFinds x.log.shape background old.pages m) still.shape still.pages still.trail still.posted
+        (refl, under_reads x.log.shape old.pages [] top found m was.under),
+    tt,
+  );
 }
   where
     same : (k : ℕ) → page_at new.pages k ≡ page_at old.pages k

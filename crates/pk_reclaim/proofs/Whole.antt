@@ -35,7 +35,8 @@ same_answer a b e = cc
 other_answer : {X : Type 0} (r : Reclaimed) (e : Fault) → ◌≡◌ {A = Result Reclaimed Fault} (Ok r) (Err e) → X
 other_answer r e is = cc
 
-pub can_step : (log : LogState) (values : DataState) (pool : Blocks) (job : JobState) (old : BoardState) → IsReady old log.shape → Somewhere (space log values pool job) old → CanStep job (hands_of values pool log.active log.epoch) old.pages
+pub can_step : (log : LogState) (values : DataState) (pool : Blocks) (job : JobState) (old : BoardState) → IsReady old log.shape
+    → Somewhere (space log values pool job) old → CanStep job (hands_of values pool log.active log.epoch) old.pages
 can_step log values pool job old ready s =
     let P : JobState → Type 0 = λ j. Somewhere (space log values pool j) old → CanStep j (hands_of values pool log.active log.epoch) old.pages in
     subst P (sym (job_is log job s.may.stands.reclaim.shape_is)) (λ t. can_step_in log values pool job.moves job.entries job.page old.pages t.top t.found t.m job.phase ready.flash t.may) s

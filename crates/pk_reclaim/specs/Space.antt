@@ -94,6 +94,6 @@ left_before x = left_of (whole_reclaim x.log.shape - 2) (left_in x.log.shape x.v
 abbrev pub left_behind : Space → ℕ
 left_behind x = unwrap_or (left_in x.log.shape x.values.live.heads x.job.phase) 0
 
--- less remains, if a block that is taken counts twice
+-- less remains; a block that is taken counts twice
 abbrev pub Falls : Space → Space → Type 0
 Falls x x' = Lowers (left_before x) (unready x.pool.states) (left_behind x') (unready x'.pool.states)

@@ -130,7 +130,7 @@ RoomBehind (Copies c) x x' = HasRoom x'
 RoomBehind (Commits victim) x x' = ⊥
 RoomBehind (GivesBack victim) x x' = (x'.log ≡ x.log) × (x'.values ≡ x.values)
 
--- A block was given back, and no reclaim runs now.
+-- A block was freed, and no reclaim runs now.
 pub record SpaceReclaimEnded (x : Space) (old : BoardState) (x' : Space) (new : BoardState) : Type 0 where
   pub moves : ReclaimMoves x old x' new
   pub falls : Falls x x'

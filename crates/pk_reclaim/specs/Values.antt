@@ -29,7 +29,7 @@ OutputTaken =
     → (s : Starts job d.live d.open_block p old job' d'.live d'.open_block q new)
     → ValuesOnFlash shape d' q (s.output ∷ []) new.pages es × (used_by for_values q.states ≡ used_by for_values p.states + 1)
 
--- A victim without live pages was given back.
+-- A victim without live pages was freed.
 abbrev pub DeadGivenBack : Type 0
 DeadGivenBack =
     (shape : Shape) (job job' : JobState) (d d' : DataState) (p q : Blocks) (old new : BoardState) (es : List (Key × Place)) → ValuesOnFlash shape d p [] old.pages es
@@ -52,7 +52,7 @@ MovesPlaced =
     → slice_get p.states (next_page epoch / shape.block_pages) ≡ Some (Owned Journal)
     → ValuesOnFlash shape d' q (c.victim ∷ []) new.pages (moved (placed_at (left_of d.live.heads job.moves)) es)
 
--- No move remained: the output is the open block, and the victim was given back.
+-- No move remained: the output is the open block, and the victim was freed.
 abbrev pub EndPlaced : Type 0
 EndPlaced =
     (shape : Shape) (c : Course) (job job' : JobState) (d d' : DataState) (p q : Blocks) (active active' : Table) (epoch epoch' : JournalEpoch) (old new : BoardState) (es : List (Key × Place))
@@ -60,7 +60,7 @@ EndPlaced =
     → EndsWithout c job (hands_of d p active epoch) old job' (hands_of d' q active' epoch') new
     → ValuesOnFlash shape d' q [] new.pages es × (used_by for_values q.states + 1 ≡ used_by for_values p.states)
 
--- The victim was given back.
+-- The victim was freed.
 abbrev pub VictimGivenBack : Type 0
 VictimGivenBack =
     (shape : Shape) (victim : ℕ) (job job' : JobState) (d d' : DataState) (p q : Blocks) (active active' : Table) (epoch epoch' : JournalEpoch) (old new : BoardState) (r : Reclaimed) (es : List (Key × Place))

@@ -20,7 +20,7 @@ use pk_region::Region;
 
 /// One step of a reclaim, by at most one flash operation: it begins if none runs, a page of the
 /// victim is read, or programmed into the output, the first or the second program of the moves'
-/// commit is made, or the victim is given back. After the first program the step is the second one
+/// commit is made, or the victim is freed. After the first program the step is the second one
 /// alone, which a Store or a Delete makes before its own entry. `NeedsFreeze` if the moves find no
 /// room in the active buffer or the newest epoch: nothing was done, and after a freeze the step is
 /// to be made again. `Reading` if a read fails: nothing has changed, and the step can be made

@@ -1,5 +1,6 @@
 -- Erases and programs of root blocks.
-use Rattle.std.proofs.Common.{◌≡◌, inl, inr, ℕ, ◌+◌, ◌*◌, ◌/◌, ◌%◌, ◌<◌, ◌≤◌, Bool, true, false, List, [], ◌∷◌, length, Some, nat_lt, if◌then◌else◌, refl, sym, ap, ◌∙◌, subst, arith, le_refl, mod-lt, length-set}
+use Rattle.std.proofs.Common.{◌≡◌, inl, inr, ℕ, ◌+◌, ◌*◌, ◌/◌, ◌%◌, ◌<◌, ◌≤◌, Bool, true, false, List, [], ◌∷◌, length, Some, nat_lt, if◌then◌else◌, refl, sym, ap, ◌∙◌, subst, arith, le_refl, mod-lt}
+use Rattle.std.proofs.Common.{length-set}
 use Rattle.std.proofs.Math.ListN.{set}
 use Rattle.std.proofs.Math.Nat.{mul-le-mul_right, mul-mod_left}
 use Rattle.std.proofs.lemmas.Nat.{div-add-mod'}
@@ -9,7 +10,8 @@ use Rattle.pk_base.specs.Page.{Page, Flash, page_at, erased, whole, SameBehind}
 use Rattle.pk_base.specs.Mark.{Mark, erase, after}
 use Rattle.pk_nand.specs.BoardState.{BoardState, shape_of}
 use Rattle.pk_nand.specs.Cut.{Interrupted, MayLeave, touched_block}
-use Rattle.pk_nand.specs.Calls.{IsReady, InOrder, LeftBehind, after_program, after_erase, EraseFailed}
+use Rattle.pk_nand.specs.Calls.{IsReady, LeftBehind, after_program}
+use Rattle.pk_nand.specs.Operations.{InOrder, after_erase, EraseFailed}
 use Rattle.pk_nand.specs.Crash.{Reached, Went}
 use Rattle.pk_nand.specs.Pairs.{IsPairCut}
 use Rattle.pk_nand.proofs.Leaving.{interrupted_done, IsFlash-left, full_erase, page_at-slice_set}
@@ -31,7 +33,8 @@ use Rattle.pk_root.proofs.Places.{block_below, page_below, not_other, set_back}
 pub behind_block : (shape : Shape) (mark : Mark) (k block : ℕ) (old new : Page) → 0 < shape.block_pages → touched_block shape mark ≡ Some block → block < 2 → 2 * shape.block_pages ≤ k
     → MayLeave shape mark k old new → new ≡ old
 behind_block shape mark k block old new some touched low high =
-    elsewhere shape mark k block old new touched (λ (e : k / shape.block_pages ≡ block). let below : k < 2 * shape.block_pages = page_below shape.block_pages k some (omega (arith, e, low)) in omega (arith, below, high))
+    elsewhere shape mark k block old new touched
+    (λ (e : k / shape.block_pages ≡ block). let below : k < 2 * shape.block_pages = page_below shape.block_pages k some (omega (arith, e, low)) in omega (arith, below, high))
 
 -- ---- erases
 
@@ -43,7 +46,8 @@ IsReady-erase_failed board new shape block failed ready = record {
       (subst (λ s. LeftBehind s (erase block) board.pages new.pages board.trail new.trail) (shape_is board shape ready) failed.left);
 }
 
-module _ (law : RootErase) (shape : Shape) (board : BoardState) (beside : ℕ) (top : ℕ × Root) (is_shape : IsShape shape) (ready : IsReady board shape) (fits : InstallerOnFlash shape (Erase beside) top board.pages) where
+module _ (law : RootErase) (shape : Shape) (board : BoardState) (beside : ℕ) (top : ℕ × Root) (is_shape : IsShape shape)
+    (ready : IsReady board shape) (fits : InstallerOnFlash shape (Erase beside) top board.pages) where
   abbrev block : ℕ
   block = other_block shape beside
 
@@ -138,7 +142,8 @@ went_installs shape page top bytes root start law install old new run = (
 went_left : (old new : BoardState) (P : Flash → Type 0) → Went old new (λ f _. P f) → P new.pages
 went_left old new P run = run.1.cuts new.pages _ run.1.stands
 
-pub went_behind : (shape : Shape) (page : ℕ) (bytes : List ℕ) (old new : BoardState) → page + 1 < 2 * shape.block_pages → Went old new (λ f _. IsPairCut page bytes old.pages f) → SameBehind shape old.pages new.pages
+pub went_behind : (shape : Shape) (page : ℕ) (bytes : List ℕ) (old new : BoardState) → page + 1 < 2 * shape.block_pages
+    → Went old new (λ f _. IsPairCut page bytes old.pages f) → SameBehind shape old.pages new.pages
 went_behind shape page bytes old new below run k high = (went_left old new (IsPairCut page bytes old.pages) run).outside.above k (omega (arith, high, below))
 
 -- a root with a greater number than the newest one's, and its bytes, for the pair that is next
@@ -173,7 +178,8 @@ module _ (shape : Shape) (board : BoardState) (page : ℕ) (top : ℕ × Root) (
       order = order;
       former = top;
       install = subst (λ (b : List ℕ). IsInstall shape (before_pair new.pages page) top page b root) spelled
-          (subst (λ (f : Flash). IsInstall shape f top page bytes root) (sym (ap (λ (b : BoardState). before_pair b.pages page) made ∙ set_back board.pages page (whole bytes) install.first_erased)) install);
+          (subst (λ (f : Flash). IsInstall shape f top page bytes root)
+          (sym (ap (λ (b : BoardState). before_pair b.pages page) made ∙ set_back board.pages page (whole bytes) install.first_erased)) install);
     };
   }
 
@@ -197,7 +203,8 @@ possible_behind shape flash page bytes root true test is exists below even order
       even = omega (arith, two, even);
       order = subst (λ (k : ℕ). InOrder shape (set flash (page + 1) (whole bytes)) k) next behind;
     }
-possible_behind shape flash page bytes root false test is exists below even order = record { in_root_blocks = omega (arith, below); elsewhere = not_other shape.block_pages page (omega (arith, below)) }
+possible_behind shape flash page bytes root false test is exists below even order =
+    record { in_root_blocks = omega (arith, below); elsewhere = not_other shape.block_pages page (omega (arith, below)) }
 
 -- the second program of a root
 module _ (shape : Shape) (board : BoardState) (page at : ℕ) (root : Root) (is_shape : IsShape shape) (fits : InstallerOnFlash shape (Again page) (at, root) board.pages) where
@@ -214,7 +221,8 @@ module _ (shape : Shape) (board : BoardState) (page at : ℕ) (root : Root) (is_
   again_exists = subst (λ (n : ℕ). page + 1 < n) (length-set board.pages page erased) again_install.exists
 
   second_free : page_at board.pages (page + 1) ≡ erased
-  second_free = fits.possible.order.behind (page + 1) (le_refl (page + 1)) (let one : (page + 1) % shape.block_pages ≡ page % shape.block_pages + 1 = mod-add page 1 shape.block_pages (even_room shape page is_shape again_install.even) in
+  second_free = fits.possible.order.behind (page + 1) (le_refl (page + 1))
+      (let one : (page + 1) % shape.block_pages ≡ page % shape.block_pages + 1 = mod-add page 1 shape.block_pages (even_room shape page is_shape again_install.even) in
       let r = even_room shape page is_shape again_install.even in omega (arith, one, r))
 
   -- what is there before the second program is a cut of the pair
@@ -232,11 +240,13 @@ module _ (shape : Shape) (board : BoardState) (page at : ℕ) (root : Root) (is_
   -- the root is still the newest one, and what follows its pair is next
   pub again_fits : (new : BoardState) → new ≡ after_program board (page + 1) bytes → IsPairCut page bytes start new.pages → InstallerOnFlash shape (next_behind shape page) (page, root) new.pages
   again_fits new made is_cut =
-      let still : page_at new.pages page ≡ whole bytes = ap (λ (b : BoardState). page_at b.pages page) made ∙ page_at-slice_set board.pages (page + 1) page (whole bytes) (λ e. omega (arith, e)) ∙ fits.possible.here in
+      let still : page_at new.pages page ≡ whole bytes = ap (λ (b : BoardState). page_at b.pages page) made
+      ∙ page_at-slice_set board.pages (page + 1) page (whole bytes) (λ e. omega (arith, e)) ∙ fits.possible.here in
       record {
         newest = first_stands shape start new.pages fits.possible.former page bytes root again_install is_cut still;
         possible = subst (λ (f : Flash). IsPossible shape (next_behind shape page) (page, root) f) (sym (ap (λ (b : BoardState). b.pages) made))
-            (possible_behind shape board.pages page bytes root (nat_lt (page % shape.block_pages + 2) shape.block_pages) refl is_shape again_exists again_install.in_root_blocks again_install.even fits.possible.order);
+            (possible_behind shape board.pages page bytes root
+            (nat_lt (page % shape.block_pages + 2) shape.block_pages) refl is_shape again_exists again_install.in_root_blocks again_install.even fits.possible.order);
       }
 
   -- no page after the root blocks differs

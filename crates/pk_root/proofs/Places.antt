@@ -5,7 +5,7 @@ use Rattle.std.proofs.lemmas.Nat.{div-add-mod'}
 use Rattle.pk_base.specs.Shape.{Shape}
 use Rattle.std.proofs.lemmas.Bool.Decides.{eqb_tells}
 use Rattle.pk_base.specs.Page.{Page, Flash, page_at, erased, whole}
-use Rattle.pk_nand.specs.Calls.{InOrder}
+use Rattle.pk_nand.specs.Operations.{InOrder}
 use Rattle.pk_nand.proofs.Leaving.{page_at-slice_set, page_at-slice_set_same}
 use Rattle.pk_rootfmt.specs.Root.{Root, root_bytes}
 use Rattle.pk_rootfmt.specs.Newest.{newest_root}
@@ -14,6 +14,7 @@ use Rattle.pk_root.specs.declared.next.Next.TheVariants.{Erase, Program, Again}
 use Rattle.pk_root.specs.Installing.{before_pair, IsPossible, InstallerOnFlash}
 use Rattle.pk_root.specs.Laws.{SameFront}
 use Rattle.pk_root.proofs.Scanning.{newest_among, newest_root_same}
+use Rattle.pk_seg.proofs.Readings.{whole_exists}
 
 -- ---- two blocks of n pages
 
@@ -63,12 +64,6 @@ pub set_back : (flash : Flash) (at : ℕ) (p : Page) → page_at flash at ≡ er
 set_back [] at p is = refl
 set_back (x ∷ xs) zero p is = ap (λ (q : Page). q ∷ xs) (sym is)
 set_back (x ∷ xs) (suc at) p is = ap (λ (qs : Flash). x ∷ qs) (set_back xs at p is)
-
--- a page that is not torn exists
-whole_exists : (flash : Flash) (k : ℕ) (bytes : List ℕ) → page_at flash k ≡ whole bytes → k < length flash
-whole_exists [] k bytes is = cc
-whole_exists (p ∷ ps) zero bytes is = omega arith
-whole_exists (p ∷ ps) (suc k) bytes is = omega (arith, whole_exists ps k bytes is)
 
 erased_exists : (flash : Flash) (k : ℕ) → page_at flash k ≡ erased → k < length flash
 erased_exists [] k is = cc

@@ -1,13 +1,15 @@
 -- The newest root of pages that are read one after another.
-use Rattle.std.proofs.Common.{◌≡◌, ℕ, zero, suc, ◌+◌, ◌*◌, ◌<◌, ◌≤◌, List, Bool, true, false, ◌&&◌, nat_le, if◌then◌else◌, length, Option, Some, None, refl, sym, ap, ◌∙◌, subst, arith, T, leb→le, leb-false, le_refl, add-zero}
+use Rattle.std.proofs.Common.{◌≡◌, ℕ, zero, suc, ◌+◌, ◌*◌, ◌<◌, ◌≤◌, List, Bool, true, false, ◌&&◌, nat_le, if◌then◌else◌, length, Option, Some, None, refl, sym, ap, ◌∙◌, subst, arith, T, leb→le}
+use Rattle.std.proofs.Common.{leb-false, le_refl, add-zero}
 use Rattle.std.proofs.Math.Nat.{mul-le-mul_left}
 use Rattle.std.specs.Prelude.{bytes_eq, MatchOption, IfSome}
 use Rattle.std.specs.List.{range_with_len}
-use Rattle.pk_base.specs.Fields.{u64_at}
+use Rattle.pk_base.specs.FieldFaults.{u64_at}
 use Rattle.pk_base.specs.Shape.{Shape, IsShape}
 use Rattle.pk_base.specs.Page.{Page, Flash, page_at, erased, whole, torn}
 use Rattle.pk_nand.specs.BoardState.{BoardState}
-use Rattle.pk_nand.specs.Calls.{IsReady, filled, after_read, ReadFailed}
+use Rattle.pk_nand.specs.Calls.{IsReady}
+use Rattle.pk_nand.specs.Operations.{filled, after_read, ReadFailed}
 use Rattle.pk_nand.specs.Counts.{after_reads}
 use Rattle.pk_nand.specs.Seen.{answer}
 use Rattle.pk_nand.specs.declared.types.PageRead.{PageRead}

@@ -3,7 +3,8 @@ use Rattle.std.specs.Prelude.{◌≡◌, ◌≢◌, ◌⊎◌, ℕ, ◌+◌, ◌
 use Rattle.pk_base.specs.Shape.{Shape, root_pages}
 use Rattle.pk_base.specs.Page.{Flash, page_at, erased, whole, SameBehind}
 use Rattle.pk_nand.specs.BoardState.{BoardState}
-use Rattle.pk_nand.specs.Calls.{InOrder, after_program, after_erase, ProgramFailed, EraseFailed}
+use Rattle.pk_nand.specs.Calls.{after_program, ProgramFailed}
+use Rattle.pk_nand.specs.Operations.{InOrder, after_erase, EraseFailed}
 use Rattle.pk_nand.specs.Crash.{Reached, Went}
 use Rattle.pk_rootfmt.specs.Root.{Root, root_bytes}
 use Rattle.pk_rootfmt.specs.Newest.{newest_root}

@@ -4,15 +4,17 @@ use Rattle.std.specs.Prelude.{nat_eq, nat_le, nat_lt, ◌&&◌, ◌||◌, if◌t
 use Rattle.std.specs.List.{list_all, concat}
 use Rattle.std.proofs.lemmas.Bool.Decides.{nat_tests}
 use Rattle.std.proofs.lemmas.List.{append_assoc, length-replicate}
-use Rattle.pk_base.specs.Fields.{u16_at, u32_at, u64_at, zeros, unlike, unless}
+use Rattle.pk_base.specs.Fields.{u16_at, u32_at, zeros}
+use Rattle.pk_base.specs.FieldFaults.{u64_at, unlike, unless}
 use Rattle.pk_base.specs.Shape.{Shape, IsShape, page_entries, cap, caps, run_blocks}
 use Rattle.pk_base.proofs.Tables.{◌⊕◌, first_none, true_unless, stands_unlike, stands_number, Stand, AreSized, spelled_stand}
 use Rattle.pk_rootfmt.specs.Root.{Root, root_bytes, root_at, root_page, is_root, u16s_at, parts}
 use Rattle.pk_rootfmt.specs.Fault.{root_magic, is_epoch, is_run_count, shape_checks, number_checks, list_checks, listed, blocks_fault, shape_fault, number_fault, list_fault, root_fault}
 use Rattle.pk_rootfmt.specs.Held.{total}
-use Rattle.pk_rootfmt.proofs.BlockLemmas.{both_true, length-numbers, numbers_again, parts_again, are_blocks, are_other, check_from_others}
+use Rattle.pk_rootfmt.proofs.BlockLemmas.{length-numbers, numbers_again, parts_again, are_blocks, are_other, check_from_others}
 use Rattle.pk_rootfmt.proofs.RoomLemmas.{page_room, runs_most, entries_small}
 use Rattle.pk_rootfmt.proofs.PageLemmas.{Parts, root_parts, by_test, bytes_same, same_bytes, rows, rows_root, journal_is, older_at, sum_four}
+use Rattle.pk_base.proofs.Logic.{both_true}
 
 append_same : (xs ys zs ws : List ℕ) → xs ++ ys ≡ zs ++ ws → length xs ≡ length zs → (xs ≡ zs) × (ys ≡ ws)
 append_same [] ys [] ws e f = (refl, e)
@@ -228,7 +230,8 @@ module _ (g : Shape) (shape : IsShape g) (number epoch : ℕ) (newest older : Li
         let epochs : is_epoch j number epoch ≡ true = rw (h.some, h.most, journal_tests.1) refl in
         first_none (number_checks g page) (
         true_unless 24 _ (ap (nat_le 1) number_read ∙ some)
-        ⊕ true_unless 32 _ (ap (λ (x : ℕ). is_epoch x (u64_at page 24) (u64_at page 32)) journal_read ∙ ap (λ (x : ℕ). is_epoch j x (u64_at page 32)) number_read ∙ ap (is_epoch j number) epoch_read ∙ epochs)
+        ⊕ true_unless 32 _ (ap (λ (x : ℕ). is_epoch x (u64_at page 24) (u64_at page 32)) journal_read
+        ∙ ap (λ (x : ℕ). is_epoch j x (u64_at page 32)) number_read ∙ ap (is_epoch j number) epoch_read ∙ epochs)
         ⊕ true_unless 40 _ (ap (is_run_count g 1) a_read ∙ run_own.p1)
         ⊕ true_unless 44 _ (ap (is_run_count g 2) b_read ∙ run_own.p2)
         ⊕ true_unless 48 _ (ap (is_run_count g 3) c_read ∙ run_own.p3)
@@ -280,7 +283,8 @@ four (a ∷ b ∷ c ∷ d ∷ e' ∷ es) e = absurd (omega arith)
 -- the counts of a root of the grammar are four
 four_counts : (g : Shape) (root : Root) → Parts g root → length root.counts ≡ 4
 four_counts g root h =
-    let test = first_true (nat_eq (length root.counts) 4) (list_all (λ p. nat_le p.0 (p.1 * page_entries g)) (zip root.counts (caps g))) (bytes_eq (map length root.runs) (map (run_blocks g) root.counts)) h.runs in
+    let test = first_true (nat_eq (length root.counts) 4) (list_all (λ p. nat_le p.0 (p.1 * page_entries g)) (zip root.counts (caps g)))
+    (bytes_eq (map length root.runs) (map (run_blocks g) root.counts)) h.runs in
     grind (arith, nat_tests)
   where
     first_true : (p q r : Bool) → (p && q && r) ≡ true → p ≡ true

@@ -16,7 +16,8 @@ flat_append [] ys = refl
 flat_append (x ∷ xs) ys = ap (λ (r : List ℕ). u16 x ++ r) (flat_append xs ys) ∙ sym (append_assoc (u16 x) (flat_map u16 xs) (flat_map u16 ys))
 
 pub encoded : (g : Shape) (number epoch : ℕ) (newest older : List ℕ) (a b c d : ℕ) (runs : List (List ℕ))
-    → spelled (root_magic ∷ u16 2 ∷ u16 g.block_pages ∷ u32 g.page_bytes ∷ u16 g.blocks ∷ u16 (length (newest ++ older)) ∷ zeros 4 ∷ u64 number ∷ u64 epoch ∷ flat_map u32 (a ∷ b ∷ c ∷ d ∷ []) ∷ zeros 8 ∷ [])
+    → spelled (root_magic ∷ u16 2 ∷ u16 g.block_pages ∷ u32 g.page_bytes ∷ u16 g.blocks ∷ u16
+    (length (newest ++ older)) ∷ zeros 4 ∷ u64 number ∷ u64 epoch ∷ flat_map u32 (a ∷ b ∷ c ∷ d ∷ []) ∷ zeros 8 ∷ [])
     ++ flat_map u16 (newest ++ older) ++ flat_map u16 (concat runs) ++ zeros (g.page_bytes - (64 + 2 * length (newest ++ older) + 2 * length (concat runs)))
     ≡ root_bytes g (record { number = number; epoch = epoch; newest = newest; older = older; counts = a ∷ b ∷ c ∷ d ∷ []; runs = runs })
 encoded g number epoch newest older a b c d runs =

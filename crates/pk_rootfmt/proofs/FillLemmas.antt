@@ -2,7 +2,8 @@
 use Rattle.std.proofs.Common.{◌≡◌, ℕ, ◌+◌, ◌*◌, ◌<◌, ◌≤◌, List, [], ◌∷◌, length, take, drop, get_or, map, sym, ap, ◌∙◌, arith, Some, None}
 use Rattle.std.specs.Prelude.{sum}
 use Rattle.std.proofs.lemmas.List.{take_all}
-use Rattle.pk_base.specs.Fields.{u16_at, u32_at, u64_at}
+use Rattle.pk_base.specs.Fields.{u16_at, u32_at}
+use Rattle.pk_base.specs.FieldFaults.{u64_at}
 use Rattle.pk_base.specs.Shape.{Shape, IsShape, run_blocks, meta_blocks}
 use Rattle.pk_base.proofs.Tables.{all_none}
 use Rattle.pk_rootfmt.specs.Root.{root_page, u16s_at, parts}
@@ -38,8 +39,16 @@ module _ (g : Shape) (page : List ℕ) (fits : (i : ℕ) → get_or page i 0 < 2
   sizes_room = omega (arith, room g page fits sized shape front middle, listed_is g page fits sized shape front middle)
 
   -- the root of the page
-  pub filled : (epochs blocks : List ℕ) → take (u16_at page 18) epochs ≡ u16s_at (u16_at page 18) (drop 64 page) → take (total sizes) blocks ≡ u16s_at (total sizes) (drop (64 + 2 * u16_at page 18) page)
-      → root_page g page ≡ Some (record { number = u64_at page 24; epoch = u64_at page 32; newest = take 2 (take (u16_at page 18) epochs); older = drop 2 (take (u16_at page 18) epochs); counts = u32_at page 40 ∷ u32_at page 44 ∷ u32_at page 48 ∷ u32_at page 52 ∷ []; runs = parts sizes blocks })
+  pub filled : (epochs blocks : List ℕ) → take (u16_at page 18) epochs ≡ u16s_at (u16_at page 18) (drop 64 page)
+      → take (total sizes) blocks ≡ u16s_at (total sizes) (drop (64 + 2 * u16_at page 18) page)
+      → root_page g page ≡ Some (record {
+        number = u64_at page 24;
+        epoch = u64_at page 32;
+        newest = take 2 (take (u16_at page 18) epochs);
+        older = drop 2 (take (u16_at page 18) epochs);
+        counts = u32_at page 40 ∷ u32_at page 44 ∷ u32_at page 48 ∷ u32_at page 52 ∷ [];
+        runs = parts sizes blocks;
+      })
   filled epochs blocks e r =
       let same : sum sizes ≡ total sizes = sum_four _ _ _ _ ∙ omega arith in
       let list : List ℕ = u16s_at (sum sizes) (drop (64 + 2 * u16_at page 18) page) in
@@ -50,4 +59,11 @@ module _ (g : Shape) (page : List ℕ) (fits : (i : ℕ) → get_or page i 0 < 2
       ∙ ap (λ (k : ℕ). u16s_at k (drop (64 + 2 * u16_at page 18) page)) same ∙ sym r in
       let runs_is : parts sizes list ≡ parts sizes blocks = parts_same sizes list blocks all in
       page_taken g page fits sized shape front middle back
-      ∙ (λ i. Some (record { number = u64_at page 24; epoch = u64_at page 32; newest = newest_is i; older = older_is i; counts = u32_at page 40 ∷ u32_at page 44 ∷ u32_at page 48 ∷ u32_at page 52 ∷ []; runs = runs_is i }))
+      ∙ (λ i. Some (record {
+        number = u64_at page 24;
+        epoch = u64_at page 32;
+        newest = newest_is i;
+        older = older_is i;
+        counts = u32_at page 40 ∷ u32_at page 44 ∷ u32_at page 48 ∷ u32_at page 52 ∷ [];
+        runs = runs_is i;
+      }))

@@ -4,7 +4,8 @@ use Rattle.std.specs.Prelude.{nat_eq, ◌==◌, slice_set}
 use Rattle.std.specs.List.{list_any}
 use Rattle.std.proofs.lemmas.Bool.Decides.{nat_tests}
 use Rattle.std.proofs.lemmas.List.{drop-drop}
-use Rattle.pk_base.specs.Fields.{u16_at, unless, first_fault}
+use Rattle.pk_base.specs.Fields.{u16_at}
+use Rattle.pk_base.specs.FieldFaults.{unless, first_fault}
 use Rattle.pk_base.specs.Shape.{Shape}
 use Rattle.pk_rootfmt.specs.Root.{u16s_at}
 use Rattle.pk_rootfmt.specs.Fault.{is_other_block, blocks_fault}

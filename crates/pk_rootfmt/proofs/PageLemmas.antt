@@ -1,18 +1,21 @@
 -- The check of a page passes exactly the pages of roots.
-use Rattle.std.proofs.Common.{◌≡◌, ℕ, ◌+◌, ◌-◌, ◌*◌, ◌^◌, ◌<◌, ◌≤◌, Bool, true, false, List, [], ◌∷◌, ◌++◌, length, take, drop, get_or, map, refl, sym, ap, subst, ◌∙◌, arith, length-drop, get_or-drop, Some, None, T}
+use Rattle.std.proofs.Common.{◌≡◌, ℕ, ◌+◌, ◌-◌, ◌*◌, ◌^◌, ◌<◌, ◌≤◌, Bool, true, false, List, [], ◌∷◌, ◌++◌, length, take, drop, get_or, map, refl, sym, ap, subst, ◌∙◌, arith, length-drop, get_or-drop}
+use Rattle.std.proofs.Common.{Some, None}
 use Rattle.std.specs.Prelude.{nat_eq, nat_le, ◌==◌, ◌&&◌, ◌||◌, if◌then◌else◌, bytes_eq, sum}
 use Rattle.std.specs.List.{flat_map, concat}
 use Rattle.std.proofs.Math.Dec.{eqb_refl}
 use Rattle.std.proofs.lemmas.Bool.Decides.{nat_tests}
 use Rattle.std.proofs.lemmas.List.{drop_all, drop-drop, length-replicate, append-nil}
-use Rattle.pk_base.specs.Fields.{u16, u32, u64, u16_at, u32_at, u64_at, spelled, zeros}
+use Rattle.pk_base.specs.Fields.{u16, u32, u64, u16_at, u32_at, spelled, zeros}
+use Rattle.pk_base.specs.FieldFaults.{u64_at}
 use Rattle.pk_base.specs.Shape.{Shape, IsShape, run_blocks, meta_blocks}
 use Rattle.pk_base.proofs.Tables.{◌⊕◌, fields_of, AllNone, all_none, unless_true, unlike_stands, number_stands, number_fits, Stand, stand_spelled}
 use Rattle.pk_rootfmt.specs.Root.{Root, named, root_bytes, root_at, root_page, is_root, is_number, has_runs, differ, u16s_at, parts}
 use Rattle.pk_rootfmt.specs.Fault.{root_magic, is_epoch, is_run_count, shape_checks, number_checks, list_checks, listed, shape_fault, number_fault, list_fault}
 use Rattle.pk_rootfmt.specs.Held.{total}
-use Rattle.pk_rootfmt.proofs.BlockLemmas.{both_true, length-u16s, length-numbers, numbers_stand, numbers_split, parts_lengths, parts_joined, are_blocks, Others, others_from_check}
+use Rattle.pk_rootfmt.proofs.BlockLemmas.{length-u16s, length-numbers, numbers_stand, numbers_split, parts_lengths, parts_joined, are_blocks, Others, others_from_check}
 use Rattle.pk_rootfmt.proofs.RoomLemmas.{page_room, runs_most}
+use Rattle.pk_base.proofs.Logic.{is_true, both_true}
 
 -- ---- tests, one after another
 
@@ -64,13 +67,9 @@ pub by_test : (b : Bool) (P : Type 0) → (b ≡ true → P) → (b ≡ false �
 by_test true P at_true at_false = at_true refl
 by_test false P at_true at_false = at_false refl
 
-yes : (b : Bool) → T b → b ≡ true
-yes true t = refl
-yes false t = absurd t
-
 pub bytes_same : (xs : List ℕ) → bytes_eq xs xs ≡ true
 bytes_same [] = refl
-bytes_same (x ∷ xs) = rw (yes (nat_eq x x) (eqb_refl x)) (bytes_same xs)
+bytes_same (x ∷ xs) = rw (is_true (nat_eq x x) (eqb_refl x)) (bytes_same xs)
 
 pub same_bytes : (xs ys : List ℕ) → bytes_eq xs ys ≡ true → xs ≡ ys
 same_bytes [] [] e = refl
@@ -141,8 +140,10 @@ pub record Journal (page : List ℕ) (j epoch : ℕ) : Type 0 where
 
 pub journal_is : (page : List ℕ) (j epoch : ℕ) → (nat_eq j 2 || nat_eq j 4) ≡ true → Journal page j epoch
 journal_is page j epoch e = by_test (nat_eq j 2) (Journal page j epoch)
-    (λ yes. let is : 2 ≡ j = grind (arith, nat_tests) in subst (λ (k : ℕ). Journal page k epoch) is (record { most = omega arith; len = refl; front = refl; behind = refl; even = refl; named = named_two page; older = λ t. refl }))
-    (λ no. let is : 4 ≡ j = grind (arith, nat_tests) in subst (λ (k : ℕ). Journal page k epoch) is (record { most = omega arith; len = refl; front = refl; behind = ap (u16s_at 2) (drop-drop 2 2 (drop 64 page) ∙ drop-drop 4 64 page); even = refl; named = named_four page; older = λ t. t }))
+    (λ yes. let is : 2 ≡ j = grind (arith, nat_tests) in subst (λ (k : ℕ). Journal page k epoch) is
+    (record { most = omega arith; len = refl; front = refl; behind = refl; even = refl; named = named_two page; older = λ t. refl }))
+    (λ no. let is : 4 ≡ j = grind (arith, nat_tests) in subst (λ (k : ℕ). Journal page k epoch) is
+    (record { most = omega arith; len = refl; front = refl; behind = ap (u16s_at 2) (drop-drop 2 2 (drop 64 page) ∙ drop-drop 4 64 page); even = refl; named = named_four page; older = λ t. t }))
 
 pub sum_four : (a b c d : ℕ) → sum (a ∷ b ∷ c ∷ d ∷ []) ≡ a + (b + (c + d))
 sum_four a b c d = omega arith
@@ -274,7 +275,9 @@ module _ (g : Shape) (page : List ℕ) (fits : (i : ℕ) → get_or page i 0 < 2
           most = epochs.1;
           two = refl;
           older = journal_own.older epochs.2;
-          runs = has_runs_true g number epoch (u16s_at 2 (drop 64 page)) (older_at page journal) a b c d (parts (map (run_blocks g) (a ∷ b ∷ c ∷ d ∷ [])) run_list) (unless_true 40 (is_run_count g 1 a) two.1.1.0) (unless_true 44 (is_run_count g 2 b) two.1.1.1.0) (unless_true 48 (is_run_count g 3 c) two.1.1.1.1.0) (unless_true 52 (is_run_count g 4 d) two.1.1.1.1.1.0)
+          runs = has_runs_true g number epoch (u16s_at 2 (drop 64 page)) (older_at page journal) a b c d (parts (map (run_blocks g) (a ∷ b ∷ c ∷ d ∷ [])) run_list)
+              (unless_true 40 (is_run_count g 1 a) two.1.1.0) (unless_true 44 (is_run_count g 2 b) two.1.1.1.0)
+              (unless_true 48 (is_run_count g 3 c) two.1.1.1.1.0) (unless_true 52 (is_run_count g 4 d) two.1.1.1.1.1.0)
               (parts_lengths (map (run_blocks g) (a ∷ b ∷ c ∷ d ∷ [])) run_list (omega (arith, run_list_len)));
           blocks = ap (are_blocks g) named_is ∙ others.blocks;
           differs = ap differ named_is ∙ others.differs;

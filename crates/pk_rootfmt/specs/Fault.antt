@@ -1,7 +1,8 @@
 -- The first wrong field of a root page.
 use Rattle.std.specs.Prelude.{ℕ, ◌+◌, ◌-◌, ◌*◌, List, [], ◌∷◌, ◌++◌, drop, Bool, ◌&&◌, ◌||◌, not, ◌==◌, nat_le, nat_lt, Option, None}
 use Rattle.std.specs.List.{list_any}
-use Rattle.pk_base.specs.Fields.{u16_at, u32_at, u64_at, unlike, unless, first_fault, zeros}
+use Rattle.pk_base.specs.Fields.{u16_at, u32_at, zeros}
+use Rattle.pk_base.specs.FieldFaults.{u64_at, unlike, unless, first_fault}
 use Rattle.pk_base.specs.declared.sizes.TheConstants.{ROOT_BLOCKS, EPOCH_BLOCKS}
 use Rattle.pk_rootfmt.specs.declared.layout.TheConstants.{VERSION, LIST_FROM}
 use Rattle.pk_base.specs.Shape.{Shape, page_entries, cap, run_blocks}

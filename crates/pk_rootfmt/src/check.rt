@@ -1,7 +1,7 @@
 //! The first wrong field of a root page.
 ghost use Rattle.std.specs.Prelude.{◌≡◌, ◌+◌, ◌*◌, ◌<◌, ◌≤◌, ◌^◌, ◌==◌, not, [], length, drop};
 ghost use Rattle.std.specs.List.{list_any};
-ghost use Rattle.pk_base.specs.Fields.{Finds};
+ghost use Rattle.pk_base.specs.FieldFaults.{Finds};
 ghost use Rattle.pk_base.specs.Shape.{run_blocks};
 ghost use Rattle.pk_rootfmt.specs.Root.{u16s_at};
 ghost use Rattle.pk_rootfmt.specs.Fault.{is_run_count, is_epoch, is_other_block, blocks_fault, listed as listed_of, shape_fault, number_fault, list_fault, root_fault};

@@ -1,25 +1,26 @@
 -- A lookup in a run: which page may have the key, and what that page says of the whole run.
-use Rattle.std.proofs.Common.{◌≡◌, ◌≢◌, ◌⊎◌, inl, inr, ℕ, zero, suc, ◌+◌, ◌-◌, ◌*◌, ◌^◌, ◌<◌, ◌≤◌, Bool, true, false, ◌&&◌, T, List, [], ◌∷◌, length, slice_get, get_or, take, drop, refl, ap, sym, subst, ◌∙◌, arith, Option, Some, None, option_map, MatchOption, All, Contains, Ok, ◌/◌, ◌%◌, div-lt_iff_lt-mul, suc-mul, zero-mul, mul-le-mul_right, lt_of_mul-lt-mul_right}
-use Rattle.std.specs.declared.cmp.Ordering.TheVariants.{Greater}
+use Rattle.std.proofs.Common.{◌≡◌, inl, inr, ℕ, suc, ◌+◌, ◌-◌, ◌*◌, ◌<◌, ◌≤◌, T, List, [], ◌∷◌, length, slice_get, get_or, take, drop, refl, ap, sym, subst, ◌∙◌, arith, Option, Some, None, option_map}
+use Rattle.std.proofs.Common.{◌/◌, ◌%◌, div-lt_iff_lt-mul, suc-mul, zero-mul, mul-le-mul_right, lt_of_mul-lt-mul_right}
 use Rattle.std.proofs.lemmas.Grind.{div_ceil_times}
 use Rattle.std.proofs.lemmas.List.{get_or_default}
-use Rattle.std.proofs.lemmas.Option.{slice_get_within, slice_get-get_or, slice_get_past}
-use Rattle.std.specs.FinMap.Entries.{find, is_sorted, below_all}
+use Rattle.std.proofs.lemmas.Option.{slice_get_within, slice_get-get_or}
+use Rattle.std.specs.FinMap.Entries.{find, is_sorted}
 use Rattle.pk_base.specs.Key.{Key, key_cmp}
-use Rattle.pk_base.specs.Shape.{Shape, IsShape, page_entries, run_pages}
+use Rattle.pk_base.specs.Shape.{Shape, IsShape, page_entries}
 use Rattle.pk_base.specs.Entry.{Entry, key_of}
 use Rattle.pk_base.specs.Seen.{entry as seen}
 use Rattle.pk_base.specs.declared.entry.Entry.{Entry as RustEntry}
-use Rattle.pk_base.specs.Page.{Page, Flash, IsFlash, page_at, page_in, whole, torn}
-use Rattle.pk_meta.specs.Page.{meta_entries, IsMetaPage, IsEntryOf, Decodes}
+use Rattle.pk_base.specs.Page.{Flash, IsFlash, page_at, page_in, whole, torn}
+use Rattle.pk_meta.specs.PageChecks.{IsMetaPage, IsEntryOf, Decodes}
 use Rattle.pk_meta.proofs.Reading.{meta_held}
 use Rattle.pk_nand.specs.BoardState.{BoardState}
-use Rattle.pk_nand.specs.Calls.{IsReady, after_read, ReadFailed}
+use Rattle.pk_nand.specs.Calls.{IsReady}
+use Rattle.pk_nand.specs.Operations.{after_read}
 use Rattle.pk_pin.specs.Frames.{Frames, frame_of}
-use Rattle.pk_run.specs.Kept.{Kept, IsKept, IsPinned, IsFrameOf, RunOnFlash, page_of, after_look, most_pages}
-use Rattle.pk_run.specs.Search.{IsFound, BeginsAbove, BeginsUpTo, IsBeforeAll, IsPageFor, RunLooks}
+use Rattle.pk_run.specs.Kept.{Kept, IsKept, IsPinned, RunOnFlash, page_of, after_look}
+use Rattle.pk_run.specs.Search.{IsFound, IsBeforeAll, IsPageFor}
 use Rattle.pk_run.proofs.Orders.{find_piece, find_nowhere, absent, present, sorted_drop, sorted_take}
-use Rattle.pk_run.proofs.Pieces.{HasPiece, pieces, share}
+use Rattle.pk_run.proofs.Pieces.{pieces, share}
 
 -- an entry that is the first of a page has the page's first key
 pub first_is : (r : Kept) (flash : Flash) (arena : Frames) (es : List Entry) → IsShape r.shape → RunOnFlash r flash arena es → (j : ℕ) (e : Entry) → slice_get es (j * page_entries r.shape) ≡ Some e
@@ -120,12 +121,6 @@ decodes r flash arena es p bytes is kept exists here s =
 whole_not_torn : (bytes : List ℕ) → torn ≡ whole bytes → ⊥
 whole_not_torn bytes e = cc
 
--- a page that is whole exists
-pub whole_exists : (flash : Flash) (k : ℕ) (bytes : List ℕ) → page_at flash k ≡ whole bytes → k < length flash
-whole_exists [] k bytes is = absurd (whole_not_torn bytes is)
-whole_exists (p ∷ ps) zero bytes is = omega arith
-whole_exists (p ∷ ps) (suc k) bytes is = omega (arith, whole_exists ps k bytes is)
-
 -- ---- frames
 
 -- a frame of the run is full
@@ -134,7 +129,8 @@ pub frame_sized : (r : Kept) (flash : Flash) (arena : Frames) (es : List Entry) 
 frame_sized r flash arena es full s p lease got = (full.full (page_of r p) (frame_of arena lease) (s.frames p lease got).bytes).0
 
 -- what was taken from a frame is the page
-pub frame_page : (r : Kept) (flash : Flash) (arena : Frames) (es : List Entry) (bytes : List ℕ) → RunOnFlash r flash arena es → (p lease : ℕ) → slice_get r.leases p ≡ Some lease → bytes ≡ frame_of arena lease
+pub frame_page : (r : Kept) (flash : Flash) (arena : Frames) (es : List Entry) (bytes : List ℕ)
+    → RunOnFlash r flash arena es → (p lease : ℕ) → slice_get r.leases p ≡ Some lease → bytes ≡ frame_of arena lease
     → page_at flash (page_of r p) ≡ whole bytes
 frame_page r flash arena es bytes s p lease got is = (s.frames p lease got).bytes ∙ ap (λ (xs : List ℕ). whole xs) (sym is)
 
@@ -162,12 +158,6 @@ not_pinned r p exists none all = let e = ap (λ (ls : List ℕ). length ls) none
 
 pub ready_read : (board : BoardState) (shape : Shape) → IsReady board shape → IsReady (after_read board) shape
 ready_read board shape ready = record { shape_is = ready.shape_is; flash = ready.flash }
-
-pub ready_failed : (old new : BoardState) (shape : Shape) (at : ℕ) → ReadFailed old new at → IsReady old shape → IsReady new shape
-ready_failed old new shape at failed ready = record {
-  shape_is = ap (λ b. b.shape) failed.rest ∙ ready.shape_is;
-  flash = rw (ap (λ b. b.pages) failed.rest) ready.flash;
-}
 
 -- ---- places
 

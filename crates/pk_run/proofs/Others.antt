@@ -1,12 +1,9 @@
 -- A run that is unchanged while others change pages and frames that are none of its own.
-use Rattle.std.proofs.Common.{◌≡◌, ◌≢◌, ◌⊎◌, inl, inr, ℕ, zero, suc, ◌+◌, ◌<◌, ◌≤◌, Bool, true, false, cond, List, [], ◌∷◌, length, slice_get, set, refl, ap, sym, subst, ◌∙◌, arith, Some, get_or-set_other}
+use Rattle.std.proofs.Common.{◌≡◌, ◌≢◌, inl, inr, ℕ, zero, suc, Bool, true, false, cond, List, [], ◌∷◌, slice_get, set, refl, ap, subst, ◌∙◌, arith, Some, get_or-set_other}
 use Rattle.std.specs.Prelude.{◌==◌}
-use Rattle.std.proofs.lemmas.Bool.{cases_eq}
 use Rattle.std.proofs.lemmas.Bool.Decides.{eqb_tells}
-use Rattle.pk_base.specs.Entry.{Entry}
-use Rattle.pk_base.specs.Page.{Flash, page_at}
-use Rattle.pk_pin.specs.Frames.{Frames, IsLeased, frame_of, leased, given, filled, times}
-use Rattle.pk_run.specs.Kept.{Kept, RunOnFlash, page_of}
+use Rattle.pk_pin.specs.Frames.{leased, given, filled, times}
+use Rattle.pk_run.specs.Kept.{page_of}
 use Rattle.pk_run.specs.Laws.{StandsOutside, FrameTaken, FrameFilled, FrameGiven}
 use Rattle.pk_run.proofs.Standing.{RunOnFlash-elsewhere}
 
@@ -21,14 +18,14 @@ set_other (u ∷ us) zero (suc l) b ne = refl
 set_other (u ∷ us) (suc i) zero b ne = refl
 set_other (u ∷ us) (suc i) (suc l) b ne = set_other us i l b (λ e. ne (ap suc e))
 
-itself : (l : ℕ) → (l == l) ≡ true
+pub itself : (l : ℕ) → (l == l) ≡ true
 itself l = elim (eqb_tells l l) [
   | inl e ↦ e.0
   | inr ne ↦ absurd (ne.1 refl)
 ]
 
 -- a frame of the run is among its leases
-among : (ls : List ℕ) (j l : ℕ) → slice_get ls j ≡ Some l → times l ls ≡ 0 → ⊥
+pub among : (ls : List ℕ) (j l : ℕ) → slice_get ls j ≡ Some l → times l ls ≡ 0 → ⊥
 among [] j l got none = cc
 among (x ∷ ls) zero l got none =
     let same : x ≡ l = cc in

@@ -1,19 +1,19 @@
 -- Runs that match a flash: what others leave of them, and another block or page.
-use Rattle.std.proofs.Common.{◌≡◌, ◌⊎◌, inl, inr, ℕ, zero, suc, ◌+◌, ◌-◌, ◌*◌, ◌/◌, ◌%◌, ◌^◌, ◌<◌, ◌≤◌, T, List, [], ◌∷◌, ◌++◌, length, slice_get, slice_index, get_or, take, drop, refl, ap, sym, subst, ◌∙◌, arith, Option, Some, None, option_map, Ok, length-append, suc-mul, mul-le-mul_right, le_refl, zero-mul, div-lt_iff_lt-mul}
+use Rattle.std.proofs.Common.{◌≡◌, ◌⊎◌, inl, inr, ℕ, zero, suc, ◌+◌, ◌-◌, ◌*◌, ◌/◌, ◌%◌, ◌<◌, ◌≤◌, List, [], ◌∷◌, ◌++◌, length, slice_get, refl, ap, sym, subst, ◌∙◌, arith, Option, Some, None}
+use Rattle.std.proofs.Common.{option_map, Ok, length-append, suc-mul, mul-le-mul_right, zero-mul, div-lt_iff_lt-mul}
 use Rattle.std.proofs.Math.ListN.{get_or-append}
-use Rattle.std.specs.Int.{div_ceil}
-use Rattle.std.proofs.lemmas.Grind.{div_ceil_times}
 use Rattle.std.proofs.lemmas.Bool.{cases_lt}
-use Rattle.std.proofs.lemmas.Option.{slice_get_within, slice_get_past}
-use Rattle.pk_base.specs.Key.{Key, key_cmp}
+use Rattle.std.proofs.lemmas.Option.{slice_get_within}
+use Rattle.pk_base.specs.Key.{Key}
 use Rattle.pk_base.specs.Shape.{Shape, IsShape, page_entries, run_pages}
 use Rattle.pk_base.specs.Entry.{Entry, key_of}
-use Rattle.pk_base.specs.Page.{Page, Flash, page_at, page_in, whole}
+use Rattle.pk_base.specs.Page.{Flash, page_at, page_in, whole}
 use Rattle.pk_meta.specs.Run.{run}
-use Rattle.pk_pin.specs.Frames.{Frames, IsLeased, frame_of}
-use Rattle.pk_run.specs.Kept.{Kept, empty, page_of, IsPinned, IsFrameOf, RunOnFlash, IsNext, IsPinnedAlike, with_page, with_lease}
-use Rattle.pk_run.specs.Laws.{SamePages, SameFrames, StandsElsewhere}
+use Rattle.pk_pin.specs.Frames.{Frames}
+use Rattle.pk_run.specs.Kept.{Kept, empty, page_of, IsFrameOf, RunOnFlash, IsNext, IsPinnedAlike, with_page, with_lease}
+use Rattle.pk_run.specs.Laws.{StandsElsewhere}
 use Rattle.pk_run.proofs.Pieces.{pages_are, run_same, run_more}
+use Rattle.pk_base.proofs.ShapeLemmas.{entries_some}
 
 none_within : (j : ℕ) (lease : ℕ) → slice_get [] j ≡ Some lease → ⊥
 none_within j lease got = cc
@@ -41,11 +41,9 @@ RunOnFlash-elsewhere r old new before after es pages frames s = record {
       record { leased = same.0; bytes = pages j (leased_page r old before es s j lease got) ∙ had.bytes ∙ ap (λ (bytes : List ℕ). whole bytes) (sym same.1) };
 }
 
-entries_some : (shape : Shape) → IsShape shape → 0 < page_entries shape
-entries_some shape is = let page : 512 ≤ shape.page_bytes = is.page_least in omega arith
-
 no_pages : (shape : Shape) → IsShape shape → run_pages shape 0 ≡ 0
-no_pages shape is = pages_are 0 (page_entries shape) 0 (entries_some shape is) (omega arith) (let z : 0 * page_entries shape ≡ 0 = zero-mul (page_entries shape) in omega (arith, z, entries_some shape is))
+no_pages shape is = pages_are 0 (page_entries shape) 0 (entries_some shape is) (omega arith)
+    (let z : 0 * page_entries shape ≡ 0 = zero-mul (page_entries shape) in omega (arith, z, entries_some shape is))
 
 pub RunOnFlash-empty : (shape : Shape) (level : ℕ) (flash : Flash) (arena : Frames) → IsShape shape → RunOnFlash (empty shape level) flash arena []
 unfolding run
@@ -80,9 +78,11 @@ same_place shape blocks b j is h =
     let lt : j / shape.block_pages < length blocks = (div-lt_iff_lt-mul some).1 h in
     ap (λ (k : ℕ). k * shape.block_pages + j % shape.block_pages) (get_or-append blocks (b ∷ []) 0 (j / shape.block_pages) lt)
 
-pub RunOnFlash-block : (r : Kept) (b : ℕ) (flash : Flash) (arena : Frames) (es : List Entry) → IsShape r.shape → RunOnFlash r flash arena es → RunOnFlash (record r { blocks = r.blocks ++ b ∷ [] }) flash arena es
+pub RunOnFlash-block : (r : Kept) (b : ℕ) (flash : Flash) (arena : Frames) (es : List Entry) → IsShape r.shape
+    → RunOnFlash r flash arena es → RunOnFlash (record r { blocks = r.blocks ++ b ∷ [] }) flash arena es
 RunOnFlash-block r b flash arena es is s =
-    let more : length r.blocks * r.shape.block_pages ≤ length (r.blocks ++ b ∷ []) * r.shape.block_pages = mul-le-mul_right r.shape.block_pages (let e = length-append r.blocks (b ∷ []) in omega (arith, e)) in
+    let more : length r.blocks * r.shape.block_pages ≤ length (r.blocks ++ b ∷ []) * r.shape.block_pages = mul-le-mul_right r.shape.block_pages
+    (let e = length-append r.blocks (b ∷ []) in omega (arith, e)) in
     let place : (j : ℕ) → j < length r.firsts → page_in r.shape (r.blocks ++ b ∷ []) j ≡ page_in r.shape r.blocks j = λ j h. same_place r.shape r.blocks b j is (omega (arith, s.within)) in
     record {
       read = run_same r.shape (page_at flash) (page_at flash) r.level r.count r.blocks (r.blocks ++ b ∷ []) (λ j h. (place j (omega (arith, s.pages)), refl)) ∙ s.read;

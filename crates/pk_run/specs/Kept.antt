@@ -10,7 +10,7 @@ use Rattle.pk_base.specs.Page.{Flash, page_at, page_in, whole}
 use Rattle.pk_meta.specs.Page.{meta_entries}
 use Rattle.pk_meta.specs.Run.{run}
 use Rattle.pk_nand.specs.BoardState.{BoardState}
-use Rattle.pk_nand.specs.Calls.{after_read}
+use Rattle.pk_nand.specs.Operations.{after_read}
 use Rattle.pk_pin.specs.Frames.{Frames, IsLeased, frame_of}
 
 -- the level, how many entries there are, the blocks in order, the first key of each page, and a lease for each page of a pinned run

@@ -21,7 +21,7 @@ pub fn frame_filled()
     ensures { FrameFilled }
 {}
 
-/// If a frame is given back that is none of its own, a run is as before.
+/// If a frame is freed that is none of its own, a run is as before.
 pub fn frame_given()
     ensures { FrameGiven }
 {}

@@ -1,5 +1,6 @@
 -- Blocks that become an owner's one after another.
-use Rattle.std.proofs.Common.{◌≡◌, inl, inr, ℕ, zero, suc, ◌+◌, ◌<◌, ◌≤◌, Bool, true, false, not, ◌&&◌, ◌||◌, ◌==◌, cond, List, [], ◌∷◌, ◌++◌, length, take, drop, refl, sym, ap, subst, ◌∙◌, arith, Option, Some, None, option_map, length-append, append_assoc, append-nil}
+use Rattle.std.proofs.Common.{◌≡◌, inl, inr, ℕ, zero, suc, ◌+◌, ◌<◌, ◌≤◌, Bool, true, false, not, ◌&&◌, ◌||◌, ◌==◌, cond, List, [], ◌∷◌, ◌++◌, length, take, drop, refl, sym, ap, subst, ◌∙◌, arith}
+use Rattle.std.proofs.Common.{Option, Some, None, option_map, length-append, append_assoc, append-nil}
 use Rattle.std.specs.Prelude.{slice_get}
 use Rattle.std.specs.List.{list_any, concat, AllByRecursion}
 use Rattle.std.proofs.Math.ListN.{set}
@@ -73,7 +74,8 @@ differ_back (x ∷ xs) ys e = differ_back xs ys (and_right _ _ e)
 
 pub differ_front : (xs ys : List ℕ) → differ (xs ++ ys) ≡ true → differ xs ≡ true
 differ_front [] ys e = refl
-differ_front (x ∷ xs) ys e = two _ _ (front (list_any (λ c. x == c) xs) (list_any (λ c. x == c) ys) (ap not (sym (list_any-append (λ c. x == c) xs ys)) ∙ and_left _ _ e)) (differ_front xs ys (and_right _ _ e))
+differ_front (x ∷ xs) ys e = two _ _ (front (list_any (λ c. x == c) xs) (list_any (λ c. x == c) ys) (ap not (sym (list_any-append (λ c. x == c) xs ys)) ∙ and_left _ _ e))
+    (differ_front xs ys (and_right _ _ e))
   where
     front : (p q : Bool) → not (p || q) ≡ true → not p ≡ true
     front true q e = e
@@ -90,7 +92,8 @@ left_alone o false None e = refl
 left_alone o false (Some s) e = refl
 
 -- a spare block that is not adopted is spare
-pub still_spare : {o : Owner} {test : ℕ → Bool} {n : ℕ} {p q : Blocks} → Adopts o test n p q → (bs : List ℕ) → AllByRecursion (λ b. test b ≡ false) bs → AllByRecursion (IsSpare p) bs → AllByRecursion (IsSpare q) bs
+pub still_spare : {o : Owner} {test : ℕ → Bool} {n : ℕ} {p q : Blocks} → Adopts o test n p q → (bs : List ℕ)
+    → AllByRecursion (λ b. test b ≡ false) bs → AllByRecursion (IsSpare p) bs → AllByRecursion (IsSpare q) bs
 still_spare {o} {test} {n} {p} {q} a [] none spare = tt
 still_spare {o} {test} {n} {p} {q} a (b ∷ bs) none spare = (here (a.states b ∙ left_alone o (test b) (slice_get p.states b) none.0) spare.0, still_spare a bs none.1 spare.1)
   where
@@ -140,7 +143,8 @@ unowned : (o : Owner) (p : Blocks) (b : ℕ) → IsSpare p b → (s : BlockState
 unowned o p b (inl free) = (Free, free, refl)
 unowned o p b (inr ready) = (Ready, ready, refl)
 
-pub adopts_one : (o : Owner) (p q : Blocks) (b : ℕ) → IsSpare p b → q ≡ with_state p b (Owned o) → used_by o q.states ≡ used_by o p.states + 1 → ((flash : Flash) → PoolOnFlash p flash → PoolOnFlash q flash)
+pub adopts_one : (o : Owner) (p q : Blocks) (b : ℕ) → IsSpare p b → q ≡ with_state p b (Owned o)
+    → used_by o q.states ≡ used_by o p.states + 1 → ((flash : Flash) → PoolOnFlash p flash → PoolOnFlash q flash)
     → Adopts o (λ c. b == c) 1 p q
 adopts_one o p q b spare is counted fits =
     let states : q.states ≡ set p.states b (Owned o) = ap (λ (x : Blocks). x.states) is in
@@ -161,7 +165,8 @@ adopts_one o p q b spare is counted fits =
     at c = elim (eqb_tells b c) [
       | inl same ↦
           let was = unowned o p b spare in
-          let new : slice_get (set p.states b (Owned o)) c ≡ Some (Owned o) = subst (λ (k : ℕ). slice_get (set p.states b (Owned o)) k ≡ Some (Owned o)) same.1 (set_is p.states b was.0 (Owned o) was.1) in
+          let new : slice_get (set p.states b (Owned o)) c ≡ Some (Owned o) = subst
+          (λ (k : ℕ). slice_get (set p.states b (Owned o)) k ≡ Some (Owned o)) same.1 (set_is p.states b was.0 (Owned o) was.1) in
           let old : slice_get p.states c ≡ Some was.0 = subst (λ (k : ℕ). slice_get p.states k ≡ Some was.0) same.1 was.1 in
           new ∙ sym (ap (λ s. option_map (owned_if o (b == c)) s) old ∙ ap (λ x. Some (owned_if o x was.0)) same.0)
       | inr other ↦
@@ -192,10 +197,12 @@ may_back {o} {p} {q} xs ys m a = record {
   room = let e = length-append xs ys in let quota = ap (λ s. quota_of s o) a.shape in omega (arith, m.room, e, a.counted, quota);
 }
 
-pub adopts_lists : {o : Owner} {p q r : Blocks} (xs ys : List ℕ) → Adopts o (is_among xs) (length xs) p q → Adopts o (is_among ys) (length ys) q r → Adopts o (is_among (xs ++ ys)) (length (xs ++ ys)) p r
+pub adopts_lists : {o : Owner} {p q r : Blocks} (xs ys : List ℕ) → Adopts o (is_among xs) (length xs) p q
+    → Adopts o (is_among ys) (length ys) q r → Adopts o (is_among (xs ++ ys)) (length (xs ++ ys)) p r
 adopts_lists xs ys a c = adopts_same (λ b. sym (list_any-append (λ x. x == b) xs ys)) (sym (length-append xs ys)) (adopts_both a c)
 
-pub adopts_block : (o : Owner) (p q : Blocks) (b : ℕ) → IsSpare p b → q ≡ with_state p b (Owned o) → used_by o q.states ≡ used_by o p.states + 1 → ((flash : Flash) → PoolOnFlash p flash → PoolOnFlash q flash)
+pub adopts_block : (o : Owner) (p q : Blocks) (b : ℕ) → IsSpare p b → q ≡ with_state p b (Owned o)
+    → used_by o q.states ≡ used_by o p.states + 1 → ((flash : Flash) → PoolOnFlash p flash → PoolOnFlash q flash)
     → Adopts o (is_among (b ∷ [])) (length (b ∷ [])) p q
 adopts_block o p q b spare is counted fits = adopts_same (λ c. sym (or_false (b == c))) refl (adopts_one o p q b spare is counted fits)
   where
@@ -227,7 +234,8 @@ module _ (o : Owner) (blocks : List ℕ) (old now : Blocks) (i : ℕ) (a : Adopt
       let may = subst (λ (bs : List ℕ). MayAdopt o bs now) (drop_next blocks i b got) a.left in
       (may.spare.0, let room = may.room in omega (arith, room))
 
-  pub Adopting-next : (b : ℕ) (new : Blocks) → slice_get blocks i ≡ Some b → new ≡ with_state now b (Owned o) → used_by o new.states ≡ used_by o now.states + 1 → ((flash : Flash) → PoolOnFlash now flash → PoolOnFlash new flash)
+  pub Adopting-next : (b : ℕ) (new : Blocks) → slice_get blocks i ≡ Some b → new ≡ with_state now b (Owned o)
+      → used_by o new.states ≡ used_by o now.states + 1 → ((flash : Flash) → PoolOnFlash now flash → PoolOnFlash new flash)
       → Adopting o blocks old new (i + 1)
   Adopting-next b new got is counted fits =
       let may = subst (λ (bs : List ℕ). MayAdopt o bs now) (drop_next blocks i b got) a.left in

@@ -4,7 +4,8 @@ use Rattle.std.specs.Prelude.{if◌then◌else◌}
 use Rattle.pk_base.specs.Shape.{Shape}
 use Rattle.pk_base.specs.Page.{IsFlash}
 use Rattle.pk_nand.specs.BoardState.{BoardState}
-use Rattle.pk_nand.specs.Calls.{IsReady, ReadFailed}
+use Rattle.pk_nand.specs.Calls.{IsReady}
+use Rattle.pk_nand.specs.Operations.{ReadFailed}
 use Rattle.pk_nand.specs.Counts.{after_reads}
 use Rattle.pk_level.proofs.Looking.{reads_more}
 use Rattle.pk_scan.specs.Opening.{OnlyReads, FaultCounted}

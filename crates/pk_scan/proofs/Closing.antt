@@ -1,5 +1,6 @@
 -- The blocks of live values: a root does not name them, so they are free, and they are not too many.
-use Rattle.std.proofs.Common.{◌≡◌, ◌≢◌, inl, inr, ℕ, zero, suc, ◌+◌, ◌-◌, ◌/◌, ◌<◌, ◌≤◌, Bool, true, false, not, ◌&&◌, ◌||◌, ◌==◌, cond, List, [], ◌∷◌, ◌++◌, length, take, drop, get_or, map, refl, sym, ap, subst, ◌∙◌, arith, Option, Some, None, option_map}
+use Rattle.std.proofs.Common.{◌≡◌, ◌≢◌, inl, inr, ℕ, zero, suc, ◌+◌, ◌-◌, ◌/◌, ◌<◌, ◌≤◌, Bool, true, false, not, ◌&&◌, ◌||◌, ◌==◌, cond, List, [], ◌∷◌, ◌++◌, length, take, drop, get_or, map, refl}
+use Rattle.std.proofs.Common.{sym, ap, subst, ◌∙◌, arith, Option, Some, None, option_map}
 use Rattle.std.specs.Prelude.{slice_get, count_by, nat_le}
 use Rattle.std.specs.List.{list_any, list_all, concat, range_with_len}
 use Rattle.std.proofs.lemmas.Bool.{false≢true, or_parts, or_cases, and_parts, eqb-true, cases_eq}
@@ -122,10 +123,12 @@ module _ (shape : Shape) (is_shape : IsShape shape) where
     used_is : (b : ℕ) → b < shape.blocks → get_or live.closed b false ≡ is_used shape taken b
     used_is b inside = ap (λ (xs : List Bool). get_or xs b false) flags_are ∙ get_or-map-range_with_len (is_used shape taken) 0 shape.blocks b b false inside (omega arith)
 
-    pages_fit : (list_all (λ p. not (list_any (λ c. c == p / shape.block_pages) names)) (all_pages shape taken) ≡ true) × (nat_le (length (blocks_with shape (all_pages shape taken))) (data_blocks shape - 1) ≡ true)
+    pages_fit : (list_all (λ p. not (list_any (λ c. c == p / shape.block_pages) names)) (all_pages shape taken) ≡ true)
+        × (nat_le (length (blocks_with shape (all_pages shape taken))) (data_blocks shape - 1) ≡ true)
     pages_fit =
         let pages : List ℕ = all_pages shape taken in
-        let a = and_parts ((list_all (λ p. not (list_any (λ c. c == p / shape.block_pages) names)) pages && differ pages) && nat_le (length pages) (limit shape)) (nat_le (length (blocks_with shape pages)) (data_blocks shape - 1)) lives.placed_well in
+        let a = and_parts ((list_all (λ p. not (list_any (λ c. c == p / shape.block_pages) names)) pages && differ pages) && nat_le (length pages) (limit shape))
+        (nat_le (length (blocks_with shape pages)) (data_blocks shape - 1)) lives.placed_well in
         let b = and_parts (list_all (λ p. not (list_any (λ c. c == p / shape.block_pages) names)) pages && differ pages) (nat_le (length pages) (limit shape)) a.0 in
         let c = and_parts (list_all (λ p. not (list_any (λ c. c == p / shape.block_pages) names)) pages) (differ pages) b.0 in
         (c.0, a.1)
@@ -165,7 +168,8 @@ module _ (shape : Shape) (is_shape : IsShape shape) where
   pub closed_is_spare : (root : Root) (p : Blocks) (live : LiveValues) (taken : List (Key × Place)) → NamesOwned root (unused shape) p → Lives shape (named root) live taken
       → (b : ℕ) → b < shape.blocks → get_or live.closed b false ≡ true → IsSpare p b
   closed_is_spare root p live taken owned lives b inside closed =
-      inl (owned.states b ∙ unnamed root b (slice_get (unused shape).states b) (not_named (named root) live taken lives b inside closed) ∙ unused_free shape b (past_roots (named root) live taken lives b inside closed) inside)
+      inl (owned.states b ∙ unnamed root b (slice_get (unused shape).states b) (not_named (named root) live taken lives b inside closed)
+      ∙ unused_free shape b (past_roots (named root) live taken lives b inside closed) inside)
 
 -- ---- one block after another
 
@@ -176,7 +180,8 @@ ValuesAdopting live old now i = Adopts Values (λ b. get_or (take i live.closed)
 pub ValuesAdopting-start : (live : LiveValues) (p : Blocks) → ValuesAdopting live p p 0
 ValuesAdopting-start live p = adopts_none Values p
 
-pub ValuesAdopting-end : (live : LiveValues) (old now : Blocks) (i : ℕ) → length live.closed ≤ i → ValuesAdopting live old now i → Adopts Values (λ b. get_or live.closed b false) (flags live.closed) old now
+pub ValuesAdopting-end : (live : LiveValues) (old now : Blocks) (i : ℕ) → length live.closed ≤ i
+    → ValuesAdopting live old now i → Adopts Values (λ b. get_or live.closed b false) (flags live.closed) old now
 ValuesAdopting-end live old now i all a = subst (λ (xs : List Bool). Adopts Values (λ b. get_or xs b false) (flags xs) old now) (take_all i live.closed all) a
 
 module _ (live : LiveValues) (old now : Blocks) (i : ℕ) (inside : i < length live.closed) (a : ValuesAdopting live old now i) where
@@ -203,7 +208,8 @@ module _ (live : LiveValues) (old now : Blocks) (i : ℕ) (inside : i < length l
       subst (λ (ys : List Bool). Adopts Values (λ b. get_or ys b false) (flags ys) old new) (sym more) (adopts_same (λ b. flag_more xs i b taken_many) (sym count) (adopts_both a one))
 
   -- there is room for one more
-  pub room_left : slice_get live.closed i ≡ Some true → used_by Values old.states ≡ 0 → flags live.closed ≤ data_blocks old.shape - 1 → 1 ≤ data_blocks old.shape → used_by Values now.states < quota_of now.shape Values
+  pub room_left : slice_get live.closed i ≡ Some true → used_by Values old.states ≡ 0
+      → flags live.closed ≤ data_blocks old.shape - 1 → 1 ≤ data_blocks old.shape → used_by Values now.states < quota_of now.shape Values
   room_left closed none few some =
       let xs : List Bool = take i live.closed in
       let count : flags (take (i + 1) live.closed) ≡ flags xs + 1 = ap flags (take_more live.closed i true closed) ∙ flags_more xs true in
@@ -224,7 +230,8 @@ pub record Settled (p : Blocks) (live : LiveValues) : Type 0 where
   pub none : used_by Values p.states ≡ 0
   pub few : flags live.closed ≤ data_blocks p.shape - 1
 
-pub settled : (p : Blocks) (live : LiveValues) → IsShape p.shape → (root : Root) × (taken : List (Key × Place)) × NamesOwned root (unused p.shape) p × Lives p.shape (named root) live taken → Settled p live
+pub settled : (p : Blocks) (live : LiveValues) → IsShape p.shape → (root : Root) × (taken : List (Key × Place))
+    × NamesOwned root (unused p.shape) p × Lives p.shape (named root) live taken → Settled p live
 settled p live is (root, taken, owned, lives) = record {
   many = flags_many p.shape is (named root) live taken lives;
   spare = closed_is_spare p.shape is root p live taken owned lives;

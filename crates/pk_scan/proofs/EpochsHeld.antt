@@ -19,7 +19,7 @@ use Rattle.pk_jrn.specs.Epochs.{EpochOnFlash, HasCommit, found_at_opening}
 use Rattle.pk_jrn.specs.Replays.{Replayed, buffer_of}
 use Rattle.pk_jrn.proofs.Puts.{firsts-reverse}
 use Rattle.pk_model.specs.Found.{older_epoch}
-use Rattle.pk_scan.specs.Opening.{OlderHeld, NewestHeld}
+use Rattle.pk_scan.specs.OpeningParts.{OlderHeld, NewestHeld}
 use Rattle.pk_scan.proofs.Naming.{two_is, older_is, older_none}
 
 -- ---- entries of a table
@@ -47,7 +47,8 @@ held_size shape into es held = ap (λ (t : Table). length t.entries) held ∙ fi
 -- ---- the older epoch
 
 module _ (shape : Shape) (at : ℕ → Page) (root : Root) where
-  read_of : (es : List Entry) → epoch shape at (root.epoch - 1) root.older ≡ Ok es → older_epoch shape at root ≡ (ensure (length root.older == 0 || nat_le 1 (length es)) (page_in shape root.older 0) >>= (λ u. Ok es))
+  read_of : (es : List Entry) → epoch shape at (root.epoch - 1) root.older ≡ Ok es
+      → older_epoch shape at root ≡ (ensure (length root.older == 0 || nat_le 1 (length es)) (page_in shape root.older 0) >>= (λ u. Ok es))
   read_of es read = rw read refl
 
   refused_of : (e : Refusal) → epoch shape at (root.epoch - 1) root.older ≡ Err e → older_epoch shape at root ≡ Err e
@@ -103,7 +104,8 @@ module _ (shape : Shape) (flash : Flash) (root : Root) where
         let test : nat_le 1 (length r.entries) ≡ true = grind (arith, nat_tests) in (
           r.entries,
           record {
-            finds = read_of shape at root r.entries (read_older r.read) ∙ passes_with shape at root (length root.older == 0 || nat_le 1 (length r.entries)) r.entries (or_true shape at root (length root.older == 0) (nat_le 1 (length r.entries)) test);
+            finds = read_of shape at root r.entries (read_older r.read)
+                ∙ passes_with shape at root (length root.older == 0 || nat_le 1 (length r.entries)) r.entries (or_true shape at root (length root.older == 0) (nat_le 1 (length r.entries)) test);
             held = r.held;
             each = r.each;
           },
@@ -120,23 +122,30 @@ module _ (shape : Shape) (flash : Flash) (root : Root) where
     first_page : slice_index bs 0 * shape.block_pages ≡ page_in shape root.older 0
     first_page = ap (λ (os : List ℕ). slice_index os 0 * shape.block_pages) (older_is root.older bs is) ∙ first_in shape root.older
 
-    pub older_without : (used : ℕ) (into : Table) → Replayed shape (root.epoch - 1) bs flash used into → length into.entries ≡ 0 → older_epoch shape at root ≡ Err (damaged (slice_index bs 0 * shape.block_pages))
+    pub older_without : (used : ℕ) (into : Table) → Replayed shape (root.epoch - 1) bs flash used into
+        → length into.entries ≡ 0 → older_epoch shape at root ≡ Err (damaged (slice_index bs 0 * shape.block_pages))
     older_without used into r none =
         let many = held_size shape into r.entries r.held in
         let zero_many : length r.entries ≡ 0 = none_first r.entries (omega (arith, none, many)) in
         let test : nat_le 1 (length r.entries) ≡ false = grind (arith, nat_tests) in
         read_of shape at root r.entries (read_older r.read)
-        ∙ refuses_with shape at root (length root.older == 0 || nat_le 1 (length r.entries)) r.entries (both_false (length root.older == 0) (nat_le 1 (length r.entries)) (first_of_some root.older is) test)
+        ∙ refuses_with shape at root (length root.older == 0 || nat_le 1 (length r.entries)) r.entries
+        (both_false (length root.older == 0) (nat_le 1 (length r.entries)) (first_of_some root.older is) test)
         ∙ sym (ap refusal_at first_page)
 
     pub older_refused : (page : ℕ) → epoch shape at (root.epoch - 1) bs ≡ Err (damaged page) → older_epoch shape at root ≡ Err (damaged page)
     older_refused page read = refused_of shape at root (damaged page) (read_older read)
 
-  pub newest_held : (bs : List ℕ) (used : ℕ) (into : Table) → length root.newest ≡ 2 → bs ≡ two_of root.newest → Replayed shape root.epoch bs flash used into → EpochOnFlash (found_at_opening shape root.epoch bs used) flash
+  pub newest_held : (bs : List ℕ) (used : ℕ) (into : Table) → length root.newest ≡ 2 → bs ≡ two_of root.newest
+      → Replayed shape root.epoch bs flash used into → EpochOnFlash (found_at_opening shape root.epoch bs used) flash
       → NewestHeld shape flash root into (found_at_opening shape root.epoch bs used)
   newest_held bs used into two is r fits =
-      let same : bs ≡ root.newest = is ∙ two_is root.newest two in
-      ((r.entries, record { finds = sym (ap (epoch shape at root.epoch) same) ∙ r.read; held = r.held; each = r.each }), (used, ap (λ (b : List ℕ). found_at_opening shape root.epoch b used) same, subst (λ (b : List ℕ). used < epoch_commits shape → HasCommit shape flash b used → ⊥) same r.ends), fits)
+      let same : bs ≡ root.newest = is ∙ two_is root.newest two in (
+        (r.entries, record { finds = sym (ap (epoch shape at root.epoch) same) ∙ r.read; held = r.held; each = r.each }),
+        (used, ap (λ (b : List ℕ). found_at_opening shape root.epoch b used) same, subst (λ (b : List ℕ). used < epoch_commits shape → HasCommit shape flash b used → ⊥) same r.ends),
+        fits,
+      )
 
-  pub newest_refused : (bs : List ℕ) (page : ℕ) → length root.newest ≡ 2 → bs ≡ two_of root.newest → epoch shape at root.epoch bs ≡ Err (damaged page) → epoch shape at root.epoch root.newest ≡ Err (damaged page)
+  pub newest_refused : (bs : List ℕ) (page : ℕ) → length root.newest ≡ 2 → bs ≡ two_of root.newest
+      → epoch shape at root.epoch bs ≡ Err (damaged page) → epoch shape at root.epoch root.newest ≡ Err (damaged page)
   newest_refused bs page two is read = sym (ap (epoch shape at root.epoch) (is ∙ two_is root.newest two)) ∙ read

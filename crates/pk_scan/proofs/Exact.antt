@@ -8,7 +8,7 @@ use Rattle.pk_nand.specs.BoardState.{BoardState}
 use Rattle.pk_nand.specs.Counts.{after_reads}
 use Rattle.pk_rootfmt.specs.Root.{Root}
 use Rattle.pk_rootfmt.specs.Held.{two_of, older_of}
-use Rattle.pk_jrn.specs.Replays.{reads_to_end, epoch_reads}
+use Rattle.pk_jrn.specs.EpochReads.{reads_to_end, epoch_reads}
 use Rattle.pk_scan.specs.Reads.{pages_of_runs, list_reads}
 use Rattle.pk_scan.proofs.Naming.{two_is, older_is, older_none}
 use Rattle.pk_scan.proofs.Boards.{reads_sum}
@@ -50,14 +50,17 @@ pages_more shape (c ∷ counts) count =
 
 -- the runs up to a level were read, and then the one of the level
 pub runs_exact_next : (shape : Shape) (counts : List ℕ) (k level : ℕ) (old now new : BoardState) → k < length counts → level - 1 ≡ k
-    → now ≡ after_reads (pages_of_runs shape (take k counts)) old → new ≡ after_reads (run_pages shape (slice_index counts (level - 1))) now → new ≡ after_reads (pages_of_runs shape (take (suc k) counts)) old
+    → now ≡ after_reads (pages_of_runs shape (take k counts)) old → new ≡ after_reads (run_pages shape (slice_index counts (level - 1))) now
+    → new ≡ after_reads (pages_of_runs shape (take (suc k) counts)) old
 runs_exact_next shape counts k level old now new inside place before more =
     reads_sum old now new (pages_of_runs shape (take k counts)) (run_pages shape (slice_index counts (level - 1))) (pages_of_runs shape (take (suc k) counts))
-    (sym (ap (pages_of_runs shape) (take_next counts k 0 inside) ∙ pages_more shape (take k counts) (get_or counts k 0) ∙ ap (λ (j : ℕ). run_pages shape (slice_index counts j) + pages_of_runs shape (take k counts)) (sym place)))
+    (sym (ap (pages_of_runs shape) (take_next counts k 0 inside) ∙ pages_more shape (take k counts) (get_or counts k 0)
+    ∙ ap (λ (j : ℕ). run_pages shape (slice_index counts j) + pages_of_runs shape (take k counts)) (sym place)))
     before more
 
 -- all of them
-pub runs_exact_end : (shape : Shape) (counts : List ℕ) (k : ℕ) (old now : BoardState) → length counts ≤ k → now ≡ after_reads (pages_of_runs shape (take k counts)) old → now ≡ after_reads (pages_of_runs shape counts) old
+pub runs_exact_end : (shape : Shape) (counts : List ℕ) (k : ℕ) (old now : BoardState) → length counts ≤ k
+    → now ≡ after_reads (pages_of_runs shape (take k counts)) old → now ≡ after_reads (pages_of_runs shape counts) old
 runs_exact_end shape counts k old now all reads = reads ∙ ap (λ (cs : List ℕ). after_reads (pages_of_runs shape cs) old) (take_all k counts all)
 
 -- ---- all lists
@@ -70,7 +73,8 @@ lists_exact shape root old first second new a same b c =
     let newest : ℕ = epoch_reads shape (page_at old.pages) root.newest in
     let runs : ℕ = pages_of_runs shape root.counts in
     let here : second ≡ after_reads newest first = subst (λ (f : Flash). second ≡ after_reads (epoch_reads shape (page_at f) root.newest) first) same b in
-    reads_sum old second new (older + newest) runs (list_reads shape (page_at old.pages) root) (swap runs (older + newest)) (reads_sum old first second older newest (older + newest) (swap newest older) a here) c
+    reads_sum old second new (older + newest) runs (list_reads shape (page_at old.pages) root)
+    (swap runs (older + newest)) (reads_sum old first second older newest (older + newest) (swap newest older) a here) c
   where
     swap : (m n : ℕ) → m + n ≡ n + m
     swap m n = omega arith

@@ -1,5 +1,6 @@
 -- Frames that are leased one after another.
-use Rattle.std.proofs.Common.{◌≡◌, ◌≢◌, ℕ, zero, suc, ◌+◌, Bool, true, false, not, cond, List, [], ◌∷◌, ◌++◌, length, replicate, refl, ap, sym, subst, ◌∙◌, arith, Option, Some, None, is_some, get_or-set_other, length-set, length-append}
+use Rattle.std.proofs.Common.{◌≡◌, ◌≢◌, ℕ, zero, suc, ◌+◌, Bool, true, false, not, cond, List, [], ◌∷◌, ◌++◌, length, replicate, refl, ap, sym, subst, ◌∙◌, arith, Option, Some, None, is_some}
+use Rattle.std.proofs.Common.{get_or-set_other, length-set, length-append}
 use Rattle.std.specs.Prelude.{slice_get}
 use Rattle.std.proofs.Math.ListN.{set}
 use Rattle.std.proofs.lemmas.List.{length-replicate}
@@ -13,7 +14,7 @@ use Rattle.pk_level.specs.Levels.{Levels}
 use Rattle.pk_level.specs.Arenas.{HasArena, ArePinnedTo, leases_of}
 use Rattle.pk_run.proofs.Standing.{RunOnFlash-elsewhere}
 use Rattle.pk_scan.specs.Runs.{LeasedMore, RunsStand, listed}
-use Rattle.pk_scan.specs.Opening.{HaveFrames}
+use Rattle.pk_scan.specs.OpeningParts.{HaveFrames}
 
 pub leased_none : (a : Frames) → LeasedMore a a []
 leased_none a = record { page = refl; size = refl; kept = λ i is. (is, refl); free = omega arith; leases = λ ls all. all }

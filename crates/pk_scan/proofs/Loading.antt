@@ -1,18 +1,21 @@
 -- A run whose pages are read one after another.
-use Rattle.std.proofs.Common.{◌≡◌, ℕ, zero, suc, ◌+◌, ◌-◌, ◌*◌, ◌/◌, ◌^◌, ◌<◌, ◌≤◌, min, Bool, true, false, is_some, List, [], ◌∷◌, ◌++◌, length, take, refl, ap, sym, subst, ◌∙◌, arith, Option, Some, None, option_map, Err, append_assoc, append-nil, length-append, suc-mul, mul-le-mul_right, mul_comm, zero-mul, div-lt_iff_lt-mul}
+use Rattle.std.proofs.Common.{◌≡◌, ℕ, zero, suc, ◌+◌, ◌-◌, ◌*◌, ◌/◌, ◌^◌, ◌<◌, ◌≤◌, min, Bool, true, false, is_some, List, [], ◌∷◌, ◌++◌, length, take, refl, ap, sym, subst, ◌∙◌, arith, Option, Some}
+use Rattle.std.proofs.Common.{None, option_map, Err, append_assoc, append-nil, length-append, suc-mul, mul-le-mul_right, mul_comm, zero-mul, div-lt_iff_lt-mul}
 use Rattle.std.specs.Prelude.{slice_get, slice_index}
 use Rattle.std.specs.List.{AllByRecursion}
 use Rattle.pk_base.specs.Key.{Key}
 use Rattle.pk_base.specs.Shape.{Shape, IsShape, page_entries, run_pages, run_blocks, blocks_of, cap}
 use Rattle.pk_base.specs.Entry.{Entry, key_of}
-use Rattle.pk_base.specs.EntryBytes.{IsEntry}
+use Rattle.pk_base.specs.EntryChecks.{IsEntry}
 use Rattle.pk_base.specs.Page.{Page, Flash, IsFlash, page_at, page_in, erased, whole, torn, pages_of_blocks}
 use Rattle.pk_base.specs.Refusal.{damaged}
-use Rattle.pk_meta.specs.Page.{meta_entries, IsMetaPage}
+use Rattle.pk_meta.specs.Page.{meta_entries}
+use Rattle.pk_meta.specs.PageChecks.{IsMetaPage}
 use Rattle.pk_meta.specs.Run.{meta, run}
 use Rattle.pk_meta.proofs.Reading.{meta_held}
 use Rattle.pk_nand.specs.BoardState.{BoardState}
-use Rattle.pk_nand.specs.Calls.{IsReady, ReadFailed, after_read, filled}
+use Rattle.pk_nand.specs.Calls.{IsReady}
+use Rattle.pk_nand.specs.Operations.{ReadFailed, after_read, filled}
 use Rattle.pk_nand.specs.Seen.{answer}
 use Rattle.pk_nand.specs.declared.types.PageRead.{PageRead}
 use Rattle.pk_nand.specs.declared.types.PageRead.TheVariants.{Erased as ReadErased, Whole as ReadWhole, Torn as ReadTorn}
@@ -30,15 +33,13 @@ use Rattle.pk_scan.proofs.Boards.{rest_reads, rest_not_read, stays_ready_behind}
 use Rattle.std.proofs.lemmas.Grind.{div_ceil_times}
 use Rattle.pk_scan.proofs.Leasing.{kept_more, leased_none, leased_more, runs_stand}
 use Rattle.pk_scan.proofs.Rereading.{meta_refused, last_of, pages_most, blocks_most, more_left, all_counted}
-
--- a page has room for entries
-pub size_some : (shape : Shape) → IsShape shape → 0 < page_entries shape
-size_some shape is = let page : 512 ≤ shape.page_bytes = is.page_least in omega arith
+use Rattle.pk_base.proofs.ShapeLemmas.{entries_some}
 
 -- ---- one page
 
 -- a page of the run's blocks is a page of the flash
-pub page_exists : (r : Kept) (flash : Flash) (i : ℕ) → IsShape r.shape → IsFlash r.shape flash → RunBlocksExist r.shape r.blocks → i < length r.blocks * r.shape.block_pages → page_of r i < length flash
+pub page_exists : (r : Kept) (flash : Flash) (i : ℕ) → IsShape r.shape → IsFlash r.shape flash
+    → RunBlocksExist r.shape r.blocks → i < length r.blocks * r.shape.block_pages → page_of r i < length flash
 page_exists r flash i is full exist inside =
     let n : ℕ = r.shape.block_pages in
     let some : 0 < n = let least : 8 ≤ n = is.block_least in omega arith in
@@ -60,12 +61,14 @@ pub page_taken : (pins : Bool) (flash : Flash) (before after : Frames) (old new 
     → IsPinnedIf pins old → KeepsPage pins before after bytes lease
     → ((level index : ℕ) (es : List Entry) → IsMetaPage old.shape bytes level index es → option_map key_of (slice_get es 0) ≡ Some first)
     → ((level index : ℕ) (es : List Entry) → IsMetaPage old.shape bytes level index es → option_map key_of (slice_get es (many - 1)) ≡ Some last)
-    → ((flash : Flash) (arena : Frames) (es more : List Entry) → RunOnFlash old flash arena es → IsNext old flash arena es more first lease → length more ≡ many → RunOnFlash new flash arena (es ++ more))
+    → ((flash : Flash) (arena : Frames) (es more : List Entry) → RunOnFlash old flash arena es
+    → IsNext old flash arena es more first lease → length more ≡ many → RunOnFlash new flash arena (es ++ more))
     → RunOnFlash old flash before es → (more : List Entry) × RunGoesOn old.shape old.level (length old.firsts) many es bytes more
     → PageTaken flash after old new es many last
 page_taken pins flash before after old new es many first last lease bytes least most fits some here pinned keeps begins ends pushed stands (more, goes) =
     let held = meta_held old.shape old.level (length old.firsts) many bytes more least most fits goes.holds in
-    let holds : meta_entries old.shape old.level (length old.firsts) (length more) bytes ≡ Some more = subst (λ (n : ℕ). meta_entries old.shape old.level (length old.firsts) n bytes ≡ Some more) (sym held.1) goes.holds in
+    let holds : meta_entries old.shape old.level (length old.firsts) (length more) bytes ≡ Some more = subst
+    (λ (n : ℕ). meta_entries old.shape old.level (length old.firsts) n bytes ≡ Some more) (sym held.1) goes.holds in
     let next : IsNext old flash after es more first lease = record {
       bytes = bytes;
       here = here;
@@ -164,7 +167,8 @@ module _ (shape : Shape) (level count : ℕ) (blocks : List ℕ) (pins : Bool) (
 
     -- what remains: this page and the others
     left_here : i < run_pages shape count → run shape (page_at old.pages) level count blocks
-        ≡ meta shape level count i l.es ((page_in shape blocks i, page_at old.pages (page_in shape blocks i)) ∷ pages_of_blocks shape (page_at old.pages) blocks (i + 1) (run_pages shape count - (i + 1)))
+        ≡ meta shape level count i l.es
+        ((page_in shape blocks i, page_at old.pages (page_in shape blocks i)) ∷ pages_of_blocks shape (page_at old.pages) blocks (i + 1) (run_pages shape count - (i + 1)))
     left_here inside =
         let step : run_pages shape count - i ≡ suc (run_pages shape count - (i + 1)) = omega (arith, inside) in
         l.comes ∙ ap (λ k. meta shape level count i l.es (pages_of_blocks shape (page_at old.pages) blocks i k)) step
@@ -197,7 +201,8 @@ module _ (shape : Shape) (level count : ℕ) (blocks : List ℕ) (pins : Bool) (
         omega (arith, all, same, inside)
 
     -- all that the next page asks for
-    pub page_awaited : (many : ℕ) → 0 < size → 0 < shape.block_pages → i < run_pages shape count → many ≡ min (count - r.count) size → RunBlocksExist shape blocks → count ≤ cap shape level * size → length blocks ≡ run_blocks shape count
+    pub page_awaited : (many : ℕ) → 0 < size → 0 < shape.block_pages → i < run_pages shape count → many ≡ min (count - r.count) size
+        → RunBlocksExist shape blocks → count ≤ cap shape level * size → length blocks ≡ run_blocks shape count
         → arena.page_bytes ≡ shape.page_bytes → (pins ≡ true → run_pages shape count ≤ free_frames arena) → AwaitsPage pins many frames r
     page_awaited many some positive inside is exist few places page free = record {
       exist = rw (l.shape_is, l.blocks_are) exist;
@@ -239,7 +244,8 @@ module _ (shape : Shape) (level count : ℕ) (blocks : List ℕ) (pins : Bool) (
         let taken = subst (λ (f : Flash). PageTaken f frames' r r' l.es many key) pages_stay taken_now in
         let one : suc i ≡ i + 1 = omega arith in
         let goes : RunGoesOn shape level i many l.es taken.bytes taken.more = subst (λ (X : Type 0). X) (goes_is many taken.bytes taken.more) taken.goes_on in
-        let holds : meta_entries shape level i (share shape count i) taken.bytes ≡ Some taken.more = subst (λ (n : ℕ). meta_entries shape level i n taken.bytes ≡ Some taken.more) share_is goes.holds in
+        let holds : meta_entries shape level i (share shape count i) taken.bytes ≡ Some taken.more = subst
+        (λ (n : ℕ). meta_entries shape level i n taken.bytes ≡ Some taken.more) share_is goes.holds in
         let here : page_at old.pages (page_in shape blocks i) ≡ whole taken.bytes = subst (λ (p : ℕ). page_at old.pages p ≡ whole taken.bytes) page_is taken.here in
         let full = full_so_far some inside in
         record {
@@ -249,19 +255,24 @@ module _ (shape : Shape) (level count : ℕ) (blocks : List ℕ) (pins : Bool) (
           level_is = ap (λ (k : Kept). k.level) added.run ∙ l.level_is;
           blocks_are = ap (λ (k : Kept). k.blocks) added.run ∙ l.blocks_are;
           pages = ap (λ (k : Kept). length k.firsts) added.run ∙ (let e = length-append r.firsts (added.first ∷ []) in omega (arith, e, l.pages));
-          counted = ap (λ (k : Kept). k.count) added.run ∙ (let less = more_left count size i some inside in let up : (i + 1) * size ≡ i * size + size = ap (λ (k : ℕ). k * size) (sym one) ∙ suc-mul i size in omega (arith, full, share_is, less, up));
+          counted = ap (λ (k : Kept). k.count) added.run
+              ∙ (let less = more_left count size i some inside in let up : (i + 1) * size ≡ i * size + size = ap (λ (k : ℕ). k * size) (sym one)
+              ∙ suc-mul i size in omega (arith, full, share_is, less, up));
           stands = taken.stands;
           ends = taken.ends;
           each = all_append (IsEntry shape) l.es taken.more l.each (meta_held shape level i many taken.bytes taken.more least most fits goes.holds).0.content.each;
           pinned = subst (IsPinnedIf pins) (sym added.run) (pinned_more pins added.first added.lease many l.pinned added.wanted);
-          more = subst (LeasedMore arena frames') (with_listed r.leases added.lease ∙ ap (λ (k : Kept). k.leases) (sym added.run)) (leased_more arena frames frames' r.leases (listed added.lease) l.more added.more);
+          more = subst (LeasedMore arena frames') (with_listed r.leases added.lease ∙ ap (λ (k : Kept). k.leases) (sym added.run))
+              (leased_more arena frames frames' r.leases (listed added.lease) l.more added.more);
           comes = left_here inside
-              ∙ meta_next shape level count i l.es taken.more (page_in shape blocks i) (page_at old.pages (page_in shape blocks i)) taken.bytes (pages_of_blocks shape (page_at old.pages) blocks (i + 1) (run_pages shape count - (i + 1))) here holds goes.rising goes.deepest;
+              ∙ meta_next shape level count i l.es taken.more (page_in shape blocks i) (page_at old.pages (page_in shape blocks i)) taken.bytes
+              (pages_of_blocks shape (page_at old.pages) blocks (i + 1) (run_pages shape count - (i + 1))) here holds goes.rising goes.deepest;
         }
 
     -- ---- or it does not
 
-    pub Loading-refused : (new : BoardState) (many : ℕ) (e : PageError) → i < run_pages shape count → many ≡ share shape count i → PageRefused now new r l.es many e → NotRead shape level count blocks old new e
+    pub Loading-refused : (new : BoardState) (many : ℕ) (e : PageError) → i < run_pages shape count
+        → many ≡ share shape count i → PageRefused now new r l.es many e → NotRead shape level count blocks old new e
     Loading-refused new many (Damaged page) inside share_is refused =
         let one : suc i ≡ i + 1 = omega arith in
         let none : (bytes : List ℕ) (more : List Entry) → page_at old.pages (page_in shape blocks i) ≡ whole bytes → RunGoesOn shape level i (share shape count i) l.es bytes more → ⊥ =
@@ -273,7 +284,8 @@ module _ (shape : Shape) (level count : ℕ) (blocks : List ℕ) (pins : Bool) (
           within = inside;
           page_is = refused.0 ∙ page_is;
           read = left_here inside
-              ∙ meta_refused shape level count i l.es (page_in shape blocks i) (page_at old.pages (page_in shape blocks i)) (pages_of_blocks shape (page_at old.pages) blocks (i + 1) (run_pages shape count - (i + 1))) none
+              ∙ meta_refused shape level count i l.es (page_in shape blocks i) (page_at old.pages (page_in shape blocks i))
+              (pages_of_blocks shape (page_at old.pages) blocks (i + 1) (run_pages shape count - (i + 1))) none
               ∙ ap (λ p. Err (damaged p)) (sym (refused.0 ∙ page_is));
           board = refused.1 ∙ ap after_read l.board ∙ ap (λ k. after_reads k old) one;
         }
@@ -322,7 +334,8 @@ take_more {X = X} xs i x got = let k : i + 1 ≡ suc i = omega arith in rw k (at
     at_suc (y ∷ xs) zero got = let same : y ≡ x = cc in ap (λ (z : X). z ∷ []) same
     at_suc (y ∷ xs) (suc i) got = ap (λ (zs : List X). y ∷ zs) (at_suc xs i got)
 
-pub block_added : (old mid new : Kept) (blocks : List ℕ) (i b : ℕ) → slice_get blocks i ≡ Some b → mid ≡ record old { blocks = old.blocks ++ take i blocks } → new ≡ record mid { blocks = mid.blocks ++ b ∷ [] }
+pub block_added : (old mid new : Kept) (blocks : List ℕ) (i b : ℕ) → slice_get blocks i ≡ Some b
+    → mid ≡ record old { blocks = old.blocks ++ take i blocks } → new ≡ record mid { blocks = mid.blocks ++ b ∷ [] }
     → new ≡ record old { blocks = old.blocks ++ take (i + 1) blocks }
 block_added old mid new blocks i b got is_mid is_new =
     is_new ∙ ap (λ (r : Kept). record r { blocks = r.blocks ++ b ∷ [] }) is_mid
@@ -332,9 +345,10 @@ block_added old mid new blocks i b got is_mid is_new =
 pub blocks_fit : (shape : Shape) (level count : ℕ) → IsShape shape → count ≤ cap shape level * page_entries shape → run_blocks shape count ≤ blocks_of shape (cap shape level)
 blocks_fit shape level count is few =
     let some : 0 < shape.block_pages = let least : 8 ≤ shape.block_pages = is.block_least in omega arith in
-    blocks_most (run_pages shape count) (cap shape level) shape.block_pages some (pages_most count (page_entries shape) (cap shape level) (size_some shape is) few)
+    blocks_most (run_pages shape count) (cap shape level) shape.block_pages some (pages_most count (page_entries shape) (cap shape level) (entries_some shape is) few)
 
-pub room_for_blocks : (r : Kept) (blocks : List ℕ) (count : ℕ) → IsShape r.shape → r ≡ empty r.shape r.level → count ≤ cap r.shape r.level * page_entries r.shape → length blocks ≡ run_blocks r.shape count
+pub room_for_blocks : (r : Kept) (blocks : List ℕ) (count : ℕ) → IsShape r.shape → r ≡ empty r.shape r.level
+    → count ≤ cap r.shape r.level * page_entries r.shape → length blocks ≡ run_blocks r.shape count
     → length r.blocks + length blocks ≤ most_blocks r
 room_for_blocks r blocks count is none few many =
     let no : length r.blocks ≡ 0 = ap (λ (k : Kept). length k.blocks) none in
@@ -344,7 +358,8 @@ pub empty_stands : (r : Kept) (flash : Flash) (arena : Frames) → IsShape r.sha
 empty_stands r flash arena is none = subst (λ (k : Kept). RunOnFlash k flash arena []) (sym none) (RunOnFlash-empty r.shape r.level flash arena is)
 
 -- a run that had nothing and got its blocks awaits their pages
-pub awaits_pages : (r r' : Kept) (blocks : List ℕ) (pins : Bool) (count : ℕ) (flash : Flash) (arena : Frames) → IsShape r.shape → r ≡ empty r.shape r.level → r' ≡ record r { blocks = r.blocks ++ blocks }
+pub awaits_pages : (r r' : Kept) (blocks : List ℕ) (pins : Bool) (count : ℕ) (flash : Flash) (arena : Frames)
+    → IsShape r.shape → r ≡ empty r.shape r.level → r' ≡ record r { blocks = r.blocks ++ blocks }
     → RunBlocksExist r.shape blocks → count ≤ cap r.shape r.level * page_entries r.shape → length blocks ≡ run_blocks r.shape count
     → arena.page_bytes ≡ r.shape.page_bytes → (pins ≡ true → run_pages r.shape count ≤ free_frames arena) → RunOnFlash r' flash arena [] → AwaitsPages pins count flash arena r'
 awaits_pages r r' blocks pins count flash arena is none added exist few places page free stands =

@@ -1,5 +1,6 @@
 -- The blocks that a root names, which a new pool has as free ones.
-use Rattle.std.proofs.Common.{◌≡◌, ◌⊎◌, inl, inr, ℕ, zero, suc, ◌+◌, ◌*◌, ◌<◌, ◌≤◌, Bool, true, false, ◌&&◌, ◌||◌, ◌==◌, cond, List, [], ◌∷◌, ◌++◌, length, map, replicate, refl, sym, ap, subst, ◌∙◌, arith, Option, Some, None, option_map, length-append}
+use Rattle.std.proofs.Common.{◌≡◌, ◌⊎◌, inl, inr, ℕ, zero, suc, ◌+◌, ◌*◌, ◌<◌, ◌≤◌, Bool, true, false, ◌&&◌, ◌||◌, ◌==◌, cond, List, [], ◌∷◌, ◌++◌, length, map, replicate, refl, sym, ap, subst, ◌∙◌}
+use Rattle.std.proofs.Common.{arith, Option, Some, None, option_map, length-append}
 use Rattle.std.specs.Prelude.{slice_get, nat_le, nat_lt, nat_eq, zip, bytes_eq}
 use Rattle.std.specs.List.{list_all, concat, AllByRecursion}
 use Rattle.std.proofs.Math.ListN.{set}
@@ -214,7 +215,8 @@ composed : (f g : BlockState → BlockState) (s : Option BlockState) → option_
 composed f g None = refl
 composed f g (Some s) = refl
 
-pub names_owned : (root : Root) (p q r : Blocks) → Adopts Journal (is_among (root.newest ++ root.older)) (length (root.newest ++ root.older)) p q → Adopts Meta (is_among (concat root.runs)) (length (concat root.runs)) q r
+pub names_owned : (root : Root) (p q r : Blocks) → Adopts Journal (is_among (root.newest ++ root.older)) (length (root.newest ++ root.older)) p q
+    → Adopts Meta (is_among (concat root.runs)) (length (concat root.runs)) q r
     → NamesOwned root p r
 names_owned root p q r a c = record {
   shape = c.shape ∙ a.shape;

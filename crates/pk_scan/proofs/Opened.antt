@@ -13,7 +13,8 @@ use Rattle.pk_pin.specs.Frames.{Frames}
 use Rattle.pk_level.specs.Levels.{Levels}
 use Rattle.pk_model.specs.Found.{Found, found_under, newest_epoch, older_epoch, runs_from}
 use Rattle.pk_model.specs.Reading.{reading, reading_of}
-use Rattle.pk_scan.specs.Opening.{OnlyReads, PartNotOpened, PartNotRead, OlderHeld, NewestHeld, HoldsRuns, HoldsFound, opening_of}
+use Rattle.pk_scan.specs.Opening.{OnlyReads}
+use Rattle.pk_scan.specs.OpeningParts.{PartNotOpened, PartNotRead, OlderHeld, NewestHeld, HoldsRuns, HoldsFound, opening_of}
 use Rattle.pk_scan.proofs.Boards.{reads_both, counted_behind}
 use Rattle.pk_scan.specs.declared.errors.PageError.{PageError}
 use Rattle.pk_scan.specs.declared.errors.PageError.TheVariants.{Damaged as PageDamaged, Fault as PageFault}
@@ -30,14 +31,16 @@ as_part part old new (PageDamaged page) why = why
 as_part part old new PageFault why = why
 
 -- a refusal after reads is one of all that was done
-pub behind_reads : {X : Type 0} (part : Result X Refusal) (old now new : BoardState) (e : OpenError) → OnlyReads old now → now.pages ≡ old.pages → PartNotOpened part now new e → PartNotOpened part old new e
+pub behind_reads : {X : Type 0} (part : Result X Refusal) (old now new : BoardState) (e : OpenError)
+    → OnlyReads old now → now.pages ≡ old.pages → PartNotOpened part now new e → PartNotOpened part old new e
 behind_reads part old now new NotFormatted reads same why = why
 behind_reads part old now new (Damaged page) reads same why = (why.0, reads_both old now new reads why.1)
 behind_reads part old now new Fault reads same why = counted_behind old now new reads why
 behind_reads part old now new Memory reads same why = reads_both old now new reads why
 
 -- if a part refuses, so does the whole that begins with it
-pub whole_refuses : {X Y : Type 0} (part : Result X Refusal) (whole : Result Y Refusal) (old new : BoardState) (e : OpenError) → ((refusal : Refusal) → part ≡ Err refusal → whole ≡ Err refusal) → PartNotOpened part old new e → PartNotOpened whole old new e
+pub whole_refuses : {X Y : Type 0} (part : Result X Refusal) (whole : Result Y Refusal) (old new : BoardState) (e : OpenError)
+    → ((refusal : Refusal) → part ≡ Err refusal → whole ≡ Err refusal) → PartNotOpened part old new e → PartNotOpened whole old new e
 whole_refuses part whole old new NotFormatted passes why = why
 whole_refuses part whole old new (Damaged page) passes why = (passes (damaged page) why.0, why.1)
 whole_refuses part whole old new Fault passes why = why
@@ -52,7 +55,8 @@ module _ (shape : Shape) (at : ℕ → Page) (root : Root) where
   unfolding found_under
   newest_second es older e newest = rw (older, newest) refl
 
-  pub runs_third : (es fs : List Entry) → older_epoch shape at root ≡ Ok es → newest_epoch shape at root ≡ Ok fs → (e : Refusal) → runs_from shape at 1 root.counts root.runs ≡ Err e → found_under shape at root ≡ Err e
+  pub runs_third : (es fs : List Entry) → older_epoch shape at root ≡ Ok es → newest_epoch shape at root ≡ Ok fs
+      → (e : Refusal) → runs_from shape at 1 root.counts root.runs ≡ Err e → found_under shape at root ≡ Err e
   unfolding found_under
   runs_third es fs older newest e runs = rw (older, newest, runs) refl
 
@@ -61,7 +65,8 @@ module _ (shape : Shape) (at : ℕ → Page) (root : Root) where
   unfolding found_under
   all_found es fs ess older newest runs = rw (older, newest, runs) refl
 
-pub lists_held : (shape : Shape) (flash : Flash) (root : Root) (active frozen : Table) (epoch : JournalEpoch) (arena : Frames) (levels : Levels) → OlderHeld shape flash root frozen → NewestHeld shape flash root active epoch
+pub lists_held : (shape : Shape) (flash : Flash) (root : Root) (active frozen : Table) (epoch : JournalEpoch) (arena : Frames) (levels : Levels)
+    → OlderHeld shape flash root frozen → NewestHeld shape flash root active epoch
     → ((ess : List (List Entry)) × HoldsRuns shape flash root arena levels ess) → (found : Found) × HoldsFound shape flash root active frozen epoch arena levels found
 lists_held shape flash root active frozen epoch arena levels older newest runs = (
   record { newest = newest.0.0; older = older.0; runs = runs.0 },
@@ -83,7 +88,8 @@ module _ (shape : Shape) (root : Root) (old : BoardState) where
 
   pub older_refuses : (new : BoardState) (e : PageError) → PartNotRead (older_epoch shape (page_at old.pages) root) old new e → PartNotOpened all old new (opening_of e)
   older_refuses new e why =
-      whole_refuses (older_epoch shape (page_at old.pages) root) all old new (opening_of e) (older_first shape (page_at old.pages) root) (as_part (older_epoch shape (page_at old.pages) root) old new e why)
+      whole_refuses (older_epoch shape (page_at old.pages) root) all old new (opening_of e)
+      (older_first shape (page_at old.pages) root) (as_part (older_epoch shape (page_at old.pages) root) old new e why)
 
   module _ (frozen : Table) (older : OlderHeld shape old.pages root frozen) (now : BoardState) (reads : OnlyReads old now) (same : now.pages ≡ old.pages) where
     pub newest_refuses : (new : BoardState) (e : PageError) → PartNotRead (newest_epoch shape (page_at now.pages) root) now new e → PartNotOpened all old new (opening_of e)
@@ -95,12 +101,14 @@ module _ (shape : Shape) (root : Root) (old : BoardState) where
     pub newest_here : (active : Table) (epoch : JournalEpoch) → NewestHeld shape now.pages root active epoch → NewestHeld shape old.pages root active epoch
     newest_here active epoch held = subst (λ (f : Flash). NewestHeld shape f root active epoch) same held
 
-  module _ (frozen active : Table) (epoch : JournalEpoch) (older : OlderHeld shape old.pages root frozen) (newest : NewestHeld shape old.pages root active epoch) (now : BoardState) (reads : OnlyReads old now) (same : now.pages ≡ old.pages) where
+  module _ (frozen active : Table) (epoch : JournalEpoch) (older : OlderHeld shape old.pages root frozen)
+      (newest : NewestHeld shape old.pages root active epoch) (now : BoardState) (reads : OnlyReads old now) (same : now.pages ≡ old.pages) where
     pub runs_refuse : (new : BoardState) (e : OpenError) → PartNotOpened (runs_from shape (page_at now.pages) 1 root.counts root.runs) now new e → PartNotOpened all old new e
     runs_refuse new e why =
         let part = runs_from shape (page_at old.pages) 1 root.counts root.runs in
         whole_refuses part all old new e (runs_third shape (page_at old.pages) root older.0 newest.0.0 older.1.finds newest.0.1.finds)
         (behind_reads part old now new e reads same (subst (λ (f : Flash). PartNotOpened (runs_from shape (page_at f) 1 root.counts root.runs) now new e) same why))
 
-    pub all_held : (arena : Frames) (levels : Levels) → ((ess : List (List Entry)) × HoldsRuns shape now.pages root arena levels ess) → (found : Found) × HoldsFound shape old.pages root active frozen epoch arena levels found
+    pub all_held : (arena : Frames) (levels : Levels) → ((ess : List (List Entry)) × HoldsRuns shape now.pages root arena levels ess)
+        → (found : Found) × HoldsFound shape old.pages root active frozen epoch arena levels found
     all_held arena levels runs = lists_held shape old.pages root active frozen epoch arena levels older newest (runs.0, subst (λ (f : Flash). HoldsRuns shape f root arena levels runs.0) same runs.1)

@@ -1,5 +1,6 @@
 -- The blocks that have an owner, and what depends on which these are alone.
-use Rattle.std.proofs.Common.{◌≡◌, inl, inr, ℕ, zero, suc, ◌+◌, ◌-◌, ◌/◌, ◌<◌, ◌≤◌, Bool, true, false, not, ◌&&◌, ◌||◌, ◌==◌, List, [], ◌∷◌, ◌++◌, length, refl, sym, ap, subst, ◌∙◌, arith, Option, Some, None, Ok, option_map, eq-or-lt_of_le}
+use Rattle.std.proofs.Common.{◌≡◌, inl, inr, ℕ, zero, suc, ◌+◌, ◌-◌, ◌/◌, ◌<◌, ◌≤◌, Bool, true, false, not, ◌&&◌, ◌||◌, ◌==◌, List, [], ◌∷◌, ◌++◌, length, refl, sym, ap, subst, ◌∙◌, arith, Option}
+use Rattle.std.proofs.Common.{Some, None, Ok, option_map, eq-or-lt_of_le}
 use Rattle.std.specs.Prelude.{slice_get, nat_le}
 use Rattle.std.specs.List.{list_any, list_all, concat, range_with_len, AllByRecursion}
 use Rattle.std.proofs.lemmas.Bool.{false≢true, or_left, or_right, or_cases, eq-eqb, eqb-true}
@@ -65,7 +66,8 @@ module _ (shape : Shape) (xs ys : List ℕ) (same : (b : ℕ) → list_any (λ c
   unfolding values_of
   values_same at taken [] = refl
   values_same at taken (e ∷ es) =
-      λ i. ensure (fits_same (taken ++ value_pages shape e.1) i) e.1.page >>= (λ u. value_at shape at e.0 e.1 >>= (λ value. values_same at (taken ++ value_pages shape e.1) es i >>= (λ others. Ok ((e.0, value) ∷ others))))
+      λ i. ensure (fits_same (taken ++ value_pages shape e.1) i) e.1.page >>=
+      (λ u. value_at shape at e.0 e.1 >>= (λ value. values_same at (taken ++ value_pages shape e.1) es i >>= (λ others. Ok ((e.0, value) ∷ others))))
 
   pub Lives-same : (live : Values) (taken : List (Key × Place)) → Lives shape xs live taken → Lives shape ys live taken
   Lives-same live taken lives = record {

@@ -70,7 +70,8 @@ named_left root b (Some t) o e =
     not_left Journal (is_among (root.newest ++ root.older) b) (Some t) o (not_left Meta (is_among (concat root.runs) b) (Some (owned_if Journal (is_among (root.newest ++ root.older) b) t)) o e)
 
 module _ (shape : Shape) (root : Root) (is : IsShape shape) (e : is_root shape root ≡ true) (live : LiveValues) (taken : List (Key × Place)) (lives : Lives shape (named root) live taken) where
-  module _ (p q r : Blocks) (new : p ≡ unused shape) (fits : (flash : Flash) → PoolOnFlash p flash) (owned : NamesOwned root p q) (closing : Adopts Values (λ b. get_or live.closed b false) (count_by (λ b. b) live.closed) q r)
+  module _ (p q r : Blocks) (new : p ≡ unused shape) (fits : (flash : Flash) → PoolOnFlash p flash)
+      (owned : NamesOwned root p q) (closing : Adopts Values (λ b. get_or live.closed b false) (count_by (λ b. b) live.closed) q r)
       (none : used_by Values q.states ≡ 0) (size : length r.states ≡ r.shape.blocks) where
     shape_is : r.shape ≡ shape
     shape_is = closing.shape ∙ owned.shape ∙ ap (λ (x : Blocks). x.shape) new
@@ -88,7 +89,8 @@ module _ (shape : Shape) (root : Root) (is : IsShape shape) (e : is_root shape r
     stays : (b : ℕ) (o : Owner) → slice_get q.states b ≡ Some (Owned o) → slice_get r.states b ≡ Some (Owned o)
     stays b o got = elim (cases_Bool (get_or live.closed b false)) [
       | inl closed ↦
-          let now : slice_get r.states b ≡ Some (Owned Values) = closing.states b ∙ ap (λ x. option_map (owned_if Values x) (slice_get q.states b)) closed ∙ ap (option_map (owned_if Values true)) got in
+          let now : slice_get r.states b ≡ Some (Owned Values) = closing.states b
+          ∙ ap (λ x. option_map (owned_if Values x) (slice_get q.states b)) closed ∙ ap (option_map (owned_if Values true)) got in
           let inside : b < shape.blocks = omega (arith, slice_get_within r.states b (Owned Values) now, size_is) in
           absurd (spare_not_owned q b o (spare_of b inside closed) got)
       | inr other ↦ closing.states b ∙ ap (λ x. option_map (owned_if Values x) (slice_get q.states b)) other ∙ ap (option_map (owned_if Values false)) got
@@ -105,7 +107,8 @@ module _ (shape : Shape) (root : Root) (is : IsShape shape) (e : is_root shape r
         let was = some_state (unused shape) b (in_new b here) in
         let none_of = none_among b (root.newest ++ root.older) (concat root.runs) (apart (root.newest ++ root.older) (concat root.runs) (names_differ shape root is e)) here in
         stays b Journal (from_new.states b ∙ ap (option_map (state_of root b)) was.1
-        ∙ ap (λ x. Some (owned_if Meta x (owned_if Journal (is_among (root.newest ++ root.older) b) was.0))) none_of ∙ ap (λ x. Some (owned_if Journal x was.0)) (among b (root.newest ++ root.older) here))
+        ∙ ap (λ x. Some (owned_if Meta x (owned_if Journal (is_among (root.newest ++ root.older) b) was.0))) none_of
+        ∙ ap (λ x. Some (owned_if Journal x was.0)) (among b (root.newest ++ root.older) here))
 
     of_meta : (b : ℕ) → AnyByRecursion (λ c. b ≡ c) (concat root.runs) → slice_get r.states b ≡ Some (Owned Meta)
     of_meta b here =
@@ -129,7 +132,8 @@ module _ (shape : Shape) (root : Root) (is : IsShape shape) (e : is_root shape r
           let inside : b < length live.closed = omega (arith, slice_get_within r.states b (Owned Values) got, size_is, closed_many) in
           flag_at live.closed b (get_or live.closed b false) true inside refl closed
       | inr other ↦
-          let before : option_map (owned_if Values false) (slice_get q.states b) ≡ Some (Owned Values) = sym (closing.states b ∙ ap (λ x. option_map (owned_if Values x) (slice_get q.states b)) other) ∙ got in
+          let before : option_map (owned_if Values false) (slice_get q.states b) ≡ Some (Owned Values) = sym
+          (closing.states b ∙ ap (λ x. option_map (owned_if Values x) (slice_get q.states b)) other) ∙ got in
           let one = used_given q.states b Values (same (slice_get q.states b) before) in
           absurd (omega (arith, one, none))
     ]
@@ -138,7 +142,8 @@ module _ (shape : Shape) (root : Root) (is : IsShape shape) (e : is_root shape r
         same (Some s) e = e
         same None e = cc
 
-    module _ (journal : used_by Journal q.states ≡ length (root.newest ++ root.older)) (meta : used_by Meta q.states ≡ length (concat root.runs)) (few : used_by Values r.states ≤ data_blocks q.shape - 1) where
+    module _ (journal : used_by Journal q.states ≡ length (root.newest ++ root.older))
+        (meta : used_by Meta q.states ≡ length (concat root.runs)) (few : used_by Values r.states ≤ data_blocks q.shape - 1) where
       pub has_owners : HasOwners shape root live r
       has_owners = record {
         pool_shape = shape_is;

@@ -1,5 +1,6 @@
 -- The reading of a run, page by page: it goes on after a page whose entries follow those before, and refuses with any other.
-use Rattle.std.proofs.Common.{◌≡◌, ℕ, zero, suc, ◌*◌, ◌<◌, ◌≤◌, min, Bool, true, false, not, ◌||◌, ◌==◌, T, List, [], ◌∷◌, ◌++◌, length, refl, ap, sym, ◌∙◌, arith, Option, Some, None, option_map, Err, append_assoc, suc-mul, mul-le-mul_right, lt_of_mul-lt-mul_right}
+use Rattle.std.proofs.Common.{◌≡◌, ℕ, zero, suc, ◌*◌, ◌<◌, ◌≤◌, min, Bool, true, false, not, ◌||◌, ◌==◌, List, [], ◌∷◌, ◌++◌, length, refl, ap, sym, ◌∙◌, arith, Option, Some, None, option_map, Err}
+use Rattle.std.proofs.Common.{append_assoc, suc-mul, mul-le-mul_right, lt_of_mul-lt-mul_right}
 use Rattle.std.specs.Prelude.{slice_get}
 use Rattle.std.specs.Int.{div_ceil}
 use Rattle.std.specs.FinMap.Entries.{is_sorted}
@@ -13,10 +14,7 @@ use Rattle.pk_meta.specs.Page.{meta_entries}
 use Rattle.pk_meta.specs.Run.{meta}
 use Rattle.pk_run.proofs.Pieces.{share}
 use Rattle.pk_scan.specs.Runs.{IsLast, are_put, RunGoesOn}
-
-of_true : (b : Bool) → b ≡ true → T b
-of_true true e = tt
-of_true false e = cc
+use Rattle.pk_base.proofs.Logic.{of_true}
 
 -- no entries of the page follow those before: it refuses
 pub meta_refused : (shape : Shape) (level count index : ℕ) (before : List Entry) (p : ℕ) (page : Page) (pages : NumberedPages)

@@ -1,27 +1,11 @@
 -- Entries that rise by key, and follow others: it is enough to compare the last key with the next one.
-use Rattle.std.proofs.Common.{◌≡◌, Bool, true, false, ◌&&◌, T, List, [], ◌∷◌, ◌++◌, refl, sym, subst, Ordering, Less, Equal, Greater}
+use Rattle.std.proofs.Common.{◌≡◌, T, List, [], ◌∷◌, ◌++◌, sym, subst, Less}
 use Rattle.std.specs.Ordering.{is_lt}
 use Rattle.std.specs.FinMap.Entries.{is_sorted, below_all}
 use Rattle.std.proofs.lemmas.Cmp.{nat_list_cmp_total}
 use Rattle.pk_base.specs.Key.{Key, key_cmp}
 use Rattle.pk_base.specs.Entry.{Entry, key_of}
-
-left_part : (a b : Bool) → T (a && b) → T a
-left_part true b p = tt
-left_part false b p = p
-
-right_part : (a b : Bool) → T (a && b) → T b
-right_part true b p = p
-right_part false b p = absurd p
-
-both : (a b : Bool) → T a → T b → T (a && b)
-both true b p q = q
-both false b p q = p
-
-less : (o : Ordering) → T (is_lt o) → o ≡ Less
-less Less p = refl
-less Equal p = absurd p
-less Greater p = absurd p
+use Rattle.pk_base.proofs.Logic.{left_part, right_part, both, less}
 
 -- what is above a key is above a smaller one
 below_less : (a b : Key) (es : List Entry) → T (is_lt (key_cmp a b)) → T (below_all key_cmp b es) → T (below_all key_cmp a es)
@@ -47,13 +31,15 @@ sorted_back [] ys p = p
 sorted_back (x ∷ xs) ys p = sorted_back xs ys (right_part _ _ p)
 
 -- the last entry is below the next
-pub rises_behind : (front : List Entry) (last next : Entry) (more : List Entry) → T (is_sorted key_cmp (front ++ last ∷ [])) → T (is_sorted key_cmp (next ∷ more)) → T (is_lt (key_cmp (key_of last) (key_of next)))
+pub rises_behind : (front : List Entry) (last next : Entry) (more : List Entry) → T (is_sorted key_cmp (front ++ last ∷ []))
+    → T (is_sorted key_cmp (next ∷ more)) → T (is_lt (key_cmp (key_of last) (key_of next)))
     → T (is_sorted key_cmp ((front ++ last ∷ []) ++ next ∷ more))
 rises_behind [] last next more up up' less_than =
     both _ _ (both _ _ less_than (below_less last.0 next.0 more less_than (left_part _ _ up'))) up'
 rises_behind (x ∷ front) last next more up up' less_than =
     let low : T (is_lt (key_cmp x.0 last.0)) = left_part _ _ (below_back x.0 front (last ∷ []) (left_part _ _ up)) in
-    let all : T (below_all key_cmp x.0 (last ∷ next ∷ more)) = both _ _ low (below_less x.0 last.0 (next ∷ more) low (both _ _ less_than (below_less last.0 next.0 more less_than (left_part _ _ up')))) in
+    let all : T (below_all key_cmp x.0 (last ∷ next ∷ more)) = both _ _ low
+    (below_less x.0 last.0 (next ∷ more) low (both _ _ less_than (below_less last.0 next.0 more less_than (left_part _ _ up')))) in
     both _ _ (below_both x.0 (front ++ last ∷ []) (next ∷ more) (left_part _ _ up) (right_part _ _ all)) (rises_behind front last next more (right_part _ _ up) up' less_than)
 
 -- the other way round

@@ -5,7 +5,7 @@ use Rattle.std.proofs.lemmas.List.Sums.{sum_by-cons}
 use Rattle.pk_base.specs.Shape.{Shape, pinned}
 use Rattle.pk_pin.specs.Frames.{Frames, free_frames}
 use Rattle.pk_level.specs.Levels.{Levels, no_runs}
-use Rattle.pk_scan.specs.Opening.{wanted_behind}
+use Rattle.pk_scan.specs.OpeningParts.{wanted_behind}
 use Rattle.pk_scan.proofs.Wanted.{pinned_wants}
 
 all_free : (n : ℕ) → count_by not (replicate n false) ≡ n
@@ -16,7 +16,8 @@ all_free (suc n) =
     omega (arith, step, rest)
 
 -- no frame is leased, so those that are wanted are free
-pub frames_enough : (shape : Shape) (frames : ℕ) (levels : Levels) (arena : Frames) → levels ≡ no_runs shape (pinned shape frames) → arena.used ≡ replicate frames false → wanted_behind shape levels.pinned 0 ≤ free_frames arena
+pub frames_enough : (shape : Shape) (frames : ℕ) (levels : Levels) (arena : Frames) → levels ≡ no_runs shape (pinned shape frames)
+    → arena.used ≡ replicate frames false → wanted_behind shape levels.pinned 0 ≤ free_frames arena
 frames_enough shape frames levels arena levels_are none =
     let free : free_frames arena ≡ frames = ap (λ (us : List Bool). count_by not us) none ∙ all_free frames in
     let wants = pinned_wants shape frames in

@@ -46,7 +46,8 @@ module _ (p : ℕ → Bool) where
 
 exist : (shape : Shape) (bs : List ℕ) → list_all (λ b. nat_le 2 b && nat_lt b shape.blocks) bs ≡ true → RunBlocksExist shape bs
 exist shape [] e n h = absurd (omega (arith, h))
-exist shape (b ∷ bs) e zero h = below b shape.blocks (back_true (nat_le 2 b) (nat_lt b shape.blocks) (front_true (nat_le 2 b && nat_lt b shape.blocks) (list_all (λ b. nat_le 2 b && nat_lt b shape.blocks) bs) e))
+exist shape (b ∷ bs) e zero h = below b shape.blocks
+    (back_true (nat_le 2 b) (nat_lt b shape.blocks) (front_true (nat_le 2 b && nat_lt b shape.blocks) (list_all (λ b. nat_le 2 b && nat_lt b shape.blocks) bs) e))
 exist shape (b ∷ bs) e (suc n) h = exist shape bs (back_true (nat_le 2 b && nat_lt b shape.blocks) (list_all (λ b. nat_le 2 b && nat_lt b shape.blocks) bs) e) n (omega (arith, h))
 
 two_exist : (shape : Shape) (bs : List ℕ) → length bs ≡ 2 → RunBlocksExist shape bs → EpochExists shape bs
@@ -56,7 +57,8 @@ few_at : (size : ℕ) (counts caps : List ℕ) (n : ℕ) → list_all (λ p. nat
 few_at size [] caps n e h k = absurd (omega (arith, h))
 few_at size (c ∷ counts) [] n e h k = absurd (omega (arith, k))
 few_at size (c ∷ counts) (d ∷ caps) zero e h k = at_most c (d * size) (front_true (nat_le c (d * size)) (list_all (λ p. nat_le p.0 (p.1 * size)) (zip counts caps)) e)
-few_at size (c ∷ counts) (d ∷ caps) (suc n) e h k = few_at size counts caps n (back_true (nat_le c (d * size)) (list_all (λ p. nat_le p.0 (p.1 * size)) (zip counts caps)) e) (omega (arith, h)) (omega (arith, k))
+few_at size (c ∷ counts) (d ∷ caps) (suc n) e h k = few_at size counts caps n
+    (back_true (nat_le c (d * size)) (list_all (λ p. nat_le p.0 (p.1 * size)) (zip counts caps)) e) (omega (arith, h)) (omega (arith, k))
 
 sized_at : (f : ℕ → ℕ) (counts : List ℕ) (runs : List (List ℕ)) (n : ℕ) (bs : List ℕ) → map length runs ≡ map f counts → slice_get runs n ≡ Some bs → length bs ≡ f (get_or counts n 0)
 sized_at f counts [] n bs e got = cc
@@ -78,7 +80,8 @@ module _ (shape : Shape) (root : Root) (e : is_root shape root ≡ true) where
   of_epochs = all_front is_block (root.newest ++ root.older) (concat root.runs) parts.blocks
 
   pub newest_exist : (bs : List ℕ) → bs ≡ two_of root.newest → EpochExists shape bs
-  newest_exist bs is = subst (EpochExists shape) (sym (is ∙ two_is root.newest newest_two)) (two_exist shape root.newest newest_two (exist shape root.newest (all_front is_block root.newest root.older of_epochs)))
+  newest_exist bs is = subst (EpochExists shape) (sym (is ∙ two_is root.newest newest_two))
+      (two_exist shape root.newest newest_two (exist shape root.newest (all_front is_block root.newest root.older of_epochs)))
 
   pub older_two : (bs : List ℕ) → Some bs ≡ older_of root.older → length root.older ≡ 2
   older_two bs is = by_cases root.older parts.older is
@@ -92,7 +95,8 @@ module _ (shape : Shape) (root : Root) (e : is_root shape root ≡ true) where
           ]
 
   pub older_exist : (bs : List ℕ) → Some bs ≡ older_of root.older → EpochExists shape bs
-  older_exist bs is = subst (EpochExists shape) (sym (older_is root.older bs is)) (two_exist shape root.older (older_two bs is) (exist shape root.older (all_back is_block root.newest root.older of_epochs)))
+  older_exist bs is = subst (EpochExists shape) (sym (older_is root.older bs is))
+      (two_exist shape root.older (older_two bs is) (exist shape root.older (all_back is_block root.newest root.older of_epochs)))
 
   pub epoch_some : 1 ≤ root.epoch
   epoch_some = at_most 1 root.epoch parts.some

@@ -1,5 +1,6 @@
 -- One page of a run, by what is found in it.
-use Rattle.std.proofs.Common.{◌≡◌, ℕ, zero, suc, ◌+◌, ◌<◌, ◌≤◌, ◌^◌, Bool, true, false, not, ◌&&◌, ◌||◌, ◌==◌, T, is_some, List, [], ◌∷◌, ◌++◌, length, take, refl, ap, sym, subst, ◌∙◌, arith, Option, Some, None, option_map, Result, Ok, Err}
+use Rattle.std.proofs.Common.{◌≡◌, ℕ, zero, suc, ◌+◌, ◌<◌, ◌≤◌, ◌^◌, Bool, true, false, not, ◌&&◌, ◌||◌, ◌==◌, T, is_some, List, [], ◌∷◌, ◌++◌, length, take, refl, ap, sym, subst, ◌∙◌, arith, Option}
+use Rattle.std.proofs.Common.{Some, None, option_map, Result, Ok, Err}
 use Rattle.std.specs.Prelude.{slice_get}
 use Rattle.std.specs.Ordering.{is_lt}
 use Rattle.std.specs.FinMap.Entries.{is_sorted}
@@ -7,22 +8,16 @@ use Rattle.std.proofs.lemmas.List.{take_all}
 use Rattle.pk_base.specs.Key.{Key, key_cmp}
 use Rattle.pk_base.specs.Shape.{Shape}
 use Rattle.pk_base.specs.Entry.{Entry, key_of}
-use Rattle.pk_meta.specs.Page.{meta_entries, IsMetaPage}
+use Rattle.pk_meta.specs.Page.{meta_entries}
+use Rattle.pk_meta.specs.PageChecks.{IsMetaPage}
 use Rattle.pk_meta.specs.declared.MetaHead.{MetaHead}
 use Rattle.pk_meta.specs.declared.BadMeta.{BadMeta}
 use Rattle.pk_meta.proofs.Reading.{meta_held, sorted_true}
 use Rattle.pk_scan.specs.Runs.{IsLast, is_behind, are_put, GoesOnOr}
 use Rattle.pk_scan.proofs.Rises.{rises_behind, lies_behind}
+use Rattle.pk_base.proofs.Logic.{of_true}
 
 -- ---- none was deleted
-
-is_true : (b : Bool) → T b → b ≡ true
-is_true true p = refl
-is_true false p = absurd p
-
-pub of_true : (b : Bool) → b ≡ true → T b
-of_true true e = tt
-of_true false e = cc
 
 pub put_next : (es : List Entry) (i : ℕ) (e : Entry) → slice_get es i ≡ Some e → is_some e.1 ≡ true → are_put (take i es) ≡ true → are_put (take (i + 1) es) ≡ true
 put_next es i e got put before = let k : i + 1 ≡ suc i = omega arith in rw k (at_suc es i got before)
@@ -52,7 +47,8 @@ put_not (x ∷ es) (suc i) e got gone = none (is_some x.1) (are_put es) (put_not
 
 -- it is no meta page, or one of another level, index or count
 abbrev pub ReadSo : Shape → List ℕ → Result MetaHead BadMeta → Type 0
-ReadSo shape page r = (level index count : ℕ) (es : List Entry) → 1 ≤ level → level ≤ 4 → index < 2 ^ 32 → meta_entries shape level index count page ≡ Some es → r ≡ Ok (record { level = level; index = index; count = count })
+ReadSo shape page r = (level index count : ℕ) (es : List Entry) → 1 ≤ level → level ≤ 4 → index < 2 ^ 32
+    → meta_entries shape level index count page ≡ Some es → r ≡ Ok (record { level = level; index = index; count = count })
 
 pub another_page : (shape : Shape) (level index count : ℕ) (page : List ℕ) (r : Result MetaHead BadMeta) (head : MetaHead) → 1 ≤ level → level ≤ 4 → index < 2 ^ 32
     → ReadSo shape page r → r ≡ Ok head → (head ≡ record { level = level; index = index; count = count } → ⊥)
@@ -90,7 +86,8 @@ module _ (shape : Shape) (level index count : ℕ) (page : List ℕ) (es : List 
       goes rising = (es, record { holds = holds; rising = rising; deepest = deep })
 
       -- after none, or after the last one
-      with_last : (next : Entry) (rest : List Entry) → es ≡ next ∷ rest → key_of next ≡ first → (last : Option Key) → IsLast last before → (b : Bool) → b ≡ is_behind last first → GoesOnOr shape level index count before page b
+      with_last : (next : Entry) (rest : List Entry) → es ≡ next ∷ rest → key_of next ≡ first → (last : Option Key)
+          → IsLast last before → (b : Bool) → b ≡ is_behind last first → GoesOnOr shape level index count before page b
       with_last next rest e key None none true is = goes (subst (λ (xs : List Entry). T (is_sorted key_cmp (xs ++ es))) (sym none) up)
       with_last next rest e key None none false is = let clash : false ≡ true = is in cc
       with_last next rest e key (Some k) (front, l, whole, key_is) true is =
@@ -102,7 +99,8 @@ module _ (shape : Shape) (level index count : ℕ) (page : List ℕ) (es : List 
           let rises : T (is_sorted key_cmp ((front ++ l ∷ []) ++ next ∷ rest)) =
           subst (λ (xs : List Entry). T (is_sorted key_cmp ((front ++ l ∷ []) ++ xs))) e
           (subst (λ (xs : List Entry). T (is_sorted key_cmp (xs ++ es))) whole (subst (λ (xs : List Entry). T (is_sorted key_cmp (before ++ xs))) same had.rising)) in
-          let less : T (is_lt (key_cmp k first)) = subst (λ (x : Key). T (is_lt (key_cmp k x))) key (subst (λ (x : Key). T (is_lt (key_cmp x (key_of next)))) key_is (lies_behind front l next rest rises)) in
+          let less : T (is_lt (key_cmp k first)) = subst (λ (x : Key). T (is_lt (key_cmp k x))) key
+          (subst (λ (x : Key). T (is_lt (key_cmp x (key_of next)))) key_is (lies_behind front l next rest rises)) in
           subst T (sym is) less
 
       by_first : (xs : List Entry) → es ≡ xs → GoesOnOr shape level index count before page b

@@ -9,7 +9,8 @@ use Rattle.pk_run.specs.Kept.{Kept}
 use Rattle.pk_level.specs.Levels.{RunsOnFlash}
 use Rattle.pk_walk.specs.Walking.{read_of, most_read}
 use Rattle.pk_level.specs.Arenas.{IsPinnedIf}
-use Rattle.pk_scan.specs.Opening.{HaveBlocks, HaveFrames}
+use Rattle.pk_scan.specs.OpeningParts.{HaveBlocks}
+use Rattle.pk_scan.specs.OpeningParts.{HaveFrames}
 use Rattle.pk_scan.specs.Reads.{pages_of_runs, run_reads}
 
 none_pinned : (leases : List ℕ) (pages : ℕ) → length leases ≡ pages → read_of leases pages ≡ 0

@@ -1,5 +1,6 @@
 -- Runs that were read one after another, as the reading of a flash has them.
-use Rattle.std.proofs.Common.{◌≡◌, inl, inr, ℕ, zero, suc, ◌+◌, ◌-◌, ◌<◌, ◌≤◌, Bool, true, false, List, [], ◌∷◌, ◌++◌, length, get_or, take, drop, refl, sym, ap, subst, ◌∙◌, arith, Some, Result, Ok, Err, append-nil, append_assoc, length-take}
+use Rattle.std.proofs.Common.{◌≡◌, inl, inr, ℕ, zero, suc, ◌+◌, ◌-◌, ◌<◌, ◌≤◌, Bool, true, false, List, [], ◌∷◌, ◌++◌, length, get_or, take, drop, refl, sym, ap, subst, ◌∙◌, arith, Some, Result, Ok}
+use Rattle.std.proofs.Common.{Err, append-nil, append_assoc, length-take}
 use Rattle.std.specs.Prelude.{nat_le, slice_get, slice_index, slice_index_or}
 use Rattle.std.proofs.Math.ListN.{set}
 use Rattle.std.proofs.lemmas.Bool.{cases_lt}
@@ -21,7 +22,9 @@ use Rattle.pk_level.specs.Arenas.{IsPinnedIf, leases_of}
 use Rattle.pk_level.proofs.Arenas.{leases-append}
 use Rattle.pk_model.specs.Found.{runs_from}
 use Rattle.pk_scan.specs.Runs.{HasRun, NotRead, LeasedMore, RunsStand}
-use Rattle.pk_scan.specs.Opening.{OnlyReads, PartNotOpened, HaveBlocks, HaveFrames, HoldsRuns, LoadsLevel, LoadsRuns, MayLoadLevel, wanted_behind, opening_of}
+use Rattle.pk_scan.specs.Opening.{OnlyReads}
+use Rattle.pk_scan.specs.OpeningParts.{HaveBlocks}
+use Rattle.pk_scan.specs.OpeningParts.{PartNotOpened, HaveFrames, HoldsRuns, LoadsLevel, LoadsRuns, MayLoadLevel, wanted_behind, opening_of}
 use Rattle.pk_scan.proofs.Boards.{reads_both, counted_behind}
 use Rattle.pk_scan.proofs.Exact.{take_next}
 use Rattle.pk_scan.proofs.Leasing.{leased_none, leased_more}
@@ -76,7 +79,8 @@ stand_kept flash old new kept [] (es ∷ ess) each = absurd each
 stand_kept flash old new kept (r ∷ rs) [] each = absurd each
 stand_kept flash old new kept (r ∷ rs) (es ∷ ess) each = (kept r flash es each.0, stand_kept flash old new kept rs ess each.1)
 
-stand_more : (flash : Flash) (arena : Frames) (rs : List Kept) (ess : List (List Entry)) (r : Kept) (es : List Entry) → RunsOnFlash flash arena rs ess → RunOnFlash r flash arena es → RunsOnFlash flash arena (rs ++ r ∷ []) (ess ++ es ∷ [])
+stand_more : (flash : Flash) (arena : Frames) (rs : List Kept) (ess : List (List Entry)) (r : Kept) (es : List Entry)
+    → RunsOnFlash flash arena rs ess → RunOnFlash r flash arena es → RunsOnFlash flash arena (rs ++ r ∷ []) (ess ++ es ∷ [])
 stand_more flash arena [] [] r es each one = (one, tt)
 stand_more flash arena [] (x ∷ ess) r es each one = absurd each
 stand_more flash arena (y ∷ rs) [] r es each one = absurd each
@@ -84,13 +88,15 @@ stand_more flash arena (y ∷ rs) (x ∷ ess) r es each one = (each.0, stand_mor
 
 -- ---- blocks and frames of runs
 
-blocks_more : (shape : Shape) (rs : List Kept) (bss : List (List ℕ)) (r : Kept) (bs : List ℕ) → HaveBlocks shape rs bss → r.shape ≡ shape → r.blocks ≡ bs → HaveBlocks shape (rs ++ r ∷ []) (bss ++ bs ∷ [])
+blocks_more : (shape : Shape) (rs : List Kept) (bss : List (List ℕ)) (r : Kept) (bs : List ℕ)
+    → HaveBlocks shape rs bss → r.shape ≡ shape → r.blocks ≡ bs → HaveBlocks shape (rs ++ r ∷ []) (bss ++ bs ∷ [])
 blocks_more shape [] [] r bs have same is = (same, is, tt)
 blocks_more shape [] (xs ∷ bss) r bs have same is = absurd have
 blocks_more shape (y ∷ rs) [] r bs have same is = absurd have
 blocks_more shape (y ∷ rs) (xs ∷ bss) r bs have same is = (have.0, have.1, blocks_more shape rs bss r bs have.2 same is)
 
-frames_more : (pinned level here : ℕ) (rs : List Kept) (counts : List ℕ) (r : Kept) (count : ℕ) → HaveFrames pinned level rs counts → here ≡ level + length rs → r.count ≡ count → IsPinnedIf (nat_le here pinned) r
+frames_more : (pinned level here : ℕ) (rs : List Kept) (counts : List ℕ) (r : Kept) (count : ℕ)
+    → HaveFrames pinned level rs counts → here ≡ level + length rs → r.count ≡ count → IsPinnedIf (nat_le here pinned) r
     → HaveFrames pinned level (rs ++ r ∷ []) (counts ++ count ∷ [])
 frames_more pinned level here [] [] r count have place is frames =
     let same : here ≡ level = omega (arith, place) in (is, subst (λ (n : ℕ). IsPinnedIf (nat_le n pinned) r) same frames, tt)
@@ -113,15 +119,19 @@ module _ (shape : Shape) (root : Root) (level count : ℕ) (bs : List ℕ) (coun
   at_level : (at : ℕ → Page) → run shape at level (slice_index root.counts (level - 1)) (slice_index_or root.runs (level - 1) []) ≡ run shape at level count bs
   at_level at = ap (λ (n : ℕ). run shape at level n (slice_index_or root.runs (level - 1) [])) (sym counted) ∙ ap (run shape at level count) (get_or_from_slice_get root.runs (level - 1) bs [] got)
 
-  pub level_refused : (at : ℕ → Page) (page : ℕ) → run shape at level count bs ≡ Err (damaged page) → run shape at level (slice_index root.counts (level - 1)) (slice_index_or root.runs (level - 1) []) ≡ Err (damaged page)
+  pub level_refused : (at : ℕ → Page) (page : ℕ) → run shape at level count bs ≡ Err (damaged page)
+      → run shape at level (slice_index root.counts (level - 1)) (slice_index_or root.runs (level - 1) []) ≡ Err (damaged page)
   level_refused at page e = at_level at ∙ e
 
-  pub level_not_loaded : (old new : BoardState) (e : PageError) → NotRead shape level count bs old new e → PartNotOpened (run shape (page_at old.pages) level (slice_index root.counts (level - 1)) (slice_index_or root.runs (level - 1) [])) old new (opening_of e)
+  pub level_not_loaded : (old new : BoardState) (e : PageError) → NotRead shape level count bs old new e
+      → PartNotOpened (run shape (page_at old.pages) level (slice_index root.counts (level - 1)) (slice_index_or root.runs (level - 1) [])) old new (opening_of e)
   level_not_loaded old new (PageDamaged page) why = (level_refused (page_at old.pages) page why.read, (why.index + 1, why.board))
   level_not_loaded old new PageFault why = (why.flash, why.read)
 
-  pub level_loaded : (flash : Flash) (before after : Frames) (old new : Levels) (kept : Kept) (pins : Bool) → HasRun shape level count bs flash after kept → RunsStand before after → LeasedMore before after kept.leases → IsPinnedIf pins kept
-      → kept.shape ≡ shape → kept.blocks ≡ bs → kept.count ≡ count → nat_le level old.pinned ≡ pins → length kept.firsts ≤ cap shape level → new ≡ with_run old level kept → LoadsLevel shape root level flash before after old new
+  pub level_loaded : (flash : Flash) (before after : Frames) (old new : Levels) (kept : Kept) (pins : Bool)
+      → HasRun shape level count bs flash after kept → RunsStand before after → LeasedMore before after kept.leases → IsPinnedIf pins kept
+      → kept.shape ≡ shape → kept.blocks ≡ bs → kept.count ≡ count → nat_le level old.pinned ≡ pins
+      → length kept.firsts ≤ cap shape level → new ≡ with_run old level kept → LoadsLevel shape root level flash before after old new
   level_loaded flash before after old new kept pins has others more pinned shape_is blocks_are count_is test few is = record {
     entries = has.entries;
     kept = kept;
@@ -134,8 +144,10 @@ module _ (shape : Shape) (root : Root) (level count : ℕ) (bs : List ℕ) (coun
     levels = is;
     others = others;
     more = more;
-    pinned = λ h. let same : length kept.leases ≡ length kept.firsts = subst (λ (b : Bool). IsPinnedIf b kept) (sym test ∙ le_true level old.pinned h) pinned in let free = more.free in omega (arith, same, free, few);
-    unpinned = λ h. let none : kept.leases ≡ [] = subst (λ (b : Bool). IsPinnedIf b kept) (sym test ∙ gt_false level old.pinned h) pinned in let zero_leases = ap (λ (ls : List ℕ). length ls) none in let free = more.free in omega (arith, zero_leases, free);
+    pinned = λ h. let same : length kept.leases ≡ length kept.firsts = subst (λ (b : Bool). IsPinnedIf b kept)
+        (sym test ∙ le_true level old.pinned h) pinned in let free = more.free in omega (arith, same, free, few);
+    unpinned = λ h. let none : kept.leases ≡ [] = subst (λ (b : Bool). IsPinnedIf b kept) (sym test ∙ gt_false level old.pinned h) pinned in let zero_leases = ap
+        (λ (ls : List ℕ). length ls) none in let free = more.free in omega (arith, zero_leases, free);
   }
 
 -- ---- the reading of the runs
@@ -155,7 +167,8 @@ behind_none (Ok xs) = refl
 behind_none (Err e) = refl
 
 module _ (shape : Shape) (at : ℕ → Page) where
-  one_more : (level c : ℕ) (cs bs : List ℕ) (runs : List (List ℕ)) (es : List Entry) → run shape at level c bs ≡ Ok es → runs_from shape at level (c ∷ cs) (bs ∷ runs) ≡ (runs_from shape at (level + 1) cs runs >>= (λ xs. Ok (es ∷ xs)))
+  one_more : (level c : ℕ) (cs bs : List ℕ) (runs : List (List ℕ)) (es : List Entry) → run shape at level c bs ≡ Ok es
+      → runs_from shape at level (c ∷ cs) (bs ∷ runs) ≡ (runs_from shape at (level + 1) cs runs >>= (λ xs. Ok (es ∷ xs)))
   unfolding runs_from
   one_more level c cs bs runs es read = rw read refl
 
@@ -185,7 +198,8 @@ pub record RunsTo (shape : Shape) (root : Root) (flash : Flash) (pinned : ℕ) (
   pub free : wanted_behind shape pinned k ≤ free_frames arena
 
 module _ (shape : Shape) (root : Root) (counts : length root.counts ≡ 4) (runs : length root.runs ≡ 4) (flash : Flash) (pinned : ℕ) where
-  pub RunsTo-start : (arena : Frames) (levels : Levels) → levels.shape ≡ shape → levels.pinned ≡ pinned → length levels.runs ≡ 4 → arena.page_bytes ≡ shape.page_bytes → wanted_behind shape pinned 0 ≤ free_frames arena
+  pub RunsTo-start : (arena : Frames) (levels : Levels) → levels.shape ≡ shape → levels.pinned ≡ pinned
+      → length levels.runs ≡ 4 → arena.page_bytes ≡ shape.page_bytes → wanted_behind shape pinned 0 ≤ free_frames arena
       → RunsTo shape root flash pinned arena arena levels 0
   RunsTo-start arena levels shape_is pinned_is four page free = record {
     ess = [];
@@ -227,16 +241,19 @@ module _ (shape : Shape) (root : Root) (counts : length root.counts ≡ 4) (runs
       part = run shape (page_at flash) level (slice_index root.counts (level - 1)) (slice_index_or root.runs (level - 1) [])
 
       part_is : part ≡ run shape (page_at flash) (suc k) (get_or root.counts k 0) (get_or root.runs k [])
-      part_is = ap (λ (j : ℕ). run shape (page_at flash) level (get_or root.counts j 0) (get_or root.runs j [])) d ∙ ap (λ (n : ℕ). run shape (page_at flash) n (get_or root.counts k 0) (get_or root.runs k [])) e
+      part_is = ap (λ (j : ℕ). run shape (page_at flash) level (get_or root.counts j 0) (get_or root.runs j [])) d
+          ∙ ap (λ (n : ℕ). run shape (page_at flash) n (get_or root.counts k 0) (get_or root.runs k [])) e
 
       module _ (arena' : Frames) (levels' : Levels) (l : LoadsLevel shape root level flash arena arena' levels levels') where
         taken : take (suc k) levels'.runs ≡ take k levels.runs ++ l.kept ∷ []
         taken = ap (λ (x : Levels). take (suc k) x.runs) l.levels ∙ ap (λ (j : ℕ). take (suc k) (set levels.runs j l.kept)) d ∙ take_set levels.runs k l.kept (omega (arith, t.four, h))
 
-        next_comes : runs_from shape (page_at flash) 1 root.counts root.runs ≡ behind (t.ess ++ l.entries ∷ []) (runs_from shape (page_at flash) (suc (suc k)) (drop (suc k) root.counts) (drop (suc k) root.runs))
+        next_comes : runs_from shape (page_at flash) 1 root.counts root.runs ≡ behind (t.ess ++ l.entries ∷ [])
+            (runs_from shape (page_at flash) (suc (suc k)) (drop (suc k) root.counts) (drop (suc k) root.runs))
         next_comes =
             let more : suc k + 1 ≡ suc (suc k) = omega arith in
-            t.comes ∙ ap (behind t.ess) (split ∙ one_more shape (page_at flash) (suc k) (get_or root.counts k 0) (drop (suc k) root.counts) (get_or root.runs k []) (drop (suc k) root.runs) l.entries (sym part_is ∙ l.finds))
+            t.comes ∙ ap (behind t.ess) (split
+            ∙ one_more shape (page_at flash) (suc k) (get_or root.counts k 0) (drop (suc k) root.counts) (get_or root.runs k []) (drop (suc k) root.runs) l.entries (sym part_is ∙ l.finds))
             ∙ behind_one t.ess l.entries (runs_from shape (page_at flash) (suc k + 1) (drop (suc k) root.counts) (drop (suc k) root.runs))
             ∙ ap (λ (n : ℕ). behind (t.ess ++ l.entries ∷ []) (runs_from shape (page_at flash) n (drop (suc k) root.counts) (drop (suc k) root.runs))) more
 
@@ -247,7 +264,8 @@ module _ (shape : Shape) (root : Root) (counts : length root.counts ≡ 4) (runs
         more_frames =
             let many = length-take k levels.runs in
             let four = t.four in
-            frames_more pinned 1 level (take k levels.runs) (take k root.counts) l.kept (get_or root.counts k 0) t.frames_are (omega (arith, e, many, four, h)) (l.count_is ∙ ap (λ (j : ℕ). get_or root.counts j 0) d)
+            frames_more pinned 1 level (take k levels.runs) (take k root.counts) l.kept (get_or root.counts k 0) t.frames_are
+            (omega (arith, e, many, four, h)) (l.count_is ∙ ap (λ (j : ℕ). get_or root.counts j 0) d)
             (subst (λ (p : ℕ). IsPinnedIf (nat_le level p) l.kept) t.pinned_is l.frames)
 
         next_free : wanted_behind shape pinned (suc k) ≤ free_frames arena'
@@ -268,22 +286,28 @@ module _ (shape : Shape) (root : Root) (counts : length root.counts ≡ 4) (runs
         RunsTo-next = record {
           ess = t.ess ++ l.entries ∷ [];
           comes = next_comes;
-          stand = subst (λ (rs : List Kept). RunsOnFlash flash arena' rs (t.ess ++ l.entries ∷ [])) (sym taken) (stand_more flash arena' (take k levels.runs) t.ess l.kept l.entries (stand_kept flash arena arena' l.others (take k levels.runs) t.ess t.stand) l.stands);
-          blocks_are = subst (λ (rs : List Kept). HaveBlocks shape rs (take (suc k) root.runs)) (sym taken) (subst (HaveBlocks shape (take k levels.runs ++ l.kept ∷ [])) (sym (take_next root.runs k [] (omega (arith, runs, h)))) more_blocks);
-          frames_are = subst (λ (rs : List Kept). HaveFrames pinned 1 rs (take (suc k) root.counts)) (sym taken) (subst (HaveFrames pinned 1 (take k levels.runs ++ l.kept ∷ [])) (sym (take_next root.counts k 0 (omega (arith, counts, h)))) more_frames);
+          stand = subst (λ (rs : List Kept). RunsOnFlash flash arena' rs (t.ess ++ l.entries ∷ [])) (sym taken)
+              (stand_more flash arena' (take k levels.runs) t.ess l.kept l.entries (stand_kept flash arena arena' l.others (take k levels.runs) t.ess t.stand) l.stands);
+          blocks_are = subst (λ (rs : List Kept). HaveBlocks shape rs (take (suc k) root.runs)) (sym taken)
+              (subst (HaveBlocks shape (take k levels.runs ++ l.kept ∷ [])) (sym (take_next root.runs k [] (omega (arith, runs, h)))) more_blocks);
+          frames_are = subst (λ (rs : List Kept). HaveFrames pinned 1 rs (take (suc k) root.counts)) (sym taken)
+              (subst (HaveFrames pinned 1 (take k levels.runs ++ l.kept ∷ [])) (sym (take_next root.counts k 0 (omega (arith, counts, h)))) more_frames);
           shape_is = ap (λ (x : Levels). x.shape) l.levels ∙ t.shape_is;
           pinned_is = ap (λ (x : Levels). x.pinned) l.levels ∙ t.pinned_is;
           four = ap (λ (x : Levels). length x.runs) l.levels ∙ set_length levels.runs (level - 1) l.kept ∙ t.four;
           page = l.more.page ∙ t.page;
           more = subst (λ (rs : List Kept). LeasedMore start arena' (leases_of rs)) (sym taken)
-              (subst (LeasedMore start arena') (sym (leases-append (take k levels.runs) (l.kept ∷ []) ∙ ap (λ (ls : List ℕ). leases_of (take k levels.runs) ++ ls) (append-nil l.kept.leases))) next_more);
+              (subst (LeasedMore start arena')
+              (sym (leases-append (take k levels.runs) (l.kept ∷ []) ∙ ap (λ (ls : List ℕ). leases_of (take k levels.runs) ++ ls) (append-nil l.kept.leases))) next_more);
           free = next_free;
         }
 
-      pub RunsTo-refused : (old now new : BoardState) (error : OpenError) → OnlyReads old now → PartNotOpened part now new error → PartNotOpened (runs_from shape (page_at flash) 1 root.counts root.runs) old new error
+      pub RunsTo-refused : (old now new : BoardState) (error : OpenError) → OnlyReads old now
+          → PartNotOpened part now new error → PartNotOpened (runs_from shape (page_at flash) 1 root.counts root.runs) old new error
       RunsTo-refused old now new NotFormatted reads why = why
       RunsTo-refused old now new (Damaged page) reads why = (
-        t.comes ∙ ap (behind t.ess) (split ∙ one_refused shape (page_at flash) (suc k) (get_or root.counts k 0) (drop (suc k) root.counts) (get_or root.runs k []) (drop (suc k) root.runs) (damaged page) (sym part_is ∙ why.0)),
+        t.comes ∙ ap (behind t.ess) (split
+            ∙ one_refused shape (page_at flash) (suc k) (get_or root.counts k 0) (drop (suc k) root.counts) (get_or root.runs k []) (drop (suc k) root.runs) (damaged page) (sym part_is ∙ why.0)),
         reads_both old now new reads why.1,
       )
       RunsTo-refused old now new Fault reads why = counted_behind old now new reads why
@@ -293,7 +317,8 @@ module _ (shape : Shape) (root : Root) (counts : length root.counts ≡ 4) (runs
   RunsTo-end start arena levels t = (
     t.ess,
     record {
-      finds = t.comes ∙ ap (behind t.ess) (ap (λ (cs : List ℕ). runs_from shape (page_at flash) 5 cs (drop 4 root.runs)) (past root.counts 4 (omega (arith, counts))) ∙ ap (runs_from shape (page_at flash) 5 []) (past root.runs 4 (omega (arith, runs))) ∙ none_left shape (page_at flash) 5) ∙ ap ok_list (append-nil t.ess);
+      finds = t.comes ∙ ap (behind t.ess) (ap (λ (cs : List ℕ). runs_from shape (page_at flash) 5 cs (drop 4 root.runs)) (past root.counts 4 (omega (arith, counts)))
+          ∙ ap (runs_from shape (page_at flash) 5 []) (past root.runs 4 (omega (arith, runs))) ∙ none_left shape (page_at flash) 5) ∙ ap ok_list (append-nil t.ess);
       stand = subst (λ (rs : List Kept). RunsOnFlash flash arena rs t.ess) whole t.stand;
       run_blocks = subst (λ (rs : List Kept). HaveBlocks shape rs root.runs) whole (subst (HaveBlocks shape (take 4 levels.runs)) (take_all 4 root.runs (omega (arith, runs))) t.blocks_are);
       run_frames = subst (λ (p : ℕ). HaveFrames p 1 levels.runs root.counts) (sym t.pinned_is)
@@ -309,7 +334,8 @@ module _ (shape : Shape) (root : Root) (counts : length root.counts ≡ 4) (runs
 
 module _ (root : Held) (counts : length root.root.counts ≡ 4) (runs : length root.root.runs ≡ 4) where
   -- the next level may be read
-  pub level_may : is_root root.shape root.root ≡ true → (flash : Flash) (pinned : ℕ) (start arena : Frames) (levels : Levels) (k : ℕ) → RunsTo root.shape root.root flash pinned start arena levels k → k < 4
+  pub level_may : is_root root.shape root.root ≡ true → (flash : Flash) (pinned : ℕ) (start arena : Frames) (levels : Levels) (k : ℕ)
+      → RunsTo root.shape root.root flash pinned start arena levels k → k < 4
       → (level : ℕ) → level ≡ suc k → level - 1 ≡ k → MayLoadLevel root level arena levels
   level_may grammar flash pinned start arena levels k t h level e d = record {
     least = omega (arith, e);
@@ -321,7 +347,8 @@ module _ (root : Held) (counts : length root.root.counts ≡ 4) (runs : length r
   }
 
   -- all levels were read
-  pub runs_loaded : (flash : Flash) (start : Frames) (old : Levels) (arena : Frames) (levels : Levels) → old.shape ≡ root.shape → RunsTo root.shape root.root flash old.pinned start arena levels 4 → LoadsRuns root flash start arena old levels
+  pub runs_loaded : (flash : Flash) (start : Frames) (old : Levels) (arena : Frames) (levels : Levels) → old.shape ≡ root.shape
+      → RunsTo root.shape root.root flash old.pinned start arena levels 4 → LoadsRuns root flash start arena old levels
   runs_loaded flash start old arena levels same t =
       let held = RunsTo-end root.shape root.root counts runs flash old.pinned start arena levels t in
       record {

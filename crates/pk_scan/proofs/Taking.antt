@@ -1,5 +1,6 @@
 -- A value more: whether its pages may be taken, and the live map with it.
-use Rattle.std.proofs.Common.{◌≡◌, inl, inr, ℕ, ◌+◌, ◌-◌, ◌/◌, ◌%◌, ◌<◌, ◌≤◌, Bool, true, false, not, ◌&&◌, ◌||◌, cond, List, [], ◌∷◌, ◌++◌, length, get_or, map, sum, refl, sym, ap, ◌∙◌, arith, ◌==◌, length-append}
+use Rattle.std.proofs.Common.{◌≡◌, inl, inr, ℕ, ◌+◌, ◌-◌, ◌/◌, ◌%◌, ◌<◌, ◌≤◌, Bool, true, false, not, ◌&&◌, ◌||◌, cond, List, [], ◌∷◌, ◌++◌, length, get_or, map, sum, refl, sym, ap, ◌∙◌, arith, ◌==◌}
+use Rattle.std.proofs.Common.{length-append}
 use Rattle.std.specs.Prelude.{count_by, nat_le, slice_get, Some, IsTrue, ◌↔◌}
 use Rattle.std.specs.List.{list_any, list_all, range_with_len}
 use Rattle.std.proofs.Math.ListN.{set}
@@ -12,7 +13,7 @@ use Rattle.std.proofs.lemmas.Option.{slice_get-get_or}
 use Rattle.pk_base.specs.Key.{Key}
 use Rattle.pk_base.specs.Shape.{Shape, IsShape, page_count, charge, limit, data_blocks}
 use Rattle.pk_base.specs.Entry.{Place}
-use Rattle.pk_base.specs.EntryBytes.{IsPlace}
+use Rattle.pk_base.specs.EntryChecks.{IsPlace}
 use Rattle.pk_live.specs.Values.{Values, count_of, block_sum, IsLive}
 use Rattle.pk_segfmt.specs.Value.{value_pages}
 use Rattle.pk_segfmt.proofs.StoredLemmas.{charge_some}
@@ -40,7 +41,8 @@ module _ (shape : Shape) (named : List ℕ) where
       let c = and_parts (list_all outside pages) (differ pages) b.0 in
       record { out = c.0; apart = c.1 }
 
-module _ (shape : Shape) (named : List ℕ) (live : Values) (taken : List (Key × Place)) (place : Place) (is_shape : IsShape shape) (is_place : IsPlace shape place) (lives : Lives shape named live taken) where
+module _ (shape : Shape) (named : List ℕ) (live : Values) (taken : List (Key × Place)) (place : Place)
+    (is_shape : IsShape shape) (is_place : IsPlace shape place) (lives : Lives shape named live taken) where
   abbrev n : ℕ
   n = shape.block_pages
 
@@ -165,7 +167,8 @@ module _ (shape : Shape) (named : List ℕ) (live : Values) (taken : List (Key �
   pub overlap_refuses : (t o : Bool) → t ≡ list_any (λ b. b == block) named → t ≡ false → (IsTrue o ↔ Overlaps) → o ≡ true → false ≡ fits shape named (old ++ own)
   overlap_refuses t o told none over is =
       sym
-      (λ i. (out_is t told ∙ ap not none) i && (apart_is o over ∙ ap not is) i && nat_le (length (old ++ own)) (limit shape) && nat_le (length (blocks_with shape (old ++ own))) (data_blocks shape - 1))
+      (λ i. (out_is t told ∙ ap not none) i && (apart_is o over ∙ ap not is) i && nat_le (length (old ++ own))
+      (limit shape) && nat_le (length (blocks_with shape (old ++ own))) (data_blocks shape - 1))
 
   -- and then the counts decide
   pub counts_decide : (t o : Bool) (total blocks : ℕ) → t ≡ list_any (λ b. b == block) named → t ≡ false → (IsTrue o ↔ Overlaps) → o ≡ false → total ≡ sum live.heads
@@ -194,7 +197,8 @@ module _ (shape : Shape) (named : List ℕ) (live : Values) (taken : List (Key �
       and_false false = refl
 
   pub free : fits shape named (old ++ own) ≡ true → slice_get live.heads place.page ≡ Some 0
-  free e = slice_get-get_or live.heads place.page 0 (omega (arith, is_place.exists, ap length heads_are, length-map-range_with_len (head_of shape taken) 0 (page_count shape))) ∙ ap Some (read place.page ∙ fresh e)
+  free e = slice_get-get_or live.heads place.page 0 (omega (arith, is_place.exists, ap length heads_are, length-map-range_with_len (head_of shape taken) 0 (page_count shape)))
+      ∙ ap Some (read place.page ∙ fresh e)
 
   heads_more : (key : Key) → fits shape named (old ++ own) ≡ true → set live.heads place.page count ≡ map (head_of shape (taken ++ (key, place) ∷ [])) (range_with_len 0 (page_count shape))
   heads_more key e =

@@ -1,20 +1,18 @@
 -- Values that were accepted one after another, as the reading of a flash has them.
-use Rattle.std.proofs.Common.{◌≡◌, ℕ, suc, ◌+◌, ◌-◌, ◌*◌, ◌≤◌, List, [], ◌∷◌, ◌++◌, length, refl, sym, ap, subst, ◌∙◌, arith, Option, Some, None, Result, Ok, Err, append-nil, append_assoc, length-append}
+use Rattle.std.proofs.Common.{◌≡◌, ℕ, suc, ◌+◌, ◌-◌, ◌*◌, ◌≤◌, List, [], ◌∷◌, ◌++◌, length, refl, sym, ap, subst, ◌∙◌, arith, Option, Some, None, Result, Ok, Err, append-nil, append_assoc}
+use Rattle.std.proofs.Common.{length-append}
 use Rattle.std.specs.List.{AllByRecursion}
 use Rattle.pk_base.specs.Key.{Key}
-use Rattle.std.proofs.lemmas.List.FromFn.{length-range_with_len}
-use Rattle.pk_base.specs.Shape.{Shape, IsShape, charge, limit, dense, data_blocks}
+use Rattle.pk_base.specs.Shape.{Shape, IsShape, limit, dense, data_blocks}
 use Rattle.std.proofs.Math.Nat.{mul-le-mul_right}
-use Rattle.pk_base.specs.EntryBytes.{IsPlace}
+use Rattle.pk_base.specs.EntryChecks.{IsPlace}
 use Rattle.pk_segfmt.specs.Value.{value_pages}
-use Rattle.pk_segfmt.proofs.StoredLemmas.{charge_some}
 use Rattle.pk_pin.specs.Frames.{Frames}
 use Rattle.pk_run.specs.Kept.{Kept}
 use Rattle.pk_walk.specs.Visible.{visible, is_wanted, wanted}
 use Rattle.pk_walk.specs.Walking.{Walk, IsLeft, WalkGives}
 use Rattle.pk_walk.proofs.Walks.{one_of_each}
 use Rattle.pk_model.proofs.ValueSets.{fits_parts}
-use Rattle.pk_scan.proofs.RunPages.{of_true}
 use Rattle.pk_scan.proofs.Boards.{reads_both, reads_if, counted_behind}
 use Rattle.pk_base.specs.Entry.{Entry, Place}
 use Rattle.pk_base.specs.declared.entry.Entry.{Entry as RustEntry}
@@ -25,10 +23,13 @@ use Rattle.pk_live.specs.Values.{Values}
 use Rattle.pk_model.specs.Values.{all_pages, fits, values_of}
 use Rattle.pk_live.specs.Lives.{Lives}
 use Rattle.pk_scan.specs.Accepted.{Accepted, NotAccepted}
-use Rattle.pk_scan.specs.Opening.{OnlyReads, PartNotOpened, ReadsValues, opening_of}
+use Rattle.pk_scan.specs.Opening.{OnlyReads}
+use Rattle.pk_scan.specs.OpeningParts.{PartNotOpened, ReadsValues, opening_of}
 use Rattle.pk_scan.specs.declared.errors.PageError.{PageError}
 use Rattle.pk_scan.specs.declared.errors.PageError.TheVariants.{Damaged, Fault}
 use Rattle.pk_nand.specs.BoardState.{BoardState}
+use Rattle.pk_base.proofs.Logic.{of_true}
+use Rattle.pk_steps.proofs.Outputs.{values_most}
 
 -- a value of n bytes begins at this page
 abbrev pub place : ℕ → ℕ → Place
@@ -62,7 +63,8 @@ module _ (shape : Shape) (flash : Flash) (named : List ℕ) (es : List (Key × P
   pub ValuesTo-start : (live : Values) → Lives shape named live [] → ValuesTo shape flash named es live [] es
   ValuesTo-start live lives = record { front = []; split = refl; lives = lives; goes = behind_none (values_of shape (page_at flash) named [] es) }
 
-  pub ValuesTo-next : (live live' : Values) (taken rest : List (Key × Place)) (key : Key) (place : Place) → ValuesTo shape flash named es live taken ((key, place) ∷ rest) → Accepted shape flash named taken key place
+  pub ValuesTo-next : (live live' : Values) (taken rest : List (Key × Place)) (key : Key) (place : Place)
+      → ValuesTo shape flash named es live taken ((key, place) ∷ rest) → Accepted shape flash named taken key place
       → Lives shape named live' (taken ++ (key, place) ∷ []) → ValuesTo shape flash named es live' (taken ++ (key, place) ∷ []) rest
   ValuesTo-next live live' taken rest key place t a lives = record {
     front = t.front ++ (key, a.value) ∷ [];
@@ -78,7 +80,8 @@ module _ (shape : Shape) (flash : Flash) (named : List ℕ) (es : List (Key × P
   pub ValuesTo-end : (live : Values) (taken : List (Key × Place)) → ValuesTo shape flash named es live taken [] → (vs : Found) × (values_of shape (page_at flash) named [] es ≡ Ok vs) × (taken ≡ es)
   ValuesTo-end live taken t = (t.front, t.goes ∙ ap (behind t.front) (none_left (all_pages shape taken)) ∙ ap ok_found (append-nil t.front), sym (append-nil taken) ∙ t.split)
 
-  pub ValuesTo-refused : (live : Values) (taken rest : List (Key × Place)) (e : Refusal) → ValuesTo shape flash named es live taken rest → values_of shape (page_at flash) named (all_pages shape taken) rest ≡ Err e → values_of shape (page_at flash) named [] es ≡ Err e
+  pub ValuesTo-refused : (live : Values) (taken rest : List (Key × Place)) (e : Refusal) → ValuesTo shape flash named es live taken rest
+      → values_of shape (page_at flash) named (all_pages shape taken) rest ≡ Err e → values_of shape (page_at flash) named [] es ≡ Err e
   ValuesTo-refused live taken rest e t refused = t.goes ∙ ap (behind t.front) refused
 
 -- ---- the walk over them
@@ -98,15 +101,6 @@ all_behind : (P : Key × Place → Type 0) (xs ys : List (Key × Place)) → All
 all_behind P [] ys all = all
 all_behind P (x ∷ xs) ys all = all_behind P xs ys all.1
 
-pages_some : (shape : Shape) → IsShape shape → (es : List (Key × Place)) → length es ≤ length (all_pages shape es)
-pages_some shape is [] = omega arith
-pages_some shape is (e ∷ es) =
-    let rest = pages_some shape is es in
-    let one = charge_some shape is e.1.len in
-    let size = length-range_with_len e.1.page (charge shape e.1.len) in
-    let both = length-append (value_pages shape e.1) (all_pages shape es) in
-    omega (arith, rest, one, size, both)
-
 few_blocks : (shape : Shape) → IsShape shape → data_blocks shape ≤ 4096
 unfolding data_blocks
 few_blocks shape is = let most = is.blocks_most in omega (arith, most)
@@ -124,14 +118,15 @@ module _ (shape : Shape) (flash : Flash) (arena : Frames) (runs : List Kept) (ac
   pub left_one : (w : Walk) (xs ys : List (Key × Place)) → IsLeft w flash arena runs active frozen xs → IsLeft w flash arena runs active frozen ys → xs ≡ ys
   left_one w xs ys a b = a.is ∙ ap (λ (ess : List (List Entry)). wanted (is_wanted w.position) (visible (active ∷ frozen ∷ ess))) (one_of_each flash arena runs a.ess b.ess a.stand b.stand) ∙ sym b.is
 
-  pub TakenTo-start : (live : Values) (es : List (Key × Place)) → IsLeft start flash arena runs active frozen es → AllByRecursion (λ e. IsPlace shape e.1) es → Lives shape named live [] → (t : TakenTo shape flash arena runs active frozen named start start live 0) × (t.taken ≡ [])
+  pub TakenTo-start : (live : Values) (es : List (Key × Place)) → IsLeft start flash arena runs active frozen es → AllByRecursion (λ e. IsPlace shape e.1) es
+      → Lives shape named live [] → (t : TakenTo shape flash arena runs active frozen named start start live 0) × (t.taken ≡ [])
   TakenTo-start live es left all lives = (record { es = es; taken = []; rest = es; starts = left; all = all; to = ValuesTo-start shape flash named es live lives; left = left; many = refl }, refl)
 
   pub few_taken : IsShape shape → (walk : Walk) (live : Values) (k : ℕ) → TakenTo shape flash arena runs active frozen named start walk live k → k ≤ limit shape
   few_taken is walk live k t =
       let parts = fits_parts shape named (all_pages shape t.taken) (of_true (fits shape named (all_pages shape t.taken)) t.to.lives.placed_well) in
       let few = parts.few in
-      let some = pages_some shape is t.taken in
+      let some = values_most shape is t.taken in
       let many = t.many in
       omega (arith, few, some, many)
 
@@ -152,7 +147,8 @@ pub gives_none : (rest later : List (Key × Place)) → WalkGives None rest late
 gives_none [] later g = refl
 gives_none (x ∷ rest) later g = absurd g
 
-module _ (shape : Shape) (flash : Flash) (arena : Frames) (runs : List Kept) (active frozen : List Entry) (named : List ℕ) (start walk : Walk) (live : Values) (k : ℕ) (t : TakenTo shape flash arena runs active frozen named start walk live k) where
+module _ (shape : Shape) (flash : Flash) (arena : Frames) (runs : List Kept) (active frozen : List Entry) (named : List ℕ)
+    (start walk : Walk) (live : Values) (k : ℕ) (t : TakenTo shape flash arena runs active frozen named start walk live k) where
   abbrev of_start : List (Key × Place) → Type 0
   of_start es = IsLeft start flash arena runs active frozen es
 
@@ -163,7 +159,8 @@ module _ (shape : Shape) (flash : Flash) (arena : Frames) (runs : List Kept) (ac
     here : left_after walk at t.rest
     here = subst (λ (f : Flash). left_after walk f t.rest) (sym same) t.left
 
-    pub put_next : (key : Key) (page len : ℕ) → after ≡ flash → ((rest : List (Key × Place)) → left_after walk at rest → (later : List (Key × Place)) × WalkGives (Some (Put key page len)) rest later × left_after walk' after later)
+    pub put_next : (key : Key) (page len : ℕ) → after ≡ flash
+        → ((rest : List (Key × Place)) → left_after walk at rest → (later : List (Key × Place)) × WalkGives (Some (Put key page len)) rest later × left_after walk' after later)
         → (later : List (Key × Place)) × (t.rest ≡ (key, place page len) ∷ later) × left_after walk' flash later
     put_next key page len still gives = let g = gives t.rest here in (g.0, gives_put key page len t.rest g.0 g.1, subst (λ (f : Flash). left_after walk' f g.0) still g.2)
 
@@ -177,7 +174,8 @@ module _ (shape : Shape) (flash : Flash) (arena : Frames) (runs : List Kept) (ac
     pub place_next : IsPlace shape at
     place_next = (subst (AllByRecursion (λ e. IsPlace shape e.1)) split (all_behind (λ e. IsPlace shape e.1) t.taken t.rest (subst (AllByRecursion (λ e. IsPlace shape e.1)) (sym t.to.split) t.all))).0
 
-    pub TakenTo-next : (walk' : Walk) (live' : Values) → IsLeft walk' flash arena runs active frozen later → Accepted shape flash named t.taken key at → Lives shape named live' (t.taken ++ (key, at) ∷ []) → (t' : TakenTo shape flash arena runs active frozen named start walk' live' (k + 1)) × (t'.taken ≡ t.taken ++ (key, at) ∷ [])
+    pub TakenTo-next : (walk' : Walk) (live' : Values) → IsLeft walk' flash arena runs active frozen later → Accepted shape flash named t.taken key at
+        → Lives shape named live' (t.taken ++ (key, at) ∷ []) → (t' : TakenTo shape flash arena runs active frozen named start walk' live' (k + 1)) × (t'.taken ≡ t.taken ++ (key, at) ∷ [])
     TakenTo-next walk' live' left accepted lives = (
       record {
         es = t.es;
@@ -192,7 +190,8 @@ module _ (shape : Shape) (flash : Flash) (arena : Frames) (runs : List Kept) (ac
       refl,
     )
 
-    pub TakenTo-refused : (old now new : BoardState) (e : PageError) → OnlyReads old now → now.pages ≡ flash → NotAccepted shape now new named t.taken key at e → (es : List (Key × Place)) → of_start es → PartNotOpened (values_of shape (page_at flash) named [] es) old new (opening_of e)
+    pub TakenTo-refused : (old now new : BoardState) (e : PageError) → OnlyReads old now → now.pages ≡ flash → NotAccepted shape now new named t.taken key at e
+        → (es : List (Key × Place)) → of_start es → PartNotOpened (values_of shape (page_at flash) named [] es) old new (opening_of e)
     TakenTo-refused old now new (Damaged page) reads same why es left =
         let here = subst (λ (f : Flash). values_of shape (page_at f) named (all_pages shape t.taken) ((key, at) ∷ later) ≡ Err (damaged page)) same (why.refusal later) in
         let made = reads_if (fits shape named (all_pages shape t.taken ++ value_pages shape at)) (suc (page - at.page)) now new why.board in (
@@ -205,11 +204,15 @@ module _ (shape : Shape) (flash : Flash) (arena : Frames) (runs : List Kept) (ac
   -- after the last of them all were taken
   pub TakenTo-all : t.rest ≡ [] → (es : List (Key × Place)) → of_start es → t.taken ≡ es
   TakenTo-all none es left =
-      (ValuesTo-end shape flash named t.es live t.taken (subst (ValuesTo shape flash named t.es live t.taken) none t.to)).2 ∙ left_one shape flash arena runs active frozen named start start t.es es t.starts left
+      (ValuesTo-end shape flash named t.es live t.taken (subst (ValuesTo shape flash named t.es live t.taken) none t.to)).2
+      ∙ left_one shape flash arena runs active frozen named start start t.es es t.starts left
 
   pub TakenTo-end : t.rest ≡ [] → (es : List (Key × Place)) → of_start es → ReadsValues shape flash named live es × (k ≡ length es)
   TakenTo-end none es left =
       let end = ValuesTo-end shape flash named t.es live t.taken (subst (ValuesTo shape flash named t.es live t.taken) none t.to) in
       let same = left_one shape flash arena runs active frozen named start start t.es es t.starts left in
-      let all : t.taken ≡ es = end.2 ∙ same in
-      (record { values = end.0; read = sym (ap (values_of shape (page_at flash) named []) same) ∙ end.1; lives = subst (Lives shape named live) all t.to.lives }, sym t.many ∙ ap (λ (xs : List (Key × Place)). length xs) all)
+      let all : t.taken ≡ es = end.2 ∙ same in (
+        record { values = end.0; read = sym (ap (values_of shape (page_at flash) named []) same) ∙ end.1; lives = subst (Lives shape named live) all t.to.lives },
+        sym t.many
+            ∙ ap (λ (xs : List (Key × Place)). length xs) all,
+      )

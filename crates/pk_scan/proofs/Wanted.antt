@@ -2,14 +2,15 @@
 use Rattle.std.proofs.Common.{◌≡◌, ℕ, ◌≤◌, Bool, true, false, refl, arith}
 use Rattle.std.specs.Prelude.{nat_le, if◌then◌else◌}
 use Rattle.pk_base.specs.Shape.{Shape, need, pinned}
-use Rattle.pk_scan.specs.Opening.{wanted_behind}
+use Rattle.pk_scan.specs.OpeningParts.{wanted_behind}
 use Rattle.pk_scan.proofs.RunsHeld.{le_of}
 
 module _ (shape : Shape) (frames : ℕ) where
   abbrev Wants : ℕ → Type 0
   Wants levels = wanted_behind shape levels 0 ≤ frames
 
-  pick : (b4 b3 b2 b1 : Bool) → (b4 ≡ true → Wants 4) → (b3 ≡ true → Wants 3) → (b2 ≡ true → Wants 2) → (b1 ≡ true → Wants 1) → Wants (if b4 then 4 else if b3 then 3 else if b2 then 2 else if b1 then 1 else 0)
+  pick : (b4 b3 b2 b1 : Bool) → (b4 ≡ true → Wants 4) → (b3 ≡ true → Wants 3) → (b2 ≡ true → Wants 2)
+      → (b1 ≡ true → Wants 1) → Wants (if b4 then 4 else if b3 then 3 else if b2 then 2 else if b1 then 1 else 0)
   pick true b3 b2 b1 h4 h3 h2 h1 = h4 refl
   pick false true b2 b1 h4 h3 h2 h1 = h3 refl
   pick false false true b1 h4 h3 h2 h1 = h2 refl

@@ -5,7 +5,7 @@ use Rattle.std.specs.List.{AllByRecursion, list_all, starts_with}
 use Rattle.pk_base.specs.Key.{Key}
 use Rattle.pk_base.specs.Shape.{Shape, charge, buffer, root_pages, pinned}
 use Rattle.pk_base.specs.Entry.{Entry, Place}
-use Rattle.pk_base.specs.EntryBytes.{IsEntry, IsPlace}
+use Rattle.pk_base.specs.EntryChecks.{IsEntry, IsPlace}
 use Rattle.pk_base.specs.Firsts.{firsts}
 use Rattle.pk_base.specs.Page.{Page, Flash, page_at, erased, whole, torn}
 use Rattle.pk_base.specs.Refusal.{Refusal, damaged, ensure}
@@ -37,7 +37,8 @@ use Rattle.pk_model.proofs.Entries.{counting_all, journal_are, meta_are}
 use Rattle.pk_model.proofs.StrangePages.{bind_ok}
 use Rattle.pk_steps.specs.Under.{IsValuePage, places}
 use Rattle.pk_scan.specs.Starting.{IsAtStart}
-use Rattle.pk_scan.specs.Opening.{OnlyReads, NotOpened, PartNotOpened, HoldsFound, ReadsValues, wanted_behind}
+use Rattle.pk_scan.specs.Opening.{OnlyReads, NotOpened}
+use Rattle.pk_scan.specs.OpeningParts.{PartNotOpened, HoldsFound, ReadsValues, wanted_behind}
 use Rattle.pk_scan.specs.Runs.{LeasedMore}
 use Rattle.pk_scan.specs.Memory.{FoundNothing, IsUnread, AwaitsLists, HoldsLists, LoadsLists, FindsLists, AwaitsValues}
 use Rattle.pk_scan.specs.declared.contents.Found.{Found as Opened}
@@ -45,7 +46,7 @@ use Rattle.pk_scan.specs.declared.contents.Memory.{Memory as Working}
 use Rattle.pk_scan.specs.Adopts.{HasOwners}
 use Rattle.pk_scan.specs.Opened.{FoundOnFlash}
 use Rattle.pk_scan.specs.Reads.{opening_reads, reads_under, list_reads, value_reads, pages_of_runs, run_reads}
-use Rattle.pk_jrn.specs.Replays.{epoch_reads}
+use Rattle.pk_jrn.specs.EpochReads.{epoch_reads}
 use Rattle.pk_scan.proofs.Boards.{reads_sum}
 use Rattle.pk_scan.proofs.RunReads.{run_reads_are}
 use Rattle.pk_scan.specs.declared.errors.OpenError.{OpenError}
@@ -55,7 +56,7 @@ use Rattle.pk_scan.proofs.Room.{frames_enough}
 use Rattle.pk_scan.proofs.Opened.{behind_reads}
 use Rattle.pk_scan.proofs.Under.{visible_places, found_refuses, values_refuse, stands_under}
 
--- ---- the keys that are there
+-- ---- the keys that exist
 
 placed_all : (shape : Shape) (es : List Entry) → AllByRecursion (IsEntry shape) es → AllByRecursion (λ e. IsPlace shape e.1) (placed es)
 placed_all shape [] all = tt
@@ -65,9 +66,11 @@ placed_all shape ((key, Some place) ∷ es) all = (all.0.1, placed_all shape es 
 pub places_are : (shape : Shape) (flash : Flash) (root : Root) (found : Found) → found_under shape (page_at flash) root ≡ Ok found → AllByRecursion (λ e. IsPlace shape e.1) (places found [])
 places_are shape flash root found is =
     placed_all shape (firsts (entries_in_order found []))
-    (counting_all (IsEntry shape) shape (page_at flash) (λ k number index bytes es stands read. journal_are shape number index bytes es read) (λ k level index count bytes es stands read. meta_are shape level index count bytes es read) root found [] is tt)
+    (counting_all (IsEntry shape) shape (page_at flash) (λ k number index bytes es stands read. journal_are shape number index bytes es read)
+    (λ k level index count bytes es stands read. meta_are shape level index count bytes es read) root found [] is tt)
 
-module _ (shape : Shape) (flash : Flash) (root : Root) (active frozen : Table) (epoch : JournalEpoch) (arena : Frames) (levels : Levels) (found : Found) (held : HoldsFound shape flash root active frozen epoch arena levels found) where
+module _ (shape : Shape) (flash : Flash) (root : Root) (active frozen : Table) (epoch : JournalEpoch) (arena : Frames)
+    (levels : Levels) (found : Found) (held : HoldsFound shape flash root active frozen epoch arena levels found) where
   -- a walk that is at its start has them still to give
   pub left_to_give : (walk : Walk) → IsAtStart walk → IsLeft walk flash arena levels.runs active.entries frozen.entries (places found [])
   left_to_give walk starts =
@@ -121,13 +124,15 @@ module _ (shape : Shape) (at : ℕ → Page) where
 -- ---- refusals
 
 -- if a part refuses, so does the reading of the flash
-pub as_whole : {X : Type 0} (part : Result X Refusal) (shape : Shape) (old new : BoardState) (e : OpenError) → ((refusal : Refusal) → part ≡ Err refusal → reading shape old.pages [] ≡ Err refusal) → PartNotOpened part old new e → NotOpened shape old new e
+pub as_whole : {X : Type 0} (part : Result X Refusal) (shape : Shape) (old new : BoardState) (e : OpenError)
+    → ((refusal : Refusal) → part ≡ Err refusal → reading shape old.pages [] ≡ Err refusal) → PartNotOpened part old new e → NotOpened shape old new e
 as_whole part shape old new NotFormatted passes why = absurd why
 as_whole part shape old new (Damaged page) passes why = (passes (damaged page) why.0, why.1)
 as_whole part shape old new Fault passes why = why
 as_whole part shape old new Memory passes why = why
 
-module _ (shape : Shape) (page : ℕ) (root : Root) (old : BoardState) (top : newest_root shape (page_at old.pages) ≡ Some (page, root)) (now : BoardState) (reads : OnlyReads old now) (same : now.pages ≡ old.pages) where
+module _ (shape : Shape) (page : ℕ) (root : Root) (old : BoardState) (top : newest_root shape (page_at old.pages) ≡ Some (page, root))
+    (now : BoardState) (reads : OnlyReads old now) (same : now.pages ≡ old.pages) where
   pub lists_refuse : (new : BoardState) (e : OpenError) → PartNotOpened (found_under shape (page_at now.pages) root) now new e → NotOpened shape old new e
   lists_refuse new e why =
       let part = found_under shape (page_at old.pages) root in
@@ -144,12 +149,15 @@ module _ (shape : Shape) (page : ℕ) (root : Root) (old : BoardState) (top : ne
 -- ---- all that is on the flash
 
 module _ {A : Type 0} (shape : Shape) (flash : Flash) (frames : ℕ) (f : Opened A) (found : Found) (held : HoldsFound shape flash f.root.root f.active f.frozen f.epoch f.arena f.levels found)
-    (top : newest_root shape (page_at flash) ≡ Some (f.root_page, f.root.root)) (pinned_is : f.levels.pinned ≡ pinned shape frames) (live : Values) (values : ReadsValues shape flash (named f.root.root) live (places found [])) where
+    (top : newest_root shape (page_at flash) ≡ Some (f.root_page, f.root.root)) (pinned_is : f.levels.pinned ≡ pinned shape frames)
+    (live : Values) (values : ReadsValues shape flash (named f.root.root) live (places found [])) where
   pub is_opened : f.root.shape ≡ shape → is_root shape f.root.root ≡ true → f.root_page < root_pages shape → f.levels.shape ≡ shape → length f.active.entries ≤ f.active.capacity
-      → HasArena shape frames f.levels f.arena [] → (pool : Blocks) → HasOwners shape f.root.root live pool → used_by for_values pool.states ≡ length (blocks_with shape (all_pages shape (places found [])))
+      → HasArena shape frames f.levels f.arena [] → (pool : Blocks) → HasOwners shape f.root.root live pool
+      → used_by for_values pool.states ≡ length (blocks_with shape (all_pages shape (places found [])))
       → (keys : ℕ) → keys ≡ length (places found []) → FoundOnFlash shape flash frames (record f { live = live; pool = pool; keys = keys })
   is_opened shape_is grammar place levels_shape room arena_is pool owners values_are keys keys_are =
-      let under = stands_under shape flash f.root_page f.root.root top found held.finds (few_newest shape flash f.root.root f.active f.frozen f.epoch f.arena f.levels found held room) values.values values.read in
+      let under = stands_under shape flash f.root_page f.root.root top found held.finds
+      (few_newest shape flash f.root.root f.active f.frozen f.epoch f.arena f.levels found held room) values.values values.read in
       record {
         found = found;
         map = under.0;
@@ -177,37 +185,44 @@ module _ {A : Type 0} (shape : Shape) (flash : Flash) (frames : ℕ) (f : Opened
         keys_are = keys_are;
       }
 
-  opened_is : opening_reads shape flash frames ≡ root_pages shape + epoch_reads shape (page_at flash) f.root.root.older + epoch_reads shape (page_at flash) f.root.root.newest + run_reads shape (pinned shape frames) 1 f.root.root.counts + value_reads shape (places found [])
+  opened_is : opening_reads shape flash frames ≡ root_pages shape + epoch_reads shape (page_at flash) f.root.root.older + epoch_reads shape
+      (page_at flash) f.root.root.newest + run_reads shape (pinned shape frames) 1 f.root.root.counts + value_reads shape (places found [])
   unfolding opening_reads reads_under
   opened_is = rw (top, held.finds) refl
 
   -- what was read, part by part
-  pub opened_reads : (old now new : BoardState) → now ≡ after_reads (root_pages shape + list_reads shape (page_at flash) f.root.root) old → new ≡ after_reads (most_read f.levels.runs + value_reads shape (places found [])) now → new ≡ after_reads (opening_reads shape flash frames) old
+  pub opened_reads : (old now new : BoardState) → now ≡ after_reads (root_pages shape + list_reads shape (page_at flash) f.root.root) old
+      → new ≡ after_reads (most_read f.levels.runs + value_reads shape (places found [])) now → new ≡ after_reads (opening_reads shape flash frames) old
   opened_reads old now new first second =
       let root = f.root.root in
       let runs = run_reads_are shape flash f.arena f.levels.pinned 1 f.levels.runs found.runs root.runs root.counts held.stand held.run_blocks held.run_frames in
       let pins = ap (λ (n : ℕ). run_reads shape n 1 root.counts) pinned_is in
       reads_sum old now new (root_pages shape + list_reads shape (page_at flash) root) (most_read f.levels.runs + value_reads shape (places found [])) (opening_reads shape flash frames)
-      (sum (root_pages shape) (epoch_reads shape (page_at flash) root.older) (epoch_reads shape (page_at flash) root.newest) (pages_of_runs shape root.counts) (most_read f.levels.runs) (run_reads shape (pinned shape frames) 1 root.counts)
+      (sum (root_pages shape) (epoch_reads shape (page_at flash) root.older) (epoch_reads shape (page_at flash) root.newest)
+      (pages_of_runs shape root.counts) (most_read f.levels.runs) (run_reads shape (pinned shape frames) 1 root.counts)
       (value_reads shape (places found [])) (runs ∙ pins) ∙ sym opened_is) first second
     where
       sum : (roots older newest once again all values : ℕ) → once + again ≡ all → (again + values) + (roots + (older + newest + once)) ≡ roots + older + newest + all + values
       sum roots older newest once again all values e = omega (arith, e)
 
 -- the lists were read after the root
-pub root_then_lists : (shape other : Shape) (root : Root) (old now new : BoardState) → other ≡ shape → now ≡ after_reads (root_pages shape) old → now.pages ≡ old.pages → new ≡ after_reads (list_reads other (page_at now.pages) root) now
+pub root_then_lists : (shape other : Shape) (root : Root) (old now new : BoardState) → other ≡ shape
+    → now ≡ after_reads (root_pages shape) old → now.pages ≡ old.pages → new ≡ after_reads (list_reads other (page_at now.pages) root) now
     → new ≡ after_reads (root_pages shape + list_reads shape (page_at old.pages) root) old
 root_then_lists shape other root old now new is first same second =
     let there : new ≡ after_reads (list_reads shape (page_at now.pages) root) now = subst (λ (s : Shape). new ≡ after_reads (list_reads s (page_at now.pages) root) now) is second in
     let here : new ≡ after_reads (list_reads shape (page_at old.pages) root) now = subst (λ (f : Flash). new ≡ after_reads (list_reads shape (page_at f) root) now) same there in
-    reads_sum old now new (root_pages shape) (list_reads shape (page_at old.pages) root) (root_pages shape + list_reads shape (page_at old.pages) root) (swap (list_reads shape (page_at old.pages) root) (root_pages shape)) first here
+    reads_sum old now new (root_pages shape) (list_reads shape (page_at old.pages) root)
+    (root_pages shape + list_reads shape (page_at old.pages) root) (swap (list_reads shape (page_at old.pages) root) (root_pages shape)) first here
   where
     swap : (m n : ℕ) → m + n ≡ n + m
     swap m n = omega arith
 
 -- the root was found, and after it the lists
-pub finds_lists : {A : Type 0} (flash now : Flash) (old mid new : Opened A) (found : Found) → new ≡ record mid { active = new.active; frozen = new.frozen; levels = new.levels; arena = new.arena; epoch = new.epoch }
-    → mid.root.shape ≡ old.root.shape → mid.levels ≡ old.levels → mid.arena ≡ old.arena → now ≡ flash → newest_root old.root.shape (page_at flash) ≡ Some (mid.root_page, mid.root.root) → mid.root_page < root_pages old.root.shape
+pub finds_lists : {A : Type 0} (flash now : Flash) (old mid new : Opened A) (found : Found)
+    → new ≡ record mid { active = new.active; frozen = new.frozen; levels = new.levels; arena = new.arena; epoch = new.epoch }
+    → mid.root.shape ≡ old.root.shape → mid.levels ≡ old.levels → mid.arena ≡ old.arena → now ≡ flash
+    → newest_root old.root.shape (page_at flash) ≡ Some (mid.root_page, mid.root.root) → mid.root_page < root_pages old.root.shape
     → is_root old.root.shape mid.root.root ≡ true → old.levels.shape ≡ old.root.shape → length new.active.entries ≤ new.active.capacity → LoadsLists now mid new found → FindsLists flash old new found
 finds_lists flash now old mid new found kept shape levels arena same top place grammar levels_shape few loads =
     let root_is : new.root ≡ mid.root = ap (λ x. x.root) kept in
@@ -228,7 +243,8 @@ finds_lists flash now old mid new found kept shape levels arena same top place g
 
 -- ---- in one call
 
-module _ {A : Type 0} (shape a : Shape) (f : Opened A) (is : a ≡ shape) (root_is : f.root.shape ≡ a) (old now : BoardState) (same : now.pages ≡ old.pages) (frames : ℕ) (before : Opened A) (before_is : before.root.shape ≡ a) (found : Found)
+module _ {A : Type 0} (shape a : Shape) (f : Opened A) (is : a ≡ shape) (root_is : f.root.shape ≡ a) (old now : BoardState)
+    (same : now.pages ≡ old.pages) (frames : ℕ) (before : Opened A) (before_is : before.root.shape ≡ a) (found : Found)
     (finds : FindsLists old.pages before f found) where
   held_old : HoldsFound a old.pages f.root.root f.active f.frozen f.epoch f.arena f.levels found
   held_old = subst (λ (s : Shape). HoldsFound s old.pages f.root.root f.active f.frozen f.epoch f.arena f.levels found) before_is finds.held
@@ -256,9 +272,11 @@ module _ {A : Type 0} (shape a : Shape) (f : Opened A) (is : a ≡ shape) (root_
   top_here : newest_root shape (page_at old.pages) ≡ Some (f.root_page, f.root.root)
   top_here = subst (λ (s : Shape). newest_root s (page_at old.pages) ≡ Some (f.root_page, f.root.root)) from_before finds.top
 
-  pub scan_refuses : OnlyReads old now → (new : BoardState) (e : OpenError) → PartNotOpened (values_of f.root.shape (page_at now.pages) (named f.root.root) [] (places found [])) now new e → NotOpened shape old new e
+  pub scan_refuses : OnlyReads old now → (new : BoardState) (e : OpenError)
+      → PartNotOpened (values_of f.root.shape (page_at now.pages) (named f.root.root) [] (places found [])) now new e → NotOpened shape old new e
   scan_refuses reads new e why =
-      values_refused shape f.root_page f.root.root old top_here now reads same found held_here.finds (few_newest shape old.pages f.root.root f.active f.frozen f.epoch f.arena f.levels found held_here finds.few) new e
+      values_refused shape f.root_page f.root.root old top_here now reads same found held_here.finds
+      (few_newest shape old.pages f.root.root f.active f.frozen f.epoch f.arena f.levels found held_here finds.few) new e
       (subst (λ (s : Shape). PartNotOpened (values_of s (page_at now.pages) (named f.root.root) [] (places found [])) now new e) shape_is why)
 
   module _ (unread : FoundNothing shape frames before) (live : Values) (values : ReadsValues f.root.shape now.pages (named f.root.root) live (places found [])) where
@@ -269,7 +287,8 @@ module _ {A : Type 0} (shape a : Shape) (f : Opened A) (is : a ≡ shape) (root_
         → (keys : ℕ) → keys ≡ length (places found []) → FoundOnFlash shape old.pages frames (record f { live = live; pool = pool; keys = keys })
     scan_opened pool owners values_are keys keys_are =
         is_opened shape old.pages frames f found held_here top_here pinned_here live (values_here live values) shape_is
-        (subst (λ (s : Shape). is_root s f.root.root ≡ true) from_before finds.grammar) (subst (λ (s : Shape). f.root_page < root_pages s) from_before finds.place) (finds.levels_shape ∙ from_before) finds.few
+        (subst (λ (s : Shape). is_root s f.root.root ≡ true) from_before finds.grammar)
+        (subst (λ (s : Shape). f.root_page < root_pages s) from_before finds.place) (finds.levels_shape ∙ from_before) finds.few
         (arena_opened shape frames before.arena f.arena f.levels f.root.root.counts finds.held.run_frames unread.page_bytes unread.all_free finds.more)
         pool (subst (λ (s : Shape). HasOwners s f.root.root live pool) shape_is owners)
         (subst (λ (s : Shape). used_by for_values pool.states ≡ length (blocks_with s (all_pages s (places found [])))) shape_is values_are) keys keys_are
@@ -293,7 +312,8 @@ awaits_lists shape frames f none = record {
 
 -- after the lists the values may be read
 pub awaits_values : {A : Type 0} (shape : Shape) (frames : ℕ) (flash : Flash) (was now : Working A) (found : Found) → IsUnread shape frames was → FindsLists flash was.found now.found found
-    → now.found.root.shape ≡ was.found.root.shape → now.found.live ≡ was.found.live → now.walk ≡ was.walk → now.found.pool ≡ was.found.pool → length now.page.items ≡ was.found.root.shape.page_bytes → AwaitsValues now
+    → now.found.root.shape ≡ was.found.root.shape → now.found.live ≡ was.found.live → now.walk ≡ was.walk
+    → now.found.pool ≡ was.found.pool → length now.page.items ≡ was.found.root.shape.page_bytes → AwaitsValues now
 awaits_values shape frames flash was now found unread finds root_is live walk pool room =
     let is : now.found.root.shape ≡ shape = root_is ∙ unread.nothing.root_shape in
     record {

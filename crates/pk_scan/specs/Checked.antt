@@ -6,7 +6,7 @@ use Rattle.pk_base.specs.Entry.{Place}
 use Rattle.pk_base.specs.Page.{Flash, page_at}
 use Rattle.pk_base.specs.Refusal.{damaged}
 use Rattle.pk_nand.specs.BoardState.{BoardState}
-use Rattle.pk_nand.specs.Calls.{after_read, ReadFailed}
+use Rattle.pk_nand.specs.Operations.{after_read, ReadFailed}
 use Rattle.pk_nand.specs.Counts.{after_reads}
 use Rattle.pk_seg.specs.Counts.{ReadsFailed}
 use Rattle.pk_segfmt.specs.Value.{value_at}

@@ -10,3 +10,4 @@ pub mod Board
 pub mod Memory
 pub mod Taken
 pub mod Starting
+pub mod OpeningParts

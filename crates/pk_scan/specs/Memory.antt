@@ -16,7 +16,7 @@ use Rattle.pk_rootfmt.specs.Root.{is_root, named}
 use Rattle.pk_steps.specs.Under.{places}
 use Rattle.pk_walk.specs.Walking.{most_read}
 use Rattle.pk_scan.specs.Starting.{IsAtStart}
-use Rattle.pk_scan.specs.Opening.{HoldsFound, ReadsValues, wanted_behind}
+use Rattle.pk_scan.specs.OpeningParts.{HoldsFound, ReadsValues, wanted_behind}
 use Rattle.pk_scan.specs.Reads.{value_reads}
 use Rattle.pk_scan.specs.Runs.{LeasedMore}
 use Rattle.pk_scan.specs.declared.contents.Found.{Found}

@@ -13,8 +13,8 @@ use Rattle.pk_level.specs.Arenas.{HasArena}
 use Rattle.pk_model.specs.Found.{Found as FoundLists}
 use Rattle.pk_model.specs.Values.{all_pages, blocks_with}
 use Rattle.pk_steps.specs.Under.{IsUnder, IsValuePage, places}
-pub use Rattle.pk_scan.specs.Opening.{HaveBlocks}
-use Rattle.pk_scan.specs.Opening.{IsFoundEpoch}
+pub use Rattle.pk_scan.specs.OpeningParts.{HaveBlocks}
+use Rattle.pk_scan.specs.OpeningParts.{IsFoundEpoch}
 use Rattle.pk_live.specs.Lives.{Lives}
 use Rattle.pk_scan.specs.Adopts.{HasOwners}
 use Rattle.pk_scan.specs.declared.contents.Found.{Found}

@@ -7,13 +7,14 @@ use Rattle.pk_base.specs.declared.sizes.TheConstants.{LEVELS}
 use Rattle.pk_base.specs.Key.{Key, key_cmp}
 use Rattle.pk_base.specs.Shape.{Shape, cap, page_entries, run_pages, run_blocks}
 use Rattle.pk_base.specs.Entry.{Entry, key_of}
-use Rattle.pk_base.specs.EntryBytes.{IsEntry}
+use Rattle.pk_base.specs.EntryChecks.{IsEntry}
 use Rattle.pk_base.specs.Page.{Flash, page_at, page_in, whole, pages_of_blocks}
 use Rattle.pk_base.specs.Refusal.{damaged}
 use Rattle.pk_meta.specs.Page.{meta_entries}
 use Rattle.pk_meta.specs.Run.{meta, run}
 use Rattle.pk_nand.specs.BoardState.{BoardState}
-use Rattle.pk_nand.specs.Calls.{Rose, ReadFailed, after_read}
+use Rattle.pk_nand.specs.Calls.{Rose}
+use Rattle.pk_nand.specs.Operations.{ReadFailed, after_read}
 use Rattle.pk_nand.specs.Counts.{after_reads}
 use Rattle.pk_pin.specs.Frames.{Frames, IsLeased, frame_of, free_frames, AreLeases}
 use Rattle.pk_run.specs.Kept.{Kept, RunOnFlash, empty, page_of, most_pages, with_page}

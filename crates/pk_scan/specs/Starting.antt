@@ -8,7 +8,7 @@ use Rattle.pk_level.specs.Levels.{RunsOnFlash}
 use Rattle.pk_walk.specs.Visible.{visible}
 use Rattle.pk_walk.specs.Walking.{Walk, IsLeft, SkipsNone, pages_read}
 
--- The walk has still to give all keys that are there, whatever runs and buffers it goes over, and has come past no page.
+-- The walk has still to give all keys that exist, whatever runs and buffers it goes over, and has come past no page.
 pub record IsAtStart (walk : Walk) : Type 0 where
   pub gives :
       (flash : Flash) (arena : Frames) (runs : List Kept) (active frozen : List Entry) (ess : List (List Entry))

@@ -9,7 +9,8 @@ use Rattle.pk_nand.specs.Counts.{after_reads}
 use Rattle.pk_live.specs.Values.{Values}
 use Rattle.pk_run.specs.Kept.{Kept}
 use Rattle.pk_walk.specs.Walking.{Walk, SkipsNone, most_read, pages_read}
-use Rattle.pk_scan.specs.Opening.{OnlyReads, ReadsValues}
+use Rattle.pk_scan.specs.Opening.{OnlyReads}
+use Rattle.pk_scan.specs.OpeningParts.{ReadsValues}
 use Rattle.pk_scan.specs.Reads.{value_reads}
 
 -- The values at these places were read and taken, and this many keys were counted.

@@ -3,7 +3,7 @@ ghost use Rattle.std.specs.Prelude.{◌≡◌, ◌++◌, ◌∷◌, [], List, le
 ghost use Rattle.pk_base.specs.Key.{Key as KeySpec};
 ghost use Rattle.pk_base.specs.Shape as spec;
 ghost use Rattle.pk_base.specs.Entry.{Place};
-ghost use Rattle.pk_base.specs.EntryBytes.{IsPlace};
+ghost use Rattle.pk_base.specs.EntryChecks.{IsPlace};
 ghost use Rattle.pk_nand.specs.Calls.{IsReady};
 ghost use Rattle.pk_nand.specs.Counts.{after_reads};
 ghost use Rattle.pk_live.specs.Lives.{Lives};

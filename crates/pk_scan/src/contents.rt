@@ -40,7 +40,7 @@ pub struct Found<A: Region> {
 pub struct Memory<A: Region> {
     /// What is found.
     pub found: Found<A>,
-    /// The walk over all keys that are there.
+    /// The walk over all keys that exist.
     pub walk: Walk<A>,
     /// The bytes of a page.
     pub page: Vec<u8, A>,

@@ -7,8 +7,8 @@ ghost use Rattle.pk_nand.specs.Calls.{IsReady};
 ghost use Rattle.pk_nand.specs.Counts.{after_reads};
 ghost use Rattle.pk_rootfmt.specs.Root.{is_root};
 ghost use Rattle.pk_scan.specs.Board.{StaysReady};
-ghost use Rattle.pk_scan.specs.Opening.{PartNotRead, OlderHeld, NewestHeld};
-ghost use Rattle.pk_jrn.specs.Replays.{epoch_reads};
+ghost use Rattle.pk_scan.specs.OpeningParts.{PartNotRead, OlderHeld, NewestHeld};
+ghost use Rattle.pk_jrn.specs.EpochReads.{epoch_reads};
 
 use crate::errors::PageError;
 use pk_buf::Buffer;

@@ -6,7 +6,7 @@ ghost use Rattle.pk_nand.specs.Calls.{IsReady};
 ghost use Rattle.pk_nand.specs.Counts.{after_reads};
 ghost use Rattle.pk_scan.specs.Board.{StaysReady};
 ghost use Rattle.pk_scan.specs.Reads.{pages_of_runs};
-ghost use Rattle.pk_scan.specs.Opening.{PartNotOpened, MayLoadLevel, MayLoadRuns, LoadsLevel, LoadsRuns, level_of, level_reads};
+ghost use Rattle.pk_scan.specs.OpeningParts.{PartNotOpened, MayLoadLevel, MayLoadRuns, LoadsLevel, LoadsRuns, level_of, level_reads};
 
 use crate::errors::OpenError;
 use crate::runs::load_run;

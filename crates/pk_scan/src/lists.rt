@@ -9,7 +9,8 @@ ghost use Rattle.pk_rootfmt.specs.Newest.{newest_root};
 ghost use Rattle.pk_rootfmt.specs.Root.{is_root};
 ghost use Rattle.pk_scan.specs.Board.{StaysReady};
 ghost use Rattle.pk_scan.specs.Memory.{AwaitsLists, LoadsLists};
-ghost use Rattle.pk_scan.specs.Opening.{NotOpened, PartNotOpened};
+ghost use Rattle.pk_scan.specs.Opening.{NotOpened};
+ghost use Rattle.pk_scan.specs.OpeningParts.{PartNotOpened};
 ghost use Rattle.pk_scan.specs.Reads.{list_reads};
 
 use crate::contents::Found;

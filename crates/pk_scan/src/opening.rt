@@ -11,7 +11,8 @@ ghost use Rattle.pk_steps.specs.Under.{places};
 ghost use Rattle.pk_scan.specs.Adopts.{RootOwned};
 ghost use Rattle.pk_scan.specs.Opened.{FoundOnFlash};
 ghost use Rattle.pk_nand.specs.Effects.{OnlyReading};
-ghost use Rattle.pk_scan.specs.Opening.{NotOpened, PartNotOpened};
+ghost use Rattle.pk_scan.specs.Opening.{NotOpened};
+ghost use Rattle.pk_scan.specs.OpeningParts.{PartNotOpened};
 ghost use Rattle.pk_scan.specs.Reads.{list_reads, opening_reads};
 ghost use Rattle.pk_scan.specs.Board.{StaysReady};
 ghost use Rattle.pk_scan.specs.Memory.{AwaitsLists, AwaitsValues, FindsLists, FindsValues, HoldsLists};
@@ -78,7 +79,7 @@ fn fill_lists<B: Nand, A: Region>(
     }
 }
 
-// Gives the blocks that the root names their owners, reads the values of all keys that are there under it, takes their pages, and
+// Gives the blocks that the root names their owners, reads the values of all keys that exist under it, takes their pages, and
 // counts the keys.
 fn fill_values<B: Nand, A: Region>(board: &mut B, memory: &mut Memory<A>) -> Result<(), OpenError>
     requires ready { IsReady (B.state board.old) memory.old.found.root.shape }

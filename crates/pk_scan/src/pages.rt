@@ -1,15 +1,14 @@
 //! A page of a run: whether its entries follow those of the pages before.
-ghost use Rattle.std.specs.Prelude.{◌≡◌, ◌==◌, ◌||◌, not, ◌<◌, ◌≤◌, ℕ, List, T, true, length, slice_get, is_some, option_map, Some, MatchBool};
+ghost use Rattle.std.specs.Prelude.{◌≡◌, ◌==◌, ◌||◌, not, ◌<◌, ◌≤◌, ℕ, List, T, true, length, slice_get, option_map, Some, MatchBool};
 ghost use Rattle.std.specs.FinMap.Entries.{is_sorted};
 ghost use Rattle.pk_base.specs.Key.{key_cmp};
 ghost use Rattle.pk_base.specs.Fields.{number_at};
 ghost use Rattle.pk_base.specs.Entry.{Entry as EntrySpec, key_of};
-ghost use Rattle.pk_base.specs.Seen.{entry as seen};
-ghost use Rattle.pk_meta.specs.Page.{Decodes, IsMetaPage};
+ghost use Rattle.pk_meta.specs.PageChecks.{Decodes, IsMetaPage};
 ghost use Rattle.pk_scan.specs.Runs as runs;
 ghost use Rattle.pk_scan.specs.Runs.{IsLast, GoesOnOr};
 
-use pk_base::{Entry, Key, LEVELS, Shape, is_below};
+use pk_base::{Key, LEVELS, Shape, is_below};
 use pk_meta::{MetaHead, decode, entry};
 
 // Whether a page begins so.
@@ -29,16 +28,6 @@ fn is_behind(last: &Option<Key>, key: &Key) -> bool
     }
 }
 
-// Whether the key of an entry was not deleted.
-fn is_put(entry: &Entry) -> bool
-    ensures { result ≡ is_some (seen entry.now).1 }
-{
-    match entry {
-        Entry::Put { .. } => true,
-        Entry::Gone { .. } => false,
-    }
-}
-
 // Whether no key of a page with `count` entries was deleted.
 fn are_put(shape: &Shape, page: &[u8], count: u32) -> bool
     requires sized { length page.now ≡ shape.now.page_bytes }
@@ -48,7 +37,7 @@ fn are_put(shape: &Shape, page: &[u8], count: u32) -> bool
         → length es ≡ count → result ≡ runs.are_put es }
 {
     for i in 0..count {
-        if !is_put(&entry(shape, page, i)) {
+        if !entry(shape, page, i).is_put() {
             return false;
         }
     }

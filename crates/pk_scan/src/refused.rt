@@ -3,7 +3,7 @@ use crate::errors::{OpenError, PageError};
 
 impl From<PageError> for OpenError {
     ghost use Rattle.std.specs.Prelude.{◌≡◌};
-    ghost use Rattle.pk_scan.specs.Opening.{opening_of};
+    ghost use Rattle.pk_scan.specs.OpeningParts.{opening_of};
 
     ghost from_gives = { λ e r. r ≡ opening_of e };
 

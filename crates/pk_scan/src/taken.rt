@@ -4,7 +4,7 @@ ghost use Rattle.std.specs.List.{list_any};
 ghost use Rattle.pk_base.specs.Key.{Key};
 ghost use Rattle.pk_base.specs.Shape.{limit, data_blocks};
 ghost use Rattle.pk_base.specs.Entry.{Place};
-ghost use Rattle.pk_base.specs.EntryBytes.{IsPlace};
+ghost use Rattle.pk_base.specs.EntryChecks.{IsPlace};
 ghost use Rattle.pk_live.specs.Values.{IsLive, count_of};
 ghost use Rattle.pk_segfmt.specs.Value.{value_pages};
 ghost use Rattle.pk_model.specs.Values.{fits, all_pages};

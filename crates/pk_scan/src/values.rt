@@ -2,9 +2,10 @@
 ghost use Rattle.std.specs.Prelude.{◌≡◌, ◌==◌, ◌<◌, ◌≤◌, ◌+◌, nat_eq, length, drop, true, IfErr, OnOk};
 ghost use Rattle.std.specs.List.{list_all, starts_with};
 ghost use Rattle.pk_base.specs.Shape as spec;
-ghost use Rattle.pk_base.specs.EntryBytes.{IsPlace};
+ghost use Rattle.pk_base.specs.EntryChecks.{IsPlace};
 ghost use Rattle.pk_base.specs.Page.{page_at};
-ghost use Rattle.pk_nand.specs.Calls.{IsReady, after_read};
+ghost use Rattle.pk_nand.specs.Calls.{IsReady};
+ghost use Rattle.pk_nand.specs.Operations.{after_read};
 ghost use Rattle.pk_nand.specs.Counts.{after_reads};
 ghost use Rattle.pk_segfmt.specs.Value.{head_bytes};
 ghost use Rattle.pk_scan.specs.Pages.{front_of, fits_page, left_at, is_right};

@@ -1,16 +1,16 @@
-//! The values of all keys that are there, each read and accepted.
+//! The values of all keys that exist, each read and accepted.
 ghost use Rattle.std.specs.Prelude.{◌≡◌, List, [], length, IfOk, IfErr, OnOk};
 ghost use Rattle.std.specs.List.{AllByRecursion};
 ghost use Rattle.pk_base.specs.Key.{Key};
 ghost use Rattle.pk_base.specs.Entry.{Place};
-ghost use Rattle.pk_base.specs.EntryBytes.{IsPlace};
+ghost use Rattle.pk_base.specs.EntryChecks.{IsPlace};
 ghost use Rattle.pk_base.specs.Page.{page_at};
 ghost use Rattle.pk_model.specs.Values.{values_of};
 ghost use Rattle.pk_nand.specs.Calls.{IsReady};
 ghost use Rattle.pk_walk.specs.Walking.{IsLeft};
 ghost use Rattle.pk_live.specs.Lives.{Lives};
 ghost use Rattle.pk_scan.specs.Adopts.{owned_blocks};
-ghost use Rattle.pk_scan.specs.Opening.{PartNotOpened};
+ghost use Rattle.pk_scan.specs.OpeningParts.{PartNotOpened};
 ghost use Rattle.pk_scan.specs.Board.{StaysReady};
 ghost use Rattle.pk_scan.specs.Taken.{TakesValues, ReadsExactly};
 

@@ -1,5 +1,6 @@
 -- The remaining work is within its bounds: buffers and runs by the lists under the root, and no job has more left than the whole of it.
-use Rattle.std.proofs.Common.{◌≡◌, inl, inr, ℕ, zero, suc, ◌+◌, ◌-◌, ◌*◌, ◌<◌, ◌≤◌, refl, sym, ap, subst, ◌∙◌, arith, Bool, true, false, T, ◌==◌, ◌||◌, if◌then◌else◌, List, [], ◌∷◌, length, map, Option, Some, None, Result, Ok}
+use Rattle.std.proofs.Common.{◌≡◌, inl, inr, ℕ, zero, suc, ◌+◌, ◌-◌, ◌*◌, ◌<◌, ◌≤◌, refl, sym, ap, subst, ◌∙◌, arith, Bool, true, false, T, ◌==◌, ◌||◌, if◌then◌else◌, List, [], ◌∷◌, length, map}
+use Rattle.std.proofs.Common.{Option, Some, None}
 use Rattle.std.specs.Prelude.{slice_index, slice_index_or, unwrap_or, IfSome, not, nat_le, zip}
 use Rattle.std.specs.List.{list_all}
 use Rattle.std.proofs.lemmas.List.Sums.{count_by-le-length}
@@ -8,7 +9,7 @@ use Rattle.pk_base.specs.Page.{Flash, page_at, page_in}
 use Rattle.pk_base.specs.Entry.{Entry}
 use Rattle.pk_base.specs.Firsts.{firsts}
 use Rattle.pk_base.specs.Merge.{room, next_merge}
-use Rattle.pk_base.specs.Refusal.{Refusal, ensure}
+use Rattle.pk_base.specs.Refusal.{ensure}
 use Rattle.pk_work.specs.Rest.{whole_merge, whole_freeze}
 use Rattle.pk_work.specs.Backlog.{IsBacklog, due_level}
 use Rattle.pk_work.proofs.Paging.{few_pages}
@@ -35,6 +36,7 @@ use Rattle.pk_schedule.specs.declared.phase.Phase.{Phase}
 use Rattle.pk_schedule.specs.declared.phase.Phase.TheVariants.{Idle, Running, Ready}
 use Rattle.pk_schedule.specs.Index.{Index, IndexOnFlash, MergeStands, MergesInto, output, source_at}
 use Rattle.pk_schedule.specs.Steps.{backlog_of, is_between, merge_left, freeze_rest_of}
+use Rattle.pk_base.proofs.Logic.{ok_same}
 
 -- ---- the runs
 
@@ -46,7 +48,8 @@ sizes_are flash arena (r ∷ rs) [] h = absurd h
 sizes_are flash arena (r ∷ rs) (es ∷ ess) h = λ i. sym h.0.many i ∷ sizes_are flash arena rs ess h.1 i
 
 -- and the pages of that many
-pages_are : (shape : Shape) (flash : Flash) (arena : Frames) (rs : List Kept) (bss : List (List ℕ)) (ess : List (List Entry)) (d : Kept) (i : ℕ) → i < length rs → HaveBlocks shape rs bss → RunsOnFlash flash arena rs ess
+pages_are : (shape : Shape) (flash : Flash) (arena : Frames) (rs : List Kept) (bss : List (List ℕ)) (ess : List (List Entry)) (d : Kept) (i : ℕ)
+    → i < length rs → HaveBlocks shape rs bss → RunsOnFlash flash arena rs ess
     → length (slice_index_or rs i d).firsts ≡ run_pages shape (slice_index (map (λ (r : Kept). r.count) rs) i)
 pages_are shape flash arena [] bss ess d i less have h = absurd (omega (arith, less))
 pages_are shape flash arena (r ∷ rs) [] ess d i less have h = absurd have
@@ -84,9 +87,6 @@ freeze_within job next = by_test (length (taken_by job) == 0)
     by_test true = tt
     by_test false = few
 
-ok_same : (xs ys : List Entry) → ◌≡◌ {A = Result (List Entry) Refusal} (Ok xs) (Ok ys) → xs ≡ ys
-ok_same xs ys e = cc
-
 -- ---- the whole
 
 module _ (x : Index) (frames : ℕ) (flash : Flash) (top : ℕ × Root) (found : Found) (stands : IndexOnFlash x frames flash top found) where
@@ -103,7 +103,8 @@ module _ (x : Index) (frames : ℕ) (flash : Flash) (top : ℕ × Root) (found :
   runs = four_runs x.log.shape (page_at flash) top.1.counts top.1.runs found.runs (four_of_root x.log.shape top.1 valid).counts (four_of_root x.log.shape top.1 valid).runs pieces.runs
 
   caps_are : WithinCaps x.log.shape runs.n1 runs.n2 runs.n3 runs.n4
-  caps_are = within_caps x.log.shape runs.n1 runs.n2 runs.n3 runs.n4 (subst (λ ns. T (list_all (λ p. nat_le p.0 (p.1 * page_entries x.log.shape)) (zip ns (caps x.log.shape)))) runs.counts_are (counted_of x.log.shape top.1 valid).fit)
+  caps_are = within_caps x.log.shape runs.n1 runs.n2 runs.n3 runs.n4
+      (subst (λ ns. T (list_all (λ p. nat_le p.0 (p.1 * page_entries x.log.shape)) (zip ns (caps x.log.shape)))) runs.counts_are (counted_of x.log.shape top.1 valid).fit)
 
   -- the keys of the frozen buffer
   pub frozen_is : length x.log.frozen.entries ≡ length (firsts found.older)
@@ -113,7 +114,8 @@ module _ (x : Index) (frames : ℕ) (flash : Flash) (top : ℕ × Root) (found :
   frozen_most =
       let read = bind_ok _ _ found.older pieces.older in
       let tested = bind_ok (ensure (length top.1.older == 0 || nat_le 1 (length read.0)) (page_in x.log.shape top.1.older 0)) _ found.older read.2 in
-      let few : length (firsts found.older) ≤ buffer x.log.shape = subst (λ (es : List Entry). length (firsts es) ≤ buffer x.log.shape) (ok_same read.0 found.older tested.2) (epoch_most x.log.shape (page_at flash) (top.1.epoch - 1) top.1.older read.0 read.1) in
+      let few : length (firsts found.older) ≤ buffer x.log.shape = subst (λ (es : List Entry). length (firsts es) ≤ buffer x.log.shape)
+      (ok_same read.0 found.older tested.2) (epoch_most x.log.shape (page_at flash) (top.1.epoch - 1) top.1.older read.0 read.1) in
       let same = frozen_is in
       omega (arith, few, same)
 
@@ -135,13 +137,15 @@ module _ (x : Index) (frames : ℕ) (flash : Flash) (top : ℕ × Root) (found :
       let c2 = c.two in
       let c3 = c.three in
       let c4 = c.four in
-      let all = four_most x.log.shape (length runs.r1) (length runs.r2) (length runs.r3) (length runs.r4) (omega (arith, m1, c1)) (omega (arith, m2, c2)) (omega (arith, m3, c3)) (omega (arith, m4, c4)) i less in
+      let all = four_most x.log.shape (length runs.r1) (length runs.r2) (length runs.r3) (length runs.r4)
+      (omega (arith, m1, c1)) (omega (arith, m2, c2)) (omega (arith, m3, c3)) (omega (arith, m4, c4)) i less in
       subst (λ (ns : List ℕ). slice_index ns i ≤ room x.log.shape (i + 1)) (sym (entries_are ∙ ap (λ (ess : List (List Entry)). map length ess) runs.lists_are)) all
 
   -- a run has few enough pages
   pages_most : (level : ℕ) → level - 1 < 4 → level - 1 + 1 ≡ level → length (run_of x.levels level).firsts ≤ cap x.log.shape level
   pages_most level less its =
-      let counted = pages_are x.log.shape flash x.arena x.levels.runs top.1.runs found.runs (empty x.levels.shape level) (level - 1) (let size = four in omega (arith, size, less)) stands.run_blocks stands.stand in
+      let counted = pages_are x.log.shape flash x.arena x.levels.runs top.1.runs found.runs (empty x.levels.shape level)
+      (level - 1) (let size = four in omega (arith, size, less)) stands.run_blocks stands.stand in
       let count : ℕ = slice_index (map (λ (r : Kept). r.count) x.levels.runs) (level - 1) in
       let few = few_pages x.log.shape level count is_shape (subst (λ (l : ℕ). count ≤ room x.log.shape l) its (runs_most (level - 1) less)) in
       subst (λ (n : ℕ). n ≤ cap x.log.shape level) (sym counted) few
@@ -167,7 +171,8 @@ module _ (x : Index) (frames : ℕ) (flash : Flash) (top : ℕ × Root) (found :
       ap (λ (o : Option ℕ). unwrap_or o 0) ((λ i. next_merge x.log.shape (frozen_is i) (entries_are i)) ∙ m.due)
 
   steps_most : (level : ℕ) → MergesInto x top.1 found level
-      → steps_left (source_at x level) (run_of x.levels level) (output x.schedule) x.schedule.job.merger (most_pages (output x.schedule)) (most_blocks (output x.schedule)) + 1 + install_steps x.log.next ≤ whole_merge x.log.shape level
+      → steps_left (source_at x level) (run_of x.levels level) (output x.schedule) x.schedule.job.merger
+      (most_pages (output x.schedule)) (most_blocks (output x.schedule)) + 1 + install_steps x.log.next ≤ whole_merge x.log.shape level
   steps_most level m =
       let out : Kept = output x.schedule in
       let which = next_is_level x.log.shape (length (firsts found.older)) (map length found.runs) level m.due in
@@ -184,7 +189,8 @@ module _ (x : Index) (frames : ℕ) (flash : Flash) (top : ℕ × Root) (found :
   merge_most : (phase : Phase) → MergeStands phase x flash top.1 found → IfSome (merge_left phase x) (λ left. left ≤ whole_merge x.log.shape (due_level x.log.shape (backlog_of x)))
   merge_most Idle m = tt
   merge_most (Running level) m =
-      subst (λ (l : ℕ). steps_left (source_at x level) (run_of x.levels level) (output x.schedule) x.schedule.job.merger (most_pages (output x.schedule)) (most_blocks (output x.schedule)) + 1 + install_steps x.log.next ≤ whole_merge x.log.shape l)
+      subst (λ (l : ℕ). steps_left (source_at x level) (run_of x.levels level) (output x.schedule) x.schedule.job.merger
+      (most_pages (output x.schedule)) (most_blocks (output x.schedule)) + 1 + install_steps x.log.next ≤ whole_merge x.log.shape l)
       (sym (due_is level m.into)) (steps_most level m.into)
   merge_most (Ready level) m =
       subst (λ (l : ℕ). install_steps x.log.next ≤ whole_merge x.log.shape l) (sym (due_is level m.into)) (let two = installs_most x.log.next in omega (arith, two))

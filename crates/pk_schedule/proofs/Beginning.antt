@@ -1,12 +1,13 @@
 -- The next merge begins: it can be, its source has an entry, and the index is as before with it.
-use Rattle.std.proofs.Common.{◌≡◌, ◌⊎◌, inl, inr, ℕ, zero, suc, ◌+◌, ◌-◌, ◌<◌, ◌≤◌, Bool, true, false, T, ◌==◌, if◌then◌else◌, List, [], length, map, nat_le, Option, Some, None, refl, sym, ap, subst, ◌∙◌, arith, leb-false, le_trans}
+use Rattle.std.proofs.Common.{◌≡◌, ◌⊎◌, inl, inr, ℕ, zero, suc, ◌+◌, ◌-◌, ◌<◌, ◌≤◌, Bool, true, false, T, ◌==◌, if◌then◌else◌, List, [], length, map, nat_le, Option, Some, None, refl, sym, ap, subst}
+use Rattle.std.proofs.Common.{◌∙◌, arith, leb-false, le_trans}
 use Rattle.std.specs.Prelude.{slice_index, slice_index_or, unwrap_or}
 use Rattle.std.specs.List.{AllByRecursion}
 use Rattle.std.specs.FinMap.Entries.{is_sorted}
 use Rattle.pk_base.specs.Key.{key_cmp}
 use Rattle.pk_base.specs.Shape.{Shape, IsShape, cap, run_pages, run_blocks, buffer}
 use Rattle.pk_base.specs.Entry.{Entry}
-use Rattle.pk_base.specs.EntryBytes.{IsEntry}
+use Rattle.pk_base.specs.EntryChecks.{IsEntry}
 use Rattle.pk_base.specs.Page.{Flash, page_at}
 use Rattle.pk_base.specs.Map.{Map}
 use Rattle.pk_base.specs.Merge.{next_merge, room}
@@ -31,7 +32,6 @@ use Rattle.pk_model.specs.Tree.{run_at}
 use Rattle.pk_model.proofs.Running.{Reaches-none}
 use Rattle.pk_model.proofs.Commits.{root_valid}
 use Rattle.pk_model.proofs.Roots.{newest_sound}
-use Rattle.pk_model.proofs.ValueSets.{is_true}
 use Rattle.pk_steps.proofs.Untouched.{under_reads}
 use Rattle.pk_steps.proofs.FourRuns.{IsLevel, next_is_level}
 use Rattle.pk_steps.proofs.Outputs.{output_fits}
@@ -56,13 +56,15 @@ use Rattle.pk_schedule.proofs.Entries.{output_same, frozen_many, frozen_rising, 
 use Rattle.pk_schedule.proofs.Leveled.{Fit, run_fits, run_blocks_in, frames_left}
 use Rattle.pk_schedule.proofs.Settled.{stands_settled, values_settled}
 use Rattle.pk_schedule.proofs.Backlogs.{installs_most}
+use Rattle.pk_base.proofs.Logic.{is_true}
 
 -- the source, for a buffer and runs in any memory
 abbrev pub source_in : (X : Type 0) → Index → ℕ → Source X
 source_in X x level = if level == 1 then Frozen (referred x.log.frozen) else Run (referred (run_of x.levels (level - 1)))
 
 pub in_shows : (X : Type 0) (x : Index) (level : ℕ) → ShowsSame (source_in X x level) (source_at x level)
-in_shows X x level = elim (level == 1) as (λ b. ShowsSame {X = X} {Y = Unit {0}} (if b then Frozen (referred x.log.frozen) else Run (referred (run_of x.levels (level - 1)))) (if b then Frozen (referred x.log.frozen) else Run (referred (run_of x.levels (level - 1))))) [ true ↦ refl | false ↦ refl ]
+in_shows X x level = elim (level == 1) as (λ b. ShowsSame {X = X} {Y = Unit {0}} (if b then Frozen (referred x.log.frozen) else Run (referred (run_of x.levels (level - 1))))
+    (if b then Frozen (referred x.log.frozen) else Run (referred (run_of x.levels (level - 1))))) [ true ↦ refl | false ↦ refl ]
 
 -- ---- what the choice of a level says
 
@@ -103,7 +105,8 @@ module _ (x : Index) (frames : ℕ) (old : BoardState) (top : ℕ × Root) (foun
   next_now = subst (λ (s : Shape). next_merge s (length x.log.frozen.entries) (map (λ r. r.count) x.levels.runs) ≡ Some level) stands.levels_shape next
 
   pub due : IsDue x.log.shape found level
-  due = (λ i. next_merge x.log.shape (sym (frozen_many x.log.shape x.log.frozen found.older stands.logs.frozen_is) i) (sym (counts_same old.pages x.arena x.levels.runs found.runs stands.stand) i)) ∙ next_now
+  due = (λ i. next_merge x.log.shape (sym (frozen_many x.log.shape x.log.frozen found.older stands.logs.frozen_is) i) (sym (counts_same old.pages x.arena x.levels.runs found.runs stands.stand) i))
+      ∙ next_now
 
   is_level : IsLevel level
   is_level = next_is_level x.log.shape (length x.log.frozen.entries) (map (λ r. r.count) x.levels.runs) level next_now
@@ -142,9 +145,11 @@ module _ (x : Index) (frames : ℕ) (old : BoardState) (top : ℕ × Root) (foun
     | inr (inl (e, full)) ↦ subst HasSome (sym e) (
         let over = leb-false _ _ full in let few = capacity in let c = count_is 0 (empty x.levels.shape 1) (omega arith) in omega (arith, over, few, c))
     | inr (inr (inl (e, full))) ↦ subst HasSome (sym e) (
-        let over = leb-false _ _ full in let few = (fit 1 (omega arith) (omega arith)).entries in let b = count_is 0 (empty x.levels.shape 1) (omega arith) in let c = count_is 1 (empty x.levels.shape 2) (omega arith) in omega (arith, over, few, b, c))
+        let over = leb-false _ _ full in let few = (fit 1 (omega arith) (omega arith)).entries in let b = count_is 0
+        (empty x.levels.shape 1) (omega arith) in let c = count_is 1 (empty x.levels.shape 2) (omega arith) in omega (arith, over, few, b, c))
     | inr (inr (inr (e, full))) ↦ subst HasSome (sym e) (
-        let over = leb-false _ _ full in let few = (fit 2 (omega arith) (omega arith)).entries in let b = count_is 1 (empty x.levels.shape 2) (omega arith) in let c = count_is 2 (empty x.levels.shape 3) (omega arith) in omega (arith, over, few, b, c))
+        let over = leb-false _ _ full in let few = (fit 2 (omega arith) (omega arith)).entries in let b = count_is 1
+        (empty x.levels.shape 2) (omega arith) in let c = count_is 2 (empty x.levels.shape 3) (omega arith) in omega (arith, over, few, b, c))
   ]
 
   -- ---- no merge has an output
@@ -167,7 +172,8 @@ module _ (x : Index) (frames : ℕ) (old : BoardState) (top : ℕ × Root) (foun
   fs = run_at found.runs level
 
   output_few : length (merged level es fs) ≤ room x.log.shape level
-  output_few = subst (λ (xs : List Entry). length xs ≤ room x.log.shape level) (sym (output_same x found level stands.logs.frozen_is)) (output_fits x.log.shape old.pages [] top found m level is_shape may.under due)
+  output_few = subst (λ (xs : List Entry). length xs ≤ room x.log.shape level) (sym (output_same x found level stands.logs.frozen_is))
+      (output_fits x.log.shape old.pages [] top found m level is_shape may.under due)
 
   run_is : (l : ℕ) → 1 ≤ l → l ≤ 4 → RunOnFlash (run_of x.levels l) old.pages x.arena (run_at found.runs l)
   run_is l least most = run_stands old.pages x.arena x.levels.runs found.runs (l - 1) (empty x.levels.shape l) (let f = four in omega (arith, f, least, most)) stands.stand
@@ -176,10 +182,14 @@ module _ (x : Index) (frames : ℕ) (old : BoardState) (top : ℕ × Root) (foun
   above_is = run_stands old.pages x.arena x.levels.runs found.runs (level - 1 - 1) (empty x.levels.shape (level - 1)) (let f = four in let h = high in omega (arith, f, h)) stands.stand
 
   above_blocks : AreMeta x.pool (run_of x.levels (level - 1)).blocks
-  above_blocks = λ i b got. stands.runs b (run_blocks_in x.log.shape x.levels.runs top.1.runs (level - 1 - 1) (empty x.levels.shape (level - 1)) (let f = four in let h = high in omega (arith, f, h)) stands.run_blocks b (got_in _ i b got))
+  above_blocks = λ i b got. stands.runs b
+      (run_blocks_in x.log.shape x.levels.runs top.1.runs (level - 1 - 1) (empty x.levels.shape (level - 1))
+      (let f = four in let h = high in omega (arith, f, h)) stands.run_blocks b (got_in _ i b got))
 
   target_blocks : AreMeta x.pool (run_of x.levels level).blocks
-  target_blocks = λ i b got. stands.runs b (run_blocks_in x.log.shape x.levels.runs top.1.runs (level - 1) (empty x.levels.shape level) (let f = four in let h = high in let l = low in omega (arith, f, h, l)) stands.run_blocks b (got_in _ i b got))
+  target_blocks = λ i b got. stands.runs b
+      (run_blocks_in x.log.shape x.levels.runs top.1.runs (level - 1) (empty x.levels.shape level)
+      (let f = four in let h = high in let l = low in omega (arith, f, h, l)) stands.run_blocks b (got_in _ i b got))
 
   is_grammar : is_root x.log.shape top.1 ≡ true
   is_grammar = is_true _ (root_valid x.log.shape (page_at old.pages top.0) top.1 (newest_sound x.log.shape (page_at old.pages) top may.under.is_top).there)
@@ -194,14 +204,16 @@ module _ (x : Index) (frames : ℕ) (old : BoardState) (top : ℕ × Root) (foun
 
   pin : nat_le level x.schedule.job.pinned ≡ true → run_pages x.log.shape (length (merged level es fs)) ≤ free_frames x.arena
   pin pins =
-      let free = frames_left x.log.shape frames x.levels x.arena level levels_are kept stands.levels_shape stands.levels_pinned has_arena is_level (subst (λ (n : ℕ). nat_le level n ≡ true) stands.pins_are pins) in
+      let free = frames_left x.log.shape frames x.levels x.arena level levels_are kept stands.levels_shape stands.levels_pinned has_arena is_level
+      (subst (λ (n : ℕ). nat_le level n ≡ true) stands.pins_are pins) in
       le_trans (few_pages x.log.shape level (length (merged level es fs)) is_shape output_few) free
 
   rising_of : (b : Bool) (f : Table) (gs : List Entry) → T (is_sorted key_cmp f.entries) → T (is_sorted key_cmp gs) → T (is_sorted key_cmp (if b then f.entries else gs))
   rising_of true f gs one two = one
   rising_of false f gs one two = two
 
-  each_of : (b : Bool) (f : Table) (gs : List Entry) → AllByRecursion (IsEntry x.log.shape) f.entries → AllByRecursion (IsEntry x.log.shape) gs → AllByRecursion (IsEntry x.log.shape) (if b then f.entries else gs)
+  each_of : (b : Bool) (f : Table) (gs : List Entry) → AllByRecursion (IsEntry x.log.shape) f.entries
+      → AllByRecursion (IsEntry x.log.shape) gs → AllByRecursion (IsEntry x.log.shape) (if b then f.entries else gs)
   each_of true f gs one two = one
   each_of false f gs one two = two
 
@@ -214,7 +226,8 @@ module _ (x : Index) (frames : ℕ) (old : BoardState) (top : ℕ × Root) (foun
       more (suc (suc l)) h e = omega arith
 
   module _ (X : Type 0) where
-    has_of : (b : Bool) (f : Table) (r : Kept) (gs : List Entry) → RunOnFlash r old.pages x.arena gs → Has {X = X} (if b then Frozen (referred f) else Run (referred r)) old.pages x.arena (if b then f.entries else gs)
+    has_of : (b : Bool) (f : Table) (r : Kept) (gs : List Entry) → RunOnFlash r old.pages x.arena gs
+        → Has {X = X} (if b then Frozen (referred f) else Run (referred r)) old.pages x.arena (if b then f.entries else gs)
     has_of true f r gs s = refl
     has_of false f r gs s = s
 
@@ -232,7 +245,8 @@ module _ (x : Index) (frames : ℕ) (old : BoardState) (top : ℕ × Root) (foun
       stands = run_is level low high;
       rising = rising_of (level == 1) x.log.frozen (run_at found.runs (level - 1)) (frozen_rising x.log.shape x.log.frozen found.older stands.logs.frozen_is) above_is.rising;
       lists = record {
-        each_source = each_of (level == 1) x.log.frozen (run_at found.runs (level - 1)) (frozen_are x.log.shape old.pages top.1 found may.under.is_found x.log.frozen stands.logs.frozen_is) (run_are x.log.shape old.pages top.1 found may.under.is_found (level - 1));
+        each_source = each_of (level == 1) x.log.frozen (run_at found.runs (level - 1))
+            (frozen_are x.log.shape old.pages top.1 found may.under.is_found x.log.frozen stands.logs.frozen_is) (run_are x.log.shape old.pages top.1 found may.under.is_found (level - 1));
         each_target = run_are x.log.shape old.pages top.1 found may.under.is_found level;
         few = output_few;
       };
@@ -286,7 +300,8 @@ module _ (x : Index) (frames : ℕ) (old : BoardState) (top : ℕ × Root) (foun
           more (suc (suc l)) h e = omega arith
 
   module _ (X : Type 0)
-      (begins : CanBegin (source_in X x level) (run_of x.levels level) (pins job) x.schedule.job.merger.shape level x.pool old.pages x.arena es fs → JobRuns (source_in X x level) (run_of x.levels level) job x.pool old.pages x.arena es fs)
+      (begins : CanBegin (source_in X x level) (run_of x.levels level) (pins job) x.schedule.job.merger.shape level x.pool old.pages x.arena es fs
+      → JobRuns (source_in X x level) (run_of x.levels level) job x.pool old.pages x.arena es fs)
       (within : IsWithin (source_in X x level) (run_of x.levels level) (output_of job) job.merger) (ready : IsReady old x.log.shape) where
     same : Shown (source_in X x level) (source_at x level)
     same = shown (source_in X x level) (source_at x level) (in_shows X x level)
@@ -340,11 +355,13 @@ module _ (x : Index) (frames : ℕ) (old : BoardState) (top : ℕ × Root) (foun
 
     whole : steps_left (source_at x level) (run_of x.levels level) (output_of job) job.merger (most_pages (output_of job)) (most_blocks (output_of job)) + 7 ≤ whole_merge x.log.shape level
     whole =
-        let own : steps_left (source_in X x level) (run_of x.levels level) (output_of job) job.merger (most_pages (output_of job)) (most_blocks (output_of job)) + 7 ≤ whole_merge (output_of job).shape level
+        let own : steps_left (source_in X x level) (run_of x.levels level) (output_of job) job.merger
+        (most_pages (output_of job)) (most_blocks (output_of job)) + 7 ≤ whole_merge (output_of job).shape level
         = within (subst (λ (n : ℕ). n ≤ cap (output_of job).shape (level - 1)) same.pages (subst (λ (s : Shape). pages_in (source_at x level) ≤ cap s (level - 1)) (sym out_shape) pages_few))
         (subst (λ (s : Shape). length (run_of x.levels level).firsts ≤ cap s level) (sym out_shape) (fit level low high).pages) in
         let left = left_same (source_in X x level) (source_at x level) same (run_of x.levels level) (output_of job) job.merger (most_pages (output_of job)) (most_blocks (output_of job)) in
-        let most = subst (λ (s : Shape). steps_left (source_in X x level) (run_of x.levels level) (output_of job) job.merger (most_pages (output_of job)) (most_blocks (output_of job)) + 7 ≤ whole_merge s level) out_shape own in
+        let most = subst (λ (s : Shape). steps_left (source_in X x level) (run_of x.levels level) (output_of job) job.merger
+        (most_pages (output_of job)) (most_blocks (output_of job)) + 7 ≤ whole_merge s level) out_shape own in
         omega (arith, left, most)
 
     begun_left : ℕ
@@ -368,10 +385,13 @@ module _ (x : Index) (frames : ℕ) (old : BoardState) (top : ℕ × Root) (foun
   -- ---- by the contract of the job
 
   module _ (X : Type 0) (j : Job) (is : j ≡ job)
-      (begins : (source : Source X) (target_run : Kept) (pool : Blocks) (flash : Flash) (arena : Frames) (gs hs : List Entry) → CanBegin source target_run (pins j) x.schedule.job.merger.shape level pool flash arena gs hs → JobRuns source target_run j pool flash arena gs hs)
+      (begins : (source : Source X) (target_run : Kept) (pool : Blocks) (flash : Flash) (arena : Frames) (gs hs : List Entry)
+      → CanBegin source target_run (pins j) x.schedule.job.merger.shape level pool flash arena gs hs → JobRuns source target_run j pool flash arena gs hs)
       (within : (source : Source X) (target_run : Kept) → IsWithin source target_run (output_of j) j.merger) (ready : IsReady old x.log.shape) where
-    can : CanBegin (source_in X x level) (run_of x.levels level) (pins job) x.schedule.job.merger.shape level x.pool old.pages x.arena es fs → JobRuns (source_in X x level) (run_of x.levels level) job x.pool old.pages x.arena es fs
-    can = subst (λ (k : Job). CanBegin (source_in X x level) (run_of x.levels level) (pins k) x.schedule.job.merger.shape level x.pool old.pages x.arena es fs → JobRuns (source_in X x level) (run_of x.levels level) k x.pool old.pages x.arena es fs) is
+    can : CanBegin (source_in X x level) (run_of x.levels level) (pins job) x.schedule.job.merger.shape level x.pool old.pages x.arena es fs
+        → JobRuns (source_in X x level) (run_of x.levels level) job x.pool old.pages x.arena es fs
+    can = subst (λ (k : Job). CanBegin (source_in X x level) (run_of x.levels level) (pins k) x.schedule.job.merger.shape level x.pool old.pages x.arena es fs
+        → JobRuns (source_in X x level) (run_of x.levels level) k x.pool old.pages x.arena es fs) is
         (begins (source_in X x level) (run_of x.levels level) x.pool old.pages x.arena es fs)
 
     few : IsWithin (source_in X x level) (run_of x.levels level) (output_of job) job.merger

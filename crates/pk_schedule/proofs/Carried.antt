@@ -57,12 +57,19 @@ same_shown (Run r) (Frozen b) e = e
 same_shown (Run r) (Run q) e = sym e
 
 module _ {X Y : Type 0} (source : Source X) (s : Source Y) (is : Shown source s) (target : Kept) where
-  pub carried : (pins : Bool) (out : Kept) (m : Merger) (pool : Blocks) (flash : Flash) (arena : Frames) (es fs : List Entry) → Running source target pins out m pool flash arena es fs → Running s target pins out m pool flash arena es fs
+  pub carried : (pins : Bool) (out : Kept) (m : Merger) (pool : Blocks) (flash : Flash) (arena : Frames) (es fs : List Entry)
+      → Running source target pins out m pool flash arena es fs → Running s target pins out m pool flash arena es fs
   carried pins out m pool flash arena es fs r =
       let c = r.merging.cursors in
       record {
         lists = r.lists;
-        shapes = record { of_merger = r.shapes.of_merger; of_target = r.shapes.of_target; of_source = is.of_shape out.shape r.shapes.of_source; of_pool = r.shapes.of_pool; of_frames = r.shapes.of_frames };
+        shapes = record {
+          of_merger = r.shapes.of_merger;
+          of_target = r.shapes.of_target;
+          of_source = is.of_shape out.shape r.shapes.of_source;
+          of_pool = r.shapes.of_pool;
+          of_frames = r.shapes.of_frames;
+        };
         merging = record {
           cursors = record { has = is.has flash arena es c.has; stands = c.stands; rising = c.rising; source_at = is.follows flash m.source c.source_at; target_at = c.target_at };
           entries = r.merging.entries;

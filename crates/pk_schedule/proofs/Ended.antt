@@ -1,4 +1,4 @@
--- The job of merges if its runs are taken and given back one after another.
+-- The job of merges if its runs are taken and freed one after another.
 use Rattle.std.proofs.Common.{◌≡◌, ℕ, zero, suc, ◌-◌, ◌≤◌, refl, ap, ◌∙◌, arith, List, Some, Option}
 use Rattle.pk_base.specs.Shape.{Shape}
 use Rattle.pk_run.specs.Kept.{Kept, empty}

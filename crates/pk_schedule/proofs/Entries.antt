@@ -1,5 +1,6 @@
 -- The entries of a merge's source and target, and those of its output.
-use Rattle.std.proofs.Common.{◌≡◌, ℕ, zero, suc, ◌-◌, ◌<◌, Bool, true, false, ◌||◌, ◌==◌, T, if◌then◌else◌, List, [], ◌∷◌, ◌++◌, length, map, reverse, nat_le, Result, Ok, refl, sym, ap, subst, ◌∙◌, arith}
+use Rattle.std.proofs.Common.{◌≡◌, ℕ, zero, suc, ◌-◌, ◌<◌, Bool, true, false, ◌||◌, ◌==◌, T, if◌then◌else◌, List, [], ◌∷◌, ◌++◌, length, map, reverse, nat_le, Result, Ok, refl, sym, ap, subst, ◌∙◌}
+use Rattle.std.proofs.Common.{arith}
 use Rattle.std.specs.Prelude.{slice_index, slice_index_or}
 use Rattle.std.specs.List.{AllByRecursion}
 use Rattle.std.specs.FinMap.Entries.{find, is_sorted, same_entries}
@@ -7,7 +8,7 @@ use Rattle.std.proofs.lemmas.List.{reverse-append}
 use Rattle.pk_base.specs.Key.{key_cmp}
 use Rattle.pk_base.specs.Shape.{Shape}
 use Rattle.pk_base.specs.Entry.{Entry}
-use Rattle.pk_base.specs.EntryBytes.{IsEntry}
+use Rattle.pk_base.specs.EntryChecks.{IsEntry}
 use Rattle.pk_base.specs.Firsts.{firsts}
 use Rattle.pk_base.specs.Page.{Flash, page_at, page_in}
 use Rattle.pk_base.specs.Refusal.{Refusal, ensure}
@@ -22,7 +23,7 @@ use Rattle.pk_level.specs.Levels.{RunsOnFlash}
 use Rattle.pk_model.specs.Found.{Found, found_under}
 use Rattle.pk_model.specs.Tree.{run_at}
 use Rattle.pk_model.proofs.MapLemmas.{key_total, key_antisymm}
-use Rattle.pk_model.proofs.Lookups.{find-firsts, firsts_sorted}
+use Rattle.pk_model.proofs.Lookups.{find-firsts}
 use Rattle.pk_model.proofs.Merges.{first_some, find-append_lists}
 use Rattle.pk_model.proofs.Entries.{epoch_all, runs_all, all_put, all_append, journal_are, meta_are}
 use Rattle.pk_model.proofs.StrangePages.{bind_ok}
@@ -30,19 +31,22 @@ use Rattle.pk_steps.specs.Merging.{output_of as whole_output}
 use Rattle.pk_steps.proofs.FourRuns.{pieces_of}
 use Rattle.pk_merge.specs.Running.{merged}
 use Rattle.pk_schedule.specs.Index.{Index, entries_at}
+use Rattle.pk_base.proofs.KeyLemmas.{firsts_sorted}
 
 -- ---- the output
 
 -- it is the same of the entries that count
 pub over_firsts : (es fs : List Entry) → over (firsts es) fs ≡ over es fs
 over_firsts es fs = same_entries key_cmp key_total key_antisymm (over (firsts es) fs) (over es fs) (firsts_sorted (firsts es ++ fs)) (firsts_sorted (es ++ fs)) (λ q.
-    find-firsts q (firsts es ++ fs) ∙ find-append_lists q (firsts es) fs ∙ ap (λ o. first_some o (find key_cmp q fs)) (find-firsts q es) ∙ sym (find-append_lists q es fs) ∙ sym (find-firsts q (es ++ fs)))
+    find-firsts q (firsts es ++ fs) ∙ find-append_lists q (firsts es) fs
+    ∙ ap (λ o. first_some o (find key_cmp q fs)) (find-firsts q es) ∙ sym (find-append_lists q es fs) ∙ sym (find-firsts q (es ++ fs)))
 
 frozen_or : (b : Bool) (held es fs gs : List Entry) → held ≡ firsts (reverse es) → over (if b then held else gs) fs ≡ over (if b then reverse es else gs) fs
 frozen_or true held es fs gs is = ap (λ (xs : List Entry). over xs fs) is ∙ over_firsts (reverse es) fs
 frozen_or false held es fs gs is = refl
 
-pub output_same : (x : Index) (found : Found) (level : ℕ) → x.log.frozen ≡ buffer_of x.log.shape found.older → merged level (entries_at x found level) (run_at found.runs level) ≡ whole_output level found
+pub output_same : (x : Index) (found : Found) (level : ℕ) → x.log.frozen ≡ buffer_of x.log.shape found.older
+    → merged level (entries_at x found level) (run_at found.runs level) ≡ whole_output level found
 output_same x found level is = ap (kept_at level) (frozen_or (level == 1) x.log.frozen.entries found.older (run_at found.runs level) (run_at found.runs (level - 1)) (ap (λ (t : Table). t.entries) is))
 
 -- ---- how many there are
@@ -61,7 +65,8 @@ counts_same flash arena (r ∷ rs) (es ∷ ess) s = (λ i. sym s.0.many i ∷ co
 
 -- ---- the run of a level
 
-pub run_stands : (flash : Flash) (arena : Frames) (rs : List Kept) (ess : List (List Entry)) (i : ℕ) (d : Kept) → i < length rs → RunsOnFlash flash arena rs ess → RunOnFlash (slice_index_or rs i d) flash arena (slice_index_or ess i [])
+pub run_stands : (flash : Flash) (arena : Frames) (rs : List Kept) (ess : List (List Entry)) (i : ℕ) (d : Kept)
+    → i < length rs → RunsOnFlash flash arena rs ess → RunOnFlash (slice_index_or rs i d) flash arena (slice_index_or ess i [])
 run_stands flash arena [] ess i d inside s = absurd (omega (arith, inside))
 run_stands flash arena (r ∷ rs) [] i d inside s = absurd s
 run_stands flash arena (r ∷ rs) (es ∷ ess) zero d inside s = s.0
@@ -96,7 +101,8 @@ module _ (shape : Shape) (flash : Flash) (root : Root) (found : Found) (is : fou
       let read = bind_ok _ _ found.older pieces.older in
       let tested = bind_ok (ensure (length root.older == 0 || nat_le 1 (length read.0)) (page_in shape root.older 0)) _ found.older read.2 in
       subst Are (ok_same read.0 found.older tested.2)
-      (epoch_all (IsEntry shape) shape (page_at flash) (λ k number index bytes es stands read. journal_are shape number index bytes es read) (λ k level index count bytes es stands read. meta_are shape level index count bytes es read) (root.epoch - 1) root.older read.0 read.1)
+      (epoch_all (IsEntry shape) shape (page_at flash) (λ k number index bytes es stands read. journal_are shape number index bytes es read)
+      (λ k level index count bytes es stands read. meta_are shape level index count bytes es read) (root.epoch - 1) root.older read.0 read.1)
 
   pub frozen_are : (t : Table) → t ≡ buffer_of shape found.older → Are t.entries
   frozen_are t held = subst (λ (t : Table). Are t.entries) (sym held) (all_firsts (IsEntry shape) (reverse found.older) (all_reverse (IsEntry shape) found.older older_are))
@@ -110,4 +116,5 @@ module _ (shape : Shape) (flash : Flash) (root : Root) (found : Found) (is : fou
   run_are level =
       let pieces = pieces_of shape (page_at flash) root found is in
       at_index found.runs (level - 1)
-      (runs_all (IsEntry shape) shape (page_at flash) (λ k number index bytes es stands read. journal_are shape number index bytes es read) (λ k level index count bytes es stands read. meta_are shape level index count bytes es read) 1 root.counts root.runs found.runs pieces.runs)
+      (runs_all (IsEntry shape) shape (page_at flash) (λ k number index bytes es stands read. journal_are shape number index bytes es read)
+      (λ k level index count bytes es stands read. meta_are shape level index count bytes es read) 1 root.counts root.runs found.runs pieces.runs)

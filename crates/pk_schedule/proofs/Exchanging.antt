@@ -10,8 +10,10 @@ use Rattle.pk_level.specs.Levels.{Levels, run_of, with_run}
 use Rattle.pk_merge.specs.Jobs.{Job, LeavesOthers, held_at, taken_from, given_to, given_all}
 use Rattle.pk_schedule.specs.Exchanges.{CanExchange, Exchanges}
 
-module _ (levels levels' : Levels) (arena arena' : Frames) (pool pool' : Blocks) (job middle job' : Job) (level : ℕ) (run former : Kept) (taken : held_at job level ≡ Some run) (left : middle ≡ taken_from job level)
-    (installed : levels' ≡ with_run levels level run) (former_is : former ≡ run_of levels level) (kept : job' ≡ given_to middle former) (pool_is : pool' ≡ given_back pool former.blocks) (arena_is : arena' ≡ given_all arena former.leases)
+module _ (levels levels' : Levels) (arena arena' : Frames) (pool pool' : Blocks) (job middle job' : Job)
+    (level : ℕ) (run former : Kept) (taken : held_at job level ≡ Some run) (left : middle ≡ taken_from job level)
+    (installed : levels' ≡ with_run levels level run) (former_is : former ≡ run_of levels level) (kept : job' ≡ given_to middle former)
+    (pool_is : pool' ≡ given_back pool former.blocks) (arena_is : arena' ≡ given_all arena former.leases)
     (fits : (flash : Flash) → PoolOnFlash pool flash → PoolOnFlash pool' flash) (others : LeavesOthers former.leases arena arena')
     (leases : (before behind : List ℕ) → AreLeases arena (before ++ (former.leases ++ behind)) → AreLeases arena' (before ++ behind)) (same : unready pool'.states ≡ unready pool.states) where
   pub exchanges : (r : Kept) → CanExchange levels arena pool job level r → Exchanges levels arena pool job level r levels' arena' pool' job'

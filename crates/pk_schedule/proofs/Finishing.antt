@@ -56,14 +56,16 @@ module _ (x : Index) (frames : ℕ) (old : BoardState) (top : ℕ × Root) (foun
         (behind_roots x.pool.shape free.states (k / shape.block_pages) (Owned o) (owned_is_not_root {o = o}) owned (shared_freed x.pool.shape x.pool.states shared)))
 
     pool_still : PoolOnFlash free new.pages
-    pool_still = pool_behind free old.pages new.pages (shared_freed x.pool.shape x.pool.states shared) (subst (λ (s : Shape). SameBehind s old.pages new.pages) (sym may.stands.pool_shape) f.behind) may.stands.pool_fits
+    pool_still = pool_behind free old.pages new.pages (shared_freed x.pool.shape x.pool.states shared)
+        (subst (λ (s : Shape). SameBehind s old.pages new.pages) (sym may.stands.pool_shape) f.behind) may.stands.pool_fits
 
     runs_stand : RunsOnFlash new.pages x.arena x.levels.runs found.runs
     runs_stand = RunsOnFlash-same shape old.pages new.pages x.arena x.levels.runs top.1.runs found.runs (block_pages_positive shape may.stands.logs.is_shape) may.stands.run_blocks
         (λ k is. same_page Meta k (may.stands.runs (k / shape.block_pages) is)) may.stands.stand
 
     idle_then : MergeStands x.schedule.phase then_index new.pages top.1 found
-    idle_then = subst (λ (p : Phase). MergeStands p then_index new.pages top.1 found) (sym may.half.no_merge) (subst (λ (p : Phase). MergeStands p (settled x) old.pages top.1 found) may.half.no_merge may.stands.merge)
+    idle_then = subst (λ (p : Phase). MergeStands p then_index new.pages top.1 found) (sym may.half.no_merge)
+        (subst (λ (p : Phase). MergeStands p (settled x) old.pages top.1 found) may.half.no_merge may.stands.merge)
 
     stands_then : IndexOnFlash then_index frames new.pages top found
     stands_then = record {
@@ -145,7 +147,8 @@ module _ (log log' : LogState) (pool pool' : Blocks) (s : Schedule) (shared : Is
   abbrev Call : Result Unit Fault → Type 0
   Call r = StepByCall (λ u. LogFinishes log old log' new) (LogFinishBreaks log old new) log.shape 1 old new r
 
-  pub settles_all : (r : Result Unit Fault) → Call r → OnOk r (pool' ≡ freed pool) → OnOk r ((levels : Levels) (arena : Frames) → Settles (index log levels arena pool s) old (index log' levels arena pool' s) new)
+  pub settles_all : (r : Result Unit Fault) → Call r → OnOk r (pool' ≡ freed pool)
+      → OnOk r ((levels : Levels) (arena : Frames) → Settles (index log levels arena pool s) old (index log' levels arena pool' s) new)
   settles_all (Ok u) call pool_is = λ levels arena. settles (index log levels arena pool s) shared old new log' same pool' pool_is call.step.ended
   settles_all (Err fault) call pool_is = tt
 

@@ -1,5 +1,6 @@
 -- A step of a freeze, over an index.
-use Rattle.std.proofs.Common.{◌≡◌, ◌⊎◌, inl, inr, ℕ, ◌+◌, ◌/◌, ◌<◌, slice_index, Bool, true, false, not, ◌==◌, if◌then◌else◌, T, List, [], ◌∷◌, ◌++◌, length, reverse, Some, Result, Ok, Err, refl, sym, ap, subst, ◌∙◌, arith, length-append, append-nil, eqb→eq}
+use Rattle.std.proofs.Common.{◌≡◌, ◌⊎◌, inl, inr, ℕ, ◌+◌, ◌/◌, ◌<◌, slice_index, Bool, true, false, not, ◌==◌, if◌then◌else◌, T, List, [], ◌∷◌, ◌++◌, length, reverse, Some, Result, Ok, Err, refl, sym}
+use Rattle.std.proofs.Common.{ap, subst, ◌∙◌, arith, length-append, append-nil, eqb→eq}
 use Rattle.std.specs.Prelude.{slice_get, MatchBool, IfOk, OnOk, OnErr}
 use Rattle.std.specs.List.{concat, AllByRecursion}
 use Rattle.pk_base.specs.Shape.{Shape}
@@ -46,11 +47,12 @@ use Rattle.pk_schedule.specs.Index.{Index, IndexOnFlash, MergeStands, IsSettled,
 use Rattle.pk_schedule.specs.Steps.{MayWork, MayFreeze, KeepsValues, IndexMoves, Moves, Breaks, FreezeMoves, Freezes, has_no_merge, is_between}
 use Rattle.pk_schedule.proofs.Giving.{GivesBack, gives_back, left_counted, TakesFor, takes_for, in_or_not, not_spare, one_owner}
 use Rattle.pk_schedule.proofs.Keeping.{RunsOnFlash-same}
-use Rattle.pk_schedule.proofs.Standing.{both_true, idle_of, apart_top, owned_beyond}
+use Rattle.pk_schedule.proofs.Standing.{idle_of, apart_top, owned_beyond}
 use Rattle.pk_root.specs.Installing.{repeats_next}
 use Rattle.pk_pool.proofs.Leaving.{left_and_freed, freed_same, freed_fits}
 use Rattle.pk_schedule.proofs.Settled.{none_leaves_set, stands_settled, values_settled}
 use Rattle.std.proofs.lemmas.Bool.{ltb-true}
+use Rattle.pk_base.proofs.Logic.{both_true}
 
 length_none : {X : Type 0} (xs : List X) → length xs ≡ 0 → xs ≡ []
 length_none [] none = refl
@@ -156,7 +158,8 @@ module _ (x : Index) (frames : ℕ) (old : BoardState) (top : ℕ × Root) (foun
       }
 
   -- a merge does not run, over the same job
-  merge_idle : (y : Index) → y.schedule.phase ≡ x.schedule.phase → y.schedule.job ≡ x.schedule.job → y.log.shape ≡ shape → (flash : Flash) (root : Root) (then_found : Found) → MergeStands y.schedule.phase y flash root then_found
+  merge_idle : (y : Index) → y.schedule.phase ≡ x.schedule.phase → y.schedule.job ≡ x.schedule.job → y.log.shape ≡ shape
+      → (flash : Flash) (root : Root) (then_found : Found) → MergeStands y.schedule.phase y flash root then_found
   merge_idle y same_phase same_job same_shape flash root then_found =
       subst (λ p. MergeStands p y flash root then_found) (sym (same_phase ∙ idle.0)) (rw (same_job, same_shape) idle.1)
 
@@ -189,7 +192,8 @@ module _ (x : Index) (frames : ℕ) (old : BoardState) (top : ℕ × Root) (foun
             pool_fits = on.still.pool_fits;
             levels_shape = may.stands.levels_shape;
             levels_pinned = may.stands.levels_pinned;
-            stand = RunsOnFlash-same shape old.pages new.pages x.arena x.levels.runs top.1.runs found.runs (block_pages_positive shape may.stands.logs.is_shape) may.stands.run_blocks run_page may.stands.stand;
+            stand = RunsOnFlash-same shape old.pages new.pages x.arena x.levels.runs top.1.runs found.runs
+                (block_pages_positive shape may.stands.logs.is_shape) may.stands.run_blocks run_page may.stands.stand;
             run_blocks = may.stands.run_blocks;
             arena_is = may.stands.arena_is;
             journal = λ b is. more.1.owned Journal b (may.stands.journal b is);
@@ -264,7 +268,8 @@ module _ (x : Index) (frames : ℕ) (old : BoardState) (top : ℕ × Root) (foun
       either false = let e = two in omega (arith, e)
 
       newest_differs : T (differ top.1.newest)
-      newest_differs = differ_front top.1.newest top.1.older (differ_front (top.1.newest ++ top.1.older) (concat top.1.runs) (blocks_of_root shape top.1 (valid_root shape (page_at old.pages) top may.stands.logs.is_top)).different)
+      newest_differs = differ_front top.1.newest top.1.older
+          (differ_front (top.1.newest ++ top.1.older) (concat top.1.runs) (blocks_of_root shape top.1 (valid_root shape (page_at old.pages) top may.stands.logs.is_top)).different)
 
       gone_differs : (z : Bool) → T (differ (if z then top.1.newest else []))
       gone_differs true = newest_differs
@@ -291,9 +296,11 @@ module _ (x : Index) (frames : ℕ) (old : BoardState) (top : ℕ × Root) (foun
       taken = subst (AllByRecursion (IsTaken shape x.pool old.pages top.1)) f.taken_are may.stands.freeze.taken
 
       taken_stays : (b : ℕ) → IsTaken shape x.pool old.pages top.1 b → slice_get free.states b ≡ Some (Owned Journal)
-      taken_stays b t = stays Journal b t.owned (λ is. t.unnamed (any_front (λ c. b ≡ c) (top.1.newest ++ top.1.older) (concat top.1.runs) (any_front (λ c. b ≡ c) top.1.newest top.1.older (in_gone (length found.newest == 0) b is))))
+      taken_stays b t = stays Journal b t.owned
+          (λ is. t.unnamed (any_front (λ c. b ≡ c) (top.1.newest ++ top.1.older) (concat top.1.runs) (any_front (λ c. b ≡ c) top.1.newest top.1.older (in_gone (length found.newest == 0) b is))))
 
-      older_stays : (z : Bool) (b : ℕ) → ((b' : ℕ) → (In b' (if z then top.1.newest else []) → ⊥) → slice_get free.states b' ≡ slice_get x.pool.states b') → In b (if z then [] else top.1.newest) → slice_get free.states b ≡ Some (Owned Journal)
+      older_stays : (z : Bool) (b : ℕ) → ((b' : ℕ) → (In b' (if z then top.1.newest else []) → ⊥) → slice_get free.states b' ≡ slice_get x.pool.states b')
+          → In b (if z then [] else top.1.newest) → slice_get free.states b ≡ Some (Owned Journal)
       older_stays true b others is = absurd is
       older_stays false b others is = others b (λ there. there) ∙ newest_owned b is
 
@@ -366,7 +373,8 @@ module _ (x : Index) (frames : ℕ) (old : BoardState) (top : ℕ × Root) (foun
       leaves_one : (length found.newest == 0) ≡ true → (b : ℕ) × (slice_get free.states b ≡ Some Free)
       leaves_one none_there = (
         slice_index top.1.newest 0,
-        gives.gone (slice_index top.1.newest 0) (subst (λ (z : Bool). In (slice_index top.1.newest 0) (if z then top.1.newest else [])) (sym none_there) (member top.1.newest 0 (let e = two in omega (arith, e)))),
+        gives.gone (slice_index top.1.newest 0)
+            (subst (λ (z : Bool). In (slice_index top.1.newest 0) (if z then top.1.newest else [])) (sym none_there) (member top.1.newest 0 (let e = two in omega (arith, e)))),
       )
 
       busy : (0 < length x.log.active.entries) ⊎ ((b : ℕ) × (slice_get free.states b ≡ Some Free))
@@ -422,9 +430,11 @@ stepped_index x log' pool' job' = record x { log = log'; pool = pool'; schedule 
 
 module _ (x : Index) (none : has_no_merge x ≡ true) (shared : IsShared x.pool.shape x.pool.states) (old : BoardState) (log' : LogState) (pool' : Blocks) (job' : FreezeJob) (new : BoardState) where
   abbrev Made : Bool → ℕ → ℕ × Root → Found → Map → Type 0
-  Made done frames top found m = IndexMoves x frames old found m (stepped_index x log' pool' job') new × MatchBool done (Freezes x (stepped_index x log' pool' job')) (FreezeMoves x (stepped_index x log' pool' job'))
+  Made done frames top found m = IndexMoves x frames old found m (stepped_index x log' pool' job') new
+      × MatchBool done (Freezes x (stepped_index x log' pool' job')) (FreezeMoves x (stepped_index x log' pool' job'))
 
-  made : (done : Bool) → LogSteps x.log x.pool x.schedule.freeze old done log' pool' job' new → (frames : ℕ) (top : ℕ × Root) (found : Found) (m : Map) → MayWork x frames old.pages top found m → Made done frames top found m
+  made : (done : Bool) → LogSteps x.log x.pool x.schedule.freeze old done log' pool' job' new
+      → (frames : ℕ) (top : ℕ × Root) (found : Found) (m : Map) → MayWork x frames old.pages top found m → Made done frames top found m
   made true steps frames top found m may =
       let f = steps top found m (can_step x frames old top found m may none) in
       let P : LogState → FreezeJob → Type 0 = λ l j. IndexMoves x frames old found m (stepped_index x l pool' j) new × Freezes x (stepped_index x l pool' j) in

@@ -1,4 +1,4 @@
--- Blocks of one owner that are given back to the pool, and one that is taken: what becomes of the others.
+-- Blocks of one owner that are freed, and one that is taken: what becomes of the others.
 use Rattle.std.proofs.Common.{◌≡◌, ◌≢◌, ◌⊎◌, inl, inr, ℕ, ◌+◌, cond, false, T, List, [], ◌∷◌, length, Some, refl, sym, subst, ◌∙◌, arith, length-set}
 use Rattle.std.specs.Prelude.{slice_get}
 use Rattle.std.proofs.lemmas.Bool.{cases_eq}
@@ -37,7 +37,8 @@ other_owner Values Meta differs = refl
 other_owner Values Values differs = absurd (differs refl)
 
 -- a count of an owner stays if a state of none of his becomes another such
-same_count : (p : Owner) (states : List BlockState) (b : ℕ) (s t : BlockState) → is_owned_by p s ≡ false → is_owned_by p t ≡ false → slice_get states b ≡ Some s → used_by p (with_state (record { shape = record { page_bytes = 0; block_pages = 0; blocks = 0 }; states = states }) b t).states ≡ used_by p states
+same_count : (p : Owner) (states : List BlockState) (b : ℕ) (s t : BlockState) → is_owned_by p s ≡ false → is_owned_by p t ≡ false → slice_get states b ≡ Some s
+    → used_by p (with_state (record { shape = record { page_bytes = 0; block_pages = 0; blocks = 0 }; states = states }) b t).states ≡ used_by p states
 same_count p states b s t none none' is =
     let was : cond {A = ℕ} (is_owned_by p s) 1 0 ≡ 0 = rw none refl in
     let now : cond {A = ℕ} (is_owned_by p t) 1 0 ≡ 0 = rw none' refl in
@@ -53,7 +54,8 @@ pub record GivesBack (o : Owner) (blocks : List ℕ) (pool pool' : Blocks) : Typ
   pub same_used : (p : Owner) → (o ≡ p → ⊥) → used_by p pool'.states ≡ used_by p pool.states
   pub same_unready : unready pool'.states ≡ unready pool.states
 
-pub gives_back : (o : Owner) (blocks : List ℕ) (pool : Blocks) → T (differ blocks) → ((b : ℕ) → In b blocks → slice_get pool.states b ≡ Some (Owned o)) → GivesBack o blocks pool (given_back pool blocks)
+pub gives_back : (o : Owner) (blocks : List ℕ) (pool : Blocks) → T (differ blocks)
+    → ((b : ℕ) → In b blocks → slice_get pool.states b ≡ Some (Owned o)) → GivesBack o blocks pool (given_back pool blocks)
 gives_back o [] pool d owned = record { same_shape = refl; size = refl; others = λ b away. refl; gone = λ b is. absurd is; fewer = omega arith; same_used = λ p away. refl; same_unready = refl }
 gives_back o (x ∷ xs) pool d owned =
     let here : slice_get pool.states x ≡ Some (Owned o) = owned x (inl refl) in
@@ -76,7 +78,8 @@ gives_back o (x ∷ xs) pool d owned =
     }
 
 -- blocks that leave count as before
-pub left_counted : (o p : Owner) (blocks : List ℕ) (pool : Blocks) → T (differ blocks) → ((b : ℕ) → In b blocks → slice_get pool.states b ≡ Some (Owned o)) → used_by p (left_by o pool blocks).states ≡ used_by p pool.states
+pub left_counted : (o p : Owner) (blocks : List ℕ) (pool : Blocks) → T (differ blocks)
+    → ((b : ℕ) → In b blocks → slice_get pool.states b ≡ Some (Owned o)) → used_by p (left_by o pool blocks).states ≡ used_by p pool.states
 left_counted o p [] pool d owned = refl
 left_counted o p (x ∷ xs) pool d owned =
     let not_x : (b : ℕ) → In b xs → b ≢ x = λ b is e. apart x (x ∷ []) xs d (inl refl) (subst (λ y. In y xs) e is) in

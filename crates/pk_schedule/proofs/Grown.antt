@@ -1,5 +1,6 @@
 -- What a step of a merge's job leaves of the pool, of pages and of frames: at most one block more for the output, and no page of another's block.
-use Rattle.std.proofs.Common.{◌≡◌, ◌≢◌, ◌⊎◌, inl, inr, ℕ, zero, suc, ◌+◌, ◌*◌, ◌/◌, ◌<◌, ◌≤◌, Bool, true, false, not, ◌||◌, ◌==◌, nat_le, leb→le, leb-false, eqb→eq, cond, T, List, [], ◌∷◌, ◌++◌, length, Option, Some, None, refl, sym, ap, subst, ◌∙◌, arith, length-append}
+use Rattle.std.proofs.Common.{◌≡◌, ◌≢◌, ◌⊎◌, inl, inr, ℕ, zero, suc, ◌+◌, ◌*◌, ◌/◌, Bool, true, false, not, ◌==◌, eqb→eq, cond, T, List, [], ◌∷◌, ◌++◌, length, Option, Some, None, refl, sym, ap}
+use Rattle.std.proofs.Common.{subst, ◌∙◌, arith, length-append}
 use Rattle.std.specs.Prelude.{slice_get, slice_set}
 use Rattle.std.specs.List.{list_any, concat}
 use Rattle.std.proofs.lemmas.Bool.{cases_eq}
@@ -21,7 +22,6 @@ use Rattle.pk_pool.proofs.Sharing.{count-set, used_adopted}
 use Rattle.pk_pool.proofs.Fitting.{block_of}
 use Rattle.pk_run.specs.Kept.{Kept}
 use Rattle.pk_level.specs.Levels.{RunsOnFlash, HaveBlocks}
-use Rattle.pk_model.proofs.Commits.{both}
 use Rattle.pk_model.proofs.Growing.{at_end}
 use Rattle.pk_model.proofs.SamePages.{any_front, any_back}
 use Rattle.pk_steps.proofs.Places.{In, in_append, not_of}
@@ -32,6 +32,8 @@ use Rattle.pk_merge.specs.Merging.{Merger}
 use Rattle.pk_merge.specs.Steps.{Acts}
 use Rattle.pk_merge.specs.Elsewhere.{IsForOutput, StepReaches, StepWent, LeavesRuns}
 use Rattle.pk_schedule.proofs.Settled.{none_leaves_set}
+use Rattle.pk_base.proofs.Logic.{both, or_cases}
+use Rattle.pk_steps.proofs.Untouched.{in_or_out}
 
 -- ---- lists
 
@@ -44,10 +46,6 @@ pub in_got : (xs : List ℕ) (b : ℕ) → In b xs → (i : ℕ) × (slice_get x
 in_got [] b is = absurd is
 in_got (x ∷ xs) b (inl e) = (0, ap (λ (y : ℕ). Some y) (sym e))
 in_got (x ∷ xs) b (inr is) = let r = in_got xs b is in (suc r.0, r.1)
-
-or_cases : (a b : Bool) → T (a || b) → T a ⊎ T b
-or_cases true b p = inl tt
-or_cases false b p = inr p
 
 -- elements at different places that are different
 pub differ_of : (xs : List ℕ) → ((i j b : ℕ) → slice_get xs i ≡ Some b → slice_get xs j ≡ Some b → i ≡ j) → T (differ xs)
@@ -155,7 +153,8 @@ module _ (pool : Blocks) (out : Kept) (pool' : Blocks) (out' : Kept) where
 
 -- ---- each action
 
-pub acts_grow : {X : Type 0} (source : Source X) (target : Kept) (pins : Bool) (out : Kept) (m : Merger) (pool : Blocks) (old : BoardState) (before : Frames) (next : Next) (out' : Kept) (m' : Merger) (pool' : Blocks) (new : BoardState) (after : Frames)
+pub acts_grow : {X : Type 0} (source : Source X) (target : Kept) (pins : Bool) (out : Kept) (m : Merger) (pool : Blocks)
+    (old : BoardState) (before : Frames) (next : Next) (out' : Kept) (m' : Merger) (pool' : Blocks) (new : BoardState) (after : Frames)
     → Acts source target pins out m pool old before next out' m' pool' new after → Grew pool out pool' out'
 acts_grow source target pins out m pool old before LoadSource out' m' pool' new after (l, o, p, a) = inl (p, ap (λ (r : Kept). r.blocks) o)
 acts_grow source target pins out m pool old before LoadTarget out' m' pool' new after (l, o, p, a) = inl (p, ap (λ (r : Kept). r.blocks) o)
@@ -169,7 +168,8 @@ page_frames pins old new bytes None k = ap (λ (a : Frames). length a.used) k.1
 page_frames pins old new bytes (Some l) k = ap (λ (a : Frames). length a.used) k.2 ∙ length-set old.used l true
 
 -- there are as many frames
-pub acts_frames : {X : Type 0} (source : Source X) (target : Kept) (pins : Bool) (out : Kept) (m : Merger) (pool : Blocks) (old : BoardState) (before : Frames) (next : Next) (out' : Kept) (m' : Merger) (pool' : Blocks) (new : BoardState) (after : Frames)
+pub acts_frames : {X : Type 0} (source : Source X) (target : Kept) (pins : Bool) (out : Kept) (m : Merger) (pool : Blocks)
+    (old : BoardState) (before : Frames) (next : Next) (out' : Kept) (m' : Merger) (pool' : Blocks) (new : BoardState) (after : Frames)
     → Acts source target pins out m pool old before next out' m' pool' new after → length after.used ≡ length before.used
 acts_frames source target pins out m pool old before LoadSource out' m' pool' new after (l, o, p, a) = ap (λ (f : Frames). length f.used) a
 acts_frames source target pins out m pool old before LoadTarget out' m' pool' new after (l, o, p, a) = ap (λ (f : Frames). length f.used) a
@@ -192,16 +192,6 @@ reached_end pool out old new (inr (b, is, (marks, r))) = inr (b, is, at_end mark
 pub went_end : (pool : Blocks) (out : Kept) (old new : BoardState) → StepWent pool out old new → SameEnd pool out old.pages new.pages
 went_end pool out old new (b, is, (marks, r)) = inr (b, is, r.cuts new.pages _ r.stands)
 
-in_or_out : (first count k : ℕ) → (k < first) ⊎ ((first + count ≤ k) ⊎ ((first ≤ k) × (k < first + count)))
-in_or_out first count k =
-    elim (nat_le first k) as (λ b. nat_le first k ≡ b → (k < first) ⊎ ((first + count ≤ k) ⊎ ((first ≤ k) × (k < first + count)))) [
-      | false ↦ λ e. inl (leb-false first k e)
-      | true ↦ λ e. elim (nat_le (first + count) k) as (λ b. nat_le (first + count) k ≡ b → (k < first) ⊎ ((first + count ≤ k) ⊎ ((first ≤ k) × (k < first + count)))) [
-        | true ↦ λ f. inr (inl (leb→le (first + count) k (subst T (sym f) tt)))
-        | false ↦ λ f. inr (inr (leb→le first k (subst T (sym e) tt), leb-false (first + count) k f))
-      ] refl
-    ] refl
-
 pub same_page : (pool : Blocks) (out : Kept) (old new : Flash) → SameEnd pool out old new → (k : ℕ) → (IsForOutput pool out (k / out.shape.block_pages) → ⊥) → page_at new k ≡ page_at old k
 same_page pool out old new (inl e) k other = ap (λ (f : Flash). page_at f k) e
 same_page pool out old new (inr (b, is, s)) k other =
@@ -216,7 +206,8 @@ same_page pool out old new (inr (b, is, s)) k other =
 
 -- runs whose blocks are none of the output's are unchanged
 pub runs_leave : (shape : Shape) (pool : Blocks) (out : Kept) (old : Flash) (before : Frames) (new : Flash) (after : Frames) → LeavesRuns pool out old before new after → out.shape ≡ shape
-    → (rs : List Kept) (bss : List (List ℕ)) (ess : List (List Entry)) → HaveBlocks shape rs bss → ((b : ℕ) → In b (concat bss) → slice_get pool.states b ≡ Some (Owned Meta)) → ((b : ℕ) → In b (concat bss) → In b out.blocks → ⊥)
+    → (rs : List Kept) (bss : List (List ℕ)) (ess : List (List Entry)) → HaveBlocks shape rs bss
+    → ((b : ℕ) → In b (concat bss) → slice_get pool.states b ≡ Some (Owned Meta)) → ((b : ℕ) → In b (concat bss) → In b out.blocks → ⊥)
     → RunsOnFlash old before rs ess → RunsOnFlash new after rs ess
 runs_leave shape pool out old before new after leaves is [] [] [] have meta apart s = tt
 runs_leave shape pool out old before new after leaves is [] [] (es ∷ ess) have meta apart s = absurd s
@@ -224,7 +215,9 @@ runs_leave shape pool out old before new after leaves is [] (bs ∷ bss) ess hav
 runs_leave shape pool out old before new after leaves is (r ∷ rs) [] ess have meta apart s = absurd have
 runs_leave shape pool out old before new after leaves is (r ∷ rs) (bs ∷ bss) [] have meta apart s = absurd s
 runs_leave shape pool out old before new after leaves is (r ∷ rs) (bs ∷ bss) (es ∷ ess) have meta apart s =
-    let front : (i b : ℕ) → slice_get r.blocks i ≡ Some b → In b (concat (bs ∷ bss)) = λ i b got. any_front (λ y. b ≡ y) bs (concat bss) (got_in bs i b (subst (λ (xs : List ℕ). slice_get xs i ≡ Some b) have.1 got)) in (
+    let front : (i b : ℕ) → slice_get r.blocks i ≡ Some b
+    → In b (concat (bs ∷ bss)) = λ i b got. any_front (λ y. b ≡ y) bs (concat bss) (got_in bs i b (subst (λ (xs : List ℕ). slice_get xs i ≡ Some b) have.1 got)) in (
       leaves r es (have.0 ∙ sym is) (λ i b got. meta b (front i b got)) (λ i j b got had. apart b (front i b got) (got_in out.blocks j b had)) s.0,
-      runs_leave shape pool out old before new after leaves is rs bss ess have.2 (λ b among. meta b (any_back (λ y. b ≡ y) bs (concat bss) among)) (λ b among. apart b (any_back (λ y. b ≡ y) bs (concat bss) among)) s.1,
+      runs_leave shape pool out old before new after leaves is rs bss ess have.2
+          (λ b among. meta b (any_back (λ y. b ≡ y) bs (concat bss) among)) (λ b among. apart b (any_back (λ y. b ≡ y) bs (concat bss) among)) s.1,
     )

@@ -68,13 +68,15 @@ module _ (x : Index) (level : ℕ) (is : x.schedule.phase ≡ Ready level) (shar
 
   pub ask_first : Stands x old → level ≡ 1 → (older : Option (List ℕ)) → older ≡ older_of x.log.root.older → CanEndFirst x.levels x.arena (freed x.pool) x.schedule.job (blocks_or_none older)
   ask_first s one older told = subst (λ os. CanEndFirst x.levels x.arena (freed x.pool) x.schedule.job os) (sym (ap blocks_or_none told ∙ older_is s))
-      (subst (λ (p : Blocks). CanEndFirst x.levels x.arena p x.schedule.job s.1.1.older) (sym (freed_same x.pool s.4.settles.none_leaves)) (wait.can_end_first x s.0 old s.1 s.2 s.3 s.4 level is shared known one))
+      (subst (λ (p : Blocks). CanEndFirst x.levels x.arena p x.schedule.job s.1.1.older)
+      (sym (freed_same x.pool s.4.settles.none_leaves)) (wait.can_end_first x s.0 old s.1 s.2 s.3 s.4 level is shared known one))
 
   pub ask_level : Stands x old → (1 ≤ level) × (level ≤ 4)
   ask_level s = (wait.least x s.0 old s.1 s.2 s.3 s.4 level is shared known, wait.most x s.0 old s.1 s.2 s.3 s.4 level is shared known)
 
   pub ask_deep : Stands x old → 2 ≤ level → CanEndDeep x.levels x.arena (freed x.pool) x.schedule.job level
-  ask_deep s deep = subst (λ (p : Blocks). CanEndDeep x.levels x.arena p x.schedule.job level) (sym (freed_same x.pool s.4.settles.none_leaves)) (wait.can_end_deep x s.0 old s.1 s.2 s.3 s.4 level is shared known deep)
+  ask_deep s deep = subst (λ (p : Blocks). CanEndDeep x.levels x.arena p x.schedule.job level)
+      (sym (freed_same x.pool s.4.settles.none_leaves)) (wait.can_end_deep x s.0 old s.1 s.2 s.3 s.4 level is shared known deep)
 
   -- ---- what the step leaves
 
@@ -97,7 +99,10 @@ module _ (x : Index) (level : ℕ) (is : x.schedule.phase ≡ Ready level) (shar
         let Q : LogState → Type 0 = λ l. LogPrepared x.log old top found m l new in
         let P : LogState → Type 0 = λ l. IndexMoves x frames old found m (record x { log = l }) new × LessIsLeft x (record x { log = l }) in
         let q : Q (record x.log { next = log'.next }) = subst Q p.same_log p in
-        subst P (sym p.same_log) (prepared_moves x frames old top found m may level is shared known new log'.next erases q, prepared_less x frames old top found m may level is shared known new log'.next erases q)
+        subst P (sym p.same_log) (
+          prepared_moves x frames old top found m may level is shared known new log'.next erases q,
+          prepared_less x frames old top found m may level is shared known new log'.next erases q,
+        )
 
     pub made_prepared : erases_next x.log.next ≡ true → (r : Result Unit Fault)
         → Step (λ u. LogPrepares x.log old log' new) (LogPrepareBreaks x.log old new) x.log.shape 0 old new r
@@ -134,12 +139,15 @@ module _ (x : Index) (level : ℕ) (is : x.schedule.phase ≡ Ready level) (shar
           → used_by Values pool'.states ≡ used_by Values x.pool.states → Made (then_index log' schedule') new
       made_first one older told e counted frames top found m may =
           let f = merges top found m (wait.may_merge x frames old top found m may level is shared known) in
-          let here = subst (λ (p : Blocks). EndsFirst x.levels x.arena p x.schedule.job (blocks_or_none older) levels' arena' (freed pool') schedule'.job) (freed_same x.pool may.settles.none_leaves) e in
+          let here = subst (λ (p : Blocks). EndsFirst x.levels x.arena p x.schedule.job (blocks_or_none older) levels' arena' (freed pool') schedule'.job)
+          (freed_same x.pool may.settles.none_leaves) e in
           let e' = subst (λ os. EndsFirst x.levels x.arena x.pool x.schedule.job os levels' arena' (freed pool') schedule'.job) (ap blocks_or_none told ∙ older_is (frames, top, found, m, may)) here in
           let r = replaced_one x frames old top found m may level is shared known new f.behind one levels' arena' (freed pool') schedule'.job e' in
           let P : LogState → Schedule → Type 0 = λ l s. IndexMoves x frames old found m (then_index l s) new × LessIsLeft x (then_index l s) in
-          subst (λ s. P log' s) (sym rest) (subst (λ l. P l ended_schedule) (sym f.merged_is)
-          (installed_moves x frames old top found m may level is shared known new log' programs f levels' arena' pool' schedule'.job r counted, installed_less x frames old top found m may level is shared known new log' programs f levels' arena' pool' schedule'.job r counted))
+          subst (λ s. P log' s) (sym rest) (subst (λ l. P l ended_schedule) (sym f.merged_is) (
+            installed_moves x frames old top found m may level is shared known new log' programs f levels' arena' pool' schedule'.job r counted,
+            installed_less x frames old top found m may level is shared known new log' programs f levels' arena' pool' schedule'.job r counted,
+          ))
 
       pub made_deep : 2 ≤ level → EndsDeep x.levels x.arena (freed x.pool) x.schedule.job level levels' arena' (freed pool') schedule'.job
           → used_by Values pool'.states ≡ used_by Values x.pool.states → Made (then_index log' schedule') new
@@ -148,5 +156,7 @@ module _ (x : Index) (level : ℕ) (is : x.schedule.phase ≡ Ready level) (shar
           let r = replaced_deep x frames old top found m may level is shared known new f.behind deep levels' arena' (freed pool') schedule'.job
           (subst (λ (p : Blocks). EndsDeep x.levels x.arena p x.schedule.job level levels' arena' (freed pool') schedule'.job) (freed_same x.pool may.settles.none_leaves) e) in
           let P : LogState → Schedule → Type 0 = λ l s. IndexMoves x frames old found m (then_index l s) new × LessIsLeft x (then_index l s) in
-          subst (λ s. P log' s) (sym rest) (subst (λ l. P l ended_schedule) (sym f.merged_is)
-          (installed_moves x frames old top found m may level is shared known new log' programs f levels' arena' pool' schedule'.job r counted, installed_less x frames old top found m may level is shared known new log' programs f levels' arena' pool' schedule'.job r counted))
+          subst (λ s. P log' s) (sym rest) (subst (λ l. P l ended_schedule) (sym f.merged_is) (
+            installed_moves x frames old top found m may level is shared known new log' programs f levels' arena' pool' schedule'.job r counted,
+            installed_less x frames old top found m may level is shared known new log' programs f levels' arena' pool' schedule'.job r counted,
+          ))

@@ -1,5 +1,6 @@
 -- The root of a merge is installed, and the runs are exchanged, over an index.
-use Rattle.std.proofs.Common.{◌≡◌, ◌⊎◌, inl, inr, ℕ, zero, suc, reverse, ◌∷◌, ◌+◌, ◌-◌, ◌<◌, ◌≤◌, Bool, true, false, ◌==◌, if◌then◌else◌, List, [], ◌++◌, length, map, slice_index, Some, None, refl, sym, ap, subst, ◌∙◌, arith, length-append}
+use Rattle.std.proofs.Common.{◌≡◌, ◌⊎◌, inl, inr, ℕ, zero, suc, reverse, ◌∷◌, ◌+◌, ◌-◌, ◌<◌, ◌≤◌, Bool, true, false, ◌==◌, if◌then◌else◌, List, [], ◌++◌, length, map, slice_index, Some, None, refl}
+use Rattle.std.proofs.Common.{sym, ap, subst, ◌∙◌, arith, length-append}
 use Rattle.std.specs.Prelude.{slice_get, unwrap_or}
 use Rattle.std.specs.List.{concat, AllByRecursion}
 use Rattle.pk_base.specs.Shape.{Shape}
@@ -19,7 +20,6 @@ use Rattle.pk_root.specs.Installing.{programs_next, repeats_next}
 use Rattle.pk_pin.specs.Frames.{Frames}
 use Rattle.pk_model.specs.Found.{Found}
 use Rattle.pk_model.proofs.SamePages.{any_front, any_back}
-use Rattle.pk_model.proofs.ValueSets.{is_true}
 use Rattle.pk_pool.specs.declared.state.BlockState.TheVariants.{Free, Owned}
 use Rattle.pk_pool.specs.Blocks.{Blocks, IsShared, PoolOnFlash, used_by, freed}
 use Rattle.pk_pool.specs.Unready.{unready}
@@ -56,6 +56,7 @@ use Rattle.std.proofs.lemmas.Bool.{cases_lt}
 use Rattle.pk_base.specs.Firsts.{firsts}
 use Rattle.pk_base.specs.Entry.{Entry}
 use Rattle.pk_model.proofs.Commits.{member}
+use Rattle.pk_base.proofs.Logic.{is_true}
 
 not_values : (pool : Blocks) (b : ℕ) → (slice_get pool.states b ≡ Some (Owned Journal)) ⊎ (slice_get pool.states b ≡ Some (Owned Meta)) → slice_get pool.states b ≡ Some (Owned Values) → ⊥
 not_values pool b (inl journal) values = let e : Journal ≡ Values = one_owner pool Journal Values b journal values in let c : ⊥ = cc in c
@@ -113,7 +114,8 @@ module _ (x : Index) (frames : ℕ) (old : BoardState) (top : ℕ × Root) (foun
     pub source : 2 ≤ level → slice_index (map (λ (r : Kept). r.count) levels'.runs) (level - 2) ≡ 0
     pub above : (i : ℕ) → i + 2 < level → slice_index (map (λ (r : Kept). r.count) levels'.runs) i ≡ slice_index (map (λ (r : Kept). r.count) x.levels.runs) i
 
-  module _ (log' : LogState) (programs : programs_next x.log.next ≡ true) (f : LogMerged x.log old top found m level out.count out.blocks log' new) (levels' : Levels) (arena' : Frames) (left : Blocks) (job' : Job) (r : Replaced levels' arena' (freed left) job')
+  module _ (log' : LogState) (programs : programs_next x.log.next ≡ true) (f : LogMerged x.log old top found m level out.count out.blocks log' new)
+      (levels' : Levels) (arena' : Frames) (left : Blocks) (job' : Job) (r : Replaced levels' arena' (freed left) job')
       (counted : used_by Values left.states ≡ used_by Values x.pool.states) where
     -- the pool as if the blocks that leave were free
     abbrev pool' : Blocks
@@ -136,7 +138,8 @@ module _ (x : Index) (frames : ℕ) (old : BoardState) (top : ℕ × Root) (foun
     not_freed b among gone = (freed_unread shape old.pages [] top found m level out.count out.blocks b may.stands.logs.is_shape may.under is_merged gone).0 among
 
     freed_named : (b : ℕ) → In b (freed_by level root) → In b (named root)
-    freed_named = (freed_counted shape root level out.count out.blocks (is_true _ (wait.valid x frames old top found m may level is shared known)) (wait.least x frames old top found m may level is shared known) (wait.most x frames old top found m may level is shared known)).2
+    freed_named = (freed_counted shape root level out.count out.blocks (is_true _ (wait.valid x frames old top found m may level is shared known))
+        (wait.least x frames old top found m may level is shared known) (wait.most x frames old top found m may level is shared known)).2
 
     older_in : (one : Bool) (b : ℕ) → In b (if one then [] else root.older) → In b root.older
     older_in true b among = absurd among
@@ -274,7 +277,13 @@ module _ (x : Index) (frames : ℕ) (old : BoardState) (top : ℕ × Root) (foun
       cuts = f.cuts;
     }
 
-    over : backlog_of then_index ≡ record (backlog_of x) { frozen = length (frozen_after level x.log.frozen).entries; runs = map (λ (r : Kept). r.count) levels'.runs; merge = None; half = true; unready = unready left.states }
+    over : backlog_of then_index ≡ record (backlog_of x) {
+      frozen = length (frozen_after level x.log.frozen).entries;
+      runs = map (λ (r : Kept). r.count) levels'.runs;
+      merge = None;
+      half = true;
+      unready = unready left.states;
+    }
     over = λ i. record {
       frozen = length (frozen_after level x.log.frozen).entries;
       runs = map (λ (r : Kept). r.count) levels'.runs;

@@ -92,7 +92,7 @@ pub record KeepsTaken (pool : Blocks) (taken : List ℕ) (old : Flash) (pool' : 
   pub used : used_by Journal pool'.states ≡ used_by Journal pool.states
   pub same : (b k : ℕ) → AnyByRecursion (λ c. b ≡ c) taken → k / pool.shape.block_pages ≡ b → page_at new k ≡ page_at old k
 
-any_split : (P : ℕ → Type 0) (xs ys : List ℕ) → AnyByRecursion P (xs ++ ys) → AnyByRecursion P xs ⊎ AnyByRecursion P ys
+pub any_split : (P : ℕ → Type 0) (xs ys : List ℕ) → AnyByRecursion P (xs ++ ys) → AnyByRecursion P xs ⊎ AnyByRecursion P ys
 any_split P [] ys is = inr is
 any_split P (x ∷ xs) ys (inl is) = inl (inl is)
 any_split P (x ∷ xs) ys (inr is) = elim (any_split P xs ys is) [ inl front ↦ inl (inr front) | inr back ↦ inr back ]
@@ -102,7 +102,7 @@ all_of : (P Q : ℕ → Type 0) (xs : List ℕ) → ((x : ℕ) → AnyByRecursio
 all_of P Q [] each all = tt
 all_of P Q (x ∷ xs) each all = (each x (inl refl) all.0, all_of P Q xs (λ y is. each y (inr is)) all.1)
 
-member_all : (P : ℕ → Type 0) (xs : List ℕ) (x : ℕ) → AllByRecursion P xs → AnyByRecursion (λ c. x ≡ c) xs → P x
+pub member_all : (P : ℕ → Type 0) (xs : List ℕ) (x : ℕ) → AllByRecursion P xs → AnyByRecursion (λ c. x ≡ c) xs → P x
 member_all P [] x all is = absurd is
 member_all P (y ∷ ys) x all (inl e) = subst P (sym e) all.0
 member_all P (y ∷ ys) x all (inr is) = member_all P ys x all.1 is
@@ -125,7 +125,8 @@ module _ (x : Index) (frames : ℕ) (old new : Flash) (top : ℕ × Root) (found
   meta_page k owned = e.same (k / x.log.shape.block_pages) k owned (ap (λ (s : Shape). k / s.block_pages) stands.pool_shape)
 
   runs_stand : RunsOnFlash new x.arena x.levels.runs found.runs
-  runs_stand = RunsOnFlash-same x.log.shape old new x.arena x.levels.runs top.1.runs found.runs some_pages stands.run_blocks (λ k is. meta_page k (stands.runs (k / x.log.shape.block_pages) is)) stands.stand
+  runs_stand = RunsOnFlash-same x.log.shape old new x.arena x.levels.runs top.1.runs found.runs some_pages stands.run_blocks
+      (λ k is. meta_page k (stands.runs (k / x.log.shape.block_pages) is)) stands.stand
 
   held : AreHeld x.pool top.1 Meta (output x.schedule).blocks → AreHeld pool' top.1 Meta (output x.schedule).blocks
   held h = record { different = h.different; owned = λ b is. e.owned b (h.owned b is); unnamed = h.unnamed }
@@ -158,7 +159,8 @@ module _ (x : Index) (frames : ℕ) (old new : Flash) (top : ℕ × Root) (found
       runs = record {
         output = m.runs.output;
         same_level = m.runs.same_level;
-        running = runs_elsewhere x.pool pool' old new e (source_at x level) (run_of x.levels level) (pins x.schedule.job) (output x.schedule) x.schedule.job.merger x.arena (entries_at x found level) (run_at found.runs level)
+        running = runs_elsewhere x.pool pool' old new e (source_at x level) (run_of x.levels level) (pins x.schedule.job)
+            (output x.schedule) x.schedule.job.merger x.arena (entries_at x found level) (run_at found.runs level)
             (subst IsShape (sym m.into.output_shape) is_shape) m.runs.running;
       };
       undone = m.undone;
@@ -241,13 +243,15 @@ module _ (x : Index) (frames : ℕ) (old new : Flash) (top : ℕ × Root) (found
 
   -- if no page differs that is its own, an index matches next to other owners of the other blocks
   pub index_elsewhere : IndexOnFlash (record x { pool = pool' }) frames new top found
-  index_elsewhere = index_then x frames old new top found stands pool' e.meta taken_same x.log.epoch x.log.active x.log.pending found.newest (logs_elsewhere x.log old new top found named_same stands.logs)
+  index_elsewhere = index_then x frames old new top found stands pool' e.meta taken_same x.log.epoch x.log.active x.log.pending found.newest
+      (logs_elsewhere x.log old new top found named_same stands.logs)
 
 -- ---- a commit
 
 -- no page differs but in this block of the newest epoch
 module _ (x : Index) (frames : ℕ) (old new : Flash) (top : ℕ × Root) (found : Found) (stands : IndexOnFlash x frames old top found)
-    (block : ℕ) (among : AnyByRecursion (λ b. block ≡ b) top.1.newest) (others : (k : ℕ) → (k / x.log.shape.block_pages ≡ block → ⊥) → page_at new k ≡ page_at old k) (fits : PoolOnFlash x.pool new) where
+    (block : ℕ) (among : AnyByRecursion (λ b. block ≡ b) top.1.newest)
+    (others : (k : ℕ) → (k / x.log.shape.block_pages ≡ block → ⊥) → page_at new k ≡ page_at old k) (fits : PoolOnFlash x.pool new) where
   block_owned : slice_get x.pool.states block ≡ Some (Owned Journal)
   block_owned = stands.journal block (any_front (λ c. block ≡ c) top.1.newest top.1.older among)
 
@@ -287,7 +291,8 @@ pub index_pushed : (x : Index) (frames : ℕ) (flash : Flash) (top : ℕ × Root
     → IndexOnFlash (record x { log = pushed x.log e }) frames flash top found
 index_pushed x frames flash top found e stands logs =
     let still : IsElsewhere x.pool flash x.pool flash = record { shape = refl; fits = stands.pool_fits; used = refl; owned = λ b is. is; same = λ b k is here. refl } in
-    index_then x frames flash flash top found stands x.pool still (record { owned = λ b is. is; used = refl; same = λ b k is here. refl }) x.log.epoch (pushed x.log e).active (pushed x.log e).pending found.newest logs
+    index_then x frames flash flash top found stands x.pool still (record { owned = λ b is. is; used = refl; same = λ b k is here. refl }) x.log.epoch
+    (pushed x.log e).active (pushed x.log e).pending found.newest logs
 
 -- ---- opening
 
@@ -312,7 +317,8 @@ module _ (log : LogState) (levels : Levels) (arena : Frames) (pool : Blocks) (fr
   idle_output : (job : Job) → IsIdle log.shape job → output_of job ≡ empty job.merger.shape job.target
   idle_output job is = ap (λ (o : Option Kept). unwrap_or o (empty job.merger.shape job.target)) is.output
 
-  idle_opens : IsFound → (job : Job) → IsIdle log.shape job → job.pinned ≡ pinned log.shape frames → IndexOnFlash (index log levels arena pool (record { job = job; phase = Idle; freeze = NoFreeze })) frames flash top found
+  idle_opens : IsFound → (job : Job) → IsIdle log.shape job → job.pinned ≡ pinned log.shape frames
+      → IndexOnFlash (index log levels arena pool (record { job = job; phase = Idle; freeze = NoFreeze })) frames flash top found
   idle_opens f job is pins_are =
       let none = idle_output job is in
       record {
@@ -334,7 +340,8 @@ module _ (log : LogState) (levels : Levels) (arena : Frames) (pool : Blocks) (fr
       }
 
   -- an index that was found matches with a schedule in which nothing runs
-  pub index_opens : IsFound → (s : Schedule) → (s.phase ≡ Idle) × (s.freeze ≡ NoFreeze) × IsIdle log.shape s.job → s.job.pinned ≡ pinned log.shape frames → IndexOnFlash (index log levels arena pool s) frames flash top found
+  pub index_opens : IsFound → (s : Schedule) → (s.phase ≡ Idle) × (s.freeze ≡ NoFreeze) × IsIdle log.shape s.job
+      → s.job.pinned ≡ pinned log.shape frames → IndexOnFlash (index log levels arena pool s) frames flash top found
   index_opens f s idle pins_are =
       let S : Phase → FreezeJob → Type 0 = λ p j. IndexOnFlash (index log levels arena pool (record { job = s.job; phase = p; freeze = j })) frames flash top found in
       subst (λ (p : Phase). S p s.freeze) (sym idle.0) (subst (λ (j : FreezeJob). S Idle j) (sym idle.1) (idle_opens f s.job idle.2 pins_are))

@@ -1,5 +1,6 @@
 -- The run of each level, and the frames that a merge into it finds free.
-use Rattle.std.proofs.Common.{◌≡◌, inl, inr, ℕ, zero, suc, ◌+◌, ◌-◌, ◌*◌, ◌<◌, ◌≤◌, Bool, true, false, T, if◌then◌else◌, List, [], ◌∷◌, ◌++◌, length, nat_le, refl, sym, ap, subst, arith, leb→le, length-append, mul-le-mul_right, le_trans}
+use Rattle.std.proofs.Common.{◌≡◌, inl, inr, ℕ, zero, suc, ◌+◌, ◌-◌, ◌*◌, ◌<◌, ◌≤◌, Bool, true, false, T, if◌then◌else◌, List, [], ◌∷◌, ◌++◌, length, nat_le, refl, sym, ap, subst, arith, leb→le}
+use Rattle.std.proofs.Common.{length-append, mul-le-mul_right, le_trans}
 use Rattle.std.specs.Prelude.{slice_index_or}
 use Rattle.std.specs.List.{AllByRecursion, concat}
 use Rattle.pk_base.specs.Shape.{Shape, cap, page_entries, need, pinned}
@@ -26,10 +27,12 @@ fit_of shape pinned level r o k =
     let many : r.count ≤ length r.firsts * page_entries shape = subst (λ (s : Shape). r.count ≤ length r.firsts * page_entries s) o.same_shape k.entries in
     record { same_shape = o.same_shape; same_level = o.same_level; pages = few; entries = le_trans many (mul-le-mul_right (page_entries shape) few) }
 
-fits_at : (shape : Shape) (pinned level : ℕ) (rs : List Kept) (i : ℕ) (d : Kept) → i < length rs → AreOfLevels shape pinned level rs → AllByRecursion IsKept rs → Fit shape (level + i) (slice_index_or rs i d)
+fits_at : (shape : Shape) (pinned level : ℕ) (rs : List Kept) (i : ℕ) (d : Kept) → i < length rs
+    → AreOfLevels shape pinned level rs → AllByRecursion IsKept rs → Fit shape (level + i) (slice_index_or rs i d)
 fits_at shape pinned level [] i d inside of_levels kept = absurd (omega (arith, inside))
 fits_at shape pinned level (r ∷ rs) zero d inside of_levels kept = subst (λ (l : ℕ). Fit shape l r) (omega arith) (fit_of shape pinned level r of_levels.0 kept.0)
-fits_at shape pinned level (r ∷ rs) (suc i) d inside of_levels kept = subst (λ (l : ℕ). Fit shape l (slice_index_or rs i d)) (omega arith) (fits_at shape pinned (suc level) rs i d (omega (arith, inside)) of_levels.1 kept.1)
+fits_at shape pinned level (r ∷ rs) (suc i) d inside of_levels kept = subst (λ (l : ℕ). Fit shape l (slice_index_or rs i d))
+    (omega arith) (fits_at shape pinned (suc level) rs i d (omega (arith, inside)) of_levels.1 kept.1)
 
 pub run_fits : (levels : Levels) (level : ℕ) → IsLevels levels → AllByRecursion IsKept levels.runs → 1 ≤ level → level ≤ 4 → Fit levels.shape level (run_of levels level)
 run_fits levels level is kept least most =
@@ -37,7 +40,8 @@ run_fits levels level is kept least most =
     subst (λ (l : ℕ). Fit levels.shape l (run_of levels level)) (omega (arith, least)) (fits_at levels.shape levels.pinned 1 levels.runs (level - 1) _ (omega (arith, four, least, most)) is.each kept)
 
 -- its blocks are named
-pub run_blocks_in : (shape : Shape) (rs : List Kept) (bss : List (List ℕ)) (i : ℕ) (d : Kept) → i < length rs → HaveBlocks shape rs bss → (b : ℕ) → In b (slice_index_or rs i d).blocks → In b (concat bss)
+pub run_blocks_in : (shape : Shape) (rs : List Kept) (bss : List (List ℕ)) (i : ℕ) (d : Kept) → i < length rs
+    → HaveBlocks shape rs bss → (b : ℕ) → In b (slice_index_or rs i d).blocks → In b (concat bss)
 run_blocks_in shape [] bss i d inside have b is = absurd (omega (arith, inside))
 run_blocks_in shape (r ∷ rs) [] i d inside have b is = absurd have
 run_blocks_in shape (r ∷ rs) (bs ∷ bss) zero d inside have b is = any_front (λ y. b ≡ y) bs (concat bss) (subst (λ (xs : List ℕ). In b xs) have.1 is)
@@ -55,18 +59,20 @@ pinned_pages shape false level r pins fit = let e : length r.leases ≡ 0 = ap (
 
 need_most : (shape : Shape) (frames : ℕ) → need shape (pinned shape frames) ≤ frames
 need_most shape frames =
-    elim (nat_le (need shape 4) frames) as (λ b. nat_le (need shape 4) frames ≡ b → need shape (if b then 4 else if nat_le (need shape 3) frames then 3 else if nat_le (need shape 2) frames then 2 else if nat_le (need shape 1) frames then 1 else 0) ≤ frames) [
+    elim (nat_le (need shape 4) frames) as (λ b. nat_le (need shape 4) frames ≡ b
+    → need shape (if b then 4 else if nat_le (need shape 3) frames then 3 else if nat_le (need shape 2) frames then 2 else if nat_le (need shape 1) frames then 1 else 0) ≤ frames) [
       | true ↦ λ e. leb→le _ _ (subst T (sym e) tt)
-      | false ↦ λ e. elim (nat_le (need shape 3) frames) as (λ b. nat_le (need shape 3) frames ≡ b → need shape (if b then 3 else if nat_le (need shape 2) frames then 2 else if nat_le (need shape 1) frames then 1 else 0) ≤ frames) [
-        | true ↦ λ e. leb→le _ _ (subst T (sym e) tt)
-        | false ↦ λ e. elim (nat_le (need shape 2) frames) as (λ b. nat_le (need shape 2) frames ≡ b → need shape (if b then 2 else if nat_le (need shape 1) frames then 1 else 0) ≤ frames) [
-          | true ↦ λ e. leb→le _ _ (subst T (sym e) tt)
-          | false ↦ λ e. elim (nat_le (need shape 1) frames) as (λ b. nat_le (need shape 1) frames ≡ b → need shape (if b then 1 else 0) ≤ frames) [
+      | false ↦ λ e. elim (nat_le (need shape 3) frames) as (λ b. nat_le (need shape 3) frames ≡ b
+          → need shape (if b then 3 else if nat_le (need shape 2) frames then 2 else if nat_le (need shape 1) frames then 1 else 0) ≤ frames) [
             | true ↦ λ e. leb→le _ _ (subst T (sym e) tt)
-            | false ↦ λ e. omega arith
+            | false ↦ λ e. elim (nat_le (need shape 2) frames) as (λ b. nat_le (need shape 2) frames ≡ b → need shape (if b then 2 else if nat_le (need shape 1) frames then 1 else 0) ≤ frames) [
+              | true ↦ λ e. leb→le _ _ (subst T (sym e) tt)
+              | false ↦ λ e. elim (nat_le (need shape 1) frames) as (λ b. nat_le (need shape 1) frames ≡ b → need shape (if b then 1 else 0) ≤ frames) [
+                | true ↦ λ e. leb→le _ _ (subst T (sym e) tt)
+                | false ↦ λ e. omega arith
+              ] refl
+            ] refl
           ] refl
-        ] refl
-      ] refl
     ] refl
 
 -- those of the pinned levels and of an output into one of them
@@ -74,7 +80,8 @@ abbrev AllFit : Shape → ℕ → ℕ → Type 0
 AllFit shape p level = bound shape p 1 + bound shape p 2 + bound shape p 3 + bound shape p 4 + cap shape level ≤ need shape p
 
 needed : (shape : Shape) (p level : ℕ) → p ≤ 4 → IsLevel level → level ≤ p → AllFit shape p level
-needed shape zero level few is within = absurd (elim is [ inl e ↦ omega (arith, e, within) | inr (inl e) ↦ omega (arith, e, within) | inr (inr (inl e)) ↦ omega (arith, e, within) | inr (inr (inr e)) ↦ omega (arith, e, within) ])
+needed shape zero level few is within = absurd
+    (elim is [ inl e ↦ omega (arith, e, within) | inr (inl e) ↦ omega (arith, e, within) | inr (inr (inl e)) ↦ omega (arith, e, within) | inr (inr (inr e)) ↦ omega (arith, e, within) ])
 needed shape (suc zero) level few (inl e) within = subst (λ (l : ℕ). AllFit shape 1 l) (sym e) (omega arith)
 needed shape (suc zero) level few (inr (inl e)) within = absurd (omega (arith, e, within))
 needed shape (suc zero) level few (inr (inr (inl e))) within = absurd (omega (arith, e, within))
@@ -98,7 +105,8 @@ leases_most : (shape : Shape) (p : ℕ) (levels : Levels) → IsLevels levels �
     → length (leases_of levels.runs ++ []) ≤ bound shape p 1 + bound shape p 2 + bound shape p 3 + bound shape p 4
 leases_most shape p levels is kept same pins =
     let four = four_of levels.runs is.four in
-    let P : List Kept → Type 0 = λ rs. AreOfLevels shape levels.pinned 1 rs → AllByRecursion IsKept rs → ArePinnedTo p 1 rs → length (leases_of rs ++ []) ≤ bound shape p 1 + bound shape p 2 + bound shape p 3 + bound shape p 4 in
+    let P : List Kept → Type 0 = λ rs. AreOfLevels shape levels.pinned 1 rs → AllByRecursion IsKept rs → ArePinnedTo p 1 rs
+    → length (leases_of rs ++ []) ≤ bound shape p 1 + bound shape p 2 + bound shape p 3 + bound shape p 4 in
     subst P (sym four.are) (explicit four.a four.b four.c four.d) (subst (λ (s : Shape). AreOfLevels s levels.pinned 1 levels.runs) same is.each) kept pins
   where
     explicit : (a b c d : Kept) → AreOfLevels shape levels.pinned 1 (a ∷ b ∷ c ∷ d ∷ []) → AllByRecursion IsKept (a ∷ b ∷ c ∷ d ∷ []) → ArePinnedTo p 1 (a ∷ b ∷ c ∷ d ∷ [])
@@ -116,7 +124,8 @@ leases_most shape p levels is kept same pins =
         omega (arith, one, two, three, fourth, la, lb, lc, ld, all)
 
 -- if no merge runs, there are frames for the output of one into a pinned level
-pub frames_left : (shape : Shape) (frames : ℕ) (levels : Levels) (arena : Frames) (level : ℕ) → IsLevels levels → AllByRecursion IsKept levels.runs → levels.shape ≡ shape → levels.pinned ≡ pinned shape frames
+pub frames_left : (shape : Shape) (frames : ℕ) (levels : Levels) (arena : Frames) (level : ℕ) → IsLevels levels
+    → AllByRecursion IsKept levels.runs → levels.shape ≡ shape → levels.pinned ≡ pinned shape frames
     → HasArena shape frames levels arena [] → IsLevel level → nat_le level (pinned shape frames) ≡ true → cap shape level ≤ free_frames arena
 frames_left shape frames levels arena level is kept same pins has is_level within =
     let p : ℕ = pinned shape frames in

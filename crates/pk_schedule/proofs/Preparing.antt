@@ -87,7 +87,8 @@ module _ (x : Index) (frames : ℕ) (old : BoardState) (top : ℕ × Root) (foun
     output_stands =
         let own : (k : ℕ) → AnyByRecursion (λ b. k / out.shape.block_pages ≡ b) out.blocks → page_at new k ≡ page_at old.pages k =
         λ k among. same_page Meta k (ready.into.held.owned (k / shape.block_pages) (subst (λ (s : Shape). AnyByRecursion (λ b. k / s.block_pages ≡ b) out.blocks) ready.into.output_shape among)) in
-        RunOnFlash-same out old.pages new x.arena (whole_output level found) (subst (λ (s : Shape). 0 < s.block_pages) (sym ready.into.output_shape) (block_pages_positive shape may.stands.logs.is_shape)) own ready.whole.stands
+        RunOnFlash-same out old.pages new x.arena (whole_output level found)
+        (subst (λ (s : Shape). 0 < s.block_pages) (sym ready.into.output_shape) (block_pages_positive shape may.stands.logs.is_shape)) own ready.whole.stands
 
     pub runs_stand : RunsOnFlash new x.arena x.levels.runs found.runs
     runs_stand = RunsOnFlash-same shape old.pages new x.arena x.levels.runs top.1.runs found.runs (block_pages_positive shape may.stands.logs.is_shape) may.stands.run_blocks
@@ -185,7 +186,8 @@ module _ (x : Index) (frames : ℕ) (old : BoardState) (top : ℕ × Root) (foun
           left = install_steps next';
           due = due_now;
           moved = moved;
-          lowers = subst (λ o. Lowers (left_of (whole_merge shape level) o) (unready x.pool.states) (install_steps next') (unready x.pool.states)) (sym merge_is) (one_fewer next' x.log.next (unready x.pool.states) p.programs erases);
+          lowers = subst (λ o. Lowers (left_of (whole_merge shape level) o) (unready x.pool.states) (install_steps next') (unready x.pool.states))
+              (sym merge_is) (one_fewer next' x.log.next (unready x.pool.states) p.programs erases);
         } in
         let less = moves shape (backlog_of x) (backlog_of then_index) step in
         record { work = less.0; merging = less.1; roots = ap (λ n. x.log.root.number + n) less.2 }

@@ -1,5 +1,6 @@
 -- What the exchange of runs leaves after a merge: into level 1, and into a deeper one.
-use Rattle.std.proofs.Common.{◌≡◌, ◌⊎◌, inl, inr, ℕ, ◌+◌, ◌-◌, ◌<◌, ◌≤◌, Bool, true, false, ◌==◌, nat_le, if◌then◌else◌, List, [], ◌++◌, length, map, slice_set, slice_index, slice_index_or, Some, None, refl, sym, ap, subst, ◌∙◌, arith, length-append, append-nil}
+use Rattle.std.proofs.Common.{◌≡◌, ◌⊎◌, inl, inr, ℕ, ◌+◌, ◌-◌, ◌<◌, ◌≤◌, Bool, true, false, ◌==◌, nat_le, if◌then◌else◌, List, [], ◌++◌, length, map, slice_set, slice_index, slice_index_or, Some}
+use Rattle.std.proofs.Common.{None, refl, sym, ap, subst, ◌∙◌, arith, length-append, append-nil}
 use Rattle.std.specs.Prelude.{slice_get}
 use Rattle.std.specs.List.{concat}
 use Rattle.std.proofs.lemmas.Bool.Decides.{nat_tests}
@@ -16,7 +17,6 @@ use Rattle.pk_pin.proofs.Leases.{times-append}
 use Rattle.pk_model.specs.Found.{Found}
 use Rattle.pk_model.specs.Tree.{merged, blocks_after}
 use Rattle.pk_model.proofs.SamePages.{any_front, any_back}
-use Rattle.pk_model.proofs.ValueSets.{is_true}
 use Rattle.pk_pool.specs.declared.state.BlockState.TheVariants.{Free}
 use Rattle.pk_pool.specs.Blocks.{Blocks, IsShared, used_by, given_back}
 use Rattle.pk_pool.specs.Unready.{unready}
@@ -40,6 +40,7 @@ use Rattle.pk_schedule.proofs.Giving.{GivesBack, gives_back, one_owner}
 use Rattle.pk_schedule.proofs.Installing.{Replaced}
 use Rattle.pk_schedule.proofs.Preparing.{output_stands, runs_stand}
 use Rattle.pk_schedule.proofs.Replacing.{RunsOnFlash-set, HaveBlocks-set, ArePinnedTo-set, RunsOnFlash-given, at_set, at_other, map_set, given_bytes, given_size}
+use Rattle.pk_base.proofs.Logic.{is_true}
 use Rattle.pk_schedule.proofs.Waiting as wait
 
 -- ---- lists after a merge
@@ -199,7 +200,8 @@ module _ (x : Index) (frames : ℕ) (old : BoardState) (top : ℕ × Root) (foun
         omega (arith, all, a, b, c, d, none, gone, f, its)
 
     in_freed : (b : ℕ) → In b (freed_by level root) → In b root.older ⊎ In b former.blocks
-    in_freed b among = elim (in_append b root.older (blocks_at root.runs level) (subst (λ xs. In b xs) freed_is among)) [ inl o ↦ inl o | inr r ↦ inr (subst (λ xs. In b xs) (sym (blocks_are level)) r) ]
+    in_freed b among = elim (in_append b root.older (blocks_at root.runs level)
+        (subst (λ xs. In b xs) freed_is among)) [ inl o ↦ inl o | inr r ↦ inr (subst (λ xs. In b xs) (sym (blocks_are level)) r) ]
 
     older_freed : (b : ℕ) → In b root.older → In b (freed_by level root)
     older_freed b among = subst (λ xs. In b xs) (sym freed_is) (any_front (λ c. b ≡ c) root.older (blocks_at root.runs level) among)
@@ -209,7 +211,8 @@ module _ (x : Index) (frames : ℕ) (old : BoardState) (top : ℕ × Root) (foun
 
     not_both : (b : ℕ) → In b former.blocks → In b root.older → ⊥
     not_both b meta journal =
-        let c : Meta ≡ Journal = one_owner x.pool Meta Journal b (wait.former_owned x frames old top found m may level is shared known level b meta) (wait.older_owned x frames old top found m may level is shared known b journal) in
+        let c : Meta ≡ Journal = one_owner x.pool Meta Journal b (wait.former_owned x frames old top found m may level is shared known level b meta)
+        (wait.older_owned x frames old top found m may level is shared known b journal) in
         let x : ⊥ = cc in x
 
     pool_replaced : (P : Blocks → Type 0) → P (given_back (given_back x.pool former.blocks) root.older) → P pool'
@@ -235,7 +238,8 @@ module _ (x : Index) (frames : ℕ) (old : BoardState) (top : ℕ × Root) (foun
     replaced = record {
       levels_shape = refl;
       levels_pinned = refl;
-      stand = subst (λ ess. RunsOnFlash new.pages arena' runs_one ess) (sym (one_runs level one found.older found.runs)) (RunsOnFlash-given former.leases new.pages x.arena arena' runs_one _ exchanged.others none_left one_stands);
+      stand = subst (λ ess. RunsOnFlash new.pages arena' runs_one ess) (sym (one_runs level one found.older found.runs))
+          (RunsOnFlash-given former.leases new.pages x.arena arena' runs_one _ exchanged.others none_left one_stands);
       run_blocks = subst (λ bss. HaveBlocks shape runs_one bss) (sym (one_blocks level one out.blocks root.runs)) one_blocks_stand;
       arena_is = arena_here;
       same_shape = pool_replaced (λ p. p.shape ≡ x.pool.shape) (gives_two.same_shape ∙ gives_one.same_shape);
@@ -249,7 +253,8 @@ module _ (x : Index) (frames : ℕ) (old : BoardState) (top : ℕ × Root) (foun
           omega (arith, two, first, none));
       meta_fewer = pool_replaced (λ p. used_by Meta p.states + length (concat root.runs) + length out.blocks ≡ used_by Meta x.pool.states + length (concat then_root.runs))
           (let two = gives_two.same_used Meta (λ c. let z : ⊥ = cc in z) in let first = gives_one.fewer in let all = concat_counts in omega (arith, two, first, all));
-      same_values = pool_replaced (λ p. used_by Values p.states ≡ used_by Values x.pool.states) (gives_two.same_used Values (λ c. let z : ⊥ = cc in z) ∙ gives_one.same_used Values (λ c. let z : ⊥ = cc in z));
+      same_values = pool_replaced (λ p. used_by Values p.states ≡ used_by Values x.pool.states)
+          (gives_two.same_used Values (λ c. let z : ⊥ = cc in z) ∙ gives_one.same_used Values (λ c. let z : ⊥ = cc in z));
       same_unready = pool_replaced (λ p. unready p.states ≡ unready x.pool.states) (gives_two.same_unready ∙ gives_one.same_unready);
       pool_fits = λ flash fits. e.pool_fits flash (exchanged.pool_fits flash fits);
       idle = subst (λ j. IsIdle shape j) (sym job_is) idle_here;
@@ -317,7 +322,8 @@ module _ (x : Index) (frames : ℕ) (old : BoardState) (top : ℕ × Root) (foun
 
     two_stand : RunsOnFlash new.pages arena' runs_two (slice_set (slice_set found.runs (level - 1) (output_of level found)) (level - 1 - 1) [])
     two_stand =
-        let there = RunsOnFlash-set new.pages x.arena runs_one (slice_set found.runs (level - 1) (output_of level found)) (level - 1 - 1) spare [] (RunOnFlash-empty shape (level - 1) new.pages x.arena may.stands.logs.is_shape) one_stands in
+        let there = RunsOnFlash-set new.pages x.arena runs_one (slice_set found.runs (level - 1) (output_of level found))
+        (level - 1 - 1) spare [] (RunOnFlash-empty shape (level - 1) new.pages x.arena may.stands.logs.is_shape) one_stands in
         let then_there = RunsOnFlash-given former.leases new.pages x.arena e.then_arena runs_two _ first.others none_first there in
         RunsOnFlash-given source.leases new.pages e.then_arena arena' runs_two _ (subst (λ (r : Kept). LeavesOthers r.leases e.then_arena arena') its second.others) none_second then_there
 
@@ -327,10 +333,13 @@ module _ (x : Index) (frames : ℕ) (old : BoardState) (top : ℕ × Root) (foun
 
     arena_deep : HasArena shape frames (with_run (with_run x.levels level out) (level - 1) spare) arena' []
     arena_deep = record {
-      page_bytes_is = ap (λ (a : Frames). a.page_bytes) second.arena_is ∙ given_bytes e.then_arena (run_of e.then_levels (level - 1)).leases ∙ ap (λ (a : Frames). a.page_bytes) first.arena_is ∙ given_bytes x.arena former.leases ∙ may.stands.arena_is.page_bytes_is;
-      size = ap (λ (a : Frames). length a.used) second.arena_is ∙ given_size e.then_arena (run_of e.then_levels (level - 1)).leases ∙ ap (λ (a : Frames). length a.used) first.arena_is ∙ given_size x.arena former.leases ∙ may.stands.arena_is.size;
+      page_bytes_is = ap (λ (a : Frames). a.page_bytes) second.arena_is ∙ given_bytes e.then_arena (run_of e.then_levels (level - 1)).leases
+          ∙ ap (λ (a : Frames). a.page_bytes) first.arena_is ∙ given_bytes x.arena former.leases ∙ may.stands.arena_is.page_bytes_is;
+      size = ap (λ (a : Frames). length a.used) second.arena_is ∙ given_size e.then_arena (run_of e.then_levels (level - 1)).leases
+          ∙ ap (λ (a : Frames). length a.used) first.arena_is ∙ given_size x.arena former.leases ∙ may.stands.arena_is.size;
       pins = ArePinnedTo-set x.levels.pinned 1 runs_one (level - 1 - 1) spare (λ n at. empty_pinned (nat_le n x.levels.pinned)) one_pinned;
-      only_these = subst (λ ls. AreLeases arena' ls) (sym (append-nil (leases_of runs_two))) (second.leases (leases_of runs_two) (subst (λ (r : Kept). AreLeases e.then_arena (r.leases ++ leases_of runs_two)) (sym its) rows_then));
+      only_these = subst (λ ls. AreLeases arena' ls) (sym (append-nil (leases_of runs_two)))
+          (second.leases (leases_of runs_two) (subst (λ (r : Kept). AreLeases e.then_arena (r.leases ++ leases_of runs_two)) (sym its) rows_then));
     }
 
     -- ---- blocks
@@ -362,7 +371,8 @@ module _ (x : Index) (frames : ℕ) (old : BoardState) (top : ℕ × Root) (foun
     ]
 
     source_freed : (b : ℕ) → In b source.blocks → In b (freed_by level root)
-    source_freed b among = subst (λ xs. In b xs) (sym freed_deep) (any_front (λ c. b ≡ c) (blocks_at root.runs (level - 1)) (blocks_at root.runs level) (subst (λ xs. In b xs) (blocks_are (level - 1)) among))
+    source_freed b among = subst (λ xs. In b xs) (sym freed_deep)
+        (any_front (λ c. b ≡ c) (blocks_at root.runs (level - 1)) (blocks_at root.runs level) (subst (λ xs. In b xs) (blocks_are (level - 1)) among))
 
     target_freed : (b : ℕ) → In b former.blocks → In b (freed_by level root)
     target_freed b among = subst (λ xs. In b xs) (sym freed_deep) (any_back (λ c. b ≡ c) (blocks_at root.runs (level - 1)) (blocks_at root.runs level) (subst (λ xs. In b xs) (blocks_are level) among))
@@ -411,12 +421,14 @@ module _ (x : Index) (frames : ℕ) (old : BoardState) (top : ℕ × Root) (foun
           levels_shape = refl;
           levels_pinned = refl;
           stand = subst (λ ess. RunsOnFlash new.pages arena' runs_two ess) (sym (deep_runs level is_level deep found.older found.runs)) two_stand;
-          run_blocks = subst (λ bss. HaveBlocks shape runs_two bss) (sym (deep_blocks level is_level deep out.blocks root.runs)) (HaveBlocks-set shape runs_one (slice_set root.runs (level - 1) out.blocks) (level - 1 - 1) spare refl one_blocks_stand);
+          run_blocks = subst (λ bss. HaveBlocks shape runs_two bss) (sym (deep_blocks level is_level deep out.blocks root.runs))
+              (HaveBlocks-set shape runs_one (slice_set root.runs (level - 1) out.blocks) (level - 1 - 1) spare refl one_blocks_stand);
           arena_is = arena_deep;
           same_shape = pool_then (λ p. p.shape ≡ x.pool.shape) (gives_deep.same_shape ∙ gives_one.same_shape);
           size = pool_then (λ p. length p.states ≡ length x.pool.states) (gives_deep.size ∙ gives_one.size);
           others = λ b away. pool_then (λ p. slice_get p.states b ≡ slice_get x.pool.states b) (gives_deep.others b (λ s. away (source_freed b s)) ∙ gives_one.others b (λ r. away (target_freed b r)));
-          gone = λ b among. pool_then (λ p. slice_get p.states b ≡ Some Free) (elim (deep_freed b among) [ inl s ↦ gives_deep.gone b s | inr r ↦ gives_deep.others b (not_two b r) ∙ gives_one.gone b r ]);
+          gone = λ b among. pool_then (λ p. slice_get p.states b ≡ Some Free)
+              (elim (deep_freed b among) [ inl s ↦ gives_deep.gone b s | inr r ↦ gives_deep.others b (not_two b r) ∙ gives_one.gone b r ]);
           journal_fewer = pool_then (λ p. used_by Journal p.states + length root.older ≡ used_by Journal x.pool.states + length then_root.older)
               (let two = gives_deep.same_used Journal (λ c. let z : ⊥ = cc in z) in
               let one = gives_one.same_used Journal (λ c. let z : ⊥ = cc in z) in
@@ -424,7 +436,8 @@ module _ (x : Index) (frames : ℕ) (old : BoardState) (top : ℕ × Root) (foun
               omega (arith, two, one, same));
           meta_fewer = pool_then (λ p. used_by Meta p.states + length (concat root.runs) + length out.blocks ≡ used_by Meta x.pool.states + length (concat then_root.runs))
               (let two = gives_deep.fewer in let one = gives_one.fewer in let all = counts_deep in omega (arith, two, one, all));
-          same_values = pool_then (λ p. used_by Values p.states ≡ used_by Values x.pool.states) (gives_deep.same_used Values (λ c. let z : ⊥ = cc in z) ∙ gives_one.same_used Values (λ c. let z : ⊥ = cc in z));
+          same_values = pool_then (λ p. used_by Values p.states ≡ used_by Values x.pool.states)
+              (gives_deep.same_used Values (λ c. let z : ⊥ = cc in z) ∙ gives_one.same_used Values (λ c. let z : ⊥ = cc in z));
           same_unready = pool_then (λ p. unready p.states ≡ unready x.pool.states) (gives_deep.same_unready ∙ gives_one.same_unready);
           pool_fits = λ flash fits. second.pool_fits flash (first.pool_fits flash fits);
           idle = subst (λ j. IsIdle shape j) (sym job_deep) (run_second.idle source (wait.former_of x frames old top found m may level is shared known (level - 1) (omega (arith, deep))));

@@ -1,5 +1,5 @@
 -- A run that replaces another, in lists of runs.
-use Rattle.std.proofs.Common.{◌≡◌, inl, inr, ℕ, zero, suc, ◌+◌, ◌≤◌, ◌<◌, false, nat_le, T, List, [], ◌∷◌, length, map, slice_set, slice_index_or, Some, refl, sym, ap, subst, ◌∙◌, arith}
+use Rattle.std.proofs.Common.{◌≡◌, inl, ℕ, zero, suc, ◌+◌, ◌≤◌, ◌<◌, false, nat_le, T, List, [], ◌∷◌, length, map, slice_set, slice_index_or, Some, refl, sym, ap, subst, ◌∙◌, arith}
 use Rattle.std.specs.Prelude.{slice_get}
 use Rattle.std.proofs.lemmas.List.{length-set}
 use Rattle.std.proofs.lemmas.Option.{same_Some}
@@ -15,17 +15,20 @@ use Rattle.pk_level.specs.Arenas.{leases_of, IsPinnedIf, ArePinnedTo}
 use Rattle.pk_model.proofs.Commits.{apart, rest_differs}
 use Rattle.pk_steps.proofs.Places.{In}
 use Rattle.pk_merge.specs.Jobs.{LeavesOthers, given_all, all_spare, spare_of, without, with_spare}
+use Rattle.pk_schedule.proofs.Grown.{got_in}
 
 -- ---- what is unchanged
 
-pub RunsOnFlash-set : (flash : Flash) (arena : Frames) (rs : List Kept) (ess : List (List Entry)) (i : ℕ) (r : Kept) (es : List Entry) → RunOnFlash r flash arena es → RunsOnFlash flash arena rs ess → RunsOnFlash flash arena (slice_set rs i r) (slice_set ess i es)
+pub RunsOnFlash-set : (flash : Flash) (arena : Frames) (rs : List Kept) (ess : List (List Entry)) (i : ℕ) (r : Kept) (es : List Entry)
+    → RunOnFlash r flash arena es → RunsOnFlash flash arena rs ess → RunsOnFlash flash arena (slice_set rs i r) (slice_set ess i es)
 RunsOnFlash-set flash arena [] [] i r es is s = tt
 RunsOnFlash-set flash arena [] (fs ∷ ess) i r es is s = absurd s
 RunsOnFlash-set flash arena (q ∷ rs) [] i r es is s = absurd s
 RunsOnFlash-set flash arena (q ∷ rs) (fs ∷ ess) zero r es is s = (is, s.1)
 RunsOnFlash-set flash arena (q ∷ rs) (fs ∷ ess) (suc i) r es is s = (s.0, RunsOnFlash-set flash arena rs ess i r es is s.1)
 
-pub HaveBlocks-set : (shape : Shape) (rs : List Kept) (bss : List (List ℕ)) (i : ℕ) (r : Kept) → r.shape ≡ shape → HaveBlocks shape rs bss → HaveBlocks shape (slice_set rs i r) (slice_set bss i r.blocks)
+pub HaveBlocks-set : (shape : Shape) (rs : List Kept) (bss : List (List ℕ)) (i : ℕ) (r : Kept)
+    → r.shape ≡ shape → HaveBlocks shape rs bss → HaveBlocks shape (slice_set rs i r) (slice_set bss i r.blocks)
 HaveBlocks-set shape [] [] i r is s = tt
 HaveBlocks-set shape [] (bs ∷ bss) i r is s = absurd s
 HaveBlocks-set shape (q ∷ rs) [] i r is s = absurd s
@@ -40,13 +43,15 @@ blocks_at_level shape (q ∷ rs) [] i d none s = absurd s
 blocks_at_level shape (q ∷ rs) (bs ∷ bss) zero d none s = s.1
 blocks_at_level shape (q ∷ rs) (bs ∷ bss) (suc i) d none s = blocks_at_level shape rs bss i d none s.2
 
-pub ArePinnedTo-set : (pinned level : ℕ) (rs : List Kept) (i : ℕ) (r : Kept) → ((n : ℕ) → n ≡ level + i → IsPinnedIf (nat_le n pinned) r) → ArePinnedTo pinned level rs → ArePinnedTo pinned level (slice_set rs i r)
+pub ArePinnedTo-set : (pinned level : ℕ) (rs : List Kept) (i : ℕ) (r : Kept)
+    → ((n : ℕ) → n ≡ level + i → IsPinnedIf (nat_le n pinned) r) → ArePinnedTo pinned level rs → ArePinnedTo pinned level (slice_set rs i r)
 ArePinnedTo-set pinned level [] i r is s = tt
 ArePinnedTo-set pinned level (q ∷ rs) zero r is s = (is level (omega arith), s.1)
 ArePinnedTo-set pinned level (q ∷ rs) (suc i) r is s = (s.0, ArePinnedTo-set pinned (suc level) rs i r (λ n e. is n (omega (arith, e))) s.1)
 
 -- a run of this level
-pub of_level : (shape : Shape) (pinned level : ℕ) (rs : List Kept) (i : ℕ) (d : Kept) → ((n : ℕ) → n ≡ level + i → IsOfLevel shape pinned n d) → AreOfLevels shape pinned level rs → (n : ℕ) → n ≡ level + i → IsOfLevel shape pinned n (slice_index_or rs i d)
+pub of_level : (shape : Shape) (pinned level : ℕ) (rs : List Kept) (i : ℕ) (d : Kept) → ((n : ℕ) → n ≡ level + i → IsOfLevel shape pinned n d)
+    → AreOfLevels shape pinned level rs → (n : ℕ) → n ≡ level + i → IsOfLevel shape pinned n (slice_index_or rs i d)
 of_level shape pinned level [] i d is s n e = is n e
 of_level shape pinned level (q ∷ rs) zero d is s n e = subst (λ k. IsOfLevel shape pinned k q) (let same : level ≡ n = omega (arith, e) in same) s.0
 of_level shape pinned level (q ∷ rs) (suc i) d is s n e = of_level shape pinned (suc level) rs i d (λ k f. is k (omega (arith, f))) s.1 n (omega (arith, e))
@@ -82,7 +87,7 @@ leases_set l (suc i) (q ∷ rs) r d low =
     let rest = leases_set l i rs r d (omega (arith, low)) in
     omega (arith, now, was, rest)
 
--- runs that have none of the frames that were given back are as before
+-- runs that have none of the frames that were freed are as before
 pub RunsOnFlash-given : (leases : List ℕ) (flash : Flash) (before after : Frames) (rs : List Kept) (ess : List (List Entry)) → LeavesOthers leases before after
     → ((i l : ℕ) → slice_get leases i ≡ Some l → times l (leases_of rs) ≡ 0) → RunsOnFlash flash before rs ess → RunsOnFlash flash after rs ess
 RunsOnFlash-given leases flash before after [] [] leaves none s = tt
@@ -103,19 +108,14 @@ given_size arena (l ∷ ls) = length-set (given_all arena ls).used l false ∙ g
 
 -- ---- different blocks
 
-pub in_slice : (xs : List ℕ) (i b : ℕ) → slice_get xs i ≡ Some b → In b xs
-in_slice [] i b is = absurd (let x : ⊥ = cc in x)
-in_slice (x ∷ xs) zero b is = inl (sym (same_Some x b is))
-in_slice (x ∷ xs) (suc i) b is = inr (in_slice xs i b is)
-
 absent : (x : ℕ) (xs : List ℕ) → T (differ (x ∷ xs)) → (b : ℕ) → x ≡ b → In b xs → ⊥
 absent x xs d b e is = apart b (x ∷ []) xs d (inl (sym e)) is
 
 pub places_differ : (xs : List ℕ) → T (differ xs) → (i j b : ℕ) → slice_get xs i ≡ Some b → slice_get xs j ≡ Some b → i ≡ j
 places_differ [] d i j b is is' = absurd (let x : ⊥ = cc in x)
 places_differ (x ∷ xs) d zero zero b is is' = refl
-places_differ (x ∷ xs) d zero (suc j) b is is' = absurd (absent x xs d b (same_Some x b is) (in_slice xs j b is'))
-places_differ (x ∷ xs) d (suc i) zero b is is' = absurd (absent x xs d b (same_Some x b is') (in_slice xs i b is))
+places_differ (x ∷ xs) d zero (suc j) b is is' = absurd (absent x xs d b (same_Some x b is) (got_in xs j b is'))
+places_differ (x ∷ xs) d (suc i) zero b is is' = absurd (absent x xs d b (same_Some x b is') (got_in xs i b is))
 places_differ (x ∷ xs) d (suc i) (suc j) b is is' = ap suc (places_differ xs (rest_differs x xs d) i j b is is')
 
 -- runs without entries are spare, whichever is taken and put back

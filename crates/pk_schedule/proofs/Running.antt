@@ -8,7 +8,8 @@ use Rattle.pk_base.specs.Page.{Flash, page_at}
 use Rattle.pk_base.specs.Map.{Map}
 use Rattle.pk_base.proofs.ShapeLemmas.{block_pages_positive}
 use Rattle.pk_nand.specs.BoardState.{BoardState}
-use Rattle.pk_nand.specs.Calls.{IsReady, after_read}
+use Rattle.pk_nand.specs.Calls.{IsReady}
+use Rattle.pk_nand.specs.Operations.{after_read}
 use Rattle.pk_nand.specs.declared.types.Fault.TheVariants.{Stopped}
 use Rattle.pk_nand.proofs.Reaching.{Reached-start}
 use Rattle.pk_pin.specs.Frames.{Frames}
@@ -28,7 +29,6 @@ use Rattle.pk_model.specs.Growth.{Grows, Goes}
 use Rattle.pk_model.specs.Crashes.{CrashFinds, background}
 use Rattle.pk_model.specs.Tree.{run_at}
 use Rattle.pk_model.proofs.SamePages.{any_back, newest_root_same}
-use Rattle.pk_model.proofs.ValueSets.{is_true}
 use Rattle.pk_root.specs.Laws.{SameFront}
 use Rattle.pk_steps.specs.Under.{IsUnder, IsValuePage, places}
 use Rattle.pk_steps.proofs.Untouched.{under_reads}
@@ -52,8 +52,10 @@ use Rattle.pk_log.proofs.Standing.{logs_elsewhere}
 use Rattle.pk_schedule.specs.declared.phase.Phase.{Phase}
 use Rattle.pk_schedule.specs.Index.{Index, IndexOnFlash, MergesInto, MergeStands, output, source_at, entries_at, IsSettled}
 use Rattle.pk_schedule.specs.Steps.{MayWork, IndexMoves}
-use Rattle.pk_schedule.proofs.Grown.{Grew, SameEnd, got_in, in_got, differ_of, owned_not_spare, grew_shape, grew_kept, grew_no_more, grew_size, grew_used, grew_meta, grew_from, same_page, runs_leave, grew_none_leaves}
+use Rattle.pk_schedule.proofs.Grown.{Grew, SameEnd, got_in, in_got, differ_of, owned_not_spare, grew_shape, grew_kept, grew_no_more, grew_size, grew_used, grew_meta, grew_from, same_page, runs_leave}
+use Rattle.pk_schedule.proofs.Grown.{grew_none_leaves}
 use Rattle.pk_schedule.proofs.Settled.{stands_settled, values_settled}
+use Rattle.pk_base.proofs.Logic.{is_true}
 
 -- what holds of each of a list is shown of it and the ones that remain
 all_of : (P Q : ℕ → Type 0) (xs : List ℕ) → ((x : ℕ) → P x → Q x) → AllByRecursion P xs → AllByRecursion Q xs
@@ -65,7 +67,8 @@ two_owners o p other x e f = other (Rattle.std.proofs.lemmas.Option.same_Some (O
 
 -- ---- a block for the output is read by nobody
 
-module _ (x : Index) (frames : ℕ) (old : BoardState) (top : ℕ × Root) (found : Found) (m : Map) (may : MayWork x frames old.pages top found m) (shared : IsShared x.pool.shape x.pool.states) (ready : IsReady old x.log.shape) where
+module _ (x : Index) (frames : ℕ) (old : BoardState) (top : ℕ × Root) (found : Found) (m : Map)
+    (may : MayWork x frames old.pages top found m) (shared : IsShared x.pool.shape x.pool.states) (ready : IsReady old x.log.shape) where
   stands : IndexOnFlash x frames old.pages top found
   stands = may.stands
 
@@ -139,7 +142,8 @@ module _ (x : Index) (frames : ℕ) (old : BoardState) (top : ℕ × Root) (foun
       source_leaves (Frozen b) e = none_leaves e
       source_leaves (Run r) e = look_leaves r.now.leases e
 
-      module _ {X : Type 0} (source : Source X) (target : Kept) (j : Merger) (arena : Frames) (es fs : List Entry) (r : Running source target (pins x.schedule.job) out j x.pool old.pages arena es fs) where
+      module _ {X : Type 0} (source : Source X) (target : Kept) (j : Merger) (arena : Frames)
+          (es fs : List Entry) (r : Running source target (pins x.schedule.job) out j x.pool old.pages arena es fs) where
         abbrev n : ℕ
         n = x.log.shape.block_pages
 
@@ -151,15 +155,20 @@ module _ (x : Index) (frames : ℕ) (old : BoardState) (top : ℕ × Root) (foun
         block = slice_index out.blocks (length out.firsts / out.shape.block_pages)
 
         in_output : length out.firsts < length out.blocks * out.shape.block_pages → IsForOutput x.pool out block
-        in_output place = inr (length out.firsts / out.shape.block_pages, block_there out.shape (subst (λ (s : Shape). 0 < s.block_pages) (sym into.output_shape) some) out.blocks (length out.firsts) place)
+        in_output place = inr (
+          length out.firsts / out.shape.block_pages,
+          block_there out.shape (subst (λ (s : Shape). 0 < s.block_pages) (sym into.output_shape) some) out.blocks (length out.firsts) place,
+        )
 
         page_there : page_of out (length out.firsts) / x.log.shape.block_pages ≡ block
-        page_there = ap (λ (s : Shape). page_of out (length out.firsts) / s.block_pages) (sym into.output_shape) ∙ block_of_page out.shape (subst (λ (s : Shape). 0 < s.block_pages) (sym into.output_shape) some) out.blocks (length out.firsts)
+        page_there = ap (λ (s : Shape). page_of out (length out.firsts) / s.block_pages) (sym into.output_shape)
+            ∙ block_of_page out.shape (subst (λ (s : Shape). 0 < s.block_pages) (sym into.output_shape) some) out.blocks (length out.firsts)
 
         place : length out.firsts ≢ length out.blocks * out.shape.block_pages → length out.firsts < length out.blocks * out.shape.block_pages
         place ne = let within = r.merging.stands.within in omega (arith, within, ne)
 
-        pub job_leaves : (next : Next) (out' : Kept) (j' : Merger) (pool' : Blocks) (arena' : Frames) → Tells source target out j next → Acts source target (pins x.schedule.job) out j x.pool old arena next out' j' pool' new arena' → CallLeaves x.log.shape old top found m new
+        pub job_leaves : (next : Next) (out' : Kept) (j' : Merger) (pool' : Blocks) (arena' : Frames) → Tells source target out j next
+            → Acts source target (pins x.schedule.job) out j x.pool old arena next out' j' pool' new arena' → CallLeaves x.log.shape old top found m new
         job_leaves LoadSource out' j' pool' arena' t (l, o, p, a) = source_leaves source l.board
         job_leaves LoadTarget out' j' pool' arena' t (l, o, p, a) = look_leaves target.leases l.board
         job_leaves Gather out' j' pool' arena' t (e, o, p, q, a) = none_leaves e
@@ -199,7 +208,8 @@ module _ (x : Index) (frames : ℕ) (old : BoardState) (top : ℕ × Root) (foun
       named_same k (inl low) = front_same k low
       named_same k (inr is) = other_page k (λ for. (for_unread (k / x.log.shape.block_pages) for).unnamed is)
 
-      taken_same : (pool' : Blocks) → ((b : ℕ) → slice_get x.pool.states b ≡ Some (Owned Journal) → slice_get pool'.states b ≡ Some (Owned Journal)) → (b : ℕ) → IsTaken x.log.shape x.pool old.pages top.1 b → IsTaken x.log.shape pool' new top.1 b
+      taken_same : (pool' : Blocks) → ((b : ℕ) → slice_get x.pool.states b ≡ Some (Owned Journal) → slice_get pool'.states b ≡ Some (Owned Journal))
+          → (b : ℕ) → IsTaken x.log.shape x.pool old.pages top.1 b → IsTaken x.log.shape pool' new top.1 b
       taken_same pool' kept b t = record {
         least = t.least;
         most = t.most;
@@ -275,7 +285,8 @@ module _ (x : Index) (frames : ℕ) (old : BoardState) (top : ℕ × Root) (foun
         pins_are = ap (λ (j : Job). j.pinned) is_job ∙ stands.pins_are;
         merge = merge;
         freeze = record {
-          taken = all_of (IsTaken x.log.shape x.pool old.pages top.1) (IsTaken x.log.shape pool new.pages top.1) (taken_by x.schedule.freeze) (taken_same new.pages end pool (kept Journal)) stands.freeze.taken;
+          taken = all_of (IsTaken x.log.shape x.pool old.pages top.1) (IsTaken x.log.shape pool new.pages top.1)
+              (taken_by x.schedule.freeze) (taken_same new.pages end pool (kept Journal)) stands.freeze.taken;
           different = stands.freeze.different;
           none_frozen = stands.freeze.none_frozen;
         };

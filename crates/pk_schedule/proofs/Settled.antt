@@ -1,10 +1,10 @@
 -- An index that is whole is unchanged, and what a step of one leaves.
-use Rattle.std.proofs.Common.{◌≡◌, ℕ, ◌-◌, ◌*◌, ◌/◌, sym, ap, subst, ◌∙◌, arith, ◌||◌, ◌==◌, List, [], length, nat_le, Result, Ok}
+use Rattle.std.proofs.Common.{◌≡◌, ℕ, ◌-◌, sym, ap, subst, ◌∙◌, ◌||◌, ◌==◌, List, [], length, nat_le, Ok}
 use Rattle.pk_base.specs.Shape.{Shape}
-use Rattle.pk_base.specs.Page.{Page, Flash, page_in, commits_of}
-use Rattle.pk_base.specs.Refusal.{Refusal, ensure}
+use Rattle.pk_base.specs.Page.{Page, Flash, page_in}
+use Rattle.pk_base.specs.Refusal.{ensure}
 use Rattle.pk_rootfmt.specs.Root.{Root}
-use Rattle.pk_jrnfmt.specs.Epoch.{journal, epoch}
+use Rattle.pk_jrnfmt.specs.Epoch.{epoch}
 use Rattle.pk_pool.specs.declared.state.BlockState.{BlockState}
 use Rattle.pk_pool.specs.Blocks.{Blocks, NoneLeaves, with_state, freed, freed_state}
 use Rattle.pk_pool.proofs.Leaving.{freed_same, freed_set, none_leaves}
@@ -12,6 +12,8 @@ use Rattle.pk_model.specs.Found.{Found, older_epoch, newest_epoch, runs_from, fo
 use Rattle.pk_model.proofs.StrangePages.{bind_ok}
 use Rattle.pk_schedule.specs.Index.{Index, IndexOnFlash, IsSettled, settled}
 use Rattle.pk_schedule.specs.Steps.{KeepsValues}
+use Rattle.pk_base.proofs.Logic.{ok_same}
+use Rattle.pk_steps.proofs.Freezing.{no_blocks}
 
 -- no block leaves, also if one has another owner or is erased
 pub none_leaves_set : (p : Blocks) (b : ℕ) (s : BlockState) → freed_state s ≡ s → NoneLeaves p → NoneLeaves (with_state p b s)
@@ -29,13 +31,6 @@ values_settled x shape pool old new is keeps = subst (λ (p : Blocks). KeepsValu
 
 -- ---- an older epoch that is not named has no entries
 
-no_commits : (shape : Shape) (at : ℕ → Page) (number : ℕ) → epoch shape at number [] ≡ Ok []
-unfolding epoch
-no_commits shape at number = let none : 0 * (shape.block_pages / 2) ≡ 0 = omega arith in ap (λ (n : ℕ). journal shape number 0 [] (commits_of shape at [] 0 n)) none
-
-ok_same : {A : Type 0} (x y : A) → ◌≡◌ {A = Result A Refusal} (Ok x) (Ok y) → x ≡ y
-ok_same x y e = cc
-
 pub none_there : (shape : Shape) (at : ℕ → Page) (root : Root) (found : Found) → found_under shape at root ≡ Ok found → root.older ≡ [] → found.older ≡ []
 unfolding found_under
 none_there shape at root found is none =
@@ -45,5 +40,5 @@ none_there shape at root found is none =
     let es = bind_ok (epoch shape at (root.epoch - 1) root.older) _ first.0 first.1 in
     let tested = bind_ok (ensure (length root.older == 0 || nat_le 1 (length es.0)) (page_in shape root.older 0)) _ first.0 es.2 in
     let older_is : first.0 ≡ found.older = ap (λ (f : Found). f.older) (ok_same (record { newest = second.0; older = first.0; runs = third.0 }) found third.2) in
-    let empty : es.0 ≡ [] = ok_same es.0 [] (sym es.1 ∙ ap (λ (bs : List ℕ). epoch shape at (root.epoch - 1) bs) none ∙ no_commits shape at (root.epoch - 1)) in
+    let empty : es.0 ≡ [] = ok_same es.0 [] (sym es.1 ∙ ap (λ (bs : List ℕ). epoch shape at (root.epoch - 1) bs) none ∙ no_blocks shape at (root.epoch - 1)) in
     sym older_is ∙ sym (ok_same es.0 first.0 tested.2) ∙ empty

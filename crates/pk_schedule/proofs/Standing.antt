@@ -1,5 +1,5 @@
 -- What an index is before a step: its owners, its pages, and the merge that does not run.
-use Rattle.std.proofs.Common.{◌≡◌, ◌⊎◌, inl, inr, ℕ, ◌*◌, ◌/◌, ◌<◌, ◌≤◌, Bool, true, false, ◌&&◌, ◌++◌, Some, refl, subst, arith, mul-le-mul_right}
+use Rattle.std.proofs.Common.{◌≡◌, ◌⊎◌, inl, inr, ℕ, ◌*◌, ◌/◌, ◌<◌, ◌≤◌, true, ◌++◌, Some, refl, subst, arith, mul-le-mul_right}
 use Rattle.std.specs.Prelude.{slice_get}
 use Rattle.std.specs.List.{concat}
 use Rattle.pk_base.specs.Page.{Flash}
@@ -21,10 +21,6 @@ use Rattle.pk_schedule.specs.declared.phase.Phase.TheVariants.{Idle, Running, Re
 use Rattle.pk_schedule.specs.Index.{Index, MergeStands}
 use Rattle.pk_schedule.specs.Steps.{MayWork, is_between}
 use Rattle.pk_schedule.proofs.Giving.{not_spare}
-
-pub both_true : (a b : Bool) → (a && b) ≡ true → (a ≡ true) × (b ≡ true)
-both_true true b e = (refl, e)
-both_true false b e = absurd (let x : ⊥ = cc in x)
 
 -- a page of a block after the root blocks is after them
 pub beyond : (n k : ℕ) → 0 < n → 2 ≤ k / n → 2 * n ≤ k

@@ -51,10 +51,7 @@ use Rattle.pk_schedule.proofs.Carried.{Shown, shown, same_shown, job_carried, le
 use Rattle.pk_schedule.proofs.Grown.{Grew, SameEnd, acts_grow, acts_frames, reached_end, went_end}
 use Rattle.pk_schedule.proofs.Entries.{output_same, frozen_many, counts_same}
 use Rattle.pk_schedule.proofs.Running.{job_leaves, job_breaks, same_leaves, front_same, into_then, index_then, moves_then}
-
-not_both : (b : Bool) → b ≡ true → b ≡ false → ⊥
-not_both true e f = absurd (let z : ⊥ = cc in z)
-not_both false e f = absurd (let z : ⊥ = cc in z)
+use Rattle.pk_base.proofs.Logic.{not_both}
 
 -- the fault of an answer
 pub fault_is : {Y : Type 0} (a b : Fault) → ◌≡◌ {A = Result Y Fault} (Err a) (Err b) → a ≡ b
@@ -83,7 +80,8 @@ reread_left : {X : Type 0} (source : Source X) (target out : Kept) (m : Merger) 
 unfolding can_gather
 reread_left source target out m one two pages blocks = let w = wants_same source m.source one in rw w refl
 
-module _ (x : Index) (frames : ℕ) (old : BoardState) (top : ℕ × Root) (found : Found) (m : Map) (may : MayWork x frames old.pages top found m) (shared : IsShared x.pool.shape x.pool.states) (ready : IsReady old x.log.shape)
+module _ (x : Index) (frames : ℕ) (old : BoardState) (top : ℕ × Root) (found : Found) (m : Map)
+    (may : MayWork x frames old.pages top found m) (shared : IsShared x.pool.shape x.pool.states) (ready : IsReady old x.log.shape)
     (level : ℕ) (was : x.schedule.phase ≡ Running level) where
   stands : IndexOnFlash x frames old.pages top found
   stands = may.stands
@@ -159,7 +157,8 @@ module _ (x : Index) (frames : ℕ) (old : BoardState) (top : ℕ × Root) (foun
       end = reached_end x.pool out old new cuts
 
       leaves : CallLeaves x.log.shape old top found m new
-      leaves = job_leaves x frames old top found m may shared ready level into new source target x.schedule.job.merger x.arena es fs job_now.running steps.next (output_of job) steps.between pool arena steps.tells steps.acts
+      leaves = job_leaves x frames old top found m may shared ready level into new source target x.schedule.job.merger x.arena es fs job_now.running steps.next
+          (output_of job) steps.between pool arena steps.tells steps.acts
 
       abbrev pub behind : Phase → Index
       behind p = record x { arena = arena; pool = pool; schedule = record x.schedule { job = job; phase = p } }
@@ -184,7 +183,11 @@ module _ (x : Index) (frames : ℕ) (old : BoardState) (top : ℕ × Root) (foun
           let is : (output_of job).level ≡ level = (into_behind (Ready level)).output_level in
           let its : merged (output_of job).level es fs ≡ whole_output level found = ap (λ (l : ℕ). merged l es fs) is ∙ output_same x found level stands.logs.frozen_is in
           let pinned : pins x.schedule.job ≡ pins job = sym (ap (λ (j : Job). pins j) is_job) in
-          moves_to (Ready level) (record { into = into_behind (Ready level); whole = subst (λ (b : Bool). IsOutputWhole b (output_of job) new.pages arena (whole_output level found)) pinned (subst (λ (xs : List Entry). IsOutputWhole (pins x.schedule.job) (output_of job) new.pages arena xs) its all) })
+          moves_to (Ready level) (record {
+            into = into_behind (Ready level);
+            whole = subst (λ (b : Bool). IsOutputWhole b (output_of job) new.pages arena (whole_output level found)) pinned
+                (subst (λ (xs : List Entry). IsOutputWhole (pins x.schedule.job) (output_of job) new.pages arena xs) its all);
+          })
 
       -- ---- what remains
 
@@ -195,7 +198,8 @@ module _ (x : Index) (frames : ℕ) (old : BoardState) (top : ℕ × Root) (foun
         abbrev Left : Kept → Merger → ℕ → ℕ → ℕ
         Left o j pages blocks = steps_left (source_at x level) target o j pages blocks
 
-        falls : Lowers (Left out x.schedule.job.merger (most_pages out) (most_blocks out)) (unready x.pool.states) (Left (output_of job) job.merger (most_pages (output_of job)) (most_blocks (output_of job))) (unready pool.states)
+        falls : Lowers (Left out x.schedule.job.merger (most_pages out) (most_blocks out)) (unready x.pool.states)
+            (Left (output_of job) job.merger (most_pages (output_of job)) (most_blocks (output_of job))) (unready pool.states)
         falls = elim lowers [
           | inl done ↦ absurd (runs_now.undone (done_same (source_at x level) source there target x.schedule.job.merger done))
           | inr l ↦ (
@@ -219,7 +223,8 @@ module _ (x : Index) (frames : ℕ) (old : BoardState) (top : ℕ × Root) (foun
               left = Left (output_of job) job.merger (most_pages (output_of job)) (most_blocks (output_of job)) + 1 + install_steps x.log.next;
               due = next_now;
               moved = refl;
-              lowers = subst (λ (o : Option ℕ). Lowers (left_of (whole_merge x.log.shape level) o) (unready x.pool.states) (Left (output_of job) job.merger (most_pages (output_of job)) (most_blocks (output_of job)) + 1 + install_steps x.log.next) (unready pool.states)) (sym left_now)
+              lowers = subst (λ (o : Option ℕ). Lowers (left_of (whole_merge x.log.shape level) o) (unready x.pool.states)
+                  (Left (output_of job) job.merger (most_pages (output_of job)) (most_blocks (output_of job)) + 1 + install_steps x.log.next) (unready pool.states)) (sym left_now)
                   (goes_lowers _ _ _ _ (install_steps x.log.next) falls);
             } in
             let l = merge_moves x.log.shape (backlog_of x) (backlog_of (behind (Running level))) moved in
@@ -260,7 +265,8 @@ module _ (x : Index) (frames : ℕ) (old : BoardState) (top : ℕ × Root) (foun
       out_same : output_of job ≡ out
       out_same = ap (λ (o : Option Kept). unwrap_or o (empty job.merger.shape job.target)) (same_output ∙ into.has_output)
 
-      steps_same : steps_left (source_at x level) target (output_of job) job.merger (most_pages (output_of job)) (most_blocks (output_of job)) ≡ steps_left (source_at x level) target out x.schedule.job.merger (most_pages out) (most_blocks out)
+      steps_same : steps_left (source_at x level) target (output_of job) job.merger (most_pages (output_of job))
+          (most_blocks (output_of job)) ≡ steps_left (source_at x level) target out x.schedule.job.merger (most_pages out) (most_blocks out)
       steps_same =
           ap (λ (o : Kept). steps_left (source_at x level) target o job.merger (most_pages o) (most_blocks o)) out_same
           ∙ ap (λ (j : Merger). steps_left (source_at x level) target out j (most_pages out) (most_blocks out)) fails.merger
@@ -286,7 +292,8 @@ module _ (x : Index) (frames : ℕ) (old : BoardState) (top : ℕ × Root) (foun
       again_grew = inl (same_pool, ap (λ (r : Kept). r.blocks) out_same)
 
       again_leaves : CallLeaves x.log.shape old top found m new
-      again_leaves = same_leaves x frames old top found m may shared ready level into new (ap (λ (b : BoardState). b.shape) only) (ap (λ (b : BoardState). b.pages) only) (ap (λ (b : BoardState). b.trail) only) (ap (λ (b : BoardState). b.posted) only)
+      again_leaves = same_leaves x frames old top found m may shared ready level into new (ap (λ (b : BoardState). b.shape) only)
+          (ap (λ (b : BoardState). b.pages) only) (ap (λ (b : BoardState). b.trail) only) (ap (λ (b : BoardState). b.posted) only)
 
       not_done : IsDone (source_at x level) target job.merger → ⊥
       not_done d = runs_now.undone (subst (λ (j : Merger). IsDone (source_at x level) target j) fails.merger d)
@@ -296,8 +303,10 @@ module _ (x : Index) (frames : ℕ) (old : BoardState) (top : ℕ × Root) (foun
           let frames_same : length arena.used ≡ length x.arena.used = ap (λ (a : Frames). length a.used) same_arena in
           let leases = kept_leases out (output_of job) x.arena arena (ap (λ (r : Kept). r.leases) out_same) same_arena in
           subst (λ (p : Phase). IndexOnFlash (reread p) frames new.pages top found) (sym was)
-          (index_then x frames old top found m may shared ready level into new (Running level) job pool arena is_job again_grew (inl fails.same) again_leaves frames_same leases still_runs runs_again (record {
-            into = into_then x frames old top found m may shared ready level into new (Running level) job pool arena is_job again_grew (inl fails.same) again_leaves frames_same leases still_runs runs_again;
+          (index_then x frames old top found m may shared ready level into new (Running level) job pool arena is_job again_grew
+          (inl fails.same) again_leaves frames_same leases still_runs runs_again (record {
+            into = into_then x frames old top found m may shared ready level into new
+                (Running level) job pool arena is_job again_grew (inl fails.same) again_leaves frames_same leases still_runs runs_again;
             runs = runs_again;
             undone = not_done;
           }))
@@ -316,23 +325,29 @@ module _ (x : Index) (frames : ℕ) (old : BoardState) (top : ℕ × Root) (foun
       at p = record x { arena = arena; pool = pool; schedule = record x.schedule { job = job; phase = p } }
 
       abbrev OfStep : Kept → Type 0 → Type 0
-      OfStep k Then = RunsOn source k x.schedule.job x.pool old.pages x.arena job pool new.pages arena → Steps source k (pins x.schedule.job) out x.schedule.job.merger x.pool old x.arena (output_of job) job.merger pool new arena
+      OfStep k Then = RunsOn source k x.schedule.job x.pool old.pages x.arena job pool new.pages arena
+          → Steps source k (pins x.schedule.job) out x.schedule.job.merger x.pool old x.arena (output_of job) job.merger pool new arena
           → IsJob → LeavesRuns x.pool out old.pages x.arena new.pages arena → LeavesLeases out x.arena (output_of job) arena → StepReaches x.pool out old new → Then
 
       pub goes_by : OfStep t ((done : Bool) → (IsTrue done ↔ IsDone source t job.merger) → done ≡ false → IndexMoves x frames old found m (at x.schedule.phase) new)
       goes_by = subst (λ (k : Kept). OfStep k ((done : Bool) → (IsTrue done ↔ IsDone source k job.merger) → done ≡ false → IndexMoves x frames old found m (at x.schedule.phase) new)) (sym is_target)
           (λ running steps is_job others leases cuts done is e. goes_on_at source shows new job pool arena running steps is_job others leases cuts (λ d. not_both done (is.1 d) e))
 
-      pub completes_by : OfStep t ((done : Bool) → done ≡ true → Completes source t x.schedule.job x.pool old.pages x.arena job new.pages arena done → IndexMoves x frames old found m (at (Ready level)) new)
-      completes_by = subst (λ (k : Kept). OfStep k ((done : Bool) → done ≡ true → Completes source k x.schedule.job x.pool old.pages x.arena job new.pages arena done → IndexMoves x frames old found m (at (Ready level)) new)) (sym is_target)
-          (λ running steps is_job others leases cuts done e whole. completes source shows new job pool arena running steps is_job others leases cuts (subst (λ (b : Bool). Completes source target x.schedule.job x.pool old.pages x.arena job new.pages arena b) e whole))
+      pub completes_by : OfStep t ((done : Bool) → done ≡ true
+          → Completes source t x.schedule.job x.pool old.pages x.arena job new.pages arena done → IndexMoves x frames old found m (at (Ready level)) new)
+      completes_by = subst (λ (k : Kept). OfStep k
+          ((done : Bool) → done ≡ true → Completes source k x.schedule.job x.pool old.pages x.arena job new.pages arena done → IndexMoves x frames old found m (at (Ready level)) new)) (sym is_target)
+          (λ running steps is_job others leases cuts done e whole. completes source shows new job pool arena running steps is_job others leases cuts
+          (subst (λ (b : Bool). Completes source target x.schedule.job x.pool old.pages x.arena job new.pages arena b) e whole))
 
       pub less_goes_by : OfStep t (LowersTo source t out x.schedule.job.merger x.pool (output_of job) job.merger pool (most_pages out) (most_blocks out) → LessIsLeft x (at x.schedule.phase))
-      less_goes_by = subst (λ (k : Kept). OfStep k (LowersTo source k out x.schedule.job.merger x.pool (output_of job) job.merger pool (most_pages out) (most_blocks out) → LessIsLeft x (at x.schedule.phase))) (sym is_target)
+      less_goes_by = subst (λ (k : Kept). OfStep k
+          (LowersTo source k out x.schedule.job.merger x.pool (output_of job) job.merger pool (most_pages out) (most_blocks out) → LessIsLeft x (at x.schedule.phase))) (sym is_target)
           (λ running steps is_job others leases cuts lowers. less_at source shows new job pool arena running steps is_job others leases cuts lowers)
 
       pub less_ends_by : OfStep t (LowersTo source t out x.schedule.job.merger x.pool (output_of job) job.merger pool (most_pages out) (most_blocks out) → LessIsLeft x (at (Ready level)))
-      less_ends_by = subst (λ (k : Kept). OfStep k (LowersTo source k out x.schedule.job.merger x.pool (output_of job) job.merger pool (most_pages out) (most_blocks out) → LessIsLeft x (at (Ready level)))) (sym is_target)
+      less_ends_by = subst (λ (k : Kept). OfStep k
+          (LowersTo source k out x.schedule.job.merger x.pool (output_of job) job.merger pool (most_pages out) (most_blocks out) → LessIsLeft x (at (Ready level)))) (sym is_target)
           (λ running steps is_job others leases cuts lowers. less_ready source shows new job pool arena running steps is_job others leases cuts lowers)
 
       -- a call that failed
@@ -342,14 +357,18 @@ module _ (x : Index) (frames : ℕ) (old : BoardState) (top : ℕ × Root) (foun
 
       pub unmoved_by : OfRead t (Unmoved x (at x.schedule.phase))
       unmoved_by = subst (λ (k : Kept). OfRead k (Unmoved x (at x.schedule.phase))) (sym is_target)
-          (λ again kept fault e fails is_job only. unmoved source shows new job pool arena again kept.0 kept.1 kept.2 (subst (λ (f : Fault). Fails source target out x.schedule.job.merger x.pool old f job.merger new) e fails) is_job only)
+          (λ again kept fault e fails is_job only. unmoved source shows new job pool arena again kept.0 kept.1 kept.2
+          (subst (λ (f : Fault). Fails source target out x.schedule.job.merger x.pool old f job.merger new) e fails) is_job only)
 
       pub stands_by : OfRead t (IndexOnFlash (at x.schedule.phase) frames new.pages top found)
       stands_by = subst (λ (k : Kept). OfRead k (IndexOnFlash (at x.schedule.phase) frames new.pages top found)) (sym is_target)
-          (λ again kept fault e fails is_job only. stands_still source shows new job pool arena again kept.0 kept.1 kept.2 (subst (λ (f : Fault). Fails source target out x.schedule.job.merger x.pool old f job.merger new) e fails) is_job only)
+          (λ again kept fault e fails is_job only. stands_still source shows new job pool arena again kept.0 kept.1 kept.2
+          (subst (λ (f : Fault). Fails source target out x.schedule.job.merger x.pool old f job.merger new) e fails) is_job only)
 
-      pub broken_by : (fault : Fault) → fault ≡ Stopped → Fails source t out x.schedule.job.merger x.pool old fault job.merger new → Goes x.log.shape old new (CrashFinds x.log.shape background old.pages m)
-      broken_by = subst (λ (k : Kept). (fault : Fault) → fault ≡ Stopped → Fails source k out x.schedule.job.merger x.pool old fault job.merger new → Goes x.log.shape old new (CrashFinds x.log.shape background old.pages m)) (sym is_target)
+      pub broken_by : (fault : Fault) → fault ≡ Stopped → Fails source t out x.schedule.job.merger x.pool old fault job.merger new
+          → Goes x.log.shape old new (CrashFinds x.log.shape background old.pages m)
+      broken_by = subst (λ (k : Kept). (fault : Fault) → fault ≡ Stopped → Fails source k out x.schedule.job.merger x.pool old fault job.merger new
+          → Goes x.log.shape old new (CrashFinds x.log.shape background old.pages m)) (sym is_target)
           (λ fault e fails. goes_broken source shows new job.merger (subst (λ (f : Fault). Fails source target out x.schedule.job.merger x.pool old f job.merger new) e fails))
 
   -- ---- what the flash is after it
@@ -367,6 +386,7 @@ module _ (x : Index) (frames : ℕ) (old : BoardState) (top : ℕ × Root) (foun
   ready_by new after = subst (λ (s : Shape). IsReady new s) into.merger_shape after
 
   -- whichever call failed
-  pub failed_end : {Y : Type 0} (new : BoardState) (fault : Fault) → (◌≡◌ {A = Result Y Fault} (Err fault) (Err Reading) → OnlyReading old new) → (◌≡◌ {A = Result Y Fault} (Err fault) (Err Stopped) → StepWent x.pool out old new) → SameEnd x.pool out old.pages new.pages
+  pub failed_end : {Y : Type 0} (new : BoardState) (fault : Fault) → (◌≡◌ {A = Result Y Fault} (Err fault) (Err Reading) → OnlyReading old new)
+      → (◌≡◌ {A = Result Y Fault} (Err fault) (Err Stopped) → StepWent x.pool out old new) → SameEnd x.pool out old.pages new.pages
   failed_end new Reading read went = read_end new (read refl)
   failed_end new Stopped read went = stopped_end new (went refl)

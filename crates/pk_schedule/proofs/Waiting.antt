@@ -1,5 +1,6 @@
 -- A merge whose output is complete: what its install requires.
-use Rattle.std.proofs.Common.{◌≡◌, inl, inr, ℕ, zero, suc, ◌-◌, ◌/◌, ◌<◌, ◌≤◌, true, T, List, [], ◌∷◌, ◌++◌, length, map, slice_set, slice_index_or, Some, None, Ok, refl, sym, ap, subst, ◌∙◌, arith, le→leb}
+use Rattle.std.proofs.Common.{◌≡◌, inl, inr, ℕ, zero, suc, ◌-◌, ◌/◌, ◌<◌, ◌≤◌, true, T, List, [], ◌∷◌, ◌++◌, length, map, slice_set, slice_index_or, Some, None, Ok, refl, sym, ap, subst, ◌∙◌, arith}
+use Rattle.std.proofs.Common.{le→leb}
 use Rattle.std.specs.Prelude.{slice_get}
 use Rattle.std.proofs.lemmas.List.{length-set}
 use Rattle.std.specs.List.{concat, AllByRecursion}
@@ -18,7 +19,6 @@ use Rattle.pk_pin.proofs.Leases.{times-append}
 use Rattle.pk_model.specs.Found.{Found}
 use Rattle.pk_model.proofs.Commits.{blocks_of_root, differ_front, apart}
 use Rattle.pk_model.proofs.SamePages.{any_back}
-use Rattle.pk_model.proofs.ValueSets.{is_true}
 use Rattle.pk_pool.specs.declared.state.BlockState.TheVariants.{Owned}
 use Rattle.pk_pool.specs.Blocks.{given_back, Blocks, IsShared}
 use Rattle.pk_pool.proofs.Sharing.{behind_roots, exists}
@@ -28,10 +28,10 @@ use Rattle.pk_level.specs.Levels.{Levels, IsLevels, run_of, with_run}
 use Rattle.pk_level.specs.Arenas.{leases_of, IsPinnedIf}
 use Rattle.pk_steps.specs.Merging.{IsMerged, output_of, blocks_at}
 use Rattle.pk_steps.proofs.FourRuns.{IsLevel, next_is_level}
-use Rattle.pk_steps.proofs.Freeing.{differ_back, in_one}
+use Rattle.pk_steps.proofs.Freeing.{in_one}
 use Rattle.pk_steps.proofs.NewestBlocks.{valid_root}
 use Rattle.pk_steps.proofs.Outputs.{output_fits}
-use Rattle.pk_steps.proofs.Places.{In}
+use Rattle.pk_steps.proofs.Places.{In, differ_back}
 use Rattle.pk_steps.proofs.Spelling.{merged_grammar}
 use Rattle.pk_merge.specs.Jobs.{Job, IsIdle, AreOwned, AreLeased, all_spare, held_at, taken_from, given_to, pins}
 use Rattle.pk_merge.specs.Laws.{IsFormer, done_with}
@@ -46,7 +46,9 @@ use Rattle.pk_schedule.specs.Steps.{MayWork}
 use Rattle.pk_schedule.proofs.Backlogs.{frozen_is}
 use Rattle.pk_schedule.proofs.Ended.{SecondRun, second_run}
 use Rattle.pk_schedule.proofs.Giving.{GivesBack, gives_back, one_owner}
-use Rattle.pk_schedule.proofs.Replacing.{blocks_at_level, of_level, at_other, leases_set, places_differ, in_slice}
+use Rattle.pk_schedule.proofs.Replacing.{blocks_at_level, of_level, at_other, leases_set, places_differ}
+use Rattle.pk_base.proofs.Logic.{is_true}
+use Rattle.pk_schedule.proofs.Grown.{got_in}
 
 -- ---- different runs
 
@@ -128,7 +130,8 @@ module _ (x : Index) (frames : ℕ) (old : BoardState) (top : ℕ × Root) (foun
       omega (arith, same, some)
 
   pub none_taken : taken_by x.schedule.freeze ≡ []
-  none_taken = length_none (taken_by x.schedule.freeze) (λ some. let none : length x.log.frozen.entries ≡ 0 = ap (λ (xs : List Entry). length xs) (may.stands.freeze.none_frozen some) in let more = frozen_some in omega (arith, none, more))
+  none_taken = length_none (taken_by x.schedule.freeze)
+      (λ some. let none : length x.log.frozen.entries ≡ 0 = ap (λ (xs : List Entry). length xs) (may.stands.freeze.none_frozen some) in let more = frozen_some in omega (arith, none, more))
 
   -- ---- the root that follows
 
@@ -183,7 +186,8 @@ module _ (x : Index) (frames : ℕ) (old : BoardState) (top : ℕ × Root) (foun
   -- the former run of a level
   pub former_of : (n : ℕ) → 1 ≤ n → IsFormer shape n (run_of x.levels n)
   former_of n some =
-      let it = of_level x.levels.shape x.levels.pinned 1 x.levels.runs (n - 1) (empty x.levels.shape n) (λ k e. record { same_shape = refl; same_level = omega (arith, e, some); frames = λ le. refl }) known.each n (omega (arith, some)) in
+      let it = of_level x.levels.shape x.levels.pinned 1 x.levels.runs (n - 1) (empty x.levels.shape n)
+      (λ k e. record { same_shape = refl; same_level = omega (arith, e, some); frames = λ le. refl }) known.each n (omega (arith, some)) in
       record { same_shape = it.same_shape ∙ may.stands.levels_shape; same_level = it.same_level }
 
   pub blocks_are : (n : ℕ) → (run_of x.levels n).blocks ≡ blocks_at root.runs n
@@ -211,7 +215,8 @@ module _ (x : Index) (frames : ℕ) (old : BoardState) (top : ℕ × Root) (foun
 
   pub exchange_one : CanExchange x.levels x.arena x.pool job level out
   exchange_one = record {
-    held = subst (λ j. held_at j level ≡ Some out) job_is (idle_one shape idle_job level out (run_of x.levels level) job.merger idle_job_is waits.into.merger_shape least most (former_of level least)).0;
+    held = subst (λ j. held_at j level ≡ Some out) job_is
+        (idle_one shape idle_job level out (run_of x.levels level) job.merger idle_job_is waits.into.merger_shape least most (former_of level least)).0;
     of_level = record {
       same_shape = waits.into.output_shape ∙ sym may.stands.levels_shape;
       same_level = waits.into.output_level;
@@ -220,7 +225,7 @@ module _ (x : Index) (frames : ℕ) (old : BoardState) (top : ℕ × Root) (foun
           let told : pins job ≡ true = is_true _ (le→leb job.target job.pinned (let target = waits.into.target in omega (arith, le, pinned_is, target))) in
           subst (λ b. IsPinnedIf b out) told waits.whole.pinned;
     };
-    owned = record { meta = λ i b got. former_owned level b (in_slice (run_of x.levels level).blocks i b got); different = places_differ (run_of x.levels level).blocks (former_differs level) };
+    owned = record { meta = λ i b got. former_owned level b (got_in (run_of x.levels level).blocks i b got); different = places_differ (run_of x.levels level).blocks (former_differs level) };
     leased = are_leased x.arena [] (run_of x.levels level).leases (leases_of runs_one) rows_one;
   }
 
@@ -280,7 +285,8 @@ module _ (x : Index) (frames : ℕ) (old : BoardState) (top : ℕ × Root) (foun
         let one = times-append l (run_of x.levels level).leases (leases_of runs_one) in
         let two = times-append l (run_of x.levels level).leases (source.leases ++ leases_of runs_two) in
         let three = times-append l source.leases (leases_of runs_two) in
-        let same : times l ((run_of x.levels level).leases ++ (source.leases ++ leases_of runs_two)) ≡ times l ((run_of x.levels level).leases ++ leases_of runs_one) = omega (arith, set, here, none, one, two, three) in
+        let same : times l ((run_of x.levels level).leases ++ (source.leases ++ leases_of runs_two)) ≡ times l
+        ((run_of x.levels level).leases ++ leases_of runs_one) = omega (arith, set, here, none, one, two, three) in
         same ∙ rows_one l
 
     pub source_stays : (b : ℕ) → In b source.blocks → slice_get (given_back x.pool (run_of x.levels level).blocks).states b ≡ Some (Owned Meta)
@@ -289,7 +295,8 @@ module _ (x : Index) (frames : ℕ) (old : BoardState) (top : ℕ × Root) (foun
         (subst (λ xs. In b xs) (blocks_are (level - 1)) among) (subst (λ xs. In b xs) (blocks_are level) there)) ∙ former_owned (level - 1) b among
 
     pub second : SecondRun shape (given_to (taken_from job level) (run_of x.levels level)) level
-    second = subst (λ j. SecondRun shape (given_to (taken_from j level) (run_of x.levels level)) level) job_is (second_run shape idle_job level out (run_of x.levels level) job.merger idle_job_is waits.into.merger_shape deep most (former_of level least))
+    second = subst (λ j. SecondRun shape (given_to (taken_from j level) (run_of x.levels level)) level) job_is
+        (second_run shape idle_job level out (run_of x.levels level) job.merger idle_job_is waits.into.merger_shape deep most (former_of level least))
 
     pub exchange_two : (levels' : Levels) (arena' : Frames) (pool' : Blocks) (job' : Job) → Exchanges x.levels x.arena x.pool job level out levels' arena' pool' job'
         → CanExchange levels' arena' pool' job' (level - 1) (empty shape (level - 1))
@@ -299,7 +306,7 @@ module _ (x : Index) (frames : ℕ) (old : BoardState) (top : ℕ × Root) (foun
           held = subst (λ j. held_at j (level - 1) ≡ Some (empty shape (level - 1))) (sym e.job_is) second.held;
           of_level = record { same_shape = sym (ap (λ (ls : Levels). ls.shape) e.levels_are ∙ may.stands.levels_shape); same_level = refl; frames = λ le. refl };
           owned = subst (λ (r : Kept). AreOwned pool' r.blocks) (sym its) (subst (λ p. AreOwned p source.blocks) (sym e.pool_is) (record {
-            meta = λ i b got. source_stays b (in_slice source.blocks i b got);
+            meta = λ i b got. source_stays b (got_in source.blocks i b got);
             different = places_differ source.blocks (former_differs (level - 1));
           }));
           leased = subst (λ (r : Kept). AreLeased arena' r.leases) (sym its) (are_leased arena' [] source.leases (leases_of runs_two) (e.leases (source.leases ++ leases_of runs_two) rows_two));

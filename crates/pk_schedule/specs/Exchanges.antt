@@ -12,7 +12,7 @@ use Rattle.pk_run.specs.Kept.{Kept}
 use Rattle.pk_level.specs.Levels.{Levels, IsOfLevel, run_of, with_run}
 use Rattle.pk_merge.specs.Jobs.{Job, AreOwned, AreLeased, LeavesOthers, held_at, taken_from, given_to, given_all, ended}
 
--- The job has this run for the level, which may be there, and what the former one has may be given back.
+-- The job has this run for the level, which may be there, and what the former one has may be freed.
 pub record CanExchange (levels : Levels) (arena : Frames) (pool : Blocks) (job : Job) (level : ℕ)
     (r : Kept) : Type 0 where
   pub held : held_at job level ≡ Some r
@@ -47,7 +47,7 @@ pub record CanFree (pool : Blocks) (blocks : List ℕ) : Type 0 where
 
 -- ---- the end of a merge
 
--- A merge into level 1: its output may be there, and after the exchange the blocks of the older epoch may be given back.
+-- A merge into level 1: its output may be there, and after the exchange the blocks of the older epoch may be freed.
 pub record CanEndFirst (levels : Levels) (arena : Frames) (pool : Blocks) (job : Job)
     (older : List ℕ) : Type 0 where
   pub out : Kept

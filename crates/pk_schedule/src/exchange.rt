@@ -32,7 +32,7 @@ fn retire_named<A: Allocator>(pool: &mut Pool<A>, blocks: Option<[u16; 2]>)
 }
 
 impl<A: Region> Schedule<A> {
-    // Puts the job's run of this level in place of the former one, whose blocks leave and whose frames are given back.
+    // Puts the job's run of this level in place of the former one, whose blocks leave and whose frames are freed.
     fn exchange(
         &mut self,
         pool: &mut Pool<A>,

@@ -98,7 +98,7 @@ impl<A: Region> Schedule<A> {
     /// One step of the merges, by at most one flash operation: the next merge begins, its output
     /// grows, the root block that is next is erased, or its root gets its first program. In the
     /// step that makes that program the runs are exchanged, the blocks of the former ones leave,
-    /// and their frames are given back; `finish` is the next step then. No pair may be half made
+    /// and their frames are freed; `finish` is the next step then. No pair may be half made
     /// before. `Reading` if a read fails: nothing has changed, and the step can be made again.
     /// `Stopped` if a program or an erase fails; nothing may be used after that. `buf` has the size
     /// of a page and is overwritten.

@@ -6,7 +6,8 @@ use Rattle.pk_base.specs.Shape.{Shape, page_count}
 use Rattle.pk_base.specs.Page.{Flash, page_at, erased}
 use Rattle.pk_base.specs.Mark.{erase, after}
 use Rattle.pk_nand.specs.BoardState.{BoardState}
-use Rattle.pk_nand.specs.Calls.{IsReady, InOrder, after_erase}
+use Rattle.pk_nand.specs.Calls.{IsReady}
+use Rattle.pk_nand.specs.Operations.{InOrder, after_erase}
 use Rattle.pk_nand.proofs.Leaving.{page-erased_in, IsFlash-after, full_erase}
 use Rattle.pk_nand.proofs.Writing.{shape_is}
 

@@ -7,7 +7,8 @@ use Rattle.pk_base.specs.Page.{Page, Flash, page_at, erased, whole, IsPage}
 use Rattle.pk_base.specs.Mark.{program}
 use Rattle.pk_nand.specs.BoardState.{BoardState, shape_of}
 use Rattle.pk_nand.specs.Cut.{Interrupted}
-use Rattle.pk_nand.specs.Calls.{Rose, InOrder, IsReady, ProgramFailed, after_program, LeftBehind}
+use Rattle.pk_nand.specs.Calls.{Rose, IsReady, ProgramFailed, after_program, LeftBehind}
+use Rattle.pk_nand.specs.Operations.{InOrder}
 use Rattle.pk_nand.specs.Crash.{SameOutside, Reached, Went}
 use Rattle.pk_nand.specs.Pairs.{first_of_pair, SameOutsidePair}
 use Rattle.pk_nand.proofs.Leaving.{page_at-slice_set, page_at-slice_set_same, IsFlash-left, full_program}
@@ -65,21 +66,26 @@ Writing-next old now shape key value page count i even less all ready w =
     let size = w.ready.flash.size in
     let lt : page + i < length now.pages = omega (arith, size, less, all) in
     let P : Flash → List ℕ → Type 0 = λ f _. SameOutside page count old.pages f in
-    let outside : SameOutside page count old.pages (set now.pages (page + i) (whole bytes)) = SameOutside-set page count (page + i) old.pages now.pages (whole bytes) w.outside (omega arith) (omega (arith, less)) in
+    let outside : SameOutside page count old.pages (set now.pages (page + i) (whole bytes)) = SameOutside-set page count
+    (page + i) old.pages now.pages (whole bytes) w.outside (omega arith) (omega (arith, less)) in
     let suc_i : suc i ≡ i + 1 = omega arith in
     record {
       board = let Q : ℕ → Type 0 = λ k. after_program now (page + i) bytes ≡ written shape key page value k old in subst Q suc_i (ap (λ b. after_program b (page + i) bytes) w.board);
       ready = ready;
-      order = λ more. let next : InOrder shape (set now.pages (page + i) (whole bytes)) ((page + i) + 1) = InOrder-next shape now.pages (page + i) bytes lt (let m = mod-add page i shape.block_pages (omega (arith, more)) in omega (arith, m, more)) (w.order (omega (arith, more))) in
+      order = λ more. let next : InOrder shape (set now.pages (page + i) (whole bytes)) ((page + i) + 1) = InOrder-next shape now.pages
+          (page + i) bytes lt (let m = mod-add page i shape.block_pages (omega (arith, more)) in omega (arith, m, more)) (w.order (omega (arith, more))) in
           let Q : ℕ → Type 0 = λ p. InOrder shape (set now.pages (page + i) (whole bytes)) p in let e : (page + i) + 1 ≡ page + (i + 1) = omega arith in subst Q e next;
       stored =
           let Q : ℕ → Type 0 = λ k. page_at (set now.pages (page + i) (whole bytes)) (page + k) ≡ whole (page_of shape key value k) in
-          λ k low. below_more Q i (λ k below. page_at-slice_set now.pages (page + i) (page + k) (whole bytes) (λ same. absurd (omega (arith, below, same))) ∙ w.stored k below) (page_at-slice_set_same now.pages (page + i) (whole bytes) lt) k (omega (arith, low));
+          λ k low. below_more Q i (λ k below. page_at-slice_set now.pages (page + i) (page + k) (whole bytes) (λ same. absurd (omega (arith, below, same))) ∙ w.stored k below)
+          (page_at-slice_set_same now.pages (page + i) (whole bytes) lt) k (omega (arith, low));
       outside = outside;
       cuts = (
         w.cuts.0 ++ program (page + i) bytes ∷ [],
         Reached-then w.cuts.0 (program (page + i) bytes ∷ []) old now (after_program now (page + i) bytes) P w.cuts.1
-            (Reached-program now P (page + i) bytes (λ f cut. SameOutside-cut (shape_of now) page count (page + i) old.pages now.pages f bytes [] (even_of now shape page w.ready even) w.outside (omega arith) (omega (arith, less)) cut) outside),
+            (Reached-program now P (page + i) bytes
+            (λ f cut. SameOutside-cut (shape_of now) page count (page + i) old.pages now.pages f bytes []
+            (even_of now shape page w.ready even) w.outside (omega arith) (omega (arith, less)) cut) outside),
       );
       counts = w.counts;
     }
@@ -94,7 +100,8 @@ Writing-written old now new shape key value page count i bytes even bytes_are ma
     (Writing-next old now shape key value page count i even less all (subst (λ (b : BoardState). IsReady b shape) e ready) w)
 
 -- the next page fails
-pub Writing-failed : (old now new : BoardState) (shape : Shape) (key : Key) (value : List ℕ) (page count i : ℕ) → page % shape.block_pages % 2 ≡ 0 → i < count → Writing old now shape key value page count i
+pub Writing-failed : (old now new : BoardState) (shape : Shape) (key : Key) (value : List ℕ) (page count i : ℕ)
+    → page % shape.block_pages % 2 ≡ 0 → i < count → Writing old now shape key value page count i
     → ProgramFailed now new (page + i) (page_of shape key value i) → Went old new (λ f _. SameOutside page count old.pages f)
 Writing-failed old now new shape key value page count i even less w failed =
     let bytes : List ℕ = page_of shape key value i in
@@ -104,7 +111,8 @@ Writing-failed old now new shape key value page count i even less w failed =
     (SameOutside-set page count (page + i) old.pages now.pages (whole bytes) w.outside (omega arith) (omega (arith, less))) in
     (w.cuts.0 ++ last.0, Went-then w.cuts.0 last.0 old now new P w.cuts.1 last.1)
 
-pub WriteFailed-next : (old now new : BoardState) (shape : Shape) (key : Key) (value : List ℕ) (page i : ℕ) → i < charge shape (length value) → Writing old now shape key value page (charge shape (length value)) i
+pub WriteFailed-next : (old now new : BoardState) (shape : Shape) (key : Key) (value : List ℕ) (page i : ℕ)
+    → i < charge shape (length value) → Writing old now shape key value page (charge shape (length value)) i
     → ProgramFailed now new (page + i) (page_of shape key value i) → WriteFailed shape key page value old new
 WriteFailed-next old now new shape key value page i less w failed = record {
   made = i;
@@ -125,7 +133,8 @@ module _ (old : BoardState) (page : ℕ) (bytes : List ℕ) where
   P f _ = SameOutsidePair (shape_of old) page old.pages f
 
   within : (f : Flash) → Interrupted (shape_of old) (program page bytes) old.pages f [] → P f []
-  within f cut = SameOutside-cut (shape_of old) first 2 page old.pages old.pages f bytes [] (pair_even (shape_of old) page) (SameOutside-same first 2 old.pages) (pair_low (shape_of old) page) (pair_high (shape_of old) page) cut
+  within f cut = SameOutside-cut (shape_of old) first 2 page old.pages old.pages f bytes [] (pair_even (shape_of old) page)
+      (SameOutside-same first 2 old.pages) (pair_low (shape_of old) page) (pair_high (shape_of old) page) cut
 
   done : P (after_program old page bytes).pages []
   done = SameOutside-set first 2 page old.pages old.pages (whole bytes) (SameOutside-same first 2 old.pages) (pair_low (shape_of old) page) (pair_high (shape_of old) page)

@@ -9,7 +9,8 @@ use Rattle.pk_base.specs.Key.{Key}
 use Rattle.pk_base.specs.Shape.{Shape, IsShape, fetched}
 use Rattle.pk_base.specs.Page.{Flash, page_at, whole, torn}
 use Rattle.pk_nand.specs.BoardState.{BoardState}
-use Rattle.pk_nand.specs.Calls.{IsReady, after_read, ReadFailed}
+use Rattle.pk_nand.specs.Calls.{IsReady}
+use Rattle.pk_nand.specs.Operations.{after_read, ReadFailed}
 use Rattle.pk_segfmt.specs.Value.{value_bytes}
 use Rattle.pk_segfmt.specs.Stored.{page_of}
 use Rattle.pk_nand.specs.Counts.{after_reads}
@@ -64,7 +65,8 @@ length-part at size xs room =
 pub record Filling (old now : BoardState) (shape : Shape) (page n i : ℕ) (into : List ℕ) : Type 0 where
   pub board : now ≡ after_reads i old
   pub len : length into ≡ n
-  pub front : (key value : List ℕ) → IsFront shape old.pages page n key value → take (min n (i * shape.page_bytes - 32)) into ≡ take (min n (i * shape.page_bytes - 32)) (drop 32 (value_bytes shape key value))
+  pub front : (key value : List ℕ) → IsFront shape old.pages page n key value
+      → take (min n (i * shape.page_bytes - 32)) into ≡ take (min n (i * shape.page_bytes - 32)) (drop 32 (value_bytes shape key value))
 
 pub Filling-start : (old : BoardState) (shape : Shape) (page n : ℕ) (into : List ℕ) → length into ≡ n → Filling old old shape page n 0 into
 Filling-start old shape page n into len =
@@ -72,7 +74,8 @@ Filling-start old shape page n into len =
     record { board = refl; len = len; front = λ key value is. rw none refl }
 
 -- the page that is read next exists
-pub Filling-exists : (old : BoardState) (shape : Shape) (page n i : ℕ) (key value : List ℕ) → IsShape shape → IsFront shape old.pages page n key value → i < fetched shape n → page + i < length old.pages
+pub Filling-exists : (old : BoardState) (shape : Shape) (page n i : ℕ) (key value : List ℕ) → IsShape shape
+    → IsFront shape old.pages page n key value → i < fetched shape n → page + i < length old.pages
 Filling-exists old shape page n i key value is_shape is less =
     whole_exists old.pages (page + i) (page_of shape key value i) (is.stored i (fetched_within shape i n (length value) is_shape less is.long))
 

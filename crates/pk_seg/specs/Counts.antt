@@ -1,7 +1,8 @@
 -- Consecutive reads.
 use Rattle.std.specs.Prelude.{ℕ, ◌+◌, ◌<◌}
 use Rattle.pk_nand.specs.BoardState.{BoardState}
-use Rattle.pk_nand.specs.Calls.{Rose, ReadFailed}
+use Rattle.pk_nand.specs.Calls.{Rose}
+use Rattle.pk_nand.specs.Operations.{ReadFailed}
 use Rattle.pk_nand.specs.Counts.{after_reads}
 
 -- of n reads from this page on one failed, after others that did not

@@ -3,7 +3,8 @@ ghost use Rattle.std.specs.Prelude.{◌≡◌, ◌<◌, List, ℕ, length, IfErr
 ghost use Rattle.pk_base.specs.Shape as spec;
 ghost use Rattle.pk_base.specs.Page.{page_at, whole};
 ghost use Rattle.pk_nand.specs.BoardState.{shape_of};
-ghost use Rattle.pk_nand.specs.Calls.{IsReady, InOrder, after_read, after_program, ReadFailed, ProgramFailed};
+ghost use Rattle.pk_nand.specs.Calls.{IsReady, after_program, ProgramFailed};
+ghost use Rattle.pk_nand.specs.Operations.{InOrder, after_read, ReadFailed};
 ghost use Rattle.pk_nand.specs.Crash.{Reached, Went};
 ghost use Rattle.pk_nand.specs.Pairs.{SameOutsidePair};
 ghost use Rattle.pk_nand.specs.declared.types.Fault.TheVariants.{Reading, Stopped};

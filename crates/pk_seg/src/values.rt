@@ -2,7 +2,8 @@
 ghost use Rattle.std.specs.Prelude.{◌≡◌, ◌+◌, ◌-◌, ◌*◌, ◌%◌, ◌^◌, ◌<◌, ◌≤◌, ◌++◌, List, ℕ, length, min, take, drop, IfOk, IfErr, OnOk, OnErr};
 ghost use Rattle.pk_base.specs.Shape as spec;
 ghost use Rattle.pk_base.specs.Page.{page_at, whole};
-ghost use Rattle.pk_nand.specs.Calls.{IsReady, InOrder, after_read, ReadFailed};
+ghost use Rattle.pk_nand.specs.Calls.{IsReady};
+ghost use Rattle.pk_nand.specs.Operations.{InOrder, after_read, ReadFailed};
 ghost use Rattle.pk_nand.specs.Crash.{Reached, Went, SameOutside};
 ghost use Rattle.pk_nand.specs.declared.types.Fault.TheVariants.{Reading, Stopped};
 ghost use Rattle.pk_segfmt.specs.Stored.{IsStored};

@@ -3,13 +3,15 @@ use Rattle.std.proofs.Common.{◌≡◌, ℕ, ◌+◌, ◌-◌, ◌^◌, ◌<◌
 use Rattle.std.specs.Prelude.{nat_eq, nat_le, nat_lt, ◌&&◌, Result, Ok, Err, IfOk, MatchResult}
 use Rattle.std.proofs.lemmas.Bool.Decides.{nat_tests}
 use Rattle.std.proofs.lemmas.List.{drop_more, drop_all, length-take-le}
-use Rattle.pk_base.specs.Fields.{number_at, u32, unlike, padded, zeros}
+use Rattle.pk_base.specs.Fields.{number_at, u32, padded, zeros}
+use Rattle.pk_base.specs.FieldFaults.{unlike}
 use Rattle.pk_base.specs.Shape.{Shape, IsShape, greatest}
 use Rattle.pk_base.specs.Key.{Key, IsKey, space_of, bytes_of}
 use Rattle.pk_base.specs.EntryBytes.{cell_key}
 use Rattle.pk_base.specs.declared.sizes.TheConstants.{MOST_SPACES}
 use Rattle.pk_base.proofs.ShapeLemmas.{greatest_most}
-use Rattle.pk_base.proofs.Tables.{◌⊕◌, field_none, none_field, AllNone, all_none, first_none, unless_true, true_unless, unlike_stands, stands_byte, stands_unlike, number_stands, stands_number, Stand, AreSized, stand_spelled, spelled_stand, padded_stands, stands_padded, length-padded}
+use Rattle.pk_base.proofs.Tables.{◌⊕◌, field_none, none_field, AllNone, all_none, first_none, unless_true, true_unless, unlike_stands, stands_byte, stands_unlike, number_stands, stands_number, Stand}
+use Rattle.pk_base.proofs.Tables.{AreSized, stand_spelled, spelled_stand, padded_stands, stands_padded, length-padded}
 use Rattle.pk_segfmt.specs.declared.found.Head.{Head}
 use Rattle.pk_segfmt.specs.declared.found.BadHead.{BadHead}
 use Rattle.pk_segfmt.specs.Head.{value_magic, IsHead, head_checks, head_fault}

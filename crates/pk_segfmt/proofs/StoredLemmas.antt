@@ -144,7 +144,8 @@ value_found shape at key place value is head full e =
     let own = behind_head (value_from shape at place.page front (32 + place.len) n) value e in
     let found = text_found shape at full n place.page front own.text (32 + place.len) (charge_room shape place.len is) own.found in
     let starts = found.starts (charge_some shape is place.len) in
-    let parts : own.text ≡ front ++ value = head_and_value shape.page_bytes front own.text value (length-head_bytes key place.len head.is_key) (omega arith) (omega (arith, found.len)) starts own.behind in
+    let parts : own.text ≡ front ++ value = head_and_value shape.page_bytes front own.text value
+    (length-head_bytes key place.len head.is_key) (omega arith) (omega (arith, found.len)) starts own.behind in
     let len : length value ≡ place.len = omega (arith, ap length parts, length-append front value, length-head_bytes key place.len head.is_key, found.len) in (
       len,
       λ i less.

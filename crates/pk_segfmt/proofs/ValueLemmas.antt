@@ -1,6 +1,6 @@
 -- The pages that a value has are the pages in which the reading of a flash finds it.
 use Rattle.std.proofs.Common.{◌≡◌, ℕ, zero, suc, ◌+◌, ◌-◌, ◌*◌, ◌<◌, ◌≤◌, Bool, true, false, List, [], ◌∷◌, ◌++◌, length, take, drop, refl, sym, ap, ◌∙◌, arith, length-append, length-drop}
-use Rattle.std.specs.Prelude.{min, nat_eq, ◌==◌, ◌&&◌, Result, Ok, Err}
+use Rattle.std.specs.Prelude.{min, nat_eq, ◌==◌, Result, Ok, Err}
 use Rattle.std.specs.List.{list_all, starts_with}
 use Rattle.std.proofs.lemmas.Bool.Decides.{Decides-eqb, nat_tests}
 use Rattle.std.proofs.lemmas.Slice.Eq.{starts_is}
@@ -13,6 +13,7 @@ use Rattle.pk_base.proofs.Tables.{length-padded}
 use Rattle.pk_segfmt.specs.Value.{value_page, value_from}
 use Rattle.pk_segfmt.specs.Stored.{AreFull}
 use Rattle.pk_segfmt.proofs.PageLemmas.{drop_past, take_past}
+use Rattle.pk_base.proofs.Logic.{both_true}
 
 -- ---- the tests of the reading
 
@@ -26,10 +27,6 @@ front_starts xs front e = (starts_is Decides-eqb xs front (starts_with nat_eq xs
 zeros_pass : (n : ℕ) → list_all (λ b. b == 0) (zeros n) ≡ true
 zeros_pass zero = refl
 zeros_pass (suc n) = zeros_pass n
-
-both_true : (a b : Bool) → (a && b) ≡ true → (a ≡ true) × (b ≡ true)
-both_true true b e = (refl, e)
-both_true false b e = cc
 
 pass_zeros : (xs : List ℕ) → list_all (λ b. b == 0) xs ≡ true → xs ≡ zeros (length xs)
 pass_zeros [] e = refl
@@ -177,5 +174,6 @@ text_found shape at full (suc n) page front ys left room e =
         record {
           starts = λ some. ap (λ (r : List ℕ). starts_with nat_eq r front) (sym own.0) ∙ passed.starts;
           len = own.2;
-          each = each_more shape at n page ys (is ∙ ap whole own.0) (λ (k : ℕ) (less : k < n). more.each k less ∙ ap (λ (r : List ℕ). whole (cut shape.page_bytes (drop (k * shape.page_bytes) r))) own.1);
+          each = each_more shape at n page ys (is ∙ ap whole own.0)
+              (λ (k : ℕ) (less : k < n). more.each k less ∙ ap (λ (r : List ℕ). whole (cut shape.page_bytes (drop (k * shape.page_bytes) r))) own.1);
         }

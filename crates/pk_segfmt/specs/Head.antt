@@ -1,7 +1,8 @@
 -- The head of a value: what it holds, and the first field that is wrong.
 use Rattle.std.specs.Prelude.{ℕ, ◌+◌, ◌-◌, ◌≤◌, List, [], ◌∷◌, slice_index, ◌==◌, ◌&&◌, nat_le, nat_lt, Option}
 use Rattle.pk_base.specs.declared.sizes.TheConstants.{KEY_BYTES, MOST_SPACES}
-use Rattle.pk_base.specs.Fields.{number_at, field, unlike, unless, first_fault, zeros}
+use Rattle.pk_base.specs.Fields.{number_at, field, zeros}
+use Rattle.pk_base.specs.FieldFaults.{unlike, unless, first_fault}
 use Rattle.pk_base.specs.Shape.{Shape, greatest}
 use Rattle.pk_base.specs.Key.{Key, IsKey}
 use Rattle.pk_segfmt.specs.declared.heads.TheConstants.{KIND}

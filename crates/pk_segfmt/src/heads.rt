@@ -1,7 +1,8 @@
 //! The head before a value.
 ghost use Rattle.std.specs.Prelude.{◌≡◌, ◌≤◌, List, ℕ, length, take, nat_le, IfOk, IfErr, MatchResult, Ok, Some, None};
 ghost use Rattle.pk_base.specs.declared.sizes.TheConstants.{HEAD_BYTES};
-ghost use Rattle.pk_base.specs.Fields.{Finds, number_at};
+ghost use Rattle.pk_base.specs.Fields.{number_at};
+ghost use Rattle.pk_base.specs.FieldFaults.{Finds};
 ghost use Rattle.pk_base.specs.EntryBytes.{cell_key};
 ghost use Rattle.pk_base.specs.Shape.{IsShape, greatest};
 ghost use Rattle.pk_segfmt.specs.Value.{head_bytes};

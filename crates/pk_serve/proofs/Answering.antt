@@ -75,7 +75,8 @@ differ_from_success e x = omega arith
 -- the reply of the definition is no unrecovered read error
 pub reply_other : (shape : Shape) (most frames : ℕ) (m : Map) (own : List ℕ) (c : Command) → (reply shape most frames m own c).status ≢ 0x88
 unfolding reply
-reply_other shape most frames m own c = by (refused shape most m c) refl (first_other (early shape c) (late_of shape most m c (op_of c.opcode)) (fault_other shape c (op_of c.opcode)) (late_other shape most m c (op_of c.opcode)))
+reply_other shape most frames m own c = by (refused shape most m c) refl
+    (first_other (early shape c) (late_of shape most m c (op_of c.opcode)) (fault_other shape c (op_of c.opcode)) (late_other shape most m c (op_of c.opcode)))
   where
     by : (o : Option ℕ) → refused shape most m c ≡ o → Other o → (reply shape most frames m own c).status ≢ 0x88
     by (Some s) e h = rw e (λ x. h (ap (λ n. Some n) x))

@@ -24,7 +24,8 @@ few_made most b c f =
     omega (arith, reads, programs, erases, few, f.reads, f.programs, f.erases)
 
 -- a command on a board of this shape
-pub command_calls : (shape : Shape) (b c : BoardState) (opcode size : ℕ) → b.shape ≡ Some shape → FewCalls (most_calls_of (shape_of b) opcode size) b c → calls_of c ≤ calls_of b + most_calls_of shape opcode size
+pub command_calls : (shape : Shape) (b c : BoardState) (opcode size : ℕ) → b.shape ≡ Some shape
+    → FewCalls (most_calls_of (shape_of b) opcode size) b c → calls_of c ≤ calls_of b + most_calls_of shape opcode size
 command_calls shape b c opcode size has f =
     let T : Shape → Type 0 = λ s. FewCalls (most_calls_of s opcode size) b c in
     few_made (most_calls_of shape opcode size) b c (subst T (ap shape_or_none has) f)

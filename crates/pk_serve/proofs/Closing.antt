@@ -1,4 +1,4 @@
--- The end of a run, and what it of the whole.
+-- The end of a run, and what it says of the whole run.
 use Rattle.std.proofs.Common.{◌≡◌, ◌≢◌, ◌⊎◌, inl, inr, ℕ, ◌≤◌, ◌+◌, List, [], ◌∷◌, ◌++◌, length, refl, sym, ◌∙◌, ap, subst, arith, append-nil, append_assoc, Option, Some, None, Ok}
 use Rattle.pk_base.specs.Shape.{Shape}
 use Rattle.pk_base.specs.Entry.{Entry}
@@ -16,7 +16,8 @@ use Rattle.pk_model.specs.Growth.{Goes}
 use Rattle.pk_model.specs.Wear.{is_worn, roots}
 use Rattle.pk_model.proofs.Growing.{Goes-reaches, weaken_went}
 use Rattle.pk_serve.specs.Ends.{IsFault}
-use Rattle.pk_serve.specs.Serving.{Serving, Answered, KeptAt, installs, Flushed, ServingBroken}
+use Rattle.pk_serve.specs.Serving.{Serving, KeptAt, Flushed, ServingBroken}
+use Rattle.pk_serve.specs.Answered.{Answered, installs}
 use Rattle.pk_model.specs.Kept.{rise}
 use Rattle.pk_serve.specs.Input.{Spells, IsPart, script_after}
 use Rattle.pk_serve.specs.Loop.{Finished, Failed, Finish, Ends}
@@ -51,8 +52,22 @@ module _ (shape : Shape) (frames : ℕ) (start : Map) (a b c : BoardState) (d e 
   pub Finish-closed : (end : End) → Flushed b c d e held → is_worn c ≡ is_worn b → (IsFault end → ⊥) → Finish shape frames start a b d held end → Finish shape frames start a c e [] end
   unfolding closed
   Finish-closed Done flushed worn sound f = record { finished = closed [] flushed f.finished; at_end = subst AtEnd (sym input) f.at_end; same = in_faults ∙ f.same }
-  Finish-closed Truncated flushed worn sound f = record { part = f.part; some = f.some; is_part = f.is_part; finished = closed f.part flushed f.finished; goes_on = (f.goes_on.0, worn ∙ f.goes_on.1); at_end = subst AtEnd (sym input) f.at_end; same = in_faults ∙ f.same }
-  Finish-closed Input flushed worn sound f = record { part = f.part; is_part = f.is_part; finished = closed f.part flushed f.finished; goes_on = λ z. ((f.goes_on z).0, worn ∙ (f.goes_on z).1); rose = (let T : ℕ → Type 0 = λ k. Rose a.in_faults k in subst T (sym in_faults) f.rose) }
+  Finish-closed Truncated flushed worn sound f = record {
+    part = f.part;
+    some = f.some;
+    is_part = f.is_part;
+    finished = closed f.part flushed f.finished;
+    goes_on = (f.goes_on.0, worn ∙ f.goes_on.1);
+    at_end = subst AtEnd (sym input) f.at_end;
+    same = in_faults ∙ f.same;
+  }
+  Finish-closed Input flushed worn sound f = record {
+    part = f.part;
+    is_part = f.is_part;
+    finished = closed f.part flushed f.finished;
+    goes_on = λ z. ((f.goes_on z).0, worn ∙ (f.goes_on z).1);
+    rose = (let T : ℕ → Type 0 = λ k. Rose a.in_faults k in subst T (sym in_faults) f.rose);
+  }
   Finish-closed Worn flushed worn sound f = record {
     part = f.part;
     some = f.some;
@@ -178,7 +193,8 @@ module _ (shape : Shape) (frames : ℕ) (start : Map) (a b : BoardState) (d : Si
     at_end_of left e h = subst AtEnd e h
 
     -- what was answered of these commands is so of the script
-    answered_script : (cs : List Command) (bytes part : List ℕ) → Spells bytes cs → a.input ≡ put_back (bytes ++ part) b.input → Answered shape frames start a b cs → Answered shape frames start a b (script input).0
+    answered_script : (cs : List Command) (bytes part : List ℕ) → Spells bytes cs → a.input ≡ put_back (bytes ++ part) b.input
+        → Answered shape frames start a b cs → Answered shape frames start a b (script input).0
     answered_script cs bytes part spells e answered =
         let i = input_of (bytes ++ part) e in
         let s : (script input).0 ≡ cs ++ (script (part ++ i.0)).0 = ap (λ r. r.0) (script_is bytes part i.0 input cs spells i.2) in
@@ -191,14 +207,21 @@ module _ (shape : Shape) (frames : ℕ) (start : Map) (a b : BoardState) (d : Si
     served_by Done (inr none) x =
         let f = x.finished in
         let i = input_of (f.bytes ++ []) f.input in
-        let e : script input ≡ (commands f.all, []) = script_of (commands f.all) [] ([] ++ i.0) (script input) (script_is f.bytes [] i.0 input (commands f.all) f.spells i.2) (at_end_of i.0 i.1 x.at_end) script_none in
+        let e : script input ≡ (commands f.all, []) = script_of (commands f.all) [] ([] ++ i.0) (script input)
+        (script_is f.bytes [] i.0 input (commands f.all) f.spells i.2) (at_end_of i.0 i.1 x.at_end) script_none in
         (e ∙ (λ k. ((sym e k).0, [])), served_as (commands f.all) (script input).0 (sym (ap (λ s. s.0) e)) (served_of [] f none), x.at_end, x.same)
     served_by Truncated (inl f) x = absurd f
     served_by Truncated (inr none) x =
         let f = x.finished in
         let i = input_of (f.bytes ++ x.part) f.input in
-        let e : script input ≡ (commands f.all, x.part) = script_of (commands f.all) x.part (x.part ++ i.0) (script input) (script_is f.bytes x.part i.0 input (commands f.all) f.spells i.2) (ap (λ l. x.part ++ l) (at_end_of i.0 i.1 x.at_end) ∙ append-nil x.part) x.is_part in
-        (λ z. x.some (sym (ap (λ s. s.1) e) ∙ z), (omega (arith, x.goes_on.0, ap (λ s. length s.0) e, size_of x.part f), x.goes_on.1), served_as (commands f.all) (script input).0 (sym (ap (λ s. s.0) e)) (served_of x.part f none), x.at_end, x.same)
+        let e : script input ≡ (commands f.all, x.part) = script_of (commands f.all) x.part (x.part ++ i.0) (script input)
+        (script_is f.bytes x.part i.0 input (commands f.all) f.spells i.2) (ap (λ l. x.part ++ l) (at_end_of i.0 i.1 x.at_end) ∙ append-nil x.part) x.is_part in (
+          λ z. x.some (sym (ap (λ s. s.1) e) ∙ z),
+          (omega (arith, x.goes_on.0, ap (λ s. length s.0) e, size_of x.part f), x.goes_on.1),
+          served_as (commands f.all) (script input).0 (sym (ap (λ s. s.0) e)) (served_of x.part f none),
+          x.at_end,
+          x.same,
+        )
     served_by Input (inl f) x = absurd f
     served_by Input (inr none) x =
         let f = x.finished in
@@ -269,7 +292,8 @@ module _ (shape : Shape) (frames : ℕ) (start : Map) (a b : BoardState) (d : Si
   trail_failed end f =
       let h = f.cutoff.answered in
       let C : List Command → Type 0 = λ l. calls_of b ≤ calls_of a + most_calls_of_all shape l in
-      let within : calls_of b ≤ calls_of a + most_calls_of_all shape (commands h.served ++ h.unserved) = let so_far = h.few_calls in let less = most_calls-front shape (commands h.served) h.unserved in omega (arith, so_far, less) in
+      let within : calls_of b ≤ calls_of a + most_calls_of_all shape (commands h.served ++ h.unserved) = let so_far =
+      h.few_calls in let less = most_calls-front shape (commands h.served) h.unserved in omega (arith, so_far, less) in
       record { cs = f.cs; bytes = f.bytes; part = f.part; spells = f.spells; input = f.input; went = f.cutoff.went; few_calls = subst C h.from_front within }
 
   pub trail_of : (end : End) → Finish shape frames start a b d [] end → Trail

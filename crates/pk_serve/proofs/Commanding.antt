@@ -17,14 +17,15 @@ use Rattle.pk_call.specs.Exec.{ExecStands, most_installs}
 use Rattle.pk_model.proofs.Growing.{weaken_went}
 use Rattle.pk_call.specs.Calling.{FewCalls, most_calls_of}
 use Rattle.pk_nand.specs.BoardState.{shape_of}
-use Rattle.pk_serve.specs.Serving.{Serving, Answered, Cutoff, Next, ServingBroken, Keeps, CommandServed, CommandStops, KeptAt}
+use Rattle.pk_serve.specs.Serving.{Serving, Cutoff, Next, ServingBroken, Keeps, CommandServed, CommandStops, KeptAt}
+use Rattle.pk_serve.specs.Answered.{Answered}
 use Rattle.pk_model.specs.Kept.{rise}
 use Rattle.pk_serve.specs.declared.end.End.{End}
 use Rattle.pk_serve.specs.declared.end.End.TheVariants.{Flash as FlashFailed}
 use Rattle.pk_serve.proofs.Serves.{Serving-exec, Cutoff-exec, kept-more}
 use Rattle.pk_serve.proofs.Counting.{commands-push}
 use Rattle.pk_serve.proofs.Calling.{command_calls, most_calls-more}
-use Rattle.pk_serve.proofs.Giving.{rose_from}
+use Rattle.pk_nand.proofs.Effects.{rose_from}
 
 append-some : (xs ys : List Command) → xs ≢ [] → xs ++ ys ≢ []
 append-some [] ys some e = some refl
@@ -61,7 +62,8 @@ cutoff-more shape frames start a c cs more h = record {
 }
 
 -- what is held, with nothing after it
-bare : (shape : Shape) (frames : ℕ) (start : Map) (a b : BoardState) (d : Sight) (held : List ℕ) (all : List Exchange) (m : Map) → Serving shape frames start a b d held all m → Serving shape frames start a b d (held ++ []) all m
+bare : (shape : Shape) (frames : ℕ) (start : Map) (a b : BoardState) (d : Sight) (held : List ℕ) (all : List Exchange) (m : Map)
+    → Serving shape frames start a b d held all m → Serving shape frames start a b d (held ++ []) all m
 bare shape frames start a b d held all m w = let T : List ℕ → Type 0 = λ t. Serving shape frames start a b d t all m in subst T (sym (append-nil held)) w
 
 -- it fails before the command
@@ -75,12 +77,16 @@ module _ (b c f : BoardState) (d e : Sight) (held now_held : List ℕ) (taken : 
   pub stops_in : CallGoes c f e (command cmd) → c.read_faults ≤ f.read_faults → (reads : ℕ) → f.reads ≡ reads_after c.reads reads → Rose c.stop_faults f.stop_faults
       → FewCalls (most_calls_of (shape_of c) cmd.opcode cmd.size) c f → CommandStops b f d held taken FlashFailed cmd
   stops_in went up reads read rose calls shape frames start a all m size w =
-      let v = keeps shape frames start a all m w in
-      (Cutoff-exec shape frames start a c e now_held all m v f cmd (went shape frames m v.stands) up reads read (command_calls shape c f cmd.opcode cmd.size v.stands.shape_is calls), rose_from v.no_faults.stop rose)
+      let v = keeps shape frames start a all m w in (
+        Cutoff-exec shape frames start a c e now_held all m v f cmd (went shape frames m v.stands) up reads read
+            (command_calls shape c f cmd.opcode cmd.size v.stands.shape_is calls),
+        rose_from v.no_faults.stop rose,
+      )
 
   module _ (g : Sight) (rep : Reply) (reads count : ℕ) (one : count ≡ taken + 1) (reaches : CallReaches c f e (command cmd)) (stands : ExecStands c f e g cmd rep reads) (rest : OnlyFlash c f)
       (up : c.read_faults ≤ f.read_faults) (unread : rep.status ≡ 0x88 → Rose c.read_faults f.read_faults) (sound : rep.status ≢ 0x88 → f.read_faults ≡ c.read_faults)
-      (no_stop : f.stop_faults ≡ c.stop_faults) (read : f.reads ≡ reads_after c.reads reads) (unworn : roots c < 9223372036854775808) (few_roots : roots f ≤ roots c + most_installs cmd.opcode cmd.size)
+      (no_stop : f.stop_faults ≡ c.stop_faults) (read : f.reads ≡ reads_after c.reads reads)
+      (unworn : roots c < 9223372036854775808) (few_roots : roots f ≤ roots c + most_installs cmd.opcode cmd.size)
       (calls : FewCalls (most_calls_of (shape_of c) cmd.opcode cmd.size) c f) where
     executed : (shape : Shape) (frames : ℕ) (start : Map) (a : BoardState) (all : List Exchange) (m : Map) → taken ≡ length all → Serving shape frames start a b d held all m
         → Next shape frames start a f g (now_held ++ reply_record count cmd.cid rep reads) all m cmd
@@ -88,7 +94,8 @@ module _ (b c f : BoardState) (d e : Sight) (held now_held : List ℕ) (taken : 
         let v = keeps shape frames start a all m w in
         let T : ℕ → Type 0 = λ n. Next shape frames start a f g (now_held ++ reply_record n cmd.cid rep reads) all m cmd in
         let e' : suc taken ≡ count = omega arith in
-        subst T e' (Serving-exec shape frames start a c e now_held all m v f g cmd rep reads taken size (reaches shape frames m v.stands) (stands shape frames m v.stands) rest up unread sound no_stop read unworn few_roots (command_calls shape c f cmd.opcode cmd.size v.stands.shape_is calls))
+        subst T e' (Serving-exec shape frames start a c e now_held all m v f g cmd rep reads taken size (reaches shape frames m v.stands)
+        (stands shape frames m v.stands) rest up unread sound no_stop read unworn few_roots (command_calls shape c f cmd.opcode cmd.size v.stands.shape_is calls))
 
     pub serves_all : (h : BoardState) (i : Sight) (last : List ℕ) → Keeps f h g i (now_held ++ reply_record count cmd.cid rep reads) last → CommandServed b h d i held last taken cmd
     serves_all h i last more shape frames start a all m size w =

@@ -1,5 +1,6 @@
 -- If nothing fails, the whole script is served.
-use Rattle.std.proofs.Common.{◌≡◌, ◌≢◌, ◌⊎◌, inl, inr, ℕ, zero, suc, ◌+◌, ◌-◌, ◌*◌, ◌≤◌, ◌<◌, List, [], ◌∷◌, ◌++◌, length, refl, sym, ◌∙◌, ap, subst, arith, length-append, Some, None, Bool, true, false, ◌==◌, if◌then◌else◌, nat_le, Ok}
+use Rattle.std.proofs.Common.{◌≡◌, ◌≢◌, ◌⊎◌, inl, inr, ℕ, zero, suc, ◌+◌, ◌-◌, ◌*◌, ◌≤◌, ◌<◌, List, [], ◌∷◌, ◌++◌, length, refl, sym, ◌∙◌, ap, subst, arith, length-append, Some, None, Bool, true}
+use Rattle.std.proofs.Common.{false, ◌==◌, if◌then◌else◌, nat_le, Ok}
 use Rattle.std.proofs.lemmas.Bool.Decides.{nat_tests}
 use Rattle.std.specs.List.{FoldsTo}
 use Rattle.pk_base.specs.Shape.{Shape, limit}
@@ -19,7 +20,7 @@ use Rattle.pk_model.specs.Kept.{AtMost, rise}
 use Rattle.pk_model.specs.Sight.{Sight}
 use Rattle.pk_call.specs.Exec.{most_installs, most_store_roots}
 use Rattle.pk_model.specs.Wear.{is_worn, roots}
-use Rattle.pk_serve.specs.Serving.{installs}
+use Rattle.pk_serve.specs.Answered.{installs}
 use Rattle.pk_serve.specs.Run.{Served}
 use Rattle.pk_serve.specs.Complete.{ticks, Complete, IsServable, RunCompletes}
 use Rattle.pk_serve.specs.declared.end.End.{End}
@@ -122,7 +123,8 @@ module _ (shape : Shape) (frames : ℕ) (start : Map) (a b : BoardState) (d : Si
       let n : length (script input).0 ≡ length cs + length (script (part ++ left)).0 = ap (λ s. length s.0) e ∙ length-append cs (script (part ++ left)).0 in
       by (script (part ++ left)).0 refl whole n
     where
-      by : (more : List Command) → (script (part ++ left)).0 ≡ more → (script (part ++ left)).1 ≡ [] → length (script input).0 ≡ length cs + length (script (part ++ left)).0 → length cs + 1 ≤ length (script input).0
+      by : (more : List Command) → (script (part ++ left)).0 ≡ more → (script (part ++ left)).1 ≡ []
+          → length (script input).0 ≡ length cs + length (script (part ++ left)).0 → length cs + 1 ≤ length (script input).0
       by [] none whole n = absurd (some (front_none part left (sym (nothing_in (part ++ left) none) ∙ whole)))
       by (c ∷ more) is_more whole n = omega (arith, n, ap (λ l. length l) is_more)
 

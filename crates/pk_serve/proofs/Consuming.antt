@@ -7,7 +7,7 @@ use Rattle.pk_model.specs.Wear.{is_worn}
 use Rattle.pk_serve.specs.Ends.{IsFault}
 use Rattle.pk_serve.specs.Input.{InputAdvances, NoEntry, Quits}
 use Rattle.pk_nand.specs.Calls.{put_back, AtEnd}
-use Rattle.pk_serve.specs.Loop.{most_entries}
+use Rattle.pk_serve.specs.Further.{most_entries}
 use Rattle.pk_serve.specs.Script.{Consumed, Consumes, SaysOfScript}
 use Rattle.pk_serve.specs.declared.end.End.{End}
 use Rattle.pk_serve.specs.declared.end.End.TheVariants.{Done, Truncated, Input, Output, Flash, Worn}

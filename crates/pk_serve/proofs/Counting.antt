@@ -1,5 +1,6 @@
 -- Counts of faults, and lists of exchanges that grow by one.
-use Rattle.std.proofs.Common.{◌≢◌, ◌⊎◌, inl, inr, ◌≡◌, ℕ, suc, ◌+◌, ◌-◌, ◌≤◌, ◌<◌, List, [], ◌∷◌, ◌++◌, length, Option, Some, None, refl, sym, ◌∙◌, ap, arith, append_assoc, append-nil, Bool, true, false, ◌==◌, if◌then◌else◌, nat_le}
+use Rattle.std.proofs.Common.{◌≢◌, ◌⊎◌, inl, inr, ◌≡◌, ℕ, suc, ◌+◌, ◌-◌, ◌≤◌, ◌<◌, List, [], ◌∷◌, ◌++◌, length, Option, Some, None, refl, sym, ◌∙◌, ap, arith, append_assoc, append-nil, Bool, true}
+use Rattle.std.proofs.Common.{false, ◌==◌, if◌then◌else◌, nat_le}
 use Rattle.std.proofs.lemmas.Bool.Decides.{nat_tests}
 use Rattle.pk_nand.specs.Calls.{Rose}
 use Rattle.pk_nvme.specs.Reply.{reply_record}
@@ -8,7 +9,7 @@ use Rattle.pk_model.specs.Run.{Exchange, commands, records, faults}
 use Rattle.pk_nand.specs.BoardState.{BoardState}
 use Rattle.pk_call.specs.Meter.{Meter, MeteredAll}
 use Rattle.pk_model.specs.Wear.{is_worn, roots}
-use Rattle.pk_serve.specs.Serving.{installs}
+use Rattle.pk_serve.specs.Answered.{installs}
 
 pub at_most-zero : (n : Option ℕ) → AtMost n 0
 at_most-zero None = tt

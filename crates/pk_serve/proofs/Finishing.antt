@@ -27,7 +27,8 @@ record_is count cid o into entry head is_entry is_head fits =
     ∙ ap (λ t. completion cid count o.status o.result ++ t) (append_assoc (u32 o.reads) (u32 o.data_len) (take o.data_len into)))))
 
 -- the record is held
-pub keeps_held : (b : BoardState) (d : Sight) (heads now_heads : List (List ℕ)) (head more : List ℕ) → more ≡ [] → now_heads ≡ heads ++ head ∷ [] → Keeps b b d d (bytes_of heads ++ (head ++ more)) (bytes_of now_heads)
+pub keeps_held : (b : BoardState) (d : Sight) (heads now_heads : List (List ℕ)) (head more : List ℕ) → more ≡ []
+    → now_heads ≡ heads ++ head ∷ [] → Keeps b b d d (bytes_of heads ++ (head ++ more)) (bytes_of now_heads)
 keeps_held b d heads now_heads head more none is shape frames start a all m w =
     let T : List ℕ → Type 0 = λ t. Serving shape frames start a b d t all m in
     let e : bytes_of heads ++ (head ++ more) ≡ bytes_of now_heads =

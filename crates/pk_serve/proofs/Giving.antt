@@ -3,7 +3,8 @@ use Rattle.std.proofs.Common.{◌≡◌, ℕ, List, [], ◌++◌, refl, sym, sub
 use Rattle.pk_base.specs.Shape.{Shape}
 use Rattle.pk_base.specs.Map.{Map}
 use Rattle.pk_nand.specs.BoardState.{BoardState}
-use Rattle.pk_nand.specs.Calls.{Rose, after_post, PostFailed}
+use Rattle.pk_nand.specs.Calls.{Rose}
+use Rattle.pk_nand.specs.Operations.{after_post, PostFailed}
 use Rattle.pk_model.specs.Run.{Exchange}
 use Rattle.pk_model.specs.Sight.{Sight}
 use Rattle.pk_nand.specs.Effects.{OnlyFlash}
@@ -17,9 +18,7 @@ use Rattle.pk_serve.specs.declared.end.End.{End}
 use Rattle.pk_serve.specs.declared.end.End.TheVariants.{Output, Flash}
 use Rattle.pk_serve.proofs.Calling.{commit_calls}
 use Rattle.pk_serve.proofs.Serves.{Serving-commit, Cutoff-commit, Serving-post, Cutoff-post}
-
-pub rose_from : {a b c : ℕ} → b ≡ a → Rose b c → Rose a c
-rose_from {a} {b} {c} e h = let T : ℕ → Type 0 = λ n. Rose n c in subst T e h
+use Rattle.pk_nand.proofs.Effects.{rose_from}
 
 -- ---- posts
 
@@ -66,7 +65,8 @@ module _ (b c : BoardState) (drive after : Sight) (reaches : CallReaches b c dri
   committed shape frames start a unposted all m w =
       let calls = commit_calls b c drive.pending idle (programs shape frames m w.stands) in
       let nothing = ap owed none in
-      Serving-commit shape frames start a b drive unposted all m w c after (reaches shape frames m w.stands) (stands shape frames m w.stands) rest reading no_stop read same (omega (arith, calls, nothing))
+      Serving-commit shape frames start a b drive unposted all m w c after (reaches shape frames m w.stands)
+      (stands shape frames m w.stands) rest reading no_stop read same (omega (arith, calls, nothing))
 
   pub flushes : (d : BoardState) (heads : List ℕ) → Posts c d heads → Flushed b d drive after heads
   flushes d heads posts shape frames start a behind all m w = posts after none shape frames start a behind all m (committed shape frames start a (heads ++ behind) all m w)

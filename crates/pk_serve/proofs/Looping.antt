@@ -12,7 +12,8 @@ use Rattle.pk_model.specs.Wear.{is_worn}
 use Rattle.pk_serve.specs.Ends.{IsFault}
 use Rattle.pk_serve.specs.Serving.{Serving}
 use Rattle.pk_serve.specs.Input.{Spells, InputAdvances, InputFails, NoEntry, Quits}
-use Rattle.pk_serve.specs.Loop.{Looping, Finished, Failed, Finish, most_entries}
+use Rattle.pk_serve.specs.Loop.{Looping, Finished, Failed, Finish}
+use Rattle.pk_serve.specs.Further.{most_entries}
 use Rattle.pk_nand.specs.Calls.{put_back}
 use Rattle.pk_serve.specs.declared.end.End.{End}
 use Rattle.pk_serve.specs.declared.end.End.TheVariants.{Done, Truncated, Input, Output, Flash, Worn}
@@ -20,7 +21,8 @@ use Rattle.pk_serve.proofs.Serves.{Serving-start, Serving-inputs}
 use Rattle.pk_serve.proofs.Scripts.{taken-append, put_back-nil, Spells-none, Spells-append}
 use Rattle.pk_serve.proofs.Counting.{commands-push}
 
-pub Looping-start : (shape : Shape) (frames : ℕ) (start : Map) (a : BoardState) (drive : Sight) (held : List ℕ) → held ≡ [] → HoldsMap shape frames a drive start → drive.pending ≡ [] → Looping shape frames start a a drive held 0
+pub Looping-start : (shape : Shape) (frames : ℕ) (start : Map) (a : BoardState) (drive : Sight) (held : List ℕ)
+    → held ≡ [] → HoldsMap shape frames a drive start → drive.pending ≡ [] → Looping shape frames start a a drive held 0
 Looping-start shape frames start a drive held empty stands none =
     let T : List ℕ → Type 0 = λ t. Serving shape frames start a a drive t [] start in
     record {
@@ -89,7 +91,8 @@ module _ (shape : Shape) (frames : ℕ) (start : Map) (a b c : BoardState) (d e 
   both_fields p = p ∙ ap (λ (k : ℕ). record b { input = c.input; in_faults = k }) (sym (ap (λ s. s.in_faults) p))
 
   -- nothing was left open if the input ends
-  pub none_taken : (no_more : Bool) (why : no_more ≡ true → (taken ≡ most_entries) ⊎ (is_worn b ≡ true)) (go : no_more ≡ false → (taken < most_entries) × (is_worn b ≡ false)) (end : End) → b.in_faults ≡ a.in_faults → e ≡ d → now_held ≡ held → NoEntry b c no_more end → Finish shape frames start a c e now_held end
+  pub none_taken : (no_more : Bool) (why : no_more ≡ true → (taken ≡ most_entries) ⊎ (is_worn b ≡ true)) (go : no_more ≡ false → (taken < most_entries) × (is_worn b ≡ false)) (end : End)
+      → b.in_faults ≡ a.in_faults → e ≡ d → now_held ≡ held → NoEntry b c no_more end → Finish shape frames start a c e now_held end
   unfolding finished
   none_taken no_more why go Done same sd sh n = record { finished = finished [] n.left.input n.left.rest sd sh; at_end = n.at_end; same = n.same ∙ same }
   none_taken no_more why go Truncated same sd sh k = let n = k.0 in let f = go k.1 in record {

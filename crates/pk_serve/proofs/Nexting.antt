@@ -30,7 +30,8 @@ value_size entry r parsed =
     sym (λ k. if opcode k == 0x01 then size k else 0)
 
 module _ (a m b : BoardState) (before : Sight) (same : m ≡ record a { input = m.input }) where
-  serving_too : (shape : Shape) (frames : ℕ) (start : Map) (s : BoardState) (held : List ℕ) (all : List Exchange) (map : Map) → Serving shape frames start s a before held all map → Serving shape frames start s m before held all map
+  serving_too : (shape : Shape) (frames : ℕ) (start : Map) (s : BoardState) (held : List ℕ) (all : List Exchange) (map : Map)
+      → Serving shape frames start s a before held all map → Serving shape frames start s m before held all map
   serving_too shape frames start s held all map w =
       let T : BoardState → Type 0 = λ x. Serving shape frames start s x before held all map in
       subst T (sym same) (Serving-inputs shape frames start s a before held all map w m.input a.in_faults)
@@ -46,7 +47,8 @@ module _ (a m n : BoardState) (entry : List ℕ) (entered : Entered a m entry) (
     taken_all : a.input ≡ put_back (entry ++ valued.value) b.input
     taken_all = taken-append a.input m.input n.input entry valued.value entered.input valued.input ∙ ap (put_back (entry ++ valued.value)) (sym same)
 
-    pub InputAdvances-one : (after : Sight) (now_held : List ℕ) → ((v : List ℕ) → IsValue shape r.opcode r.size handed v → CommandServed n b before after held now_held taken (command_seen r v)) → InputAdvances a b before after held now_held taken
+    pub InputAdvances-one : (after : Sight) (now_held : List ℕ)
+        → ((v : List ℕ) → IsValue shape r.opcode r.size handed v → CommandServed n b before after held now_held taken (command_seen r v)) → InputAdvances a b before after held now_held taken
     InputAdvances-one after now_held serves = record {
       bytes = entry ++ valued.value;
       c = command_seen r valued.value;
@@ -55,7 +57,8 @@ module _ (a m n : BoardState) (entry : List ℕ) (entered : Entered a m entry) (
       serves = serves_too a n b before (input_too a m n entered.rest valued.rest) after held now_held taken (command_seen r valued.value) (serves valued.value valued.is_value);
     }
 
-    pub InputFails-one : (end : End) → IsFault end → ((v : List ℕ) → IsValue shape r.opcode r.size handed v → CommandStops n b before held taken end (command_seen r v)) → InputFails a b before held taken end
+    pub InputFails-one : (end : End) → IsFault end
+        → ((v : List ℕ) → IsValue shape r.opcode r.size handed v → CommandStops n b before held taken end (command_seen r v)) → InputFails a b before held taken end
     InputFails-one end fault stops = record {
       bytes = entry ++ valued.value;
       c = command_seen r valued.value;

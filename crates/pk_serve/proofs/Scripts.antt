@@ -1,5 +1,6 @@
 -- Scripts taken command by command.
-use Rattle.std.proofs.Common.{◌≡◌, ℕ, zero, suc, ◌+◌, ◌-◌, ◌≤◌, ◌<◌, List, [], ◌∷◌, ◌++◌, length, take, drop, refl, sym, ◌∙◌, ap, arith, append_assoc, Option, Some, None, length-append, length-drop, Bool, true, false, if◌then◌else◌, nat_le, ◌&&◌, ◌==◌}
+use Rattle.std.proofs.Common.{◌≡◌, ℕ, zero, suc, ◌+◌, ◌-◌, ◌≤◌, ◌<◌, List, [], ◌∷◌, ◌++◌, length, take, drop, refl, sym, ◌∙◌, ap, arith, append_assoc, Option, Some, None, length-append, length-drop}
+use Rattle.std.proofs.Common.{Bool, true, false, if◌then◌else◌, nat_le, ◌&&◌, ◌==◌}
 use Rattle.std.proofs.lemmas.Bool.Decides.{nat_tests}
 use Rattle.std.proofs.lemmas.List.{drop_at, take_at, drop-append-le, get_or_append_left}
 use Rattle.std.proofs.Common.{get_or, ◌*◌}
@@ -30,7 +31,8 @@ enough (suc n) zero [] hn hm = refl
 enough (suc n) zero (x ∷ xs) hn hm = absurd (omega arith)
 enough (suc n) (suc m) bytes hn hm =
     let few : length (drop (64 + value_follows bytes) bytes) ≤ length bytes - 64 = omega (arith, length-drop (64 + value_follows bytes) bytes) in
-    let same : commands_in n (drop (64 + value_follows bytes) bytes) ≡ commands_in m (drop (64 + value_follows bytes) bytes) = enough n m (drop (64 + value_follows bytes) bytes) (omega arith) (omega arith) in
+    let same : commands_in n (drop (64 + value_follows bytes) bytes) ≡ commands_in m
+    (drop (64 + value_follows bytes) bytes) = enough n m (drop (64 + value_follows bytes) bytes) (omega arith) (omega arith) in
     ap (λ rest. if begins_whole bytes then (first_command bytes ∷ rest.0, rest.1) else ([], bytes)) same
 
 -- a whole command at the start
@@ -39,7 +41,10 @@ unfolding script
 whole bytes e =
     let rest : List ℕ = drop (64 + value_follows bytes) bytes in
     enough (length bytes) (suc (length bytes)) bytes (omega arith) (omega arith)
-    ∙ (ap (λ b. if b then (first_command bytes ∷ (commands_in (length bytes) (drop (64 + value_follows bytes) bytes)).0, (commands_in (length bytes) (drop (64 + value_follows bytes) bytes)).1) else ([], bytes)) e
+    ∙ (ap (λ b. if b then (
+      first_command bytes ∷ (commands_in (length bytes) (drop (64 + value_follows bytes) bytes)).0,
+      (commands_in (length bytes) (drop (64 + value_follows bytes) bytes)).1,
+    ) else ([], bytes)) e
     ∙ ap (λ r. script_after (first_command bytes ∷ []) r)
     (enough (length bytes) (length (drop (64 + value_follows bytes) bytes)) (drop (64 + value_follows bytes) bytes) (omega (arith, length-drop (64 + value_follows bytes) bytes)) (omega arith)))
 
@@ -48,7 +53,10 @@ pub part_of : (bytes : List ℕ) → begins_whole bytes ≡ false → IsPart byt
 unfolding script
 part_of bytes e =
     enough (length bytes) (suc (length bytes)) bytes (omega arith) (omega arith)
-    ∙ ap (λ b. if b then (first_command bytes ∷ (commands_in (length bytes) (drop (64 + value_follows bytes) bytes)).0, (commands_in (length bytes) (drop (64 + value_follows bytes) bytes)).1) else ([], bytes)) e
+    ∙ ap (λ b. if b then (
+      first_command bytes ∷ (commands_in (length bytes) (drop (64 + value_follows bytes) bytes)).0,
+      (commands_in (length bytes) (drop (64 + value_follows bytes) bytes)).1,
+    ) else ([], bytes)) e
 
 pub Spells-none : Spells [] []
 Spells-none left = refl
@@ -88,7 +96,8 @@ module _ (entry v left : List ℕ) (size : length entry ≡ 64) (count : length 
   begins =
       let e = behind_entry in
       let n : length ((entry ++ v) ++ left) ≡ 64 + value_follows entry + length left = omega (arith, length-append (entry ++ v) left, length-append entry v) in
-      both (nat_le 64 (length ((entry ++ v) ++ left))) (nat_le (64 + value_follows ((entry ++ v) ++ left)) (length ((entry ++ v) ++ left))) (grind (arith, nat_tests, n)) (grind (arith, nat_tests, n, e))
+      both (nat_le 64 (length ((entry ++ v) ++ left))) (nat_le (64 + value_follows ((entry ++ v) ++ left)) (length ((entry ++ v) ++ left)))
+      (grind (arith, nat_tests, n)) (grind (arith, nat_tests, n, e))
 
   first_is : first_command ((entry ++ v) ++ left) ≡ command entry v
   first_is =

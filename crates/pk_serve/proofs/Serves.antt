@@ -1,5 +1,6 @@
 -- The steps of serving: what was kept is kept.
-use Rattle.std.proofs.Common.{◌≡◌, ◌≢◌, ◌⊎◌, inl, inr, ℕ, suc, ◌+◌, ◌≤◌, ◌<◌, List, [], ◌∷◌, ◌++◌, length, take, Option, Some, None, Ok, refl, sym, ◌∙◌, ap, subst, arith, append_assoc, append-nil, replicate}
+use Rattle.std.proofs.Common.{◌≡◌, ◌≢◌, ◌⊎◌, inl, inr, ℕ, suc, ◌+◌, ◌≤◌, ◌<◌, List, [], ◌∷◌, ◌++◌, length, take, Option, Some, None, Ok, refl, sym, ◌∙◌, ap, subst, arith, append_assoc, append-nil}
+use Rattle.std.proofs.Common.{replicate}
 use Rattle.std.proofs.lemmas.Fn.{FoldsTo-push}
 use Rattle.pk_base.specs.Shape.{Shape, limit, commit_programs}
 use Rattle.pk_base.specs.Page.{Flash}
@@ -9,7 +10,8 @@ use Rattle.pk_base.specs.Map.{Map}
 use Rattle.pk_nvme.specs.Command.{Command}
 use Rattle.pk_nvme.specs.Reply.{Reply, reply_record}
 use Rattle.pk_nand.specs.BoardState.{BoardState}
-use Rattle.pk_nand.specs.Calls.{Rose, longer, after_post, PostFailed}
+use Rattle.pk_nand.specs.Calls.{Rose, longer}
+use Rattle.pk_nand.specs.Operations.{after_post, PostFailed}
 use Rattle.pk_nand.specs.Crash.{ReachedBy}
 use Rattle.pk_nand.proofs.Reaching.{Reached-start, Reached-post, Reached-then}
 use Rattle.pk_nand.proofs.CutLemmas.{posted-append}
@@ -28,7 +30,8 @@ use Rattle.pk_model.specs.Crashes.{CrashFinds, commit, command}
 use Rattle.pk_model.proofs.Growing.{weaken, at_end, grows_behind, Goes-then, GrowsAlong-post, Goes-post_failed}
 use Rattle.pk_call.specs.Calling.{most_calls_of}
 use Rattle.pk_serve.specs.Calling.{calls_of, owed, most_calls_of_all}
-use Rattle.pk_serve.specs.Serving.{KeptAt, Serving, Answered, Cutoff, Next, StepWithin}
+use Rattle.pk_serve.specs.Serving.{KeptAt, Serving, Cutoff, Next, StepWithin}
+use Rattle.pk_serve.specs.Answered.{Answered}
 use Rattle.pk_serve.proofs.Calling.{owed_most, most_calls-append}
 use Rattle.pk_serve.proofs.Counting.{at_most-zero, at_most-more, at_most-one, commands-push, records-push, faults-push, faults-one}
 use Rattle.pk_serve.proofs.Answering.{reply_other, answers}
@@ -86,7 +89,8 @@ module _ (shape : Shape) (frames : ℕ) (start : Map) (a b : BoardState) (drive 
   }
 
   -- a flash that holds all that was served, if a prefix of what is not posted was sent
-  kept_all : (f : Flash) → reading shape f [] ≡ Ok m → (out rest : List ℕ) → out ++ rest ≡ unposted → KeptAt shape frames start (commands all) (rise a.read_faults b.read_faults) f (all_posted w.marks ++ out)
+  kept_all : (f : Flash) → reading shape f [] ≡ Ok m → (out rest : List ℕ) → out ++ rest ≡ unposted
+      → KeptAt shape frames start (commands all) (rise a.read_faults b.read_faults) f (all_posted w.marks ++ out)
   kept_all f e out rest front = record {
     served = all;
     unserved = [];
@@ -100,7 +104,8 @@ module _ (shape : Shape) (frames : ℕ) (start : Map) (a b : BoardState) (drive 
   }
 
   -- a flash that holds the map after one more command
-  kept_next : (c : Command) (f : Flash) → reading shape f [] ≡ Ok (map_after shape (limit shape) m c) → KeptAt shape frames start (commands all ++ c ∷ []) (rise a.read_faults b.read_faults) f (all_posted w.marks)
+  kept_next : (c : Command) (f : Flash) → reading shape f [] ≡ Ok (map_after shape (limit shape) m c)
+      → KeptAt shape frames start (commands all ++ c ∷ []) (rise a.read_faults b.read_faults) f (all_posted w.marks)
   kept_next c f e =
       let x : Exchange = record { command = c; reply = reply shape (limit shape) frames m (replicate 11 0) c; reads = 0 } in
       let r : List ℕ = reply_record (suc (length all)) c.cid (reply shape (limit shape) frames m (replicate 11 0) c) 0 in
@@ -114,7 +119,8 @@ module _ (shape : Shape) (frames : ℕ) (start : Map) (a b : BoardState) (drive 
         unposted = unposted ++ r;
         begins = sym (append_assoc (all_posted w.marks) unposted r) ∙ (ap (λ t. t ++ r) w.records_are ∙ sym (records-push 0 all x (length all) (omega arith)));
         few_faults = elim (faults-one x) [
-          | inl good ↦ few_more (rise a.read_faults b.read_faults) all x 0 good.1 (let T : ℕ → Type 0 = λ k. AtMost (rise a.read_faults b.read_faults) k in let e : faults all ≡ faults all + 0 = omega arith in subst T e w.few_faults)
+          | inl good ↦ few_more (rise a.read_faults b.read_faults) all x 0 good.1
+              (let T : ℕ → Type 0 = λ k. AtMost (rise a.read_faults b.read_faults) k in let e : faults all ≡ faults all + 0 = omega arith in subst T e w.few_faults)
           | inr bad ↦ absurd (reply_other shape (limit shape) frames m (replicate 11 0) c bad.0)
         ];
       }
@@ -127,11 +133,13 @@ module _ (shape : Shape) (frames : ℕ) (start : Map) (a b : BoardState) (drive 
   exec_cut c later up f q cut =
       let P : List ℕ → Type 0 = λ t. KeptAt shape frames start (commands all ++ c ∷ []) (rise a.read_faults later) f t in
       none_more P (all_posted w.marks) q cut.0 (elim cut.1 [
-        | inl same ↦ kept-more shape frames start (commands all) (c ∷ []) (rise a.read_faults b.read_faults) (rise a.read_faults later) (λ k h. at_most-more a.read_faults b.read_faults later k up h) f (all_posted w.marks) (kept_same f same)
+        | inl same ↦ kept-more shape frames start (commands all) (c ∷ []) (rise a.read_faults b.read_faults)
+            (rise a.read_faults later) (λ k h. at_most-more a.read_faults b.read_faults later k up h) f (all_posted w.marks) (kept_same f same)
         | inr more ↦ elim more [
           | inl held ↦
               subst P (append-nil (all_posted w.marks))
-              (kept-more shape frames start (commands all) (c ∷ []) (rise a.read_faults b.read_faults) (rise a.read_faults later) (λ k h. at_most-more a.read_faults b.read_faults later k up h) f (all_posted w.marks ++ []) (kept_all f held [] unposted refl))
+              (kept-more shape frames start (commands all) (c ∷ []) (rise a.read_faults b.read_faults) (rise a.read_faults later)
+              (λ k h. at_most-more a.read_faults b.read_faults later k up h) f (all_posted w.marks ++ []) (kept_all f held [] unposted refl))
           | inr next ↦
               let k = kept_next c f next in
               record {
@@ -197,7 +205,8 @@ module _ (shape : Shape) (frames : ℕ) (start : Map) (a b : BoardState) (drive 
       }
 
   -- the calls of one more command, and of the commit that is owed after it
-  calls_next : (c : BoardState) (cmd : Command) (owed_behind : ℕ) → owed_behind ≤ commit_programs → calls_of c ≤ calls_of b + most_calls_of shape cmd.opcode cmd.size → calls_of c + owed_behind ≤ calls_of a + most_calls_of_all shape (commands all ++ cmd ∷ [])
+  calls_next : (c : BoardState) (cmd : Command) (owed_behind : ℕ) → owed_behind ≤ commit_programs
+      → calls_of c ≤ calls_of b + most_calls_of shape cmd.opcode cmd.size → calls_of c + owed_behind ≤ calls_of a + most_calls_of_all shape (commands all ++ cmd ∷ [])
   calls_next c cmd owed_behind most few =
       let so_far = w.few_calls in
       let whole = most_calls-append shape (commands all) (cmd ∷ []) in
@@ -233,7 +242,8 @@ module _ (shape : Shape) (frames : ℕ) (start : Map) (a b : BoardState) (drive 
               ∙ (ap (λ t. t ++ reply_record (suc taken) cmd.cid rep reads) w.records_are ∙ sym (records-push 0 all x taken (omega (arith, size)))));
           few_faults = elim (faults-one x) [
             | inl good ↦ few_more (rise a.read_faults c.read_faults) all x 0 good.1
-                (let T : ℕ → Type 0 = λ k. AtMost (rise a.read_faults c.read_faults) k in let e : faults all ≡ faults all + 0 = omega arith in subst T e (at_most-more a.read_faults b.read_faults c.read_faults (faults all) up w.few_faults))
+                (let T : ℕ → Type 0 = λ k. AtMost (rise a.read_faults c.read_faults) k in let e : faults all
+                ≡ faults all + 0 = omega arith in subst T e (at_most-more a.read_faults b.read_faults c.read_faults (faults all) up w.few_faults))
             | inr bad ↦ few_more (rise a.read_faults c.read_faults) all x 1 bad.1 (at_most-one a.read_faults b.read_faults c.read_faults (faults all) w.rose (unread bad.0) w.few_faults)
           ];
           rose = omega (arith, w.rose, up);
@@ -251,7 +261,8 @@ module _ (shape : Shape) (frames : ℕ) (start : Map) (a b : BoardState) (drive 
       → calls_of c ≤ calls_of b + most_calls_of shape cmd.opcode cmd.size → Cutoff shape frames start a c (commands all ++ cmd ∷ [])
   Cutoff-exec c cmd went up reads read few_calls =
       let next = calls_next c cmd 0 (omega arith) few_calls in
-      extend_went (cmd ∷ []) c (CrashFinds shape (command cmd) b.pages m) up (exec_cut cmd c.read_faults up) (λ f q cut. (unposted, ap (λ t. t ++ unposted) cut.0)) (inr (reads, read, λ e. cc)) (omega (arith, next)) went
+      extend_went (cmd ∷ []) c (CrashFinds shape (command cmd) b.pages m) up (exec_cut cmd c.read_faults up)
+      (λ f q cut. (unposted, ap (λ t. t ++ unposted) cut.0)) (inr (reads, read, λ e. cc)) (omega (arith, next)) went
 
   -- ---- a commit
 
@@ -260,9 +271,11 @@ module _ (shape : Shape) (frames : ℕ) (start : Map) (a b : BoardState) (drive 
   commit_cut later up f q cut =
       let P : List ℕ → Type 0 = λ t. KeptAt shape frames start (commands all ++ []) (rise a.read_faults later) f t in
       none_more P (all_posted w.marks) q cut.0 (elim cut.1 [
-        | inl same ↦ kept-more shape frames start (commands all) [] (rise a.read_faults b.read_faults) (rise a.read_faults later) (λ k h. at_most-more a.read_faults b.read_faults later k up h) f (all_posted w.marks) (kept_same f same)
+        | inl same ↦ kept-more shape frames start (commands all) [] (rise a.read_faults b.read_faults) (rise a.read_faults later)
+            (λ k h. at_most-more a.read_faults b.read_faults later k up h) f (all_posted w.marks) (kept_same f same)
         | inr held ↦ subst P (append-nil (all_posted w.marks))
-            (kept-more shape frames start (commands all) [] (rise a.read_faults b.read_faults) (rise a.read_faults later) (λ k h. at_most-more a.read_faults b.read_faults later k up h) f (all_posted w.marks ++ []) (kept_all f held [] unposted refl))
+            (kept-more shape frames start (commands all) [] (rise a.read_faults b.read_faults) (rise a.read_faults later)
+            (λ k h. at_most-more a.read_faults b.read_faults later k up h) f (all_posted w.marks ++ []) (kept_all f held [] unposted refl))
       ])
 
   -- the calls of a run that ends here, and a commit that was owed
@@ -306,7 +319,8 @@ module _ (shape : Shape) (frames : ℕ) (start : Map) (a b : BoardState) (drive 
   Cutoff-commit c went same_reads read few_calls =
       let up : b.read_faults ≤ c.read_faults = omega (arith, same_reads) in
       let R : List Command → Type 0 = λ l. Cutoff shape frames start a c l in
-      subst R (append-nil (commands all)) (extend_went [] c (CrashFinds shape commit b.pages m) up (commit_cut c.read_faults up) (λ f q cut. (unposted, ap (λ t. t ++ unposted) cut.0)) (inl read) (calls_here c few_calls) went)
+      subst R (append-nil (commands all))
+      (extend_went [] c (CrashFinds shape commit b.pages m) up (commit_cut c.read_faults up) (λ f q cut. (unposted, ap (λ t. t ++ unposted) cut.0)) (inl read) (calls_here c few_calls) went)
 
   -- ---- a post of a prefix of what is not posted, if nothing is pending
 
@@ -316,7 +330,8 @@ module _ (shape : Shape) (frames : ℕ) (start : Map) (a b : BoardState) (drive 
 
   post_cut : reading shape b.pages [] ≡ Ok m → (bytes behind : List ℕ) → bytes ++ behind ≡ unposted → (out rest : List ℕ) → out ++ rest ≡ bytes
       → KeptAt shape frames start (commands all ++ []) (rise a.read_faults b.read_faults) b.pages (all_posted w.marks ++ out)
-  post_cut held bytes behind front out rest is = kept-more shape frames start (commands all) [] (rise a.read_faults b.read_faults) (rise a.read_faults b.read_faults) (λ k h. h) b.pages (all_posted w.marks ++ out)
+  post_cut held bytes behind front out rest is = kept-more shape frames start (commands all) []
+      (rise a.read_faults b.read_faults) (rise a.read_faults b.read_faults) (λ k h. h) b.pages (all_posted w.marks ++ out)
       (kept_all b.pages held out (rest ++ behind) (sym (append_assoc out rest behind) ∙ (ap (λ t. t ++ behind) is ∙ front)))
 
   pub Serving-post : (bytes behind : List ℕ) → drive.pending ≡ [] → bytes ++ behind ≡ unposted → Serving shape frames start a (after_post b bytes) drive behind all m
@@ -348,8 +363,10 @@ module _ (shape : Shape) (frames : ℕ) (start : Map) (a b : BoardState) (drive 
       let up : b.read_faults ≤ c.read_faults = omega (arith, same) in
       let R : List Command → Type 0 = λ l. Cutoff shape frames start a c l in
       let N : ℕ → Type 0 = λ n. (f : Flash) (q : List ℕ) → P f q → KeptAt shape frames start (commands all ++ []) (rise a.read_faults n) f (all_posted w.marks ++ q) in
-      subst R (append-nil (commands all)) (extend_went [] c P up (subst N (sym same) (λ f q h. h.0)) (λ f q h. h.1) (inl (ap (λ s. s.reads) failed.rest)) (calls_here c (let none = ap calls_of failed.rest in omega (arith, none)))
-      (Goes-post_failed shape b bytes P (λ out rest is. (post_cut (held_now none) bytes behind front out rest is, (rest ++ behind, sym (append_assoc out rest behind) ∙ (ap (λ t. t ++ behind) is ∙ front)))) c failed))
+      subst R (append-nil (commands all))
+      (extend_went [] c P up (subst N (sym same) (λ f q h. h.0)) (λ f q h. h.1) (inl (ap (λ s. s.reads) failed.rest)) (calls_here c (let none = ap calls_of failed.rest in omega (arith, none)))
+      (Goes-post_failed shape b bytes P
+      (λ out rest is. (post_cut (held_now none) bytes behind front out rest is, (rest ++ behind, sym (append_assoc out rest behind) ∙ (ap (λ t. t ++ behind) is ∙ front)))) c failed))
 
   -- ---- calls that leave the flash and the host's bytes
 
@@ -371,7 +388,8 @@ module _ (shape : Shape) (frames : ℕ) (start : Map) (a b : BoardState) (drive 
   }
 
 -- nothing was served yet
-pub Serving-start : (shape : Shape) (frames : ℕ) (start : Map) (a : BoardState) (drive : Sight) → HoldsMap shape frames a drive start → drive.pending ≡ [] → Serving shape frames start a a drive [] [] start
+pub Serving-start : (shape : Shape) (frames : ℕ) (start : Map) (a : BoardState) (drive : Sight)
+    → HoldsMap shape frames a drive start → drive.pending ≡ [] → Serving shape frames start a a drive [] [] start
 Serving-start shape frames start a drive stands none =
     let M : List Entry → Type 0 = λ p. reading shape a.pages p ≡ Ok start in
     let held : reading shape a.pages [] ≡ Ok start = subst M none stands.map_is in

@@ -78,7 +78,8 @@ no_retrieve opcode e h = let g : Some Store ≡ Some Retrieve = sym (ap op_of e)
 
 module _ (old new : BoardState) (before after : Sight) (c : Command) (v : List ℕ) (is : IsValue (shape_or_none old.shape) c.opcode c.size c.value v) where
   -- the two refusals
-  refused_both : (shape : Shape) → old.shape ≡ Some shape → (c.opcode ≡ 0x01) × (greatest (shape_or_none old.shape) < c.size) → (s : ℕ) × (early shape c ≡ Some s) × (early shape (record c { value = v }) ≡ Some s)
+  refused_both : (shape : Shape) → old.shape ≡ Some shape → (c.opcode ≡ 0x01) × (greatest (shape_or_none old.shape) < c.size)
+      → (s : ℕ) × (early shape c ≡ Some s) × (early shape (record c { value = v }) ≡ Some s)
   refused_both shape same large =
       let T : Shape → Type 0 = λ s. greatest s < c.size in
       let r = too_large shape c.namespace c.key_len c.size (subst T (ap shape_or_none same) large.1) in
@@ -98,13 +99,21 @@ module _ (old new : BoardState) (before after : Sight) (c : Command) (v : List �
   pub reaches_value : CallReaches old new before (command c) → CallReaches old new before (command (record c { value = v }))
   reaches_value h shape frames m s = elim is [
     | inl same ↦ (let T : List ℕ → Type 0 = λ x. Reaches shape old new (CrashFinds shape (command (record c { value = x })) old.pages m) in subst T (sym same) (h shape frames m s))
-    | inr large ↦ (let r = refused_both shape s.shape_is large in let x = h shape frames m s in
-        (x.0, weaken x.0 old new (CrashFinds shape (command c) old.pages m) (CrashFinds shape (command (record c { value = v })) old.pages m) (cut_too shape frames c (record c { value = v }) r.0 r.1 r.2 old.pages m) x.1, x.2))
+    | inr large ↦ (let r = refused_both shape s.shape_is large in let x = h shape frames m s in (
+      x.0,
+      weaken x.0 old new (CrashFinds shape (command c) old.pages m) (CrashFinds shape (command (record c { value = v })) old.pages m)
+          (cut_too shape frames c (record c { value = v }) r.0 r.1 r.2 old.pages m) x.1,
+      x.2,
+    ))
   ]
 
   pub went_value : CallGoes old new before (command c) → CallGoes old new before (command (record c { value = v }))
   went_value h shape frames m s = elim is [
     | inl same ↦ (let T : List ℕ → Type 0 = λ x. Goes shape old new (CrashFinds shape (command (record c { value = x })) old.pages m) in subst T (sym same) (h shape frames m s))
-    | inr large ↦ (let r = refused_both shape s.shape_is large in let x = h shape frames m s in
-        (x.0, weaken_went x.0 old new (CrashFinds shape (command c) old.pages m) (CrashFinds shape (command (record c { value = v })) old.pages m) (cut_too shape frames c (record c { value = v }) r.0 r.1 r.2 old.pages m) x.1, x.2))
+    | inr large ↦ (let r = refused_both shape s.shape_is large in let x = h shape frames m s in (
+      x.0,
+      weaken_went x.0 old new (CrashFinds shape (command c) old.pages m) (CrashFinds shape (command (record c { value = v })) old.pages m)
+          (cut_too shape frames c (record c { value = v }) r.0 r.1 r.2 old.pages m) x.1,
+      x.2,
+    ))
   ]

@@ -40,7 +40,8 @@ module _ (a b : BoardState) (d : Sight) (c : Command) (shape : Shape) (frames : 
   left_of r left (inr x) = inl x.leaves
 
   -- cuts of the commit after it
-  commit_step : (left : Map) → StepCut shape m c b.pages [] → (left ≡ m) ⊎ (left ≡ map_after shape (limit shape) m c) → (f : Flash) (q : List ℕ) → CrashFinds shape commit b.pages left f q → StepCut shape m c f q
+  commit_step : (left : Map) → StepCut shape m c b.pages [] → (left ≡ m) ⊎ (left ≡ map_after shape (limit shape) m c)
+      → (f : Flash) (q : List ℕ) → CrashFinds shape commit b.pages left f q → StepCut shape m c f q
   commit_step left here from f q cut = (
     cut.0,
     elim cut.1 [

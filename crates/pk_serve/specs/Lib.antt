@@ -8,3 +8,5 @@ pub mod Run
 pub mod Script
 pub mod Complete
 pub mod Port
+pub mod Answered
+pub mod Further

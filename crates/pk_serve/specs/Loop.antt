@@ -1,5 +1,5 @@
 -- A run over the input while it goes on, and how it ends.
-use Rattle.std.specs.Prelude.{◌≡◌, ◌≢◌, ◌⊎◌, ◌<◌, ◌≤◌, ℕ, List, [], ◌++◌, length, true, false}
+use Rattle.std.specs.Prelude.{◌≡◌, ◌≢◌, ◌⊎◌, ◌≤◌, ℕ, List, [], ◌++◌, length, true}
 use Rattle.pk_base.specs.Shape.{Shape}
 use Rattle.pk_base.specs.Map.{Map}
 use Rattle.pk_nvme.specs.Command.{Command}
@@ -14,10 +14,7 @@ use Rattle.pk_serve.specs.Serving.{Serving, Cutoff}
 use Rattle.pk_serve.specs.Input.{Spells, IsPart}
 use Rattle.pk_serve.specs.declared.end.End.{End}
 use Rattle.pk_serve.specs.declared.end.End.TheVariants.{Done, Truncated, Input, Output, Flash, Worn}
-
--- the most entries of a run, 2^32 - 1: the count of those served, in each completion, has 32 bits
-abbrev pub most_entries : ℕ
-most_entries = 4294967295
+use Rattle.pk_serve.specs.Further.{TakesMore, most_entries}
 
 -- This many commands were taken from the input and served.
 pub record Looping (shape : Shape) (frames : ℕ) (start : Map) (a b : BoardState) (drive : Sight) (held : List ℕ) (taken : ℕ) : Type 0 where
@@ -49,10 +46,6 @@ pub record Failed (shape : Shape) (frames : ℕ) (start : Map) (a b : BoardState
   pub input : a.input ≡ put_back (bytes ++ part) b.input
   pub spells : Spells bytes cs
   pub cause : HasCause a b end
-
--- fewer entries were taken than a run takes, and the drive is not worn: another one may be taken after these
-abbrev pub TakesMore : BoardState → ℕ → Type 0
-TakesMore board taken = (taken < most_entries) × (is_worn board ≡ false)
 
 pub record IsDone (shape : Shape) (frames : ℕ) (start : Map) (a b : BoardState) (drive : Sight) (held : List ℕ) : Type 0 where
   pub finished : Finished shape frames start a b drive held []

@@ -15,11 +15,12 @@ use Rattle.pk_model.specs.Wear.{is_worn, roots}
 use Rattle.pk_model.specs.Growth.{Goes}
 use Rattle.pk_call.specs.Meter.{meter, MeteredAll}
 use Rattle.pk_serve.specs.Ends.{NoFaults}
-use Rattle.pk_serve.specs.Serving.{Answered, KeptAt, installs}
+use Rattle.pk_serve.specs.Serving.{KeptAt}
+use Rattle.pk_serve.specs.Answered.{Answered, installs}
 use Rattle.pk_serve.specs.Calling.{calls_of, most_calls_of_all}
 use Rattle.pk_serve.specs.declared.end.End.{End}
 use Rattle.pk_serve.specs.declared.end.End.TheVariants.{Done, Truncated, Input, Output, Flash, Worn}
-use Rattle.pk_serve.specs.Loop.{most_entries, TakesMore}
+use Rattle.pk_serve.specs.Further.{most_entries, TakesMore}
 
 -- The headline: every cut keeps what was served of the script, and from each state of the trail to the next the tree grows.
 abbrev pub KeepsScript : BoardState → BoardState → Sight → Type 0

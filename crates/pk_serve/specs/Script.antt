@@ -8,7 +8,8 @@ use Rattle.pk_serve.specs.Input.{Spells, IsPart}
 use Rattle.pk_nand.specs.Calls.{put_back, AtEnd}
 use Rattle.pk_model.specs.Sight.{Sight}
 use Rattle.pk_serve.specs.Ends.{Blames}
-use Rattle.pk_serve.specs.Loop.{Ends, most_entries}
+use Rattle.pk_serve.specs.Loop.{Ends}
+use Rattle.pk_serve.specs.Further.{most_entries}
 use Rattle.pk_serve.specs.declared.end.End.{End}
 use Rattle.pk_serve.specs.declared.end.End.TheVariants.{Done, Truncated, Input, Output, Flash, Worn}
 

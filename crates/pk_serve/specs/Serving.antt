@@ -1,12 +1,11 @@
 -- What holds after some commands were served.
-use Rattle.std.specs.Prelude.{◌≡◌, ◌≢◌, ◌⊎◌, ℕ, ◌+◌, ◌≤◌, List, [], ◌∷◌, ◌++◌, length, take, Option, Some}
+use Rattle.std.specs.Prelude.{◌≡◌, ℕ, ◌+◌, ◌≤◌, List, [], ◌∷◌, ◌++◌, length, Option, Some}
 use Rattle.pk_base.specs.Shape.{Shape}
 use Rattle.pk_base.specs.Page.{Flash}
 use Rattle.pk_base.specs.Mark.{Mark, all_posted}
 use Rattle.pk_base.specs.Map.{Map}
 use Rattle.pk_nvme.specs.Command.{Command}
 use Rattle.pk_nand.specs.BoardState.{BoardState}
-use Rattle.pk_nand.specs.Calls.{longer}
 use Rattle.pk_nand.specs.Crash.{ReachedBy}
 use Rattle.pk_nvme.specs.Opcode.{op_of}
 use Rattle.pk_nvme.specs.declared.opcode.Opcode.TheVariants.{Retrieve}
@@ -16,17 +15,12 @@ use Rattle.pk_model.specs.Kept.{Kept, AtMost, rise}
 use Rattle.pk_model.specs.Sight.{Sight}
 use Rattle.pk_call.specs.Drive.{HoldsMap}
 use Rattle.pk_model.specs.Growth.{GrowsAlong, Goes}
-use Rattle.pk_call.specs.Meter.{Meter, meter, MeteredAll, reads_after}
-use Rattle.pk_call.specs.Exec.{most_installs}
+use Rattle.pk_call.specs.Meter.{meter, MeteredAll}
 use Rattle.pk_serve.specs.Ends.{NoFaults, HasCause}
 use Rattle.pk_serve.specs.Part.{Faulted}
 use Rattle.pk_serve.specs.Calling.{calls_of, owed, most_calls_of_all}
 use Rattle.pk_serve.specs.declared.end.End.{End}
-
--- most roots that these commands install
-abbrev pub installs : List Command → ℕ
-installs [] = 0
-installs (c ∷ cs) = most_installs c.opcode c.size + installs cs
+use Rattle.pk_serve.specs.Answered.{Answered}
 
 -- what every cut keeps, of these commands
 abbrev pub KeptAt : Shape → ℕ → Map → List Command → Option ℕ → Flash → List ℕ → Type 0
@@ -46,24 +40,6 @@ pub record Serving (shape : Shape) (frames : ℕ) (start : Map) (a b : BoardStat
   pub metered : MeteredAll (meter a) all (meter b)
   pub few_calls : calls_of b + owed drive.pending ≤ calls_of a + most_calls_of_all shape (commands all)
   pub no_faults : NoFaults a b
-
--- A prefix of these commands was answered, each with its number of reads, and what was posted is a prefix of their records. After them nothing
--- was read, but by the command in which the run ended; that one, at most, made calls in addition to those that were answered.
-pub record Answered (shape : Shape) (frames : ℕ) (start : Map) (a b : BoardState) (cs : List Command) : Type 0 where
-  pub served : List Exchange
-  pub unserved : List Command
-  pub from_front : commands served ++ unserved ≡ cs
-  pub left : Map
-  pub ran : RunWithin shape frames start served left
-  pub last : Meter
-  pub metered : MeteredAll (meter a) served last
-  pub behind : (b.reads ≡ last.reads) ⊎ ((more : ℕ) × (b.reads ≡ reads_after last.reads more) × (unserved ≢ []))
-  pub up : last.read_faults ≤ b.read_faults
-  pub few_calls : calls_of b ≤ calls_of a + most_calls_of_all shape (commands served ++ take 1 unserved)
-  pub posted : List ℕ
-  pub unposted : List ℕ
-  pub begins : posted ++ unposted ≡ records 0 served
-  pub posted_are : b.posted ≡ longer a.posted posted
 
 -- It ended in a fault, or may have. Wherever it was cut, it was kept.
 pub record Cutoff (shape : Shape) (frames : ℕ) (start : Map) (a b : BoardState) (cs : List Command) : Type 0 where

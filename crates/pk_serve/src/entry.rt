@@ -1,5 +1,5 @@
 //! Entries and their values, taken from the input.
-ghost use Rattle.std.specs.Prelude.{◌≡◌, ◌≢◌, ◌≤◌, ◌<◌, ◌+◌, ◌-◌, ◌^◌, ℕ, List, [], length, take, true, false, OnOk, OnErr, IfOk, IfErr, IfSome, Some, None, Ok, MatchOption, ◌==◌, if◌then◌else◌};
+ghost use Rattle.std.specs.Prelude.{◌≡◌, ◌≤◌, ◌<◌, ◌-◌, length, take, false, OnOk, OnErr, IfOk, IfErr, IfSome, Some, None, Ok, MatchOption, ◌==◌, if◌then◌else◌};
 ghost use Rattle.pk_base.specs.Shape.{greatest};
 ghost use Rattle.pk_serve.specs.Input.{NoEntry, Entered, Valued, NoValue, TookFailed};
 

@@ -1,8 +1,8 @@
 //! The serving loop over the contract of a drive.
 //!
-//! A record is posted only once what it reports is on the flash. Wherever power is lost the flash
-//! holds the map after a prefix of the commands, which contains every one of which a byte was
-//! posted.
+//! A record is posted only after what it reports is on the flash. At whatever point power is lost, the
+//! flash holds the map after a prefix of the commands, and that prefix contains every command of whose
+//! record a byte was posted.
 #![tactic(auto)]
 
 mod end;

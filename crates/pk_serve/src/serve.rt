@@ -1,13 +1,13 @@
 //! The serving loop: functions over the parts of a `Server`, since their contracts say which
 //! records are held before and after a call, and of what a call writes into a field of `&mut self`
 //! the check gives no plain equation.
-ghost use Rattle.std.specs.Prelude.{◌≡◌, ◌<◌, ◌⊎◌, ℕ, List, [], true, false, OnOk, IfErr};
+ghost use Rattle.std.specs.Prelude.{◌≡◌, ◌<◌, ◌⊎◌, [], true, OnOk, IfErr};
 ghost use Rattle.pk_queue.specs.Queue.{bytes_of};
 ghost use Rattle.pk_serve.specs.Ends.{IsFault, Blames};
 ghost use Rattle.pk_serve.specs.Part.{IsRunning, CanRun, HasBuffers, KeepsRunning, SameSizes};
 ghost use Rattle.pk_serve.specs.Input.{InputAdvances, Quits};
 ghost use Rattle.pk_serve.specs.Script.{Runs};
-ghost use Rattle.pk_serve.specs.Loop.{most_entries};
+ghost use Rattle.pk_serve.specs.Further.{most_entries};
 
 use crate::End;
 use crate::entry::{Numbered, take_entry, take_value};

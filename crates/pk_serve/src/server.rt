@@ -1,6 +1,6 @@
 //! What serving needs besides the drive and the board.
-ghost use Rattle.std.specs.Prelude.{◌≡◌, ◌⊎◌, [], false, IfOk, Some};
-ghost use Rattle.pk_serve.specs.Ends.{IsFault, Blames};
+ghost use Rattle.std.specs.Prelude.{◌≡◌, false, IfOk, Some};
+ghost use Rattle.pk_serve.specs.Ends.{Blames};
 ghost use Rattle.pk_serve.specs.Complete.{RunCompletes};
 ghost use Rattle.pk_serve.specs.Script.{SaysOfScript};
 ghost use Rattle.pk_serve.specs.Run.{KeepsScript, KeepsSome, Answers, Causes, CallsWithin};

@@ -8,7 +8,7 @@ ghost use Rattle.pk_call.specs.Exec.{IsValue};
 ghost use Rattle.pk_serve.specs.Ends.{NoFaults};
 ghost use Rattle.pk_serve.specs.Part.{IsRunning, CanServe, IsHanded, HasRoom, KeepsRunning, Faulted, TakesNone, InstallsNone, OnlyGives, SameRoom};
 ghost use Rattle.pk_serve.specs.Serving.{Flushed, FailsHolding, Posts, PostBreaks, Keeps, CommandServed, CommandStops};
-ghost use Rattle.pk_serve.specs.Loop.{most_entries};
+ghost use Rattle.pk_serve.specs.Further.{most_entries};
 ghost use Rattle.pk_nvme.specs.declared.opcode.TheConstants.{TICK};
 
 use crate::End;

@@ -15,7 +15,7 @@ use std::test::*;
 /// A page without a value.
 pub const NOTHING: u32 = 1008;
 
-/// The keys that are there.
+/// The keys that exist.
 pub const KEYS: [u8; 43] = [
     0, 1, 2, 3, 4, 5, 6, 7, 9, 14, 16, 20, 21, 22, 24, 25, 26, 27, 28, 32, 33, 34, 35, 36, 38, 39,
     40, 42, 44, 45, 46, 48, 50, 52, 54, 55, 56, 58, 60, 62, 65, 75, 80,
@@ -32,7 +32,7 @@ fn place(key: u8) -> u32 {
     320 + 2 * u32::from(key)
 }
 
-// The entry of a key that is there.
+// The entry of a key that exists.
 fn there(key: u8) -> Note {
     Note::Put(key, place(key), value_of(key).len)
 }
@@ -163,7 +163,7 @@ fn write_one_epoch(alloc: Global, pages: &mut Vec<PageState>) -> Result<(), Fail
     write_root(alloc, pages, 1, &[2, 3, 6, 7, 8, 9])
 }
 
-// Runs and the values of all keys that are there, without an epoch and without a root.
+// Runs and the values of all keys that exist, without an epoch and without a root.
 fn with_runs(alloc: Global) -> Result<Vec<PageState>, Fail> {
     let mut pages = erased(alloc, 1024)?;
     write_runs(alloc, &mut pages)?;

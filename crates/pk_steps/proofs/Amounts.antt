@@ -1,17 +1,15 @@
 -- How many entries a run and an epoch have, and how many blocks hold them.
-use Rattle.std.proofs.Common.{◌≡◌, inl, inr, ℕ, zero, suc, ◌+◌, ◌-◌, ◌*◌, ◌/◌, ◌<◌, ◌≤◌, min, max, refl, sym, ap, subst, ◌∙◌, arith, Bool, true, false, not, ◌&&◌, ◌||◌, T, List, [], ◌∷◌, ◌++◌, length, map, zip, nat_le, nat_lt, ◌==◌, is_some, Some, Result, Ok, leb→le, length-append, mul-le-mul_right, add-mul, suc-mul, le_trans}
+use Rattle.std.proofs.Common.{◌≡◌, inl, inr, ℕ, zero, suc, ◌+◌, ◌-◌, ◌*◌, ◌/◌, ◌<◌, ◌≤◌, min, max, refl, sym, ap, subst, ◌∙◌, arith, Bool, true, false, not, ◌&&◌, ◌||◌, T, List, [], ◌∷◌, ◌++◌, length}
+use Rattle.std.proofs.Common.{map, zip, nat_le, nat_lt, ◌==◌, is_some, Some, Ok, leb→le, length-append, mul-le-mul_right, add-mul, le_trans}
 use Rattle.std.specs.Prelude.{bytes_eq}
 use Rattle.std.specs.List.{list_all, concat}
-use Rattle.std.specs.Int.{div_ceil}
-use Rattle.std.proofs.Math.Nat.{lt_of_mul-lt-mul_right}
-use Rattle.std.proofs.lemmas.Grind.{div_ceil_times}
 use Rattle.std.specs.FinMap.Entries.{is_sorted}
 use Rattle.pk_base.specs.Key.{key_cmp}
 use Rattle.pk_base.specs.Shape.{Shape, IsShape, page_entries, buffer, caps, run_pages, run_blocks, blocks_of, meta_blocks, deepest}
 use Rattle.pk_base.specs.Page.{Page, erased, whole, torn, page_in, pages_of_blocks, NumberedPages, commits_of}
 use Rattle.pk_base.specs.Entry.{Entry}
 use Rattle.pk_base.specs.EntryBytes.{entries_from}
-use Rattle.pk_base.specs.Refusal.{Refusal, damaged, ensure, some_or}
+use Rattle.pk_base.specs.Refusal.{damaged, ensure, some_or}
 use Rattle.pk_base.specs.Firsts.{firsts}
 use Rattle.pk_base.specs.Merge.{room}
 use Rattle.pk_jrnfmt.specs.Page.{journal_entries}
@@ -20,17 +18,13 @@ use Rattle.pk_meta.specs.Page.{meta_entries}
 use Rattle.pk_meta.specs.Run.{meta, run}
 use Rattle.pk_rootfmt.specs.Root.{Root, is_root, is_number, has_runs, named, differ}
 use Rattle.pk_model.proofs.StrangePages.{bind_ok, some_ok}
-use Rattle.pk_model.proofs.Lookups.{passed}
 use Rattle.pk_base.proofs.Sound.{if_some}
 use Rattle.pk_model.proofs.Live.{ceil_room}
 use Rattle.pk_model.proofs.RootAlone.{bytes_equal, third_of, head_same, tail_same}
-use Rattle.pk_model.proofs.Commits.{left_part, right_part}
-use Rattle.pk_base.proofs.ShapeLemmas.{block_pages_positive}
+use Rattle.pk_base.proofs.ShapeLemmas.{block_pages_positive, ceil_most}
 use Rattle.pk_steps.specs.Fitting.{QuotaFits}
 use Rattle.pk_steps.proofs.FourRuns.{IsLevel, four_of_root, four_of, runs_part}
-
-ok_same : {A : Type 0} (x y : A) → ◌≡◌ {A = Result A Refusal} (Ok x) (Ok y) → x ≡ y
-ok_same x y e = cc
+use Rattle.pk_base.proofs.Logic.{left_part, right_part, ok_same, passed}
 
 -- ---- entries that are read
 
@@ -60,7 +54,8 @@ module _ (shape : Shape) (at : ℕ → Page) where
             let read = bind_ok (some_or (meta_entries shape level index here bytes) (damaged p)) _ es f in
             let rising = bind_ok (ensure (is_sorted key_cmp (before ++ read.0)) p) _ es read.2 in
             let kept = bind_ok (ensure (not (level == 4) || list_all (λ e. is_some e.1) read.0) p) _ es rising.2 in
-            let size : length (before ++ read.0) ≡ length before + here = length-append before read.0 ∙ ap (λ m. length before + m) (many_read shape level index here bytes read.0 (some_ok _ (damaged p) read.0 read.1)) in
+            let size : length (before ++ read.0) ≡ length before + here = length-append before read.0
+            ∙ ap (λ m. length before + m) (many_read shape level index here bytes read.0 (some_ok _ (damaged p) read.0 read.1)) in
             let more = one_more (page_entries shape) count (index * page_entries shape) (length before) few low in
             let next : (index + 1) * page_entries shape ≡ index * page_entries shape + page_entries shape = add-mul index 1 (page_entries shape) ∙ omega arith in
             let a = more.0 in
@@ -73,7 +68,8 @@ module _ (shape : Shape) (at : ℕ → Page) where
   unfolding run
   run_most level count blocks es ok = meta_most level count 0 [] blocks 0 (run_pages shape count) es (omega arith) (omega arith) ok
 
-  journal_most : (number index : ℕ) (before : List Entry) (pages : NumberedPages) (es : List Entry) → length (firsts before) ≤ buffer shape → journal shape number index before pages ≡ Ok es → length (firsts es) ≤ buffer shape
+  journal_most : (number index : ℕ) (before : List Entry) (pages : NumberedPages) (es : List Entry)
+      → length (firsts before) ≤ buffer shape → journal shape number index before pages ≡ Ok es → length (firsts es) ≤ buffer shape
   journal_most number index before [] es few ok = subst (λ (x : List Entry). length (firsts x) ≤ buffer shape) (ok_same before es ok) few
   journal_most number index before ((p, erased) ∷ pages) es few ok = subst (λ (x : List Entry). length (firsts x) ≤ buffer shape) (ok_same before es ok) few
   journal_most number index before ((p, torn) ∷ pages) es few ok = subst (λ (x : List Entry). length (firsts x) ≤ buffer shape) (ok_same before es ok) few
@@ -101,11 +97,15 @@ second_of true false c is = absurd is
 
 pub counted_of : (shape : Shape) (root : Root) → T (is_root shape root) → Counted shape root
 counted_of shape root is =
-    let has = runs_part (is_number root.number) (nat_le 1 root.epoch) (nat_le root.epoch root.number) (length root.newest == 2) (length root.older == 0 || (length root.older == 2 && nat_le 2 root.epoch))
+    let has = runs_part (is_number root.number) (nat_le 1 root.epoch) (nat_le root.epoch root.number)
+    (length root.newest == 2) (length root.older == 0 || (length root.older == 2 && nat_le 2 root.epoch))
     (has_runs shape root) (list_all (λ b. nat_le 2 b && nat_lt b shape.blocks) (named root)) (differ (named root)) is in
     record {
-      fit = second_of (length root.counts == 4) (list_all (λ p. nat_le p.0 (p.1 * page_entries shape)) (zip root.counts (caps shape))) (bytes_eq (map length root.runs) (map (run_blocks shape) root.counts)) has;
-      sizes = bytes_equal (map length root.runs) (map (run_blocks shape) root.counts) (third_of (length root.counts == 4) (list_all (λ p. nat_le p.0 (p.1 * page_entries shape)) (zip root.counts (caps shape))) (bytes_eq (map length root.runs) (map (run_blocks shape) root.counts)) has);
+      fit = second_of (length root.counts == 4) (list_all (λ p. nat_le p.0 (p.1 * page_entries shape)) (zip root.counts (caps shape)))
+          (bytes_eq (map length root.runs) (map (run_blocks shape) root.counts)) has;
+      sizes = bytes_equal (map length root.runs) (map (run_blocks shape) root.counts)
+          (third_of (length root.counts == 4) (list_all (λ p. nat_le p.0 (p.1 * page_entries shape)) (zip root.counts (caps shape)))
+          (bytes_eq (map length root.runs) (map (run_blocks shape) root.counts)) has);
     }
 
 -- four counts within the caps
@@ -129,20 +129,14 @@ within_caps shape n1 n2 n3 n4 is =
 
 -- ---- blocks
 
-ceil_most : (x y k : ℕ) → 0 < y → x ≤ k * y → div_ceil x y ≤ k
-ceil_most x y k some below =
-    let bounds = div_ceil_times x y some in
-    let few : div_ceil x y * y < suc k * y = let high = bounds.1 in let more = suc-mul k y in omega (arith, high, below, more) in
-    let less : div_ceil x y < suc k = lt_of_mul-lt-mul_right y few in
-    omega (arith, less)
-
 module _ (shape : Shape) (is_shape : IsShape shape) where
   entries_positive : 0 < page_entries shape
   entries_positive = let least = is_shape.page_least in omega (arith, least)
 
   -- more pages, more blocks
   blocks_more : (a b : ℕ) → a ≤ b → blocks_of shape a ≤ blocks_of shape b
-  blocks_more a b few = let all = ceil_room b shape.block_pages (block_pages_positive shape is_shape) in ceil_most a shape.block_pages (blocks_of shape b) (block_pages_positive shape is_shape) (le_trans few all)
+  blocks_more a b few = let all = ceil_room b shape.block_pages (block_pages_positive shape is_shape) in ceil_most a shape.block_pages
+      (blocks_of shape b) (block_pages_positive shape is_shape) (le_trans few all)
 
   -- as many entries as that many pages can hold
   run_blocks_most : (n cap : ℕ) → n ≤ cap * page_entries shape → run_blocks shape n ≤ blocks_of shape cap
@@ -160,7 +154,8 @@ module _ (shape : Shape) (is_shape : IsShape shape) where
       within : (l cap : ℕ) → room shape l ≡ cap * page_entries shape → cap ≤ max 64 (deepest shape) → room shape l ≤ max 64 (deepest shape) * page_entries shape
       within l cap e small = subst (λ n. n ≤ max 64 (deepest shape) * page_entries shape) (sym e) (mul-le-mul_right (page_entries shape) small)
 
-  quota_four : (n1 n2 n3 n4 : ℕ) (b1 b2 b3 b4 : List ℕ) (level count : ℕ) → WithinCaps shape n1 n2 n3 n4 → map (λ bs. length bs) (b1 ∷ b2 ∷ b3 ∷ b4 ∷ []) ≡ map (run_blocks shape) (n1 ∷ n2 ∷ n3 ∷ n4 ∷ [])
+  quota_four : (n1 n2 n3 n4 : ℕ) (b1 b2 b3 b4 : List ℕ) (level count : ℕ) → WithinCaps shape n1 n2 n3 n4
+      → map (λ bs. length bs) (b1 ∷ b2 ∷ b3 ∷ b4 ∷ []) ≡ map (run_blocks shape) (n1 ∷ n2 ∷ n3 ∷ n4 ∷ [])
       → IsLevel level → count ≤ room shape level → length (concat (b1 ∷ b2 ∷ b3 ∷ b4 ∷ [])) + run_blocks shape count ≤ meta_blocks shape
   unfolding meta_blocks
   quota_four n1 n2 n3 n4 b1 b2 b3 b4 level count caps sizes which few =
@@ -193,7 +188,8 @@ module _ (shape : Shape) (is_shape : IsShape shape) where
       let c = four_of root.counts four.counts in
       let b = four_of root.runs four.runs in
       let caps_are = within_caps shape c.a c.b c.c c.d (subst (λ ns. T (list_all (λ p. nat_le p.0 (p.1 * page_entries shape)) (zip ns (caps shape)))) c.are known.fit) in
-      let sizes : map (λ bs. length bs) (b.a ∷ b.b ∷ b.c ∷ b.d ∷ []) ≡ map (run_blocks shape) (c.a ∷ c.b ∷ c.c ∷ c.d ∷ []) = ap (map (λ bs. length bs)) (sym b.are) ∙ known.sizes ∙ ap (map (run_blocks shape)) c.are in
+      let sizes : map (λ bs. length bs) (b.a ∷ b.b ∷ b.c ∷ b.d ∷ []) ≡ map (run_blocks shape) (c.a ∷ c.b ∷ c.c ∷ c.d ∷ []) = ap (map (λ bs. length bs)) (sym b.are)
+      ∙ known.sizes ∙ ap (map (run_blocks shape)) c.are in
       subst (λ bs. length (concat bs) + run_blocks shape count ≤ meta_blocks shape) (sym b.are) (quota_four c.a c.b c.c c.d b.a b.b b.c b.d level count caps_are sizes which few)
 
 pub levels : (level : ℕ) → 1 ≤ level → level ≤ 4 → IsLevel level

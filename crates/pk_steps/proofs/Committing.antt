@@ -38,7 +38,8 @@ module _ (shape : Shape) (flash cut : Flash) (top : ℕ × Root) (found : Found)
       }
 
   -- a page that is whole adds its entries
-  present : (m : Map) → (commit_at shape at' top.1.newest index).1 ≡ whole bytes → journal_entries shape top.1.epoch index bytes ≡ Some es → map_under shape (page_at flash) top.1 found es ≡ Ok m → IsUnder shape cut [] top (committed found es) m
+  present : (m : Map) → (commit_at shape at' top.1.newest index).1 ≡ whole bytes → journal_entries shape top.1.epoch index bytes ≡ Some es
+      → map_under shape (page_at flash) top.1 found es ≡ Ok m → IsUnder shape cut [] top (committed found es) m
   unfolding map_under
   present m is_whole spells ok =
       let room = within_buffer shape at at' top found es index bytes is_shape is_top is_found blocks inside before behind others m ok in
@@ -57,7 +58,8 @@ commits_pair shape flash cut top found es m0 m1 index bytes is_shape first secon
     let none : (IsWholePage (commit_at shape (page_at cut) top.1.newest index).1 → ⊥) → IsUnder shape cut [] top found m0 = λ not_whole.
     absent shape flash cut top found es index bytes is_shape first.is_top first.is_found blocks commit.in_epoch commit.before commit.behind others m0 not_whole first.is_map in
     elim (pair_read p bytes (page_at cut p) (page_at cut (p + 1)) is_cut.first is_cut.second) [
-      | inl done ↦ inr (present shape flash cut top found es index bytes is_shape first.is_top first.is_found blocks commit.in_epoch commit.before commit.behind others m1 done commit.spells second.is_map)
+      | inl done ↦ inr (present shape flash cut top found es index bytes is_shape first.is_top first.is_found
+          blocks commit.in_epoch commit.before commit.behind others m1 done commit.spells second.is_map)
       | inr not_bytes ↦ elim not_bytes [
         | inl is ↦ inl (none (λ w. subst IsWholePage is w))
         | inr is ↦ inl (none (λ w. subst IsWholePage is w))
@@ -74,4 +76,5 @@ pub commit_done : Committed
 commit_done shape flash now top found es m0 m1 index bytes is_shape first second commit is_cut here =
     let p = commit_page shape top.1.newest index in
     present shape flash now top found es index bytes is_shape first.is_top first.is_found (valid_blocks shape (page_at flash) top first.is_top)
-    commit.in_epoch commit.before commit.behind (outside_pair p flash now is_cut.outside) m1 (ap (λ (x : ℕ × Page). x.1) (read_first p bytes (page_at now p) (page_at now (p + 1)) here)) commit.spells second.is_map
+    commit.in_epoch commit.before commit.behind (outside_pair p flash now is_cut.outside) m1
+    (ap (λ (x : ℕ × Page). x.1) (read_first p bytes (page_at now p) (page_at now (p + 1)) here)) commit.spells second.is_map

@@ -13,8 +13,7 @@ use Rattle.pk_base.specs.Map.{Map, pages_in}
 use Rattle.pk_rootfmt.specs.Root.{named}
 use Rattle.pk_model.specs.Found.{entries_in_order}
 use Rattle.pk_model.proofs.MapLemmas.{key_total}
-use Rattle.pk_model.proofs.Commits.{left_part, right_part, both}
-use Rattle.pk_model.proofs.Lookups.{flat, Has, map_under_get, find-firsts, firsts_sorted}
+use Rattle.pk_model.proofs.Lookups.{flat, Has, map_under_get, find-firsts}
 use Rattle.pk_model.proofs.ValueSets.{values_sound, Reads}
 use Rattle.pk_model.proofs.Stores.{put-below}
 use Rattle.pk_model.proofs.Merges.{placed_sorted}
@@ -23,6 +22,8 @@ use Rattle.pk_model.proofs.HeldMap.{nothing_fits, none_of_empty}
 use Rattle.pk_steps.specs.Under.{counting, places}
 use Rattle.pk_steps.specs.Lookups.{IsValueOf, LookupFinds, FoundIn, Counts}
 use Rattle.pk_steps.proofs.Untouched.{values_under}
+use Rattle.pk_base.proofs.Logic.{left_part, right_part, both}
+use Rattle.pk_base.proofs.KeyLemmas.{firsts_sorted}
 
 value_of : (shape : Shape) (flash : Flash) (q : Key) (e : Option (Option Place)) (value : Option (List ℕ)) → Has shape (page_at flash) q (flat e) value → IsValueOf shape flash q e value
 value_of shape flash q None value is = is
@@ -30,13 +31,15 @@ value_of shape flash q (Some None) value is = is
 value_of shape flash q (Some (Some place)) value is = is
 
 pub finds : LookupFinds
-finds shape flash pending top found m key under = value_of shape flash key (find key_cmp key (entries_in_order found pending)) (get m key) (map_under_get shape (page_at flash) top.1 found pending m under.is_map key)
+finds shape flash pending top found m key under = value_of shape flash key (find key_cmp key (entries_in_order found pending))
+    (get m key) (map_under_get shape (page_at flash) top.1 found pending m under.is_map key)
 
 -- ---- lists one after another
 
 find-append : (q : Key) (xs ys : List Entry) → find key_cmp q (xs ++ ys) ≡ or_else (find key_cmp q xs) (find key_cmp q ys)
 find-append q [] ys = refl
-find-append q (x ∷ xs) ys = elim (eq_by_cmp key_cmp q x.0) as (λ b. cond b (Some x.1) (find key_cmp q (xs ++ ys)) ≡ or_else (cond b (Some x.1) (find key_cmp q xs)) (find key_cmp q ys)) [ true ↦ refl | false ↦ find-append q xs ys ]
+find-append q (x ∷ xs) ys = elim (eq_by_cmp key_cmp q x.0) as (λ b. cond b (Some x.1) (find key_cmp q (xs ++ ys))
+    ≡ or_else (cond b (Some x.1) (find key_cmp q xs)) (find key_cmp q ys)) [ true ↦ refl | false ↦ find-append q xs ys ]
 
 or_else-assoc : (a b c : Option (Option Place)) → or_else (or_else a b) c ≡ or_else a (or_else b c)
 or_else-assoc None b c = refl
@@ -54,7 +57,8 @@ found_in found pending key =
 
 -- ---- counts
 
-below_read : (shape : Shape) (blocks : List ℕ) (at : ℕ → Page) (k : Key) (es : List (Key × Place)) (vs : List (Key × List ℕ)) → Reads shape blocks at es vs → T (below_all key_cmp k es) → T (below_all key_cmp k vs)
+below_read : (shape : Shape) (blocks : List ℕ) (at : ℕ → Page) (k : Key) (es : List (Key × Place)) (vs : List (Key × List ℕ))
+    → Reads shape blocks at es vs → T (below_all key_cmp k es) → T (below_all key_cmp k vs)
 below_read shape blocks at k [] [] reads h = tt
 below_read shape blocks at k [] (v ∷ vs) reads h = absurd reads
 below_read shape blocks at k (e ∷ es) [] reads h = absurd reads
@@ -62,12 +66,14 @@ below_read shape blocks at k (e ∷ es) (v ∷ vs) reads h =
     both (is_lt (key_cmp k v.0)) (below_all key_cmp k vs) (subst (λ x. T (is_lt (key_cmp k x))) (sym reads.0.0) (left_part (is_lt (key_cmp k e.0)) (below_all key_cmp k es) h))
     (below_read shape blocks at k es vs reads.1 (right_part (is_lt (key_cmp k e.0)) (below_all key_cmp k es) h))
 
-pub sorted_read : (shape : Shape) (blocks : List ℕ) (at : ℕ → Page) (es : List (Key × Place)) (vs : List (Key × List ℕ)) → Reads shape blocks at es vs → T (is_sorted key_cmp es) → T (is_sorted key_cmp vs)
+pub sorted_read : (shape : Shape) (blocks : List ℕ) (at : ℕ → Page) (es : List (Key × Place)) (vs : List (Key × List ℕ))
+    → Reads shape blocks at es vs → T (is_sorted key_cmp es) → T (is_sorted key_cmp vs)
 sorted_read shape blocks at [] [] reads h = tt
 sorted_read shape blocks at [] (v ∷ vs) reads h = absurd reads
 sorted_read shape blocks at (e ∷ es) [] reads h = absurd reads
 sorted_read shape blocks at (e ∷ es) (v ∷ vs) reads h =
-    both (below_all key_cmp v.0 vs) (is_sorted key_cmp vs) (subst (λ x. T (below_all key_cmp x vs)) (sym reads.0.0) (below_read shape blocks at e.0 es vs reads.1 (left_part (below_all key_cmp e.0 es) (is_sorted key_cmp es) h)))
+    both (below_all key_cmp v.0 vs) (is_sorted key_cmp vs)
+    (subst (λ x. T (below_all key_cmp x vs)) (sym reads.0.0) (below_read shape blocks at e.0 es vs reads.1 (left_part (below_all key_cmp e.0 es) (is_sorted key_cmp es) h)))
     (sorted_read shape blocks at es vs reads.1 (right_part (below_all key_cmp e.0 es) (is_sorted key_cmp es) h))
 
 keys_read : (shape : Shape) (blocks : List ℕ) (at : ℕ → Page) (es : List (Key × Place)) (vs : List (Key × List ℕ)) → Reads shape blocks at es vs → map (λ v. v.0) vs ≡ map (λ e. e.0) es

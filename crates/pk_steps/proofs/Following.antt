@@ -1,12 +1,12 @@
--- The root after a merge may follow.
-use Rattle.std.proofs.Common.{◌≡◌, inl, inr, ℕ, ◌-◌, ◌/◌, refl, T, Bool, true, false, List, [], ◌++◌, length, map, nat_le, ◌==◌, ◌||◌, if◌then◌else◌, Result, Ok, leb→le, zero-mul}
+-- The root after a merge is a valid successor.
+use Rattle.std.proofs.Common.{◌≡◌, inl, inr, ℕ, ◌-◌, ◌/◌, refl, T, Bool, true, false, List, [], ◌++◌, length, map, nat_le, ◌==◌, ◌||◌, if◌then◌else◌, Ok, leb→le}
 use Rattle.std.specs.List.{concat}
 use Rattle.pk_base.specs.Shape.{Shape, IsShape}
 use Rattle.pk_base.specs.Page.{Page, Flash, page_at, page_in}
 use Rattle.pk_base.specs.Entry.{Entry}
 use Rattle.pk_base.specs.Firsts.{firsts}
 use Rattle.pk_base.specs.Map.{Map}
-use Rattle.pk_base.specs.Refusal.{Refusal, ◌>>=◌, ensure}
+use Rattle.pk_base.specs.Refusal.{ensure, ◌>>=◌}
 use Rattle.pk_jrnfmt.specs.Epoch.{epoch}
 use Rattle.pk_rootfmt.specs.Root.{Root, is_root, named}
 use Rattle.pk_model.specs.Found.{Found, older_epoch, newest_epoch, found_under}
@@ -20,13 +20,7 @@ use Rattle.pk_steps.proofs.Places.{In, in_append}
 use Rattle.pk_steps.specs.Merging.{IsMerged, Merged, merged_root, merged_found}
 use Rattle.pk_steps.proofs.FourRuns.{Runs, IsLevel, FourOf, Pieces, four_of_root, four_runs, next_is_level, pieces_of}
 use Rattle.pk_steps.proofs.Merging.{runs_after, same_places, in_after}
-
-ok_same : {A : Type 0} (x y : A) → ◌≡◌ {A = Result A Refusal} (Ok x) (Ok y) → x ≡ y
-ok_same x y e = cc
-
-no_blocks : (shape : Shape) (at : ℕ → Page) (number : ℕ) → epoch shape at number [] ≡ Ok []
-unfolding epoch
-no_blocks shape at number = rw (zero-mul (shape.block_pages / 2)) refl
+use Rattle.pk_steps.proofs.Freezing.{no_blocks}
 
 -- no older epoch is named, or the former one
 older_is : (shape : Shape) (at : ℕ → Page) (number : ℕ) (one : Bool) (blocks : List ℕ) (es : List Entry)
@@ -67,7 +61,8 @@ module _ (shape : Shape) (flash : Flash) (extra : List Entry) (top : ℕ × Root
   is_found : found_under shape (page_at flash) (merged_root root level count taken) ≡ Ok (merged_found level found)
   unfolding found_under
   is_found =
-      let older : older_epoch shape (page_at flash) (merged_root root level count taken) ≡ Ok (if level == 1 then [] else found.older) = older_is shape (page_at flash) root.epoch (level == 1) root.older found.older pieces.older in
+      let older : older_epoch shape (page_at flash) (merged_root root level count taken) ≡ Ok
+      (if level == 1 then [] else found.older) = older_is shape (page_at flash) root.epoch (level == 1) root.older found.older pieces.older in
       let newest : newest_epoch shape (page_at flash) (merged_root root level count taken) ≡ Ok found.newest = pieces.newest in
       let runs = runs_after shape (page_at flash) found.newest found.older root.counts root.runs found.runs lists count taken level is_level is.stands in
       rw (older, newest, runs) refl

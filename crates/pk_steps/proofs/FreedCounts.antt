@@ -1,17 +1,17 @@
--- How many blocks a merge gives back.
+-- How many blocks a merge frees.
 use Rattle.std.proofs.Common.{◌≡◌, inl, inr, ℕ, zero, suc, ◌+◌, ◌-◌, ◌<◌, sym, subst, arith, T, List, [], ◌∷◌, ◌++◌, length, slice_set, slice_index_or, ◌==◌, if◌then◌else◌, length-append}
 use Rattle.std.specs.List.{concat}
 use Rattle.pk_rootfmt.specs.Root.{differ}
 use Rattle.pk_model.specs.Tree.{blocks_after}
 use Rattle.pk_model.proofs.SamePages.{any_front}
 use Rattle.pk_model.proofs.Commits.{apart, differ_front, blocks_of_root}
-use Rattle.pk_model.proofs.ValueSets.{is_true}
-use Rattle.pk_steps.proofs.Places.{In}
+use Rattle.pk_steps.proofs.Places.{In, differ_back}
 use Rattle.pk_steps.specs.Merging.{FreedCounted, blocks_at}
 use Rattle.pk_steps.proofs.FourRuns.{IsLevel, four_of_root}
 use Rattle.pk_steps.proofs.Amounts.{levels}
-use Rattle.pk_steps.proofs.Freeing.{differ_back, in_one, was_named}
+use Rattle.pk_steps.proofs.Freeing.{in_one, was_named}
 use Rattle.pk_steps.proofs.Spelling.{differ_both}
+use Rattle.pk_base.proofs.Logic.{is_true}
 
 -- ---- two consecutive runs
 
@@ -53,7 +53,8 @@ one_differs (bs ∷ runs) d = differ_front bs (concat runs) d
 
 module _ (newest older taken : List ℕ) (runs : List (List ℕ)) (four : length runs ≡ 4) (d : T (differ ((newest ++ older) ++ concat runs))) where
   abbrev Counts : ℕ → Type 0
-  Counts level = length ((newest ++ (if level == 1 then [] else older)) ++ concat (blocks_after level taken runs)) + length ((if level == 1 then older else blocks_at runs (level - 1)) ++ blocks_at runs level) ≡ length ((newest ++ older) ++ concat runs) + length taken
+  Counts level = length ((newest ++ (if level == 1 then [] else older)) ++ concat (blocks_after level taken runs)) + length
+      ((if level == 1 then older else blocks_at runs (level - 1)) ++ blocks_at runs level) ≡ length ((newest ++ older) ++ concat runs) + length taken
 
   all_blocks : length ((newest ++ older) ++ concat runs) ≡ length newest + length older + length (concat runs)
   all_blocks = let one = length-append (newest ++ older) (concat runs) in let two = length-append newest older in omega (arith, one, two)
@@ -68,7 +69,8 @@ module _ (newest older taken : List ℕ) (runs : List (List ℕ)) (four : length
       let was = all_blocks in
       omega (arith, counts, now, front, gone, was)
 
-  deep : (i : ℕ) → suc i < length runs → length ((newest ++ older) ++ concat (slice_set (slice_set runs (suc i) taken) i [])) + length (slice_index_or runs i [] ++ slice_index_or runs (suc i) []) ≡ length ((newest ++ older) ++ concat runs) + length taken
+  deep : (i : ℕ) → suc i < length runs → length ((newest ++ older) ++ concat (slice_set (slice_set runs (suc i) taken) i [])) + length
+      (slice_index_or runs i [] ++ slice_index_or runs (suc i) []) ≡ length ((newest ++ older) ++ concat runs) + length taken
   deep i low =
       let counts = pair_counts i taken runs low in
       let now = length-append (newest ++ older) (concat (slice_set (slice_set runs (suc i) taken) i [])) in

@@ -1,4 +1,4 @@
--- What a merge gives back is read by nobody.
+-- No reading uses the blocks that a merge frees.
 use Rattle.std.proofs.Common.{◌≡◌, inl, inr, ℕ, zero, suc, ◌-◌, ◌/◌, sym, subst, T, Bool, true, false, List, [], ◌∷◌, ◌++◌, length, map, ◌==◌, slice_set, slice_index_or, if◌then◌else◌}
 use Rattle.std.specs.List.{concat}
 use Rattle.pk_base.specs.Page.{page_at}
@@ -10,15 +10,11 @@ use Rattle.pk_model.proofs.Commits.{apart, rest_differs, differ_front, blocks_of
 use Rattle.pk_model.proofs.Roots.{newest_sound}
 use Rattle.pk_steps.specs.Under.{IsValuePage, places}
 use Rattle.pk_steps.proofs.Untouched.{values_under}
-use Rattle.pk_steps.proofs.Places.{In, in_append}
+use Rattle.pk_steps.proofs.Places.{In, in_append, differ_back}
 use Rattle.pk_steps.specs.Merging.{Freed, blocks_at}
 use Rattle.pk_steps.proofs.FourRuns.{IsLevel, next_is_level}
 use Rattle.pk_steps.proofs.Merging.{in_set}
 use Rattle.pk_steps.proofs.Following.{merged_next}
-
-pub differ_back : (xs ys : List ℕ) → T (differ (xs ++ ys)) → T (differ ys)
-differ_back [] ys d = d
-differ_back (x ∷ xs) ys d = differ_back xs ys (rest_differs x (xs ++ ys) d)
 
 -- a block of one run is a block of the runs
 pub in_one : (b i : ℕ) (runs : List (List ℕ)) → In b (slice_index_or runs i []) → In b (concat runs)
@@ -36,7 +32,8 @@ gone_one b (suc i) new (bs ∷ runs) d was is = elim (in_append b bs (concat (sl
 ]
 
 -- so is a block of that run or of the one before, which is empty now
-gone_two : (b i : ℕ) (new : List ℕ) (runs : List (List ℕ)) → T (differ (concat runs)) → In b (slice_index_or runs i [] ++ slice_index_or runs (suc i) []) → In b (concat (slice_set (slice_set runs (suc i) new) i [])) → In b new
+gone_two : (b i : ℕ) (new : List ℕ) (runs : List (List ℕ)) → T (differ (concat runs))
+    → In b (slice_index_or runs i [] ++ slice_index_or runs (suc i) []) → In b (concat (slice_set (slice_set runs (suc i) new) i [])) → In b new
 gone_two b i new [] d was is = absurd was
 gone_two b zero new (bs ∷ []) d was is = absurd is
 gone_two b zero new (bs ∷ cs ∷ runs) d was is = elim (in_append b new (concat runs) is) [
@@ -47,7 +44,8 @@ gone_two b zero new (bs ∷ cs ∷ runs) d was is = elim (in_append b new (conca
   ]
 ]
 gone_two b (suc i) new (bs ∷ runs) d was is = elim (in_append b bs (concat (slice_set (slice_set runs (suc i) new) i [])) is) [
-  | inl here ↦ absurd (apart b bs (concat runs) d here (elim (in_append b (slice_index_or runs i []) (slice_index_or runs (suc i) []) was) [ inl one ↦ in_one b i runs one | inr other ↦ in_one b (suc i) runs other ]))
+  | inl here ↦ absurd (apart b bs (concat runs) d here
+      (elim (in_append b (slice_index_or runs i []) (slice_index_or runs (suc i) []) was) [ inl one ↦ in_one b i runs one | inr other ↦ in_one b (suc i) runs other ]))
   | inr there ↦ gone_two b i new runs (differ_back bs (concat runs) d) was there
 ]
 
@@ -58,7 +56,7 @@ module _ (newest older taken : List ℕ) (runs : List (List ℕ)) (d : T (differ
   runs_differ : T (differ (concat runs))
   runs_differ = differ_back (newest ++ older) (concat runs) d
 
-  -- a block that was given back is among the epochs and runs only if it was taken anew
+  -- a block that was freed is among the epochs and runs only if it was taken anew
   Only : List ℕ → List ℕ → List (List ℕ) → Type 0
   Only freed then_older then_runs = In b freed → In b ((newest ++ then_older) ++ concat then_runs) → In b taken
 
@@ -85,9 +83,10 @@ module _ (newest older taken : List ℕ) (runs : List (List ℕ)) (d : T (differ
         | inr run_now ↦ gone_two b i taken runs runs_differ was run_now
       ]
 
-  -- a block of what is given back was named
+  -- a block of what is freed was named
   abbrev Frees : ℕ → Type 0
-  Frees level = In b ((if level == 1 then older else blocks_at runs (level - 1)) ++ blocks_at runs level) → In b ((newest ++ (if level == 1 then [] else older)) ++ concat (blocks_after level taken runs)) → In b taken
+  Frees level = In b ((if level == 1 then older else blocks_at runs (level - 1)) ++ blocks_at runs level)
+      → In b ((newest ++ (if level == 1 then [] else older)) ++ concat (blocks_after level taken runs)) → In b taken
 
   pub only : (level : ℕ) → IsLevel level → Frees level
   only level (inl e) = rw e only_one

@@ -1,12 +1,13 @@
--- A freeze leaves the map: the entries of the newest epoch are those of the older one.
-use Rattle.std.proofs.Common.{◌≡◌, inl, inr, ℕ, suc, ◌+◌, ◌-◌, ◌*◌, ◌/◌, ◌%◌, ◌<◌, ◌≤◌, refl, sym, ap, subst, ◌∙◌, arith, true, false, not, ◌||◌, T, List, [], ◌∷◌, ◌++◌, length, reverse, nat_le, slice_index, ◌==◌, if◌then◌else◌, Result, Ok, append-nil, mul-le-mul_right, div-add-mod', mod-lt, zero-mul, eqb→eq, le→leb}
+-- A freeze does not change the map: the entries of the newest epoch are those of the older one.
+use Rattle.std.proofs.Common.{◌≡◌, inl, inr, ℕ, suc, ◌+◌, ◌-◌, ◌*◌, ◌/◌, ◌%◌, ◌<◌, ◌≤◌, refl, sym, ap, subst, ◌∙◌, arith, true, false, not, ◌||◌, T, List, [], ◌∷◌, ◌++◌, length, reverse, nat_le}
+use Rattle.std.proofs.Common.{slice_index, ◌==◌, if◌then◌else◌, Ok, append-nil, mul-le-mul_right, div-add-mod', mod-lt, zero-mul, eqb→eq, le→leb}
 use Rattle.std.proofs.lemmas.Nat.{div-mul-add}
 use Rattle.std.specs.List.{list_any, concat}
 use Rattle.pk_base.specs.Shape.{Shape, IsShape, buffer, epoch_pages}
 use Rattle.pk_base.specs.Page.{Page, Flash, page_at, erased, page_in}
 use Rattle.pk_base.specs.Entry.{Entry}
-use Rattle.pk_base.specs.EntryBytes.{IsEntry}
-use Rattle.pk_base.specs.Refusal.{Refusal, ◌>>=◌, ensure}
+use Rattle.pk_base.specs.EntryChecks.{IsEntry}
+use Rattle.pk_base.specs.Refusal.{ensure, ◌>>=◌}
 use Rattle.pk_base.specs.Firsts.{firsts}
 use Rattle.pk_base.specs.Map.{Map}
 use Rattle.pk_jrnfmt.specs.Epoch.{epoch}
@@ -22,27 +23,26 @@ use Rattle.pk_model.proofs.RootAlone.{found_alone, values_behind}
 use Rattle.pk_base.proofs.CommitPages.{second as next_page}
 use Rattle.pk_model.proofs.Commits.{blocks_of_root, root_valid, ends, not_read, erased_not, behind_roots, values_apart, is_any_back}
 use Rattle.pk_model.proofs.Entries.{counting_all, journal_are, meta_are}
-use Rattle.pk_model.proofs.ValueSets.{values_sound, values_complete, fits_parts, parts_fit, is_true}
+use Rattle.pk_model.proofs.ValueSets.{values_sound, values_complete, fits_parts, parts_fit}
 use Rattle.pk_model.proofs.HeldMap.{nothing_fits}
 use Rattle.pk_steps.specs.Under.{IsUnder, places}
 use Rattle.pk_steps.specs.Roots.{frozen_root, frozen, FreezeLeavesMap}
 use Rattle.pk_steps.proofs.Untouched.{Values, values_under, value_page_whole, not_erased}
 use Rattle.pk_steps.proofs.Places.{In, in_append, any_in_back, all_of, in_value, not_of}
-
-ok_same : {A : Type 0} (x y : A) → ◌≡◌ {A = Result A Refusal} (Ok x) (Ok y) → x ≡ y
-ok_same x y e = cc
+use Rattle.pk_base.proofs.Logic.{is_true, ok_same}
 
 -- a list with an element is not empty
 not_empty : (n : ℕ) → (suc n == 0) ≡ false
-not_empty n = elim (suc n == 0) as (λ b. (suc n == 0) ≡ b → b ≡ false) [ true ↦ λ e. let same : suc n ≡ 0 = eqb→eq (suc n) 0 (subst T (sym e) tt) in absurd (omega (arith, same)) | false ↦ λ e. refl ] refl
+not_empty n = elim (suc n == 0) as (λ b. (suc n == 0) ≡ b
+    → b ≡ false) [ true ↦ λ e. let same : suc n ≡ 0 = eqb→eq (suc n) 0 (subst T (sym e) tt) in absurd (omega (arith, same)) | false ↦ λ e. refl ] refl
 
 -- no blocks, no entries
-no_blocks : (shape : Shape) (at : ℕ → Page) (number : ℕ) → epoch shape at number [] ≡ Ok []
+pub no_blocks : (shape : Shape) (at : ℕ → Page) (number : ℕ) → epoch shape at number [] ≡ Ok []
 unfolding epoch
 no_blocks shape at number = rw (zero-mul (shape.block_pages / 2)) refl
 
 -- the older epoch of a freeze is the newest one before, which has entries or is not named
-older_is : (shape : Shape) (at : ℕ → Page) (number : ℕ) (blocks : List ℕ) (es : List Entry) → length blocks ≡ 2 → epoch shape at number blocks ≡ Ok es
+pub older_is : (shape : Shape) (at : ℕ → Page) (number : ℕ) (blocks : List ℕ) (es : List Entry) → length blocks ≡ 2 → epoch shape at number blocks ≡ Ok es
     → (do
       found ← epoch shape at (number + 1 - 1) (if length es == 0 then [] else blocks)
       _ ← ensure (length (if length es == 0 then [] else blocks) == 0 || nat_le 1 (length found)) (page_in shape (if length es == 0 then [] else blocks) 0)
@@ -96,7 +96,8 @@ module _ (shape : Shape) (flash new : Flash) (top : ℕ × Root) (found : Found)
       let parts : record { newest = two.0; older = one.0; runs = three.0 } ≡ found = ok_same _ _ three.2 in
       let newest : two.0 ≡ found.newest = ap (λ (f : Found). f.newest) parts in
       let runs : runs_from shape (page_at new) 1 root.counts root.runs ≡ Ok found.runs = three.1 ∙ (λ i. Ok (parts i).runs) in
-      let older : older_epoch shape (page_at new) root' ≡ Ok found.newest = older_is shape (page_at new) root.epoch root.newest found.newest (blocks_of_root shape root was_valid).two (two.1 ∙ (λ i. Ok (newest i))) in
+      let older : older_epoch shape (page_at new) root' ≡ Ok found.newest = older_is shape
+      (page_at new) root.epoch root.newest found.newest (blocks_of_root shape root was_valid).two (two.1 ∙ (λ i. Ok (newest i))) in
       let empty : newest_epoch shape (page_at new) root' ≡ Ok [] = nothing in
       rw (older, empty, runs) refl
 
@@ -131,7 +132,8 @@ module _ (shape : Shape) (flash new : Flash) (top : ℕ × Root) (found : Found)
   outside : (k : ℕ) → In k (all_pages shape (places found [])) → In (k / shape.block_pages) (named root') → ⊥
   outside k is among =
       let value = in_value shape (places found []) k is in
-      let former : In (k / shape.block_pages) (named root) → ⊥ = λ there. values_apart shape (page_at flash) (named root) [] (places found []) values.values values.read k value (is_any_back (k / shape.block_pages) (named root) there) in
+      let former : In (k / shape.block_pages) (named root)
+      → ⊥ = λ there. values_apart shape (page_at flash) (named root) [] (places found []) values.values values.read k value (is_any_back (k / shape.block_pages) (named root) there) in
       elim (in_append (k / shape.block_pages) ((first ∷ second ∷ []) ++ root'.older) (concat root.runs) among) [
         | inl front ↦ elim (in_append (k / shape.block_pages) (first ∷ second ∷ []) root'.older front) [
           | inl fresh ↦ not_erased _ (value_page_whole shape flash [] top found m before k value) (in_new k fresh)
@@ -151,18 +153,22 @@ module _ (shape : Shape) (flash new : Flash) (top : ℕ × Root) (found : Found)
   is_map =
       let es = places found [] in
       let was = values_sound shape (named root) (page_at flash) es values.values (nothing_fits shape (named root)) values.read in
-      let moved : values_of shape (page_at new) (named root) [] es ≡ Ok values.values = values_same shape (page_at flash) (page_at new) (named root) [] es (λ k is. same k (values_behind shape (firsts (entries_in_order found []))
-      (counting_all (IsEntry shape) shape (page_at flash) (λ k number index bytes es stands read. journal_are shape number index bytes es read) (λ k level index count bytes es stands read. meta_are shape level index count bytes es read) root found [] before.is_found tt) k is)) ∙ values.read in
+      let moved : values_of shape (page_at new) (named root) [] es ≡ Ok values.values = values_same shape (page_at flash)
+      (page_at new) (named root) [] es (λ k is. same k (values_behind shape (firsts (entries_in_order found []))
+      (counting_all (IsEntry shape) shape (page_at flash) (λ k number index bytes es stands read. journal_are shape number index bytes es read)
+      (λ k level index count bytes es stands read. meta_are shape level index count bytes es read) root found [] before.is_found tt) k is)) ∙ values.read in
       let there = values_sound shape (named root) (page_at new) es values.values (nothing_fits shape (named root)) moved in
       let parts = fits_parts shape (named root) (all_pages shape es) (subst T (sym there.placed_well) tt) in
       let fit = parts_fit shape (named root') (all_pages shape es) (record {
-        out = all_of (λ p. not (list_any (λ b. b == p / shape.block_pages) (named root'))) (all_pages shape es) (λ k is. not_of (list_any (λ b. b == k / shape.block_pages) (named root')) (λ t. outside k is (any_in_back (k / shape.block_pages) (named root') t)));
+        out = all_of (λ p. not (list_any (λ b. b == p / shape.block_pages) (named root'))) (all_pages shape es)
+            (λ k is. not_of (list_any (λ b. b == k / shape.block_pages) (named root')) (λ t. outside k is (any_in_back (k / shape.block_pages) (named root') t)));
         different = parts.different;
         few = parts.few;
         few_blocks = parts.few_blocks;
       }) in
       let read = values_complete shape (named root') (page_at new) es values.values (record { placed_well = is_true _ fit; read = there.read }) in
-      let again : values_of shape (page_at new) (named root') [] (placed (firsts (entries_in_order (frozen found) []))) ≡ Ok values.values = ap (λ xs. values_of shape (page_at new) (named root') [] (placed (firsts xs))) same_entries ∙ read in
+      let again : values_of shape (page_at new) (named root') [] (placed (firsts (entries_in_order (frozen found) [])))
+      ≡ Ok values.values = ap (λ xs. values_of shape (page_at new) (named root') [] (placed (firsts xs))) same_entries ∙ read in
       let room : nat_le 0 (buffer shape) ≡ true = is_true _ (le→leb 0 (buffer shape) (omega arith)) in
       rw (room, again) (λ i. Ok (values.whole_map i))
 

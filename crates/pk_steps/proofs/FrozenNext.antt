@@ -1,12 +1,12 @@
--- The root after a freeze may follow.
-use Rattle.std.proofs.Common.{◌≡◌, inl, inr, ℕ, suc, ◌+◌, ◌-◌, ◌*◌, ◌/◌, ◌%◌, ◌<◌, ◌≤◌, refl, sym, ap, subst, ◌∙◌, arith, true, false, ◌||◌, T, List, [], ◌∷◌, ◌++◌, length, reverse, nat_le, slice_index, ◌==◌, if◌then◌else◌, Ok, append-nil, mul-le-mul_right, div-add-mod', mod-lt, zero-mul, eqb→eq, le→leb, leb→le, le_trans}
+-- The root after a freeze is a valid successor.
+use Rattle.std.proofs.Common.{◌≡◌, inl, inr, ℕ, suc, ◌+◌, ◌-◌, ◌*◌, ◌/◌, ◌%◌, ◌<◌, ◌≤◌, refl, sym, ap, subst, ◌∙◌, arith, true, false, T, List, [], ◌∷◌, ◌++◌, length, reverse, slice_index, ◌==◌}
+use Rattle.std.proofs.Common.{if◌then◌else◌, Ok, append-nil, mul-le-mul_right, div-add-mod', mod-lt, eqb→eq, leb→le, le_trans}
 use Rattle.std.proofs.lemmas.Nat.{div-mul-add}
 use Rattle.std.proofs.lemmas.List.{reverse-append}
 use Rattle.std.specs.List.{concat, flat_map}
 use Rattle.pk_base.specs.Shape.{Shape, IsShape, buffer, epoch_pages}
-use Rattle.pk_base.specs.Page.{Page, Flash, page_at, erased, page_in}
+use Rattle.pk_base.specs.Page.{Flash, page_at, erased, page_in}
 use Rattle.pk_base.specs.Entry.{Entry}
-use Rattle.pk_base.specs.Refusal.{◌>>=◌, ensure}
 use Rattle.pk_base.specs.Firsts.{firsts}
 use Rattle.pk_base.specs.Map.{Map}
 use Rattle.pk_jrnfmt.specs.Epoch.{epoch}
@@ -14,12 +14,10 @@ use Rattle.pk_rootfmt.specs.Root.{Root, is_root, named}
 use Rattle.pk_model.specs.Found.{Found, older_epoch, newest_epoch, found_under, entries_in_order}
 use Rattle.pk_model.specs.Values.{placed}
 use Rattle.pk_base.proofs.ShapeLemmas.{block_pages_positive}
-use Rattle.pk_model.proofs.Lookups.{firsts_sorted}
 use Rattle.pk_model.proofs.SamePages.{any_front, any_back}
 use Rattle.pk_model.proofs.Roots.{newest_sound}
 use Rattle.pk_base.proofs.CommitPages.{second as next_page}
 use Rattle.pk_model.proofs.Commits.{blocks_of_root, root_valid, ends, not_read, erased_not, values_apart, is_any_back}
-use Rattle.pk_model.proofs.ValueSets.{is_true}
 use Rattle.pk_steps.specs.Under.{IsUnder, IsNamed, IsValuePage, places}
 use Rattle.pk_steps.specs.Roots.{frozen_root, frozen}
 use Rattle.pk_steps.proofs.Untouched.{Values, values_under, value_page_whole, not_erased}
@@ -27,28 +25,13 @@ use Rattle.pk_steps.proofs.Places.{In, in_append}
 use Rattle.pk_steps.specs.Freezing.{IsFrozen, Frozen}
 use Rattle.pk_steps.proofs.FourRuns.{pieces_of}
 use Rattle.pk_steps.proofs.Keys.{no_more_keys, has_firsts, firsts_has, has_behind}
+use Rattle.pk_base.proofs.KeyLemmas.{firsts_sorted}
+use Rattle.pk_steps.proofs.Freezing.{older_is}
 
 -- a list with an element is not empty
 not_empty : (n : ℕ) → (suc n == 0) ≡ false
-not_empty n = elim (suc n == 0) as (λ b. (suc n == 0) ≡ b → b ≡ false) [ true ↦ λ e. let same : suc n ≡ 0 = eqb→eq (suc n) 0 (subst T (sym e) tt) in absurd (omega (arith, same)) | false ↦ λ e. refl ] refl
-
-no_blocks : (shape : Shape) (at : ℕ → Page) (number : ℕ) → epoch shape at number [] ≡ Ok []
-unfolding epoch
-no_blocks shape at number = rw (zero-mul (shape.block_pages / 2)) refl
-
--- the older epoch of a freeze is the newest one before, which has entries or is not named
-older_is : (shape : Shape) (at : ℕ → Page) (number : ℕ) (blocks : List ℕ) (es : List Entry) → length blocks ≡ 2 → epoch shape at number blocks ≡ Ok es
-    → (do
-      found ← epoch shape at (number + 1 - 1) (if length es == 0 then [] else blocks)
-      _ ← ensure (length (if length es == 0 then [] else blocks) == 0 || nat_le 1 (length found)) (page_in shape (if length es == 0 then [] else blocks) 0)
-      Ok found) ≡ Ok es
-older_is shape at number blocks [] two is = let none = no_blocks shape at (number + 1 - 1) in rw none refl
-older_is shape at number blocks (e ∷ es) two is =
-    let some = not_empty (length es) in
-    let former : number + 1 - 1 ≡ number = omega arith in
-    let named_two : (length blocks == 0) ≡ false = ap (λ n. n == 0) two ∙ not_empty 1 in
-    let least : nat_le 1 (suc (length es)) ≡ true = is_true _ (le→leb 1 (suc (length es)) (omega arith)) in
-    rw (some, former, is, named_two, least) refl
+not_empty n = elim (suc n == 0) as (λ b. (suc n == 0) ≡ b
+    → b ≡ false) [ true ↦ λ e. let same : suc n ≡ 0 = eqb→eq (suc n) 0 (subst T (sym e) tt) in absurd (omega (arith, same)) | false ↦ λ e. refl ] refl
 
 module _ (shape : Shape) (flash : Flash) (extra : List Entry) (top : ℕ × Root) (found : Found) (m : Map) (first second : ℕ) (is_shape : IsShape shape)
     (before : IsUnder shape flash extra top found m) (is : IsFrozen shape flash top found first second) where
@@ -77,7 +60,8 @@ module _ (shape : Shape) (flash : Flash) (extra : List Entry) (top : ℕ × Root
   unfolding found_under
   is_found =
       let pieces = pieces_of shape (page_at flash) root found before.is_found in
-      let older : older_epoch shape (page_at flash) then_root ≡ Ok found.newest = older_is shape (page_at flash) root.epoch root.newest found.newest (blocks_of_root shape root was_valid).two pieces.newest in
+      let older : older_epoch shape (page_at flash) then_root ≡ Ok found.newest = older_is shape
+      (page_at flash) root.epoch root.newest found.newest (blocks_of_root shape root was_valid).two pieces.newest in
       let empty : newest_epoch shape (page_at flash) then_root ≡ Ok [] = nothing in
       let runs = pieces.runs in
       rw (older, empty, runs) refl
@@ -132,7 +116,8 @@ module _ (shape : Shape) (flash : Flash) (extra : List Entry) (top : ℕ × Root
   -- the extra entries alone have no more keys
   room : length (firsts extra) ≤ buffer shape
   room =
-      let fewer = no_more_keys (firsts extra) (firsts (found.newest ++ extra)) (firsts_sorted extra) (firsts_sorted (found.newest ++ extra)) (λ q has. has_firsts q (found.newest ++ extra) (has_behind q found.newest extra (firsts_has q extra has))) in
+      let fewer = no_more_keys (firsts extra) (firsts (found.newest ++ extra)) (firsts_sorted extra) (firsts_sorted (found.newest ++ extra))
+      (λ q has. has_firsts q (found.newest ++ extra) (has_behind q found.newest extra (firsts_has q extra has))) in
       le_trans fewer (leb→le _ _ values.room)
 
 pub frozen_next : Frozen

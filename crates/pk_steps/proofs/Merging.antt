@@ -24,13 +24,15 @@ use Rattle.pk_steps.proofs.FourRuns.{Runs, IsLevel, empty_run}
 abbrev found_of : List Entry → List Entry → List (List Entry) → Found
 found_of newest older runs = record { newest = newest; older = older; runs = runs }
 
-module _ (shape : Shape) (at : ℕ → Page) (newest older : List Entry) (counts : List ℕ) (runs : List (List ℕ)) (lists : List (List Entry)) (four : Runs shape at counts runs lists) (count : ℕ) (taken : List ℕ) where
+module _ (shape : Shape) (at : ℕ → Page) (newest older : List Entry) (counts : List ℕ) (runs : List (List ℕ))
+    (lists : List (List Entry)) (four : Runs shape at counts runs lists) (count : ℕ) (taken : List ℕ) where
   abbrev now : List (List Entry)
   now = four.r1 ∷ four.r2 ∷ four.r3 ∷ four.r4 ∷ []
 
   -- the runs are found after a merge into this level
   abbrev After : ℕ → List ℕ → List (List ℕ) → List (List Entry) → Type 0
-  After level cs bs ls = run shape at level count taken ≡ Ok (output_of level (found_of newest older ls)) → runs_from shape at 1 (counts_after level count cs) (blocks_after level taken bs) ≡ Ok (merged level older ls)
+  After level cs bs ls = run shape at level count taken ≡ Ok (output_of level (found_of newest older ls))
+      → runs_from shape at 1 (counts_after level count cs) (blocks_after level taken bs) ≡ Ok (merged level older ls)
 
   after : (level : ℕ) → IsLevel level → After level (four.n1 ∷ four.n2 ∷ four.n3 ∷ four.n4 ∷ []) (four.b1 ∷ four.b2 ∷ four.b3 ∷ four.b4 ∷ []) now
   unfolding runs_from
@@ -79,7 +81,8 @@ module _ (newest extra older r1 r2 r3 r4 : List Entry) where
 pub same_places : (newest extra older : List Entry) (runs : List (List Entry)) (r1 r2 r3 r4 : List Entry) → runs ≡ r1 ∷ r2 ∷ r3 ∷ r4 ∷ [] → (level : ℕ) → IsLevel level
     → placed (firsts (entries_in_order (found_of newest (if level == 1 then [] else older) (merged level older runs)) extra)) ≡ placed (firsts (entries_in_order (found_of newest older runs) extra))
 same_places newest extra older runs r1 r2 r3 r4 are level is =
-    subst (λ ls. placed (firsts (entries_in_order (found_of newest (if level == 1 then [] else older) (merged level older ls)) extra)) ≡ placed (firsts (entries_in_order (found_of newest older ls) extra))) (sym are) (same newest extra older r1 r2 r3 r4 level is)
+    subst (λ ls. placed (firsts (entries_in_order (found_of newest (if level == 1 then [] else older) (merged level older ls)) extra))
+    ≡ placed (firsts (entries_in_order (found_of newest older ls) extra))) (sym are) (same newest extra older r1 r2 r3 r4 level is)
 
 -- ---- the blocks
 

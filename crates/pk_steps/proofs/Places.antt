@@ -1,5 +1,6 @@
 -- One value more, or one less, that is well placed.
-use Rattle.std.proofs.Common.{◌≡◌, ◌⊎◌, inl, inr, ℕ, zero, suc, ◌+◌, ◌/◌, ◌<◌, ◌≤◌, refl, sym, ap, subst, ◌∙◌, arith, Bool, true, false, not, ◌||◌, cond, T, List, [], ◌∷◌, ◌++◌, length, filter, ◌==◌, eqb→eq, le_trans, eq-or-lt_of_le, length-append}
+use Rattle.std.proofs.Common.{◌≡◌, ◌⊎◌, inl, inr, ℕ, zero, suc, ◌+◌, ◌/◌, ◌<◌, ◌≤◌, refl, sym, ap, subst, ◌∙◌, arith, Bool, true, false, not, ◌||◌, cond, T, List, [], ◌∷◌, ◌++◌, length, filter, ◌==◌}
+use Rattle.std.proofs.Common.{eqb→eq, le_trans, eq-or-lt_of_le, length-append}
 use Rattle.std.specs.declared.cmp.Ordering.TheVariants.{Less, Equal, Greater}
 use Rattle.std.specs.List.{list_any, list_all, range_with_len}
 use Rattle.std.specs.FinMap.Entries.{put, by_order}
@@ -10,11 +11,12 @@ use Rattle.pk_segfmt.specs.Value.{value_pages}
 use Rattle.pk_rootfmt.specs.Root.{differ}
 use Rattle.pk_model.specs.Values.{fits, blocks_with, all_pages}
 use Rattle.pk_model.specs.Laws.{AnyByRecursion}
-use Rattle.pk_model.proofs.Commits.{left_part, right_part, both, refuted, rest_differs, any_behind, apart, differ_front, all_front, is_any}
+use Rattle.pk_model.proofs.Commits.{refuted, rest_differs, any_behind, apart, differ_front, all_front, is_any}
 use Rattle.pk_model.proofs.SamePages.{any_front}
-use Rattle.pk_model.proofs.ValueSets.{fits_parts, parts_fit, is_true, any_more, filter_more}
+use Rattle.pk_model.proofs.ValueSets.{fits_parts, parts_fit, any_more, filter_more}
 use Rattle.pk_steps.specs.Under.{IsValuePage}
 use Rattle.pk_steps.specs.Stores.{Fits}
+use Rattle.pk_base.proofs.Logic.{is_true, left_part, right_part, both, or_cases}
 
 abbrev pub In : ℕ → List ℕ → Type 0
 In k xs = AnyByRecursion (λ y. k ≡ y) xs
@@ -29,14 +31,10 @@ or_left : (a b : Bool) → T a → T (a || b)
 or_left true b p = tt
 or_left false b p = absurd p
 
-or_cases : (a b : Bool) → T (a || b) → T a ⊎ T b
-or_cases true b p = inl tt
-or_cases false b p = inr p
-
 eq_of : (a b : ℕ) → T (a == b) → a ≡ b
 eq_of a b t = eqb→eq a b t
 
-any_in : (x : ℕ) (xs : List ℕ) → T (list_any (λ c. x == c) xs) → In x xs
+pub any_in : (x : ℕ) (xs : List ℕ) → T (list_any (λ c. x == c) xs) → In x xs
 any_in x [] t = absurd t
 any_in x (y ∷ xs) t = elim (or_cases (x == y) (list_any (λ c. x == c) xs) t) [ inl is ↦ inl (eq_of x y is) | inr is ↦ inr (any_in x xs is) ]
 
@@ -92,10 +90,6 @@ absent x xs d is = refuted (list_any (λ c. x == c) xs) (left_part (not (list_an
 
 pub differ_cons : (x : ℕ) (xs : List ℕ) → (In x xs → ⊥) → T (differ xs) → T (differ (x ∷ xs))
 differ_cons x xs new d = both (not (list_any (λ c. x == c) xs)) (differ xs) (not_of (list_any (λ c. x == c) xs) (λ t. new (any_in x xs t))) d
-
-differ_back : (xs ys : List ℕ) → T (differ (xs ++ ys)) → T (differ ys)
-differ_back [] ys d = d
-differ_back (x ∷ xs) ys d = differ_back xs ys (rest_differs x (xs ++ ys) d)
 
 pub differ_append : (xs ys : List ℕ) → T (differ xs) → T (differ ys) → ((k : ℕ) → In k xs → In k ys → ⊥) → T (differ (xs ++ ys))
 differ_append [] ys front back none = back
@@ -162,6 +156,10 @@ kept q es = filter (λ e. q e.0) es
 
 -- ---- the pages of values
 
+pub differ_back : (xs ys : List ℕ) → T (differ (xs ++ ys)) → T (differ ys)
+differ_back [] ys d = d
+differ_back (x ∷ xs) ys d = differ_back xs ys (rest_differs x (xs ++ ys) d)
+
 module _ (shape : Shape) where
   pub value_in : (es : List (Key × Place)) (k : ℕ) → IsValuePage shape es k → In k (all_pages shape es)
   value_in [] k is = absurd is
@@ -170,7 +168,11 @@ module _ (shape : Shape) where
 
   pub in_value : (es : List (Key × Place)) (k : ℕ) → In k (all_pages shape es) → IsValuePage shape es k
   in_value [] k is = absurd is
-  in_value (e ∷ es) k is = elim (in_append k (value_pages shape e.1) (all_pages shape es) is) [ inl here ↦ inl (in_range k e.1.page (charge shape e.1.len) here) | inr there ↦ inr (in_value es k there) ]
+  in_value (e ∷ es) k is = elim (in_append k (value_pages shape e.1) (all_pages shape es) is) [
+    | inl here ↦ inl
+        (in_range k e.1.page (charge shape e.1.len) here)
+    | inr there ↦ inr (in_value es k there)
+  ]
 
   any_page : (pages : List ℕ) (b : ℕ) → T (list_any (λ p. p / shape.block_pages == b) pages) → (p : ℕ) × In p pages × (p / shape.block_pages ≡ b)
   any_page [] b t = absurd t
@@ -180,7 +182,8 @@ module _ (shape : Shape) where
   ]
 
   pub few_blocks : (pages used : List ℕ) → ((k : ℕ) → In k pages → AnyByRecursion (λ b. k / shape.block_pages ≡ b) used) → length (blocks_with shape pages) ≤ length used
-  few_blocks pages used among = no_more (blocks_with shape pages) used (differ_filter (λ b. list_any (λ p. p / shape.block_pages == b) pages) (range_with_len 0 shape.blocks) (differ_range 0 shape.blocks)) (λ b is.
+  few_blocks pages used among = no_more (blocks_with shape pages) used
+      (differ_filter (λ b. list_any (λ p. p / shape.block_pages == b) pages) (range_with_len 0 shape.blocks) (differ_range 0 shape.blocks)) (λ b is.
       let with_page = (in_filter (λ c. list_any (λ p. p / shape.block_pages == c) pages) b (range_with_len 0 shape.blocks) is).1 in
       let page = any_page pages b with_page in
       subst (λ x. In x used) page.2 (among page.0 page.1))
@@ -202,16 +205,22 @@ module _ (shape : Shape) where
     in_put : (k : ℕ) (es : List (Key × Place)) → In k (all_pages shape (put key_cmp key place es)) → In k (value_pages shape place) ⊎ In k (all_pages shape es)
     in_put k [] is = in_append k (value_pages shape place) [] is
     in_put k (e ∷ es) is =
-        elim (key_cmp key e.0) as (λ r. In k (all_pages shape (by_order r ((key, place) ∷ e ∷ es) ((e.0, place) ∷ es) (e ∷ put key_cmp key place es))) → In k (value_pages shape place) ⊎ In k (all_pages shape (e ∷ es))) [
+        elim (key_cmp key e.0) as (λ r. In k (all_pages shape (by_order r ((key, place) ∷ e ∷ es) ((e.0, place) ∷ es) (e ∷ put key_cmp key place es)))
+        → In k (value_pages shape place) ⊎ In k (all_pages shape (e ∷ es))) [
           | Less ↦ λ i. in_append k (value_pages shape place) (all_pages shape (e ∷ es)) i
-          | Equal ↦ λ i. elim (in_append k (value_pages shape place) (all_pages shape es) i) [ inl new ↦ inl new | inr old ↦ inr (any_behind (λ y. k ≡ y) (value_pages shape e.1) (all_pages shape es) old) ]
+          | Equal ↦ λ i. elim (in_append k (value_pages shape place) (all_pages shape es) i) [
+            | inl new ↦ inl new
+            | inr old ↦ inr
+                (any_behind (λ y. k ≡ y) (value_pages shape e.1) (all_pages shape es) old)
+          ]
           | Greater ↦ λ i. elim (in_append k (value_pages shape e.1) (all_pages shape (put key_cmp key place es)) i) [
             | inl here ↦ inr (any_front (λ y. k ≡ y) (value_pages shape e.1) (all_pages shape es) here)
             | inr there ↦ elim (in_put k es there) [ inl new ↦ inl new | inr old ↦ inr (any_behind (λ y. k ≡ y) (value_pages shape e.1) (all_pages shape es) old) ]
           ]
         ] is
 
-    differ_put : (es : List (Key × Place)) → T (differ (all_pages shape es)) → ((k : ℕ) → In k (value_pages shape place) → In k (all_pages shape es) → ⊥) → T (differ (all_pages shape (put key_cmp key place es)))
+    differ_put : (es : List (Key × Place)) → T (differ (all_pages shape es))
+        → ((k : ℕ) → In k (value_pages shape place) → In k (all_pages shape es) → ⊥) → T (differ (all_pages shape (put key_cmp key place es)))
     differ_put [] d none = differ_append (value_pages shape place) [] (differ_range place.page (charge shape place.len)) tt (λ k new old. old)
     differ_put (e ∷ es) d none =
         let new = differ_range place.page (charge shape place.len) in
@@ -255,7 +264,8 @@ module _ (shape : Shape) where
     differ_kept (e ∷ es) d =
         let rest = differ_kept es (differ_back (value_pages shape e.1) (all_pages shape es) d) in
         elim (q e.0) as (λ b. T (differ (all_pages shape (cond b (e ∷ kept q es) (kept q es))))) [
-          | true ↦ differ_append (value_pages shape e.1) (all_pages shape (kept q es)) (differ_front (value_pages shape e.1) (all_pages shape es) d) rest (λ k here there. apart k (value_pages shape e.1) (all_pages shape es) d here (in_kept k es there))
+          | true ↦ differ_append (value_pages shape e.1) (all_pages shape (kept q es)) (differ_front (value_pages shape e.1) (all_pages shape es) d) rest
+              (λ k here there. apart k (value_pages shape e.1) (all_pages shape es) d here (in_kept k es there))
           | false ↦ rest
         ]
 
@@ -288,7 +298,8 @@ module _ (shape : Shape) where
           out = all_kept (λ p. not (list_any (λ b. b == p / shape.block_pages) blocks)) es parts.out;
           different = differ_kept es parts.different;
           few = le_trans (length_kept es) parts.few;
-          few_blocks = le_trans (filter_more (λ b. list_any (λ p. p / shape.block_pages == b) (all_pages shape (kept q es))) (λ b. list_any (λ p. p / shape.block_pages == b) (all_pages shape es)) (λ b t. any_kept _ es t) (range_with_len 0 shape.blocks)) parts.few_blocks;
+          few_blocks = le_trans (filter_more (λ b. list_any (λ p. p / shape.block_pages == b) (all_pages shape (kept q es)))
+              (λ b. list_any (λ p. p / shape.block_pages == b) (all_pages shape es)) (λ b t. any_kept _ es t) (range_with_len 0 shape.blocks)) parts.few_blocks;
         })
 
 -- one value more is well placed
@@ -298,7 +309,9 @@ fits_more shape blocks used es key place is outside new few among few_used =
     let pages = all_pages shape (put key_cmp key place es) in
     is_true _ (parts_fit shape blocks pages (record {
       out = all_put shape key place (λ p. not (list_any (λ b. b == p / shape.block_pages) blocks)) es
-          (all_of (λ p. not (list_any (λ b. b == p / shape.block_pages) blocks)) (value_pages shape place) (λ k here. not_of (list_any (λ b. b == k / shape.block_pages) blocks) (λ t. outside k (in_range k place.page (charge shape place.len) here) (any_in_back (k / shape.block_pages) blocks t))))
+          (all_of (λ p. not (list_any (λ b. b == p / shape.block_pages) blocks)) (value_pages shape place)
+          (λ k here. not_of (list_any (λ b. b == k / shape.block_pages) blocks)
+          (λ t. outside k (in_range k place.page (charge shape place.len) here) (any_in_back (k / shape.block_pages) blocks t))))
           parts.out;
       different = differ_put shape key place es parts.different (λ k here there. new k (in_range k place.page (charge shape place.len) here) (in_value shape es k there));
       few = few;

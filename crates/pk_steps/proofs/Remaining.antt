@@ -20,7 +20,8 @@ same_output : (level : ℕ) (found then_found : Found) → then_found.older ≡ 
 same_output level found then_found older runs = λ i. output_of level (record { newest = found.newest; older = older i; runs = runs i })
 
 -- a page of the output is in one of its blocks
-in_taken : (shape : Shape) (count : ℕ) (taken : List ℕ) → 0 < shape.block_pages → length taken ≡ run_blocks shape count → (j : ℕ) → j < run_pages shape count → AnyByRecursion (λ b. page_in shape taken j / shape.block_pages ≡ b) taken
+in_taken : (shape : Shape) (count : ℕ) (taken : List ℕ) → 0 < shape.block_pages → length taken ≡ run_blocks shape count
+    → (j : ℕ) → j < run_pages shape count → AnyByRecursion (λ b. page_in shape taken j / shape.block_pages ≡ b) taken
 in_taken shape count taken positive size j low =
     let n = shape.block_pages in
     let room = ceil_room (run_pages shape count) n positive in
@@ -31,7 +32,8 @@ in_taken shape count taken positive size j low =
 pub merged_still : MergedStill
 merged_still shape flash new extra then_extra top then_top found then_found level count taken is_shape is same_top older runs same outside =
     let positive = block_pages_positive shape is_shape in
-    let agree : (j : ℕ) → j < run_pages shape count → page_at new (page_in shape taken j) ≡ page_at flash (page_in shape taken j) = λ j low. same (page_in shape taken j) (in_taken shape count taken positive is.size j low) in
+    let agree : (j : ℕ) → j < run_pages shape count
+    → page_at new (page_in shape taken j) ≡ page_at flash (page_in shape taken j) = λ j low. same (page_in shape taken j) (in_taken shape count taken positive is.size j low) in
     let at_root : (P : Root → Type 0) → P top.1 → P then_top.1 = λ P. subst P (sym same_top) in
     record {
       next = (λ i. next_merge shape (length (firsts (older i))) (map (λ es. length es) (runs i))) ∙ is.next;

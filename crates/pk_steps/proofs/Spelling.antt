@@ -1,5 +1,6 @@
 -- The root after a merge is one of the grammar.
-use Rattle.std.proofs.Common.{◌≡◌, ◌⊎◌, inl, inr, ℕ, zero, suc, ◌+◌, ◌-◌, ◌*◌, ◌/◌, ◌%◌, ◌<◌, ◌≤◌, min, refl, sym, ap, subst, ◌∙◌, arith, Bool, true, false, not, ◌&&◌, ◌||◌, T, List, [], ◌∷◌, ◌++◌, length, map, zip, nat_le, nat_lt, ◌==◌, slice_set, if◌then◌else◌, leb→le, le→leb, append-nil, eqb→eq}
+use Rattle.std.proofs.Common.{◌≡◌, ◌⊎◌, inl, inr, ℕ, zero, suc, ◌+◌, ◌-◌, ◌*◌, ◌/◌, ◌%◌, ◌<◌, ◌≤◌, min, refl, sym, ap, subst, ◌∙◌, arith, Bool, true, false, not, ◌&&◌, ◌||◌, T, List, [], ◌∷◌, ◌++◌}
+use Rattle.std.proofs.Common.{length, map, zip, nat_le, nat_lt, ◌==◌, slice_set, if◌then◌else◌, leb→le, le→leb, append-nil}
 use Rattle.std.specs.Prelude.{bytes_eq}
 use Rattle.std.proofs.Math.Nat.{zero-div, zero-mod}
 use Rattle.std.proofs.lemmas.Slice.Eq.{bytes_eq-Decides}
@@ -10,14 +11,13 @@ use Rattle.pk_rootfmt.specs.Root.{Root, named, is_root, is_number, has_runs, dif
 use Rattle.pk_model.specs.Tree.{blocks_after}
 use Rattle.pk_model.proofs.SamePages.{any_front, any_back}
 use Rattle.pk_model.proofs.RootAlone.{head_same, tail_same}
-use Rattle.pk_model.proofs.Commits.{left_part, right_part, both, rest_differs, apart, differ_front, is_any}
-use Rattle.pk_model.proofs.ValueSets.{is_true}
-use Rattle.pk_steps.proofs.Places.{In, in_append, all_of, not_of}
+use Rattle.pk_model.proofs.Commits.{rest_differs, apart, differ_front, is_any}
+use Rattle.pk_steps.proofs.Places.{In, in_append, all_of, not_of, any_in, differ_back}
 use Rattle.pk_steps.specs.Merging.{merged_root, counts_after, MergedGrammar}
 use Rattle.pk_steps.proofs.FourRuns.{IsLevel, four_of, four_of_root}
 use Rattle.pk_steps.proofs.Amounts.{WithinCaps, within_caps, counted_of, levels}
 use Rattle.pk_steps.proofs.Merging.{in_set, in_after}
-use Rattle.pk_steps.proofs.Freeing.{differ_back}
+use Rattle.pk_base.proofs.Logic.{is_true, left_part, right_part, both}
 
 -- ---- tests one after another
 
@@ -56,14 +56,6 @@ all_parts true true true true true true true false is = absurd is.eight
 
 -- ---- lists
 
-or_cases : (a b : Bool) → T (a || b) → T a ⊎ T b
-or_cases true b p = inl tt
-or_cases false b p = inr p
-
-any_in : (x : ℕ) (xs : List ℕ) → T (list_any (λ c. x == c) xs) → In x xs
-any_in x [] t = absurd t
-any_in x (y ∷ xs) t = elim (or_cases (x == y) (list_any (λ c. x == c) xs) t) [ inl is ↦ inl (eqb→eq x y is) | inr is ↦ inr (any_in x xs is) ]
-
 all_at_each : (p : ℕ → Bool) (xs : List ℕ) (b : ℕ) → T (list_all p xs) → In b xs → T (p b)
 all_at_each p [] b all is = absurd is
 all_at_each p (x ∷ xs) b all (inl e) = subst (λ y. T (p y)) (sym e) (left_part (p x) (list_all p xs) all)
@@ -94,7 +86,8 @@ differ_set (suc i) new (bs ∷ runs) d fresh none =
     (differ_set i new runs (differ_back bs (concat runs) d) fresh (λ b here there. none b here (any_back (λ c. b ≡ c) bs (concat runs) there)))
     (λ b here there. elim (in_set b i new runs there) [ inl is_new ↦ none b is_new (any_front (λ c. b ≡ c) bs (concat runs) here) | inr was ↦ apart b bs (concat runs) d here was ])
 
-differ_after : (level : ℕ) (taken : List ℕ) (runs : List (List ℕ)) → T (differ (concat runs)) → T (differ taken) → ((b : ℕ) → In b taken → In b (concat runs) → ⊥) → T (differ (concat (blocks_after level taken runs)))
+differ_after : (level : ℕ) (taken : List ℕ) (runs : List (List ℕ)) → T (differ (concat runs)) → T (differ taken)
+    → ((b : ℕ) → In b taken → In b (concat runs) → ⊥) → T (differ (concat (blocks_after level taken runs)))
 differ_after level taken runs d fresh none = elim (level == 1) as (λ one. T (differ (concat (if one then slice_set runs 0 taken else slice_set (slice_set runs (level - 1) taken) (level - 2) [])))) [
   | true ↦ differ_set 0 taken runs d fresh none
   | false ↦ differ_set (level - 2) [] (slice_set runs (level - 1) taken) (differ_set (level - 1) taken runs d fresh none) tt (λ b here there. here)
@@ -132,11 +125,13 @@ module _ (shape : Shape) where
       let e = page_entries shape in
       record {
         four = tt;
-        caps_fit = four_tests (nat_le n1 (4 * e)) (nat_le n2 (16 * e)) (nat_le n3 (64 * e)) (nat_le n4 (deepest shape * e)) (within n1 (4 * e) one) (within n2 (16 * e) two) (within n3 (64 * e) three) (within n4 (deepest shape * e) four);
+        caps_fit = four_tests (nat_le n1 (4 * e)) (nat_le n2 (16 * e)) (nat_le n3 (64 * e)) (nat_le n4 (deepest shape * e))
+            (within n1 (4 * e) one) (within n2 (16 * e) two) (within n3 (64 * e) three) (within n4 (deepest shape * e) four);
         sizes = λ i. s1 i ∷ s2 i ∷ s3 i ∷ s4 i ∷ [];
       }
 
-  module _ (n1 n2 n3 n4 : ℕ) (b1 b2 b3 b4 : List ℕ) (c : WithinCaps shape n1 n2 n3 n4) (sized : map (λ bs. length bs) (b1 ∷ b2 ∷ b3 ∷ b4 ∷ []) ≡ map (run_blocks shape) (n1 ∷ n2 ∷ n3 ∷ n4 ∷ [])) (count : ℕ) (taken : List ℕ) (size : length taken ≡ run_blocks shape count) where
+  module _ (n1 n2 n3 n4 : ℕ) (b1 b2 b3 b4 : List ℕ) (c : WithinCaps shape n1 n2 n3 n4)
+      (sized : map (λ bs. length bs) (b1 ∷ b2 ∷ b3 ∷ b4 ∷ []) ≡ map (run_blocks shape) (n1 ∷ n2 ∷ n3 ∷ n4 ∷ [])) (count : ℕ) (taken : List ℕ) (size : length taken ≡ run_blocks shape count) where
     s1 : length b1 ≡ run_blocks shape n1
     s1 = head_same _ _ _ _ sized
 
@@ -166,7 +161,8 @@ module _ (shape : Shape) where
 
 -- ---- the root
 
-module _ (shape : Shape) (root : Root) (level count : ℕ) (taken : List ℕ) (is : T (is_root shape root)) (which : IsLevel level) (few : count ≤ room shape level) (size : length taken ≡ run_blocks shape count) (fresh : T (differ taken))
+module _ (shape : Shape) (root : Root) (level count : ℕ) (taken : List ℕ) (is : T (is_root shape root)) (which : IsLevel level)
+    (few : count ≤ room shape level) (size : length taken ≡ run_blocks shape count) (fresh : T (differ taken))
     (place : (b : ℕ) → In b taken → (2 ≤ b) × (b < shape.blocks)) (new : (b : ℕ) → In b taken → In b (named root) → ⊥) (small : root.number + 1 < 18446744073709551616) where
   abbrev in_flash : ℕ → Bool
   in_flash b = nat_le 2 b && nat_lt b shape.blocks
@@ -177,15 +173,21 @@ module _ (shape : Shape) (root : Root) (level count : ℕ) (taken : List ℕ) (i
   abbrev then_runs : List (List ℕ)
   then_runs = blocks_after level taken root.runs
 
-  was : Eight (is_number root.number) (nat_le 1 root.epoch) (nat_le root.epoch root.number) (length root.newest == 2) (length root.older == 0 || (length root.older == 2 && nat_le 2 root.epoch)) (has_runs shape root) (list_all in_flash (named root)) (differ (named root))
-  was = parts (is_number root.number) (nat_le 1 root.epoch) (nat_le root.epoch root.number) (length root.newest == 2) (length root.older == 0 || (length root.older == 2 && nat_le 2 root.epoch)) (has_runs shape root) (list_all in_flash (named root)) (differ (named root)) is
+  was : Eight (is_number root.number) (nat_le 1 root.epoch) (nat_le root.epoch root.number) (length root.newest == 2)
+      (length root.older == 0 || (length root.older == 2 && nat_le 2 root.epoch)) (has_runs shape root) (list_all in_flash (named root)) (differ (named root))
+  was = parts (is_number root.number) (nat_le 1 root.epoch) (nat_le root.epoch root.number) (length root.newest == 2)
+      (length root.older == 0 || (length root.older == 2 && nat_le 2 root.epoch)) (has_runs shape root) (list_all in_flash (named root)) (differ (named root)) is
 
   older_in : (one : Bool) (b : ℕ) → In b (if one then [] else root.older) → In b root.older
   older_in true b is_in = absurd is_in
   older_in false b is_in = is_in
 
   front_in : (b : ℕ) → In b (root.newest ++ then_older) → In b (root.newest ++ root.older)
-  front_in b among = elim (in_append b root.newest then_older among) [ inl newest ↦ any_front (λ c. b ≡ c) root.newest root.older newest | inr older ↦ any_back (λ c. b ≡ c) root.newest root.older (older_in (level == 1) b older) ]
+  front_in b among = elim (in_append b root.newest then_older among) [
+    | inl newest ↦ any_front
+        (λ c. b ≡ c) root.newest root.older newest
+    | inr older ↦ any_back (λ c. b ≡ c) root.newest root.older (older_in (level == 1) b older)
+  ]
 
   -- a block that the root names was taken, or was named before
   either : (b : ℕ) → In b (named (merged_root root level count taken)) → In b taken ⊎ In b (named root)
@@ -198,7 +200,8 @@ module _ (shape : Shape) (root : Root) (level count : ℕ) (taken : List ℕ) (i
   in_place b among = let p = place b among in both (nat_le 2 b) (nat_lt b shape.blocks) (le→leb 2 b p.0) (le→leb (suc b) shape.blocks p.1)
 
   inside : T (list_all in_flash (named (merged_root root level count taken)))
-  inside = all_of in_flash (named (merged_root root level count taken)) (λ b among. elim (either b among) [ inl is_new ↦ in_place b is_new | inr former ↦ all_at_each in_flash (named root) b was.seven former ])
+  inside = all_of in_flash (named (merged_root root level count taken))
+      (λ b among. elim (either b among) [ inl is_new ↦ in_place b is_new | inr former ↦ all_at_each in_flash (named root) b was.seven former ])
 
   epochs_differ : T (differ (root.newest ++ then_older))
   epochs_differ = by_case (level == 1)
@@ -208,7 +211,8 @@ module _ (shape : Shape) (root : Root) (level count : ℕ) (taken : List ℕ) (i
       by_case false = differ_front (root.newest ++ root.older) (concat root.runs) was.eight
 
   runs_differ : T (differ (concat then_runs))
-  runs_differ = differ_after level taken root.runs (differ_back (root.newest ++ root.older) (concat root.runs) was.eight) fresh (λ b here there. new b here (any_back (λ c. b ≡ c) (root.newest ++ root.older) (concat root.runs) there))
+  runs_differ = differ_after level taken root.runs (differ_back (root.newest ++ root.older) (concat root.runs) was.eight) fresh
+      (λ b here there. new b here (any_back (λ c. b ≡ c) (root.newest ++ root.older) (concat root.runs) there))
 
   different : T (differ (named (merged_root root level count taken)))
   different = differ_both (root.newest ++ then_older) (concat then_runs) epochs_differ runs_differ (λ b front run. elim (in_after b level taken root.runs run) [
@@ -223,9 +227,12 @@ module _ (shape : Shape) (root : Root) (level count : ℕ) (taken : List ℕ) (i
       let c = four_of root.counts four.counts in
       let b = four_of root.runs four.runs in
       let caps_are = within_caps shape c.a c.b c.c c.d (subst (λ ns. T (list_all (λ p. nat_le p.0 (p.1 * page_entries shape)) (zip ns (caps shape)))) c.are counted.fit) in
-      let sized : map (λ bs. length bs) (b.a ∷ b.b ∷ b.c ∷ b.d ∷ []) ≡ map (run_blocks shape) (c.a ∷ c.b ∷ c.c ∷ c.d ∷ []) = ap (map (λ bs. length bs)) (sym b.are) ∙ counted.sizes ∙ ap (map (run_blocks shape)) c.are in
-      let now : Suits shape (counts_after level count (c.a ∷ c.b ∷ c.c ∷ c.d ∷ [])) (blocks_after level taken (b.a ∷ b.b ∷ b.c ∷ b.d ∷ [])) = suits shape c.a c.b c.c c.d b.a b.b b.c b.d caps_are sized count taken size level which few in
-      subst (λ ns. Suits shape (counts_after level count ns) then_runs) (sym c.are) (subst (λ bs. Suits shape (counts_after level count (c.a ∷ c.b ∷ c.c ∷ c.d ∷ [])) (blocks_after level taken bs)) (sym b.are) now)
+      let sized : map (λ bs. length bs) (b.a ∷ b.b ∷ b.c ∷ b.d ∷ []) ≡ map (run_blocks shape) (c.a ∷ c.b ∷ c.c ∷ c.d ∷ []) = ap (map (λ bs. length bs)) (sym b.are)
+      ∙ counted.sizes ∙ ap (map (run_blocks shape)) c.are in
+      let now : Suits shape (counts_after level count (c.a ∷ c.b ∷ c.c ∷ c.d ∷ []))
+      (blocks_after level taken (b.a ∷ b.b ∷ b.c ∷ b.d ∷ [])) = suits shape c.a c.b c.c c.d b.a b.b b.c b.d caps_are sized count taken size level which few in
+      subst (λ ns. Suits shape (counts_after level count ns) then_runs) (sym c.are)
+      (subst (λ bs. Suits shape (counts_after level count (c.a ∷ c.b ∷ c.c ∷ c.d ∷ [])) (blocks_after level taken bs)) (sym b.are) now)
 
   three : (a b c : Bool) → T a → T b → T c → T (a && b && c)
   three true true true p q r = tt
@@ -250,7 +257,8 @@ module _ (shape : Shape) (root : Root) (level count : ℕ) (taken : List ℕ) (i
   pub merged_is_root : T (is_root shape (merged_root root level count taken))
   merged_is_root =
       let most = leb→le root.epoch root.number was.three in
-      all_parts (is_number (root.number + 1)) (nat_le 1 root.epoch) (nat_le root.epoch (root.number + 1)) (length root.newest == 2) (length then_older == 0 || (length then_older == 2 && nat_le 2 root.epoch))
+      all_parts (is_number (root.number + 1)) (nat_le 1 root.epoch) (nat_le root.epoch (root.number + 1))
+      (length root.newest == 2) (length then_older == 0 || (length then_older == 2 && nat_le 2 root.epoch))
       (has_runs shape (merged_root root level count taken)) (list_all in_flash (named (merged_root root level count taken))) (differ (named (merged_root root level count taken)))
       (record {
         one = both (nat_le 1 (root.number + 1)) (nat_lt (root.number + 1) 18446744073709551616) (le→leb 1 (root.number + 1) (omega arith)) (le→leb (suc (root.number + 1)) 18446744073709551616 small);
@@ -264,4 +272,5 @@ module _ (shape : Shape) (root : Root) (level count : ℕ) (taken : List ℕ) (i
       })
 
 pub merged_grammar : MergedGrammar
-merged_grammar shape root level count taken is low high few size fresh place new small = is_true _ (merged_is_root shape root level count taken (subst T (sym is) tt) (levels level low high) few size (subst T (sym fresh) tt) place new (omega (arith, small)))
+merged_grammar shape root level count taken is low high few size fresh place new small = is_true _
+    (merged_is_root shape root level count taken (subst T (sym is) tt) (levels level low high) few size (subst T (sym fresh) tt) place new (omega (arith, small)))

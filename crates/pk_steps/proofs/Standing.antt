@@ -1,10 +1,10 @@
--- A root that may follow leaves the map, wherever its install is cut.
+-- A valid successor does not change the map, at any cut of its install.
 use Rattle.std.proofs.Common.{◌≡◌, inl, inr, ℕ, ◌/◌, ◌<◌, sym, ap, subst, ◌∙◌, T, true, List, [], ◌++◌, length, nat_le, ◌==◌, not, Some, Ok, le→leb}
 use Rattle.std.specs.List.{AllByRecursion, list_any}
 use Rattle.pk_base.specs.Shape.{Shape, IsShape, buffer}
 use Rattle.pk_base.specs.Page.{Flash, page_at, SameBehind}
 use Rattle.pk_base.specs.Entry.{Entry, Place}
-use Rattle.pk_base.specs.EntryBytes.{IsEntry}
+use Rattle.pk_base.specs.EntryChecks.{IsEntry}
 use Rattle.pk_base.specs.Firsts.{firsts}
 use Rattle.pk_base.specs.Key.{Key}
 use Rattle.pk_base.specs.Map.{Map}
@@ -20,12 +20,13 @@ use Rattle.pk_model.proofs.Roots.{newest_sound}
 use Rattle.pk_model.proofs.RootAlone.{found_alone, values_behind}
 use Rattle.pk_model.proofs.Commits.{root_valid}
 use Rattle.pk_model.proofs.Entries.{counting_all, journal_are, meta_are}
-use Rattle.pk_model.proofs.ValueSets.{values_sound, values_complete, fits_parts, parts_fit, is_true}
+use Rattle.pk_model.proofs.ValueSets.{values_sound, values_complete, fits_parts, parts_fit}
 use Rattle.pk_model.proofs.HeldMap.{nothing_fits}
 use Rattle.pk_steps.specs.Under.{IsUnder, places}
 use Rattle.pk_steps.proofs.Untouched.{Values, values_under}
 use Rattle.pk_steps.proofs.Places.{In, all_of, any_in_back, in_value, not_of}
 use Rattle.pk_steps.specs.Next.{IsNext, Installed, Installs, tree_of}
+use Rattle.pk_base.proofs.Logic.{is_true}
 
 module _ (shape : Shape) (flash new : Flash) (extra : List Entry) (top : ℕ × Root) (found : Found) (m : Map) (is_shape : IsShape shape) (entries : AllByRecursion (IsEntry shape) extra)
     (before : IsUnder shape flash extra top found m) (behind : SameBehind shape flash new) where
@@ -35,13 +36,15 @@ module _ (shape : Shape) (flash new : Flash) (extra : List Entry) (top : ℕ × 
   -- the values of the map are not in the root blocks
   values_stay : (k : ℕ) → AnyByRecursion (λ e. IsPageOf shape k e.1) (placed (firsts (entries_in_order found extra))) → page_at new k ≡ page_at flash k
   values_stay k is = behind k (values_behind shape (firsts (entries_in_order found extra))
-      (counting_all (IsEntry shape) shape (page_at flash) (λ k number index bytes es stands read. journal_are shape number index bytes es read) (λ k level index count bytes es stands read. meta_are shape level index count bytes es read) top.1 found extra before.is_found entries) k is)
+      (counting_all (IsEntry shape) shape (page_at flash) (λ k number index bytes es stands read. journal_are shape number index bytes es read)
+      (λ k level index count bytes es stands read. meta_are shape level index count bytes es read) top.1 found extra before.is_found entries) k is)
 
   -- if the newest root is the former
   pub stays : newest_root shape (page_at new) ≡ Some top → IsUnder shape new extra top found m
   stays is_top = record {
     is_top = is_top;
-    is_found = found_alone shape is_shape (page_at flash) (page_at new) behind top.1 (root_valid shape (page_at flash top.0) top.1 (newest_sound shape (page_at flash) top before.is_top).there) ∙ before.is_found;
+    is_found = found_alone shape is_shape (page_at flash) (page_at new) behind top.1 (root_valid shape (page_at flash top.0) top.1 (newest_sound shape (page_at flash) top before.is_top).there)
+        ∙ before.is_found;
     is_map = map_under_same shape (page_at flash) (page_at new) top.1 found extra values_stay ∙ before.is_map;
   }
 
@@ -76,7 +79,8 @@ module _ (shape : Shape) (flash new : Flash) (extra : List Entry) (top : ℕ × 
     is_map : map_under shape (page_at new) root then_found extra ≡ Ok m
     unfolding map_under
     is_map =
-        let again : values_of shape (page_at new) (named root) [] (placed (firsts (entries_in_order then_found extra))) ≡ Ok values.values = ap (values_of shape (page_at new) (named root) []) next.same_places ∙ read in
+        let again : values_of shape (page_at new) (named root) [] (placed (firsts (entries_in_order then_found extra)))
+        ≡ Ok values.values = ap (values_of shape (page_at new) (named root) []) next.same_places ∙ read in
         let room : nat_le (length (firsts (then_found.newest ++ extra))) (buffer shape) ≡ true = is_true _ (le→leb _ _ next.room) in
         rw (room, again) (λ i. Ok (values.whole_map i))
 

@@ -8,7 +8,7 @@ use Rattle.pk_rootfmt.specs.Root.{Root}
 use Rattle.pk_jrnfmt.specs.Epoch.{epoch}
 use Rattle.pk_model.specs.Found.{Found, older_epoch, newest_epoch, runs_from, found_under}
 use Rattle.pk_model.proofs.StrangePages.{bind_ok}
-use Rattle.pk_model.proofs.Commits.{passed}
+use Rattle.pk_base.proofs.Logic.{ok_same, passed}
 
 -- ---- the entries of the newest epoch
 
@@ -32,9 +32,6 @@ length_none (x ∷ xs) none = absurd (omega (arith, none))
 or_false : (b : Bool) → T (b || false) → T b
 or_false true t = tt
 or_false false t = t
-
-ok_same : {A : Type 0} (x y : A) → ◌≡◌ {A = Result A Refusal} (Ok x) (Ok y) → x ≡ y
-ok_same x y e = cc
 
 pub none_named : (shape : Shape) (at : ℕ → Page) (root : Root) (found : Found) → found_under shape at root ≡ Ok found → found.older ≡ [] → root.older ≡ []
 unfolding found_under

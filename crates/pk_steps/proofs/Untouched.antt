@@ -1,5 +1,6 @@
 -- What is not read may change.
-use Rattle.std.proofs.Common.{◌≡◌, ◌⊎◌, inl, inr, ℕ, zero, suc, ◌+◌, ◌-◌, ◌/◌, ◌<◌, ◌≤◌, refl, sym, subst, ◌∙◌, arith, true, false, T, List, [], ◌∷◌, ◌++◌, length, drop, nat_le, nat_eq, ◌==◌, Result, Ok, leb→le, leb-false, eq-or-lt_of_le, div-lt_iff_lt-mul}
+use Rattle.std.proofs.Common.{◌≡◌, ◌⊎◌, inl, inr, ℕ, zero, suc, ◌+◌, ◌-◌, ◌/◌, ◌<◌, ◌≤◌, refl, sym, subst, ◌∙◌, arith, true, false, T, List, [], ◌∷◌, ◌++◌, length, drop, nat_le, nat_eq, ◌==◌, Result}
+use Rattle.std.proofs.Common.{Ok, leb→le, leb-false, eq-or-lt_of_le, div-lt_iff_lt-mul}
 use Rattle.std.specs.List.{list_all, starts_with, concat}
 use Rattle.pk_base.specs.Key.{Key}
 use Rattle.pk_base.specs.Shape.{Shape, charge, buffer}
@@ -19,9 +20,10 @@ use Rattle.pk_model.specs.Laws.{AnyByRecursion, IsPageOf, IsRead, IsWholePage}
 use Rattle.pk_base.proofs.ShapeLemmas.{block_pages_positive}
 use Rattle.pk_model.proofs.SamePages.{newest_root_same, found_same, map_under_same, agrees, agree_runs, any_front, any_back, any_in_concat}
 use Rattle.pk_model.proofs.StrangePages.{bind_ok, some_ok}
-use Rattle.pk_model.proofs.Lookups.{values_step, passed}
+use Rattle.pk_model.proofs.Lookups.{values_step}
 use Rattle.pk_steps.specs.Under.{IsUnder, IsValuePage, places}
 use Rattle.pk_steps.specs.Reads.{ReadsUnder, UnderReads, Same, ProgramsUnread, Erases}
+use Rattle.pk_base.proofs.Logic.{passed}
 
 pub reads_under : ReadsUnder
 unfolding reading_of
@@ -45,7 +47,8 @@ same shape flash cut extra top found m is_shape under unchanged =
       is_found = found_same shape at at' is_shape root
           (λ j low. every root.newest (λ P is. any_front P (root.newest ++ root.older) (concat root.runs) (any_front P root.newest root.older is)) j)
           (λ j low. every root.older (λ P is. any_front P (root.newest ++ root.older) (concat root.runs) (any_back P root.newest root.older is)) j)
-          (agree_runs shape at at' root.counts root.runs (λ blocks among. every blocks (λ P is. any_back P (root.newest ++ root.older) (concat root.runs) (any_in_concat P blocks root.runs among is)))) ∙ under.is_found;
+          (agree_runs shape at at' root.counts root.runs (λ blocks among. every blocks (λ P is. any_back P (root.newest ++ root.older) (concat root.runs) (any_in_concat P blocks root.runs among is))))
+          ∙ under.is_found;
       is_map = map_under_same shape at at' root found extra (λ k is. unchanged k (inr (inr is))) ∙ under.is_map;
     }
 
@@ -77,7 +80,8 @@ module _ (shape : Shape) (at : ℕ → Page) where
   values_whole : (blocks taken : List ℕ) (es : List (Key × Place)) (vs : List (Key × List ℕ)) → values_of shape at blocks taken es ≡ Ok vs → (k : ℕ) → IsValuePage shape es k → IsWholePage (at k)
   values_whole blocks taken [] vs ok k is = absurd is
   values_whole blocks taken (e ∷ es) vs ok k (inl here) = let step = values_step shape at blocks taken e es vs ok in value_at_whole e.0 e.1 step.value step.read k here
-  values_whole blocks taken (e ∷ es) vs ok k (inr there) = let step = values_step shape at blocks taken e es vs ok in values_whole blocks (taken ++ value_pages shape e.1) es step.others step.rest k there
+  values_whole blocks taken (e ∷ es) vs ok k (inr there) = let step = values_step shape at blocks taken e es vs ok in values_whole blocks
+      (taken ++ value_pages shape e.1) es step.others step.rest k there
 
 -- the values that make the map of a flash
 pub record Values (shape : Shape) (flash : Flash) (extra : List Entry) (root : Root) (found : Found) (m : Map) : Type 0 where
@@ -86,7 +90,8 @@ pub record Values (shape : Shape) (flash : Flash) (extra : List Entry) (root : R
   pub read : values_of shape (page_at flash) (named root) [] (places found extra) ≡ Ok values
   pub whole_map : from_entries values ≡ m
 
-pub values_under : (shape : Shape) (flash : Flash) (extra : List Entry) (root : Root) (found : Found) (m : Map) → map_under shape (page_at flash) root found extra ≡ Ok m → Values shape flash extra root found m
+pub values_under : (shape : Shape) (flash : Flash) (extra : List Entry) (root : Root) (found : Found) (m : Map)
+    → map_under shape (page_at flash) root found extra ≡ Ok m → Values shape flash extra root found m
 unfolding map_under
 values_under shape flash extra root found m ok =
     let tested = bind_ok (ensure (nat_le (length (firsts (found.newest ++ extra))) (buffer shape)) (page_in shape root.newest 0)) _ m ok in
@@ -96,7 +101,8 @@ values_under shape flash extra root found m ok =
     ok_same : (x y : Map) → ◌≡◌ {A = Result Map Refusal} (Ok x) (Ok y) → x ≡ y
     ok_same x y e = cc
 
-pub value_page_whole : (shape : Shape) (flash : Flash) (extra : List Entry) (top : ℕ × Root) (found : Found) (m : Map) → IsUnder shape flash extra top found m → (k : ℕ) → IsValuePage shape (places found extra) k → IsWholePage (page_at flash k)
+pub value_page_whole : (shape : Shape) (flash : Flash) (extra : List Entry) (top : ℕ × Root) (found : Found) (m : Map)
+    → IsUnder shape flash extra top found m → (k : ℕ) → IsValuePage shape (places found extra) k → IsWholePage (page_at flash k)
 value_page_whole shape flash extra top found m under k is =
     let values = values_under shape flash extra top.1 found m under.is_map in
     values_whole shape (page_at flash) (named top.1) [] (places found extra) values.values values.read k is
@@ -106,7 +112,7 @@ value_page_whole shape flash extra top found m under k is =
 pub not_erased : (p : Page) → IsWholePage p → p ≡ erased → ⊥
 not_erased p is e = subst IsWholePage e is
 
-in_or_out : (first count k : ℕ) → (k < first) ⊎ ((first + count ≤ k) ⊎ ((first ≤ k) × (k < first + count)))
+pub in_or_out : (first count k : ℕ) → (k < first) ⊎ ((first + count ≤ k) ⊎ ((first ≤ k) × (k < first + count)))
 in_or_out first count k =
     elim (nat_le first k) as (λ b. nat_le first k ≡ b → (k < first) ⊎ ((first + count ≤ k) ⊎ ((first ≤ k) × (k < first + count)))) [
       | false ↦ λ e. inl (below first k e)

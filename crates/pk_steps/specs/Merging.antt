@@ -59,7 +59,7 @@ Merged =
     → IsUnder shape flash extra top found m → IsMerged shape flash extra top found level count taken
     → IsNext shape flash extra top found (merged_root top.1 level count taken) (merged_found level found)
 
--- the blocks of the source and of the former run, which are given back
+-- the blocks of the source and of the former run, which are freed
 abbrev pub blocks_at : List (List ℕ) → ℕ → List ℕ
 blocks_at runs level = slice_index_or runs (level - 1) []
 

@@ -23,7 +23,7 @@ pub record IsUnder (shape : Shape) (flash : Flash) (extra : List Entry) (top : �
 abbrev pub counting : Found → List Entry → List Entry
 counting found extra = firsts (entries_in_order found extra)
 
--- the places of the keys that are there, rising by key
+-- the places of the keys that exist, rising by key
 abbrev pub places : Found → List Entry → List (Key × Place)
 places found extra = placed (counting found extra)
 

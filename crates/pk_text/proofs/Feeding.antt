@@ -7,7 +7,8 @@ use Rattle.std.proofs.Math.Seq.{take-append_seam}
 use Rattle.std.proofs.Math.ListN.{drop_of_length-le}
 use Rattle.pk_base.specs.Mark.{Mark}
 use Rattle.pk_nand.specs.BoardState.{BoardState}
-use Rattle.pk_nand.specs.Calls.{Fetched, FetchFailed, Takes, put_back, AtEnd}
+use Rattle.pk_nand.specs.Calls.{put_back, AtEnd}
+use Rattle.pk_nand.specs.Operations.{Fetched, FetchFailed, Takes}
 use Rattle.pk_nand.proofs.Resting.{Rests-start}
 use Rattle.pk_text.specs.Steps.{ahead, Moved, Fed, FeedFailed, Filled, Nexted}
 use Rattle.pk_text.proofs.Turning.{put_back-nil, put_back-append, longer-nil, Fed-then}
@@ -29,7 +30,8 @@ Moved-fetched a b n bytes f =
         left = takes_back a.input b.input n bytes f.bytes;
         posted = p ∙ longer-nil a.posted;
         rests = Rests-start a b (ap (λ s. s.shape) f.rest) (ap (λ s. s.pages) f.rest) t p;
-        rest = f.rest ∙ ap (λ (x : Option (List ℕ) × Option (List Mark) × ℕ × ℕ). record a { input = b.input; posted = x.0; trail = x.1; in_faults = x.2; out_faults = x.3 }) (λ k. (sym p k, sym t k, sym i k, sym o k));
+        rest = f.rest ∙ ap (λ (x : Option (List ℕ) × Option (List Mark) × ℕ × ℕ). record a { input = b.input; posted = x.0; trail = x.1; in_faults = x.2; out_faults = x.3 })
+            (λ k. (sym p k, sym t k, sym i k, sym o k));
       };
       in_same = i;
       out_same = o;
@@ -47,7 +49,8 @@ Feed-failed a b f =
         left = sym h ∙ put_back-nil b.input;
         posted = p ∙ longer-nil a.posted;
         rests = Rests-start a b (ap (λ s. s.shape) f.rest) (ap (λ s. s.pages) f.rest) t p;
-        rest = f.rest ∙ ap (λ (x : Option (List ℕ) × Option (List ℕ) × Option (List Mark) × ℕ). record a { input = x.0; posted = x.1; trail = x.2; in_faults = b.in_faults; out_faults = x.3 }) (λ k. (sym h k, sym p k, sym t k, sym o k));
+        rest = f.rest ∙ ap (λ (x : Option (List ℕ) × Option (List ℕ) × Option (List Mark) × ℕ). record a { input = x.0; posted = x.1; trail = x.2; in_faults = b.in_faults; out_faults = x.3 })
+            (λ k. (sym h k, sym p k, sym t k, sym o k));
       };
       rose = f.faults;
       out_same = o;

@@ -4,7 +4,8 @@ use Rattle.std.specs.Prelude.{nat_lt, nat_le, ◌==◌, if◌then◌else◌, IfS
 use Rattle.std.proofs.lemmas.Bool.Decides.{nat_tests}
 use Rattle.pk_asm.specs.Line.{Line, nothing, entry, says, entry_in, line_bytes}
 use Rattle.pk_nand.specs.BoardState.{BoardState}
-use Rattle.pk_nand.specs.Calls.{after_post, PostFailed, put_back, AtEnd}
+use Rattle.pk_nand.specs.Calls.{put_back, AtEnd}
+use Rattle.pk_nand.specs.Operations.{after_post, PostFailed}
 use Rattle.pk_text.specs.Written.{ended}
 use Rattle.pk_text.specs.Assembled.{onto_first, lines, line_given, lines_given, assembled_from}
 use Rattle.pk_text.specs.Turns.{TurnsFrom}
@@ -203,12 +204,14 @@ entry_said None e h = cc
 pub LineGives-none : (number : ℕ) (line : List ℕ) (a : BoardState) → option_map entry_in (says number line) ≡ Some None → LineGives number line number a a
 LineGives-none number line a h = LineGives-nothing number line a (nothing_said (says number line) h)
 
-pub LineGives-some : (number : ℕ) (line e bytes : List ℕ) (a b : BoardState) → option_map entry_in (says number line) ≡ Some (Some e) → bytes ≡ line_bytes (says number line) → b ≡ after_post a (e ++ bytes)
+pub LineGives-some : (number : ℕ) (line e bytes : List ℕ) (a b : BoardState)
+    → option_map entry_in (says number line) ≡ Some (Some e) → bytes ≡ line_bytes (says number line) → b ≡ after_post a (e ++ bytes)
     → LineGives number line (number + 1) a b
 LineGives-some number line e bytes a b h same posted =
     LineGives-entry number line e (line_bytes (says number line)) a b (entry_said (says number line) e h) (posted ∙ ap (λ t. after_post a (e ++ t)) same)
 
-pub LineGives-failed : (number : ℕ) (line e bytes : List ℕ) (a b : BoardState) → option_map entry_in (says number line) ≡ Some (Some e) → bytes ≡ line_bytes (says number line) → PostFailed a b (e ++ bytes)
+pub LineGives-failed : (number : ℕ) (line e bytes : List ℕ) (a b : BoardState)
+    → option_map entry_in (says number line) ≡ Some (Some e) → bytes ≡ line_bytes (says number line) → PostFailed a b (e ++ bytes)
     → GivesNot number line a b Output
 LineGives-failed number line e bytes a b h same f =
     let T : List ℕ → Type 0 = λ t. PostFailed a b (e ++ t) in
@@ -240,21 +243,24 @@ pub some_of : (xs : List ℕ) → (xs ≡ [] → ⊥) → 0 < length xs
 some_of [] h = absurd (h refl)
 some_of (x ∷ xs) h = omega arith
 
-pub Line-advances_as : (taken number next : ℕ) (p q line l : List ℕ) (a b c : BoardState) (whole : Bool) → taken < 4294967295 → LineTaken p q a b line whole → whole ≡ true → l ≡ line → LineGives number l next b c
+pub Line-advances_as : (taken number next : ℕ) (p q line l : List ℕ) (a b c : BoardState) (whole : Bool)
+    → taken < 4294967295 → LineTaken p q a b line whole → whole ≡ true → l ≡ line → LineGives number l next b c
     → TextAdvances (assembled_from taken number) (assembled_from (suc taken) next) (ahead p a) (ahead q c) a c
 Line-advances_as taken number next p q line l a b c whole few h e same given =
     let T : Bool → Type 0 = λ w. LineTaken p q a b line w in
     let U : List ℕ → Type 0 = λ x. LineGives number x next b c in
     Line-advances taken number next p q line a b c few (subst T e h) (subst U same given)
 
-pub Line-last_as : (taken number next : ℕ) (p q line l : List ℕ) (a b c : BoardState) (whole : Bool) → taken < 4294967295 → LineTaken p q a b line whole → whole ≡ false → l ≡ line → LineGives number l next b c
+pub Line-last_as : (taken number next : ℕ) (p q line l : List ℕ) (a b c : BoardState) (whole : Bool)
+    → taken < 4294967295 → LineTaken p q a b line whole → whole ≡ false → l ≡ line → LineGives number l next b c
     → TurnsFrom (assembled_from taken number) (ahead p a) a c Done
 Line-last_as taken number next p q line l a b c whole few h e same given =
     let T : Bool → Type 0 = λ w. LineTaken p q a b line w in
     let U : List ℕ → Type 0 = λ x. LineGives number x next b c in
     Line-last taken number next p q line a b c few (subst T e h) (subst U same given)
 
-pub Line-not_as : (taken number : ℕ) (p q line l : List ℕ) (a b c : BoardState) (whole : Bool) (end : TextEnd) → taken < 4294967295 → LineTaken p q a b line whole → l ≡ line → GivesNot number l b c end
+pub Line-not_as : (taken number : ℕ) (p q line l : List ℕ) (a b c : BoardState) (whole : Bool) (end : TextEnd)
+    → taken < 4294967295 → LineTaken p q a b line whole → l ≡ line → GivesNot number l b c end
     → TurnsFrom (assembled_from taken number) (ahead p a) a c end
 Line-not_as taken number p q line l a b c whole end few h same failed =
     let U : List ℕ → Type 0 = λ x. GivesNot number x b c end in

@@ -1,5 +1,6 @@
 -- Records that are taken piece by piece, and what they show.
-use Rattle.std.proofs.Common.{◌≡◌, ℕ, zero, suc, ◌<◌, ◌≤◌, ◌+◌, ◌-◌, Bool, true, false, List, [], ◌∷◌, ◌++◌, length, take, drop, refl, sym, ◌∙◌, ap, subst, arith, append_assoc, append-nil, length-append, length-drop, length-take-le}
+use Rattle.std.proofs.Common.{◌≡◌, ℕ, zero, suc, ◌<◌, ◌≤◌, ◌+◌, ◌-◌, Bool, true, false, List, [], ◌∷◌, ◌++◌, length, take, drop, refl, sym, ◌∙◌, ap, subst, arith, append_assoc, append-nil}
+use Rattle.std.proofs.Common.{length-append, length-drop, length-take-le}
 use Rattle.std.specs.Prelude.{nat_lt, nat_le, ◌==◌, ◌^◌, if◌then◌else◌, codes, IsTrue, ◌↔◌}
 use Rattle.std.proofs.lemmas.Bool.Decides.{nat_tests}
 use Rattle.std.proofs.Math.Seq.{take-append_seam, drop-append_seam, take-append-add, drop-append-add}
@@ -10,7 +11,8 @@ use Rattle.pk_nvme.proofs.TextLemmas.{hex_text-append, length-hex_text, number_t
 use Rattle.pk_show.specs.Shown.{shown_head, shown as record_line, words, head_of}
 use Rattle.pk_nvme.specs.Bytes.{RoomyList}
 use Rattle.pk_nand.specs.BoardState.{BoardState}
-use Rattle.pk_nand.specs.Calls.{after_post, PostFailed, put_back}
+use Rattle.pk_nand.specs.Calls.{put_back}
+use Rattle.pk_nand.specs.Operations.{after_post, PostFailed}
 use Rattle.pk_text.specs.Written.{Written, ended, before}
 use Rattle.pk_text.specs.Records.{cut_short, data_shown, head_shown, record_shown, records_shown, shown_from}
 use Rattle.pk_text.specs.Turns.{TurnsFrom}
@@ -267,24 +269,28 @@ front_length head cid result reads =
       (number_text_short (u32_at head 16) reads).1,
     )
 
-pub front_short : (head : List ℕ) (cid result reads : ℕ) → cid ≡ u16_at head 12 → result ≡ u32_at head 0 → reads ≡ u32_at head 16 → cid < 2 ^ 32 → result < 2 ^ 32 → reads < 2 ^ 32 → length (shown_head head) ≤ 66
+pub front_short : (head : List ℕ) (cid result reads : ℕ) → cid ≡ u16_at head 12 → result ≡ u32_at head 0
+    → reads ≡ u32_at head 16 → cid < 2 ^ 32 → result < 2 ^ 32 → reads < 2 ^ 32 → length (shown_head head) ≤ 66
 front_short head cid result reads e f g cid_few result_few reads_few =
     let L : ℕ → Type 0 = λ n. n < 2 ^ 32 in
     front_length head (subst L e cid_few) (subst L f result_few) (subst L g reads_few)
 
 -- ---- the same, by what the calls answered
 
-pub Data-part_as : (left : ℕ) (more : List ℕ → Written) (p q : List ℕ) (a b : BoardState) (r : Bool) → 0 < left → Filled p q a b r → r ≡ false → TurnsFrom (data_shown left more) (ahead p a) a b Truncated
+pub Data-part_as : (left : ℕ) (more : List ℕ → Written) (p q : List ℕ) (a b : BoardState) (r : Bool)
+    → 0 < left → Filled p q a b r → r ≡ false → TurnsFrom (data_shown left more) (ahead p a) a b Truncated
 Data-part_as left more p q a b r some h e = let T : Bool → Type 0 = λ x. Filled p q a b x in let f = subst T e h in Data-part left more p q a b some f.0 f.1
 
-pub Data-advances_as : (left count : ℕ) (more : List ℕ → Written) (p q q' piece : List ℕ) (a b c : BoardState) (r : Bool) → Filled p q a b r → r ≡ true → count ≤ length q → count ≤ left → piece ≡ take count q → q' ≡ drop count q
+pub Data-advances_as : (left count : ℕ) (more : List ℕ → Written) (p q q' piece : List ℕ) (a b c : BoardState) (r : Bool)
+    → Filled p q a b r → r ≡ true → count ≤ length q → count ≤ left → piece ≡ take count q → q' ≡ drop count q
     → c ≡ after_post b (hex_text piece) → TextAdvances (data_shown left more) (data_shown (left - count) more) (ahead p a) (ahead q' c) a c
 Data-advances_as left count more p q q' piece a b c r h e fits few is is' posted =
     let T : Bool → Type 0 = λ x. Filled p q a b x in
     let U : List ℕ → Type 0 = λ x. TextAdvances (data_shown left more) (data_shown (left - count) more) (ahead p a) (ahead x c) a c in
     subst U (sym is') (Data-advances left count more p q a b c (subst T e h).0 fits few (posted ∙ ap (λ x. after_post b (hex_text x)) is))
 
-pub Data-failed_as : (left count : ℕ) (more : List ℕ → Written) (p q piece : List ℕ) (a b c : BoardState) (r : Bool) → Filled p q a b r → r ≡ true → count ≤ length q → count ≤ left → piece ≡ take count q
+pub Data-failed_as : (left count : ℕ) (more : List ℕ → Written) (p q piece : List ℕ) (a b c : BoardState) (r : Bool)
+    → Filled p q a b r → r ≡ true → count ≤ length q → count ≤ left → piece ≡ take count q
     → PostFailed b c (hex_text piece) → TurnsFrom (data_shown left more) (ahead p a) a c Output
 Data-failed_as left count more p q piece a b c r h e fits few is f =
     let T : Bool → Type 0 = λ x. Filled p q a b x in
@@ -295,11 +301,13 @@ pub Head-advances_as : (taken : ℕ) (p q head : List ℕ) (a b : BoardState) (r
     → TextAdvances (shown_from taken) (head_shown head (shown_from (suc taken))) (ahead p a) (ahead q b) a b
 Head-advances_as taken p q head a b r few h e = let T : Bool → Type 0 = λ x. HeadTaken p q a b head x in Head-advances taken p q head a b few (subst T e h)
 
-pub Head-part_as : (taken : ℕ) (p q head : List ℕ) (a b : BoardState) (r : Bool) → taken < 4294967295 → 0 < length head → HeadTaken p q a b head r → r ≡ false → TurnsFrom (shown_from taken) (ahead p a) a b Truncated
+pub Head-part_as : (taken : ℕ) (p q head : List ℕ) (a b : BoardState) (r : Bool) → taken < 4294967295
+    → 0 < length head → HeadTaken p q a b head r → r ≡ false → TurnsFrom (shown_from taken) (ahead p a) a b Truncated
 Head-part_as taken p q head a b r few some h e = let T : Bool → Type 0 = λ x. HeadTaken p q a b head x in Head-part taken p q head a b few some (subst T e h)
 
 -- the start of a line fits
-pub no_refusal : (old now : RoomyList) (text : List ℕ) (r : Bool) → length text ≤ 66 → old.room ≡ 8192 → now ≡ record old { items = [] } → (IsTrue r ↔ (length now.items + length text ≤ now.room)) → r ≡ false → ⊥
+pub no_refusal : (old now : RoomyList) (text : List ℕ) (r : Bool) → length text ≤ 66 → old.room ≡ 8192
+    → now ≡ record old { items = [] } → (IsTrue r ↔ (length now.items + length text ≤ now.room)) → r ≡ false → ⊥
 no_refusal old now text r short room clear h e =
     let none : length now.items ≡ 0 = ap (λ (l : RoomyList). length l.items) clear in
     let same : now.room ≡ old.room = ap (λ (l : RoomyList). l.room) clear in

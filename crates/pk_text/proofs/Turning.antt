@@ -2,7 +2,8 @@
 use Rattle.std.proofs.Common.{◌≡◌, ℕ, suc, ◌+◌, Bool, true, false, arith, ◌<◌, List, [], ◌∷◌, ◌++◌, length, refl, sym, ◌∙◌, ap, subst, append_assoc, append-nil, Option, Some, None}
 use Rattle.std.specs.Prelude.{IfSome, IfErr, OnOk, OnErr, IsTrue, Result, Ok, Err, ◌↔◌}
 use Rattle.pk_nand.specs.BoardState.{BoardState}
-use Rattle.pk_nand.specs.Calls.{Rose, longer, after_post, PostFailed, put_back, AtEnd}
+use Rattle.pk_nand.specs.Calls.{Rose, longer, put_back, AtEnd}
+use Rattle.pk_nand.specs.Operations.{after_post, PostFailed}
 use Rattle.pk_nand.proofs.Resting.{Rests-same, Rests-then, Rests-post, Rests-post_failed}
 use Rattle.pk_text.specs.Written.{Written, ended, before}
 use Rattle.pk_text.specs.Turns.{Touched, IsTextPrefix, IsAll, TextEnds, TurnsFrom, Turns}
@@ -177,7 +178,8 @@ TextAdvances-then f g h u v w a b c p q = record {
   moved = Moved-then a b c p.out q.out p.moved q.moved;
 }
 
-all_behind : (a b c : BoardState) (w v : Written) (x y : List ℕ) (end : TextEnd) → w ≡ before x v → b.in_faults ≡ a.in_faults → b.out_faults ≡ a.out_faults → IsAll b c v y end → IsAll a c w (x ++ y) end
+all_behind : (a b c : BoardState) (w v : Written) (x y : List ℕ) (end : TextEnd) → w ≡ before x v
+    → b.in_faults ≡ a.in_faults → b.out_faults ≡ a.out_faults → IsAll b c v y end → IsAll a c w (x ++ y) end
 all_behind a b c w v x y end e in_same out_same h = record {
   end_is = ap (λ (t : Written). t.end) e ∙ h.end_is;
   all = ap (λ t. x ++ t) h.all ∙ sym (ap (λ (t : Written). t.bytes) e);
@@ -188,7 +190,8 @@ all_behind a b c w v x y end e in_same out_same h = record {
 front_behind : (w v : Written) (x y : List ℕ) → w ≡ before x v → IsTextPrefix y v.bytes → IsTextPrefix (x ++ y) w.bytes
 front_behind w v x y e h = (h.0, append_assoc x y h.0 ∙ (ap (λ t. x ++ t) h.1 ∙ sym (ap (λ (t : Written). t.bytes) e)))
 
-TextEnds-behind : (a b c : BoardState) (w v : Written) (x y : List ℕ) (end : TextEnd) → w ≡ before x v → b.in_faults ≡ a.in_faults → b.out_faults ≡ a.out_faults → TextEnds b c v y end → TextEnds a c w (x ++ y) end
+TextEnds-behind : (a b c : BoardState) (w v : Written) (x y : List ℕ) (end : TextEnd) → w ≡ before x v
+    → b.in_faults ≡ a.in_faults → b.out_faults ≡ a.out_faults → TextEnds b c v y end → TextEnds a c w (x ++ y) end
 TextEnds-behind a b c w v x y Done e i o h = (all_behind a b c w v x y Done e i o h.0, h.1)
 TextEnds-behind a b c w v x y Truncated e i o h = (all_behind a b c w v x y Truncated e i o h.0, h.1)
 TextEnds-behind a b c w v x y Input e i o h = record {

@@ -5,7 +5,8 @@ use Rattle.pk_nvme.specs.declared.sizes.TheConstants.{RECORD_HEAD_BYTES}
 use Rattle.pk_asm.specs.declared.sizes.TheConstants.{MOST_LINE_BYTES}
 use Rattle.pk_asm.specs.Line.{entry, says}
 use Rattle.pk_nand.specs.BoardState.{BoardState}
-use Rattle.pk_nand.specs.Calls.{Rose, PostFailed, put_back, AtEnd}
+use Rattle.pk_nand.specs.Calls.{Rose, put_back, AtEnd}
+use Rattle.pk_nand.specs.Operations.{PostFailed}
 use Rattle.pk_text.specs.Written.{Written, before}
 use Rattle.pk_text.specs.Assembled.{line_given}
 use Rattle.pk_text.specs.Turns.{Touched}

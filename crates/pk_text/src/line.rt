@@ -1,7 +1,7 @@
 //! Lines of a text script, and what they give.
 ghost use Rattle.std.specs.Prelude.{◌≡◌, ◌≤◌, ◌<◌, ◌+◌, ◌^◌, ◌++◌, length, IfOk, IfErr, OnOk, OnErr};
 ghost use Rattle.pk_asm.specs.declared.sizes.TheConstants.{MOST_LINE_VALUE_BYTES};
-ghost use Rattle.pk_nand.specs.Calls.{after_post, PostFailed};
+ghost use Rattle.pk_nand.specs.Operations.{after_post, PostFailed};
 ghost use Rattle.pk_text.specs.Steps.{LineTaken, NoLine, LineGives, GivesNot};
 
 use crate::TextEnd;

@@ -1,6 +1,6 @@
 //! Answer records, taken and shown piece by piece.
 ghost use Rattle.std.specs.Prelude.{◌≡◌, ◌≤◌, ◌<◌, ◌-◌, ◌*◌, ℕ, List, length, IfOk, IfErr, OnOk, OnErr, codes};
-ghost use Rattle.pk_nand.specs.Calls.{after_post, PostFailed};
+ghost use Rattle.pk_nand.specs.Operations.{after_post, PostFailed};
 ghost use Rattle.pk_nvme.specs.Reply.{data_bytes_at};
 ghost use Rattle.pk_nvme.specs.Text.{hex_text};
 ghost use Rattle.pk_show.specs.Shown.{shown_head};

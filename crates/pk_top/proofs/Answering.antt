@@ -31,7 +31,8 @@ use Rattle.pk_top.proofs.Telling.{untouched_same, refused_untouched}
 -- ---- from the load on
 
 -- the drive was not opened
-not_opened : (task : Task) (shape : Shape) (loaded new : BoardState) (status : ℕ) (error : OpenError) → status ≡ open_status error → NotOpened shape loaded new error → AsksAll task shape loaded new status
+not_opened : (task : Task) (shape : Shape) (loaded new : BoardState) (status : ℕ) (error : OpenError)
+    → status ≡ open_status error → NotOpened shape loaded new error → AsksAll task shape loaded new status
 not_opened task shape loaded new status NotFormatted is reason start holds far none sound = absurd (let never = reason.0 in cc)
 not_opened task shape loaded new status (Damaged page) is reason start holds far none sound = absurd (let never = reason.0 in cc)
 not_opened task shape loaded new status ReadFault is reason start holds far none sound = absurd (sound reason.0)

@@ -2,12 +2,12 @@
 use Rattle.std.proofs.Common.{◌≡◌, ◌⊎◌, inl, inr, ℕ, List, [], Option, Some, None, Result, Ok, refl, sym, ◌∙◌, ap, subst, arith}
 use Rattle.pk_base.specs.Entry.{Entry}
 use Rattle.pk_base.specs.Map.{Map}
-use Rattle.pk_base.specs.Page.{Flash}
+use Rattle.pk_base.specs.Page.{Flash, IsFlash}
 use Rattle.pk_base.specs.Refusal.{Refusal}
 use Rattle.pk_base.specs.Shape.{Shape}
 use Rattle.pk_nvme.specs.Command.{Command}
 use Rattle.pk_nand.specs.BoardState.{BoardState}
-use Rattle.pk_nand.specs.Calls.{Rose, Loaded}
+use Rattle.pk_nand.specs.Calls.{Rose, Loaded, IsReady}
 use Rattle.pk_nand.specs.Effects.{OnlyReading}
 use Rattle.pk_nand.specs.Resting.{RestsFlash}
 use Rattle.pk_nand.proofs.Reaching.{Reached-start, Went-reached}
@@ -31,7 +31,8 @@ use Rattle.pk_top.specs.declared.asking.TheConstants.{WORD_FRAMES}
 use Rattle.pk_top.specs.Ends.{open_status}
 use Rattle.pk_top.specs.Serves.{behind_opening}
 use Rattle.pk_top.specs.Statuses.{Tells, Untouched}
-use Rattle.pk_top.proofs.Telling.{tells_good, tells_output, tells_flash, tells_memory, tells_no_drive, tells_refused, tells_not, wants_untouched, wants_sound, gives_same, untouched_same, load_untouched, refused_untouched}
+use Rattle.pk_top.proofs.Telling.{tells_good, tells_output, tells_flash, tells_memory, tells_no_drive, tells_refused, tells_not, wants_untouched, wants_sound, gives_same, untouched_same}
+use Rattle.pk_top.proofs.Telling.{load_untouched, refused_untouched}
 
 -- ---- nothing was done
 
@@ -51,7 +52,13 @@ kept-none shape frames start cs before behind flash holds = record {
 -- a flash that holds the map, before any byte was posted
 pub silent : (task : Task) (before behind : ℕ) (shape : Shape) (frames : ℕ) (start : Map) (flash : Flash) → Holds shape flash start → KeptTask task before behind shape frames start flash []
 silent (answer q) before behind shape frames start flash holds = (kept-none shape frames start _ before behind flash holds, inl refl)
-silent (list from) before behind shape frames start flash holds = record { held = holds; text = key_lines (wanted_keys from start); says = (refl, inl refl); unposted = key_lines (wanted_keys from start); front = refl }
+silent (list from) before behind shape frames start flash holds = record {
+  held = holds;
+  text = key_lines (wanted_keys from start);
+  says = (refl, inl refl);
+  unposted = key_lines (wanted_keys from start);
+  front = refl;
+}
 silent (generate begin count) before behind shape frames start flash holds = (kept-none shape frames start _ before behind flash holds, inl refl)
 
 -- what a word keeps is a flash that holds a map
@@ -68,13 +75,16 @@ module _ (task : Task) (shape : Shape) (loaded new : BoardState) where
   keeps-none : OnlyReading loaded new → KeepsTask task shape loaded new
   keeps-none only = (
     [],
-    Went-reached [] loaded new KeptFrom (Reached-start loaded new KeptFrom (ap (λ (s : BoardState). s.shape) only) (ap (λ (s : BoardState). s.pages) only) (ap (λ (s : BoardState). s.trail) only) (ap (λ (s : BoardState). s.posted) only)
+    Went-reached [] loaded new KeptFrom
+        (Reached-start loaded new KeptFrom (ap (λ (s : BoardState). s.shape) only)
+        (ap (λ (s : BoardState). s.pages) only) (ap (λ (s : BoardState). s.trail) only) (ap (λ (s : BoardState). s.posted) only)
         (λ start holds. silent task loaded.read_faults new.read_faults shape WORD_FRAMES start loaded.pages holds)),
     tt,
   )
 
   rests-reading : OnlyReading loaded new → RestsFlash loaded new
-  rests-reading only = Rests-start loaded new (ap (λ (s : BoardState). s.shape) only) (ap (λ (s : BoardState). s.pages) only) (ap (λ (s : BoardState). s.trail) only) (ap (λ (s : BoardState). s.posted) only)
+  rests-reading only = Rests-start loaded new (ap (λ (s : BoardState). s.shape) only)
+      (ap (λ (s : BoardState). s.pages) only) (ap (λ (s : BoardState). s.trail) only) (ap (λ (s : BoardState). s.posted) only)
 
   -- the reads of opening leave the flash
   rests-opened : RestsFlash (behind_opening shape WORD_FRAMES loaded) new → RestsFlash loaded new
@@ -85,7 +95,11 @@ module _ (task : Task) (shape : Shape) (loaded new : BoardState) where
 
   -- the drive was not opened
   pub Asks-not : (status : ℕ) (error : OpenError) → status ≡ open_status error → NotOpened shape loaded new error → OnlyReading loaded new → Asks task shape loaded new status
-  Asks-not status error tells reason only = record { kept = keeps-none only; rests = λ _. rests-reading only; outcome = inl (record { error = error; tells = tells; reason = reason; only_reads = only }) }
+  Asks-not status error tells reason only = record {
+    kept = keeps-none only;
+    rests = λ _. rests-reading only;
+    outcome = inl (record { error = error; tells = tells; reason = reason; only_reads = only });
+  }
 
   -- it was
   module _ (drive : Sight) (start : Map) (stands : HoldsMap shape WORD_FRAMES (behind_opening shape WORD_FRAMES loaded) drive start) (none : drive.pending ≡ []) where
@@ -117,7 +131,8 @@ module _ (task : Task) (shape : Shape) (loaded new : BoardState) where
       outcome = inr (end, tells, record { start = start; holds = start-held; ends = told.ends; used = told.used });
     }
 
-  pub Asks-opened : (opened_board : BoardState) (drive : Sight) (status : ℕ) (end : WordEnd) → opened_board ≡ behind_opening shape WORD_FRAMES loaded → ((m : Map) × HoldsMap shape WORD_FRAMES opened_board drive m) → drive.pending ≡ []
+  pub Asks-opened : (opened_board : BoardState) (drive : Sight) (status : ℕ) (end : WordEnd)
+      → opened_board ≡ behind_opening shape WORD_FRAMES loaded → ((m : Map) × HoldsMap shape WORD_FRAMES opened_board drive m) → drive.pending ≡ []
       → status ≡ word_status end → ((start : Map) → Holds shape opened_board.pages start → Told task shape drive.counts.frames start opened_board new end) → Asks task shape loaded new status
   Asks-opened opened_board drive status end is stands none tells told =
       let T : BoardState → Type 0 = λ b. (m : Map) × HoldsMap shape WORD_FRAMES b drive m in
@@ -131,6 +146,15 @@ pub own_frames : (shape shape' : Shape) (frames : ℕ) (b : BoardState) (d : Sig
 own_frames shape shape' frames b d same stands =
     let T : Shape → Type 0 = λ s. (m : Map) × HoldsMap s d.counts.frames b d m in
     subst T (sym same) (stands.0, record { shape_is = stands.1.shape_is; frames_is = refl; map_is = stands.1.map_is })
+
+-- a board that was only read is as ready as before
+pub ready_behind : (shape shape' : Shape) (a b : BoardState) → shape' ≡ shape → IsReady a shape → OnlyReading a b → IsReady b shape'
+ready_behind shape shape' a b same ready only =
+    let now : IsReady b shape = record {
+      shape_is = ap (λ (s : BoardState). s.shape) only ∙ ready.shape_is;
+      flash = subst (λ (f : Flash). IsFlash shape f) (sym (ap (λ (s : BoardState). s.pages) only)) ready.flash;
+    } in
+    subst (λ (s : Shape). IsReady b s) (sym same) now
 
 -- ---- what the status says
 

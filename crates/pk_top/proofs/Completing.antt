@@ -33,7 +33,8 @@ reads_leave loaded new (n, only) = record {
   held = λ some. (ap (λ (s : BoardState). s.pages) only, ap (λ (s : BoardState). s.shape) only);
 }
 
-pub all_not : (shape : Shape) (frames : ℕ) (loaded new : BoardState) (status : ℕ) (error : OpenError) → status ≡ open_status error → NotOpened shape loaded new error → ServesAll shape frames loaded new status
+pub all_not : (shape : Shape) (frames : ℕ) (loaded new : BoardState) (status : ℕ) (error : OpenError)
+    → status ≡ open_status error → NotOpened shape loaded new error → ServesAll shape frames loaded new status
 all_not shape frames loaded new status NotFormatted is reason start holds input told ok sound = absurd (let none = reason.0 in cc)
 all_not shape frames loaded new status (Damaged page) is reason start holds input told ok sound = absurd (let none = reason.0 in cc)
 all_not shape frames loaded new status ReadFault is reason start holds input told ok sound = absurd (sound reason.0)

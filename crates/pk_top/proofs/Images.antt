@@ -18,9 +18,13 @@ some_shape shape o e = let T : Option Shape → Type 0 = IsSome in subst T (sym 
 
 module _ (shape : Shape) (old loaded new : BoardState) (none : Loaded old loaded None) where
   make_gives : MakeFailed loaded new → GivesNothing old new
-  make_gives failed = record { input = ap (λ (s : BoardState). s.input) failed ∙ ap (λ (s : BoardState). s.input) none.rest; posted = ap (λ (s : BoardState). s.posted) failed ∙ ap (λ (s : BoardState). s.posted) none.rest }
+  make_gives failed = record {
+    input = ap (λ (s : BoardState). s.input) failed ∙ ap (λ (s : BoardState). s.input) none.rest;
+    posted = ap (λ (s : BoardState). s.posted) failed ∙ ap (λ (s : BoardState). s.posted) none.rest;
+  }
 
-  tells_refusal : (status : ℕ) (fault : LoadFault) → status ≡ load_status fault → ((at : ℕ) → fault ≡ BadImage at → ⊥) → (fault ≡ Fault → Rose loaded.flash_faults new.flash_faults) → (fault ≢ Fault → new.flash_faults ≡ loaded.flash_faults) → MakeFailed loaded new → Tells old new status
+  tells_refusal : (status : ℕ) (fault : LoadFault) → status ≡ load_status fault → ((at : ℕ) → fault ≡ BadImage at → ⊥)
+      → (fault ≡ Fault → Rose loaded.flash_faults new.flash_faults) → (fault ≢ Fault → new.flash_faults ≡ loaded.flash_faults) → MakeFailed loaded new → Tells old new status
   tells_refusal status Fault is not_bad rose same failed =
       let T : ℕ → Type 0 = λ n. Rose n new.flash_faults in
       tells_flash old new status is (inr (subst T (ap (λ (s : BoardState). s.flash_faults) none.rest) (rose refl), make_gives failed))
@@ -37,7 +41,8 @@ module _ (shape : Shape) (old loaded new : BoardState) (none : Loaded old loaded
     | inl done ↦ tells_good old new status (inl done.tells)
     | inr failed ↦
         let T : ℕ → Type 0 = λ n. Rose n new.stop_faults in
-        tells_flash old new status failed.0 (inl (subst T (ap (λ (s : BoardState). s.stop_faults) m.is_made.rest ∙ ap (λ (s : BoardState). s.stop_faults) none.rest) (root_failed m.made (root_bytes shape first_root) failed.1)))
+        tells_flash old new status failed.0
+        (inl (subst T (ap (λ (s : BoardState). s.stop_faults) m.is_made.rest ∙ ap (λ (s : BoardState). s.stop_faults) none.rest) (root_failed m.made (root_bytes shape first_root) failed.1)))
   ]
 
   tells_makes : (status : ℕ) → Makes shape loaded new status → Tells old new status

@@ -1,11 +1,12 @@
 -- A run of a word on a pair of images, from the loads on.
-use Rattle.std.proofs.Common.{◌≡◌, ◌⊎◌, inl, inr, ℕ, ◌+◌, ◌<◌, ◌≤◌, List, [], ◌∷◌, length, map, Bool, if◌then◌else◌, Option, Some, None, IsSome, option_and_then, Result, Ok, Err, refl, sym, ◌∙◌, ap, subst, arith, true, false, nat_le}
+use Rattle.std.proofs.Common.{◌≡◌, ◌⊎◌, inl, inr, ℕ, ◌+◌, ◌<◌, ◌≤◌, List, [], ◌∷◌, length, map, Bool, if◌then◌else◌, Option, Some, None, IsSome, option_and_then, Result, Ok, Err, refl, sym, ◌∙◌, ap}
+use Rattle.std.proofs.Common.{subst, arith, true, false, nat_le}
 use Rattle.std.proofs.lemmas.Bool.Decides.{nat_tests}
 use Rattle.std.specs.FinMap.{len, entries, len-entries}
 use Rattle.pk_base.specs.Entry.{Entry}
 use Rattle.pk_base.specs.Key.{Key}
 use Rattle.pk_base.specs.Map.{Map}
-use Rattle.pk_base.specs.Page.{Flash, IsFlash}
+use Rattle.pk_base.specs.Page.{Flash}
 use Rattle.pk_base.specs.Refusal.{Refusal, not_formatted, damaged}
 use Rattle.pk_base.specs.Shape.{Shape, IsShape, limit}
 use Rattle.pk_nand.specs.BoardState.{BoardState, shape_or_none}
@@ -59,12 +60,6 @@ few_keys shape b m is law ready held =
     let names = names_len (entries m) in
     omega (arith, most, pages, few, size, names)
 
--- a board that was only read is as ready as before
-pub ready_behind : (shape shape' : Shape) (a b : BoardState) → shape' ≡ shape → IsReady a shape → OnlyReading a b → IsReady b shape'
-ready_behind shape shape' a b same ready only =
-    let now : IsReady b shape = record { shape_is = ap (λ (s : BoardState). s.shape) only ∙ ready.shape_is; flash = subst (λ (f : Flash). IsFlash shape f) (sym (ap (λ (s : BoardState). s.pages) only)) ready.flash } in
-    subst (λ (s : Shape). IsReady b s) (sym same) now
-
 -- ---- what was done on two images
 
 module _ (task : PairTask) (shape : Shape) (loaded new loaded' new' : BoardState) where
@@ -77,7 +72,9 @@ module _ (task : PairTask) (shape : Shape) (loaded new loaded' new' : BoardState
   first-still : OnlyReading loaded new → Goes shape loaded new FirstFrom
   first-still only = (
     [],
-    Went-reached [] loaded new FirstFrom (Reached-start loaded new FirstFrom (ap (λ (s : BoardState). s.shape) only) (ap (λ (s : BoardState). s.pages) only) (ap (λ (s : BoardState). s.trail) only) (ap (λ (s : BoardState). s.posted) only)
+    Went-reached [] loaded new FirstFrom
+        (Reached-start loaded new FirstFrom (ap (λ (s : BoardState). s.shape) only)
+        (ap (λ (s : BoardState). s.pages) only) (ap (λ (s : BoardState). s.trail) only) (ap (λ (s : BoardState). s.posted) only)
         (λ m holds. record { held = inl holds; said = inl refl })),
     tt,
   )
@@ -85,7 +82,9 @@ module _ (task : PairTask) (shape : Shape) (loaded new loaded' new' : BoardState
   second-still : OnlyReading loaded' new' → Goes shape loaded' new' SecondFrom
   second-still only = (
     [],
-    Went-reached [] loaded' new' SecondFrom (Reached-start loaded' new' SecondFrom (ap (λ (s : BoardState). s.shape) only) (ap (λ (s : BoardState). s.pages) only) (ap (λ (s : BoardState). s.trail) only) (ap (λ (s : BoardState). s.posted) only)
+    Went-reached [] loaded' new' SecondFrom
+        (Reached-start loaded' new' SecondFrom (ap (λ (s : BoardState). s.shape) only)
+        (ap (λ (s : BoardState). s.pages) only) (ap (λ (s : BoardState). s.trail) only) (ap (λ (s : BoardState). s.posted) only)
         (λ m holds. record { map = m; held = holds; silent = refl })),
     tt,
   )
@@ -98,13 +97,21 @@ module _ (task : PairTask) (shape : Shape) (loaded new loaded' new' : BoardState
   AsksPair-memory status is same same' only also = record { kept = still only also; outcome = inl (is, same, same') }
 
   -- the first drive was not opened
-  pub AsksPair-first : (status : ℕ) (error : OpenError) → status ≡ open_status error → NotOpened shape loaded new error → OnlyReading loaded new → new' ≡ loaded' → OnlyReading loaded' new' → AsksPair task shape loaded new loaded' new' status
-  AsksPair-first status error tells reason only same' also = record { kept = still only also; outcome = inr (inl (inl (record { error = error; tells = tells; reason = reason; only_reads = only }, same'))) }
+  pub AsksPair-first : (status : ℕ) (error : OpenError) → status ≡ open_status error → NotOpened shape loaded new error
+      → OnlyReading loaded new → new' ≡ loaded' → OnlyReading loaded' new' → AsksPair task shape loaded new loaded' new' status
+  AsksPair-first status error tells reason only same' also = record {
+    kept = still only also;
+    outcome = inr (inl (inl (record { error = error; tells = tells; reason = reason; only_reads = only }, same')));
+  }
 
   -- or the second
-  pub AsksPair-second : (status : ℕ) (error : OpenError) → status ≡ open_status error → new ≡ behind_opening shape WORD_FRAMES loaded → OnlyReading loaded new → NotOpened shape loaded' new' error → OnlyReading loaded' new'
+  pub AsksPair-second : (status : ℕ) (error : OpenError) → status ≡ open_status error → new ≡ behind_opening shape WORD_FRAMES loaded
+      → OnlyReading loaded new → NotOpened shape loaded' new' error → OnlyReading loaded' new'
       → AsksPair task shape loaded new loaded' new' status
-  AsksPair-second status error tells is only reason also = record { kept = still only also; outcome = inr (inl (inr (is, record { error = error; tells = tells; reason = reason; only_reads = also }))) }
+  AsksPair-second status error tells is only reason also = record {
+    kept = still only also;
+    outcome = inr (inl (inr (is, record { error = error; tells = tells; reason = reason; only_reads = also })));
+  }
 
   -- both were opened
   module _ (drive : Sight) (start : Map) (stands : HoldsMap shape WORD_FRAMES (behind_opening shape WORD_FRAMES loaded) drive start) (none : drive.pending ≡ [])
@@ -121,7 +128,8 @@ module _ (task : PairTask) (shape : Shape) (loaded new loaded' new' : BoardState
         let same : start ≡ m = cc in
         subst (λ (s : Map). KeptFirst task (EitherUnread loaded new loaded' new') shape s flash posted) same kept
 
-    pub AsksPair-told : (status : ℕ) (end : WordEnd) → status ≡ word_status end → PairTold task shape start other (behind_opening shape WORD_FRAMES loaded) new (behind_opening shape WORD_FRAMES loaded') new' end
+    pub AsksPair-told : (status : ℕ) (end : WordEnd) → status ≡ word_status end
+        → PairTold task shape start other (behind_opening shape WORD_FRAMES loaded) new (behind_opening shape WORD_FRAMES loaded') new' end
         → most_pair_roots start other < 4611686018427387904 → AsksPair task shape loaded new loaded' new' status
     AsksPair-told status end tells told few = record {
       kept = record {
@@ -167,7 +175,8 @@ module _ (task : PairTask) (shape : Shape) (loaded new loaded' new' : BoardState
 module _ (task : PairTask) (shape : Shape) (loaded new loaded' new' : BoardState) where
   pub AsksPair-opened : (one two : BoardState) (d e : Sight) (status : ℕ) (end : WordEnd) → one ≡ behind_opening shape WORD_FRAMES loaded → two ≡ behind_opening shape WORD_FRAMES loaded'
       → ((m : Map) × HoldsMap shape WORD_FRAMES one d m) → ((m : Map) × HoldsMap shape WORD_FRAMES two e m) → d.pending ≡ [] → e.pending ≡ [] → status ≡ word_status end
-      → ((m other : Map) → Holds shape one.pages m → Holds shape two.pages other → PairTold task shape m other one new two new' end) → IsShape shape → MapHeld → IsReady loaded shape → IsReady loaded' shape
+      → ((m other : Map) → Holds shape one.pages m → Holds shape two.pages other → PairTold task shape m other one new two new' end)
+      → IsShape shape → MapHeld → IsReady loaded shape → IsReady loaded' shape
       → AsksPair task shape loaded new loaded' new' status
   AsksPair-opened one two d e status end is is' stands stands' none none' tells told is_shape law ready ready' =
       let T : BoardState → Type 0 = λ b. (m : Map) × HoldsMap shape WORD_FRAMES b d m in
@@ -175,7 +184,8 @@ module _ (task : PairTask) (shape : Shape) (loaded new loaded' new' : BoardState
       let at : T (behind_opening shape WORD_FRAMES loaded) = subst T is stands in
       let also : U (behind_opening shape WORD_FRAMES loaded') = subst U is' stands' in
       let S : BoardState → Type 0 = λ b. (m other : Map) → Holds shape b.pages m → Holds shape two.pages other → PairTold task shape m other b new two new' end in
-      let R : BoardState → Type 0 = λ b. (m other : Map) → Holds shape loaded.pages m → Holds shape b.pages other → PairTold task shape m other (behind_opening shape WORD_FRAMES loaded) new b new' end in
+      let R : BoardState → Type 0 = λ b. (m other : Map) → Holds shape loaded.pages m → Holds shape b.pages other
+      → PairTold task shape m other (behind_opening shape WORD_FRAMES loaded) new b new' end in
       let said = subst R is' (subst S is told) in
       AsksPair-told task shape loaded new loaded' new' d at.0 at.1 none e also.0 also.1 none' status end tells
       (said at.0 also.0 (start-held task shape loaded new loaded' new' d at.0 at.1 none e also.0 also.1 none') (other-held task shape loaded new loaded' new' d at.0 at.1 none e also.0 also.1 none'))
@@ -267,7 +277,10 @@ not_found_wants old new status (inr (is, found)) e = load_untouched old new None
 -- a drive that was opened is as it was found
 opened_untouched : (shape : Shape) (old loaded new : BoardState) → Loaded old loaded (Some shape) → new ≡ behind_opening shape WORD_FRAMES loaded → Untouched old new
 opened_untouched shape old loaded new found is = record {
-  gives = record { input = ap (λ (s : BoardState). s.input) is ∙ ap (λ (s : BoardState). s.input) found.rest; posted = ap (λ (s : BoardState). s.posted) is ∙ ap (λ (s : BoardState). s.posted) found.rest };
+  gives = record {
+    input = ap (λ (s : BoardState). s.input) is ∙ ap (λ (s : BoardState). s.input) found.rest;
+    posted = ap (λ (s : BoardState). s.posted) is ∙ ap (λ (s : BoardState). s.posted) found.rest;
+  };
   trail = ap (λ (s : BoardState). s.trail) is ∙ ap (λ (s : BoardState). s.trail) found.rest;
   sound = ap (λ (s : BoardState). s.flash_faults) is ∙ ap (λ (s : BoardState). s.flash_faults) found.rest;
   held = λ some. (ap (λ (s : BoardState). s.pages) is ∙ (found.held some).0, ap (λ (s : BoardState). s.shape) is ∙ (found.held some).1);
@@ -277,7 +290,8 @@ still_untouched : (shape : Shape) (old loaded new : BoardState) → Loaded old l
 still_untouched shape old loaded new found is = subst (λ (s : BoardState). Untouched old s) (sym is) (load_untouched old loaded (Some shape) found)
 
 module _ (task : PairTask) (shape : Shape) (old loaded new old' loaded' new' : BoardState) (found : Loaded old loaded (Some shape)) (found' : Loaded old' loaded' (Some shape)) where
-  end_tells : (start other : Map) (end : WordEnd) (status : ℕ) → status ≡ word_status end → PairEnds task shape start (behind_opening shape WORD_FRAMES loaded) new (behind_opening shape WORD_FRAMES loaded') new' end → PairTells old new old' new' status
+  end_tells : (start other : Map) (end : WordEnd) (status : ℕ) → status ≡ word_status end
+      → PairEnds task shape start (behind_opening shape WORD_FRAMES loaded) new (behind_opening shape WORD_FRAMES loaded') new' end → PairTells old new old' new' status
   end_tells start other Done status is ends = record {
     is_one = inl is;
     output = λ e. absurd (omega (arith, e, is));
@@ -345,7 +359,8 @@ pair_tells task old new old' new' status (inl (is, same, same')) = record {
 pair_tells task old new old' new' status (inr (inl (missing, same'))) =
     by_first old new old' new' status (not_found_one old new status missing) (not_found_tells old new status missing) (not_found_wants old new status missing) (untouched_same old' new' same')
 pair_tells task old new old' new' status (inr (inr (inl (shape, found, missing)))) =
-    by_second old new old' new' status (not_found_one old' new' status missing) (not_found_tells old' new' status missing) (not_found_wants old' new' status missing) (load_untouched old new (Some shape) found)
+    by_second old new old' new' status (not_found_one old' new' status missing) (not_found_tells old' new' status missing)
+    (not_found_wants old' new' status missing) (load_untouched old new (Some shape) found)
 pair_tells task old new old' new' status (inr (inr (inr (inl o)))) = record {
   is_one = inr (inr (inr (inr (inl o.tells))));
   output = λ e. absurd (let is = o.tells in omega (arith, e, is));
@@ -404,7 +419,8 @@ pair_refused task old new old' new' status (inr (inr (inr (inr f)))) shape other
 worn_never : (before behind more : ℕ) → nat_le 9223372036854775808 behind ≡ true → behind ≤ before + more → before < 4611686018427387904 → more < 4611686018427387904 → ⊥
 worn_never before behind more worn used far few = grind (arith, nat_tests, worn, used, far, few)
 
-module _ (task : PairTask) (old new old' new' : BoardState) (status : ℕ) (shape : Shape) (m other : Map) (has : old.shape ≡ Some shape) (has' : old'.shape ≡ Some shape) (held : Holds shape old.pages m) (held' : Holds shape old'.pages other)
+module _ (task : PairTask) (old new old' new' : BoardState) (status : ℕ) (shape : Shape) (m other : Map) (has : old.shape ≡ Some shape)
+    (has' : old'.shape ≡ Some shape) (held : Holds shape old.pages m) (held' : Holds shape old'.pages other)
     (far : roots old < 4611686018427387904) (far' : roots old' < 4611686018427387904) (none : NoneRose old new) (none' : NoneRose old' new')
     (sound : Rose old.flash_faults new.flash_faults → ⊥) (sound' : Rose old'.flash_faults new'.flash_faults → ⊥) where
   abbrev IsDone : Type 0
@@ -579,7 +595,8 @@ short_by words key value (serve frames) is e = absurd (cc)
 short_by words key value assemble is e = absurd (cc)
 short_by words key value show is e = absurd (cc)
 
-short_of : (words : List (List ℕ)) (key value : List ℕ) (o : Option Word) (b : Bool) → o ≡ word_of words → (if b then Some resync else option_and_then for_pair o) ≡ Some (put key value) → length value < 4294967296
+short_of : (words : List (List ℕ)) (key value : List ℕ) (o : Option Word) (b : Bool) → o ≡ word_of words
+    → (if b then Some resync else option_and_then for_pair o) ≡ Some (put key value) → length value < 4294967296
 short_of words key value o true is e = absurd (cc)
 short_of words key value None false is e = absurd (cc)
 short_of words key value (Some w) false is e = short_by words key value w is e

@@ -1,4 +1,4 @@
--- Which runs leave the flash alone.
+-- Which runs do not change the flash.
 use Rattle.std.proofs.Common.{◌≡◌, inl, inr, ℕ, List, Option, Some, None, IsSome, sym, ◌∙◌, ap, true}
 use Rattle.pk_base.specs.Shape.{Shape}
 use Rattle.pk_nand.specs.BoardState.{BoardState}

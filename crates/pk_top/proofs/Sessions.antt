@@ -47,7 +47,8 @@ goes-none : (shape : Shape) (frames : ℕ) (loaded new : BoardState) (cs : List 
 goes-none shape frames loaded new cs only =
     let P : Flash → List ℕ → Type 0 = KeptFrom shape frames loaded new cs in (
       [],
-      Went-reached [] loaded new P (Reached-start loaded new P (ap (λ (s : BoardState). s.shape) only) (ap (λ (s : BoardState). s.pages) only) (ap (λ (s : BoardState). s.trail) only) (ap (λ (s : BoardState). s.posted) only) (kept-none shape frames loaded new cs)),
+      Went-reached [] loaded new P (Reached-start loaded new P (ap (λ (s : BoardState). s.shape) only) (ap (λ (s : BoardState). s.pages) only)
+          (ap (λ (s : BoardState). s.trail) only) (ap (λ (s : BoardState). s.posted) only) (kept-none shape frames loaded new cs)),
       tt,
     )
 
@@ -62,19 +63,22 @@ RunServes-not shape frames loaded new status error tells reason only = record {
 
 -- ---- a drive that was opened
 
-module _ (shape : Shape) (frames : ℕ) (loaded new : BoardState) (drive : Sight) (start : Map) (stands : HoldsMap shape frames (behind_opening shape frames loaded) drive start) (none : drive.pending ≡ []) where
+module _ (shape : Shape) (frames : ℕ) (loaded new : BoardState) (drive : Sight) (start : Map)
+    (stands : HoldsMap shape frames (behind_opening shape frames loaded) drive start) (none : drive.pending ≡ []) where
   start-held : Holds shape loaded.pages start
   start-held = let T : List Entry → Type 0 = λ p. reading shape loaded.pages p ≡ Ok start in subst T none stands.map_is
 
   -- a flash holds one map
-  kept-from : (cs : List Command) (flash : Flash) (posted : List ℕ) → KeptAt shape frames start cs (rise loaded.read_faults new.read_faults) flash posted → KeptFrom shape frames loaded new cs flash posted
+  kept-from : (cs : List Command) (flash : Flash) (posted : List ℕ)
+      → KeptAt shape frames start cs (rise loaded.read_faults new.read_faults) flash posted → KeptFrom shape frames loaded new cs flash posted
   kept-from cs flash posted kept m holds =
       let held : Holds shape loaded.pages start = start-held in
       let same : start ≡ m = cc in
       let T : Map → Type 0 = λ s. KeptAt shape frames s cs (rise loaded.read_faults new.read_faults) flash posted in
       subst T same kept
 
-  goes-from : (cs : List Command) → Goes shape (behind_opening shape frames loaded) new (KeptAt shape frames start cs (rise loaded.read_faults new.read_faults)) → Goes shape loaded new (KeptFrom shape frames loaded new cs)
+  goes-from : (cs : List Command) → Goes shape (behind_opening shape frames loaded) new (KeptAt shape frames start cs (rise loaded.read_faults new.read_faults))
+      → Goes shape loaded new (KeptFrom shape frames loaded new cs)
   goes-from cs goes = (
     goes.0,
     record {
@@ -134,4 +138,5 @@ RunServes-opened shape frames loaded opened_board new drive status end is stands
     let C : BoardState → Type 0 = λ b. Causes b new drive end in
     let W : BoardState → Type 0 = λ b. RunCompletes b new drive end in
     let at : T (behind_opening shape frames loaded) = subst T is stands in
-    serves-to shape frames loaded new drive at.0 at.1 none status end tells (subst B is blames) (subst S is says) (subst K is kept) (subst U is kept_untold) (subst A is served) (subst C is causes) (subst W is complete)
+    serves-to shape frames loaded new drive at.0 at.1 none status end tells (subst B is blames) (subst S is says)
+    (subst K is kept) (subst U is kept_untold) (subst A is served) (subst C is causes) (subst W is complete)

@@ -104,7 +104,12 @@ pub gives_same : (old new : BoardState) → new ≡ old → GivesNothing old new
 gives_same old new same = record { input = ap (λ (s : BoardState). s.input) same; posted = ap (λ (s : BoardState). s.posted) same }
 
 pub untouched_same : (old new : BoardState) → new ≡ old → Untouched old new
-untouched_same old new same = record { gives = gives_same old new same; trail = ap (λ (s : BoardState). s.trail) same; sound = ap (λ (s : BoardState). s.flash_faults) same; held = λ some. (ap (λ (s : BoardState). s.pages) same, ap (λ (s : BoardState). s.shape) same) }
+untouched_same old new same = record {
+  gives = gives_same old new same;
+  trail = ap (λ (s : BoardState). s.trail) same;
+  sound = ap (λ (s : BoardState). s.flash_faults) same;
+  held = λ some. (ap (λ (s : BoardState). s.pages) same, ap (λ (s : BoardState). s.shape) same);
+}
 
 -- ---- a load
 
@@ -141,11 +146,17 @@ tells_refused old new status r = tells_fault old new status r.fault r.tells r.re
 
 module _ (shape : Shape) (old loaded new : BoardState) (found : Loaded old loaded (Some shape)) where
   reads_gives : OnlyReading loaded new → GivesNothing old new
-  reads_gives only = record { input = ap (λ (s : BoardState). s.input) only ∙ ap (λ (s : BoardState). s.input) found.rest; posted = ap (λ (s : BoardState). s.posted) only ∙ ap (λ (s : BoardState). s.posted) found.rest }
+  reads_gives only = record {
+    input = ap (λ (s : BoardState). s.input) only ∙ ap (λ (s : BoardState). s.input) found.rest;
+    posted = ap (λ (s : BoardState). s.posted) only ∙ ap (λ (s : BoardState). s.posted) found.rest;
+  }
 
   reads_untouched : OnlyReads loaded new → Untouched old new
   reads_untouched (n, only) = record {
-    gives = record { input = ap (λ (s : BoardState). s.input) only ∙ ap (λ (s : BoardState). s.input) found.rest; posted = ap (λ (s : BoardState). s.posted) only ∙ ap (λ (s : BoardState). s.posted) found.rest };
+    gives = record {
+      input = ap (λ (s : BoardState). s.input) only ∙ ap (λ (s : BoardState). s.input) found.rest;
+      posted = ap (λ (s : BoardState). s.posted) only ∙ ap (λ (s : BoardState). s.posted) found.rest;
+    };
     trail = ap (λ (s : BoardState). s.trail) only ∙ ap (λ (s : BoardState). s.trail) found.rest;
     sound = ap (λ (s : BoardState). s.flash_faults) only ∙ ap (λ (s : BoardState). s.flash_faults) found.rest;
     held = λ some. (ap (λ (s : BoardState). s.pages) only ∙ (found.held some).0, ap (λ (s : BoardState). s.shape) only ∙ (found.held some).1);

@@ -87,7 +87,7 @@ PairRun task old new old' new' status =
 abbrev pub HasNoPair : BoardState → BoardState → Type 0
 HasNoPair new new' = HasNoDrive new ⊎ (HasNoDrive new' ⊎ ((shape other : Shape) × (new.shape ≡ Some shape) × (new'.shape ≡ Some other) × (shape ≢ other)))
 
--- a program or an erase of either failed; or a call of the flash of either, before anything was posted
+-- a program or an erase of either failed; or a flash operation of either, before anything was posted
 abbrev pub PairFlashFailed : BoardState → BoardState → BoardState → BoardState → Type 0
 PairFlashFailed old new old' new' =
     (Rose old.stop_faults new.stop_faults ⊎ Rose old'.stop_faults new'.stop_faults)
@@ -107,8 +107,8 @@ abbrev pub LacksPair : Shape → Shape → BoardState → BoardState → Type 0
 LacksPair shape other old old' =
     (shape ≢ other) ⊎ (((refusal : Refusal) × Refuses shape old.pages refusal) ⊎ ((refusal : Refusal) × Refuses other old'.pages refusal))
 
--- Two boards that hold their pages from the start, and no pair: the status is that of a missing drive, unless memory was missing or a call of the flash
--- failed before that was known.
+-- Two boards that hold their pages from the start, and no pair: the status is that of a missing drive, unless a flash operation failed before that was
+-- known, or memory ran out.
 abbrev pub PairRefused : BoardState → BoardState → ℕ → Type 0
 PairRefused old old' status =
     (shape other : Shape) → old.shape ≡ Some shape → old'.shape ≡ Some other → LacksPair shape other old old'

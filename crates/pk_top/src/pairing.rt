@@ -19,7 +19,7 @@ use pk_model::laws::held_map;
 use pk_nand::Board;
 use std::alloc::Global;
 
-/// Does what the words ask for on the drives of two images that are written as one. Texts are posted on the first board.
+/// Does what the words ask for on the drives of two images that are used as one. Texts are posted on the first board.
 ///
 /// The status is `WORDS` exactly where the words ask for nothing of the table of a pair, or `MEMORY` where the memory for a value
 /// among them is missing.

@@ -23,9 +23,12 @@ const NEW: Value = Value { first: 3, len: 100 };
 
 // ---- the pairs of a trail
 
-// The page of a root or of a commit that this mark programs.
-fn relied_on(mark: &Mark) -> Option<u32> {
-    match mark {
+// The page of a root or of a commit that the mark with this number programs.
+fn relied_on(flash: &Flash, k: usize) -> Option<u32> {
+    if k >= flash.marks() {
+        return None;
+    }
+    match flash.mark(k) {
         Mark::Program { page, bytes } => {
             let text = bytes.bytes();
             if text.starts_with(b"PINKROOT") || text.starts_with(b"PINKJRNL") {
@@ -53,10 +56,10 @@ fn next_change(flash: &Flash, mark: usize) -> Option<usize> {
 fn half_made(rt: &impl Abort, flash: &Flash, place: Place) -> u32 {
     let mut count = 0u32;
     for i in 0..flash.marks() {
-        match relied_on(flash.mark(i)) {
+        match relied_on(flash, i) {
             Some(page) if page % 2 == 0 => {
                 let next = next_change(flash, i).expect(rt, "a second program");
-                let second = relied_on(flash.mark(next));
+                let second = relied_on(flash, next);
                 holds(
                     rt,
                     second == Some(page.saturating_add(1)),
@@ -171,7 +174,7 @@ fn check_cuts(rt: &impl Abort, alloc: Global, asked: &Asked) -> u32 {
 
 // The session of these commands on these pages, which is to answer each with success. What a Store reads that finishes a merge or a reclaim
 // is its own.
-fn asked(
+fn session_with(
     rt: &impl Abort,
     alloc: Global,
     pages: Vec<PageState>,
@@ -221,7 +224,7 @@ fn merging(rt: &impl Abort, alloc: Global, steps: u32) -> Asked {
     ];
     let before = [Some(OLD), None, None, None, None, None];
     let pages = pages_left(rt, alloc, &first);
-    asked(
+    session_with(
         rt,
         alloc,
         pages,
@@ -267,7 +270,7 @@ const FILLING: [Ask; 8] = [
 fn reclaiming(rt: &impl Abort, alloc: Global, steps: u32) -> Asked {
     let asks = [Ask::Tick(steps), Ask::Store(0x63, NEW), Ask::Flush];
     let pages = made(rt, alloc, &MAKE_SMALL);
-    asked(
+    session_with(
         rt,
         alloc,
         pages,

@@ -85,7 +85,7 @@ pub const FLASHES: [Layered; 3] = [
     },
 ];
 
-// Run 4 alone has keys that are there: the numbers from this one on. The newest epoch deletes the first of them, and the other lists have
+// Run 4 alone has keys that exist: the numbers from this one on. The newest epoch deletes the first of them, and the other lists have
 // deleted keys, from the other number on, of which none covers one of run 4.
 const FIRST_THERE: u16 = 4000;
 

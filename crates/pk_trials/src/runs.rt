@@ -2,8 +2,7 @@
 
 use crate::damage::refused;
 use crate::steps::{
-    Pink, copied, cut, done, ended, holds, pages_left, posted, script, serve_with, worked_board,
-    wrote,
+    copied, cut, done, ended, holds, pages_left, posted, script, serve_with, worked_board, wrote,
 };
 use pk_flash::{Flash, Left};
 use pk_nand::PageState;
@@ -32,7 +31,7 @@ fn ask_with(
     serve_with(alloc, flash, frames)
 }
 
-// By the key: the level whose run has the entry that counts, 0 for the buffers and 4 for none, and whether the key is there.
+// By the key: the level whose run has the entry that counts, 0 for the buffers and 4 for none, and whether the key exists.
 #[derive(Clone, Copy)]
 struct Row {
     key: u8,

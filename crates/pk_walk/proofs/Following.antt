@@ -1,19 +1,18 @@
 -- A cursor in a run: the page of its place, the entry at it, and what its moves leave.
-use Rattle.std.proofs.Common.{◌≡◌, ℕ, zero, suc, ◌+◌, ◌-◌, ◌*◌, ◌/◌, ◌%◌, ◌<◌, ◌≤◌, min, refl, sym, ap, subst, ◌∙◌, arith, Bool, true, false, if◌then◌else◌, T, is_some, List, [], ◌∷◌, ◌++◌, length, take, drop, slice_get, Option, Some, None, div-lt_iff_lt-mul, mul-le-mul, suc-mul}
+use Rattle.std.proofs.Common.{◌≡◌, ℕ, zero, suc, ◌+◌, ◌-◌, ◌*◌, ◌/◌, ◌%◌, ◌<◌, ◌≤◌, min, refl, sym, ap, subst, ◌∙◌, arith, Bool, true, false, if◌then◌else◌, T, is_some, List, [], ◌∷◌, ◌++◌, length}
+use Rattle.std.proofs.Common.{take, drop, slice_get, Option, Some, None, div-lt_iff_lt-mul, mul-le-mul, suc-mul}
 use Rattle.std.specs.Ordering.{is_gt, is_eq}
 use Rattle.std.specs.declared.cmp.Ordering.{Ordering}
 use Rattle.std.specs.declared.cmp.Ordering.TheVariants.{Less, Equal, Greater}
 use Rattle.std.proofs.lemmas.Nat.{div-add-mod'}
 use Rattle.std.proofs.lemmas.List.{length-take, length-drop}
-use Rattle.std.proofs.lemmas.Grind.{div_ceil_times}
-use Rattle.std.proofs.Math.Nat.{mod-lt, div-le_of_le-mul, lt_of_mul-lt-mul_right}
-use Rattle.std.specs.Int.{div_ceil}
+use Rattle.std.proofs.Math.Nat.{mod-lt, div-le_of_le-mul}
 use Rattle.pk_base.specs.Key.{Key, key_cmp}
 use Rattle.pk_base.specs.Shape.{Shape, IsShape, page_entries}
 use Rattle.pk_base.specs.Entry.{Entry, key_of}
 use Rattle.pk_base.specs.Fields.{number_at}
 use Rattle.pk_base.specs.Page.{Flash, page_at, whole}
-use Rattle.pk_meta.specs.Page.{IsMetaPage}
+use Rattle.pk_meta.specs.PageChecks.{IsMetaPage}
 use Rattle.pk_meta.proofs.PageLemmas.{meta_again}
 use Rattle.pk_nand.specs.BoardState.{BoardState}
 use Rattle.pk_pin.specs.Frames.{Frames}
@@ -27,13 +26,11 @@ use Rattle.pk_walk.specs.Heads.{Head, IsNextWanted, head_after, held}
 use Rattle.pk_walk.specs.Walking.{Cursor, Follows, HasPassed, Reads, ReadsAll, at_start, read_of}
 use Rattle.pk_walk.specs.Steps.{MayLoad, StaysAt, bytes_in, seen_bytes}
 use Rattle.pk_model.proofs.MapLemmas.{key_antisymm}
-use Rattle.pk_walk.proofs.Merging.{turned}
 use Rattle.pk_walk.proofs.Wanting.{begun_at, narrowed, narrowed_behind, above_is_narrower}
+use Rattle.pk_base.proofs.KeyLemmas.{turned}
+use Rattle.pk_base.proofs.ShapeLemmas.{ceil_most, entries_some}
 
 -- ---- numbers
-
-pub entries_some : (shape : Shape) → IsShape shape → 0 < page_entries shape
-entries_some shape is = let page : 512 ≤ shape.page_bytes = is.page_least in omega arith
 
 -- the page of a place in the run exists
 pub page_exists : (r : Kept) (place : ℕ) → IsShape r.shape → IsKept r → place < r.count → place / page_entries r.shape < length r.firsts
@@ -112,7 +109,8 @@ pub has_frames : (leases : List ℕ) (i lease : ℕ) → slice_get leases i ≡ 
 has_frames [] i lease got none = cc
 has_frames (l ∷ leases) i lease got none = cc
 
-module _ (r : Kept) (flash : Flash) (arena : Frames) (es : List Entry) (s : RunOnFlash r flash arena es) (read : List ℕ) (p : ℕ) (exists : p < length r.firsts) (own : r.leases ≡ [] → page_at flash (page_of r p) ≡ whole read) where
+module _ (r : Kept) (flash : Flash) (arena : Frames) (es : List Entry) (s : RunOnFlash r flash arena es) (read : List ℕ)
+    (p : ℕ) (exists : p < length r.firsts) (own : r.leases ≡ [] → page_at flash (page_of r p) ≡ whole read) where
   seen_page : (o : Option ℕ) → slice_get r.leases p ≡ o → page_at flash (page_of r p) ≡ whole (seen_bytes read arena o)
   seen_page None e = own (no_leases r flash arena es s p exists (seen_nowhere r.leases p e))
   seen_page (Some lease) e = (s.frames p lease e).bytes
@@ -146,7 +144,8 @@ module _ (flash : Flash) (r : Kept) (es : List Entry) (position : Position) (c :
   page place = place / page_entries r.shape
 
   -- it has come past the page of its place
-  pub Follows-loaded : (bytes : List ℕ) → page c.place < length r.firsts → (r.leases ≡ [] → page_at flash (page_of r (page c.place)) ≡ whole bytes) → Follows flash r es position (record c { loaded = suc (page c.place); bytes = bytes })
+  pub Follows-loaded : (bytes : List ℕ) → page c.place < length r.firsts → (r.leases ≡ [] → page_at flash (page_of r (page c.place)) ≡ whole bytes)
+      → Follows flash r es position (record c { loaded = suc (page c.place); bytes = bytes })
   Follows-loaded bytes exists here = record { pages = exists; behind = omega arith; holds = λ none e. here none; left = f.left; ended = f.ended; sure = λ has. (omega arith, (f.sure has).1) }
 
   -- it has not
@@ -154,7 +153,8 @@ module _ (flash : Flash) (r : Kept) (es : List Entry) (position : Position) (c :
   Follows-kept bytes before = record { pages = f.pages; behind = f.behind; holds = λ none e. absurd (omega (arith, before, e)); left = f.left; ended = f.ended; sure = f.sure }
 
   -- it is put to where the walk begins
-  pub Follows-begun : (place : ℕ) → c.loaded ≡ 0 → c.head ≡ None → wanted (is_wanted position) es ≡ wanted (is_wanted position) (drop place es) → Follows flash r es position (record c { place = place })
+  pub Follows-begun : (place : ℕ) → c.loaded ≡ 0 → c.head ≡ None
+      → wanted (is_wanted position) es ≡ wanted (is_wanted position) (drop place es) → Follows flash r es position (record c { place = place })
   Follows-begun place none sought left = record {
     pages = f.pages;
     behind = omega (arith, none);
@@ -165,7 +165,8 @@ module _ (flash : Flash) (r : Kept) (es : List Entry) (position : Position) (c :
   }
 
 -- if the first wanted entry has to be looked for
-pub sought_left : (flash : Flash) (r : Kept) (es : List Entry) (position : Position) (c : Cursor) → Follows flash r es position c → c.head ≡ None → wanted (is_wanted position) es ≡ wanted (is_wanted position) (drop c.place es)
+pub sought_left : (flash : Flash) (r : Kept) (es : List Entry) (position : Position) (c : Cursor)
+    → Follows flash r es position c → c.head ≡ None → wanted (is_wanted position) es ≡ wanted (is_wanted position) (drop c.place es)
 sought_left flash r es position c f sought = subst (λ (h : Head). wanted (is_wanted position) es ≡ held h ++ wanted (is_wanted position) (drop c.place es)) sought f.left
 
 -- what the load of its page asks
@@ -175,7 +176,8 @@ may_load flash r es position c p is kept inside f same =
     subst (λ (q : ℕ). MayLoad flash r q c) (sym same) (record { exists = page_exists r c.place is kept inside; behind = f.behind; holds = f.holds })
 
 -- with the page of its place it is where it was
-pub stays_loaded : (flash : Flash) (r : Kept) (c d : Cursor) → IsShape r.shape → c.place / page_entries r.shape < length r.firsts → (r.leases ≡ [] → page_at flash (page_of r (c.place / page_entries r.shape)) ≡ whole d.bytes)
+pub stays_loaded : (flash : Flash) (r : Kept) (c d : Cursor) → IsShape r.shape → c.place / page_entries r.shape < length r.firsts
+    → (r.leases ≡ [] → page_at flash (page_of r (c.place / page_entries r.shape)) ≡ whole d.bytes)
     → d ≡ record c { loaded = suc (c.place / page_entries r.shape); bytes = d.bytes } → StaysAt flash r c d
 stays_loaded flash r c d is exists here moved = record {
   place = moved ∙ (λ i. record c { loaded = (sym moved i).loaded; bytes = d.bytes });
@@ -200,7 +202,8 @@ above_held position key es n (Some (Some e)) one high left =
     let within = above_is_narrower position key one in
     let rest = narrowed v w (drop n es) within in
     sym (narrowed v w es within) ∙ ap (wanted v) left
-    ∙ elim (key_cmp e.0 key) as (λ o. key_cmp e.0 key ≡ o → (if is_gt o then e ∷ wanted v (wanted w (drop n es)) else wanted v (wanted w (drop n es))) ≡ held (if is_eq o then None else Some (Some e)) ++ wanted v (drop n es)) [
+    ∙ elim (key_cmp e.0 key) as (λ o. key_cmp e.0 key ≡ o
+    → (if is_gt o then e ∷ wanted v (wanted w (drop n es)) else wanted v (wanted w (drop n es))) ≡ held (if is_eq o then None else Some (Some e)) ++ wanted v (drop n es)) [
       | Less ↦ λ p. absurd (high e refl p)
       | Equal ↦ λ p. rest
       | Greater ↦ λ p. ap (λ (xs : List Entry). e ∷ xs) rest
@@ -242,11 +245,19 @@ Follows-above flash r es position c f key one high known = record {
 
 -- at the start it follows any run
 pub Follows-start : (flash : Flash) (r : Kept) (es : List Entry) (position : Position) (c : Cursor) → Follows flash r es position (at_start c)
-Follows-start flash r es position c = record { pages = omega arith; behind = omega arith; holds = λ none e. absurd (omega (arith, e)); left = refl; ended = λ e. absurd (not_ended e); sure = λ has. absurd (not_found has) }
+Follows-start flash r es position c = record {
+  pages = omega arith;
+  behind = omega arith;
+  holds = λ none e. absurd (omega (arith, e));
+  left = refl;
+  ended = λ e. absurd (not_ended e);
+  sure = λ has. absurd (not_found has);
+}
 
 -- ---- where a walk begins in a run
 
-pub page_begins : (r : Kept) (flash : Flash) (arena : Frames) (es : List Entry) (w : Key → Bool) (key : Key) (p : ℕ) → IsShape r.shape → WantsFrom w key → IsPageFor key r.firsts p → RunOnFlash r flash arena es
+pub page_begins : (r : Kept) (flash : Flash) (arena : Frames) (es : List Entry) (w : Key → Bool) (key : Key) (p : ℕ)
+    → IsShape r.shape → WantsFrom w key → IsPageFor key r.firsts p → RunOnFlash r flash arena es
     → wanted w es ≡ wanted w (drop (p * page_entries r.shape) es)
 page_begins r flash arena es w key p is from for_key s =
     let starts = page_starts r flash arena es is s p for_key.exists in
@@ -285,7 +296,8 @@ looked_all [] loaded p old new h e = (1, omega (arith, h), e)
 looked_all (l ∷ leases) loaded p old new h e = (0, omega arith, e)
 
 -- after a look at the page of its place
-pub head_here : (r : Kept) (c d : Cursor) → IsShape r.shape → c.shape ≡ r.shape → d ≡ record c { loaded = suc (c.place / page_entries r.shape); bytes = d.bytes } → d.place < d.loaded * page_entries d.shape
+pub head_here : (r : Kept) (c d : Cursor) → IsShape r.shape → c.shape ≡ r.shape
+    → d ≡ record c { loaded = suc (c.place / page_entries r.shape); bytes = d.bytes } → d.place < d.loaded * page_entries d.shape
 head_here r c d is same moved =
     subst (λ (x : Cursor). x.place < x.loaded * page_entries x.shape) (sym moved)
     (subst (λ (shape : Shape). c.place < suc (c.place / page_entries r.shape) * page_entries shape) (sym same) (page_holds_place c.place (page_entries r.shape) (entries_some r.shape is)))
@@ -296,14 +308,9 @@ head_all r c d p old new same page loaded every passed =
     let comes = subst (λ (shape : Shape). c.place / page_entries shape ≤ c.loaded) same (page_comes c passed) in
     subst (λ (n : ℕ). ReadsAll (read_of r.leases c.loaded) (read_of r.leases n) old new) (sym loaded) (every (omega (arith, page, comes)))
 
-ceil_most : (x y k : ℕ) → 0 < y → x ≤ k * y → div_ceil x y ≤ k
-ceil_most x y k some room =
-    let few : div_ceil x y * y < suc k * y = omega (arith, (div_ceil_times x y some).1) in
-    let less : div_ceil x y < suc k = lt_of_mul-lt-mul_right y few in
-    omega arith
-
 -- after the last entry it has passed each page
-pub all_come : (r : Kept) (flash : Flash) (arena : Frames) (es : List Entry) (position : Position) (c : Cursor) → IsShape r.shape → c.shape ≡ r.shape → RunOnFlash r flash arena es → Follows flash r es position c
+pub all_come : (r : Kept) (flash : Flash) (arena : Frames) (es : List Entry) (position : Position) (c : Cursor)
+    → IsShape r.shape → c.shape ≡ r.shape → RunOnFlash r flash arena es → Follows flash r es position c
     → r.count ≤ c.place → HasPassed c → c.loaded ≡ length r.firsts
 all_come r flash arena es position c is same s f past passed =
     let own = subst (λ (shape : Shape). c.place ≤ c.loaded * page_entries shape) same passed in

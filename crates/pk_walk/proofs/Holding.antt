@@ -1,5 +1,6 @@
 -- A cursor that knows the first wanted entry of its run, and is after it.
-use Rattle.std.proofs.Common.{◌≡◌, ℕ, zero, suc, ◌*◌, ◌/◌, ◌%◌, ◌<◌, ◌≤◌, refl, sym, ap, subst, ◌∙◌, arith, Bool, true, false, if◌then◌else◌, T, is_some, List, [], ◌∷◌, drop, slice_get, option_map, Option, Some, None, div-lt_iff_lt-mul}
+use Rattle.std.proofs.Common.{◌≡◌, ℕ, zero, suc, ◌*◌, ◌/◌, ◌%◌, ◌<◌, ◌≤◌, refl, sym, ap, subst, ◌∙◌, arith, Bool, true, false, if◌then◌else◌, T, is_some, List, [], ◌∷◌, drop, slice_get, option_map}
+use Rattle.std.proofs.Common.{Option, Some, None, div-lt_iff_lt-mul}
 use Rattle.std.specs.Option.{IsSome}
 use Rattle.std.proofs.lemmas.Nat.{div-add-mod', le-div}
 use Rattle.std.specs.FinMap.Entries.{is_sorted}
@@ -10,7 +11,7 @@ use Rattle.pk_base.specs.Entry.{Entry}
 use Rattle.pk_base.specs.Seen.{entry as seen}
 use Rattle.pk_base.specs.declared.entry.Entry.{Entry as RustEntry}
 use Rattle.pk_base.specs.Page.{Flash, page_at}
-use Rattle.pk_meta.specs.Page.{IsMetaPage}
+use Rattle.pk_meta.specs.PageChecks.{IsMetaPage}
 use Rattle.pk_nand.specs.BoardState.{BoardState}
 use Rattle.pk_pin.specs.Frames.{Frames}
 use Rattle.pk_run.specs.Kept.{Kept, IsKept, RunOnFlash, page_of}
@@ -20,17 +21,14 @@ use Rattle.pk_walk.specs.Heads.{Head, IsNextWanted}
 use Rattle.pk_walk.specs.Walking.{Cursor, Follows, read_of}
 use Rattle.pk_walk.specs.Steps.{FindsIn, GoesOn, IsAt, ShowsIn, bytes_in, holding}
 use Rattle.pk_walk.proofs.Wanting.{above_at, dropped, first_here, first_wanted, same_entry}
-use Rattle.pk_model.proofs.MapLemmas.{left_part, right_part}
-use Rattle.pk_walk.proofs.Following.{all_come, entries_some, page_exists, page_holds_place, page_seen, sought_left}
+use Rattle.pk_walk.proofs.Following.{all_come, page_exists, page_holds_place, page_seen, sought_left}
 use Rattle.pk_walk.proofs.Moving.{AtPage, entry_here}
 use Rattle.pk_walk.proofs.Seeking.{Reads-none, ReadsAll-none, no_answer, one_list, same_answer}
+use Rattle.pk_base.proofs.Logic.{is_true, left_part, right_part}
+use Rattle.pk_base.proofs.ShapeLemmas.{entries_some}
 
 not_none : (e : Entry) → ◌≡◌ {A = Head} (Some (Some e)) (Some None) → ⊥
 not_none e is = cc
-
-is_true : (b : Bool) → T b → b ≡ true
-is_true true p = refl
-is_true false p = absurd p
 
 -- the keys of a list rise
 rises : (es : List Entry) (n i : ℕ) (e x : Entry) → T (is_sorted key_cmp es) → n < i → slice_get es n ≡ Some e → slice_get es i ≡ Some x → key_cmp e.0 x.0 ≡ Less
@@ -40,7 +38,8 @@ rises (y ∷ es) zero (suc i) e x up less got next = subst (λ (z : Entry). key_
 rises (y ∷ es) (suc n) (suc i) e x up less got next = rises es n i e x (right_part _ _ up) (omega (arith, less)) got next
 
 -- what was found at the place is held, and the cursor goes past it
-pub holds_entry : (r : Kept) (flash : Flash) (arena : Frames) (es : List Entry) (position : Position) (d : Cursor) (e : Entry) → IsShape r.shape → RunOnFlash r flash arena es → Follows flash r es position d
+pub holds_entry : (r : Kept) (flash : Flash) (arena : Frames) (es : List Entry) (position : Position) (d : Cursor) (e : Entry)
+    → IsShape r.shape → RunOnFlash r flash arena es → Follows flash r es position d
     → d.head ≡ None → IsAt r flash arena d e → Some e ≡ first_of (wanted (is_wanted position) es) → Follows flash r es position (holding (Some e) d)
 holds_entry r flash arena es position d e is s f sought at found =
     let some = entries_some r.shape is in
@@ -61,7 +60,8 @@ holds_entry r flash arena es position d e is s f sought at found =
     }
 
 -- or that there is none
-pub holds_none : (r : Kept) (flash : Flash) (es : List Entry) (position : Position) (d : Cursor) → Follows flash r es position d → d.head ≡ None → r.count ≤ d.place → Follows flash r es position (holding None d)
+pub holds_none : (r : Kept) (flash : Flash) (es : List Entry) (position : Position) (d : Cursor)
+    → Follows flash r es position d → d.head ≡ None → r.count ≤ d.place → Follows flash r es position (holding None d)
 holds_none r flash es position d f sought past = record {
   pages = f.pages;
   behind = f.behind;
@@ -112,7 +112,8 @@ module _ (r : Kept) (arena : Frames) (position : Position) (old : BoardState) (c
   }
 
 -- it is not, but the entry at the place is the next
-module _ (r : Kept) (arena : Frames) (position : Position) (old : BoardState) (c : Cursor) (es : List Entry) (s : RunOnFlash r old.pages arena es) (f : Follows old.pages r es position c) (is : IsShape r.shape) (kept : IsKept r)
+module _ (r : Kept) (arena : Frames) (position : Position) (old : BoardState) (c : Cursor) (es : List Entry)
+    (s : RunOnFlash r old.pages arena es) (f : Follows old.pages r es position c) (is : IsShape r.shape) (kept : IsKept r)
     (same : c.shape ≡ r.shape) (sought : c.head ≡ None) (ready : (c.has_found ≡ true) × (c.place < r.count) × (c.place < c.loaded * page_entries c.shape)) where
   pub ready_loaded : c.loaded ≡ suc (c.place / page_entries r.shape)
   ready_loaded =
@@ -129,7 +130,8 @@ module _ (r : Kept) (arena : Frames) (position : Position) (old : BoardState) (c
     loaded = ready_loaded;
   }
 
-  pub ready_finds : (e : RustEntry) → ((level index : ℕ) (entries : List Entry) → IsMetaPage c.shape (bytes_in r arena c) level index entries → slice_get entries (c.place % page_entries c.shape) ≡ Some (seen e))
+  pub ready_finds : (e : RustEntry)
+      → ((level index : ℕ) (entries : List Entry) → IsMetaPage c.shape (bytes_in r arena c) level index entries → slice_get entries (c.place % page_entries c.shape) ≡ Some (seen e))
       → FindsIn r arena position old old c c (Some e)
   ready_finds e shows = record {
     found = λ ys t. subst (λ (xs : List Entry). Some (seen e) ≡ first_of (wanted (is_wanted position) xs)) (one_list r old.pages arena es ys s t) first;
@@ -156,6 +158,7 @@ unknown None e = refl
 unknown (Some found) e = cc
 
 -- there is room after an entry
-pub place_fits : (r : Kept) (arena : Frames) (position : Position) (old new : BoardState) (c d : Cursor) (answer : Option RustEntry) → FindsIn r arena position old new c d answer → IsSome answer → d.place < r.count
+pub place_fits : (r : Kept) (arena : Frames) (position : Position) (old new : BoardState) (c d : Cursor) (answer : Option RustEntry)
+    → FindsIn r arena position old new c d answer → IsSome answer → d.place < r.count
 place_fits r arena position old new c d None f some = cc
 place_fits r arena position old new c d (Some e) f some = (f.at e refl).inside

@@ -70,7 +70,8 @@ one_stays hs ks h k (Some o) same one s settled kept =
     let entry = sym (one kept.settled) in
     record { before = s; settled = settled; is = kept.is ∙ (λ i. order_of (least i) (entry i)) }
 
-each_stays : (hs ks rest next : List Head) (os : List (Option Ordering)) → Stay hs ks → Stay rest next → AllByRecursion IsSettled ks → AllByRecursion IsSettled next → EachKept hs rest os → EachKept ks next os
+each_stays : (hs ks rest next : List Head) (os : List (Option Ordering)) → Stay hs ks → Stay rest next
+    → AllByRecursion IsSettled ks → AllByRecursion IsSettled next → EachKept hs rest os → EachKept ks next os
 each_stays hs ks [] [] os same more s settled kept = tt
 each_stays hs ks [] (k ∷ next) os same more s settled kept = absurd more
 each_stays hs ks (h ∷ rest) [] os same more s settled kept = absurd more
@@ -83,7 +84,8 @@ each_stays hs ks (h ∷ rest) (k ∷ next) (o ∷ os) same more s settled kept =
 -- ---- over a search
 
 -- what both know of a run is its first wanted entry
-cursors_stay : (flash : Flash) (arena : Frames) (position : Position) (rs : List Kept) (ess : List (List Entry)) (cs ds : List Cursor) → length rs ≡ length cs → length rs ≡ length ds → RunsOnFlash flash arena rs ess
+cursors_stay : (flash : Flash) (arena : Frames) (position : Position) (rs : List Kept) (ess : List (List Entry)) (cs ds : List Cursor)
+    → length rs ≡ length cs → length rs ≡ length ds → RunsOnFlash flash arena rs ess
     → FollowEach flash rs ess position cs → FollowEach flash rs ess position ds → AllByRecursion IsKnown ds → Stay (heads_of cs) (heads_of ds)
 cursors_stay flash arena position [] ess [] [] many same s f g known = tt
 cursors_stay flash arena position [] ess (c ∷ cs) ds many same s f g known = absurd (omega (arith, many))
@@ -109,7 +111,8 @@ top_stays : (found : Option Entry) (h : Head) → IsSettled h → entry_in (know
 top_stays found None settled = cc
 top_stays found (Some first) settled = refl
 
-module _ (rs : List Kept) (arena : Frames) (active frozen : List Entry) (shape : Shape) (old new : BoardState) (w : Walk) (t : Tops) (ds : List Cursor) (at : Learned rs arena active frozen shape old new w t ds) where
+module _ (rs : List Kept) (arena : Frames) (active frozen : List Entry) (shape : Shape) (old new : BoardState)
+    (w : Walk) (t : Tops) (ds : List Cursor) (at : Learned rs arena active frozen shape old new w t ds) where
   -- all entries are known after it
   pub learned_settled : AllByRecursion IsSettled (heads_in t ds)
   learned_settled = (
@@ -118,7 +121,8 @@ module _ (rs : List Kept) (arena : Frames) (active frozen : List Entry) (shape :
   )
 
   -- and what was kept holds still
-  pub learned_kept : (k : RustKeptOrders) → length w.cursors ≡ length ds → (ess : List (List Entry)) → RunsOnFlash old.pages arena rs ess → FollowEach old.pages rs ess w.position w.cursors → AreKept w.tops w.cursors k → AreKept t ds k
+  pub learned_kept : (k : RustKeptOrders) → length w.cursors ≡ length ds → (ess : List (List Entry))
+      → RunsOnFlash old.pages arena rs ess → FollowEach old.pages rs ess w.position w.cursors → AreKept w.tops w.cursors k → AreKept t ds k
   learned_kept k same ess s f kept =
       each_stays (w.tops.active ∷ []) (t.active ∷ []) (w.tops.frozen ∷ heads_of w.cursors) (t.frozen ∷ heads_of ds) (as_list k)
       (λ settled. ap (λ (x : Tops). entry_in x.active) at.known ∙ top_stays _ w.tops.active settled, tt) (
@@ -129,7 +133,8 @@ module _ (rs : List Kept) (arena : Frames) (active frozen : List Entry) (shape :
 
 -- ---- after the least
 
-module _ (t : Tops) (c1 c2 c3 c4 : Cursor) (o : RustOrders) (are : AreOrders t.active t.frozen c1.head c2.head c3.head c4.head o) (s : AllByRecursion IsSettled (heads_in t (c1 ∷ c2 ∷ c3 ∷ c4 ∷ []))) where
+module _ (t : Tops) (c1 c2 c3 c4 : Cursor) (o : RustOrders) (are : AreOrders t.active t.frozen c1.head c2.head c3.head c4.head o)
+    (s : AllByRecursion IsSettled (heads_in t (c1 ∷ c2 ∷ c3 ∷ c4 ∷ []))) where
   frozen_order : IsOrder (t.active ∷ []) t.frozen o.frozen
   frozen_order = record { before = (s.0, tt); settled = s.1.0; is = are.frozen_is }
 

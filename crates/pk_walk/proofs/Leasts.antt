@@ -10,7 +10,7 @@ use Rattle.pk_base.specs.Entry.{Entry}
 use Rattle.pk_model.proofs.MapLemmas.{key_total, key_antisymm}
 use Rattle.pk_walk.specs.Visible.{lesser}
 use Rattle.pk_walk.specs.Heads.{Head, head_after, entry_in, least_of, let_go, order_of}
-use Rattle.pk_walk.proofs.Merging.{turned}
+use Rattle.pk_base.proofs.KeyLemmas.{turned}
 
 -- ---- the lesser of two
 
@@ -140,7 +140,8 @@ passed (Some e) (Some None) o is not_gt = subst (λ (p : Ordering). ◌≡◌ {A
 passed (Some e) (Some (Some y)) o is not_gt = less_or_equal o (Some (Some y)) y e is not_gt
 
 -- one before the last is
-pub take_before : (hs ks : List Head) (a : Option Entry) (h : Head) (o : Ordering) → o ≡ order_of (least_of hs) (entry_in h) → is_gt o ≡ false → Takes hs ks a → Takes (hs ++ h ∷ []) (ks ++ (if is_eq o then None else h) ∷ []) a
+pub take_before : (hs ks : List Head) (a : Option Entry) (h : Head) (o : Ordering) → o ≡ order_of (least_of hs) (entry_in h)
+    → is_gt o ≡ false → Takes hs ks a → Takes (hs ++ h ∷ []) (ks ++ (if is_eq o then None else h) ∷ []) a
 take_before hs ks a h o is not_gt t = record {
   least = t.least ∙ sym (least_more hs h ∙ lesser_is (least_of hs) (entry_in h) ∙ ap (λ (b : Bool). if b then entry_in h else least_of hs) (ap is_gt (sym is) ∙ not_gt));
   go = go_more a hs ks h (if is_eq o then None else h) t.go (passed a h o (ap (λ (x : Option Entry). order_of x (entry_in h)) t.least ∙ sym is) not_gt);

@@ -4,25 +4,19 @@ use Rattle.std.specs.Prelude.{⊤}
 use Rattle.std.specs.List.{flat_map}
 use Rattle.std.specs.declared.cmp.Ordering.{Ordering}
 use Rattle.std.specs.declared.cmp.Ordering.TheVariants.{Less, Equal, Greater}
-use Rattle.std.specs.Ordering.{is_lt, is_gt, is_eq, eq_by_cmp, ordering_reverse}
+use Rattle.std.specs.Ordering.{is_lt, is_gt, is_eq, eq_by_cmp}
 use Rattle.std.specs.FinMap.Entries.{find, is_sorted, below_all}
 use Rattle.std.proofs.lemmas.Cmp.{tied_itself}
 use Rattle.pk_base.specs.Key.{Key, key_cmp}
 use Rattle.pk_base.specs.Entry.{Entry, Place}
 use Rattle.pk_base.specs.Firsts.{firsts}
-use Rattle.pk_model.proofs.MapLemmas.{key_total, key_antisymm, left_part, right_part, both, missing, below_less}
-use Rattle.pk_model.proofs.Lookups.{find-firsts, firsts_sorted}
+use Rattle.pk_model.proofs.MapLemmas.{key_total, key_antisymm, missing, below_less}
+use Rattle.pk_model.proofs.Lookups.{find-firsts}
 use Rattle.pk_walk.specs.Visible.{wanted, first_of, lesser, least_first}
+use Rattle.pk_base.proofs.Logic.{of_true, left_part, right_part, both}
+use Rattle.pk_base.proofs.KeyLemmas.{turned, firsts_sorted}
 
 -- ---- the order of keys
-
-pub less : (o : Ordering) → T (is_lt o) → o ≡ Less
-less Less p = refl
-less Equal p = absurd p
-less Greater p = absurd p
-
-pub turned : (a b : Key) (o : Ordering) → key_cmp a b ≡ o → key_cmp b a ≡ ordering_reverse o
-turned a b o q = key_total.antisymm b a ∙ ap ordering_reverse q
 
 -- a key is not below another
 abbrev pub IsNotBelow : Key → Key → Type 0
@@ -65,15 +59,12 @@ other_key w e es not_one q is =
       | Greater ↦ λ p. refl
     ] refl
 
-pub is_true : (b : Bool) → b ≡ true → T b
-is_true b e = subst T (sym e) tt
-
 -- the first wanted entry of a sorted list is its least
 pub least_of_sorted : (w : Key → Bool) (es : List Entry) → T (is_sorted key_cmp es) → IsLeast (λ q. find key_cmp q es) w (first_of (wanted w es))
 least_of_sorted w [] up = λ q is. refl
 least_of_sorted w (e ∷ es) up =
     elim (w e.0) as (λ b. w e.0 ≡ b → IsLeast (λ q. find key_cmp q (e ∷ es)) w (first_of (if b then e ∷ wanted w es else wanted w es))) [
-      | true ↦ λ p. (is_true _ p, own e es, λ q v is found. first_is_least e es (left_part _ _ up) q v found)
+      | true ↦ λ p. (of_true _ p, own e es, λ q v is found. first_is_least e es (left_part _ _ up) q v found)
       | false ↦ λ p. agree (λ q. find key_cmp q es) (λ q. find key_cmp q (e ∷ es)) w (first_of (wanted w es)) (other_key w e es p) (least_of_sorted w es (right_part _ _ up))
     ] refl
 
@@ -104,7 +95,8 @@ either_of None later = later
 
 find-row : (q : Key) (xs ys : List Entry) → find key_cmp q (xs ++ ys) ≡ either_of (find key_cmp q xs) (find key_cmp q ys)
 find-row q [] ys = refl
-find-row q (x ∷ xs) ys = elim (eq_by_cmp key_cmp q x.0) as (λ b. cond b (Some x.1) (find key_cmp q (xs ++ ys)) ≡ either_of (cond b (Some x.1) (find key_cmp q xs)) (find key_cmp q ys)) [ true ↦ refl | false ↦ find-row q xs ys ]
+find-row q (x ∷ xs) ys = elim (eq_by_cmp key_cmp q x.0) as (λ b. cond b (Some x.1) (find key_cmp q (xs ++ ys))
+    ≡ either_of (cond b (Some x.1) (find key_cmp q xs)) (find key_cmp q ys)) [ true ↦ refl | false ↦ find-row q xs ys ]
 
 some_left : (a b : Option (Option Place)) (v : Option Place) → a ≡ Some v → either_of a b ≡ Some v
 some_left a b v e = rw e refl
@@ -160,9 +152,11 @@ module _ (f g : Key → Option (Option Place)) (w : Key → Bool) where
 -- the first wanted entry that counts of a sorted list before others
 pub first_of_row : (w : Key → Bool) (es fs : List Entry) → T (is_sorted key_cmp es) → first_of (wanted w (firsts (es ++ fs))) ≡ lesser (first_of (wanted w es)) (first_of (wanted w (firsts fs)))
 first_of_row w es fs up =
-    let others : IsLeast (λ q. find key_cmp q fs) w (first_of (wanted w (firsts fs))) = agree (λ q. find key_cmp q (firsts fs)) (λ q. find key_cmp q fs) w _ (λ q is. find-firsts q fs) (least_of_sorted w (firsts fs) (firsts_sorted fs)) in
+    let others : IsLeast (λ q. find key_cmp q fs) w (first_of (wanted w (firsts fs))) = agree (λ q. find key_cmp q (firsts fs))
+    (λ q. find key_cmp q fs) w _ (λ q is. find-firsts q fs) (least_of_sorted w (firsts fs) (firsts_sorted fs)) in
     let two = least_of_both (λ q. find key_cmp q es) (λ q. find key_cmp q fs) w _ _ (least_of_sorted w es up) others in
-    let all : IsLeast (λ q. find key_cmp q (es ++ fs)) w (first_of (wanted w (firsts (es ++ fs)))) = agree (λ q. find key_cmp q (firsts (es ++ fs))) (λ q. find key_cmp q (es ++ fs)) w _ (λ q is. find-firsts q (es ++ fs)) (least_of_sorted w (firsts (es ++ fs)) (firsts_sorted (es ++ fs))) in
+    let all : IsLeast (λ q. find key_cmp q (es ++ fs)) w (first_of (wanted w (firsts (es ++ fs)))) = agree (λ q. find key_cmp q (firsts (es ++ fs)))
+    (λ q. find key_cmp q (es ++ fs)) w _ (λ q is. find-firsts q (es ++ fs)) (least_of_sorted w (firsts (es ++ fs)) (firsts_sorted (es ++ fs))) in
     one_least (λ q. find key_cmp q (es ++ fs)) w _ _ all (agree (λ q. either_of (find key_cmp q es) (find key_cmp q fs)) (λ q. find key_cmp q (es ++ fs)) w _ (λ q is. sym (find-row q es fs)) two)
 
 -- lists that each rise

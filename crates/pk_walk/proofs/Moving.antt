@@ -1,5 +1,6 @@
 -- A cursor that has the page of its place: what the page says of the run, and where the cursor goes in it.
-use Rattle.std.proofs.Common.{◌≡◌, ℕ, zero, suc, ◌+◌, ◌-◌, ◌*◌, ◌/◌, ◌%◌, ◌<◌, ◌≤◌, min, refl, sym, ap, subst, ◌∙◌, arith, Bool, true, false, List, [], ◌∷◌, length, take, drop, ◌++◌, slice_get, Option, Some, None, div-lt_iff_lt-mul}
+use Rattle.std.proofs.Common.{◌≡◌, ℕ, zero, suc, ◌+◌, ◌-◌, ◌*◌, ◌/◌, ◌%◌, ◌<◌, ◌≤◌, min, refl, sym, ap, subst, ◌∙◌, arith, Bool, true, false, List, [], ◌∷◌, length, take, drop, ◌++◌, slice_get}
+use Rattle.std.proofs.Common.{Option, Some, None, div-lt_iff_lt-mul}
 use Rattle.std.specs.Prelude.{nat_lt}
 use Rattle.std.proofs.lemmas.Nat.{div-add-mod', le-div}
 use Rattle.std.proofs.lemmas.Bool.{ltb-true, ltb-false}
@@ -11,7 +12,7 @@ use Rattle.pk_base.specs.EntryBytes.{entry_at, cell_at}
 use Rattle.pk_base.specs.Fields.{number_at}
 use Rattle.pk_base.specs.Page.{Flash, IsFlash, page_at, whole}
 use Rattle.pk_base.proofs.EntryLemmas.{key_of_at}
-use Rattle.pk_meta.specs.Page.{Decodes, IsMetaPage}
+use Rattle.pk_meta.specs.PageChecks.{Decodes, IsMetaPage}
 use Rattle.pk_meta.proofs.PageLemmas.{meta_again}
 use Rattle.pk_meta.proofs.FindLemmas.{cell_entry, place_key}
 use Rattle.pk_pin.specs.Frames.{Frames}
@@ -22,7 +23,8 @@ use Rattle.pk_walk.specs.Heads.{Head, IsNextWanted, held}
 use Rattle.pk_walk.specs.Walking.{Cursor, Follows}
 use Rattle.pk_walk.specs.Steps.{HasPage, IsFirstWanted, CursorMoves, bytes_in}
 use Rattle.pk_walk.proofs.Wanting.{passed_by}
-use Rattle.pk_walk.proofs.Following.{entries_some, entry_within, get_taken, get_dropped, holds, not_ended, sought_left}
+use Rattle.pk_walk.proofs.Following.{entry_within, get_taken, get_dropped, holds, not_ended, sought_left}
+use Rattle.pk_base.proofs.ShapeLemmas.{entries_some}
 
 -- ---- entries that are passed
 
@@ -81,7 +83,8 @@ module _ (r : Kept) (flash : Flash) (arena : Frames) (es : List Entry) (is : IsS
   at_decodes = subst (λ (g : Shape). Decodes g (bytes_in r arena c)) (sym at.shape) (r.level, c.place / size, piece, page_has)
 
   at_within : c.place % page_entries c.shape < number_at 2 10 (bytes_in r arena c)
-  at_within = subst (λ (g : Shape). c.place % page_entries g < number_at 2 10 (bytes_in r arena c)) (sym at.shape) (entry_within r flash arena es is kept c.place at.inside s (bytes_in r arena c) at.page)
+  at_within = subst (λ (g : Shape). c.place % page_entries g < number_at 2 10 (bytes_in r arena c))
+      (sym at.shape) (entry_within r flash arena es is kept c.place at.inside s (bytes_in r arena c) at.page)
 
   fits : start + number_at 2 10 (bytes_in r arena c) ≤ r.count
   fits = let count = count_is in let place = place_is in let inside = at.inside in let many = s.many in omega (arith, count, place, inside, many)
@@ -112,7 +115,8 @@ module _ (r : Kept) (flash : Flash) (arena : Frames) (es : List Entry) (is : IsS
   pub entry_here : (e : Entry) → ((level index : ℕ) (entries : List Entry) → IsMetaPage c.shape (bytes_in r arena c) level index entries → slice_get entries (c.place % page_entries c.shape) ≡ Some e)
       → slice_get es c.place ≡ Some e
   entry_here e shows =
-      let got = subst (λ (g : Shape). (level index : ℕ) (entries : List Entry) → IsMetaPage g (bytes_in r arena c) level index entries → slice_get entries (c.place % page_entries g) ≡ Some e) at.shape shows in
+      let got = subst (λ (g : Shape). (level index : ℕ) (entries : List Entry)
+      → IsMetaPage g (bytes_in r arena c) level index entries → slice_get entries (c.place % page_entries g) ≡ Some e) at.shape shows in
       ap (slice_get es) (sym place_is) ∙ run_has (c.place % size) e (got r.level (c.place / size) piece page_has)
 
   -- ---- a move in the page
@@ -147,7 +151,8 @@ module _ (r : Kept) (flash : Flash) (arena : Frames) (es : List Entry) (is : IsS
         let many = s.many in
         let to = moved_to in
         let same : c.place + (m.to - c.place % size) ≡ d.place = omega (arith, place, forth, to) in
-        passed_many (is_wanted position) es c.place (m.to - c.place % size) (omega (arith, place, forth, most, room, many)) none_between left ∙ ap (λ (n : ℕ). wanted (is_wanted position) (drop n es)) same
+        passed_many (is_wanted position) es c.place (m.to - c.place % size) (omega (arith, place, forth, most, room, many)) none_between left
+        ∙ ap (λ (n : ℕ). wanted (is_wanted position) (drop n es)) same
 
     pub moved_forth : c.place ≤ d.place
     moved_forth = let forth = first.forth in let place = place_is in let to = moved_to in omega (arith, place, forth, to)
@@ -182,7 +187,8 @@ module _ (r : Kept) (flash : Flash) (arena : Frames) (es : List Entry) (is : IsS
           let own = same_loaded in
           let same : c.place / size ≡ d.place / size = omega (arith, loaded, here, own) in
           ap (λ (p : ℕ). page_at flash (page_of r p)) (sym same) ∙ f.holds none here ∙ ap (λ (x : Cursor). whole x.bytes) (sym m.cursor);
-      left = subst (λ (h : Head). wanted (is_wanted position) es ≡ held h ++ wanted (is_wanted position) (drop d.place es)) (sym (moved_sought sought)) (moved_left (sought_left flash r es position c f sought));
+      left = subst (λ (h : Head). wanted (is_wanted position) es ≡ held h ++ wanted (is_wanted position) (drop d.place es))
+          (sym (moved_sought sought)) (moved_left (sought_left flash r es position c f sought));
       ended = λ e. absurd (not_ended (sym (moved_sought sought) ∙ e));
       sure = λ has.
           let before = f.sure (sym (ap (λ (x : Cursor). x.has_found) m.cursor) ∙ has) in
@@ -228,7 +234,8 @@ module _ (r : Kept) (flash : Flash) (arena : Frames) (es : List Entry) (is : IsS
 
 -- ---- as the cursor goes there
 
-pub moves_to : (position : Position) (page : List ℕ) (b : Cursor) (n to count : ℕ) → n ≡ page_entries b.shape → IsFirstWanted position page (b.place % page_entries b.shape) to → count ≡ number_at 2 10 page
+pub moves_to : (position : Position) (page : List ℕ) (b : Cursor) (n to count : ℕ) → n ≡ page_entries b.shape
+    → IsFirstWanted position page (b.place % page_entries b.shape) to → count ≡ number_at 2 10 page
     → CursorMoves position page b (record b { place = b.place - b.place % n + to }) (nat_lt to count)
 moves_to position page b n to count size first is = record {
   to = to;

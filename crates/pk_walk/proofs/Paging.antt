@@ -6,14 +6,14 @@ use Rattle.std.proofs.lemmas.Cmp.{tied_itself}
 use Rattle.pk_base.specs.Key.{key_cmp}
 use Rattle.pk_base.specs.Fields.{number_at}
 use Rattle.pk_base.specs.Shape.{Shape, IsShape}
-use Rattle.pk_meta.specs.Page.{Decodes}
+use Rattle.pk_meta.specs.PageChecks.{Decodes}
 use Rattle.pk_meta.proofs.FindLemmas.{all_of, place_key, to_left}
 use Rattle.pk_model.proofs.MapLemmas.{key_total, key_antisymm}
 use Rattle.pk_walk.specs.declared.position.Position.{Position}
 use Rattle.pk_walk.specs.Visible.{is_wanted}
 use Rattle.pk_walk.specs.Steps.{IsFirstWanted}
 use Rattle.pk_walk.proofs.Wanting.{upward}
-use Rattle.pk_walk.proofs.Merging.{is_true}
+use Rattle.pk_base.proofs.Logic.{of_true}
 
 greater_equal : (o : Ordering) → o ≡ Greater → o ≡ Equal → ⊥
 greater_equal o p q = cc
@@ -42,7 +42,7 @@ module _ (g : Shape) (page : List ℕ) (shape : IsShape g) (decodes : Decodes g 
   not_before : (position : Position) (i j : ℕ) → i ≤ j → j < number_at 2 10 page → is_wanted position (place_key page j) ≡ false → is_wanted position (place_key page i) ≡ false
   not_before position i j le less none =
       elim (is_wanted position (place_key page i)) as (λ b. is_wanted position (place_key page i) ≡ b → b ≡ false) [
-        | true ↦ λ p. absurd (true_false _ none (page_upward position i j le less (is_true _ p)))
+        | true ↦ λ p. absurd (true_false _ none (page_upward position i j le less (of_true _ p)))
         | false ↦ λ p. refl
       ] refl
 

@@ -5,7 +5,8 @@ use Rattle.pk_base.specs.Shape.{Shape}
 use Rattle.pk_base.specs.Entry.{Entry}
 use Rattle.pk_base.specs.Page.{Flash}
 use Rattle.pk_nand.specs.BoardState.{BoardState}
-use Rattle.pk_nand.specs.Calls.{IsReady, ReadFailed}
+use Rattle.pk_nand.specs.Calls.{IsReady}
+use Rattle.pk_nand.specs.Operations.{ReadFailed}
 use Rattle.pk_nand.specs.Counts.{after_reads}
 use Rattle.pk_pin.specs.Frames.{Frames}
 use Rattle.pk_run.specs.Kept.{Kept, RunOnFlash, empty}
@@ -33,7 +34,8 @@ follow_at flash position [] ess cs i r es c f er ee ec = cc
 follow_at flash position (x ∷ rs) [] cs i r es c f er ee ec = cc
 follow_at flash position (x ∷ rs) (ys ∷ ess) [] i r es c f er ee ec = cc
 follow_at flash position (x ∷ rs) (ys ∷ ess) (d ∷ cs) zero r es c f er ee ec =
-    subst (λ (q : Kept). Follows flash q es position c) (same_run x r er) (subst (λ (xs : List Entry). Follows flash x xs position c) (same_list ys es ee) (subst (Follows flash x ys position) (same_cursor d c ec) f.0))
+    subst (λ (q : Kept). Follows flash q es position c) (same_run x r er)
+    (subst (λ (xs : List Entry). Follows flash x xs position c) (same_list ys es ee) (subst (Follows flash x ys position) (same_cursor d c ec) f.0))
 follow_at flash position (x ∷ rs) (ys ∷ ess) (d ∷ cs) (suc i) r es c f er ee ec = follow_at flash position rs ess cs i r es c f.1 er ee ec
 
 follow_set : (flash : Flash) (position : Position) (rs : List Kept) (ess : List (List Entry)) (cs : List Cursor) (i : ℕ) (r : Kept) (es : List Entry) (c : Cursor)

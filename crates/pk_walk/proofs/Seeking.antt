@@ -1,14 +1,13 @@
 -- A search in a run for the first wanted entry: what holds at each step of it, and what it finds.
-use Rattle.std.proofs.Common.{◌≡◌, ℕ, suc, ◌+◌, ◌/◌, ◌%◌, ◌<◌, ◌≤◌, refl, sym, ap, subst, ◌∙◌, arith, Bool, true, List, drop, length, slice_get, Some, None, Result, Ok}
+use Rattle.std.proofs.Common.{◌≡◌, ℕ, suc, ◌+◌, ◌/◌, ◌%◌, ◌<◌, ◌≤◌, refl, sym, ap, subst, ◌∙◌, arith, Bool, true, List, drop, length, slice_get, Some, None}
 use Rattle.pk_base.specs.Shape.{IsShape, page_entries}
 use Rattle.pk_base.specs.Entry.{Entry}
 use Rattle.pk_base.specs.Seen.{entry as seen}
 use Rattle.pk_base.specs.declared.entry.Entry.{Entry as RustEntry}
-use Rattle.pk_base.specs.Refusal.{Refusal}
 use Rattle.pk_base.specs.Page.{Flash, page_at, whole}
-use Rattle.pk_meta.specs.Page.{IsMetaPage}
+use Rattle.pk_meta.specs.PageChecks.{IsMetaPage}
 use Rattle.pk_nand.specs.BoardState.{BoardState}
-use Rattle.pk_nand.specs.Calls.{ReadFailed}
+use Rattle.pk_nand.specs.Operations.{ReadFailed}
 use Rattle.pk_nand.specs.Counts.{after_reads}
 use Rattle.pk_pin.specs.Frames.{Frames}
 use Rattle.pk_run.specs.Kept.{Kept, IsKept, RunOnFlash, page_of}
@@ -20,6 +19,7 @@ use Rattle.pk_walk.specs.Steps.{FailsToShow, FindsIn, GoesOn, IsAt, CursorLooks,
 use Rattle.pk_walk.proofs.Wanting.{first_here, none_here}
 use Rattle.pk_walk.proofs.Following.{HasPassed-kept, all_come, sought_left}
 use Rattle.pk_walk.proofs.Moving.{AtPage, entry_here, found_at, found_wanted, moved_follows, moved_left, moved_sought, moved_within}
+use Rattle.pk_base.proofs.Logic.{ok_same}
 
 -- ---- reads
 
@@ -44,22 +44,21 @@ ReadsAll-more a b c old now next first more =
     (more.0 + first.0, omega (arith, first.1, more.1), more.2 ∙ ap (λ (x : BoardState). after_reads more.0 x) first.2 ∙ reads_more more.0 first.0 old)
 
 -- reads change their number alone, and a failed one the counts of faults
-pub Reads-rest : (a b : ℕ) (old new : BoardState) → Reads a b old new → new ≡ record old { reads = new.reads; flash_faults = new.flash_faults; read_faults = new.read_faults; failed_at = new.failed_at }
+pub Reads-rest : (a b : ℕ) (old new : BoardState) → Reads a b old new
+    → new ≡ record old { reads = new.reads; flash_faults = new.flash_faults; read_faults = new.read_faults; failed_at = new.failed_at }
 Reads-rest a b old new reads =
     subst (λ (x : BoardState). x ≡ record old { reads = x.reads; flash_faults = x.flash_faults; read_faults = x.read_faults; failed_at = x.failed_at }) (sym reads.2) refl
 
-pub ReadsFail-rest : (a b : ℕ) (old new : BoardState) → ReadsFail a b old new → new ≡ record old { reads = new.reads; flash_faults = new.flash_faults; read_faults = new.read_faults; failed_at = new.failed_at }
+pub ReadsFail-rest : (a b : ℕ) (old new : BoardState) → ReadsFail a b old new
+    → new ≡ record old { reads = new.reads; flash_faults = new.flash_faults; read_faults = new.read_faults; failed_at = new.failed_at }
 ReadsFail-rest a b old new (k, page, few, failed) =
     let back = sym failed.rest in
     failed.rest ∙ (λ i. record old { reads = (back i).reads; flash_faults = new.flash_faults; read_faults = new.read_faults; failed_at = (back i).failed_at })
 
 -- ---- a run has one list of entries
 
-same_ok : (xs ys : List Entry) → ◌≡◌ {A = Result (List Entry) Refusal} (Ok xs) (Ok ys) → xs ≡ ys
-same_ok xs ys e = cc
-
 pub one_list : (r : Kept) (flash : Flash) (arena : Frames) (xs ys : List Entry) → RunOnFlash r flash arena xs → RunOnFlash r flash arena ys → xs ≡ ys
-one_list r flash arena xs ys s t = same_ok xs ys (sym s.read ∙ t.read)
+one_list r flash arena xs ys s t = ok_same xs ys (sym s.read ∙ t.read)
 
 -- ---- the search
 

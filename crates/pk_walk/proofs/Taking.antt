@@ -23,7 +23,8 @@ lead_first h = sym (lesser_none (own h))
 -- the lower of the least of some and of one more is the least with it
 pub lead : (hs : List Head) (u h x : RustHead) (o : Ordering) → own u ≡ least_of hs → o ≡ order_of (own u) (own h) → x ≡ (if is_gt o then h else u) → own x ≡ least_of (hs ++ seen_head h ∷ [])
 lead hs u h x o top is pick =
-    ap own pick ∙ choose (is_gt o) ∙ ap (λ (p : Ordering). if is_gt p then own h else own u) is ∙ sym (lesser_is (own u) (own h)) ∙ ap (λ (l : Option Entry). lesser l (own h)) top ∙ sym (least_more hs (seen_head h))
+    ap own pick ∙ choose (is_gt o) ∙ ap (λ (p : Ordering). if is_gt p then own h else own u) is
+    ∙ sym (lesser_is (own u) (own h)) ∙ ap (λ (l : Option Entry). lesser l (own h)) top ∙ sym (least_more hs (seen_head h))
   where
     choose : (b : Bool) → own (if b then h else u) ≡ (if b then own h else own u)
     choose true = refl
@@ -65,10 +66,12 @@ module _ (t : Tops) (c1 c2 c3 c4 : Cursor) (o : RustOrders) (are : AreOrders t.a
   fourth_kept : (ks : List Head) (a : Option Entry) → is_gt o.fourth ≡ false → Takes (t.active ∷ t.frozen ∷ c1.head ∷ c2.head ∷ c3.head ∷ []) ks a → Takes heads (ks ++ kept_by o.fourth c4.head ∷ []) a
   fourth_kept ks a before takes = take_before (t.active ∷ t.frozen ∷ c1.head ∷ c2.head ∷ c3.head ∷ []) ks a c4.head o.fourth are.fourth_is before takes
 
-  third_kept : (ks : List Head) (a : Option Entry) → is_gt o.third ≡ false → Takes (t.active ∷ t.frozen ∷ c1.head ∷ c2.head ∷ []) ks a → Takes (t.active ∷ t.frozen ∷ c1.head ∷ c2.head ∷ c3.head ∷ []) (ks ++ kept_by o.third c3.head ∷ []) a
+  third_kept : (ks : List Head) (a : Option Entry) → is_gt o.third ≡ false → Takes (t.active ∷ t.frozen ∷ c1.head ∷ c2.head ∷ []) ks a
+      → Takes (t.active ∷ t.frozen ∷ c1.head ∷ c2.head ∷ c3.head ∷ []) (ks ++ kept_by o.third c3.head ∷ []) a
   third_kept ks a before takes = take_before (t.active ∷ t.frozen ∷ c1.head ∷ c2.head ∷ []) ks a c3.head o.third are.third_is before takes
 
-  second_kept : (ks : List Head) (a : Option Entry) → is_gt o.second ≡ false → Takes (t.active ∷ t.frozen ∷ c1.head ∷ []) ks a → Takes (t.active ∷ t.frozen ∷ c1.head ∷ c2.head ∷ []) (ks ++ kept_by o.second c2.head ∷ []) a
+  second_kept : (ks : List Head) (a : Option Entry) → is_gt o.second ≡ false → Takes (t.active ∷ t.frozen ∷ c1.head ∷ []) ks a
+      → Takes (t.active ∷ t.frozen ∷ c1.head ∷ c2.head ∷ []) (ks ++ kept_by o.second c2.head ∷ []) a
   second_kept ks a before takes = take_before (t.active ∷ t.frozen ∷ c1.head ∷ []) ks a c2.head o.second are.second_is before takes
 
   first_kept : (ks : List Head) (a : Option Entry) → is_gt o.first ≡ false → Takes (t.active ∷ t.frozen ∷ []) ks a → Takes (t.active ∷ t.frozen ∷ c1.head ∷ []) (ks ++ kept_by o.first c1.head ∷ []) a
@@ -114,7 +117,8 @@ module _ (t : Tops) (c1 c2 c3 c4 : Cursor) (o : RustOrders) (are : AreOrders t.a
 
             pub active_went : is_gt o.frozen ≡ false → answer ≡ entry_in t.active → u.active ≡ let_go t.active → u.frozen ≡ kept_by o.frozen t.frozen → Went
             active_went is given ua ub =
-                went (let_go t.active) (kept_by o.frozen t.frozen) (kept_by o.first c1.head) (kept_by o.second c2.head) (kept_by o.third c3.head) (kept_by o.fourth c4.head) (entry_in t.active) answer u d1 d2 d3 d4
+                went (let_go t.active) (kept_by o.frozen t.frozen) (kept_by o.first c1.head) (kept_by o.second c2.head)
+                (kept_by o.third c3.head) (kept_by o.fourth c4.head) (entry_in t.active) answer u d1 d2 d3 d4
                 (fourth_kept _ _ before4
                 (third_kept _ _ before3
                 (second_kept _ _ before2

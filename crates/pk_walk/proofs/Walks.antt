@@ -1,5 +1,6 @@
 -- A walk over all lists: what a step leaves, and what remains after several.
-use Rattle.std.proofs.Common.{◌≡◌, ℕ, suc, ◌+◌, ◌<◌, ◌≤◌, refl, sym, ap, subst, ◌∙◌, arith, Bool, true, false, if◌then◌else◌, T, is_some, option_map, List, [], ◌∷◌, ◌++◌, length, drop, Option, Some, None, Result, Ok, Err}
+use Rattle.std.proofs.Common.{◌≡◌, ℕ, suc, ◌+◌, ◌<◌, ◌≤◌, refl, sym, ap, subst, ◌∙◌, arith, Bool, true, false, if◌then◌else◌, T, is_some, option_map, List, [], ◌∷◌, ◌++◌, length, drop, Option, Some}
+use Rattle.std.proofs.Common.{None, Result, Ok, Err}
 use Rattle.std.specs.List.{AllByRecursion, flat_map}
 use Rattle.std.specs.Ordering.{is_eq, is_gt}
 use Rattle.std.specs.declared.cmp.Ordering.TheVariants.{Less, Equal, Greater}
@@ -14,25 +15,27 @@ use Rattle.pk_base.specs.Refusal.{Refusal}
 use Rattle.pk_base.specs.Page.{Flash, page_at}
 use Rattle.pk_meta.specs.Run.{run}
 use Rattle.pk_nand.specs.BoardState.{BoardState}
-use Rattle.pk_nand.specs.Calls.{IsReady, ReadFailed}
+use Rattle.pk_nand.specs.Calls.{IsReady}
+use Rattle.pk_nand.specs.Operations.{ReadFailed}
 use Rattle.pk_nand.specs.Counts.{after_reads}
 use Rattle.pk_pin.specs.Frames.{Frames}
 use Rattle.pk_run.specs.Kept.{Kept}
 use Rattle.pk_level.specs.Levels.{RunsOnFlash}
 use Rattle.pk_level.proofs.Looking.{reads_more}
 use Rattle.pk_model.specs.Values.{placed}
-use Rattle.pk_model.proofs.Lookups.{firsts_sorted}
 use Rattle.pk_walk.specs.declared.position.Position.{Position}
 use Rattle.pk_walk.specs.declared.position.Position.TheVariants.{First, Above}
 use Rattle.pk_walk.specs.Visible.{visible, behind_found, is_wanted, wanted, first_of, lesser, least_first}
 use Rattle.pk_walk.specs.Heads.{Head, Shows, head_after, entry_in, held, known_as, least_of, order_of}
-use Rattle.pk_walk.specs.Walking.{Cursor, Tops, Walk, IsWalk, AreOfShape, FollowEach, ShowBoth, cursors_behind, none_known, tops_behind, HasPassed, IsLeft, WalkGives, Passes, Reads, ReadsAll, ReadsFail, SkipsNoPage, SkipsNone, all_left, all_at_start, read_of, pages_read, most_read}
+use Rattle.pk_walk.specs.Walking.{Cursor, Tops, Walk, IsWalk, AreOfShape, FollowEach, ShowBoth, cursors_behind, none_known, tops_behind, HasPassed, IsLeft, WalkGives, Passes, Reads, ReadsAll}
+use Rattle.pk_walk.specs.Walking.{ReadsFail, SkipsNoPage, SkipsNone, all_left, all_at_start, read_of, pages_read, most_read}
 use Rattle.pk_walk.specs.Steps.{AreKnown, Comes, GoBehind, GoOn, HasNone, IsKnown, ShowsEach, WalksOn, first_left, heads_in, heads_of}
 use Rattle.pk_walk.proofs.Merging.{EachSorted, first_of_lists}
 use Rattle.pk_walk.proofs.Wanting.{above_is_narrower, behind_first, first_wanted, narrowed, none_here, none_wanted, placed_wanted}
 use Rattle.pk_walk.proofs.Leasts.{NotBelow, NoneBelow, none_below}
 use Rattle.pk_walk.proofs.Following.{Follows-above, Follows-start}
 use Rattle.pk_walk.proofs.Seeking.{Reads-none, Reads-more, Reads-pages, ReadsAll-none, ReadsAll-more, no_answer, one_list}
+use Rattle.pk_base.proofs.KeyLemmas.{firsts_sorted}
 
 -- ---- lists of runs that match the flash
 
@@ -79,12 +82,14 @@ least_is flash arena rs ess active frozen position a b c all up down s ea eb ec 
     is ∙ (λ i. lesser (ea i) (lesser (eb i) (ec i))) ∙ sym (first_of_lists (is_wanted position) (active ∷ frozen ∷ ess) (up, (down, each_rises flash arena rs ess s)))
 
 -- what a cursor knows is the first wanted entry of its run
-pub known_head : (w : Key → Bool) (es : List Entry) (n count : ℕ) (h : Head) → length es ≡ count → wanted w es ≡ held h ++ wanted w (drop n es) → (h ≡ Some None → count ≤ n) → is_some h ≡ true → entry_in h ≡ first_of (wanted w es)
+pub known_head : (w : Key → Bool) (es : List Entry) (n count : ℕ) (h : Head) → length es ≡ count
+    → wanted w es ≡ held h ++ wanted w (drop n es) → (h ≡ Some None → count ≤ n) → is_some h ≡ true → entry_in h ≡ first_of (wanted w es)
 known_head w es n count None many left ended known = cc
 known_head w es n count (Some None) many left ended known = none_here w es n (omega (arith, many, ended refl)) left
 known_head w es n count (Some (Some e)) many left ended known = sym (ap first_of left)
 
-known_least : (flash : Flash) (arena : Frames) (position : Position) (rs : List Kept) (ess : List (List Entry)) (cs : List Cursor) → length rs ≡ length cs → RunsOnFlash flash arena rs ess → FollowEach flash rs ess position cs
+known_least : (flash : Flash) (arena : Frames) (position : Position) (rs : List Kept) (ess : List (List Entry)) (cs : List Cursor)
+    → length rs ≡ length cs → RunsOnFlash flash arena rs ess → FollowEach flash rs ess position cs
     → AllByRecursion IsKnown cs → least_of (heads_of cs) ≡ least_first (is_wanted position) ess
 known_least flash arena position [] [] [] same s f known = refl
 known_least flash arena position [] [] (c ∷ cs) same s f known = absurd (omega (arith, same))
@@ -128,7 +133,8 @@ all_none (c ∷ cs) e known =
 
 -- ---- a step
 
-pub step_some : (position : Position) (lists : List (List Entry)) (e : RustEntry) → Some (seen e) ≡ first_of (all_left position lists) → Passes (Some e) (all_left position lists) (all_left (Above (key_of (seen e))) lists)
+pub step_some : (position : Position) (lists : List (List Entry)) (e : RustEntry) → Some (seen e) ≡ first_of (all_left position lists)
+    → Passes (Some e) (all_left position lists) (all_left (Above (key_of (seen e))) lists)
 step_some position lists e is =
     let all = firsts (flat_map (λ es. es) lists) in
     let split = behind_first position all (seen e) (firsts_sorted (flat_map (λ es. es) lists)) (sym is) in
@@ -142,7 +148,8 @@ step_none position lists is =
 not_below_entry : (key : Key) (h : Head) → NotBelow key (entry_in h) → (e : Entry) → h ≡ Some (Some e) → key_cmp e.0 key ≡ Less → ⊥
 not_below_entry key h n e is = subst (λ (x : Head). NotBelow key (entry_in x)) is n
 
-pub step_follow : (flash : Flash) (position : Position) (key : Key) (rs : List Kept) (ess : List (List Entry)) (cs : List Cursor) → T (is_wanted position key) → NoneBelow key (heads_of cs) → AllByRecursion IsKnown cs → FollowEach flash rs ess position cs
+pub step_follow : (flash : Flash) (position : Position) (key : Key) (rs : List Kept) (ess : List (List Entry)) (cs : List Cursor)
+    → T (is_wanted position key) → NoneBelow key (heads_of cs) → AllByRecursion IsKnown cs → FollowEach flash rs ess position cs
     → FollowEach flash rs ess (Above key) (cursors_behind key cs)
 step_follow flash position key [] ess cs one none known f = tt
 step_follow flash position key (r ∷ rs) [] cs one none known f = tt
@@ -210,7 +217,8 @@ pub record Learned (rs : List Kept) (arena : Frames) (active frozen : List Entry
   pub down : T (is_sorted key_cmp frozen)
   pub many : length rs ≡ length ds
 
-module _ (rs : List Kept) (arena : Frames) (active frozen : List Entry) (shape : Shape) (old new : BoardState) (w : Walk) (t : Tops) (ds : List Cursor) (at : Learned rs arena active frozen shape old new w t ds) where
+module _ (rs : List Kept) (arena : Frames) (active frozen : List Entry) (shape : Shape) (old new : BoardState)
+    (w : Walk) (t : Tops) (ds : List Cursor) (at : Learned rs arena active frozen shape old new w t ds) where
   tops_now : ShowBoth active frozen w.position t
   tops_now = subst (ShowBoth active frozen w.position) (sym at.known) (shows_known active w.position w.tops.active at.before.0, shows_known frozen w.position w.tops.frozen at.before.1)
 
@@ -218,11 +226,13 @@ module _ (rs : List Kept) (arena : Frames) (active frozen : List Entry) (shape :
   found : (a : Option Entry) → a ≡ least_of (heads_in t ds) → (ess : List (List Entry)) → RunsOnFlash old.pages arena rs ess → a ≡ first_left w.position active frozen ess
   found a least ess s =
       least_is old.pages arena rs ess active frozen w.position (entry_in t.active) (entry_in t.frozen) (least_of (heads_of ds)) a at.up at.down s
-      (ap (λ (x : Tops). entry_in x.active) at.known ∙ known_top active w.position w.tops.active at.before.0) (ap (λ (x : Tops). entry_in x.frozen) at.known ∙ known_top frozen w.position w.tops.frozen at.before.1)
+      (ap (λ (x : Tops). entry_in x.active) at.known ∙ known_top active w.position w.tops.active at.before.0)
+      (ap (λ (x : Tops). entry_in x.frozen) at.known ∙ known_top frozen w.position w.tops.frozen at.before.1)
       (known_least old.pages arena w.position rs ess ds at.many s (at.on.follow ess s) at.shows.known) least
 
   -- the walk moves past an entry
-  module _ (e : RustEntry) (key : Key) (of_entry : key ≡ key_of (seen e)) (least : Some (seen e) ≡ least_of (heads_in t ds)) (u : Tops) (cs : List Cursor) (go : GoBehind (Some (seen e)) t ds u cs) where
+  module _ (e : RustEntry) (key : Key) (of_entry : key ≡ key_of (seen e)) (least : Some (seen e) ≡ least_of (heads_in t ds))
+      (u : Tops) (cs : List Cursor) (go : GoBehind (Some (seen e)) t ds u cs) where
     read_same : pages_read rs cs ≡ pages_read rs ds
     read_same = ap (pages_read rs) go.1 ∙ behind_read (key_of (seen e)) rs ds
 
@@ -250,7 +260,8 @@ module _ (rs : List Kept) (arena : Frames) (active frozen : List Entry) (shape :
       follow = λ ess s.
           subst (λ (k : Key). FollowEach old.pages rs ess (Above k) cs × ShowBoth active frozen (Above k) u) (sym of_entry)
           (subst (λ (xs : List Cursor). FollowEach old.pages rs ess (Above (key_of (seen e))) xs × ShowBoth active frozen (Above (key_of (seen e))) u) (sym go.1)
-          (subst (λ (x : Tops). FollowEach old.pages rs ess (Above (key_of (seen e))) (cursors_behind (key_of (seen e)) ds) × ShowBoth active frozen (Above (key_of (seen e))) x) (sym go.0) (stays_right ess s)));
+          (subst (λ (x : Tops). FollowEach old.pages rs ess (Above (key_of (seen e))) (cursors_behind (key_of (seen e)) ds)
+          × ShowBoth active frozen (Above (key_of (seen e))) x) (sym go.0) (stays_right ess s)));
       same_shape = refl;
       skips_none = λ none. record {
         position = tt;
@@ -278,18 +289,24 @@ module _ (rs : List Kept) (arena : Frames) (active frozen : List Entry) (shape :
     }
 
   -- whatever it was, the walk moves past it
-  pub comes_to_found : (a : Option RustEntry) (p : Position) → p ≡ behind_found (option_map seen a) w.position → option_map seen a ≡ least_of (heads_in t ds) → (u : Tops) (cs : List Cursor) → GoBehind (option_map seen a) t ds u cs
+  pub comes_to_found : (a : Option RustEntry) (p : Position) → p ≡ behind_found (option_map seen a) w.position
+      → option_map seen a ≡ least_of (heads_in t ds) → (u : Tops) (cs : List Cursor) → GoBehind (option_map seen a) t ds u cs
       → Comes rs arena active frozen old new w (record w { position = p; tops = u; cursors = cs }) a
-  comes_to_found None p is least u cs go = subst (λ (q : Position). Comes rs arena active frozen old new w (record w { position = q; tops = u; cursors = cs }) None) (sym is) (comes_to_none least u cs go)
-  comes_to_found (Some e) p is least u cs go = subst (λ (q : Position). Comes rs arena active frozen old new w (record w { position = q; tops = u; cursors = cs }) (Some e)) (sym is) (comes_behind e (key_of (seen e)) refl least u cs go)
+  comes_to_found None p is least u cs go = subst
+      (λ (q : Position). Comes rs arena active frozen old new w (record w { position = q; tops = u; cursors = cs }) None) (sym is) (comes_to_none least u cs go)
+  comes_to_found (Some e) p is least u cs go = subst (λ (q : Position). Comes rs arena active frozen old new w (record w { position = q; tops = u; cursors = cs }) (Some e))
+      (sym is) (comes_behind e (key_of (seen e)) refl least u cs go)
 
-  pub walks_to_found : (a : Option RustEntry) (p : Position) → p ≡ behind_found (option_map seen a) w.position → option_map seen a ≡ least_of (heads_in t ds) → (u : Tops) (cs : List Cursor) → GoBehind (option_map seen a) t ds u cs
+  pub walks_to_found : (a : Option RustEntry) (p : Position) → p ≡ behind_found (option_map seen a) w.position
+      → option_map seen a ≡ least_of (heads_in t ds) → (u : Tops) (cs : List Cursor) → GoBehind (option_map seen a) t ds u cs
       → WalksOn old.pages arena rs active frozen w (record w { position = p; tops = u; cursors = cs })
   walks_to_found None p is least u cs go = subst (λ (q : Position). WalksOn old.pages arena rs active frozen w (record w { position = q; tops = u; cursors = cs })) (sym is) (walks_there least u cs go)
-  walks_to_found (Some e) p is least u cs go = subst (λ (q : Position). WalksOn old.pages arena rs active frozen w (record w { position = q; tops = u; cursors = cs })) (sym is) (walks_behind e (key_of (seen e)) refl least u cs go)
+  walks_to_found (Some e) p is least u cs go = subst (λ (q : Position). WalksOn old.pages arena rs active frozen w (record w { position = q; tops = u; cursors = cs }))
+      (sym is) (walks_behind e (key_of (seen e)) refl least u cs go)
 
 -- a read failed, and the walk is where it was
-pub walks_failed : (rs : List Kept) (arena : Frames) (active frozen : List Entry) (shape : Shape) (flash : Flash) (w : Walk) (t : Tops) (ds : List Cursor) → GoOn flash arena shape rs w.position w.cursors ds → t ≡ w.tops
+pub walks_failed : (rs : List Kept) (arena : Frames) (active frozen : List Entry) (shape : Shape) (flash : Flash) (w : Walk) (t : Tops) (ds : List Cursor)
+    → GoOn flash arena shape rs w.position w.cursors ds → t ≡ w.tops
     → ShowBoth active frozen w.position w.tops → WalksOn flash arena rs active frozen w (record w { tops = t; cursors = ds })
 walks_failed rs arena active frozen shape flash w t ds on same before = record {
   follow = λ ess s. (on.follow ess s, subst (ShowBoth active frozen w.position) (sym same) before);
@@ -312,7 +329,8 @@ start_shape shape [] are = tt
 start_shape shape (c ∷ cs) are = (are.0, start_shape shape cs are.1)
 
 -- a walk whose cursors go back to the start is one
-pub start_walk : (shape : Shape) (position : Position) (tops : Tops) (cs cursors : List Cursor) → cursors ≡ all_at_start cs → length cs ≡ 4 → AreOfShape shape cs → IsWalk (record { shape = shape; position = position; tops = tops; cursors = cursors })
+pub start_walk : (shape : Shape) (position : Position) (tops : Tops) (cs cursors : List Cursor) → cursors ≡ all_at_start cs
+    → length cs ≡ 4 → AreOfShape shape cs → IsWalk (record { shape = shape; position = position; tops = tops; cursors = cursors })
 start_walk shape position tops cs cursors same four are = record {
   four = ap (λ (xs : List Cursor). length xs) same ∙ start_length cs ∙ four;
   each = subst (AreOfShape shape) (sym same) (start_shape shape cs are);
@@ -325,7 +343,8 @@ start_follow flash position (r ∷ rs) (es ∷ ess) [] = tt
 start_follow flash position (r ∷ rs) (es ∷ ess) (c ∷ cs) = (Follows-start flash r es position c, start_follow flash position rs ess cs)
 
 -- at the start all wanted keys remain
-pub start_left : (w : Walk) (cs : List Cursor) → w.cursors ≡ all_at_start cs → w.tops ≡ none_known → (flash : Flash) (arena : Frames) (rs : List Kept) (active frozen : List Entry) (ess : List (List Entry)) → RunsOnFlash flash arena rs ess
+pub start_left : (w : Walk) (cs : List Cursor) → w.cursors ≡ all_at_start cs → w.tops ≡ none_known
+    → (flash : Flash) (arena : Frames) (rs : List Kept) (active frozen : List Entry) (ess : List (List Entry)) → RunsOnFlash flash arena rs ess
     → IsLeft w flash arena rs active frozen (wanted (is_wanted w.position) (visible (active ∷ frozen ∷ ess)))
 start_left w cs same unknown flash arena rs active frozen ess stand = record {
   ess = ess;
@@ -364,7 +383,8 @@ all_wanted [] = refl
 all_wanted (x ∷ xs) = ap (λ (ys : List (Key × Place)). x ∷ ys) (all_wanted xs)
 
 -- from the first key on all keys remain
-pub start_all : (w : Walk) (cs : List Cursor) → w.cursors ≡ all_at_start cs → w.tops ≡ none_known → w.position ≡ First → (flash : Flash) (arena : Frames) (rs : List Kept) (active frozen : List Entry) (ess : List (List Entry)) → RunsOnFlash flash arena rs ess
+pub start_all : (w : Walk) (cs : List Cursor) → w.cursors ≡ all_at_start cs → w.tops ≡ none_known → w.position ≡ First
+    → (flash : Flash) (arena : Frames) (rs : List Kept) (active frozen : List Entry) (ess : List (List Entry)) → RunsOnFlash flash arena rs ess
     → IsLeft w flash arena rs active frozen (visible (active ∷ frozen ∷ ess))
 start_all w cs same unknown first flash arena rs active frozen ess stand =
     subst (IsLeft w flash arena rs active frozen) (ap (λ (p : Position). wanted (is_wanted p) (visible (active ∷ frozen ∷ ess))) first ∙ all_wanted (visible (active ∷ frozen ∷ ess)))
@@ -452,7 +472,8 @@ module _ (rs : List Kept) (arena : Frames) (active frozen : List Entry) (shape :
         let own = one_of_each old.pages arena rs left.ess at.ess left.stand at.stand in
         left.is ∙ ap (λ (ess : List (List Entry)). wanted (is_wanted first.position) (visible (active ∷ frozen ∷ ess))) own ∙ left_is first.position lists ∙ sym at.left
 
-    left_next : (next : BoardState) (v : Walk) → next.pages ≡ now.pages → FollowEach now.pages rs at.ess v.position v.cursors × ShowBoth active frozen v.position v.tops → IsLeft v next.pages arena rs active frozen (placed (all_left v.position lists))
+    left_next : (next : BoardState) (v : Walk) → next.pages ≡ now.pages → FollowEach now.pages rs at.ess v.position v.cursors
+        × ShowBoth active frozen v.position v.tops → IsLeft v next.pages arena rs active frozen (placed (all_left v.position lists))
     left_next next v pages follow = record {
       ess = at.ess;
       stand = subst (λ (flash : Flash). RunsOnFlash flash arena rs at.ess) (sym pages) stand_now;
@@ -461,7 +482,7 @@ module _ (rs : List Kept) (arena : Frames) (active frozen : List Entry) (shape :
       is = sym (left_is v.position lists);
     }
 
-    -- one more entry, of a key that is there
+    -- one more entry, of a key that exists
     pub Walking-gives : (next : BoardState) (v : Walk) (e : RustEntry) → is_some (seen e).1 ≡ true → next.pages ≡ now.pages
         → ((ess : List (List Entry)) → RunsOnFlash now.pages arena rs ess → Passes (Some e) (all_left w.position (active ∷ frozen ∷ ess)) (all_left v.position (active ∷ frozen ∷ ess)))
         → ((ess : List (List Entry)) → RunsOnFlash now.pages arena rs ess → FollowEach now.pages rs ess v.position v.cursors × ShowBoth active frozen v.position v.tops)
@@ -469,7 +490,8 @@ module _ (rs : List Kept) (arena : Frames) (active frozen : List Entry) (shape :
         → (later : List (Key × Place)) × WalkGives (Some e) rest later × IsLeft v next.pages arena rs active frozen later
     Walking-gives next v e there pages passes follow rest left = (
       placed (all_left v.position lists),
-      subst (λ (xs : List (Key × Place)). WalkGives (Some e) xs (placed (all_left v.position lists))) (sym (rest_is rest left)) (given (all_left w.position lists) (all_left v.position lists) (passes at.ess stand_now)),
+      subst (λ (xs : List (Key × Place)). WalkGives (Some e) xs (placed (all_left v.position lists)))
+          (sym (rest_is rest left)) (given (all_left w.position lists) (all_left v.position lists) (passes at.ess stand_now)),
       left_next next v pages (follow at.ess stand_now),
     )
       where
@@ -489,7 +511,8 @@ module _ (rs : List Kept) (arena : Frames) (active frozen : List Entry) (shape :
         → (later : List (Key × Place)) × WalkGives None rest later × IsLeft v next.pages arena rs active frozen later
     Walking-ends next v pages passes follow rest left = (
       placed (all_left v.position lists),
-      subst (λ (xs : List (Key × Place)). WalkGives None xs (placed (all_left v.position lists))) (sym (rest_is rest left)) (ended (all_left w.position lists) (all_left v.position lists) (passes at.ess stand_now)),
+      subst (λ (xs : List (Key × Place)). WalkGives None xs (placed (all_left v.position lists)))
+          (sym (rest_is rest left)) (ended (all_left w.position lists) (all_left v.position lists) (passes at.ess stand_now)),
       left_next next v pages (follow at.ess stand_now),
     )
       where
@@ -504,14 +527,16 @@ module _ (rs : List Kept) (arena : Frames) (active frozen : List Entry) (shape :
     Walking-fails next v pages same follow rest left =
         subst (IsLeft v next.pages arena rs active frozen) (ap (λ (p : Position). placed (all_left p lists)) same ∙ sym (rest_is rest left)) (left_next next v pages (follow at.ess stand_now))
 
-    pub fails_behind : (next : BoardState) (v : Walk) → ReadsFail (pages_read rs w.cursors) (pages_read rs v.cursors) now next → ReadsFail (pages_read rs first.cursors) (pages_read rs v.cursors) old next
+    pub fails_behind : (next : BoardState) (v : Walk) → ReadsFail (pages_read rs w.cursors) (pages_read rs v.cursors) now next
+        → ReadsFail (pages_read rs first.cursors) (pages_read rs v.cursors) old next
     fails_behind next v (k, page, few, failed) =
         let h = at.reads.1 in
         let all = ap (λ (b : BoardState). after_reads k b) at.reads.2 ∙ reads_more k at.reads.0 old in
         (k + at.reads.0, page, omega (arith, h, few), subst (λ (b : BoardState). ReadFailed b next page) all failed)
 
     -- never more than all pages
-    pub few_read : (v : Walk) → ((ess : List (List Entry)) → RunsOnFlash now.pages arena rs ess → FollowEach now.pages rs ess v.position v.cursors × ShowBoth active frozen v.position v.tops) → pages_read rs v.cursors ≤ most_read rs
+    pub few_read : (v : Walk) → ((ess : List (List Entry)) → RunsOnFlash now.pages arena rs ess → FollowEach now.pages rs ess v.position v.cursors × ShowBoth active frozen v.position v.tops)
+        → pages_read rs v.cursors ≤ most_read rs
     few_read v follow = bound rs at.ess v.cursors stand_now (follow at.ess stand_now).0
       where
         few : (leases : List ℕ) (n m : ℕ) → n ≤ m → read_of leases n ≤ read_of leases m
@@ -534,8 +559,10 @@ module _ (rs : List Kept) (arena : Frames) (active frozen : List Entry) (shape :
     fewer_left next v e pages passes =
         let before = lists_are now.pages arena rs at.ess stand_now in
         let after = lists_are next.pages arena rs at.ess (subst (λ (flash : Flash). RunsOnFlash flash arena rs at.ess) (sym pages) stand_now) in
-        let old_size : many_left now.pages rs active frozen w.position ≡ length (all_left w.position lists) = ap (λ (ess : List (List Entry)). length (all_left w.position (active ∷ frozen ∷ ess))) before in
-        let new_size : many_left next.pages rs active frozen v.position ≡ length (all_left v.position lists) = ap (λ (ess : List (List Entry)). length (all_left v.position (active ∷ frozen ∷ ess))) after in
+        let old_size : many_left now.pages rs active frozen w.position ≡ length (all_left w.position lists) = ap
+        (λ (ess : List (List Entry)). length (all_left w.position (active ∷ frozen ∷ ess))) before in
+        let new_size : many_left next.pages rs active frozen v.position ≡ length (all_left v.position lists) = ap
+        (λ (ess : List (List Entry)). length (all_left v.position (active ∷ frozen ∷ ess))) after in
         let less = shorter (all_left w.position lists) (all_left v.position lists) (passes at.ess stand_now) in
         omega (arith, old_size, new_size, less)
       where

@@ -1,5 +1,6 @@
 -- What a sorted list has of the wanted keys: its first, what is after it, and where it begins.
-use Rattle.std.proofs.Common.{◌≡◌, ℕ, zero, suc, ◌+◌, ◌≤◌, refl, sym, ap, subst, ◌∙◌, arith, Bool, true, false, cond, not, T, if◌then◌else◌, List, [], ◌∷◌, length, drop, slice_get, option_map, Option, Some, None}
+use Rattle.std.proofs.Common.{◌≡◌, ℕ, zero, suc, ◌+◌, ◌≤◌, refl, sym, ap, subst, ◌∙◌, arith, Bool, true, false, cond, not, T, if◌then◌else◌, List, [], ◌∷◌, length, drop, slice_get, option_map, Option}
+use Rattle.std.proofs.Common.{Some, None}
 use Rattle.std.specs.declared.cmp.Ordering.{Ordering}
 use Rattle.std.specs.declared.cmp.Ordering.TheVariants.{Less, Equal, Greater}
 use Rattle.std.specs.Ordering.{is_lt, is_gt, is_eq}
@@ -9,11 +10,12 @@ use Rattle.pk_base.specs.Key.{Key, key_cmp}
 use Rattle.pk_base.specs.Entry.{Entry, Place, key_of}
 use Rattle.pk_buf.specs.Table.{place_of}
 use Rattle.pk_model.specs.Values.{placed}
-use Rattle.pk_model.proofs.MapLemmas.{key_total, key_antisymm, left_part, right_part}
+use Rattle.pk_model.proofs.MapLemmas.{key_total, key_antisymm}
 use Rattle.pk_walk.specs.declared.position.Position.{Position}
 use Rattle.pk_walk.specs.declared.position.Position.TheVariants.{First, From, Above}
 use Rattle.pk_walk.specs.Visible.{is_wanted, wanted, first_of, WantsFrom}
-use Rattle.pk_walk.proofs.Merging.{less, turned, is_true}
+use Rattle.pk_base.proofs.Logic.{of_true, is_true, left_part, right_part, less, equal}
+use Rattle.pk_base.proofs.KeyLemmas.{turned}
 
 pub same_entry : (x e : Entry) → ◌≡◌ {A = Option Entry} (Some x) (Some e) → x ≡ e
 same_entry x e p = cc
@@ -32,7 +34,7 @@ narrowed v w (e ∷ es) within =
       | true ↦ λ p. ap (λ (xs : List _). if v e.0 then e ∷ xs else xs) rest
       | false ↦ λ p.
           elim (v e.0) as (λ c. v e.0 ≡ c → wanted v (wanted w es) ≡ (if c then e ∷ wanted v es else wanted v es)) [
-            | true ↦ λ q. absurd (subst T p (within e.0 (is_true _ q)))
+            | true ↦ λ q. absurd (subst T p (within e.0 (of_true _ q)))
             | false ↦ λ q. rest
           ] refl
     ] refl
@@ -86,7 +88,8 @@ pub from_wants : (key : Key) → WantsFrom (is_wanted (From key)) key
 from_wants key k low = rw low refl
 
 -- nothing wanted is before an entry that is not above the key
-pub begun_at : (w : Key → Bool) (key : Key) (es : List Entry) (n : ℕ) (e : Entry) → WantsFrom w key → T (is_sorted key_cmp es) → slice_get es n ≡ Some e → IsUpTo e.0 key → wanted w es ≡ wanted w (drop n es)
+pub begun_at : (w : Key → Bool) (key : Key) (es : List Entry) (n : ℕ) (e : Entry) → WantsFrom w key
+    → T (is_sorted key_cmp es) → slice_get es n ≡ Some e → IsUpTo e.0 key → wanted w es ≡ wanted w (drop n es)
 begun_at w key es zero e from up got le = refl
 begun_at w key [] (suc n) e from up got le = refl
 begun_at w key (x ∷ es) (suc n) e from up got le =
@@ -102,7 +105,8 @@ first_of_all (e ∷ es) = refl
 pub first_from : (key : Key) (es : List Entry) → slice_get es (place_of key es) ≡ first_of (wanted (is_wanted (From key)) es)
 first_from key [] = refl
 first_from key (e ∷ es) =
-    elim (is_lt (key_cmp e.0 key)) as (λ b. slice_get (e ∷ es) (cond b (suc (place_of key es)) 0) ≡ first_of (if not b then e ∷ wanted (is_wanted (From key)) es else wanted (is_wanted (From key)) es)) [
+    elim (is_lt (key_cmp e.0 key)) as (λ b. slice_get (e ∷ es) (cond b (suc (place_of key es)) 0)
+    ≡ first_of (if not b then e ∷ wanted (is_wanted (From key)) es else wanted (is_wanted (From key)) es)) [
       | true ↦ first_from key es
       | false ↦ refl
     ]
@@ -116,10 +120,12 @@ abbrev pub stands_at : Key → Entry → Bool
 stands_at key e = is_eq (key_cmp e.0 key)
 
 -- of the keys above one the first is at its place, or after the key itself
-pub first_above_itself : (key : Key) (es : List Entry) (e : Entry) → T (is_sorted key_cmp es) → slice_get es (place_of key es) ≡ Some e → key_cmp e.0 key ≡ Equal → slice_get es (suc (place_of key es)) ≡ first_of (wanted (is_wanted (Above key)) es)
+pub first_above_itself : (key : Key) (es : List Entry) (e : Entry) → T (is_sorted key_cmp es) → slice_get es (place_of key es) ≡ Some e
+    → key_cmp e.0 key ≡ Equal → slice_get es (suc (place_of key es)) ≡ first_of (wanted (is_wanted (Above key)) es)
 first_above_itself key [] e up got same = absurd (no_entry e got)
 first_above_itself key (x ∷ es) e up got same =
-    elim (key_cmp x.0 key) as (λ o. key_cmp x.0 key ≡ o → slice_get (x ∷ es) (cond (is_lt o) (suc (place_of key es)) 0) ≡ Some e → slice_get (x ∷ es) (suc (cond (is_lt o) (suc (place_of key es)) 0)) ≡ first_of (if is_gt o then x ∷ wanted (is_wanted (Above key)) es else wanted (is_wanted (Above key)) es)) [
+    elim (key_cmp x.0 key) as (λ o. key_cmp x.0 key ≡ o → slice_get (x ∷ es) (cond (is_lt o) (suc (place_of key es)) 0) ≡ Some e
+    → slice_get (x ∷ es) (suc (cond (is_lt o) (suc (place_of key es)) 0)) ≡ first_of (if is_gt o then x ∷ wanted (is_wanted (Above key)) es else wanted (is_wanted (Above key)) es)) [
       | Less ↦ λ p got. first_above_itself key es e (right_part _ _ up) got same
       | Equal ↦ λ p got. first_is_wanted (is_wanted (Above key)) es (λ f is.
           let high : key_cmp key f.0 ≡ Less = subst (λ (k : Key). key_cmp k f.0 ≡ Less) (key_antisymm x.0 key p) (above_at x.0 es 0 f (left_part _ _ up) is) in
@@ -130,10 +136,12 @@ first_above_itself key (x ∷ es) e up got same =
     equal_greater : (o : Ordering) → o ≡ Equal → o ≡ Greater → ⊥
     equal_greater o p q = cc
 
-pub first_above_other : (key : Key) (es : List Entry) → ((e : Entry) → slice_get es (place_of key es) ≡ Some e → key_cmp e.0 key ≡ Equal → ⊥) → slice_get es (place_of key es) ≡ first_of (wanted (is_wanted (Above key)) es)
+pub first_above_other : (key : Key) (es : List Entry) → ((e : Entry) → slice_get es (place_of key es) ≡ Some e → key_cmp e.0 key ≡ Equal → ⊥)
+    → slice_get es (place_of key es) ≡ first_of (wanted (is_wanted (Above key)) es)
 first_above_other key [] other = refl
 first_above_other key (x ∷ es) other =
-    elim (key_cmp x.0 key) as (λ o. key_cmp x.0 key ≡ o → ((e : Entry) → slice_get (x ∷ es) (cond (is_lt o) (suc (place_of key es)) 0) ≡ Some e → key_cmp e.0 key ≡ Equal → ⊥) → slice_get (x ∷ es) (cond (is_lt o) (suc (place_of key es)) 0) ≡ first_of (if is_gt o then x ∷ wanted (is_wanted (Above key)) es else wanted (is_wanted (Above key)) es)) [
+    elim (key_cmp x.0 key) as (λ o. key_cmp x.0 key ≡ o → ((e : Entry) → slice_get (x ∷ es) (cond (is_lt o) (suc (place_of key es)) 0) ≡ Some e → key_cmp e.0 key ≡ Equal → ⊥)
+    → slice_get (x ∷ es) (cond (is_lt o) (suc (place_of key es)) 0) ≡ first_of (if is_gt o then x ∷ wanted (is_wanted (Above key)) es else wanted (is_wanted (Above key)) es)) [
       | Less ↦ λ p other. first_above_other key es other
       | Equal ↦ λ p other. absurd (other x refl p)
       | Greater ↦ λ p other. refl
@@ -176,10 +184,6 @@ all_kept w k [] kept above = refl
 all_kept w k (e ∷ es) kept above =
     ap (λ (b : Bool). if b then e ∷ wanted w es else wanted w es) (kept e.0 (less _ (left_part _ _ above))) ∙ ap (λ (xs : List Entry). e ∷ xs) (all_kept w k es kept (right_part _ _ above))
 
-true_is : (b : Bool) → T b → b ≡ true
-true_is true p = refl
-true_is false p = absurd p
-
 first_above : (w : Key → Bool) (k : Key) (es : List Entry) (e : Entry) → T (below_all key_cmp k es) → first_of (wanted w es) ≡ Some e → key_cmp k e.0 ≡ Less
 first_above w k [] e above first = absurd (no_entry e first)
 first_above w k (x ∷ es) e above first =
@@ -198,7 +202,7 @@ behind_first position (x ∷ es) e up first =
       | true ↦ λ p first.
           let same = same_entry x e first in
           let above = left_part _ _ up in
-          let all = all_kept w x.0 es (λ q low. true_is _ (upward position x.0 q low (is_true _ p))) above in
+          let all = all_kept w x.0 es (λ q low. is_true _ (upward position x.0 q low (of_true _ p))) above in
           let higher = all_kept (is_wanted (Above x.0)) x.0 es (λ q low. rw (turned x.0 q Less low) refl) above in
           let not_itself : is_gt (key_cmp x.0 x.0) ≡ false = ap is_gt (tied_itself key_total x.0) in
           subst (λ (y : Entry). x ∷ wanted w es ≡ y ∷ wanted (is_wanted (Above y.0)) (x ∷ es)) same
@@ -215,7 +219,7 @@ pub first_wanted : (w : Key → Bool) (es : List Entry) (e : Entry) → first_of
 first_wanted w [] e first = absurd (no_entry e first)
 first_wanted w (x ∷ es) e first =
     elim (w x.0) as (λ b. w x.0 ≡ b → first_of (if b then x ∷ wanted w es else wanted w es) ≡ Some e → T (w e.0)) [
-      | true ↦ λ p first. subst (λ (y : Entry). T (w y.0)) (same_entry x e first) (is_true _ p)
+      | true ↦ λ p first. subst (λ (y : Entry). T (w y.0)) (same_entry x e first) (of_true _ p)
       | false ↦ λ p first. first_wanted w es e first
     ] refl first
 
@@ -224,7 +228,7 @@ pub none_wanted : (xs : List Entry) → first_of xs ≡ None → xs ≡ []
 none_wanted [] e = refl
 none_wanted (x ∷ xs) e = cc
 
--- ---- keys that are there
+-- ---- keys that exist
 
 -- the wanted ones of the keys that exist are among the wanted
 pub placed_wanted : (w : Key → Bool) (es : List Entry) → wanted w (placed es) ≡ placed (wanted w es)
@@ -242,16 +246,11 @@ placed_wanted w ((key, None) ∷ es) =
 
 -- ---- the place of a key in a buffer, as it is found
 
-equal_is : (o : Ordering) → is_eq o ≡ true → o ≡ Equal
-equal_is Less e = cc
-equal_is Equal e = refl
-equal_is Greater e = cc
-
 pub above_here : (key : Key) (es : List Entry) (at : ℕ) (e : Entry) → T (is_sorted key_cmp es) → at ≡ place_of key es → slice_get es at ≡ Some e → is_eq (key_cmp (key_of e) key) ≡ true
     → slice_get es (at + 1) ≡ first_of (wanted (is_wanted (Above key)) es)
 above_here key es at e up is got same =
     let on : at + 1 ≡ suc at = omega arith in
-    ap (slice_get es) (on ∙ ap (λ (n : ℕ). suc n) is) ∙ first_above_itself key es e up (ap (slice_get es) (sym is) ∙ got) (equal_is _ same)
+    ap (slice_get es) (on ∙ ap (λ (n : ℕ). suc n) is) ∙ first_above_itself key es e up (ap (slice_get es) (sym is) ∙ got) (equal _ same)
 
 pub above_not_here : (key : Key) (es : List Entry) (at : ℕ) (e : Entry) → at ≡ place_of key es → slice_get es at ≡ Some e → is_eq (key_cmp (key_of e) key) ≡ false
     → slice_get es at ≡ first_of (wanted (is_wanted (Above key)) es)
@@ -287,7 +286,8 @@ entry_with (Some e) k is = (e, refl, same_key (key_of e) k is)
 above_wants : (key : Key) → WantsFrom (is_wanted (Above key)) key
 above_wants key k low = rw low refl
 
-next_of : (key : Key) (es : List Entry) (n : ℕ) (e : Entry) → T (is_sorted key_cmp es) → slice_get es n ≡ Some e → key_cmp e.0 key ≡ Equal → slice_get es (suc n) ≡ first_of (wanted (is_wanted (Above key)) es)
+next_of : (key : Key) (es : List Entry) (n : ℕ) (e : Entry) → T (is_sorted key_cmp es) → slice_get es n ≡ Some e
+    → key_cmp e.0 key ≡ Equal → slice_get es (suc n) ≡ first_of (wanted (is_wanted (Above key)) es)
 next_of key [] n e up got same = absurd (no_entry e got)
 next_of key (x ∷ es) zero e up got same =
     let equal : key_cmp x.0 key ≡ Equal = ap (λ (y : Entry). key_cmp y.0 key) (same_entry x e got) ∙ same in
@@ -300,7 +300,8 @@ next_of key (x ∷ es) (suc n) e up got same =
     next_of key es n e (right_part _ _ up) got same ∙ sym (ap (λ (o : Ordering). first_of (if is_gt o then x ∷ wanted (is_wanted (Above key)) es else wanted (is_wanted (Above key)) es)) low)
 
 -- after the key itself comes the first above it
-pub above_next : (key : Key) (es : List Entry) (n : ℕ) (k : Key) → T (is_sorted key_cmp es) → option_map key_of (slice_get es n) ≡ Some k → key_cmp k key ≡ Equal → slice_get es (n + 1) ≡ first_of (wanted (is_wanted (Above key)) es)
+pub above_next : (key : Key) (es : List Entry) (n : ℕ) (k : Key) → T (is_sorted key_cmp es) → option_map key_of (slice_get es n) ≡ Some k
+    → key_cmp k key ≡ Equal → slice_get es (n + 1) ≡ first_of (wanted (is_wanted (Above key)) es)
 above_next key es n k up got same =
     let e = entry_with (slice_get es n) k got in
     let on : n + 1 ≡ suc n = omega arith in
@@ -315,11 +316,13 @@ above_behind key es n k up got not_one =
     passed_by (is_wanted (Above key)) es n e.0 e.1 own (begun_at (is_wanted (Above key)) key es n e.0 (above_wants key) up e.1 (λ high. let r = ap is_gt (sym high) ∙ own in cc))
 
 -- from a place on that is wanted it is the first
-pub above_there : (key : Key) (es : List Entry) (n : ℕ) (k : Key) → option_map key_of (slice_get es n) ≡ Some k → is_gt (key_cmp k key) ≡ true → slice_get es n ≡ first_of (wanted (is_wanted (Above key)) (drop n es))
+pub above_there : (key : Key) (es : List Entry) (n : ℕ) (k : Key) → option_map key_of (slice_get es n) ≡ Some k
+    → is_gt (key_cmp k key) ≡ true → slice_get es n ≡ first_of (wanted (is_wanted (Above key)) (drop n es))
 above_there key es n k got one =
     let e = entry_with (slice_get es n) k got in
     let own = ap (λ (q : Key). is_gt (key_cmp q key)) e.2 ∙ one in
-    e.1 ∙ sym (ap first_of (ap (wanted (is_wanted (Above key))) (dropped es n e.0 e.1) ∙ ap (λ (b : Bool). if b then e.0 ∷ wanted (is_wanted (Above key)) (drop (suc n) es) else wanted (is_wanted (Above key)) (drop (suc n) es)) own))
+    e.1 ∙ sym (ap first_of (ap (wanted (is_wanted (Above key))) (dropped es n e.0 e.1)
+    ∙ ap (λ (b : Bool). if b then e.0 ∷ wanted (is_wanted (Above key)) (drop (suc n) es) else wanted (is_wanted (Above key)) (drop (suc n) es)) own))
 
 -- from the end on there is none
 pub above_end : (key : Key) (es : List Entry) → slice_get es (length es) ≡ first_of (wanted (is_wanted (Above key)) (drop (length es) es))

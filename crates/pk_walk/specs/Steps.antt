@@ -10,10 +10,11 @@ use Rattle.pk_base.specs.Page.{Flash, page_at, whole}
 use Rattle.pk_base.specs.Seen.{entry as seen}
 use Rattle.pk_base.specs.declared.entry.Entry.{Entry as RustEntry}
 use Rattle.pk_nand.specs.BoardState.{BoardState}
-use Rattle.pk_nand.specs.Calls.{IsReady, ReadFailed}
+use Rattle.pk_nand.specs.Calls.{IsReady}
+use Rattle.pk_nand.specs.Operations.{ReadFailed}
 use Rattle.pk_nand.specs.declared.types.Fault.{Fault}
 use Rattle.pk_nand.specs.declared.types.Fault.TheVariants.{Reading}
-use Rattle.pk_meta.specs.Page.{Decodes}
+use Rattle.pk_meta.specs.PageChecks.{Decodes}
 use Rattle.pk_pin.specs.Frames.{Frames, IsLeased, frame_of}
 use Rattle.pk_run.specs.Kept.{Kept, RunOnFlash, page_of}
 use Rattle.pk_level.specs.Levels.{RunsOnFlash}

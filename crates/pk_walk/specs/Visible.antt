@@ -10,7 +10,7 @@ use Rattle.pk_model.specs.Values.{placed}
 use Rattle.pk_walk.specs.declared.position.Position.{Position}
 use Rattle.pk_walk.specs.declared.position.Position.TheVariants.{First, From, Above}
 
--- The keys that are there, with their places, rising: in the lists the first entry of a key counts, and a deleted key is not there.
+-- The keys that exist, with their places, rising: in the lists the first entry of a key counts, and a deleted key is not there.
 abbrev pub visible : List (List Entry) → List (Key × Place)
 visible lists = placed (firsts (flat_map (λ es. es) lists))
 

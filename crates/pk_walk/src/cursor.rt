@@ -6,7 +6,7 @@ ghost use Rattle.pk_base.specs.Seen.{entry as seen};
 ghost use Rattle.pk_base.specs.Shape.{page_entries};
 ghost use Rattle.pk_base.specs.Entry.{Entry as EntrySpec};
 ghost use Rattle.pk_base.specs.Page.{Flash, page_at, whole};
-ghost use Rattle.pk_meta.specs.Page.{IsMetaPage};
+ghost use Rattle.pk_meta.specs.PageChecks.{IsMetaPage};
 ghost use Rattle.pk_nand.specs.Calls.{IsReady};
 ghost use Rattle.pk_nand.specs.declared.types.Fault.TheVariants.{Reading};
 ghost use Rattle.pk_pin.specs.Frames.{Frames};

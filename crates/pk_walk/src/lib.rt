@@ -1,6 +1,6 @@
-//! A walk over the keys that are there, in rising order: those of two write buffers and of four runs.
+//! A walk over the keys that exist, in rising order: those of two write buffers and of four runs.
 //!
-//! Each key is given once, with the place of its value, and no page of a run is read twice in a walk.
+//! Each key is returned once, with the place of its value, and no page of a run is read twice in a walk.
 #![tactic(auto)]
 
 mod begin;

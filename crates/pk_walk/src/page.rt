@@ -5,7 +5,7 @@ ghost use Rattle.pk_base.specs.Seen.{entry as seen};
 ghost use Rattle.pk_base.specs.declared.sizes.TheConstants.{HEAD_BYTES, ENTRY_BYTES, KEY_BYTES, MOST_SPACES};
 ghost use Rattle.pk_base.specs.EntryBytes.{cell_at, cell_key, entry_at};
 ghost use Rattle.pk_base.specs.Fields.{number_at};
-ghost use Rattle.pk_meta.specs.Page.{Decodes, IsMetaPage};
+ghost use Rattle.pk_meta.specs.PageChecks.{Decodes, IsMetaPage};
 ghost use Rattle.pk_walk.specs.Visible.{is_wanted};
 ghost use Rattle.pk_walk.specs.Steps.{IsFirstWanted};
 

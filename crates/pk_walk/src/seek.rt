@@ -4,7 +4,7 @@ ghost use Rattle.pk_base.specs.Entry.{Entry as EntrySpec};
 ghost use Rattle.pk_base.specs.Seen.{entry as seen};
 ghost use Rattle.pk_base.specs.Shape.{page_entries};
 ghost use Rattle.pk_base.specs.declared.entry.Entry.{Entry as RustEntry};
-ghost use Rattle.pk_meta.specs.Page.{IsMetaPage};
+ghost use Rattle.pk_meta.specs.PageChecks.{IsMetaPage};
 ghost use Rattle.pk_walk.specs.Steps.{FailsToSeek, FindsIn, HasPage, MaySeek, SeeksOn, ShowsIn, bytes_in, holding};
 
 use crate::cursor::Cursor;

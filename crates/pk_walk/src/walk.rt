@@ -1,10 +1,9 @@
 //! The walk itself.
-ghost use Rattle.std.specs.Prelude.{◌≡◌, ◌≤◌, ◌∷◌, List, length, is_some, None, IfOk, IfErr, OnOk, OnErr};
+ghost use Rattle.std.specs.Prelude.{◌≡◌, ◌≤◌, ◌∷◌, List, length, None, IfOk, IfErr, OnOk, OnErr};
 ghost use Rattle.std.specs.Option.{option_copied};
 ghost use Rattle.pk_base.specs.Entry.{Entry as EntrySpec, Place};
 ghost use Rattle.pk_base.specs.Key.{Key as KeySpec};
 ghost use Rattle.pk_base.specs.Page.{Flash};
-ghost use Rattle.pk_base.specs.Seen.{entry as seen};
 ghost use Rattle.pk_nand.specs.Calls.{IsReady};
 ghost use Rattle.pk_nand.specs.declared.types.Fault.TheVariants.{Reading};
 ghost use Rattle.pk_pin.specs.Frames.{Frames};
@@ -28,7 +27,7 @@ use pk_region::Region;
 use std::alloc::AllocError;
 use std::marker::Model;
 
-/// A walk over the keys that are there. Contracts see its position and its cursors, and `IsLeft` says which keys it has still to
+/// A walk over the keys that exist. Contracts see its position and its cursors, and `IsLeft` says which keys it has still to
 /// give.
 pub struct Walk<A: Region> {
     shape: Shape,
@@ -210,7 +209,7 @@ impl<A: Region> Walk<A> {
             × IsLeft self.old (B.state board.old).pages arena.now levels.now.runs active.now.entries
             frozen.now.entries rest }
 
-        // The next key that is there.
+        // The next key that exists.
         ensures gives { IfOk result (λ found. (rest : List (KeySpec × Place))
             → IsLeft self.old (B.state board.old).pages arena.now levels.now.runs active.now.entries
             frozen.now.entries rest → (later : List (KeySpec × Place)) × WalkGives found rest later
@@ -253,7 +252,7 @@ impl<A: Region> Walk<A> {
         loop {
             match self.step(board, arena, levels, active, frozen) {
                 Ok(Some(entry)) => {
-                    if has_place(&entry) {
+                    if entry.is_put() {
                         return Ok(Some(entry));
                     }
                 }
@@ -261,16 +260,6 @@ impl<A: Region> Walk<A> {
                 Err(fault) => return Err(fault),
             }
         }
-    }
-}
-
-// Whether the entry has a value's place, and is not one of a deleted key.
-fn has_place(entry: &Entry) -> bool
-    ensures { result ≡ is_some (seen entry.now).1 }
-{
-    match entry {
-        Entry::Put { .. } => true,
-        Entry::Gone { .. } => false,
     }
 }
 

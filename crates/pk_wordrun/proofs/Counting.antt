@@ -33,7 +33,8 @@ length-push [] x = refl
 length-push (y ∷ ys) x = let e = length-push ys x in omega (arith, e)
 
 module _ (s : Summary) (all : List Exchange) (x : Exchange) (few : length all < 4294967295) (sums : Sums s all) where
-  count-more : (status before after : ℕ) (b : Bool) → before ≡ answered status all → b ≡ (x.reply.status == status) → (before < 4294967295 → after ≡ before + one b) → after ≡ answered status (all ++ x ∷ [])
+  count-more : (status before after : ℕ) (b : Bool) → before ≡ answered status all → b ≡ (x.reply.status == status)
+      → (before < 4294967295 → after ≡ before + one b) → after ≡ answered status (all ++ x ∷ [])
   count-more status before after b is same more =
       let small = answered-few status all in
       let pushed = answered-push status all x in
@@ -57,5 +58,6 @@ module _ (s : Summary) (all : List Exchange) (x : Exchange) (few : length all < 
     full = count-more CAPACITY_EXCEEDED s.full next.full _ sums.full (ap (λ n. n == CAPACITY_EXCEEDED) (sym is.status)) full;
     failed = count-more UNRECOVERED_ERROR s.failed next.failed _ sums.failed (ap (λ n. n == UNRECOVERED_ERROR) (sym is.status)) failed;
     most = most ∙ (ap (λ n. max n (if r.opcode == RETRIEVE then o.reads else 0)) sums.most
-        ∙ (ap (λ op. max (most_read all) (if op == RETRIEVE then o.reads else 0)) (sym is.opcode) ∙ (ap (λ n. max (most_read all) (if x.command.opcode == RETRIEVE then n else 0)) (sym is.reads) ∙ sym (most-push all x))));
+        ∙ (ap (λ op. max (most_read all) (if op == RETRIEVE then o.reads else 0)) (sym is.opcode)
+        ∙ (ap (λ n. max (most_read all) (if x.command.opcode == RETRIEVE then n else 0)) (sym is.reads) ∙ sym (most-push all x))));
   }

@@ -1,5 +1,6 @@
 -- A workload, one command after another, and its summary.
-use Rattle.std.proofs.Common.{◌≡◌, ℕ, zero, suc, ◌+◌, ◌*◌, ◌%◌, ◌<◌, ◌≤◌, ◌==◌, nat_le, nat_lt, if◌then◌else◌, List, [], ◌∷◌, ◌++◌, length, Option, Some, Ok, Bool, true, false, refl, sym, ◌∙◌, ap, subst, arith, append-nil, append_assoc, length-append}
+use Rattle.std.proofs.Common.{◌≡◌, ℕ, zero, suc, ◌+◌, ◌*◌, ◌%◌, ◌<◌, ◌≤◌, ◌==◌, nat_le, nat_lt, if◌then◌else◌, List, [], ◌∷◌, ◌++◌, length, Option, Some, Ok, Bool, true, false, refl, sym, ◌∙◌, ap}
+use Rattle.std.proofs.Common.{subst, arith, append-nil, append_assoc, length-append}
 use Rattle.std.specs.FinMap.{len}
 use Rattle.std.proofs.lemmas.List.{length-map}
 use Rattle.std.proofs.lemmas.Bool.Decides.{nat_tests}
@@ -12,7 +13,8 @@ use Rattle.pk_nvme.specs.Seen.{command_of}
 use Rattle.pk_nvme.specs.declared.request.Request.{Request}
 use Rattle.pk_nvme.specs.declared.opcode.TheConstants.{STORE, RETRIEVE, LIST, DELETE, EXIST}
 use Rattle.pk_nand.specs.BoardState.{BoardState}
-use Rattle.pk_nand.specs.Calls.{Rose, longer, after_post, PostFailed}
+use Rattle.pk_nand.specs.Calls.{Rose, longer}
+use Rattle.pk_nand.specs.Operations.{after_post, PostFailed}
 use Rattle.pk_gen.specs.Workload.{Generator, workload, generator, request_of, value_of, a_of, b_of, c_of, is_store, value_len, request, tick}
 use Rattle.pk_call.specs.Drive.{CountsMap}
 use Rattle.pk_call.specs.Exec.{most_installs}
@@ -28,7 +30,7 @@ use Rattle.pk_model.specs.Reading.{reading, Holds}
 use Rattle.pk_model.specs.Run.{Exchange, commands}
 use Rattle.pk_model.proofs.Growing.{Goes-reaches, weaken_went}
 use Rattle.pk_serve.specs.Part.{IsRunning}
-use Rattle.pk_serve.specs.Serving.{installs}
+use Rattle.pk_serve.specs.Answered.{installs}
 use Rattle.pk_serve.proofs.Counting.{metered-roots, commands-push}
 use Rattle.pk_port.specs.Asking.{KeptSilently}
 use Rattle.pk_port.specs.declared.halt.Halt.{Halt}
@@ -150,7 +152,8 @@ module _ (begin turn : ℕ) (shape : Shape) (frames : ℕ) (start : Map) (a b : 
 
   -- one more
   pub generating_next : (c : BoardState) (e : Sight) (count : ℕ) → turn < count → count < 4294967296 → (g : Generator) → g ≡ generator begin turn → (counted : Summary)
-      → (x : Exchange) × (x.command ≡ command_of (request_of g) (value_of g)) × AddsToGroup b c d e x × ((all : List Exchange) → length all < 4294967295 → Sums counts all → Sums counted (all ++ x ∷ []))
+      → (x : Exchange) × (x.command ≡ command_of (request_of g) (value_of g)) × AddsToGroup b c d e x
+      × ((all : List Exchange) → length all < 4294967295 → Sums counts all → Sums counted (all ++ x ∷ []))
       → Generating begin (turn + 1) shape frames start a c e counted
   generating_next c e count small few g at counted (x, is, adds, sums) =
       let is_at : x.command ≡ command_at begin turn = is ∙ ap (λ (v : Generator). command_of (request_of v) (value_of v)) at in
@@ -165,7 +168,8 @@ module _ (begin turn : ℕ) (shape : Shape) (frames : ℕ) (start : Map) (a b : 
       })
 
   -- the drive was stopped in or before these commands
-  unfinished_in : (count : ℕ) (cs more : List Command) (c : BoardState) → workload begin count ≡ cs ++ more → StoppedIn shape frames start a c cs → Unfinished begin count shape frames start a c Stopped
+  unfinished_in : (count : ℕ) (cs more : List Command) (c : BoardState) → workload begin count ≡ cs ++ more
+      → StoppedIn shape frames start a c cs → Unfinished begin count shape frames start a c Stopped
   unfinished_in count cs more c is s = record {
     kept = goes_all shape frames start cs more (workload begin count) is (rise a.read_faults c.read_faults) a c s.kept;
     ends = s.stop;
@@ -222,7 +226,8 @@ module _ (begin turn : ℕ) (shape : Shape) (frames : ℕ) (start : Map) (a b : 
 -- ---- the summary
 
 -- the numbers that a drive counts are those of the map that the flash holds
-pub counted : (agrees : Option Shape → Pages → Type 0) (shape : Shape) (b : BoardState) (d : Sight) (counts : Counts) → b.shape ≡ Some shape → IsRunning agrees d b → d.pending ≡ [] → counts_of counts ≡ d.counts
+pub counted : (agrees : Option Shape → Pages → Type 0) (shape : Shape) (b : BoardState) (d : Sight) (counts : Counts)
+    → b.shape ≡ Some shape → IsRunning agrees d b → d.pending ≡ [] → counts_of counts ≡ d.counts
     → ((s : Shape) (f : Pages) (m : Map) → agrees (Some s) f → d.stopped ≡ false → map_of s f d ≡ Ok m → CountsMap s d.counts.frames m d.counts)
     → (m : Map) → Holds shape b.pages m → (counts.keys ≡ len m) × (counts.live ≡ live shape m)
 counted agrees shape b d counts has running none numbers told m held =

@@ -28,8 +28,9 @@ use Rattle.pk_serve.specs.Serving.{StepWithin}
 use Rattle.pk_serve.proofs.Answering.{reply_other, answers}
 use Rattle.pk_serve.proofs.Counting.{at_most-zero, at_most-more, at_most-one, commands-push, faults-push, faults-one}
 use Rattle.pk_port.specs.Asking.{KeptSilently, Asked}
-use Rattle.pk_port.proofs.Growing.{silent-more, asked-none, flash-then}
+use Rattle.pk_port.proofs.Growing.{silent-more, asked-none}
 use Rattle.pk_wordrun.specs.Grouped.{exchange, Grouped, StoppedIn, KeepsGroup, AddsToGroup, StopsGroup}
+use Rattle.pk_nand.proofs.Effects.{only_then}
 
 -- the bound on faults for a list with one more
 few_more : (n : Option ℕ) (xs : List Exchange) (x : Exchange) (k : ℕ) → faults (x ∷ []) ≡ k → AtMost n (faults xs + k) → AtMost n (faults (xs ++ x ∷ []))
@@ -103,7 +104,8 @@ module _ (shape : Shape) (frames : ℕ) (start : Map) (a b : BoardState) (drive 
         }
 
     -- every cut of one more command
-    command_cut : (c : Command) (f : Flash) (q : List ℕ) → CrashFinds shape (command c) b.pages w.left f q → KeptSilently shape frames start (commands all ++ c ∷ []) bound f (all_posted w.reached.0 ++ q)
+    command_cut : (c : Command) (f : Flash) (q : List ℕ) → CrashFinds shape (command c) b.pages w.left f q
+        → KeptSilently shape frames start (commands all ++ c ∷ []) bound f (all_posted w.reached.0 ++ q)
     command_cut c f q cut = (
       ap (λ t. t ++ q) present.0 ∙ cut.0,
       elim cut.1 [
@@ -133,7 +135,8 @@ module _ (shape : Shape) (frames : ℕ) (start : Map) (a b : BoardState) (drive 
     kept_then more = KeptSilently shape frames start (commands all ++ more) (rise a.read_faults c.read_faults)
 
     -- the marks so far, and those of a call whose cuts are kept
-    reaches_more : (more : List Command) (P : Flash → List ℕ → Type 0) → ((f : Flash) (q : List ℕ) → P f q → kept_then more f (all_posted w.reached.0 ++ q)) → Reaches shape b c P → Reaches shape a c (kept_then more)
+    reaches_more : (more : List Command) (P : Flash → List ℕ → Type 0)
+        → ((f : Flash) (q : List ℕ) → P f q → kept_then more f (all_posted w.reached.0 ++ q)) → Reaches shape b c P → Reaches shape a c (kept_then more)
     reaches_more more P cuts reached = let so_far = before c.read_faults up more in Reaches-then shape so_far.0 a b (kept_then more) w.shape_is so_far.1 so_far.2 c P cuts reached
 
     -- the same of a call that stopped the drive
@@ -145,11 +148,12 @@ module _ (shape : Shape) (frames : ℕ) (start : Map) (a b : BoardState) (drive 
         record {
           kept = Goes-then shape so_far.0 a b (kept_then more) w.shape_is so_far.1 so_far.2 c P cuts went;
           stop = subst R w.no_stop stop;
-          rest = flash-then a b c w.rest rest;
+          rest = only_then a b c w.rest rest;
         }
 
     -- one more command was served
-    pub grouped_next : (e : Sight) (cmd : Command) (rep : Reply) (reads : ℕ) → Reaches shape b c (CrashFinds shape (command cmd) b.pages w.left) → Executed shape frames c e w.left cmd rep reads → OnlyFlash b c
+    pub grouped_next : (e : Sight) (cmd : Command) (rep : Reply) (reads : ℕ)
+        → Reaches shape b c (CrashFinds shape (command cmd) b.pages w.left) → Executed shape frames c e w.left cmd rep reads → OnlyFlash b c
         → (rep.status ≡ 0x88 → Rose b.read_faults c.read_faults) → (rep.status ≢ 0x88 → c.read_faults ≡ b.read_faults) → c.stop_faults ≡ b.stop_faults → c.reads ≡ reads_after b.reads reads
         → roots b < 9223372036854775808 → roots c ≤ roots b + most_installs cmd.opcode cmd.size → Grouped shape frames start a c e (all ++ exchange cmd rep reads ∷ [])
     grouped_next e cmd rep reads reached done rest unread sound no_stop read unworn few_roots =
@@ -169,11 +173,12 @@ module _ (shape : Shape) (frames : ℕ) (start : Map) (a b : BoardState) (drive 
           reached = subst R (sym (commands-push all x)) (reaches_more (cmd ∷ []) (CrashFinds shape (command cmd) b.pages w.left) (command_cut c.read_faults up cmd) reached);
           rose = (let rose = w.rose in omega (arith, up, rose));
           no_stop = no_stop ∙ w.no_stop;
-          rest = flash-then a b c w.rest rest;
+          rest = only_then a b c w.rest rest;
         }
 
     -- one more command stopped the drive
-    pub stopped_next : (cmd : Command) → Goes shape b c (CrashFinds shape (command cmd) b.pages w.left) → Rose b.stop_faults c.stop_faults → OnlyFlash b c → StoppedIn shape frames start a c (commands all ++ cmd ∷ [])
+    pub stopped_next : (cmd : Command) → Goes shape b c (CrashFinds shape (command cmd) b.pages w.left)
+        → Rose b.stop_faults c.stop_faults → OnlyFlash b c → StoppedIn shape frames start a c (commands all ++ cmd ∷ [])
     stopped_next cmd went stop rest = stopped_more (cmd ∷ []) (CrashFinds shape (command cmd) b.pages w.left) (command_cut c.read_faults up cmd) went stop rest
 
     -- what was pending was committed
@@ -194,7 +199,7 @@ module _ (shape : Shape) (frames : ℕ) (start : Map) (a b : BoardState) (drive 
           reached = subst R (append-nil (commands all)) (reaches_more [] (CrashFinds shape commit b.pages w.left) (commit_cut c.read_faults up) reached);
           rose = (let rose = w.rose in omega (arith, up, rose));
           no_stop = no_stop ∙ w.no_stop;
-          rest = flash-then a b c w.rest rest;
+          rest = only_then a b c w.rest rest;
         }
 
     -- a commit stopped the drive
@@ -221,15 +226,28 @@ module _ (shape : Shape) (frames : ℕ) (start : Map) (a b : BoardState) (drive 
       )
 
 -- nothing was served yet
-pub grouped_none : (shape : Shape) (frames : ℕ) (start : Map) (a : BoardState) (drive : Sight) → HoldsMap shape frames a drive start → Holds shape a.pages start → Grouped shape frames start a a drive []
+pub grouped_none : (shape : Shape) (frames : ℕ) (start : Map) (a : BoardState) (drive : Sight)
+    → HoldsMap shape frames a drive start → Holds shape a.pages start → Grouped shape frames start a a drive []
 grouped_none shape frames start a drive stands holds =
     let w = asked-none shape frames start a stands.shape_is holds in
-    record { left = start; ran = refl; few = at_most-zero (rise a.read_faults a.read_faults); metered = refl; stands = stands; shape_is = stands.shape_is; reached = w.reached; rose = omega arith; no_stop = refl; rest = refl }
+    record {
+      left = start;
+      ran = refl;
+      few = at_most-zero (rise a.read_faults a.read_faults);
+      metered = refl;
+      stands = stands;
+      shape_is = stands.shape_is;
+      reached = w.reached;
+      rose = omega arith;
+      no_stop = refl;
+      rest = refl;
+    }
 
 -- ---- calls of a drive
 
 module _ (b c : BoardState) (d : Sight) (rest : OnlyFlash b c) where
-  pub keeps_commit : (e : Sight) → CallReaches b c d commit → KeepsMap b c d e → c.read_faults ≡ b.read_faults → c.stop_faults ≡ b.stop_faults → c.reads ≡ b.reads → roots c ≡ roots b → KeepsGroup b c d e
+  pub keeps_commit : (e : Sight) → CallReaches b c d commit → KeepsMap b c d e → c.read_faults ≡ b.read_faults
+      → c.stop_faults ≡ b.stop_faults → c.reads ≡ b.reads → roots c ≡ roots b → KeepsGroup b c d e
   keeps_commit e reaches stands same no_stop read roots_same shape frames start a all w =
       grouped_commit shape frames start a b d all w c (omega (arith, same)) e (reaches shape frames w.left w.stands) (stands shape frames w.left w.stands) rest same no_stop read roots_same
 
@@ -248,12 +266,18 @@ module _ (b c : BoardState) (d : Sight) (rest : OnlyFlash b c) where
 -- ---- one command between two commits
 
 -- more commands were not served
-pub stopped_weaker : (shape : Shape) (frames : ℕ) (start : Map) (a c : BoardState) (cs more all : List Command) → cs ++ more ≡ all → StoppedIn shape frames start a c cs → StoppedIn shape frames start a c all
+pub stopped_weaker : (shape : Shape) (frames : ℕ) (start : Map) (a c : BoardState) (cs more all : List Command)
+    → cs ++ more ≡ all → StoppedIn shape frames start a c cs → StoppedIn shape frames start a c all
 stopped_weaker shape frames start a c cs more all is s =
     let n = rise a.read_faults c.read_faults in
     let S : List Command → Type 0 = λ l. StoppedIn shape frames start a c l in
     subst S is (record {
-      kept = (s.kept.0, weaken_went s.kept.0 a c (KeptSilently shape frames start cs n) (KeptSilently shape frames start (cs ++ more) n) (silent-more shape frames start cs more n n (λ k h. h)) s.kept.1, s.kept.2);
+      kept = (
+        s.kept.0,
+        weaken_went s.kept.0 a c (KeptSilently shape frames start cs n)
+            (KeptSilently shape frames start (cs ++ more) n) (silent-more shape frames start cs more n n (λ k h. h)) s.kept.1,
+        s.kept.2,
+      );
       stop = s.stop;
       rest = s.rest;
     })

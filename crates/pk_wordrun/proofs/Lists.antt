@@ -8,7 +8,8 @@ use Rattle.pk_base.specs.Page.{Flash}
 use Rattle.pk_base.specs.Map.{Map}
 use Rattle.pk_base.specs.Mark.{Mark, all_posted, post}
 use Rattle.pk_nand.specs.BoardState.{BoardState, shape_or_none}
-use Rattle.pk_nand.specs.Calls.{Rose, longer, after_post, PostFailed}
+use Rattle.pk_nand.specs.Calls.{Rose, longer}
+use Rattle.pk_nand.specs.Operations.{after_post, PostFailed}
 use Rattle.pk_nand.specs.Crash.{ReachedBy}
 use Rattle.pk_nand.specs.Effects.{OnlyReading}
 use Rattle.pk_nand.proofs.CutLemmas.{posted-append}
@@ -137,7 +138,8 @@ module _ (from : Option Key) (shape : Shape) (frames : ℕ) (start : Map) (a b :
       ap key_lines (so_far.split ∙ ap (λ (ks : List Key). so_far.front ++ ks) e)
       ∙ (flat_map-append key_line so_far.front (page ++ left) ∙ ap (λ t. key_lines so_far.front ++ t) (flat_map-append key_line page left))
 
-  pub saying_more : (asked : BoardState) (next : ListPosition) (text : List ℕ) → PieceAsked shape b asked place (Some next) text → (c : BoardState) → c ≡ after_post asked text → IsSaying from shape start a c next
+  pub saying_more : (asked : BoardState) (next : ListPosition) (text : List ℕ) → PieceAsked shape b asked place (Some next) text
+      → (c : BoardState) → c ≡ after_post asked text → IsSaying from shape start a c next
   saying_more asked next text is c posted = let T : BoardState → Type 0 = λ x. IsSaying from shape start a x next in subst T (sym posted) (goes_on (is.piece.lines start told))
     where
       goes_on : (page : List Key) × (keys_left place start ≡ page ++ keys_left next start) × (text ≡ key_lines page) → IsSaying from shape start a (after_post asked text) next
@@ -148,7 +150,8 @@ module _ (from : Option Key) (shape : Shape) (frames : ℕ) (start : Map) (a b :
             (
               rest ++ key_lines (keys_left next start),
               append_assoc (key_lines so_far.front) out (rest ++ key_lines (keys_left next start))
-                  ∙ (ap (λ t. key_lines so_far.front ++ t) (sym (append_assoc out rest (key_lines (keys_left next start))) ∙ ap (λ t. t ++ key_lines (keys_left next start)) (e ∙ spelled)) ∙ sym (pieces page (keys_left next start) split)),
+                  ∙ (ap (λ t. key_lines so_far.front ++ t) (sym (append_assoc out rest (key_lines (keys_left next start))) ∙ ap (λ t. t ++ key_lines (keys_left next start)) (e ∙ spelled))
+                  ∙ sym (pieces page (keys_left next start) split)),
             ),
           ) in
           record {
@@ -180,14 +183,19 @@ module _ (from : Option Key) (shape : Shape) (frames : ℕ) (start : Map) (a b :
 
   last_piece : (asked : BoardState) (text : List ℕ) → PieceAsked shape b asked place None text → (y : ℕ) → asked.read_faults ≤ y → Ending text a.read_faults y
   last_piece asked text is y later = elim (is.piece start told) [
-    | inl none ↦ (refl, inl (ap (λ t. key_lines so_far.front ++ t) none.0 ∙ (append-nil (key_lines so_far.front) ∙ ap key_lines (sym (so_far.split ∙ (ap (λ (ks : List Key). so_far.front ++ ks) none.1 ∙ append-nil so_far.front))))))
+    | inl none ↦ (
+      refl,
+      inl (ap (λ t. key_lines so_far.front ++ t) none.0
+          ∙ (append-nil (key_lines so_far.front) ∙ ap key_lines (sym (so_far.split ∙ (ap (λ (ks : List Key). so_far.front ++ ks) none.1 ∙ append-nil so_far.front))))),
+    )
     | inr failed ↦ (
       refl,
       inr (so_far.front, keys_left place start, so_far.split, (let rose = failed.0 in let first = so_far.up in omega (arith, rose, first, later)), ap (λ t. key_lines so_far.front ++ t) failed.1),
     )
   ]
 
-  begins_ending : (text : List ℕ) (x y : ℕ) → Ending text x y → (out rest : List ℕ) → out ++ rest ≡ text → (f : Flash) → Holds shape f start → KeptTask (list from) x y shape frames start f (key_lines so_far.front ++ out)
+  begins_ending : (text : List ℕ) (x y : ℕ) → Ending text x y → (out rest : List ℕ) → out ++ rest ≡ text
+      → (f : Flash) → Holds shape f start → KeptTask (list from) x y shape frames start f (key_lines so_far.front ++ out)
   begins_ending text x y says out rest e f h = record {
     held = h;
     text = key_lines so_far.front ++ text;
@@ -200,7 +208,8 @@ module _ (from : Option Key) (shape : Shape) (frames : ℕ) (start : Map) (a b :
     ended : Told (list from) shape frames start a (after_post asked text) Done
     ended =
         let says = last_piece asked text is asked.read_faults (omega arith) in
-        let run = posts_more asked is.reads text (KeptTask (list from) a.read_faults asked.read_faults shape frames start) (all_lines a.read_faults asked.read_faults) (begins_ending text a.read_faults asked.read_faults says) in
+        let run = posts_more asked is.reads text (KeptTask (list from) a.read_faults asked.read_faults shape frames start)
+        (all_lines a.read_faults asked.read_faults) (begins_ending text a.read_faults asked.read_faults says) in
         record {
           kept = Goes-reaches shape a (after_post asked text) (KeptTask (list from) a.read_faults asked.read_faults shape frames start) run;
           rests = λ _. rests_on (after_post asked text) (rests-posted b asked (after_post asked text) text is.reads refl);
@@ -208,8 +217,10 @@ module _ (from : Option Key) (shape : Shape) (frames : ℕ) (start : Map) (a b :
             left = start;
             text = key_lines so_far.front ++ text;
             says = says;
-            posted = run.1.posted ∙ ap (λ t. longer a.posted t) (posted-append marks (post text ∷ []) ∙ (ap (λ t. t ++ (text ++ [])) so_far.said ∙ ap (λ t. key_lines so_far.front ++ t) (append-nil text)));
-            holds = held_asked asked is.reads text (KeptTask (list from) a.read_faults asked.read_faults shape frames start) (all_lines a.read_faults asked.read_faults) (begins_ending text a.read_faults asked.read_faults says);
+            posted = run.1.posted ∙ ap (λ t. longer a.posted t)
+                (posted-append marks (post text ∷ []) ∙ (ap (λ t. t ++ (text ++ [])) so_far.said ∙ ap (λ t. key_lines so_far.front ++ t) (append-nil text)));
+            holds = held_asked asked is.reads text (KeptTask (list from) a.read_faults asked.read_faults shape frames start)
+                (all_lines a.read_faults asked.read_faults) (begins_ending text a.read_faults asked.read_faults says);
             sound = record { output = ap (λ (s : BoardState). s.out_faults) is.reads ∙ so_far.output; stop = ap (λ (s : BoardState). s.stop_faults) is.reads ∙ so_far.stop };
           };
           used = λ e. absurd (done_unworn e);
@@ -246,11 +257,13 @@ module _ (from : Option Key) (shape : Shape) (frames : ℕ) (start : Map) (a b :
         (
           rest ++ key_lines (keys_left next start),
           append_assoc (key_lines so_far.front) out (rest ++ key_lines (keys_left next start))
-              ∙ (ap (λ t. key_lines so_far.front ++ t) (sym (append_assoc out rest (key_lines (keys_left next start))) ∙ ap (λ t. t ++ key_lines (keys_left next start)) (e ∙ p.2)) ∙ sym (pieces p.0 (keys_left next start) p.1)),
+              ∙ (ap (λ t. key_lines so_far.front ++ t) (sym (append_assoc out rest (key_lines (keys_left next start))) ∙ ap (λ t. t ++ key_lines (keys_left next start)) (e ∙ p.2))
+              ∙ sym (pieces p.0 (keys_left next start) p.1)),
         ),
       )
 
-  ends_output : (c : BoardState) (asked : BoardState) (text : List ℕ) (next : Option ListPosition) → PieceAsked shape b asked place next text → PostFailed asked c text → Told (list from) shape frames start a c Output
+  ends_output : (c : BoardState) (asked : BoardState) (text : List ℕ) (next : Option ListPosition)
+      → PieceAsked shape b asked place next text → PostFailed asked c text → Told (list from) shape frames start a c Output
   ends_output c asked text (Some next) is failed = unposted asked text is.reads c failed (begins_lines next asked text is a.read_faults c.read_faults)
   ends_output c asked text None is failed =
       let same : c.read_faults ≡ asked.read_faults = ap (λ (s : BoardState). s.read_faults) failed.rest in
@@ -261,7 +274,8 @@ module _ (from : Option Key) (shape : Shape) (frames : ℕ) (start : Map) (a b :
   stands_still c only = (
     marks,
     Went-reached marks a c (KeptTask (list from) a.read_faults c.read_faults shape frames start)
-        (weaken marks a c (FrontOf shape start lines) (KeptTask (list from) a.read_faults c.read_faults shape frames start) (all_lines a.read_faults c.read_faults) (reads_on marks a b c (FrontOf shape start lines) only so_far.reached.1)),
+        (weaken marks a c (FrontOf shape start lines) (KeptTask (list from) a.read_faults c.read_faults shape frames start)
+        (all_lines a.read_faults c.read_faults) (reads_on marks a b c (FrontOf shape start lines) only so_far.reached.1)),
     so_far.reached.2,
   )
 

@@ -4,7 +4,7 @@ use mathlib.Core.Logic.{∥∥₁_map}
 use Rattle.pk_base.specs.Shape.{Shape}
 use Rattle.pk_base.specs.Page.{Flash}
 use Rattle.pk_nand.specs.BoardState.{BoardState}
-use Rattle.pk_nand.specs.Calls.{after_post}
+use Rattle.pk_nand.specs.Operations.{after_post}
 use Rattle.pk_model.specs.Sight.{Sight}
 use Rattle.pk_port.specs.Ready.{Fits}
 

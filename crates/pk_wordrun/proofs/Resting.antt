@@ -2,7 +2,7 @@
 use Rattle.std.proofs.Common.{◌≡◌, List, ℕ, refl, ap, true, false}
 use Rattle.pk_base.specs.Shape.{Shape}
 use Rattle.pk_nand.specs.BoardState.{BoardState}
-use Rattle.pk_nand.specs.Calls.{after_post, PostFailed}
+use Rattle.pk_nand.specs.Operations.{after_post, PostFailed}
 use Rattle.pk_nand.specs.Effects.{OnlyReading}
 use Rattle.pk_nand.specs.Resting.{RestsFlash}
 use Rattle.pk_nand.proofs.Resting.{Rests-start, Rests-then, Rests-post, Rests-post_failed}
@@ -22,7 +22,8 @@ asked_looks shape (has key) e = refl
 asked_looks shape stat e = refl
 
 pub rests-reading : (a b : BoardState) → OnlyReading a b → RestsFlash a b
-rests-reading a b only = Rests-start a b (ap (λ (s : BoardState). s.shape) only) (ap (λ (s : BoardState). s.pages) only) (ap (λ (s : BoardState). s.trail) only) (ap (λ (s : BoardState). s.posted) only)
+rests-reading a b only = Rests-start a b (ap (λ (s : BoardState). s.shape) only) (ap (λ (s : BoardState). s.pages) only)
+    (ap (λ (s : BoardState). s.trail) only) (ap (λ (s : BoardState). s.posted) only)
 
 pub rests-posted : (a b c : BoardState) (text : List ℕ) → OnlyReading a b → c ≡ after_post b text → RestsFlash a c
 rests-posted a b c text only is = Rests-then a b c (ap (λ (s : BoardState). s.pages) only) (rests-reading a b only) (Rests-post b c text is)

@@ -19,8 +19,8 @@ use Rattle.pk_port.specs.Asking.{KeptSilently}
 abbrev pub exchange : Command → Reply → ℕ → Exchange
 exchange c reply reads = record { command = c; reply = reply; reads = reads }
 
--- These were served from one state of a board to a later one, and the drive stands for the map that they left: what the flash holds, under the
--- pending entries. Wherever the board was cut off, the flash held the map after a prefix of the commands, and no byte was given out.
+-- These were served from one state of a board to a later one, and the drive represents the map after them: what the flash holds, with the
+-- pending entries. At every cut of the board the flash held the map after a prefix of the commands, and no byte was posted.
 pub record Grouped (shape : Shape) (frames : ℕ) (start : Map) (a b : BoardState) (drive : Sight) (all : List Exchange) : Type 0 where
   pub left : Map
   pub ran : RunWithin shape frames start all left

@@ -2,7 +2,8 @@
 use Rattle.std.specs.Prelude.{◌≡◌, ℕ, ◌≤◌, List, Option, true}
 use Rattle.pk_base.specs.Shape.{Shape}
 use Rattle.pk_nand.specs.BoardState.{BoardState}
-use Rattle.pk_nand.specs.Calls.{Rose, after_post, PostFailed}
+use Rattle.pk_nand.specs.Calls.{Rose}
+use Rattle.pk_nand.specs.Operations.{after_post, PostFailed}
 use Rattle.pk_nand.specs.Effects.{OnlyReading}
 use Rattle.pk_model.specs.Wear.{is_worn}
 use Rattle.pk_port.specs.Steps.{seen}

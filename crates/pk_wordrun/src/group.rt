@@ -124,8 +124,8 @@ fn execute<D: Engine, B: Nand>(
     Ok(outcome)
 }
 
-/// Whether the record of a command waits: that of a Store or a Delete that is done, if its entry is pending with fewer others than a
-/// journal page takes, and fewer records than that wait.
+/// Whether the record of a command waits: it is that of a Store or a Delete that succeeded, the entry is pending with fewer
+/// others than a journal page takes, and fewer records than that wait.
 fn waits<D: Engine>(
     drive: &D,
     held: u32,

@@ -1,6 +1,6 @@
 //! A text goes out.
 ghost use Rattle.std.specs.Prelude.{◌≡◌, OnOk, OnErr};
-ghost use Rattle.pk_nand.specs.Calls.{after_post, PostFailed};
+ghost use Rattle.pk_nand.specs.Operations.{after_post, PostFailed};
 
 use pk_nand::{Board, HostFault};
 

@@ -15,7 +15,8 @@ length-key_line key = omega (arith, length-append (hex_text (bytes_of key)) (cod
 -- the lines of one key more
 pub one_more : (ks : List Key) (i : ℕ) → i < length ks → key_lines (take (i + 1) ks) ≡ key_lines (take i ks) ++ key_line (slice_index_or ks i [])
 one_more ks i h =
-    ap key_lines (take_more ks i [] h) ∙ flat_map-append key_line (take i ks) (slice_index_or ks i [] ∷ []) ∙ ap (λ (xs : List ℕ). key_lines (take i ks) ++ xs) (append-nil (key_line (slice_index_or ks i [])))
+    ap key_lines (take_more ks i [] h) ∙ flat_map-append key_line (take i ks) (slice_index_or ks i [] ∷ [])
+    ∙ ap (λ (xs : List ℕ). key_lines (take i ks) ++ xs) (append-nil (key_line (slice_index_or ks i [])))
 
 -- what is in a text when n keys of a page were said
 pub record AreSaid (page : List Key) (text initial : RoomyList) (i : ℕ) : Type 0 where

@@ -1,6 +1,7 @@
 -- The keys of a list, piece by piece.
-use Rattle.std.proofs.Common.{◌≡◌, inl, inr, ◌⊎◌, ℕ, ◌-◌, ◌<◌, ◌==◌, nat_lt, if◌then◌else◌, cond, List, [], ◌∷◌, ◌++◌, length, filter, map, slice_index_or, Bool, true, false, not, Option, Some, None, is_some, Result, Ok, Err, refl, sym, ap, subst, ◌∙◌, arith, length-append}
-use Rattle.std.proofs.lemmas.Bool.{le-leb, ltb-true}
+use Rattle.std.proofs.Common.{◌≡◌, inl, inr, ◌⊎◌, ℕ, ◌-◌, ◌<◌, ◌==◌, nat_lt, if◌then◌else◌, cond, List, [], ◌∷◌, ◌++◌, length, filter, map, slice_index_or, Bool, true, false, not, Option, Some, None}
+use Rattle.std.proofs.Common.{is_some, Result, Ok, Err, refl, sym, ap, subst, ◌∙◌, arith, length-append}
+use Rattle.std.proofs.lemmas.Bool.{ltb-true}
 use Rattle.std.proofs.lemmas.List.{append-nil}
 use Rattle.std.specs.List.{AllByRecursion}
 use Rattle.std.specs.declared.cmp.Ordering.{Ordering}
@@ -18,10 +19,11 @@ use Rattle.pk_model.proofs.MapLemmas.{key_total, key_antisymm}
 use Rattle.pk_host.specs.declared.types.HostError.{HostError}
 use Rattle.pk_host.specs.declared.types.HostError.TheVariants.{Refused, Port}
 use Rattle.pk_host.specs.Port.{PortState}
-use Rattle.pk_host.specs.Calls.{Gives, Tests, existed, exist_of}
+use Rattle.pk_host.specs.Calls.{exist_of}
+use Rattle.pk_host.specs.Outcomes.{Gives, Tests, existed}
 use Rattle.pk_host.specs.Listing.{above, Pages, Follows, TellsKeys, listed_by}
 use Rattle.pk_host.proofs.RisingLemmas.{all_middle, snoc_of, keys_rising, second_above}
-use Rattle.pk_host.proofs.PageLemmas.{next_page}
+use Rattle.pk_host.proofs.PageLemmas.{next_page, nothing_above}
 use Rattle.pk_host.proofs.CommandLemmas.{keyed_fault, exist_by}
 use Rattle.pk_words.specs.declared.listing.ListPosition.TheVariants.{From, After}
 use Rattle.pk_words.specs.Lines.{key_line, key_lines, status_line, failed_line}
@@ -102,7 +104,8 @@ module _ (key : Key) (e : Key × List ℕ) (es : List (Key × List ℕ)) where
   split_above Less is n rising =
       let higher = all_higher key e.0 (names es) n rising.0 in
       let all = all_kept key (names es) higher in
-      kept_by false n ∙ ap (λ (xs : List Key). e.0 ∷ xs) (all.0 ∙ sym all.1) ∙ ap (λ (v : Option (List ℕ)). itself key v ++ (e.0 ∷ above key (names es))) (sym (none_found key es higher)) ∙ sym (found_by Less is)
+      kept_by false n ∙ ap (λ (xs : List Key). e.0 ∷ xs) (all.0 ∙ sym all.1)
+      ∙ ap (λ (v : Option (List ℕ)). itself key v ++ (e.0 ∷ above key (names es))) (sym (none_found key es higher)) ∙ sym (found_by Less is)
   split_above Equal is n rising =
       let all = all_kept key (names es) (all_higher key e.0 (names es) n rising.0) in
       kept_by false n ∙ ap (λ (xs : List Key). e.0 ∷ xs) (all.0 ∙ sym all.1) ∙ ap (λ (k : Key). k ∷ above key (names es)) (sym (key_antisymm key e.0 is)) ∙ sym (found_by Equal is)
@@ -154,7 +157,8 @@ falls_behind (Some k) page p some last is_text text higher =
     after_key k p (text k refl) is_text (subst (IsBelow k) same below)
 
 pub says_page : (old : PortState) (o : Option Key) (page : List Key) (p : Key) (text : List ℕ) → 0 < length page → p ≡ slice_index_or page (length page - 1) [] → IsText p
-    → ((k : Key) → o ≡ Some k → IsText k) → AllByRecursion (IsBelow (key_or_none o)) page → Pages old (key_or_none o) page → TellsKeys old → text ≡ key_lines page → Continues old (position_after o) (After p) text
+    → ((k : Key) → o ≡ Some k → IsText k) → AllByRecursion (IsBelow (key_or_none o)) page → Pages old (key_or_none o) page
+    → TellsKeys old → text ≡ key_lines page → Continues old (position_after o) (After p) text
 says_page old o page p text some last is_text from_text higher read known spelled = record {
   lines = λ m told.
       let (front, q, e) = parts page some in
@@ -168,13 +172,10 @@ says_page old o page p text some last is_text from_text higher read known spelle
   falls = falls_behind o page p some last is_text from_text higher;
 }
 
-none_follow : (xs : List Key) → false ≡ nat_lt 0 (length xs) → xs ≡ []
-none_follow [] e = refl
-none_follow (x ∷ xs) e = absurd (let clash : false ≡ true = e ∙ le-leb 1 (length (x ∷ xs)) (omega arith) in cc)
-
-pub says_end : (old new : PortState) (o : Option Key) (more : Bool) (text : List ℕ) → more ≡ false → Follows old (key_or_none o) more → TellsKeys old → text ≡ [] → ListEnds old new (position_after o) text
+pub says_end : (old new : PortState) (o : Option Key) (more : Bool) (text : List ℕ) → more ≡ false
+    → Follows old (key_or_none o) more → TellsKeys old → text ≡ [] → ListEnds old new (position_after o) text
 says_end old new o more text stop follows known none m told =
-    inl (none, left_behind old o m known told ∙ none_follow (above (key_or_none o) (keys m)) (sym stop ∙ follows m told))
+    inl (none, left_behind old o m known told ∙ nothing_above (above (key_or_none o) (keys m)) (sym stop ∙ follows m told))
 
 -- a page that was given has a key
 pub page_some : (old new : PortState) (c : Command) (page : List Key) (more : Bool) → more ≡ true → Gives old new c (listed_by page) (Ok more) → 0 < length page
@@ -221,13 +222,16 @@ pub exist_failed : (old new : PortState) (key : Key) (error : HostError) (status
     → text ≡ status_line status → ListEnds old new (From key) text
 exist_failed old new key error status text is is_key (inr fault) spelled m told = absurd (let clash : Refused status ≡ Port = sym is ∙ err_same error Port fault.0 in cc)
 exist_failed old new key error status text is is_key (inl (a, x, e)) spelled m told =
-    elim (a.status == 0) as (λ b. (a.status == 0) ≡ b → ◌≡◌ {A = Result Bool HostError} (Err error) (if b then Ok true else if a.status == KEY_DOES_NOT_EXIST then Ok false else Err (Refused a.status)) → Found old new key text m) [
+    elim (a.status == 0) as (λ b. (a.status == 0) ≡ b
+    → ◌≡◌ {A = Result Bool HostError} (Err error) (if b then Ok true else if a.status == KEY_DOES_NOT_EXIST then Ok false else Err (Refused a.status)) → Found old new key text m) [
       | true ↦ λ z h. absurd (let clash : ◌≡◌ {A = Result Bool HostError} (Err error) (Ok true) = h in cc)
-      | false ↦ λ z g. elim (a.status == KEY_DOES_NOT_EXIST) as (λ b. (a.status == KEY_DOES_NOT_EXIST) ≡ b → ◌≡◌ {A = Result Bool HostError} (Err error) (if b then Ok false else Err (Refused a.status)) → Found old new key text m) [
-        | true ↦ λ y h. absurd (let clash : ◌≡◌ {A = Result Bool HostError} (Err error) (Ok false) = h in cc)
-        | false ↦ λ y h.
-            let s = x.answers m told in
-            let read : a.status ≡ UNRECOVERED_ERROR = keyed_fault old.shape old.limit s.frames m (exist_of key) Exist a s.left refl (exist_by old.shape old.limit m key is_key) (λ own. refl) z y s.stepped in
-            inr (x.unread read, spelled ∙ ap status_line (refused_same status a.status (sym is ∙ err_same error (Refused a.status) h) ∙ read))
-      ] refl g
+      | false ↦ λ z g. elim (a.status == KEY_DOES_NOT_EXIST) as (λ b. (a.status == KEY_DOES_NOT_EXIST) ≡ b
+          → ◌≡◌ {A = Result Bool HostError} (Err error) (if b then Ok false else Err (Refused a.status)) → Found old new key text m) [
+            | true ↦ λ y h. absurd (let clash : ◌≡◌ {A = Result Bool HostError} (Err error) (Ok false) = h in cc)
+            | false ↦ λ y h.
+                let s = x.answers m told in
+                let read : a.status ≡ UNRECOVERED_ERROR = keyed_fault old.shape old.limit s.frames m
+                (exist_of key) Exist a s.left refl (exist_by old.shape old.limit m key is_key) (λ own. refl) z y s.stepped in
+                inr (x.unread read, spelled ∙ ap status_line (refused_same status a.status (sym is ∙ err_same error (Refused a.status) h) ∙ read))
+          ] refl g
     ] refl e

@@ -5,7 +5,7 @@ use Rattle.std.proofs.lemmas.Grind.{flat_map-append}
 use Rattle.pk_base.specs.Key.{Key}
 use Rattle.pk_nand.specs.Calls.{Rose}
 use Rattle.pk_host.specs.Port.{PortState}
-use Rattle.pk_host.specs.Calls.{Leaves}
+use Rattle.pk_host.specs.Outcomes.{Leaves}
 use Rattle.pk_words.specs.declared.listing.ListPosition.{ListPosition}
 use Rattle.pk_words.specs.Lines.{key_line, key_lines}
 use Rattle.pk_words.specs.Says.{SaysKeys}
@@ -16,7 +16,8 @@ pub listed_begins : (from : Option Key) (p : PortState) → Listed from p p (sta
 listed_begins None p = record { leaves = λ m told. told; lines = λ m told. ([], refl, refl) }
 listed_begins (Some key) p = record { leaves = λ m told. told; lines = λ m told. ([], refl, refl) }
 
-pub listed_goes : (from : Option Key) (start now next : PortState) (place place' : ListPosition) (text piece : List ℕ) → Listed from start now place text → Continues now place place' piece → Leaves now next (λ m. m)
+pub listed_goes : (from : Option Key) (start now next : PortState) (place place' : ListPosition) (text piece : List ℕ)
+    → Listed from start now place text → Continues now place place' piece → Leaves now next (λ m. m)
     → Listed from start next place' (text ++ piece)
 listed_goes from start now next place place' text piece h c stays = record {
   leaves = λ m told. stays m (h.leaves m told);
@@ -29,7 +30,8 @@ listed_goes from start now next place place' text piece h c stays = record {
       );
 }
 
-pub listed_ends : (from : Option Key) (start now new : PortState) (place : ListPosition) (text piece : List ℕ) → Listed from start now place text → ListEnds now new place piece → Leaves now new (λ m. m)
+pub listed_ends : (from : Option Key) (start now new : PortState) (place : ListPosition) (text piece : List ℕ)
+    → Listed from start now place text → ListEnds now new place piece → Leaves now new (λ m. m)
     → start.read_faults ≤ now.read_faults → Said (SaysKeys from) start new (text ++ piece)
 listed_ends from start now new place text piece h ends stays up m told =
     let (front, is, split) = h.lines m told in

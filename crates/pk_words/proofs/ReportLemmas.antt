@@ -7,7 +7,8 @@ use Rattle.pk_nvme.specs.Bytes.{RoomyList}
 use Rattle.pk_host.specs.declared.types.HostError.{HostError}
 use Rattle.pk_host.specs.declared.types.HostError.TheVariants.{Refused, Port}
 use Rattle.pk_host.specs.Port.{PortState}
-use Rattle.pk_host.specs.Calls.{report, stored, Gives, IsCause, IsRefusal, Numbers, Leaves}
+use Rattle.pk_host.specs.Calls.{report}
+use Rattle.pk_host.specs.Outcomes.{stored, Gives, IsCause, IsRefusal, Numbers, Leaves}
 use Rattle.pk_host.proofs.ReportLemmas.{report_leaves}
 use Rattle.pk_words.specs.Lines.{number_line, number_lines, report_names, report_lines, status_line}
 use Rattle.pk_words.specs.Says.{SaysNumbers}

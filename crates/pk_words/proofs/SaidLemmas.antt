@@ -16,7 +16,8 @@ use Rattle.pk_nvme.specs.declared.opcode.Opcode.TheVariants.{Retrieve}
 use Rattle.pk_host.specs.declared.types.HostError.{HostError}
 use Rattle.pk_host.specs.declared.types.HostError.TheVariants.{Refused, Port}
 use Rattle.pk_host.specs.Port.{PortState}
-use Rattle.pk_host.specs.Calls.{Gives, Fetches, IsFront, IsCause, IsRefusal, retrieve_of, retrieved}
+use Rattle.pk_host.specs.Calls.{retrieve_of}
+use Rattle.pk_host.specs.Outcomes.{Gives, Fetches, IsFront, IsCause, IsRefusal, retrieved}
 use Rattle.pk_host.proofs.CallLemmas.{leaves_map}
 use Rattle.pk_host.proofs.CauseLemmas.{retrieve_cause}
 use Rattle.pk_words.specs.Lines.{status_line, value_line}
@@ -55,7 +56,8 @@ value_small : (shape : Shape) (m : Map) (q : Key) (v : List ℕ) → IsMap shape
 value_small shape m q v h found = found_small (greatest shape) (entries m) q v h.values (sym (get-entries m q) ∙ found)
 
 -- the prefix that was fetched into a buffer of that size is the whole value
-whole_front : (value : Option (List ℕ)) (len : ℕ) (into : List ℕ) (bound : ℕ) → ((v : List ℕ) → value ≡ Some v → length v ≤ bound) → length into ≡ bound → IsFront value (Some len) into → value ≡ Some (take len into)
+whole_front : (value : Option (List ℕ)) (len : ℕ) (into : List ℕ) (bound : ℕ) → ((v : List ℕ) → value ≡ Some v → length v ≤ bound)
+    → length into ≡ bound → IsFront value (Some len) into → value ≡ Some (take len into)
 whole_front None len into bound small sized h = cc
 whole_front (Some v) len into bound small sized h =
     let fits = small v refl in
@@ -91,12 +93,14 @@ module _ (old new : PortState) (key : Key) (size : ℕ) where
   none_missing None into h = refl
   none_missing (Some v) into h = cc
 
-  pub said_missing : (o : Option ℕ) (into text : List ℕ) → o ≡ None → Gives old new (retrieve_of key size) retrieved (Ok o) → Fetches old key o into → text ≡ value_line None → Said (SaysValue key) old new text
+  pub said_missing : (o : Option ℕ) (into text : List ℕ) → o ≡ None → Gives old new (retrieve_of key size) retrieved (Ok o)
+      → Fetches old key o into → text ≡ value_line None → Said (SaysValue key) old new text
   said_missing o into text is gives fetches spelled = found_on text (Ok o) gives (λ e. cc) (λ m held told.
       let here = subst (λ (x : Option ℕ). IsFront (get m key) x into) is (fetches m told) in
       inl (spelled ∙ ap value_line (sym (none_missing (get m key) into here))))
 
-  pub said_failed : (error : HostError) (status : ℕ) (text : List ℕ) → error ≡ Refused status → IsKey key → Gives old new (retrieve_of key size) retrieved (Err error) → text ≡ status_line status → Said (SaysValue key) old new text
+  pub said_failed : (error : HostError) (status : ℕ) (text : List ℕ) → error ≡ Refused status → IsKey key
+      → Gives old new (retrieve_of key size) retrieved (Err error) → text ≡ status_line status → Said (SaysValue key) old new text
   said_failed error status text is is_key gives spelled =
       let cause : IsRefusal old new retrieved status = subst (λ (e : HostError). IsCause old new retrieved e) is (retrieve_cause old new key size error is_key gives) in
       found_on text (Err error) gives (λ e. let clash : Refused status ≡ Port = sym is ∙ err_same error Port e in cc) (λ m held told.

@@ -8,7 +8,8 @@ use Rattle.pk_base.specs.declared.sizes.TheConstants.{KEY_BYTES}
 use Rattle.pk_nand.specs.Calls.{Rose}
 use Rattle.pk_nvme.specs.Command.{Command}
 use Rattle.pk_host.specs.Port.{PortState}
-use Rattle.pk_host.specs.Calls.{Leaves, exist_of, list_of}
+use Rattle.pk_host.specs.Calls.{exist_of}
+use Rattle.pk_host.specs.Outcomes.{Leaves, list_of}
 use Rattle.pk_host.specs.Listing.{above}
 use Rattle.pk_words.specs.Lines.{failed_line, key_lines}
 use Rattle.pk_words.specs.Says.{wanted_keys}

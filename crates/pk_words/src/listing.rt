@@ -1,18 +1,16 @@
 //! A list of keys, piece by piece.
 ghost use Rattle.std.specs.Prelude.{◌≡◌, ◌<◌, ◌-◌, ℕ, List, [], ◌∷◌, length, slice_index_or, Some, OnErr, IfOk};
 ghost use Rattle.std.specs.Option.{option_copied};
-ghost use Rattle.pk_base.specs.Fields.{AreBytes};
 ghost use Rattle.pk_nand.specs.Calls.{Rose};
-ghost use Rattle.pk_nvme.specs.Bytes.{RoomyList};
 ghost use Rattle.pk_nvme.specs.Command.{key_or_none};
-ghost use Rattle.pk_host.specs.Calls.{Leaves, exist_of, list_of};
+ghost use Rattle.pk_host.specs.Calls.{exist_of};
+ghost use Rattle.pk_host.specs.Outcomes.{Leaves, list_of};
 ghost use Rattle.pk_words.specs.Listing.{Piece, IsText, asked_at, position_after, start_at};
 ghost use Rattle.pk_words.specs.declared.listing.ListPosition.TheVariants.{From};
-ghost use Rattle.pk_words.specs.Said.{Spoken};
 
 use crate::lines::{add_key, say_keys, say_status};
 use crate::words::Words;
-use pk_base::Key;
+use pk_base::{Key, are_bytes};
 use pk_host::{HostError, KeyPage, Port, PortFault};
 
 /// Where a list of keys goes on.
@@ -145,11 +143,4 @@ fn is_text(key: &Key)
     ensures { IsText key.now }
 {
     are_bytes(key.bytes());
-}
-
-/// Bytes are numbers below 256.
-fn are_bytes(bytes: &[u8])
-    ensures { AreBytes bytes.now }
-{
-    let _ = bytes.len();
 }

@@ -18,7 +18,7 @@ pub enum Question {
     Get(Key),
     /// To take a key away.
     Delete(Key),
-    /// Whether a key is there.
+    /// Whether a key exists.
     Has(Key),
     /// The numbers of the drive.
     Stat,

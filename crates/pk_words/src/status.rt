@@ -1,5 +1,5 @@
 //! The status of a command, from what the host made of its reply.
-ghost use Rattle.pk_host.specs.Calls.{stored, existed};
+ghost use Rattle.pk_host.specs.Outcomes.{stored, existed};
 ghost use Rattle.pk_words.specs.Said.{IsStatus};
 
 use pk_host::{HostError, PortFault};

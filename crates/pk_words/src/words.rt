@@ -115,7 +115,7 @@ impl Words {
         }
     }
 
-    /// Says whether a key is there.
+    /// Says whether a key exists.
     pub fn has<P: Port>(&mut self, port: &mut P, key: &Key) -> Result<(), PortFault>
         ensures said { OnOk result (Said (SaysStatus (exist_of key.now))
             (P.state port.old) (P.state port.new) self.new.text) }

@@ -16,4 +16,5 @@ named-requires-clause-short c = operands_below _ c.args.line.now _ _ _ c.split_w
 pub returns-in-Some-clause-entry : goal.returns-in-Some-clause-entry
 returns-in-Some-clause-entry c =
     entry_of_form c.args.number _ c.in-Some.form c.entry.result (sym c.in-Some.is ∙ c.named.ensures.form) c.entry.ensures
-    ∙ ap (λ (o : Option (List ℕ × List ℕ)). option_map (λ s. s.0) o) (sym (said_named c.args.number c.args.line.now _ _ _ c.split_word.ensures c.words_behind-operands.ensures (sym c.is.ensures ∙ c.if-is.false)))
+    ∙ ap (λ (o : Option (List ℕ × List ℕ)). option_map (λ s. s.0) o)
+    (sym (said_named c.args.number c.args.line.now _ _ _ c.split_word.ensures c.words_behind-operands.ensures (sym c.is.ensures ∙ c.if-is.false)))

@@ -10,4 +10,5 @@ unfolding entry_with
 returns c =
     let place : c.put_padded.new.bytes ≡ padded 16 c.args.key.now = sym (take_all 16 c.put_padded.new.bytes (omega arith)) ∙ c.put_padded.ensures.front in
     c.entry.ensures.bytes
-    ∙ ap (λ (p : List ℕ). entry_of (record { opcode = c.args.opcode; cid = c.args.number % 65536; namespace = 1; key_len = length c.args.key.now; key = p; size = c.args.size; options = c.args.options })) place
+    ∙ ap (λ (p : List ℕ). entry_of
+    (record { opcode = c.args.opcode; cid = c.args.number % 65536; namespace = 1; key_len = length c.args.key.now; key = p; size = c.args.size; options = c.args.options })) place

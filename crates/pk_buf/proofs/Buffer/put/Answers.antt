@@ -15,8 +15,12 @@ invariant_of-self g c =
     let f = rw (c.as_slice.ensures, c.key.ensures) at c.in-Ok.ensures.found in
     let xs = c.self.inside.slots.items in
     let x : Slot = record { entry = c.args.new } in
-    let w = written c.self.inside.slots c.in-Ok.at x _ c.deref_mut.ensures.value in
-    (rw (w, put_found xs x c.in-Ok.at f.0 f.1) (is_sorted-put key_cmp nat_list_cmp_total (key_of (entry c.args.new)) (entry c.args.new).1 (contents xs) c.self.invariant.0), rw (w, length-set xs) c.self.invariant.1, c.self.invariant.2, c.self.invariant.3)
+    let w = written c.self.inside.slots c.in-Ok.at x _ c.deref_mut.ensures.value in (
+      rw (w, put_found xs x c.in-Ok.at f.0 f.1) (is_sorted-put key_cmp nat_list_cmp_total (key_of (entry c.args.new)) (entry c.args.new).1 (contents xs) c.self.invariant.0),
+      rw (w, length-set xs) c.self.invariant.1,
+      c.self.invariant.2,
+      c.self.invariant.3,
+    )
 
 pub returns-in-Ok : goal.returns-in-Ok
 returns-in-Ok g c =
@@ -32,8 +36,12 @@ invariant_of-self-in-Ok-insert g c =
     let xs = c.self.inside.slots.items in
     let x : Slot = record { entry = c.args.new } in
     let room : length xs < c.self.inside.capacity = room_in _ xs c.in-Err.at _ c.self.invariant.0 f.0 f.1 (rw (← c.self.view_is) at c.requires) in
-    let made = c.in-Ok-insert.ensures.ok in
-    (rw (made, put_absent xs x c.in-Err.at f.0 f.1) (is_sorted-put key_cmp nat_list_cmp_total (key_of (entry c.args.new)) (entry c.args.new).1 (contents xs) c.self.invariant.0), omega (arith, c.in-Ok-insert.ensures.len), omega (arith, c.in-Ok-insert.ensures.capacity), c.self.invariant.3)
+    let made = c.in-Ok-insert.ensures.ok in (
+      rw (made, put_absent xs x c.in-Err.at f.0 f.1) (is_sorted-put key_cmp nat_list_cmp_total (key_of (entry c.args.new)) (entry c.args.new).1 (contents xs) c.self.invariant.0),
+      omega (arith, c.in-Ok-insert.ensures.len),
+      omega (arith, c.in-Ok-insert.ensures.capacity),
+      c.self.invariant.3,
+    )
 
 pub unreachable-requires : goal.unreachable-requires
 unreachable-requires g c =

@@ -16,5 +16,6 @@ program-requires-clause-fits g c =
 pub returns-clause-step : goal.returns-clause-step
 returns-clause-step g c =
     let is_shape = subst (λ (s : Shape). IsShape s) c.shape.ensures c.known.ensures in
-    install_step c.args.root.now.shape is_shape c.args.root.now.root c.args.installer.now c.program.new.self (g.B.Nand.state c.args.board.now) (g.B.Nand.state c.program.new.board) c.requires.ready c.program.ensures.ready c.requires.can c.program.ensures.behind
+    install_step c.args.root.now.shape is_shape c.args.root.now.root c.args.installer.now c.program.new.self (g.B.Nand.state c.args.board.now)
+    (g.B.Nand.state c.program.new.board) c.requires.ready c.program.ensures.ready c.requires.can c.program.ensures.behind
     c.program.result c.program.ensures.installs c.program.ensures.stopped c.program.ensures.failed

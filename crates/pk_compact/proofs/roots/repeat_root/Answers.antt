@@ -16,17 +16,20 @@ repeat-requires-clause-fits g c =
 pub returns-clause-step : goal.returns-clause-step
 returns-clause-step g c =
     let is_shape = subst (λ (s : Shape). IsShape s) c.shape.ensures c.known.ensures in
-    repeat_step c.args.root.now.shape is_shape c.args.root.now.root c.args.installer.now c.repeat.new.self (g.B.Nand.state c.args.board.now) (g.B.Nand.state c.repeat.new.board) c.requires.ready c.repeat.ensures.ready c.requires.can c.repeat.ensures.behind
+    repeat_step c.args.root.now.shape is_shape c.args.root.now.root c.args.installer.now c.repeat.new.self (g.B.Nand.state c.args.board.now)
+    (g.B.Nand.state c.repeat.new.board) c.requires.ready c.repeat.ensures.ready c.requires.can c.repeat.ensures.behind
     c.repeat.result c.repeat.ensures.repeats c.repeat.ensures.whole c.repeat.ensures.stopped c.repeat.ensures.failed
 
 pub returns-clause-number : goal.returns-clause-number
 returns-clause-number g c =
     let is_shape = subst (λ (s : Shape). IsShape s) c.shape.ensures c.known.ensures in
-    repeat_roots c.args.root.now.shape is_shape c.args.root.now.root c.args.installer.now c.repeat.new.self (g.B.Nand.state c.args.board.now) (g.B.Nand.state c.repeat.new.board) c.requires.ready c.repeat.ensures.ready c.requires.can c.repeat.ensures.behind
+    repeat_roots c.args.root.now.shape is_shape c.args.root.now.root c.args.installer.now c.repeat.new.self (g.B.Nand.state c.args.board.now)
+    (g.B.Nand.state c.repeat.new.board) c.requires.ready c.repeat.ensures.ready c.requires.can c.repeat.ensures.behind
     c.repeat.result c.repeat.ensures.repeats c.repeat.ensures.whole c.repeat.ensures.failed
 
 pub returns-clause-program : goal.returns-clause-program
 returns-clause-program g c =
     let is_shape = subst (λ (s : Shape). IsShape s) c.shape.ensures c.known.ensures in
-    repeat_program c.args.root.now.shape is_shape c.args.root.now.root c.args.installer.now c.repeat.new.self (g.B.Nand.state c.args.board.now) (g.B.Nand.state c.repeat.new.board) c.requires.ready c.repeat.ensures.ready c.requires.can c.repeat.ensures.behind
+    repeat_program c.args.root.now.shape is_shape c.args.root.now.root c.args.installer.now c.repeat.new.self (g.B.Nand.state c.args.board.now)
+    (g.B.Nand.state c.repeat.new.board) c.requires.ready c.repeat.ensures.ready c.requires.can c.repeat.ensures.behind
     c.repeat.result c.repeat.ensures.repeats c.repeat.ensures.failed

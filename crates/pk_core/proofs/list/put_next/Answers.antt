@@ -5,7 +5,8 @@ pub returns-in-Ok-Some-clause-offers : goal.returns-in-Ok-Some-clause-offers
 returns-in-Ok-Some-clause-offers g c rest left =
     let gives = rw c.in-Ok-Some.field-0-is at c.in-Ok-Some.ensures.gives in (
       (gives rest left).0,
-      gives_key c.args.into.now c.put_key.new.into c.args.at c.args.at.room c.in-Ok-Some.entry c.key.result.now c.put_key.result rest (gives rest left).0 c.key.ensures (gives rest left).1 c.put_key.ensures.offers,
+      gives_key c.args.into.now c.put_key.new.into c.args.at c.args.at.room c.in-Ok-Some.entry c.key.result.now c.put_key.result rest
+          (gives rest left).0 c.key.ensures (gives rest left).1 c.put_key.ensures.offers,
       (gives rest left).2,
     )
 

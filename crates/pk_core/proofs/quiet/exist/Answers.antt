@@ -15,22 +15,29 @@ returns-in-Ok-Some-clause-executes g c = λ v into.
     let old = g.B.Nand.state c.args.board.now in
     let few : old.reads ≤ last_count = omega (arith, c.read_count-before.ensures.value, c.read_count-before.type_inv) in
     let looks = subst (λ p. Looks c.args.parts.now old.pages c.key-key.result p) c.in-Ok-Some.field-0-is c.in-Ok-Some.ensures.looks in
-    executes_quiet c.args.parts.now c.look.new.self (g.B.Nand.state c.args.board.now) (g.B.Nand.state c.look.new.board) c.args.request.now (command_of c.args.request.now v) c.served.result into _ c.requires.servable c.look.ensures.same c.look.ensures.pages (ap (λ (o : Outcome). o.stopped) c.served.ensures)
-    (exist_found c.args.parts.now c.look.new.self old (g.B.Nand.state c.look.new.board) c.args.request.now v into c.requires.servable.agrees c.look.ensures.same c.requires.servable.passed few c.reads_since.ensures.count
-    c.served.result c.reads_since.result c.key-key.result c.in-Ok-Some.field-0-0 c.requires.opcode c.key-key.ensures looks c.served.ensures c.in-Ok-Some.ensures.reads (omega (arith, c.reads_since.ensures.reads, c.read_count-before.ensures.value)))
+    executes_quiet c.args.parts.now c.look.new.self (g.B.Nand.state c.args.board.now) (g.B.Nand.state c.look.new.board) c.args.request.now
+    (command_of c.args.request.now v) c.served.result into _ c.requires.servable c.look.ensures.same c.look.ensures.pages (ap (λ (o : Outcome). o.stopped) c.served.ensures)
+    (exist_found c.args.parts.now c.look.new.self old
+    (g.B.Nand.state c.look.new.board) c.args.request.now v into c.requires.servable.agrees c.look.ensures.same c.requires.servable.passed few c.reads_since.ensures.count
+    c.served.result c.reads_since.result c.key-key.result c.in-Ok-Some.field-0-0 c.requires.opcode c.key-key.ensures looks c.served.ensures c.in-Ok-Some.ensures.reads
+    (omega (arith, c.reads_since.ensures.reads, c.read_count-before.ensures.value)))
 
 pub returns-in-Ok-None-clause-executes : goal.returns-in-Ok-None-clause-executes
 returns-in-Ok-None-clause-executes g c = λ v into.
     let old = g.B.Nand.state c.args.board.now in
     let few : old.reads ≤ last_count = omega (arith, c.read_count-before.ensures.value, c.read_count-before.type_inv) in
     let looks = subst (λ p. Looks c.args.parts.now old.pages c.key-key.result p) c.in-Ok-None.field-0-is c.in-Ok-None.ensures.looks in
-    executes_quiet c.args.parts.now c.look.new.self (g.B.Nand.state c.args.board.now) (g.B.Nand.state c.look.new.board) c.args.request.now (command_of c.args.request.now v) c.refusal.result into _ c.requires.servable c.look.ensures.same c.look.ensures.pages (ap (λ (o : Outcome). o.stopped) c.refusal.ensures)
-    (exist_none c.args.parts.now c.look.new.self old (g.B.Nand.state c.look.new.board) c.args.request.now v into c.requires.servable.agrees c.look.ensures.same c.requires.servable.passed few c.reads_since-in-Ok-None.ensures.count
-    c.refusal.result c.reads_since-in-Ok-None.result c.key-key.result c.requires.opcode c.key-key.ensures looks c.refusal.ensures c.in-Ok-None.ensures.reads (omega (arith, c.reads_since-in-Ok-None.ensures.reads, c.read_count-before.ensures.value)))
+    executes_quiet c.args.parts.now c.look.new.self (g.B.Nand.state c.args.board.now) (g.B.Nand.state c.look.new.board) c.args.request.now
+    (command_of c.args.request.now v) c.refusal.result into _ c.requires.servable c.look.ensures.same c.look.ensures.pages (ap (λ (o : Outcome). o.stopped) c.refusal.ensures)
+    (exist_none c.args.parts.now c.look.new.self old
+    (g.B.Nand.state c.look.new.board) c.args.request.now v into c.requires.servable.agrees c.look.ensures.same c.requires.servable.passed few c.reads_since-in-Ok-None.ensures.count
+    c.refusal.result c.reads_since-in-Ok-None.result c.key-key.result c.requires.opcode c.key-key.ensures looks c.refusal.ensures c.in-Ok-None.ensures.reads
+    (omega (arith, c.reads_since-in-Ok-None.ensures.reads, c.read_count-before.ensures.value)))
 
 pub returns-in-Err-clause-executes : goal.returns-in-Err-clause-executes
 returns-in-Err-clause-executes g c = λ v into.
-    executes_unread c.args.parts.now c.look.new.self (g.B.Nand.state c.args.board.now) (g.B.Nand.state c.look.new.board) c.args.request.now v into c.refusal-in-Err.result c.reads_since-in-Err.result c.requires.servable c.look.ensures.same
+    executes_unread c.args.parts.now c.look.new.self (g.B.Nand.state c.args.board.now)
+    (g.B.Nand.state c.look.new.board) c.args.request.now v into c.refusal-in-Err.result c.reads_since-in-Err.result c.requires.servable c.look.ensures.same
     c.refusal-in-Err.ensures c.read_count-before.ensures.faults c.in-Err.ensures.failing (omega (arith, c.reads_since-in-Err.ensures.reads, c.read_count-before.ensures.value))
 
 pub returns-in-Ok-Some-clause-only : goal.returns-in-Ok-Some-clause-only

@@ -38,11 +38,14 @@ returns-in-None-clause-executes g c = λ v into.
     let board = (g.B.Nand.state c.args.board.now) in
     let looks = subst (λ p. Looks c.args.parts.now board.pages c.args.key p) c.in-None.is r.looks in
     subst (λ (n : ℕ). Executes c.args.parts.now c.args.parts.now board board (command_of c.args.request.now v) c.refusal.result into n) (none_read board.reads)
-    (executes_quiet c.args.parts.now c.args.parts.now board board c.args.request.now (command_of c.args.request.now v) c.refusal.result into 0 r.servable refl refl (ap (λ (o : Outcome). o.stopped) c.refusal.ensures)
-    (delete_missing c.args.parts.now board c.args.request.now v c.args.key r.servable c.requires.opcode r.named c.known.ensures.key c.known.ensures.bytes c.args.parts.now into c.refusal.result _ looks refl c.refusal.ensures))
+    (executes_quiet c.args.parts.now c.args.parts.now board board c.args.request.now
+    (command_of c.args.request.now v) c.refusal.result into 0 r.servable refl refl (ap (λ (o : Outcome). o.stopped) c.refusal.ensures)
+    (delete_missing c.args.parts.now board c.args.request.now v c.args.key r.servable c.requires.opcode r.named
+    c.known.ensures.key c.known.ensures.bytes c.args.parts.now into c.refusal.result _ looks refl c.refusal.ensures))
 
 pub returns-in-None-clause-deletes : goal.returns-in-None-clause-deletes
-returns-in-None-clause-deletes g c = deletes_none c.args.parts.now (g.B.Nand.state c.args.board.now) c.args.key c.refusal.result (told_refused c.refusal.result 0x87 0 0 _ false c.refusal.ensures (λ e. omega (arith, e)))
+returns-in-None-clause-deletes g c = deletes_none c.args.parts.now (g.B.Nand.state c.args.board.now) c.args.key c.refusal.result
+    (told_refused c.refusal.result 0x87 0 0 _ false c.refusal.ensures (λ e. omega (arith, e)))
 
 pub returns-in-Some-clause-executes : goal.returns-in-Some-clause-executes
 returns-in-Some-clause-executes g c = λ v into.
@@ -51,7 +54,8 @@ returns-in-Some-clause-executes g c = λ v into.
     let after = g.B.Nand.state c.take_whole-answer.new.board in
     let looks = subst (λ p. Looks c.args.parts.now (g.B.Nand.state c.args.board.now).pages c.args.key p) c.in-Some.is r.looks in
     delete_came c.args.parts.now (g.B.Nand.state c.args.board.now) c.args.request.now v c.args.key r.servable c.requires.opcode r.named c.known.ensures.key c.known.ensures.bytes c.in-Some.place looks
-    c.take_whole-answer.result c.take_whole-answer.new.parts after _ into c.changed.result _ e.step (let few = e.spends.installs in omega (arith, few)) (record { up = e.step.reads.up; few = c.reads_since-in-Some.ensures.count }) e.stays e.stops c.changed.ensures
+    c.take_whole-answer.result c.take_whole-answer.new.parts after _ into c.changed.result _ e.step (let few = e.spends.installs in omega (arith, few))
+    (record { up = e.step.reads.up; few = c.reads_since-in-Some.ensures.count }) e.stays e.stops c.changed.ensures
 
 pub returns-in-Some-clause-deletes : goal.returns-in-Some-clause-deletes
 returns-in-Some-clause-deletes g c =

@@ -21,12 +21,14 @@ store_over-requires-clause-looked_up g c =
 pub returns-in-Ok-clause-executes : goal.returns-in-Ok-clause-executes
 returns-in-Ok-clause-executes g c = λ into.
     let e = c.store_over.ensures in
-    executes_behind c.args.parts.now c.look.new.self c.store_over.new.parts (g.B.Nand.state c.args.board.now) (g.B.Nand.state c.look.new.board) (g.B.Nand.state c.store_over.new.board) _ _ into c.store_over.result c.look.ensures.same c.in-Ok.ensures.reads
+    executes_behind c.args.parts.now c.look.new.self c.store_over.new.parts (g.B.Nand.state c.args.board.now) (g.B.Nand.state c.look.new.board)
+    (g.B.Nand.state c.store_over.new.board) _ _ into c.store_over.result c.look.ensures.same c.in-Ok.ensures.reads
     (store_is_other c.args.request.now c.requires.opcode) e.reads (omega (arith, e.told.0, c.read_count-before.ensures.value)) (e.executes into)
 
 pub returns-in-Err-clause-executes : goal.returns-in-Err-clause-executes
 returns-in-Err-clause-executes g c = λ into.
-    executes_unread c.args.parts.now c.look.new.self (g.B.Nand.state c.args.board.now) (g.B.Nand.state c.look.new.board) c.args.request.now c.args.value.now into c.refusal.result c.reads_since.result c.requires.servable c.look.ensures.same c.refusal.ensures
+    executes_unread c.args.parts.now c.look.new.self (g.B.Nand.state c.args.board.now)
+    (g.B.Nand.state c.look.new.board) c.args.request.now c.args.value.now into c.refusal.result c.reads_since.result c.requires.servable c.look.ensures.same c.refusal.ensures
     c.read_count-before.ensures.faults c.in-Err.ensures.failing (omega (arith, c.reads_since.ensures.reads, c.read_count-before.ensures.value))
 
 pub returns-in-Ok-clause-opens : goal.returns-in-Ok-clause-opens
@@ -47,8 +49,11 @@ returns-in-Ok-clause-quiet g c = λ zero whole none room.
     let mid = g.B.Nand.state c.look.new.board in
     let new = g.B.Nand.state c.store_over.new.board in
     let there = whole_looked c.args.parts.now c.look.new.self c.look.ensures.same whole in
-    let same = reads_behind c.args.parts.now c.look.new.self mid new c.key-key.result _ c.look.ensures.same c.key-key.ensures (e.stores.quiet zero there (room_looked c.args.parts.now c.look.new.self c.args.request.now.size c.look.ensures.same room)) none in
-    quiet_store_behind c.args.parts.now c.look.new.self (g.B.Nand.state c.args.board.now) mid new c.args.request.now.size c.key-key.result _ c.store_over.result.reads c.look.ensures.same c.in-Ok.ensures.reads c.key-key.ensures (e.stores.programs zero)
+    let same = reads_behind c.args.parts.now c.look.new.self mid new c.key-key.result _ c.look.ensures.same c.key-key.ensures
+    (e.stores.quiet zero there (room_looked c.args.parts.now c.look.new.self c.args.request.now.size c.look.ensures.same room)) none in
+    quiet_store_behind c.args.parts.now c.look.new.self
+    (g.B.Nand.state c.args.board.now) mid new c.args.request.now.size c.key-key.result _ c.store_over.result.reads c.look.ensures.same c.in-Ok.ensures.reads c.key-key.ensures
+    (e.stores.programs zero)
     (omega (arith, e.told.0, same, c.read_count-before.ensures.value, c.in-Ok.ensures.reads.within)) whole none room
 
 pub returns-in-Err-clause-quiet : goal.returns-in-Err-clause-quiet
@@ -68,7 +73,9 @@ returns-in-Err-clause-finishes g c = λ zero. absurd (told_refused c.refusal.res
 
 pub returns-in-Ok-clause-spends : goal.returns-in-Ok-clause-spends
 returns-in-Ok-clause-spends g c =
-    spends_store _ _ _ _ _ (ap (λ (d : Parts). d.log.shape) c.look.ensures.same) c.requires.servable.agrees.with.index.logs.is_shape (spends_reads _ _ _ _ 0 (omega arith) c.in-Ok.ensures.reads) c.store_over.ensures.spends
+    spends_store _ _ _ _ _ (ap (λ (d : Parts). d.log.shape) c.look.ensures.same) c.requires.servable.agrees.with.index.logs.is_shape
+    (spends_reads _ _ _ _ 0 (omega arith) c.in-Ok.ensures.reads) c.store_over.ensures.spends
 
 pub returns-in-Err-clause-spends : goal.returns-in-Err-clause-spends
-returns-in-Err-clause-spends g c = spends_failed c.args.parts.now (g.B.Nand.state c.args.board.now) (g.B.Nand.state c.look.new.board) c.requires.servable.agrees _ _ (omega arith) c.in-Err.ensures.failing
+returns-in-Err-clause-spends g c = spends_failed c.args.parts.now (g.B.Nand.state c.args.board.now)
+    (g.B.Nand.state c.look.new.board) c.requires.servable.agrees _ _ (omega arith) c.in-Err.ensures.failing

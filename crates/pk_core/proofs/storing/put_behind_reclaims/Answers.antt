@@ -3,7 +3,8 @@ use Rattle.pk_base.specs.Shape.{charge}
 use Rattle.pk_base.proofs.ShapeLemmas.{charge_most}
 use Rattle.pk_work.specs.Calls.{space_calls}
 use Rattle.pk_parts.specs.Spacing.{needs}
-use Rattle.pk_core.proofs.Stored.{can_behind, room_behind, numbers_behind, stores_behind, stores_failed, stays_behind, stays_failed, fresh_behind, fresh_failed, opens_behind, space_numbers, store_numbers}
+use Rattle.pk_core.proofs.Stored.{can_behind, room_behind, numbers_behind, stores_behind, stores_failed, stays_behind, stays_failed, fresh_behind, fresh_failed, opens_behind, space_numbers}
+use Rattle.pk_core.proofs.Stored.{store_numbers}
 use Rattle.pk_parts.proofs.Callings.{spends_within}
 use Rattle.pk_parts.proofs.StoreCalls.{spends_behind}
 use Rattle.pk_core.proofs.storing.put_behind_reclaims.Goals as goal
@@ -16,8 +17,10 @@ make_space-requires-clause-number g c = space_numbers c.args.parts.now (g.B.Nand
 
 pub put_found-requires-clause-can : goal.put_found-requires-clause-can
 put_found-requires-clause-can g c =
-    let e = c.in-Ok.ensures in
-    (can_behind c.args.parts.now c.make_space.new.self (g.B.Nand.state c.args.board.now) (g.B.Nand.state c.make_space.new.board) _ c.args.key c.args.value.now c.requires.can.0 e.stays e.none e.step, c.requires.can.1 ∙ ap (λ s. charge s (length c.args.value.now)) (sym e.stays.same_shape))
+    let e = c.in-Ok.ensures in (
+      can_behind c.args.parts.now c.make_space.new.self (g.B.Nand.state c.args.board.now) (g.B.Nand.state c.make_space.new.board) _ c.args.key c.args.value.now c.requires.can.0 e.stays e.none e.step,
+      c.requires.can.1 ∙ ap (λ s. charge s (length c.args.value.now)) (sym e.stays.same_shape),
+    )
 
 pub put_found-requires-clause-room : goal.put_found-requires-clause-room
 put_found-requires-clause-room g c =
@@ -43,14 +46,17 @@ returns-in-Ok-clause-stays g c = stays_behind c.put_found.result c.args.parts.no
 pub returns-in-Ok-clause-opens : goal.returns-in-Ok-clause-opens
 returns-in-Ok-clause-opens g c =
     let e = c.in-Ok.ensures in
-    let step = stores_behind c.args.parts.now c.make_space.new.self (g.B.Nand.state c.args.board.now) (g.B.Nand.state c.make_space.new.board) (space_calls c.args.parts.now.log.shape) c.args.key c.args.value.now c.requires.can.0 e.stays e.none e.step
+    let step = stores_behind c.args.parts.now c.make_space.new.self (g.B.Nand.state c.args.board.now) (g.B.Nand.state c.make_space.new.board)
+    (space_calls c.args.parts.now.log.shape) c.args.key c.args.value.now c.requires.can.0 e.stays e.none e.step
     c.put_found.new.parts (g.B.Nand.state c.put_found.new.board) c.put_found.result c.put_found.ensures.step in
-    opens_behind c.args.parts.now (g.B.Nand.state c.args.board.now) c.args.key c.args.value.now (charge c.args.parts.now.log.shape (length c.args.value.now)) c.requires.can.0 c.requires.no_room c.put_found.result c.put_found.new.parts (g.B.Nand.state c.put_found.new.board) _ step
+    opens_behind c.args.parts.now (g.B.Nand.state c.args.board.now) c.args.key c.args.value.now
+    (charge c.args.parts.now.log.shape (length c.args.value.now)) c.requires.can.0 c.requires.no_room c.put_found.result c.put_found.new.parts (g.B.Nand.state c.put_found.new.board) _ step
     (fresh_behind c.put_found.result c.args.parts.now c.make_space.new.self c.put_found.new.parts _ e.stays c.put_found.ensures.opens)
 
 pub returns-in-Err-clause-step : goal.returns-in-Err-clause-step
 returns-in-Err-clause-step g c =
-    stores_failed c.in-Err.fault c.args.parts.now c.make_space.new.self (g.B.Nand.state c.args.board.now) (g.B.Nand.state c.make_space.new.board) (space_calls c.args.parts.now.log.shape) _ c.args.key c.args.value.now c.requires.can.0 (omega arith) c.in-Err.ensures.step
+    stores_failed c.in-Err.fault c.args.parts.now c.make_space.new.self (g.B.Nand.state c.args.board.now) (g.B.Nand.state c.make_space.new.board)
+    (space_calls c.args.parts.now.log.shape) _ c.args.key c.args.value.now c.requires.can.0 (omega arith) c.in-Err.ensures.step
 
 pub returns-in-Err-clause-stays : goal.returns-in-Err-clause-stays
 returns-in-Err-clause-stays g c =
@@ -60,8 +66,10 @@ returns-in-Err-clause-stays g c =
 pub returns-in-Err-clause-opens : goal.returns-in-Err-clause-opens
 returns-in-Err-clause-opens g c =
     let e = c.in-Err.ensures in
-    let step = stores_failed c.in-Err.fault c.args.parts.now c.make_space.new.self (g.B.Nand.state c.args.board.now) (g.B.Nand.state c.make_space.new.board) (space_calls c.args.parts.now.log.shape) (space_calls c.args.parts.now.log.shape) c.args.key c.args.value.now c.requires.can.0 (omega arith) e.step in
-    opens_behind c.args.parts.now (g.B.Nand.state c.args.board.now) c.args.key c.args.value.now (charge c.args.parts.now.log.shape (length c.args.value.now)) c.requires.can.0 c.requires.no_room _ c.make_space.new.self (g.B.Nand.state c.make_space.new.board) _ step
+    let step = stores_failed c.in-Err.fault c.args.parts.now c.make_space.new.self (g.B.Nand.state c.args.board.now) (g.B.Nand.state c.make_space.new.board)
+    (space_calls c.args.parts.now.log.shape) (space_calls c.args.parts.now.log.shape) c.args.key c.args.value.now c.requires.can.0 (omega arith) e.step in
+    opens_behind c.args.parts.now (g.B.Nand.state c.args.board.now) c.args.key c.args.value.now
+    (charge c.args.parts.now.log.shape (length c.args.value.now)) c.requires.can.0 c.requires.no_room _ c.make_space.new.self (g.B.Nand.state c.make_space.new.board) _ step
     (fresh_failed c.in-Err.fault c.args.parts.now c.make_space.new.self e.stays)
 
 pub returns-in-Ok-clause-spends : goal.returns-in-Ok-clause-spends

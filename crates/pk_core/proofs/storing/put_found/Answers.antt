@@ -12,7 +12,8 @@ look-requires-clause-agrees g c = its_drive c.args.parts.now (g.B.Nand.state c.a
 
 pub put-requires-clause-can : goal.put-requires-clause-can
 put-requires-clause-can g c = (
-  found_can c.args.parts.now (g.B.Nand.state c.args.board.now).pages c.args.key c.args.value.now c.in-Ok.old c.in-Ok.ensures.looks c.look.new.self (g.B.Nand.state c.args.board.now) (g.B.Nand.state c.look.new.board) c.look.ensures.same refl c.look.ensures.pages c.look.ensures.ready c.requires.can.0,
+  found_can c.args.parts.now (g.B.Nand.state c.args.board.now).pages c.args.key c.args.value.now c.in-Ok.old c.in-Ok.ensures.looks c.look.new.self
+      (g.B.Nand.state c.args.board.now) (g.B.Nand.state c.look.new.board) c.look.ensures.same refl c.look.ensures.pages c.look.ensures.ready c.requires.can.0,
   c.requires.can.1 ∙ ap (λ (d : Parts). charge d.log.shape (length c.args.value.now)) (sym c.look.ensures.same),
 )
 
@@ -20,11 +21,13 @@ pub put-requires-clause-room : goal.put-requires-clause-room
 put-requires-clause-room g c = found_room c.args.parts.now c.look.new.self (length c.args.value.now) c.look.ensures.same c.requires.room
 
 pub put-requires-clause-number : goal.put-requires-clause-number
-put-requires-clause-number g c = found_numbers c.args.parts.now c.look.new.self (g.B.Nand.state c.args.board.now) (g.B.Nand.state c.look.new.board) c.look.ensures.same c.in-Ok.ensures.reads c.requires.number
+put-requires-clause-number g c = found_numbers c.args.parts.now c.look.new.self (g.B.Nand.state c.args.board.now)
+    (g.B.Nand.state c.look.new.board) c.look.ensures.same c.in-Ok.ensures.reads c.requires.number
 
 pub returns-in-Ok-clause-step : goal.returns-in-Ok-clause-step
 returns-in-Ok-clause-step g c =
-    found_stores c.put.result c.args.parts.now c.look.new.self c.put.new.self (g.B.Nand.state c.args.board.now) (g.B.Nand.state c.look.new.board) (g.B.Nand.state c.put.new.board) c.args.key c.args.value.now c.in-Ok.old
+    found_stores c.put.result c.args.parts.now c.look.new.self c.put.new.self (g.B.Nand.state c.args.board.now)
+    (g.B.Nand.state c.look.new.board) (g.B.Nand.state c.put.new.board) c.args.key c.args.value.now c.in-Ok.old
     c.look.ensures.same c.in-Ok.ensures.looks c.in-Ok.ensures.reads c.put.ensures.step
 
 pub returns-in-Ok-clause-stays : goal.returns-in-Ok-clause-stays
@@ -35,7 +38,8 @@ returns-in-Ok-clause-opens g c = opens_looked c.put.result c.args.parts.now c.lo
 
 pub returns-in-Err-clause-step : goal.returns-in-Err-clause-step
 returns-in-Err-clause-step g c =
-    found_unread c.args.parts.now c.look.new.self (g.B.Nand.state c.args.board.now) (g.B.Nand.state c.look.new.board) _ c.args.key c.args.value.now c.look.ensures.same c.read_count.ensures.faults c.in-Err.ensures.failing c.look.ensures.ready
+    found_unread c.args.parts.now c.look.new.self (g.B.Nand.state c.args.board.now)
+    (g.B.Nand.state c.look.new.board) _ c.args.key c.args.value.now c.look.ensures.same c.read_count.ensures.faults c.in-Err.ensures.failing c.look.ensures.ready
 
 pub returns-in-Err-clause-stays : goal.returns-in-Err-clause-stays
 returns-in-Err-clause-stays g c = between_same c.args.parts.now c.look.new.self c.look.ensures.same c.requires.can.0.few

@@ -1,5 +1,6 @@
 use Rattle.std.proofs.Common.{arith}
-use Rattle.pk_core.proofs.Whole.{wholes, fails_half, numbers_then, can_take_then, takes_whole, stays_whole, moves_whole, take_spends, takes_unmade, unmade_spends, take_makes_whole, takes_quietly, reads_quietly}
+use Rattle.pk_core.proofs.Whole.{wholes, fails_half, numbers_then, can_take_then, takes_whole, stays_whole, moves_whole, take_spends, takes_unmade, unmade_spends, take_makes_whole, takes_quietly}
+use Rattle.pk_core.proofs.Whole.{reads_quietly}
 use Rattle.pk_parts.proofs.ReadSteps.{running_stopped}
 use Rattle.pk_core.proofs.storing.take_whole.Goals as goal
 
@@ -31,7 +32,8 @@ returns-in-Ok-clause-step g c =
     let s0 = g.B.Nand.state c.args.board.now in
     let s1 = g.B.Nand.state c.make_whole.new.board in
     let can = c.requires.can in
-    takes_whole a b s0 s1 can.ready (wholes a b s0 s1 can.ready c.in-Ok.ensures.finishes c.in-Ok.ensures.rests) c.args.key c.args.old c.take_out.new.self (g.B.Nand.state c.take_out.new.board) c.take_out.result c.take_out.ensures.step
+    takes_whole a b s0 s1 can.ready (wholes a b s0 s1 can.ready c.in-Ok.ensures.finishes c.in-Ok.ensures.rests) c.args.key c.args.old c.take_out.new.self
+    (g.B.Nand.state c.take_out.new.board) c.take_out.result c.take_out.ensures.step
 
 pub returns-in-Ok-clause-stays : goal.returns-in-Ok-clause-stays
 returns-in-Ok-clause-stays g c =
@@ -63,12 +65,14 @@ returns-in-Ok-clause-spends g c =
 pub returns-in-Ok-clause-programs : goal.returns-in-Ok-clause-programs
 returns-in-Ok-clause-programs g c = λ none.
     let r = c.in-Ok.ensures.rests none in
-    takes_quietly c.args.parts.now c.make_whole.new.self (g.B.Nand.state c.args.board.now) (g.B.Nand.state c.make_whole.new.board) (g.B.Nand.state c.take_out.new.board) r.1 r.2 c.take_out.result c.args.key c.take_out.ensures.programs
+    takes_quietly c.args.parts.now c.make_whole.new.self (g.B.Nand.state c.args.board.now) (g.B.Nand.state c.make_whole.new.board)
+    (g.B.Nand.state c.take_out.new.board) r.1 r.2 c.take_out.result c.args.key c.take_out.ensures.programs
 
 pub returns-in-Ok-clause-quiet : goal.returns-in-Ok-clause-quiet
 returns-in-Ok-clause-quiet g c = λ none.
     let r = c.in-Ok.ensures.rests none in
-    reads_quietly c.args.parts.now c.make_whole.new.self (g.B.Nand.state c.args.board.now) (g.B.Nand.state c.make_whole.new.board) (g.B.Nand.state c.take_out.new.board) r.1 r.2 c.take_out.result c.args.key c.take_out.ensures.quiet
+    reads_quietly c.args.parts.now c.make_whole.new.self (g.B.Nand.state c.args.board.now) (g.B.Nand.state c.make_whole.new.board)
+    (g.B.Nand.state c.take_out.new.board) r.1 r.2 c.take_out.result c.args.key c.take_out.ensures.quiet
 
 -- ---- the second program failed
 
@@ -82,11 +86,13 @@ returns-in-Err-clause-step g c =
 
 pub returns-in-Err-clause-stays : goal.returns-in-Err-clause-stays
 returns-in-Err-clause-stays g c =
-    running_stopped Unit _ c.in-Err.fault (fails_half c.in-Err.fault c.args.parts.now c.make_whole.new.self (g.B.Nand.state c.args.board.now) (g.B.Nand.state c.make_whole.new.board) c.in-Err.ensures.finishes c.in-Err.ensures.rests).0
+    running_stopped Unit _ c.in-Err.fault
+    (fails_half c.in-Err.fault c.args.parts.now c.make_whole.new.self (g.B.Nand.state c.args.board.now) (g.B.Nand.state c.make_whole.new.board) c.in-Err.ensures.finishes c.in-Err.ensures.rests).0
 
 pub returns-in-Err-clause-moves : goal.returns-in-Err-clause-moves
 returns-in-Err-clause-moves g c =
-    running_stopped Unit _ c.in-Err.fault (fails_half c.in-Err.fault c.args.parts.now c.make_whole.new.self (g.B.Nand.state c.args.board.now) (g.B.Nand.state c.make_whole.new.board) c.in-Err.ensures.finishes c.in-Err.ensures.rests).0
+    running_stopped Unit _ c.in-Err.fault
+    (fails_half c.in-Err.fault c.args.parts.now c.make_whole.new.self (g.B.Nand.state c.args.board.now) (g.B.Nand.state c.make_whole.new.board) c.in-Err.ensures.finishes c.in-Err.ensures.rests).0
 
 pub returns-in-Err-clause-spends : goal.returns-in-Err-clause-spends
 returns-in-Err-clause-spends g c =

@@ -11,5 +11,9 @@ returns-else-is_of c = (
 )
 
 pub returns-in-Err : goal.returns-in-Err
-returns-in-Err c =
-    (_, refl, no_commit c.args.shape.now c.args.number c.args.index c.args.bytes.now c.decode.result c.in-Err.field-0 (omega (arith, c.ranges.number)) c.requires.index c.decode.ensures.read c.in-Err.is)
+returns-in-Err c = (
+  _,
+  refl,
+  no_commit c.args.shape.now c.args.number c.args.index c.args.bytes.now c.decode.result c.in-Err.field-0
+      (omega (arith, c.ranges.number)) c.requires.index c.decode.ensures.read c.in-Err.is,
+)

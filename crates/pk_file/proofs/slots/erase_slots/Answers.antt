@@ -18,7 +18,8 @@ loop-i-preserved c =
     record {
       pages = subst P (sym here) (row_more first i (pages_of c.args.slots.now.items) (pages_of now) room c.loop-i.invariant.pages);
       extents = c.set_slot.ensures.extents
-          ∙ (same_extent now (first + i) c.index.result.now (omega (arith, c.loop-i.invariant.count, c.requires, c.loop-i-test.true)) c.index.ensures _ c.erased-slot.ensures.extent ∙ c.loop-i.invariant.extents);
+          ∙ (same_extent now (first + i) c.index.result.now (omega (arith, c.loop-i.invariant.count, c.requires, c.loop-i-test.true)) c.index.ensures _ c.erased-slot.ensures.extent
+          ∙ c.loop-i.invariant.extents);
       count = c.set_slot.ensures.count ∙ c.loop-i.invariant.count;
       fit = λ shape h. c.set_slot.ensures.fit shape (c.loop-i.invariant.fit shape h) (erased_fits shape c.erased-slot.result c.erased-slot.ensures.page);
     }

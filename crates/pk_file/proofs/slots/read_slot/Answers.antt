@@ -1,6 +1,6 @@
 use Rattle.std.proofs.Common.{◌∙◌, length, ap, sym}
 use Rattle.pk_base.specs.Page.{Page}
-use Rattle.pk_nand.specs.Calls.{filled}
+use Rattle.pk_nand.specs.Operations.{filled}
 use Rattle.pk_nand.specs.Seen.{answer}
 use Rattle.pk_file.specs.Slots.{slot_page}
 use Rattle.pk_file.specs.Trims.{bytes_in}

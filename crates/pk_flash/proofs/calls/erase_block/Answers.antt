@@ -11,7 +11,8 @@ use Rattle.pk_flash.proofs.calls.erase_block.Goals as goal
 
 pub returns-in-None-clause-pages : goal.returns-in-None-clause-pages
 returns-in-None-clause-pages c =
-    row_erased (shape_or_none c.args.shape.now) c.args.block c.block_pages_of-count.result (states c.args.pages.now.items) (states c.choose_row.new.pages.items) c.block_pages_of-count.ensures.value c.requires
+    row_erased (shape_or_none c.args.shape.now) c.args.block c.block_pages_of-count.result
+    (states c.args.pages.now.items) (states c.choose_row.new.pages.items) c.block_pages_of-count.ensures.value c.requires
     c.block_pages_of-count.ensures.some (rw c.in-None.is at c.choose_row.ensures)
 
 pub returns-in-None-clause-flash : goal.returns-in-None-clause-flash
@@ -22,7 +23,8 @@ returns-in-None-clause-flash c flash =
 pub returns-in-None-clause-exact : goal.returns-in-None-clause-exact
 returns-in-None-clause-exact c = record {
   answer = search rules;
-  pages = λ _. row_outcome (shape_or_none c.args.shape.now) c.args.block c.block_pages_of-count.result (states c.args.pages.now.items) (states c.choose_row.new.pages.items) c.block_pages_of-count.ensures.value c.requires
+  pages = λ _. row_outcome (shape_or_none c.args.shape.now) c.args.block c.block_pages_of-count.result
+      (states c.args.pages.now.items) (states c.choose_row.new.pages.items) c.block_pages_of-count.ensures.value c.requires
       c.block_pages_of-count.ensures.some (left_of (option_copied c.args.left)) c.choose_row.ensures;
   noted = search rules;
   refused = grind (arith, common_steps);
@@ -31,7 +33,8 @@ returns-in-None-clause-exact c = record {
 pub returns-in-Some-clause-exact : goal.returns-in-Some-clause-exact
 returns-in-Some-clause-exact c = record {
   answer = search rules;
-  pages = λ _. row_outcome (shape_or_none c.args.shape.now) c.args.block c.block_pages_of-count.result (states c.args.pages.now.items) (states c.choose_row.new.pages.items) c.block_pages_of-count.ensures.value c.requires
+  pages = λ _. row_outcome (shape_or_none c.args.shape.now) c.args.block c.block_pages_of-count.result
+      (states c.args.pages.now.items) (states c.choose_row.new.pages.items) c.block_pages_of-count.ensures.value c.requires
       c.block_pages_of-count.ensures.some (left_of (option_copied c.args.left)) c.choose_row.ensures;
   noted = search rules;
   refused = grind (arith, common_steps);
@@ -40,7 +43,8 @@ returns-in-Some-clause-exact c = record {
 pub returns-in-Some-clause-left : goal.returns-in-Some-clause-left
 returns-in-Some-clause-left c =
     inl (
-      row_left (shape_or_none c.args.shape.now) c.args.block c.block_pages_of-count.result (states c.args.pages.now.items) (states c.choose_row.new.pages.items) c.block_pages_of-count.ensures.value c.requires
+      row_left (shape_or_none c.args.shape.now) c.args.block c.block_pages_of-count.result
+          (states c.args.pages.now.items) (states c.choose_row.new.pages.items) c.block_pages_of-count.ensures.value c.requires
           c.block_pages_of-count.ensures.some (left_of (option_copied c.args.left)) c.choose_row.ensures,
       ap (λ l. Some l) c.note.ensures.marks,
     )

@@ -10,7 +10,8 @@ loop-m-preserved g c =
     let m = c.m-item.result in
     let next = take_next c.args.moves.now c.loop-m.m-index m c.loop-m-test.true c.m-item.is in
     record {
-      left = c.add_left.ensures.left ∙ ap (λ (es : List Entry). es ++ entries_left heads (m ∷ [])) c.loop-m.invariant.left ∙ sym (ap (λ (ms : List Move). entries_left heads ms) next ∙ left_push heads _ m);
+      left = c.add_left.ensures.left ∙ ap (λ (es : List Entry). es ++ entries_left heads (m ∷ [])) c.loop-m.invariant.left
+          ∙ sym (ap (λ (ms : List Move). entries_left heads ms) next ∙ left_push heads _ m);
       few = omega arith;
       room = c.add_left.ensures.room ∙ c.loop-m.invariant.room;
     }

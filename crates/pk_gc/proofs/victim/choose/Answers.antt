@@ -13,7 +13,8 @@ unreachable-requires g c =
     let full = c.requires.1 in
     let some = some_victim c.args.shape.now c.args.live.now c.args.front.now c.requires.0 full in
     let new = c.close.ensures in
-    let closed : slice_get c.close.new.live.closed some.0 ≡ Some true = ap (λ (v : Values). slice_get v.closed some.0) new ∙ closed_behind c.args.shape.now c.args.live.now c.args.front.now c.requires.0 full some.0 some.1 in
+    let closed : slice_get c.close.new.live.closed some.0 ≡ Some true = ap (λ (v : Values). slice_get v.closed some.0) new
+    ∙ closed_behind c.args.shape.now c.args.live.now c.args.front.now c.requires.0 full some.0 some.1 in
     let same : count_of c.close.new.live some.0 ≡ count_of c.args.live.now some.0 = ap (λ (v : Values). count_of v some.0) new in
     let more : dense c.args.shape.now < count_of c.close.new.live some.0 = c.in-None-sparse.ensures some.0 closed in
     let few = some.2 in

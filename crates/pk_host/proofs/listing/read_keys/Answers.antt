@@ -1,6 +1,7 @@
-use Rattle.std.proofs.Common.{◌∙◌, sym, arith}
+use Rattle.std.proofs.Common.{◌∙◌, ℕ, List, length, sym, ap, arith}
 use Rattle.std.specs.Option.{option_copied}
 use Rattle.pk_nvme.specs.Command.{key_or_none}
+use Rattle.pk_model.specs.Answer.{item_bytes}
 use Rattle.pk_host.proofs.ReadLemmas.{stops, goes_on, too_short}
 use Rattle.pk_host.proofs.listing.read_keys.Goals as goal
 
@@ -11,4 +12,5 @@ pub returns-in-None : goal.returns-in-None
 returns-in-None c = stops _ _ _ _ _ _ c.loop-i.invariant (sym c.in-None.ensures)
 
 pub loop-i-preserved : goal.loop-i-preserved
-loop-i-preserved c = goes_on _ _ _ _ _ _ _ _ _ c.loop-i-test.true c.loop-i.invariant (sym c.in-Some.ensures) c.listed_size-at.ensures.size c.listed_size-at.ensures.most c.offer.ensures.keys c.offer.ensures.most
+loop-i-preserved c = goes_on _ _ _ _ _ _ _ _ _ c.loop-i-test.true c.loop-i.invariant (sym c.in-Some.ensures)
+    (c.listed_size-at.ensures.size ∙ ap (λ (bytes : List ℕ). length (item_bytes bytes)) c.bytes.ensures.value) c.listed_size-at.ensures.most c.offer.ensures.keys c.offer.ensures.most

@@ -4,7 +4,8 @@ use Rattle.pk_index.proofs.keys.few_pages.Goals as goal
 
 pub returns-clause-few : goal.returns-clause-few
 returns-clause-few g c =
-    let few = few_of_four c.args.levels.now.runs _ _ _ _ 1000000 c.known.ensures.levels.four (few_kept c.run.result.now _ c.run.ensures.run c.known-2.ensures.kept) (few_kept c.run-2.result.now _ c.run-2.ensures.run c.known-3.ensures.kept)
+    let few = few_of_four c.args.levels.now.runs _ _ _ _ 1000000 c.known.ensures.levels.four
+    (few_kept c.run.result.now _ c.run.ensures.run c.known-2.ensures.kept) (few_kept c.run-2.result.now _ c.run-2.ensures.run c.known-3.ensures.kept)
     (few_kept c.run-3.result.now _ c.run-3.ensures.run c.known-4.ensures.kept) (few_kept c.run-4.result.now _ c.run-4.ensures.run c.known-5.ensures.kept) in
     omega (arith, few)
 

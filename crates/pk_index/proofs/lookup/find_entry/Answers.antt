@@ -5,4 +5,5 @@ pub returns-in-Some-clause-found : goal.returns-in-Some-clause-found
 returns-in-Some-clause-found g c = λ top found logs stand. in_buffers c.args.log.now _ top found c.args.key.now c.in-Some.entry logs (c.in-Some.ensures {u = tt}).0 (c.in-Some.ensures {u = tt}).1
 
 pub returns-in-None-clause-found : goal.returns-in-None-clause-found
-returns-in-None-clause-found g c = if_ok _ _ c.lookup.result (λ e is top found logs stand. in_runs c.args.log.now _ top found c.args.key.now e logs (c.in-None.ensures {u = tt}) (is found.runs stand)) c.lookup.ensures.found
+returns-in-None-clause-found g c = if_ok _ _ c.lookup.result
+    (λ e is top found logs stand. in_runs c.args.log.now _ top found c.args.key.now e logs (c.in-None.ensures {u = tt}) (is found.runs stand)) c.lookup.ensures.found

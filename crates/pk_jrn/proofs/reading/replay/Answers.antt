@@ -45,5 +45,6 @@ loop-index-preserved g c =
     let f = found_page _ c.in-Ok-Some.page (sym c.in-Ok-Some.field-0-is ∙ found) in
     record {
       buffer = c.read_pair.ensures.buffer ∙ c.loop-index.invariant.buffer;
-      replaying = Replaying-next _ _ _ _ _ _ _ r c.read_pair.new.buf _ c.take_page.new.into (omega (arith, c.ranges.number)) inside (f.1 ∙ ap (λ (b : List ℕ). whole b) (sym (bytes f.0 f.1))) read c.if-not-take_page.ensures;
+      replaying = Replaying-next _ _ _ _ _ _ _ r c.read_pair.new.buf _ c.take_page.new.into (omega (arith, c.ranges.number)) inside
+          (f.1 ∙ ap (λ (b : List ℕ). whole b) (sym (bytes f.0 f.1))) read c.if-not-take_page.ensures;
     }

@@ -41,4 +41,6 @@ invariant_of-self g c =
     let f : slice_get hs page ≡ Some c.args.count = rw (← c.self.view_is) at c.requires in
     let h = slice_get_within hs page c.args.count f in
     let read = get_or_read cs (page / n) _ (block_of n c.self.inside.total page hs cs cl i h) c.index_mut-2.ensures.value 0 in
-    counted_set n c.self.inside.total _ _ hs cs cl page c.args.count 0 i h (omega arith) (get_or_from_slice_get hs page c.args.count 0 f) (omega (arith, get_or_from_slice_get hs page c.args.count 0 f, (counts_cover n c.self.inside.total page hs cs cl i h).1)) (omega (arith, read, get_or_from_slice_get hs page c.args.count 0 f, (counts_cover n c.self.inside.total page hs cs cl i h).0))
+    counted_set n c.self.inside.total _ _ hs cs cl page c.args.count 0 i h (omega arith) (get_or_from_slice_get hs page c.args.count 0 f)
+    (omega (arith, get_or_from_slice_get hs page c.args.count 0 f, (counts_cover n c.self.inside.total page hs cs cl i h).1))
+    (omega (arith, read, get_or_from_slice_get hs page c.args.count 0 f, (counts_cover n c.self.inside.total page hs cs cl i h).0))

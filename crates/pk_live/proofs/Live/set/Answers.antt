@@ -47,7 +47,8 @@ invariant_of-self g c =
     let room : page % n + c.args.count ≤ n = rw (← c.self.view_is) at c.requires.inside in
     let most : c.args.count ≤ 256 = omega (arith, room, i.small) in
     let read = get_or_read cs (page / n) _ (block_of n c.self.inside.total page hs cs cl i h) c.index_mut-2.ensures.value 0 in
-    counted_set n c.self.inside.total _ _ hs cs cl page 0 c.args.count i h most (get_or_from_slice_get hs page 0 0 f) (omega (arith, most, (counts_are_small n c.self.inside.total page hs cs cl i h).1)) (omega (arith, most, read, (counts_are_small n c.self.inside.total page hs cs cl i h).0))
+    counted_set n c.self.inside.total _ _ hs cs cl page 0 c.args.count i h most (get_or_from_slice_get hs page 0 0 f)
+    (omega (arith, most, (counts_are_small n c.self.inside.total page hs cs cl i h).1)) (omega (arith, most, read, (counts_are_small n c.self.inside.total page hs cs cl i h).0))
 
 pub overflow_cast-count : goal.overflow_cast-count
 overflow_cast-count g c =

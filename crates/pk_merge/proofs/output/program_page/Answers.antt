@@ -19,7 +19,9 @@ returns-in-Ok-clause-programmed g c =
     let keeps = rw (c.encode.ensures, c.shape.ensures, c.level.ensures, c.pages-index.ensures) at c.keep-lease.ensures in
     programs_page c.args.pins c.args.out.now (seen_all c.args.entries.now) _ c.args.arena.now _ _ c.keep-lease.result c.known.ensures.shape c.requires.may.place program keeps
     _ c.copy.result c.requires.may.output
-    (rw c.requires.ready.flash.size (page_exists c.args.out.now.shape (let least = c.known.ensures.shape.block_least in omega (arith, least)) c.args.out.now.blocks c.requires.may.output.exist (length c.args.out.now.firsts) c.requires.may.place))
+    (rw c.requires.ready.flash.size
+    (page_exists c.args.out.now.shape (let least = c.known.ensures.shape.block_least in omega (arith, least)) c.args.out.now.blocks c.requires.may.output.exist
+    (length c.args.out.now.firsts) c.requires.may.place))
     c.requires.may.content c.requires.may.pinned
     (c.push_page.ensures.added ∙ ap (λ (n : ℕ). with_page c.args.out.now c.copy.result c.keep-lease.result n) (sym (length-map c.args.entries.now seen)))
     (first_of c.args.entries.now c.index-entries-0.result c.copy.result c.requires.may.content.some c.index-entries-0.is (c.copy.ensures ∙ c.key.ensures))

@@ -11,34 +11,46 @@ use Rattle.pk_mirror.proofs.SpendLemmas.{took_spending, took_settled}
 use Rattle.pk_mirror.proofs.visiting.copy_all_missing.Goals as goal
 
 pub loop-i-init : goal.loop-i-init
-loop-i-init g c = visiting_begins IsPart HaveSame to_store STORE g.P.Port.state g.P.Port.took g.Q.Port.state g.Q.Port.took c.args.first.now c.args.second.now (g.met.P.Port.took_none c.args.first.now) (g.met.Q.Port.took_none c.args.second.now)
+loop-i-init g c = visiting_begins IsPart HaveSame to_store STORE g.P.Port.state g.P.Port.took g.Q.Port.state g.Q.Port.took c.args.first.now c.args.second.now
+    (g.met.P.Port.took_none c.args.first.now) (g.met.Q.Port.took_none c.args.second.now)
 
 pub copy_missing-requires-clause-alike : goal.copy_missing-requires-clause-alike
-copy_missing-requires-clause-alike g c = still_alike _ _ _ _ _ _ (g.met.P.Port.took_state _ _ _ c.loop-i.invariant.took_first.2) (g.met.Q.Port.took_state _ _ _ c.loop-i.invariant.took_second.2) c.requires.alike
+copy_missing-requires-clause-alike g c = still_alike _ _ _ _ _ _ (g.met.P.Port.took_state _ _ _ c.loop-i.invariant.took_first.2)
+    (g.met.Q.Port.took_state _ _ _ c.loop-i.invariant.took_second.2) c.requires.alike
 
 pub copy_missing-requires-clause-room : goal.copy_missing-requires-clause-room
-copy_missing-requires-clause-room g c = subst (λ (s : Shape). greatest s ≤ length c.loop-i.one) (sym (g.met.P.Port.took_state _ _ _ c.loop-i.invariant.took_first.2).shape) (omega (arith, c.requires.room, c.loop-i.auto.one))
+copy_missing-requires-clause-room g c = subst (λ (s : Shape). greatest s ≤ length c.loop-i.one)
+    (sym (g.met.P.Port.took_state _ _ _ c.loop-i.invariant.took_first.2).shape) (omega (arith, c.requires.room, c.loop-i.auto.one))
 
 pub loop-i-preserved : goal.loop-i-preserved
-loop-i-preserved g c = visiting_goes IsPart HaveSame to_store STORE g.P.Port.state g.P.Port.took g.Q.Port.state g.Q.Port.took g.met.P.Port.took_both g.met.Q.Port.took_both _ _ _ _ _ _ _ _ _ c.loop-i.invariant c.copy_missing.ensures.took_first c.in-Ok.ensures.stored c.copy_missing.ensures.keeps c.in-Ok.ensures.visits (take_more c.args.page.now c.loop-i.i [] (omega (arith, c.loop-i-test.true, c.len-i-end.ensures.count)) ∙ ap (λ (k : Key). take c.loop-i.i c.args.page.now ++ k ∷ []) (sym c.at.ensures))
+loop-i-preserved g c = visiting_goes IsPart HaveSame to_store STORE g.P.Port.state g.P.Port.took g.Q.Port.state g.Q.Port.took g.met.P.Port.took_both g.met.Q.Port.took_both
+    _ _ _ _ _ _ _ _ _ c.loop-i.invariant c.copy_missing.ensures.took_first c.in-Ok.ensures.stored c.copy_missing.ensures.keeps c.in-Ok.ensures.visits
+    (take_more c.args.page.now c.loop-i.i [] (omega (arith, c.loop-i-test.true, c.len-i-end.ensures.count)) ∙ ap (λ (k : Key). take c.loop-i.i c.args.page.now ++ k ∷ []) (sym c.at.ensures))
 
 pub returns-in-Err-clause-keeps : goal.returns-in-Err-clause-keeps
 returns-in-Err-clause-keeps g c = c.copy_missing.ensures.keeps ∙ c.loop-i.invariant.same
 
 pub returns-in-Err-clause-causes : goal.returns-in-Err-clause-causes
-returns-in-Err-clause-causes g c = cause_later (g.P.Port.state c.args.first.now) (g.P.Port.state c.loop-i.first) (g.P.Port.state c.copy_missing.new.first) (g.Q.Port.state c.args.second.now) (g.Q.Port.state c.loop-i.second) (g.Q.Port.state c.copy_missing.new.second) _ _ c.in-Err.error (g.met.P.Port.took_state _ _ _ c.loop-i.invariant.took_first.2) (g.met.Q.Port.took_state _ _ _ c.loop-i.invariant.took_second.2) c.in-Err.ensures.causes
+returns-in-Err-clause-causes g c = cause_later (g.P.Port.state c.args.first.now) (g.P.Port.state c.loop-i.first) (g.P.Port.state c.copy_missing.new.first)
+    (g.Q.Port.state c.args.second.now) (g.Q.Port.state c.loop-i.second) (g.Q.Port.state c.copy_missing.new.second) _ _ c.in-Err.error
+    (g.met.P.Port.took_state _ _ _ c.loop-i.invariant.took_first.2) (g.met.Q.Port.took_state _ _ _ c.loop-i.invariant.took_second.2) c.in-Err.ensures.causes
 
 pub returns-in-Err-clause-unread : goal.returns-in-Err-clause-unread
-returns-in-Err-clause-unread g c = fails_later IsPart HaveSame (g.P.Port.state c.args.first.now) (g.P.Port.state c.loop-i.first) (g.Q.Port.state c.args.second.now) (g.Q.Port.state c.loop-i.second) _ c.in-Err.error c.loop-i.invariant.same c.loop-i.invariant.visits c.in-Err.ensures.unread
+returns-in-Err-clause-unread g c = fails_later IsPart HaveSame (g.P.Port.state c.args.first.now) (g.P.Port.state c.loop-i.first)
+    (g.Q.Port.state c.args.second.now) (g.Q.Port.state c.loop-i.second) _ c.in-Err.error c.loop-i.invariant.same c.loop-i.invariant.visits c.in-Err.ensures.unread
 
 pub returns-in-Err-clause-took_first : goal.returns-in-Err-clause-took_first
 returns-in-Err-clause-took_first g c = asking_more g.P.Port.took g.met.P.Port.took_both _ _ _ c.loop-i.invariant.took_first c.copy_missing.ensures.took_first
 
 pub returns-in-Err-clause-took_second : goal.returns-in-Err-clause-took_second
-returns-in-Err-clause-took_second g c = took_spending IsPart to_store STORE g.Q.Port.state g.Q.Port.took g.met.Q.Port.took_both (g.P.Port.state c.args.first.now) (g.P.Port.state c.loop-i.first) _ _ _ c.loop-i.invariant.same (visiting_keeps IsPart HaveSame to_store STORE g.P.Port.state g.P.Port.took g.Q.Port.state g.Q.Port.took _ _ _ _ _ c.loop-i.invariant) c.loop-i.invariant.took_second c.copy_missing.ensures.took_second
+returns-in-Err-clause-took_second g c = took_spending IsPart to_store STORE g.Q.Port.state g.Q.Port.took g.met.Q.Port.took_both (g.P.Port.state c.args.first.now)
+    (g.P.Port.state c.loop-i.first) _ _ _ c.loop-i.invariant.same
+    (visiting_keeps IsPart HaveSame to_store STORE g.P.Port.state g.P.Port.took g.Q.Port.state g.Q.Port.took _ _ _ _ _ c.loop-i.invariant)
+    c.loop-i.invariant.took_second c.copy_missing.ensures.took_second
 
 pub returns-clause-visits : goal.returns-clause-visits
-returns-clause-visits g c = visiting_all IsPart HaveSame to_store STORE g.P.Port.state g.P.Port.took g.Q.Port.state g.Q.Port.took _ _ _ _ _ c.args.page.now (take_all c.loop-i.i c.args.page.now (omega (arith, c.loop-i-test.false, c.len-i-end.ensures.count))) c.loop-i.invariant
+returns-clause-visits g c = visiting_all IsPart HaveSame to_store STORE g.P.Port.state g.P.Port.took g.Q.Port.state g.Q.Port.took _ _ _ _ _ c.args.page.now
+    (take_all c.loop-i.i c.args.page.now (omega (arith, c.loop-i-test.false, c.len-i-end.ensures.count))) c.loop-i.invariant
 
 pub returns-clause-keeps : goal.returns-clause-keeps
 returns-clause-keeps g c = c.loop-i.invariant.same

@@ -7,7 +7,8 @@ use Rattle.pk_mirrorrun.proofs.Lending.{told_pair, said_lent}
 use Rattle.pk_mirrorrun.proofs.asking.ask.Goals as goal
 
 pub answer_pair-requires-clause-pair : goal.answer_pair-requires-clause-pair
-answer_pair-requires-clause-pair g c = told_pair c.args.mirror.now c.args.shape (g.B.Nand.state c.args.first.now) (g.C.Nand.state c.args.second.now) c.args.first_tally.now.faults c.args.second_tally.now.faults c.requires.mirror c.requires.first_map c.requires.second_map
+answer_pair-requires-clause-pair g c = told_pair c.args.mirror.now c.args.shape (g.B.Nand.state c.args.first.now)
+    (g.C.Nand.state c.args.second.now) c.args.first_tally.now.faults c.args.second_tally.now.faults c.requires.mirror c.requires.first_map c.requires.second_map
 
 pub returns-clause-said : goal.returns-clause-said
 returns-clause-said g c = on_ok_map c.answer_pair.result _ _ (λ said m held.
@@ -16,7 +17,8 @@ returns-clause-said g c = on_ok_map c.answer_pair.result _ _ (λ said m held.
     (standing (g.B.Nand.state c.answer_pair.new.first.board.now) (g.D.Engine.sight c.answer_pair.new.first.drive.now) c.answer_pair.new.first.tally.now.faults c.answer_pair.new.first.tally.now.halt)
     _
     (standing (g.C.Nand.state c.args.second.now) (g.E.Engine.sight c.args.second_drive.now) c.args.second_tally.now.faults c.args.second_tally.now.halt)
-    (standing (g.C.Nand.state c.answer_pair.new.second.board.now) (g.E.Engine.sight c.answer_pair.new.second.drive.now) c.answer_pair.new.second.tally.now.faults c.answer_pair.new.second.tally.now.halt)
+    (standing (g.C.Nand.state c.answer_pair.new.second.board.now)
+    (g.E.Engine.sight c.answer_pair.new.second.drive.now) c.answer_pair.new.second.tally.now.faults c.answer_pair.new.second.tally.now.halt)
     _
     m c.answer_pair.new.room.text
     (λ asked. ((asked.0.0, asked.0.1, asked.0.2.5), (asked.1.0, asked.1.1, asked.1.2.5)))

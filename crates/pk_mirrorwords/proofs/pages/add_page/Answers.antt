@@ -14,8 +14,10 @@ list_page-requires g c = c.requires.pair.pair
 pub add_keys-requires : goal.add_keys-requires
 add_keys-requires g c =
     let within = asks_within _ _ _ _ _ _ _ (listed_by c.list_page.new.page) _ c.in-Ok-true.ensures.asks c.requires.pair.pair c.requires.pair.map c.requires.pair.told in
-    page_room (g.P.Port.state c.args.first.now) (option_copied c.args.last) c.args.text.now.items c.requires.listed (λ m told. (asks_within _ _ _ _ _ _ _ (listed_by c.list_page.new.page) _ c.in-Ok-true.ensures.asks c.requires.pair.pair m told).0) c.list_page.new.page c.in-Ok-true.ensures.pages
-    (asked_some _ _ _ _ _ _ _ c.list_page.new.page c.in-Ok-true.field-0 c.in-Ok-true.field-0-test c.in-Ok-true.ensures.asks) c.args.shape.now c.known.ensures c.requires.shape c.requires.pair.limit_is c.args.text.now.room c.requires.room c.requires.pair.map c.requires.pair.told within.1
+    page_room (g.P.Port.state c.args.first.now) (option_copied c.args.last) c.args.text.now.items c.requires.listed
+    (λ m told. (asks_within _ _ _ _ _ _ _ (listed_by c.list_page.new.page) _ c.in-Ok-true.ensures.asks c.requires.pair.pair m told).0) c.list_page.new.page c.in-Ok-true.ensures.pages
+    (asked_some _ _ _ _ _ _ _ c.list_page.new.page c.in-Ok-true.field-0 c.in-Ok-true.field-0-test c.in-Ok-true.ensures.asks) c.args.shape.now
+    c.known.ensures c.requires.shape c.requires.pair.limit_is c.args.text.now.room c.requires.room c.requires.pair.map c.requires.pair.told within.1
 
 pub last_of-requires : goal.last_of-requires
 last_of-requires g c = asked_some _ _ _ _ _ _ _ c.list_page.new.page c.in-Ok-true.field-0 c.in-Ok-true.field-0-test c.in-Ok-true.ensures.asks
@@ -23,26 +25,32 @@ last_of-requires g c = asked_some _ _ _ _ _ _ _ c.list_page.new.page c.in-Ok-tru
 pub returns-in-Ok-true-clause-goes : goal.returns-in-Ok-true-clause-goes
 returns-in-Ok-true-clause-goes g c =
     let some : 0 < length c.list_page.new.page = asked_some _ _ _ _ _ _ _ c.list_page.new.page c.in-Ok-true.field-0 c.in-Ok-true.field-0-test c.in-Ok-true.ensures.asks in
-    goes_some (g.P.Port.state c.args.first.now) (option_copied c.args.last) c.args.text.now.items c.requires.listed (λ m told. (asks_within _ _ _ _ _ _ _ (listed_by c.list_page.new.page) _ c.in-Ok-true.ensures.asks c.requires.pair.pair m told).0) c.list_page.new.page c.in-Ok-true.ensures.pages
+    goes_some (g.P.Port.state c.args.first.now) (option_copied c.args.last) c.args.text.now.items c.requires.listed
+    (λ m told. (asks_within _ _ _ _ _ _ _ (listed_by c.list_page.new.page) _ c.in-Ok-true.ensures.asks c.requires.pair.pair m told).0) c.list_page.new.page c.in-Ok-true.ensures.pages
     c.last_of.result c.add_keys.new.text.items some c.last_of.ensures.last (ap (λ (t : RoomyList). t.items) c.add_keys.ensures.lines) c.add_keys.ensures.most c.last_of.ensures.text
     (page_falls (option_copied c.args.last) c.list_page.new.page c.last_of.result some c.last_of.ensures.last c.last_of.ensures.text c.requires.from c.in-Ok-true.ensures.above)
 
 pub returns-in-Ok-false-clause-goes : goal.returns-in-Ok-false-clause-goes
 returns-in-Ok-false-clause-goes g c =
-    goes_none (g.P.Port.state c.args.first.now) (option_copied c.args.last) c.args.text.now.items c.requires.listed (λ m told. (asks_within _ _ _ _ _ _ _ (listed_by c.list_page.new.page) _ c.in-Ok-false.ensures.asks c.requires.pair.pair m told).0)
+    goes_none (g.P.Port.state c.args.first.now) (option_copied c.args.last) c.args.text.now.items c.requires.listed
+    (λ m told. (asks_within _ _ _ _ _ _ _ (listed_by c.list_page.new.page) _ c.in-Ok-false.ensures.asks c.requires.pair.pair m told).0)
     c.in-Ok-false.field-0 c.in-Ok-false.field-0-test c.in-Ok-false.ensures.follows
 
 pub returns-in-Err-clause-fails : goal.returns-in-Err-clause-fails
-returns-in-Err-clause-fails g c = page_fails c.args.mirror.now _ _ _ _ c.in-Err.error c.in-Err.ensures.split.1 c.in-Err.ensures.causes (c.in-Err.ensures.unread c.requires.pair.map c.requires.pair.told)
+returns-in-Err-clause-fails g c = page_fails c.args.mirror.now _ _ _ _ c.in-Err.error c.in-Err.ensures.split.1 c.in-Err.ensures.causes
+    (c.in-Err.ensures.unread c.requires.pair.map c.requires.pair.told)
 
 pub returns-in-Ok-true-clause-pair : goal.returns-in-Ok-true-clause-pair
-returns-in-Ok-true-clause-pair g c = told_after c.args.mirror.now c.list_page.new.self _ _ _ _ _ c.requires.pair (g.met.P.Port.took_state _ _ _ c.list_page.ensures.took_first.2) c.list_page.ensures.pair c.list_page.ensures.keeps.first_keeps
+returns-in-Ok-true-clause-pair g c = told_after c.args.mirror.now c.list_page.new.self _ _ _ _ _ c.requires.pair
+    (g.met.P.Port.took_state _ _ _ c.list_page.ensures.took_first.2) c.list_page.ensures.pair c.list_page.ensures.keeps.first_keeps
 
 pub returns-in-Ok-false-clause-pair : goal.returns-in-Ok-false-clause-pair
-returns-in-Ok-false-clause-pair g c = told_after c.args.mirror.now c.list_page.new.self _ _ _ _ _ c.requires.pair (g.met.P.Port.took_state _ _ _ c.list_page.ensures.took_first.2) c.list_page.ensures.pair c.list_page.ensures.keeps.first_keeps
+returns-in-Ok-false-clause-pair g c = told_after c.args.mirror.now c.list_page.new.self _ _ _ _ _ c.requires.pair
+    (g.met.P.Port.took_state _ _ _ c.list_page.ensures.took_first.2) c.list_page.ensures.pair c.list_page.ensures.keeps.first_keeps
 
 pub returns-in-Err-clause-pair : goal.returns-in-Err-clause-pair
-returns-in-Err-clause-pair g c = told_after c.args.mirror.now c.list_page.new.self _ _ _ _ _ c.requires.pair (g.met.P.Port.took_state _ _ _ c.list_page.ensures.took_first.2) c.list_page.ensures.pair c.list_page.ensures.keeps.first_keeps
+returns-in-Err-clause-pair g c = told_after c.args.mirror.now c.list_page.new.self _ _ _ _ _ c.requires.pair
+    (g.met.P.Port.took_state _ _ _ c.list_page.ensures.took_first.2) c.list_page.ensures.pair c.list_page.ensures.keeps.first_keeps
 
 pub returns-in-Ok-true-clause-took_first : goal.returns-in-Ok-true-clause-took_first
 returns-in-Ok-true-clause-took_first g c = lists_ask g.P.Port.took _ _ (key_or_none (option_copied c.args.last)) c.list_page.ensures.took_first

@@ -8,7 +8,8 @@ use Rattle.pk_reclaim.proofs.step.reclaim_step.Goals as goal
 pub step-requires-clause-can : goal.step-requires-clause-can
 step-requires-clause-can g c =
     let may = c.requires.may in
-    let can = can_step c.args.log.now c.args.values.now c.args.pool.now c.args.job.now (g.B.Nand.state c.args.board.now) c.requires.ready (record { top = may.0; found = may.1; m = may.2; may = may.3 }) in
+    let can = can_step c.args.log.now c.args.values.now c.args.pool.now c.args.job.now
+    (g.B.Nand.state c.args.board.now) c.requires.ready (record { top = may.0; found = may.1; m = may.2; may = may.3 }) in
     rw (← c.log.view_is, ← c.values.view_is) at can
 
 pub step-requires-clause-blocks : goal.step-requires-clause-blocks
@@ -25,7 +26,8 @@ invariant_of-values g c =
     let e = c.step.ensures in
     let n = c.step.new in
     small_behind (record { shape = l.root.shape; root = l.root.root; next = l.installer; epoch = l.epoch; active = l.active; frozen = l.frozen; pending = seen_all l.pending.items })
-    (record { live = c.values.inside.live; open_block = c.values.inside.open_block }) c.args.pool.now n.pool c.args.job.now n.self n.live n.front n.active n.epoch (g.B.Nand.state c.args.board.now) (g.B.Nand.state n.board) c.step.result c.values.invariant (record {
+    (record { live = c.values.inside.live; open_block = c.values.inside.open_block }) c.args.pool.now n.pool c.args.job.now n.self n.live n.front n.active n.epoch
+    (g.B.Nand.state c.args.board.now) (g.B.Nand.state n.board) c.step.result c.values.invariant (record {
       ready = ready;
       then_ready = e.ready;
       shared = c.known.ensures;
@@ -47,7 +49,8 @@ returns-clause-does g c =
     let n = c.step.new in
     rw (← c.log.view_is, ← c.values.view_is)
     ((handed (record { shape = l.root.shape; root = l.root.root; next = l.installer; epoch = l.epoch; active = l.active; frozen = l.frozen; pending = seen_all l.pending.items })
-    (record { live = c.values.inside.live; open_block = c.values.inside.open_block }) c.args.pool.now n.pool c.args.job.now n.self n.live n.front n.active n.epoch (g.B.Nand.state c.args.board.now) (g.B.Nand.state n.board) c.step.result (record {
+    (record { live = c.values.inside.live; open_block = c.values.inside.open_block }) c.args.pool.now n.pool c.args.job.now n.self n.live n.front n.active n.epoch
+    (g.B.Nand.state c.args.board.now) (g.B.Nand.state n.board) c.step.result (record {
       ready = ready;
       then_ready = e.ready;
       shared = c.known.ensures;
@@ -69,7 +72,8 @@ returns-clause-same_log g c =
     let n = c.step.new in
     rw (← c.log.view_is)
     ((handed (record { shape = l.root.shape; root = l.root.root; next = l.installer; epoch = l.epoch; active = l.active; frozen = l.frozen; pending = seen_all l.pending.items })
-    (record { live = c.values.inside.live; open_block = c.values.inside.open_block }) c.args.pool.now n.pool c.args.job.now n.self n.live n.front n.active n.epoch (g.B.Nand.state c.args.board.now) (g.B.Nand.state n.board) c.step.result (record {
+    (record { live = c.values.inside.live; open_block = c.values.inside.open_block }) c.args.pool.now n.pool c.args.job.now n.self n.live n.front n.active n.epoch
+    (g.B.Nand.state c.args.board.now) (g.B.Nand.state n.board) c.step.result (record {
       ready = ready;
       then_ready = e.ready;
       shared = c.known.ensures;
@@ -91,7 +95,8 @@ returns-clause-grows g c =
     let n = c.step.new in
     rw (← c.log.view_is)
     ((handed (record { shape = l.root.shape; root = l.root.root; next = l.installer; epoch = l.epoch; active = l.active; frozen = l.frozen; pending = seen_all l.pending.items })
-    (record { live = c.values.inside.live; open_block = c.values.inside.open_block }) c.args.pool.now n.pool c.args.job.now n.self n.live n.front n.active n.epoch (g.B.Nand.state c.args.board.now) (g.B.Nand.state n.board) c.step.result (record {
+    (record { live = c.values.inside.live; open_block = c.values.inside.open_block }) c.args.pool.now n.pool c.args.job.now n.self n.live n.front n.active n.epoch
+    (g.B.Nand.state c.args.board.now) (g.B.Nand.state n.board) c.step.result (record {
       ready = ready;
       then_ready = e.ready;
       shared = c.known.ensures;
@@ -112,7 +117,8 @@ returns-clause-same_roots g c =
     let e = c.step.ensures in
     let n = c.step.new in
     (handed (record { shape = l.root.shape; root = l.root.root; next = l.installer; epoch = l.epoch; active = l.active; frozen = l.frozen; pending = seen_all l.pending.items })
-    (record { live = c.values.inside.live; open_block = c.values.inside.open_block }) c.args.pool.now n.pool c.args.job.now n.self n.live n.front n.active n.epoch (g.B.Nand.state c.args.board.now) (g.B.Nand.state n.board) c.step.result (record {
+    (record { live = c.values.inside.live; open_block = c.values.inside.open_block }) c.args.pool.now n.pool c.args.job.now n.self n.live n.front n.active n.epoch
+    (g.B.Nand.state c.args.board.now) (g.B.Nand.state n.board) c.step.result (record {
       ready = ready;
       then_ready = e.ready;
       shared = c.known.ensures;
@@ -134,7 +140,8 @@ returns-clause-unread g c =
     let n = c.step.new in
     rw (← c.log.view_is, ← c.values.view_is)
     ((handed (record { shape = l.root.shape; root = l.root.root; next = l.installer; epoch = l.epoch; active = l.active; frozen = l.frozen; pending = seen_all l.pending.items })
-    (record { live = c.values.inside.live; open_block = c.values.inside.open_block }) c.args.pool.now n.pool c.args.job.now n.self n.live n.front n.active n.epoch (g.B.Nand.state c.args.board.now) (g.B.Nand.state n.board) c.step.result (record {
+    (record { live = c.values.inside.live; open_block = c.values.inside.open_block }) c.args.pool.now n.pool c.args.job.now n.self n.live n.front n.active n.epoch
+    (g.B.Nand.state c.args.board.now) (g.B.Nand.state n.board) c.step.result (record {
       ready = ready;
       then_ready = e.ready;
       shared = c.known.ensures;
@@ -156,7 +163,8 @@ returns-clause-broken g c =
     let n = c.step.new in
     rw (← c.log.view_is, ← c.values.view_is)
     ((handed (record { shape = l.root.shape; root = l.root.root; next = l.installer; epoch = l.epoch; active = l.active; frozen = l.frozen; pending = seen_all l.pending.items })
-    (record { live = c.values.inside.live; open_block = c.values.inside.open_block }) c.args.pool.now n.pool c.args.job.now n.self n.live n.front n.active n.epoch (g.B.Nand.state c.args.board.now) (g.B.Nand.state n.board) c.step.result (record {
+    (record { live = c.values.inside.live; open_block = c.values.inside.open_block }) c.args.pool.now n.pool c.args.job.now n.self n.live n.front n.active n.epoch
+    (g.B.Nand.state c.args.board.now) (g.B.Nand.state n.board) c.step.result (record {
       ready = ready;
       then_ready = e.ready;
       shared = c.known.ensures;
@@ -177,7 +185,8 @@ returns-clause-sound g c =
     let e = c.step.ensures in
     let n = c.step.new in
     (handed (record { shape = l.root.shape; root = l.root.root; next = l.installer; epoch = l.epoch; active = l.active; frozen = l.frozen; pending = seen_all l.pending.items })
-    (record { live = c.values.inside.live; open_block = c.values.inside.open_block }) c.args.pool.now n.pool c.args.job.now n.self n.live n.front n.active n.epoch (g.B.Nand.state c.args.board.now) (g.B.Nand.state n.board) c.step.result (record {
+    (record { live = c.values.inside.live; open_block = c.values.inside.open_block }) c.args.pool.now n.pool c.args.job.now n.self n.live n.front n.active n.epoch
+    (g.B.Nand.state c.args.board.now) (g.B.Nand.state n.board) c.step.result (record {
       ready = ready;
       then_ready = e.ready;
       shared = c.known.ensures;
@@ -198,7 +207,8 @@ returns-clause-calls g c =
     let e = c.step.ensures in
     let n = c.step.new in
     (handed (record { shape = l.root.shape; root = l.root.root; next = l.installer; epoch = l.epoch; active = l.active; frozen = l.frozen; pending = seen_all l.pending.items })
-    (record { live = c.values.inside.live; open_block = c.values.inside.open_block }) c.args.pool.now n.pool c.args.job.now n.self n.live n.front n.active n.epoch (g.B.Nand.state c.args.board.now) (g.B.Nand.state n.board) c.step.result (record {
+    (record { live = c.values.inside.live; open_block = c.values.inside.open_block }) c.args.pool.now n.pool c.args.job.now n.self n.live n.front n.active n.epoch
+    (g.B.Nand.state c.args.board.now) (g.B.Nand.state n.board) c.step.result (record {
       ready = ready;
       then_ready = e.ready;
       shared = c.known.ensures;
@@ -219,7 +229,8 @@ returns-clause-rest g c =
     let e = c.step.ensures in
     let n = c.step.new in
     (handed (record { shape = l.root.shape; root = l.root.root; next = l.installer; epoch = l.epoch; active = l.active; frozen = l.frozen; pending = seen_all l.pending.items })
-    (record { live = c.values.inside.live; open_block = c.values.inside.open_block }) c.args.pool.now n.pool c.args.job.now n.self n.live n.front n.active n.epoch (g.B.Nand.state c.args.board.now) (g.B.Nand.state n.board) c.step.result (record {
+    (record { live = c.values.inside.live; open_block = c.values.inside.open_block }) c.args.pool.now n.pool c.args.job.now n.self n.live n.front n.active n.epoch
+    (g.B.Nand.state c.args.board.now) (g.B.Nand.state n.board) c.step.result (record {
       ready = ready;
       then_ready = e.ready;
       shared = c.known.ensures;

@@ -18,7 +18,8 @@ returns-in-Ok-clause-erases g c =
 pub returns-in-Ok-clause-behind : goal.returns-in-Ok-clause-behind
 returns-in-Ok-clause-behind g c =
     let f = c.requires.fits in
-    rw (c.in-Ok.ensures.ok, c.block_pages.ensures.value) ((erase_done c.root.ensures.erase c.args.shape.now (g.B.Nand.state c.args.board.now) c.args.beside f.0 c.known.ensures c.requires.ready f.1).behind)
+    rw (c.in-Ok.ensures.ok, c.block_pages.ensures.value)
+    ((erase_done c.root.ensures.erase c.args.shape.now (g.B.Nand.state c.args.board.now) c.args.beside f.0 c.known.ensures c.requires.ready f.1).behind)
 
 pub returns-in-Ok-clause-ready : goal.returns-in-Ok-clause-ready
 returns-in-Ok-clause-ready g c = rw (c.in-Ok.ensures.ok, c.block_pages.ensures.value) (ready_erased (g.B.Nand.state c.args.board.now) c.args.shape.now _ c.requires.ready)
@@ -37,7 +38,8 @@ returns-in-Err-clause-failed g c =
 pub returns-in-Err-clause-behind : goal.returns-in-Err-clause-behind
 returns-in-Err-clause-behind g c =
     let f = c.requires.fits in
-    (erase_left c.root.ensures.erase c.args.shape.now (g.B.Nand.state c.args.board.now) c.args.beside f.0 c.known.ensures c.requires.ready f.1 (g.B.Nand.state c.erase.new.self) (rw c.block_pages.ensures.value at c.in-Err.ensures.err)).behind
+    (erase_left c.root.ensures.erase c.args.shape.now (g.B.Nand.state c.args.board.now) c.args.beside f.0 c.known.ensures c.requires.ready f.1
+    (g.B.Nand.state c.erase.new.self) (rw c.block_pages.ensures.value at c.in-Err.ensures.err)).behind
 
 pub returns-in-Err-clause-ready : goal.returns-in-Err-clause-ready
 returns-in-Err-clause-ready g c = IsReady-erase_failed (g.B.Nand.state c.args.board.now) (g.B.Nand.state c.erase.new.self) c.args.shape.now _ c.in-Err.ensures.err c.requires.ready

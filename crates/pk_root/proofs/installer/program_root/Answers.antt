@@ -6,7 +6,8 @@ use Rattle.pk_root.proofs.installer.program_root.Goals as goal
 pub write_first-requires-clause-exists : goal.write_first-requires-clause-exists
 write_first-requires-clause-exists g c =
     let f = c.requires.fits in
-    exists c.args.root.now.shape (g.B.Nand.state c.args.board.now) c.args.page f.0 c.encode.new.into c.args.root.now.root (rw c.shape.ensures at c.known.ensures) c.requires.ready f.1 c.encode.ensures.again f.2
+    exists c.args.root.now.shape (g.B.Nand.state c.args.board.now) c.args.page f.0 c.encode.new.into c.args.root.now.root
+    (rw c.shape.ensures at c.known.ensures) c.requires.ready f.1 c.encode.ensures.again f.2
 
 pub write_first-requires-clause-even : goal.write_first-requires-clause-even
 write_first-requires-clause-even g c = let f = c.requires.fits in rw (shape_is _ _ c.requires.ready) f.1.possible.even
@@ -14,7 +15,9 @@ write_first-requires-clause-even g c = let f = c.requires.fits in rw (shape_is _
 pub write_first-requires-clause-room : goal.write_first-requires-clause-room
 write_first-requires-clause-room g c =
     let f = c.requires.fits in
-    rw (shape_is _ _ c.requires.ready) (room c.args.root.now.shape (g.B.Nand.state c.args.board.now) c.args.page f.0 c.encode.new.into c.args.root.now.root (rw c.shape.ensures at c.known.ensures) c.requires.ready f.1 c.encode.ensures.again f.2)
+    rw (shape_is _ _ c.requires.ready)
+    (room c.args.root.now.shape (g.B.Nand.state c.args.board.now) c.args.page f.0 c.encode.new.into c.args.root.now.root
+    (rw c.shape.ensures at c.known.ensures) c.requires.ready f.1 c.encode.ensures.again f.2)
 
 pub write_first-requires-clause-order : goal.write_first-requires-clause-order
 write_first-requires-clause-order g c = let f = c.requires.fits in rw (shape_is _ _ c.requires.ready) f.1.possible.order
@@ -31,7 +34,8 @@ returns-in-Ok-clause-installs g c =
       was = refl;
       program = rw c.encode.ensures.bytes at c.in-Ok.ensures.ok;
       then_next = refl;
-      fits = program_fits c.args.root.now.shape board c.args.page f.0 c.encode.new.into c.args.root.now.root is_shape c.requires.ready f.1 c.encode.ensures.again f.2 new c.in-Ok.ensures.ok c.encode.ensures.bytes
+      fits = program_fits c.args.root.now.shape board c.args.page f.0 c.encode.new.into c.args.root.now.root
+          is_shape c.requires.ready f.1 c.encode.ensures.again f.2 new c.in-Ok.ensures.ok c.encode.ensures.bytes
           c.in-Ok.ensures.cut c.in-Ok.ensures.written (rw (shape_is _ _ c.requires.ready) at c.in-Ok.ensures.order);
       cuts = reached_installs c.args.root.now.shape c.args.page f.0 c.encode.new.into c.args.root.now.root board.pages c.root.ensures.pair begun board new c.in-Ok.ensures.cuts;
     }

@@ -36,8 +36,10 @@ returns-in-Ok-clause-repeats g c =
       was = refl;
       program = made;
       then_next = refl;
-      fits = again_fits c.args.root.now.shape board c.args.page f.0 c.args.root.now.root is_shape f.1 new made (cut _ (again_start c.args.root.now.shape board c.args.page f.0 c.args.root.now.root is_shape f.1));
-      cuts = again_reached c.args.root.now.shape board c.args.page f.0 c.args.root.now.root is_shape f.1 c.root.ensures.pair new (cuts _ (again_start c.args.root.now.shape board c.args.page f.0 c.args.root.now.root is_shape f.1));
+      fits = again_fits c.args.root.now.shape board c.args.page f.0 c.args.root.now.root is_shape f.1 new made
+          (cut _ (again_start c.args.root.now.shape board c.args.page f.0 c.args.root.now.root is_shape f.1));
+      cuts = again_reached c.args.root.now.shape board c.args.page f.0 c.args.root.now.root is_shape f.1 c.root.ensures.pair new
+          (cuts _ (again_start c.args.root.now.shape board c.args.page f.0 c.args.root.now.root is_shape f.1));
     }
 
 pub returns-in-Ok-clause-behind : goal.returns-in-Ok-clause-behind
@@ -59,7 +61,8 @@ returns-in-Err-clause-failed g c =
       page = c.args.page;
       was = refl;
       failed = rw c.encode.ensures.bytes at c.in-Err.ensures.err;
-      cuts = again_went c.args.root.now.shape board c.args.page f.0 c.args.root.now.root is_shape f.1 c.root.ensures.pair new (cuts _ (again_start c.args.root.now.shape board c.args.page f.0 c.args.root.now.root is_shape f.1));
+      cuts = again_went c.args.root.now.shape board c.args.page f.0 c.args.root.now.root is_shape f.1 c.root.ensures.pair new
+          (cuts _ (again_start c.args.root.now.shape board c.args.page f.0 c.args.root.now.root is_shape f.1));
     }
 
 pub returns-in-Err-clause-behind : goal.returns-in-Err-clause-behind
@@ -68,7 +71,8 @@ returns-in-Err-clause-behind g c =
     let board = g.B.Nand.state c.args.board.now in
     let is_shape = rw c.shape.ensures at c.known.ensures in
     let cuts = rw c.encode.ensures.bytes at c.in-Err.ensures.cuts_err in
-    again_went_behind c.args.root.now.shape board c.args.page f.0 c.args.root.now.root is_shape f.1 _ (cuts _ (again_start c.args.root.now.shape board c.args.page f.0 c.args.root.now.root is_shape f.1))
+    again_went_behind c.args.root.now.shape board c.args.page f.0 c.args.root.now.root is_shape f.1 _
+    (cuts _ (again_start c.args.root.now.shape board c.args.page f.0 c.args.root.now.root is_shape f.1))
 
 pub returns-in-Ok-clause-ready : goal.returns-in-Ok-clause-ready
 returns-in-Ok-clause-ready g c = c.in-Ok.ensures.ready _ c.requires.ready

@@ -13,7 +13,8 @@ pub adopt_runs-requires-clause-four : goal.adopt_runs-requires-clause-four
 adopt_runs-requires-clause-four g c = runs_are_four c.args.root.now.shape c.args.root.now.root (rw c.shape.ensures at c.known.ensures) c.requires.root
 
 pub adopt_runs-requires-clause-may : goal.adopt_runs-requires-clause-may
-adopt_runs-requires-clause-may g c = may_runs c.args.root.now.shape c.args.root.now.root (rw c.shape.ensures at c.known.ensures) c.requires.root c.args.pool.now c.adopt_epochs.new.pool c.requires.unused c.adopt_epochs.ensures
+adopt_runs-requires-clause-may g c = may_runs c.args.root.now.shape c.args.root.now.root
+    (rw c.shape.ensures at c.known.ensures) c.requires.root c.args.pool.now c.adopt_epochs.new.pool c.requires.unused c.adopt_epochs.ensures
 
 pub returns-clause-named : goal.returns-clause-named
 returns-clause-named g c = names_owned c.args.root.now.root c.args.pool.now c.adopt_epochs.new.pool c.adopt_runs.new.pool c.adopt_epochs.ensures c.adopt_runs.ensures

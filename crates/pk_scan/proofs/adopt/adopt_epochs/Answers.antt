@@ -14,4 +14,5 @@ pub adopt_all-requires-in-Some : goal.adopt_all-requires-in-Some
 adopt_all-requires-in-Some g c =
     let is = c.newest.ensures ∙ two_is c.args.root.now.root.newest c.requires.two in
     let first = subst (λ (bs : List ℕ). Adopts Journal (is_among bs) (length bs) c.args.pool.now c.adopt_all.new.pool) is c.adopt_all.ensures in
-    subst (λ (bs : List ℕ). MayAdopt Journal bs c.adopt_all.new.pool) (sym (older_is c.args.root.now.root.older c.in-Some.older (sym c.in-Some.is ∙ c.older.ensures))) (may_back c.args.root.now.root.newest c.args.root.now.root.older c.requires.may first)
+    subst (λ (bs : List ℕ). MayAdopt Journal bs c.adopt_all.new.pool) (sym (older_is c.args.root.now.root.older c.in-Some.older (sym c.in-Some.is ∙ c.older.ensures)))
+    (may_back c.args.root.now.root.newest c.args.root.now.root.older c.requires.may first)

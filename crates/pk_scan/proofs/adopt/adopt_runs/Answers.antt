@@ -11,4 +11,5 @@ adopt_all-requires g c =
 pub loop-i-preserved : goal.loop-i-preserved
 loop-i-preserved g c =
     let at : c.loop-i.i + 1 - 1 ≡ c.loop-i.i = omega arith in
-    RunsAdopting-next _ _ _ _ c.loop-i.invariant c.blocks-in-loop-i.result.now c.adopt_all.new.pool (subst (λ (k : ℕ). slice_get c.args.root.now.root.runs k ≡ Some c.blocks-in-loop-i.result.now) at c.blocks-in-loop-i.ensures) c.adopt_all.ensures
+    RunsAdopting-next _ _ _ _ c.loop-i.invariant c.blocks-in-loop-i.result.now c.adopt_all.new.pool
+    (subst (λ (k : ℕ). slice_get c.args.root.now.root.runs k ≡ Some c.blocks-in-loop-i.result.now) at c.blocks-in-loop-i.ensures) c.adopt_all.ensures

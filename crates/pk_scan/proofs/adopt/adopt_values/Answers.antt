@@ -16,7 +16,8 @@ adopt-requires-clause-below g c =
     let s = settled c.args.pool.now c.args.live.now c.known.ensures.plan.is_shape c.requires.named in
     let inside : c.loop-block.block < c.args.pool.now.shape.blocks = rw c.blocks-block-end.ensures at c.loop-block-test.true in
     let within : c.loop-block.block < length c.args.live.now.closed = rw s.many inside in
-    room_left c.args.live.now c.args.pool.now c.loop-block.pool c.loop-block.block within c.loop-block.invariant (flag_at c.args.live.now.closed c.loop-block.block c.is_closed.result true within c.is_closed.ensures c.if-is_closed.true) s.none s.few
+    room_left c.args.live.now c.args.pool.now c.loop-block.pool c.loop-block.block within c.loop-block.invariant
+    (flag_at c.args.live.now.closed c.loop-block.block c.is_closed.result true within c.is_closed.ensures c.if-is_closed.true) s.none s.few
     (let least = c.known.ensures.plan.data_least in omega (arith, least))
 
 pub loop-block-preserved : goal.loop-block-preserved
@@ -26,10 +27,12 @@ loop-block-preserved g c =
     let within : c.loop-block.block < length c.args.live.now.closed = rw s.many inside in
     elim c.if-is_closed.branch [
       | then-is_closed w ↦
-          let spare = next_is_spare c.args.live.now c.args.pool.now c.loop-block.pool c.loop-block.block within c.loop-block.invariant (s.spare c.loop-block.block inside (sym c.is_closed.ensures ∙ w.if-is_closed.true)) in
+          let spare = next_is_spare c.args.live.now c.args.pool.now c.loop-block.pool c.loop-block.block within c.loop-block.invariant
+          (s.spare c.loop-block.block inside (sym c.is_closed.ensures ∙ w.if-is_closed.true)) in
           let closed = flag_at c.args.live.now.closed c.loop-block.block c.is_closed.result true within c.is_closed.ensures w.if-is_closed.true in
           subst (λ (q : Blocks). ValuesAdopting c.args.live.now c.args.pool.now q (c.loop-block.block + 1)) (sym w.pool-is)
-          (ValuesAdopting-next c.args.live.now c.args.pool.now c.loop-block.pool c.loop-block.block within c.loop-block.invariant w.adopt.new.self closed spare w.adopt.ensures.adopted w.adopt.ensures.counted w.adopt.ensures.fits)
+          (ValuesAdopting-next c.args.live.now c.args.pool.now c.loop-block.pool c.loop-block.block within
+          c.loop-block.invariant w.adopt.new.self closed spare w.adopt.ensures.adopted w.adopt.ensures.counted w.adopt.ensures.fits)
       | else-is_closed w ↦
           let passed = flag_at c.args.live.now.closed c.loop-block.block c.is_closed.result false within c.is_closed.ensures w.if-is_closed.false in
           subst (λ (q : Blocks). ValuesAdopting c.args.live.now c.args.pool.now q (c.loop-block.block + 1)) (sym w.pool-is)

@@ -16,8 +16,10 @@ returns-in-None-clause-held g c =
 pub returns-then-len-eq0-clause-err : goal.returns-then-len-eq0-clause-err
 returns-then-len-eq0-clause-err g c =
     let size : c.block_pages.result ≡ c.args.root.now.shape.block_pages = c.block_pages.ensures.value ∙ ap (λ (s : Shape). s.block_pages) c.shape.ensures in
-    let refused = subst (λ (n : ℕ). older_epoch c.args.root.now.shape (page_at (g.B.Nand.state c.args.board.now).pages) c.args.root.now.root ≡ Err (damaged (slice_index c.in-Some.pair 0 * n))) (sym size)
-    (older_without c.args.root.now.shape (g.B.Nand.state c.args.board.now).pages c.args.root.now.root c.in-Some.pair (sym c.in-Some.is ∙ c.older.ensures) c.in-Ok.field-0 c.replay.new.into (rw (c.shape.ensures, c.epoch.ensures) at c.in-Ok.ensures.replayed)
+    let refused = subst (λ (n : ℕ). older_epoch c.args.root.now.shape (page_at (g.B.Nand.state c.args.board.now).pages) c.args.root.now.root ≡ Err (damaged (slice_index c.in-Some.pair 0 * n)))
+    (sym size)
+    (older_without c.args.root.now.shape (g.B.Nand.state c.args.board.now).pages c.args.root.now.root c.in-Some.pair
+    (sym c.in-Some.is ∙ c.older.ensures) c.in-Ok.field-0 c.replay.new.into (rw (c.shape.ensures, c.epoch.ensures) at c.in-Ok.ensures.replayed)
     (sym c.len.ensures.len ∙ c.if-len-eq0.true)) in
     (refused, (_, c.in-Ok.ensures.reads))
 

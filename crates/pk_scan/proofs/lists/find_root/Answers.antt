@@ -12,4 +12,5 @@ pub returns-in-Ok-None-clause-board : goal.returns-in-Ok-None-clause-board
 returns-in-Ok-None-clause-board g c = stays_reads c.args.root.now.shape _ _ (_, c.in-Ok-None.ensures.ok) c.requires.ready
 
 pub returns-in-Err-clause-board : goal.returns-in-Err-clause-board
-returns-in-Err-clause-board g c = stays_ready_behind c.args.root.now.shape _ _ (rest_failed (g.B.Nand.state c.args.board.now) (g.B.Nand.state c.newest.new.board) c.in-Err.ensures.err.made _ c.in-Err.ensures.err.failed) c.requires.ready
+returns-in-Err-clause-board g c = stays_ready_behind c.args.root.now.shape _ _
+    (rest_failed (g.B.Nand.state c.args.board.now) (g.B.Nand.state c.newest.new.board) c.in-Err.ensures.err.made _ c.in-Err.ensures.err.failed) c.requires.ready

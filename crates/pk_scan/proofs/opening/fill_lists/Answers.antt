@@ -12,7 +12,8 @@ pub returns-in-Ok-read_lists-clause-finds : goal.returns-in-Ok-read_lists-clause
 returns-in-Ok-read_lists-clause-finds g c =
     let loads = c.in-Ok-read_lists.ensures.loads in (
       loads.0,
-      finds_lists _ _ c.args.memory.now.found _ c.read_lists.new.found loads.0 c.read_lists.ensures.kept c.find_root.ensures.shape refl refl c.find_root.ensures.board.pages c.in-Ok.ensures.found c.in-Ok.ensures.place c.in-Ok.ensures.grammar
+      finds_lists _ _ c.args.memory.now.found _ c.read_lists.new.found loads.0 c.read_lists.ensures.kept c.find_root.ensures.shape
+          refl refl c.find_root.ensures.board.pages c.in-Ok.ensures.found c.in-Ok.ensures.place c.in-Ok.ensures.grammar
           c.requires.awaits.levels_shape c.len.ensures.bound loads.1,
     )
 
@@ -26,13 +27,16 @@ returns-in-Ok-read_lists-clause-reads g c =
 
 pub returns-in-Err-read_lists-clause-err : goal.returns-in-Err-read_lists-clause-err
 returns-in-Err-read_lists-clause-err g c =
-    lists_refuse c.args.memory.now.found.root.shape c.in-Ok.page c.find_root.new.root.root (g.B.Nand.state c.args.board.now) c.in-Ok.ensures.found (g.B.Nand.state c.find_root.new.board) (_, c.in-Ok.ensures.reads) c.find_root.ensures.board.pages
+    lists_refuse c.args.memory.now.found.root.shape c.in-Ok.page c.find_root.new.root.root (g.B.Nand.state c.args.board.now) c.in-Ok.ensures.found
+    (g.B.Nand.state c.find_root.new.board) (_, c.in-Ok.ensures.reads) c.find_root.ensures.board.pages
     (g.B.Nand.state c.read_lists.new.board) c.in-Err-read_lists.error (rw c.find_root.ensures.shape at c.in-Err-read_lists.ensures.err)
 
 pub returns-in-Ok-read_lists-clause-board : goal.returns-in-Ok-read_lists-clause-board
 returns-in-Ok-read_lists-clause-board g c =
-    stays_both c.args.memory.now.found.root.shape (g.B.Nand.state c.args.board.now) (g.B.Nand.state c.find_root.new.board) (g.B.Nand.state c.read_lists.new.board) c.find_root.ensures.board (rw c.find_root.ensures.shape at c.read_lists.ensures.board)
+    stays_both c.args.memory.now.found.root.shape (g.B.Nand.state c.args.board.now) (g.B.Nand.state c.find_root.new.board)
+    (g.B.Nand.state c.read_lists.new.board) c.find_root.ensures.board (rw c.find_root.ensures.shape at c.read_lists.ensures.board)
 
 pub returns-in-Err-read_lists-clause-board : goal.returns-in-Err-read_lists-clause-board
 returns-in-Err-read_lists-clause-board g c =
-    stays_both c.args.memory.now.found.root.shape (g.B.Nand.state c.args.board.now) (g.B.Nand.state c.find_root.new.board) (g.B.Nand.state c.read_lists.new.board) c.find_root.ensures.board (rw c.find_root.ensures.shape at c.read_lists.ensures.board)
+    stays_both c.args.memory.now.found.root.shape (g.B.Nand.state c.args.board.now) (g.B.Nand.state c.find_root.new.board)
+    (g.B.Nand.state c.read_lists.new.board) c.find_root.ensures.board (rw c.find_root.ensures.shape at c.read_lists.ensures.board)

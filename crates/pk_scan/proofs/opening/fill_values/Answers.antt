@@ -9,7 +9,7 @@ use Rattle.pk_nand.specs.Counts.{after_reads}
 use Rattle.pk_model.specs.Values.{values_of}
 use Rattle.pk_steps.specs.Under.{places}
 use Rattle.pk_walk.specs.Walking.{most_read}
-use Rattle.pk_scan.specs.Opening.{PartNotOpened, ReadsValues}
+use Rattle.pk_scan.specs.OpeningParts.{PartNotOpened, ReadsValues}
 use Rattle.pk_scan.specs.Reads.{value_reads}
 use Rattle.pk_live.proofs.Nothing.{Lives-none}
 use Rattle.pk_scan.specs.Adopts.{owned_blocks, NamesOwned}
@@ -23,7 +23,8 @@ named_now shape root old new is owned = subst (λ (p : Blocks). NamesOwned root 
 pub returns-in-Ok-clause-owned : goal.returns-in-Ok-clause-owned
 returns-in-Ok-clause-owned g c =
     record {
-      named_owned = named_now c.args.memory.now.found.root.shape c.args.memory.now.found.root.root c.args.memory.now.found.pool c.adopt_blocks.new.pool c.requires.awaits.pool_unused c.adopt_blocks.ensures.named;
+      named_owned = named_now c.args.memory.now.found.root.shape c.args.memory.now.found.root.root
+          c.args.memory.now.found.pool c.adopt_blocks.new.pool c.requires.awaits.pool_unused c.adopt_blocks.ensures.named;
       journal = c.adopt_blocks.ensures.journal;
       meta = c.adopt_blocks.ensures.meta;
       values = c.adopt_blocks.ensures.values;
@@ -32,7 +33,8 @@ returns-in-Ok-clause-owned g c =
 pub returns-in-Err-clause-owned : goal.returns-in-Err-clause-owned
 returns-in-Err-clause-owned g c =
     record {
-      named_owned = named_now c.args.memory.now.found.root.shape c.args.memory.now.found.root.root c.args.memory.now.found.pool c.adopt_blocks.new.pool c.requires.awaits.pool_unused c.adopt_blocks.ensures.named;
+      named_owned = named_now c.args.memory.now.found.root.shape c.args.memory.now.found.root.root
+          c.args.memory.now.found.pool c.adopt_blocks.new.pool c.requires.awaits.pool_unused c.adopt_blocks.ensures.named;
       journal = c.adopt_blocks.ensures.journal;
       meta = c.adopt_blocks.ensures.meta;
       values = c.adopt_blocks.ensures.values;
@@ -43,11 +45,15 @@ read_values-requires-clause-left g c =
     let f = c.args.memory.now.found in
     let found = c.requires.held.0 in
     let held = c.requires.held.1 in
-    let flash = (g.B.Nand.state c.args.board.now).pages in
-    (places found [], left_to_give f.root.shape flash f.root.root f.active f.frozen f.epoch f.arena f.levels found held c.args.memory.now.walk c.requires.awaits.starts, rw c.shape.ensures (places_are f.root.shape flash f.root.root found held.finds))
+    let flash = (g.B.Nand.state c.args.board.now).pages in (
+      places found [],
+      left_to_give f.root.shape flash f.root.root f.active f.frozen f.epoch f.arena f.levels found held c.args.memory.now.walk c.requires.awaits.starts,
+      rw c.shape.ensures (places_are f.root.shape flash f.root.root found held.finds),
+    )
 
 pub read_values-requires-clause-none : goal.read_values-requires-clause-none
-read_values-requires-clause-none g c = rw (c.shape.ensures, c.requires.awaits.none_live) (Lives-none c.args.memory.now.found.root.shape (owned_blocks c.adopt_blocks.new.pool) (rw c.shape.ensures at c.known.ensures))
+read_values-requires-clause-none g c = rw (c.shape.ensures, c.requires.awaits.none_live)
+    (Lives-none c.args.memory.now.found.root.shape (owned_blocks c.adopt_blocks.new.pool) (rw c.shape.ensures at c.known.ensures))
 
 pub returns-in-Ok-clause-finds : goal.returns-in-Ok-clause-finds
 returns-in-Ok-clause-finds g c found held =
@@ -55,7 +61,8 @@ returns-in-Ok-clause-finds g c found held =
     let old = g.B.Nand.state c.args.board.now in
     let left = left_to_give f.root.shape old.pages f.root.root f.active f.frozen f.epoch f.arena f.levels found held c.args.memory.now.walk c.requires.awaits.starts in
     let pool = c.adopt_blocks.new.pool in
-    let same = owned_named f.root.shape f.root.root (rw c.shape.ensures at c.known.ensures) c.requires.awaits.grammar pool (named_now f.root.shape f.root.root f.pool pool c.requires.awaits.pool_unused c.adopt_blocks.ensures.named) in
+    let same = owned_named f.root.shape f.root.root (rw c.shape.ensures at c.known.ensures) c.requires.awaits.grammar pool
+    (named_now f.root.shape f.root.root f.pool pool c.requires.awaits.pool_unused c.adopt_blocks.ensures.named) in
     let read = subst (λ (s : Shape). ReadsValues s old.pages (owned_blocks pool) c.read_values.new.live (places found [])) c.shape.ensures (c.in-Ok.ensures.read (places found []) left).values in
     record {
       values = record {
@@ -75,6 +82,9 @@ returns-in-Err-clause-err g c found held =
     let new = g.B.Nand.state c.read_values.new.board in
     let left = left_to_give f.root.shape old.pages f.root.root f.active f.frozen f.epoch f.arena f.levels found held c.args.memory.now.walk c.requires.awaits.starts in
     let pool = c.adopt_blocks.new.pool in
-    let same = owned_named f.root.shape f.root.root (rw c.shape.ensures at c.known.ensures) c.requires.awaits.grammar pool (named_now f.root.shape f.root.root f.pool pool c.requires.awaits.pool_unused c.adopt_blocks.ensures.named) in
-    subst (λ (part : Result (List (Key × List ℕ)) Refusal). PartNotOpened part old new c.in-Err.error) (values_same f.root.shape (owned_blocks pool) (named f.root.root) same (page_at old.pages) [] (places found []))
-    (subst (λ (s : Shape). PartNotOpened (values_of s (page_at old.pages) (owned_blocks pool) [] (places found [])) old new c.in-Err.error) c.shape.ensures (c.in-Err.ensures.err (places found []) left))
+    let same = owned_named f.root.shape f.root.root (rw c.shape.ensures at c.known.ensures) c.requires.awaits.grammar pool
+    (named_now f.root.shape f.root.root f.pool pool c.requires.awaits.pool_unused c.adopt_blocks.ensures.named) in
+    subst (λ (part : Result (List (Key × List ℕ)) Refusal). PartNotOpened part old new c.in-Err.error)
+    (values_same f.root.shape (owned_blocks pool) (named f.root.root) same (page_at old.pages) [] (places found []))
+    (subst (λ (s : Shape). PartNotOpened (values_of s (page_at old.pages) (owned_blocks pool) [] (places found [])) old new c.in-Err.error) c.shape.ensures
+    (c.in-Err.ensures.err (places found []) left))

@@ -24,7 +24,8 @@ pub fill_values-requires-clause-held : goal.fill_values-requires-clause-held
 fill_values-requires-clause-held g c =
     let finds = c.in-Ok-fill_lists.ensures.finds in (
       finds.0,
-      held_behind c.args.shape c.in-Ok.memory.found.root.shape c.fill_lists.new.memory.found c.in-Ok.ensures.nothing.root_shape c.fill_lists.ensures.shape (g.B.Nand.state c.args.board.now) (g.B.Nand.state c.fill_lists.new.board) c.fill_lists.ensures.board.pages
+      held_behind c.args.shape c.in-Ok.memory.found.root.shape c.fill_lists.new.memory.found c.in-Ok.ensures.nothing.root_shape c.fill_lists.ensures.shape
+          (g.B.Nand.state c.args.board.now) (g.B.Nand.state c.fill_lists.new.board) c.fill_lists.ensures.board.pages
           c.args.frames c.in-Ok.memory.found refl finds.0 finds.1,
     )
 
@@ -32,11 +33,15 @@ pub adopt_values-requires : goal.adopt_values-requires
 adopt_values-requires g c =
     let l = c.fill_lists.new.memory.found in
     let finds = c.in-Ok-fill_lists.ensures.finds in
-    let held = held_behind c.args.shape c.in-Ok.memory.found.root.shape l c.in-Ok.ensures.nothing.root_shape c.fill_lists.ensures.shape (g.B.Nand.state c.args.board.now) (g.B.Nand.state c.fill_lists.new.board) c.fill_lists.ensures.board.pages
+    let held = held_behind c.args.shape c.in-Ok.memory.found.root.shape l c.in-Ok.ensures.nothing.root_shape c.fill_lists.ensures.shape
+    (g.B.Nand.state c.args.board.now) (g.B.Nand.state c.fill_lists.new.board) c.fill_lists.ensures.board.pages
     c.args.frames c.in-Ok.memory.found refl finds.0 finds.1 in
     let root_is = ap (λ m. m.found.root) c.fill_values.ensures.kept in
     let lives = rw root_is at (c.in-Ok-fill_values.ensures.finds finds.0 held).values.lives in
-    record { named = may_adopt_values l.root.shape l.root.root (unused l.root.shape) c.fill_values.new.memory.found.pool c.fill_values.new.memory.found.live (places finds.0 []) refl c.fill_values.ensures.owned.named_owned lives }
+    record {
+      named = may_adopt_values l.root.shape l.root.root (unused l.root.shape) c.fill_values.new.memory.found.pool c.fill_values.new.memory.found.live
+          (places finds.0 []) refl c.fill_values.ensures.owned.named_owned lives;
+    }
 
 pub returns-in-Ok-fill_values-clause-opened : goal.returns-in-Ok-fill_values-clause-opened
 returns-in-Ok-fill_values-clause-opened g c =
@@ -45,7 +50,8 @@ returns-in-Ok-fill_values-clause-opened g c =
     let old = g.B.Nand.state c.args.board.now in
     let now = g.B.Nand.state c.fill_lists.new.board in
     let nothing = c.in-Ok.ensures.nothing in
-    let held = held_behind c.args.shape c.in-Ok.memory.found.root.shape l nothing.root_shape c.fill_lists.ensures.shape old now c.fill_lists.ensures.board.pages c.args.frames c.in-Ok.memory.found refl finds.0 finds.1 in
+    let held = held_behind c.args.shape c.in-Ok.memory.found.root.shape l nothing.root_shape c.fill_lists.ensures.shape
+    old now c.fill_lists.ensures.board.pages c.args.frames c.in-Ok.memory.found refl finds.0 finds.1 in
     let v = c.in-Ok-fill_values.ensures.finds finds.0 held in
     let kept = ap (λ m. m.found) c.fill_values.ensures.kept in
     let root_is = ap (λ f. f.root) kept in
@@ -56,11 +62,13 @@ returns-in-Ok-fill_values-clause-opened g c =
     let values = rw root_is at v.values in
     let live = c.fill_values.new.memory.found.live in
     let owned = c.fill_values.ensures.owned in
-    let owners = has_owners l.root.shape l.root.root is_shape (subst (λ (s : Shape). is_root s l.root.root ≡ true) (sym c.fill_lists.ensures.shape) finds.1.grammar) live (places finds.0 []) values.lives
+    let owners = has_owners l.root.shape l.root.root is_shape
+    (subst (λ (s : Shape). is_root s l.root.root ≡ true) (sym c.fill_lists.ensures.shape) finds.1.grammar) live (places finds.0 []) values.lives
     (unused l.root.shape) c.fill_values.new.memory.found.pool c.adopt_values.new.pool refl fits owned.named_owned c.adopt_values.ensures.adopted owned.values c.known-in-Ok-fill_values.ensures.size
     owned.journal owned.meta c.adopt_values.ensures.few in
     subst (λ f. FoundOnFlash c.args.shape old.pages c.args.frames (record f { pool = c.adopt_values.new.pool })) (sym kept)
-    (scan_opened c.args.shape c.in-Ok.memory.found.root.shape l nothing.root_shape c.fill_lists.ensures.shape old now c.fill_lists.ensures.board.pages c.args.frames c.in-Ok.memory.found refl finds.0 finds.1
+    (scan_opened c.args.shape c.in-Ok.memory.found.root.shape l nothing.root_shape c.fill_lists.ensures.shape
+    old now c.fill_lists.ensures.board.pages c.args.frames c.in-Ok.memory.found refl finds.0 finds.1
     nothing live values c.adopt_values.new.pool owners (c.adopt_values.ensures.counted ∙ many_closed l.root.shape is_shape (named l.root.root) live (places finds.0 []) values.lives)
     c.fill_values.new.memory.found.keys v.keys_are)
 
@@ -70,12 +78,14 @@ returns-in-Ok-fill_values-clause-reads g c =
     let finds = c.in-Ok-fill_lists.ensures.finds in
     let old = g.B.Nand.state c.args.board.now in
     let now = g.B.Nand.state c.fill_lists.new.board in
-    let held = held_behind c.args.shape c.in-Ok.memory.found.root.shape l c.in-Ok.ensures.nothing.root_shape c.fill_lists.ensures.shape old now c.fill_lists.ensures.board.pages c.args.frames c.in-Ok.memory.found refl finds.0 finds.1 in
+    let held = held_behind c.args.shape c.in-Ok.memory.found.root.shape l c.in-Ok.ensures.nothing.root_shape
+    c.fill_lists.ensures.shape old now c.fill_lists.ensures.board.pages c.args.frames c.in-Ok.memory.found refl finds.0 finds.1 in
     let v = c.in-Ok-fill_values.ensures.finds finds.0 held in
     let kept = ap (λ m. m.found) c.fill_values.ensures.kept in
     let root_is = ap (λ f. f.root) kept in
     let levels_are = ap (λ f. f.levels) kept in
-    scan_reads c.args.shape c.in-Ok.memory.found.root.shape l c.in-Ok.ensures.nothing.root_shape c.fill_lists.ensures.shape old now c.fill_lists.ensures.board.pages c.args.frames c.in-Ok.memory.found refl finds.0 finds.1
+    scan_reads c.args.shape c.in-Ok.memory.found.root.shape l c.in-Ok.ensures.nothing.root_shape c.fill_lists.ensures.shape
+    old now c.fill_lists.ensures.board.pages c.args.frames c.in-Ok.memory.found refl finds.0 finds.1
     c.in-Ok.ensures.nothing c.fill_values.new.memory.found.live (rw root_is at v.values) (g.B.Nand.state c.fill_values.new.board) c.in-Ok-fill_lists.ensures.reads (rw (root_is, levels_are) at v.reads)
 
 pub returns-in-Err-fill_values-clause-err : goal.returns-in-Err-fill_values-clause-err
@@ -84,15 +94,19 @@ returns-in-Err-fill_values-clause-err g c =
     let finds = c.in-Ok-fill_lists.ensures.finds in
     let old = g.B.Nand.state c.args.board.now in
     let now = g.B.Nand.state c.fill_lists.new.board in
-    let held = held_behind c.args.shape c.in-Ok.memory.found.root.shape l c.in-Ok.ensures.nothing.root_shape c.fill_lists.ensures.shape old now c.fill_lists.ensures.board.pages c.args.frames c.in-Ok.memory.found refl finds.0 finds.1 in
-    scan_refuses c.args.shape c.in-Ok.memory.found.root.shape l c.in-Ok.ensures.nothing.root_shape c.fill_lists.ensures.shape old now c.fill_lists.ensures.board.pages c.args.frames c.in-Ok.memory.found refl finds.0 finds.1 (_, c.in-Ok-fill_lists.ensures.reads)
+    let held = held_behind c.args.shape c.in-Ok.memory.found.root.shape l c.in-Ok.ensures.nothing.root_shape
+    c.fill_lists.ensures.shape old now c.fill_lists.ensures.board.pages c.args.frames c.in-Ok.memory.found refl finds.0 finds.1 in
+    scan_refuses c.args.shape c.in-Ok.memory.found.root.shape l c.in-Ok.ensures.nothing.root_shape c.fill_lists.ensures.shape old
+    now c.fill_lists.ensures.board.pages c.args.frames c.in-Ok.memory.found refl finds.0 finds.1 (_, c.in-Ok-fill_lists.ensures.reads)
     (g.B.Nand.state c.fill_values.new.board) c.in-Err-fill_values.error (c.in-Err-fill_values.ensures.err finds.0 held)
 
 pub returns-in-Err-clause-err : goal.returns-in-Err-clause-err
 returns-in-Err-clause-err g c = reads_none (g.B.Nand.state c.args.board.now)
 
 pub returns-in-Ok-fill_values-clause-rest : goal.returns-in-Ok-fill_values-clause-rest
-returns-in-Ok-fill_values-clause-rest g c = rest_both (g.B.Nand.state c.args.board.now) (g.B.Nand.state c.fill_lists.new.board) (g.B.Nand.state c.fill_values.new.board) c.fill_lists.ensures.board.rest c.fill_values.ensures.board.rest
+returns-in-Ok-fill_values-clause-rest g c = rest_both (g.B.Nand.state c.args.board.now) (g.B.Nand.state c.fill_lists.new.board)
+    (g.B.Nand.state c.fill_values.new.board) c.fill_lists.ensures.board.rest c.fill_values.ensures.board.rest
 
 pub returns-in-Err-fill_values-clause-rest : goal.returns-in-Err-fill_values-clause-rest
-returns-in-Err-fill_values-clause-rest g c = rest_both (g.B.Nand.state c.args.board.now) (g.B.Nand.state c.fill_lists.new.board) (g.B.Nand.state c.fill_values.new.board) c.fill_lists.ensures.board.rest c.fill_values.ensures.board.rest
+returns-in-Err-fill_values-clause-rest g c = rest_both (g.B.Nand.state c.args.board.now) (g.B.Nand.state c.fill_lists.new.board)
+    (g.B.Nand.state c.fill_values.new.board) c.fill_lists.ensures.board.rest c.fill_values.ensures.board.rest

@@ -1,6 +1,6 @@
 use Rattle.std.proofs.Common.{◌≡◌, ℕ, List, true, take}
 use Rattle.pk_base.specs.Entry.{Entry}
-use Rattle.pk_meta.specs.Page.{IsMetaPage}
+use Rattle.pk_meta.specs.PageChecks.{IsMetaPage}
 use Rattle.pk_scan.specs.Runs.{are_put}
 use Rattle.pk_scan.proofs.pages.are_put.Given as goal
 

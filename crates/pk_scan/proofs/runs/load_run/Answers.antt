@@ -6,8 +6,10 @@ add_blocks-requires g c = room_for_blocks c.args.into.now c.args.blocks.now c.ar
 
 pub read_pages-requires-clause-awaits : goal.read_pages-requires-clause-awaits
 read_pages-requires-clause-awaits g c =
-    awaits_pages c.args.into.now c.add_blocks.new.into c.args.blocks.now c.args.pins c.args.count _ c.args.arena.now c.known.ensures.shape c.requires.may.is_empty c.add_blocks.ensures.added c.requires.may.exist c.requires.may.few c.requires.may.places c.requires.may.page_bytes c.requires.may.free
+    awaits_pages c.args.into.now c.add_blocks.new.into c.args.blocks.now c.args.pins c.args.count _ c.args.arena.now c.known.ensures.shape
+    c.requires.may.is_empty c.add_blocks.ensures.added c.requires.may.exist c.requires.may.few c.requires.may.places c.requires.may.page_bytes c.requires.may.free
     (c.add_blocks.ensures.stands _ _ _ (empty_stands c.args.into.now _ _ c.known.ensures.shape c.requires.may.is_empty))
 
 pub returns-clause-loads : goal.returns-clause-loads
-returns-clause-loads g c = loads_behind c.args.pins _ c.args.blocks.now c.args.arena.now c.read_pages.new.arena c.args.into.now c.add_blocks.new.into c.read_pages.new.into c.requires.may.is_empty c.add_blocks.ensures.added c.read_pages.ensures.loads
+returns-clause-loads g c = loads_behind c.args.pins _ c.args.blocks.now c.args.arena.now c.read_pages.new.arena c.args.into.now
+    c.add_blocks.new.into c.read_pages.new.into c.requires.may.is_empty c.add_blocks.ensures.added c.read_pages.ensures.loads

@@ -23,14 +23,16 @@ returns-then-is_owned g c taken lives =
 pub returns-then-overlaps : goal.returns-then-overlaps
 returns-then-overlaps g c taken lives =
     let told = c.is_owned.ensures ∙ ap (λ (n : ℕ). list_any (λ b. b == c.args.place.page / n) (owned_blocks c.args.pool.now)) c.block_pages.ensures.value in
-    let over = subst (λ (k : ℕ). IsTrue c.overlaps.result ↔ ((p : ℕ) × (c.args.place.page ≤ p) × (p < c.args.place.page + k) × IsLive c.args.live.now p)) c.charge-count.ensures.value c.overlaps.ensures in
+    let over = subst (λ (k : ℕ). IsTrue c.overlaps.result ↔ ((p : ℕ) × (c.args.place.page ≤ p) × (p < c.args.place.page + k) × IsLive c.args.live.now p))
+    c.charge-count.ensures.value c.overlaps.ensures in
     overlap_refuses c.args.shape.now (owned_blocks c.args.pool.now) c.args.live.now taken c.args.place c.page_count.ensures.shape c.requires.place lives c.is_owned.result c.overlaps.result told
     c.if-is_owned.false over c.if-overlaps.true
 
 pub returns : goal.returns
 returns g c taken lives =
     let told = c.is_owned.ensures ∙ ap (λ (n : ℕ). list_any (λ b. b == c.args.place.page / n) (owned_blocks c.args.pool.now)) c.block_pages.ensures.value in
-    let over = subst (λ (k : ℕ). IsTrue c.overlaps.result ↔ ((p : ℕ) × (c.args.place.page ≤ p) × (p < c.args.place.page + k) × IsLive c.args.live.now p)) c.charge-count.ensures.value c.overlaps.ensures in
+    let over = subst (λ (k : ℕ). IsTrue c.overlaps.result ↔ ((p : ℕ) × (c.args.place.page ≤ p) × (p < c.args.place.page + k) × IsLive c.args.live.now p))
+    c.charge-count.ensures.value c.overlaps.ensures in
     let used =
     c.blocks_used.ensures.value
     ∙ ap (λ (n : ℕ). count_by (λ b. b) c.args.live.now.closed + cond (count_of c.args.live.now (c.args.place.page / n) == 0) 1 0) c.block_pages.ensures.value in

@@ -24,7 +24,11 @@ returns-clause-taken g c is_true taken key lives =
     let passed = sym (c.has_room.ensures taken lives) ∙ c.if-not-has_room.false in
     let new =
     c.close.ensures ∙ ap (λ (v : Values). record v { closed = set v.closed (c.args.place.page / c.block_pages.result) true }) c.set.ensures
-    ∙ ap (λ (k : ℕ). record c.args.live.now { heads = set c.args.live.now.heads c.args.place.page k; closed = set c.args.live.now.closed (c.args.place.page / c.block_pages.result) true }) c.charge.ensures.value
-    ∙ ap (λ (n : ℕ). record c.args.live.now { heads = set c.args.live.now.heads c.args.place.page (charge c.args.shape.now c.args.place.len); closed = set c.args.live.now.closed (c.args.place.page / n) true })
+    ∙ ap (λ (k : ℕ). record c.args.live.now { heads = set c.args.live.now.heads c.args.place.page k; closed = set c.args.live.now.closed (c.args.place.page / c.block_pages.result) true })
+    c.charge.ensures.value
+    ∙ ap (λ (n : ℕ). record c.args.live.now {
+      heads = set c.args.live.now.heads c.args.place.page (charge c.args.shape.now c.args.place.len);
+      closed = set c.args.live.now.closed (c.args.place.page / n) true;
+    })
     c.block_pages.ensures.value in
     Lives-more c.args.shape.now (owned_blocks c.args.pool.now) c.args.live.now taken c.args.place c.block_pages.ensures.shape c.requires.place lives key passed c.close.new.self new

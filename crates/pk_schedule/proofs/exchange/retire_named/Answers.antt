@@ -9,7 +9,8 @@ pub returns-in-Some-clause-left : goal.returns-in-Some-clause-left
 returns-in-Some-clause-left g c =
     let two : length c.in-Some.blocks ≡ 2 = assumption (c.well_formed, c.retire_epoch.lifetimes) in
     rw c.in-Some.is
-    (ap freed c.retire_epoch.ensures.left ∙ left_and_freed Journal c.args.pool.now (slice_index c.in-Some.blocks 0 ∷ slice_index c.in-Some.blocks 1 ∷ []) ∙ ap (given_back (freed c.args.pool.now)) (two_are c.in-Some.blocks two))
+    (ap freed c.retire_epoch.ensures.left ∙ left_and_freed Journal c.args.pool.now (slice_index c.in-Some.blocks 0 ∷ slice_index c.in-Some.blocks 1 ∷ [])
+    ∙ ap (given_back (freed c.args.pool.now)) (two_are c.in-Some.blocks two))
 
 pub returns-in-Some-clause-fits : goal.returns-in-Some-clause-fits
 returns-in-Some-clause-fits g c = λ flash fits. freed_fits c.retire_epoch.new.pool flash (c.retire_epoch.ensures.fits flash (unfreed_fits c.args.pool.now flash fits))

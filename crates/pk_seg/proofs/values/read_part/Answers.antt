@@ -1,6 +1,6 @@
 use Rattle.std.proofs.Common.{◌∙◌, ◌+◌, ◌-◌, ap, arith, drop, length, take}
 use Rattle.pk_base.specs.Page.{Page}
-use Rattle.pk_nand.specs.Calls.{filled}
+use Rattle.pk_nand.specs.Operations.{filled}
 use Rattle.pk_seg.proofs.Readings.{length-part, straight_piece}
 use Rattle.pk_seg.proofs.values.read_part.Goals as goal
 

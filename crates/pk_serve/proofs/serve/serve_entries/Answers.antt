@@ -39,7 +39,8 @@ returns-in-Err-clause-runs g c =
       consumes = consumes-quits _ _ _ c.loop-taken.taken c.loop-taken.invariant.consumed _ _ c.in-Err.end e.quits;
       ends = λ shape frames start stands none.
           let w = c.loop-taken.invariant.looping shape frames start stands none in
-          Finish-quits shape frames start _ _ (g.B.Nand.state c.serve_next.new.board) _ (D.sight c.serve_next.new.drive) _ (bytes_of c.serve_next.new.held.heads) c.loop-taken.taken w (omega arith) c.in-Err.end c.loop-taken.invariant.in_faults
+          Finish-quits shape frames start _ _ (g.B.Nand.state c.serve_next.new.board) _ (D.sight c.serve_next.new.drive) _
+          (bytes_of c.serve_next.new.held.heads) c.loop-taken.taken w (omega arith) c.in-Err.end c.loop-taken.invariant.in_faults
           (elim e.open [ inl f ↦ inl f | inr o ↦ inr (ap D.sight o.1, ap bytes_of o.2) ]) e.quits;
       blames = blames-then _ _ _ c.in-Err.end c.loop-taken.invariant.in_faults c.loop-taken.invariant.runs_on.quiet e.blames;
     }

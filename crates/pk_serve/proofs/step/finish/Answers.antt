@@ -32,7 +32,8 @@ pub returns-in-Err-give-2-clause-fails : goal.returns-in-Err-give-2-clause-fails
 returns-in-Err-give-2-clause-fails g c =
     let e = c.in-Ok.ensures in
     record {
-      fault = faulted-then (g.B.Nand.state c.args.board.now) (g.B.Nand.state c.give.new.board) (g.B.Nand.state c.give-2.new.board) c.in-Err-give-2.end (quiet-then _ _ _ e.runs_on.quiet c.in-Ok-give.ensures.quiet)
+      fault = faulted-then (g.B.Nand.state c.args.board.now) (g.B.Nand.state c.give.new.board)
+          (g.B.Nand.state c.give-2.new.board) c.in-Err-give-2.end (quiet-then _ _ _ e.runs_on.quiet c.in-Ok-give.ensures.quiet)
           c.in-Err-give-2.ensures.fault;
       breaks = breaks_data _ _ _ _ (bytes_of c.args.held.now.heads) c.args.head c.args.bytes.now e.serves e.none _ _ c.in-Err-give-2.end c.in-Ok-give.ensures.posts c.in-Err-give-2.ensures.breaks;
     }

@@ -10,7 +10,8 @@ pub returns-in-Err-clause-breaks : goal.returns-in-Err-clause-breaks
 returns-in-Err-clause-breaks g c =
     let heads = c.args.heads.now in
     let i = c.loop-head.head-index in
-    breaks_second _ _ _ (bytes_of (take i heads)) _ (bytes_of (drop (suc i) heads)) (bytes_of heads) c.in-Err.end (bytes_of-all heads i c.loop-head-test.true) c.loop-head.invariant.posts c.in-Err.ensures.breaks
+    breaks_second _ _ _ (bytes_of (take i heads)) _ (bytes_of (drop (suc i) heads)) (bytes_of heads) c.in-Err.end
+    (bytes_of-all heads i c.loop-head-test.true) c.loop-head.invariant.posts c.in-Err.ensures.breaks
 
 pub loop-head-preserved : goal.loop-head-preserved
 loop-head-preserved g c =
@@ -26,4 +27,5 @@ loop-head-preserved g c =
     }
 
 pub returns-in-Err-clause-fault : goal.returns-in-Err-clause-fault
-returns-in-Err-clause-fault g c = faulted-then (g.B.Nand.state c.args.board.now) (g.B.Nand.state c.loop-head.board) (g.B.Nand.state c.give.new.board) c.in-Err.end c.loop-head.invariant.quiet c.in-Err.ensures.fault
+returns-in-Err-clause-fault g c = faulted-then (g.B.Nand.state c.args.board.now) (g.B.Nand.state c.loop-head.board)
+    (g.B.Nand.state c.give.new.board) c.in-Err.end c.loop-head.invariant.quiet c.in-Err.ensures.fault

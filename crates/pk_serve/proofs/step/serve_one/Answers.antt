@@ -9,8 +9,8 @@ use Rattle.pk_serve.proofs.Skipping.{stands_value, reaches_value, went_value}
 use Rattle.pk_serve.proofs.Blaming.{quiet-then, quiet-flash}
 use Rattle.pk_serve.proofs.Finishing.{keeps_record, breaks_record}
 use Rattle.pk_serve.proofs.Parting.{faulted-then, runs_on-then}
-use Rattle.pk_serve.proofs.Giving.{rose_from}
 use Rattle.pk_serve.proofs.Counting.{unworn_few}
+use Rattle.pk_nand.proofs.Effects.{rose_from}
 use Rattle.pk_serve.proofs.step.serve_one.Goals as goal
 
 pub returns-in-Err-clause-stops : goal.returns-in-Err-clause-stops
@@ -22,7 +22,8 @@ returns-then-outcome-clause-stops g c = λ v is.
     let T : Shape → Type 0 = λ s. IsValue s c.args.entry.now.request.opcode c.args.entry.now.request.size c.args.value.now v in
     let same : c.args.shape.now ≡ shape_of (g.B.Nand.state c.prepare.new.board) = sym (ap shape_or_none (c.in-Ok.ensures.rest.takes.shape ∙ c.requires.has_room.shape_is)) in
     stops_in _ _ _ _ _ (bytes_of c.args.held.now.heads) _ c.args.entry.now.before _ c.in-Ok.ensures.keeps
-    (went_value _ _ _ (g.D.Engine.sight c.exec-outcome.new.self) (command_of c.args.entry.now.request c.args.value.now) v (subst T same is) (e.cuts_stopped c.if-outcome.true)) e.up _ e.reads (e.stop c.if-outcome.true) e.calls
+    (went_value _ _ _ (g.D.Engine.sight c.exec-outcome.new.self) (command_of c.args.entry.now.request c.args.value.now) v (subst T same is) (e.cuts_stopped c.if-outcome.true)) e.up _ e.reads
+    (e.stop c.if-outcome.true) e.calls
 
 pub returns-in-Ok-finish-clause-serves : goal.returns-in-Ok-finish-clause-serves
 returns-in-Ok-finish-clause-serves g c = λ v is.
@@ -33,8 +34,10 @@ returns-in-Ok-finish-clause-serves g c = λ v is.
     serves_all _ _ _ _ _ (bytes_of c.args.held.now.heads) _ c.args.entry.now.before _ c.in-Ok.ensures.keeps _ _ _ (c.args.entry.now.before + 1) refl
     (reaches_value _ _ _ (g.D.Engine.sight c.exec-outcome.new.self) (command_of c.args.entry.now.request c.args.value.now) v has (e.cuts c.if-outcome.false))
     (stands_value _ _ _ _ (command_of c.args.entry.now.request c.args.value.now) v has _ _ (e.stands c.if-outcome.false))
-    e.rest e.up (λ h. e.unread h c.if-outcome.false) (λ h. (e.sound h).1) (e.no_stop c.if-outcome.false) e.reads (unworn_few (g.B.Nand.state c.args.board.now) (g.B.Nand.state c.prepare.new.board) c.requires.can_serve.unworn c.in-Ok.ensures.rest.installs) e.installs e.calls _ _ _
-    (keeps_record (g.B.Nand.state c.exec-outcome.new.board) (g.B.Nand.state c.finish.new.board) (g.D.Engine.sight c.exec-outcome.new.self) (g.D.Engine.sight c.finish.new.drive) (bytes_of c.prepare.new.held.heads) (bytes_of c.finish.new.held.heads) _ _
+    e.rest e.up (λ h. e.unread h c.if-outcome.false) (λ h. (e.sound h).1) (e.no_stop c.if-outcome.false) e.reads
+    (unworn_few (g.B.Nand.state c.args.board.now) (g.B.Nand.state c.prepare.new.board) c.requires.can_serve.unworn c.in-Ok.ensures.rest.installs) e.installs e.calls _ _ _
+    (keeps_record (g.B.Nand.state c.exec-outcome.new.board) (g.B.Nand.state c.finish.new.board) (g.D.Engine.sight c.exec-outcome.new.self)
+    (g.D.Engine.sight c.finish.new.drive) (bytes_of c.prepare.new.held.heads) (bytes_of c.finish.new.held.heads) _ _
     (c.head_of-head.ensures c.exec-outcome.new.into e.fits) c.in-Ok-finish.ensures.keeps)
 
 pub returns-in-Err-finish-clause-stops : goal.returns-in-Err-finish-clause-stops
@@ -46,7 +49,8 @@ returns-in-Err-finish-clause-stops g c = λ v is.
     stops_behind _ _ _ _ _ (bytes_of c.args.held.now.heads) _ c.args.entry.now.before _ c.in-Ok.ensures.keeps _ _ _ (c.args.entry.now.before + 1) refl
     (reaches_value _ _ _ (g.D.Engine.sight c.exec-outcome.new.self) (command_of c.args.entry.now.request c.args.value.now) v has (e.cuts c.if-outcome.false))
     (stands_value _ _ _ _ (command_of c.args.entry.now.request c.args.value.now) v has _ _ (e.stands c.if-outcome.false))
-    e.rest e.up (λ h. e.unread h c.if-outcome.false) (λ h. (e.sound h).1) (e.no_stop c.if-outcome.false) e.reads (unworn_few (g.B.Nand.state c.args.board.now) (g.B.Nand.state c.prepare.new.board) c.requires.can_serve.unworn c.in-Ok.ensures.rest.installs) e.installs e.calls _ _
+    e.rest e.up (λ h. e.unread h c.if-outcome.false) (λ h. (e.sound h).1) (e.no_stop c.if-outcome.false) e.reads
+    (unworn_few (g.B.Nand.state c.args.board.now) (g.B.Nand.state c.prepare.new.board) c.requires.can_serve.unworn c.in-Ok.ensures.rest.installs) e.installs e.calls _ _
     (breaks_record (g.B.Nand.state c.exec-outcome.new.board) (g.B.Nand.state c.finish.new.board) (g.D.Engine.sight c.exec-outcome.new.self) (bytes_of c.prepare.new.held.heads) _ _ c.in-Err-finish.end
     (c.head_of-head.ensures c.exec-outcome.new.into e.fits) c.in-Err-finish.ensures.fails.breaks)
 

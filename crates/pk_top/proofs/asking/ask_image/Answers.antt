@@ -6,7 +6,7 @@ use Rattle.pk_scan.specs.declared.errors.OpenError.TheVariants.{Memory}
 use Rattle.pk_parts.specs.Parts.{sight_of}
 use Rattle.pk_wordrun.specs.Seen.{seen}
 use Rattle.pk_wordrun.specs.Told.{Told}
-use Rattle.pk_top.proofs.Asked.{Asks-not, Asks-opened, own_frames}
+use Rattle.pk_top.proofs.Asked.{Asks-not, Asks-opened, own_frames, ready_behind}
 use Rattle.pk_top.proofs.asking.ask_image.Goals as goal
 
 pub returns-in_default : goal.returns-in_default
@@ -17,6 +17,9 @@ returns-in_default g c =
 pub run-requires-clause-stands : goal.run-requires-clause-stands
 run-requires-clause-stands g c =
     own_frames c.args.shape c.in-Ok.speaker 36 (g.B.Nand.state c.open.new.board) (sight_of c.in-Ok-open.drive) c.in-Ok.ensures c.in-Ok-open.ensures.stands
+
+pub run-requires-clause-ready : goal.run-requires-clause-ready
+run-requires-clause-ready g c = ready_behind c.args.shape c.in-Ok.speaker (g.B.Nand.state c.args.board.now) (g.B.Nand.state c.open.new.board) c.in-Ok.ensures c.requires.ready c.open.ensures.rest
 
 pub returns-in-Err : goal.returns-in-Err
 returns-in-Err g c =

@@ -13,11 +13,14 @@ ask_pair-requires g c =
     short_pair words (seen c.in-Ok-Some.task) (subst T c.in-Ok-Some.field-0-is c.in-Ok-Some.ensures)
 
 pub returns-in-Ok-Some-clause-tells : goal.returns-in-Ok-Some-clause-tells
-returns-in-Ok-Some-clause-tells g c = inr (pair_tells (seen c.in-Ok-Some.task) (g.B.Nand.state c.args.first.now) (g.B.Nand.state c.ask_pair.new.first) (g.C.Nand.state c.args.second.now) (g.C.Nand.state c.ask_pair.new.second) c.ask_pair.result.0 c.ask_pair.ensures)
+returns-in-Ok-Some-clause-tells g c = inr
+    (pair_tells (seen c.in-Ok-Some.task) (g.B.Nand.state c.args.first.now) (g.B.Nand.state c.ask_pair.new.first)
+    (g.C.Nand.state c.args.second.now) (g.C.Nand.state c.ask_pair.new.second) c.ask_pair.result.0 c.ask_pair.ensures)
 
 pub returns-in-Ok-Some-clause-no_pair : goal.returns-in-Ok-Some-clause-no_pair
 returns-in-Ok-Some-clause-no_pair g c = λ task asked.
-    pair_refused (seen c.in-Ok-Some.task) (g.B.Nand.state c.args.first.now) (g.B.Nand.state c.ask_pair.new.first) (g.C.Nand.state c.args.second.now) (g.C.Nand.state c.ask_pair.new.second) c.ask_pair.result.0 c.ask_pair.ensures
+    pair_refused (seen c.in-Ok-Some.task) (g.B.Nand.state c.args.first.now) (g.B.Nand.state c.ask_pair.new.first)
+    (g.C.Nand.state c.args.second.now) (g.C.Nand.state c.ask_pair.new.second) c.ask_pair.result.0 c.ask_pair.ensures
 
 pub returns-in-Ok-Some-clause-whole : goal.returns-in-Ok-Some-clause-whole
 returns-in-Ok-Some-clause-whole g c =
@@ -26,5 +29,7 @@ returns-in-Ok-Some-clause-whole g c =
     λ task asked.
     let same : Some (seen c.in-Ok-Some.task) ≡ Some task = subst T c.in-Ok-Some.field-0-is c.in-Ok-Some.ensures ∙ asked in
     let is : seen c.in-Ok-Some.task ≡ task = cc in
-    subst (λ (t : Asked). PairWhole t (g.B.Nand.state c.args.first.now) (g.B.Nand.state c.ask_pair.new.first) (g.C.Nand.state c.args.second.now) (g.C.Nand.state c.ask_pair.new.second) c.ask_pair.result.0) is
-    (pair_whole (seen c.in-Ok-Some.task) (g.B.Nand.state c.args.first.now) (g.B.Nand.state c.ask_pair.new.first) (g.C.Nand.state c.args.second.now) (g.C.Nand.state c.ask_pair.new.second) c.ask_pair.result.0 c.ask_pair.ensures)
+    subst (λ (t : Asked). PairWhole t (g.B.Nand.state c.args.first.now) (g.B.Nand.state c.ask_pair.new.first)
+    (g.C.Nand.state c.args.second.now) (g.C.Nand.state c.ask_pair.new.second) c.ask_pair.result.0) is
+    (pair_whole (seen c.in-Ok-Some.task) (g.B.Nand.state c.args.first.now) (g.B.Nand.state c.ask_pair.new.first)
+    (g.C.Nand.state c.args.second.now) (g.C.Nand.state c.ask_pair.new.second) c.ask_pair.result.0 c.ask_pair.ensures)

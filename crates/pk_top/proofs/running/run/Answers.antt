@@ -47,7 +47,8 @@ returns-in-Ok-Some-clause-asks_whole g c =
     let is : Some (seen c.in-Ok-Some.word) ≡ spec.word_of words = subst T c.in-Ok-Some.field-0-is c.in-Ok-Some.ensures in
     let same : Some (seen c.in-Ok-Some.word) ≡ Some (spec.ask task) = is ∙ asked in
     let word : seen c.in-Ok-Some.word ≡ spec.ask task = cc in
-    whole_ask task (few_roots task (short_within words (seen c.in-Ok-Some.word) is task word)) (g.B.Nand.state c.args.board.now) (g.B.Nand.state c.obey.new.board) c.obey.result.0 (c.obey.ensures.asks task word)
+    whole_ask task (few_roots task (short_within words (seen c.in-Ok-Some.word) is task word))
+    (g.B.Nand.state c.args.board.now) (g.B.Nand.state c.obey.new.board) c.obey.result.0 (c.obey.ensures.asks task word)
 
 pub returns-in-Err-clause-asks_whole : goal.returns-in-Err-clause-asks_whole
 returns-in-Err-clause-asks_whole g c = λ task asked.

@@ -1,5 +1,6 @@
 use Rattle.std.proofs.Common.{◌≡◌, arith, sym, ap, ◌∙◌, Some, None}
-use Rattle.pk_base.specs.EntryBytes.{entry_at, entry_fault}
+use Rattle.pk_base.specs.EntryBytes.{entry_at}
+use Rattle.pk_base.specs.EntryChecks.{entry_fault}
 use Rattle.pk_base.proofs.EntryLemmas.{entry_space}
 use Rattle.pk_base.specs.Entry.{Entry}
 use Rattle.pk_base.specs.Seen.{entry as seen}

@@ -16,7 +16,8 @@ skip-requires-clause-page g c =
     let old = g.B.Nand.state c.args.board.now in
     let seeking = c.loop-cursor.invariant.seeking in
     let here = looked_page c.args.run.now c.args.arena.now c.args.position.now old c.args.cursor.now (g.B.Nand.state c.loop-cursor.board) c.loop-cursor.cursor seeking
-    (g.B.Nand.state c.look.new.board) c.look.new.self c.requires.may.shape_is (omega (arith, c.loop-cursor-test.true, c.place.ensures, c.entries.ensures)) c.in-Ok.ensures.stays c.in-Ok.ensures.looks in
+    (g.B.Nand.state c.look.new.board) c.look.new.self c.requires.may.shape_is
+    (omega (arith, c.loop-cursor-test.true, c.place.ensures, c.entries.ensures)) c.in-Ok.ensures.stays c.in-Ok.ensures.looks in
     at_page c.args.run.now old.pages c.args.arena.now seeking.es c.known.ensures.shape c.known.ensures.kept seeking.stands c.look.new.self here c.requires.may.ready.flash
 
 pub skip-requires-clause-fits : goal.skip-requires-clause-fits
@@ -24,7 +25,8 @@ skip-requires-clause-fits g c =
     let old = g.B.Nand.state c.args.board.now in
     let seeking = c.loop-cursor.invariant.seeking in
     let here = looked_page c.args.run.now c.args.arena.now c.args.position.now old c.args.cursor.now (g.B.Nand.state c.loop-cursor.board) c.loop-cursor.cursor seeking
-    (g.B.Nand.state c.look.new.board) c.look.new.self c.requires.may.shape_is (omega (arith, c.loop-cursor-test.true, c.place.ensures, c.entries.ensures)) c.in-Ok.ensures.stays c.in-Ok.ensures.looks in
+    (g.B.Nand.state c.look.new.board) c.look.new.self c.requires.may.shape_is
+    (omega (arith, c.loop-cursor-test.true, c.place.ensures, c.entries.ensures)) c.in-Ok.ensures.stays c.in-Ok.ensures.looks in
     let room = at_fits c.args.run.now old.pages c.args.arena.now seeking.es c.known.ensures.shape c.known.ensures.kept seeking.stands c.look.new.self here in
     omega (arith, room, c.entries.ensures)
 
@@ -33,8 +35,10 @@ entry-requires g c =
     let old = g.B.Nand.state c.args.board.now in
     let seeking = c.loop-cursor.invariant.seeking in
     let here = looked_page c.args.run.now c.args.arena.now c.args.position.now old c.args.cursor.now (g.B.Nand.state c.loop-cursor.board) c.loop-cursor.cursor seeking
-    (g.B.Nand.state c.look.new.board) c.look.new.self c.requires.may.shape_is (omega (arith, c.loop-cursor-test.true, c.place.ensures, c.entries.ensures)) c.in-Ok.ensures.stays c.in-Ok.ensures.looks in
-    let there = found_at c.args.run.now old.pages c.args.arena.now seeking.es c.known.ensures.shape c.known.ensures.kept seeking.stands c.look.new.self here c.args.position.now c.skip.new.self c.skip.result c.skip.ensures c.if-skip.true in
+    (g.B.Nand.state c.look.new.board) c.look.new.self c.requires.may.shape_is
+    (omega (arith, c.loop-cursor-test.true, c.place.ensures, c.entries.ensures)) c.in-Ok.ensures.stays c.in-Ok.ensures.looks in
+    let there = found_at c.args.run.now old.pages c.args.arena.now seeking.es c.known.ensures.shape c.known.ensures.kept
+    seeking.stands c.look.new.self here c.args.position.now c.skip.new.self c.skip.result c.skip.ensures c.if-skip.true in
     at_page c.args.run.now old.pages c.args.arena.now seeking.es c.known.ensures.shape c.known.ensures.kept seeking.stands c.skip.new.self there c.requires.may.ready.flash
 
 pub returns-then-skip-clause-finds : goal.returns-then-skip-clause-finds
@@ -44,8 +48,10 @@ returns-then-skip-clause-finds g c =
     let seeking = c.loop-cursor.invariant.seeking in
     let here = looked_page c.args.run.now c.args.arena.now c.args.position.now old c.args.cursor.now (g.B.Nand.state c.loop-cursor.board) c.loop-cursor.cursor seeking
     next c.look.new.self c.requires.may.shape_is (omega (arith, c.loop-cursor-test.true, c.place.ensures, c.entries.ensures)) c.in-Ok.ensures.stays c.in-Ok.ensures.looks in
-    let looked = Seeking-looked c.args.run.now c.args.arena.now c.args.position.now old c.args.cursor.now (g.B.Nand.state c.loop-cursor.board) c.loop-cursor.cursor seeking next c.look.new.self c.in-Ok.ensures.stays c.in-Ok.ensures.looks in
-    Seeking-finds c.args.run.now c.args.arena.now c.args.position.now old c.args.cursor.now next c.look.new.self looked c.known.ensures.shape c.known.ensures.kept here c.skip.new.self c.skip.result c.skip.ensures c.if-skip.true c.entry.result c.entry.ensures
+    let looked = Seeking-looked c.args.run.now c.args.arena.now c.args.position.now old c.args.cursor.now
+    (g.B.Nand.state c.loop-cursor.board) c.loop-cursor.cursor seeking next c.look.new.self c.in-Ok.ensures.stays c.in-Ok.ensures.looks in
+    Seeking-finds c.args.run.now c.args.arena.now c.args.position.now old c.args.cursor.now next c.look.new.self looked
+    c.known.ensures.shape c.known.ensures.kept here c.skip.new.self c.skip.result c.skip.ensures c.if-skip.true c.entry.result c.entry.ensures
 
 pub returns-then-skip-clause-on : goal.returns-then-skip-clause-on
 returns-then-skip-clause-on g c =
@@ -54,8 +60,10 @@ returns-then-skip-clause-on g c =
     let seeking = c.loop-cursor.invariant.seeking in
     let here = looked_page c.args.run.now c.args.arena.now c.args.position.now old c.args.cursor.now (g.B.Nand.state c.loop-cursor.board) c.loop-cursor.cursor seeking
     next c.look.new.self c.requires.may.shape_is (omega (arith, c.loop-cursor-test.true, c.place.ensures, c.entries.ensures)) c.in-Ok.ensures.stays c.in-Ok.ensures.looks in
-    let looked = Seeking-looked c.args.run.now c.args.arena.now c.args.position.now old c.args.cursor.now (g.B.Nand.state c.loop-cursor.board) c.loop-cursor.cursor seeking next c.look.new.self c.in-Ok.ensures.stays c.in-Ok.ensures.looks in
-    let moved = Seeking-moved c.args.run.now c.args.arena.now c.args.position.now old c.args.cursor.now next c.look.new.self looked c.known.ensures.shape c.known.ensures.kept here c.skip.new.self c.skip.result c.skip.ensures in
+    let looked = Seeking-looked c.args.run.now c.args.arena.now c.args.position.now old c.args.cursor.now
+    (g.B.Nand.state c.loop-cursor.board) c.loop-cursor.cursor seeking next c.look.new.self c.in-Ok.ensures.stays c.in-Ok.ensures.looks in
+    let moved = Seeking-moved c.args.run.now c.args.arena.now c.args.position.now old c.args.cursor.now next
+    c.look.new.self looked c.known.ensures.shape c.known.ensures.kept here c.skip.new.self c.skip.result c.skip.ensures in
     record {
       goes_on =
           Seeking-goes_on c.args.run.now c.args.arena.now c.args.position.now old c.args.cursor.now next c.skip.new.self moved;
@@ -70,10 +78,12 @@ loop-cursor-preserved g c =
     let seeking = c.loop-cursor.invariant.seeking in
     let here = looked_page c.args.run.now c.args.arena.now c.args.position.now old c.args.cursor.now (g.B.Nand.state c.loop-cursor.board) c.loop-cursor.cursor seeking
     next c.look.new.self c.requires.may.shape_is (omega (arith, c.loop-cursor-test.true, c.place.ensures, c.entries.ensures)) c.in-Ok.ensures.stays c.in-Ok.ensures.looks in
-    let looked = Seeking-looked c.args.run.now c.args.arena.now c.args.position.now old c.args.cursor.now (g.B.Nand.state c.loop-cursor.board) c.loop-cursor.cursor seeking next c.look.new.self c.in-Ok.ensures.stays c.in-Ok.ensures.looks in
+    let looked = Seeking-looked c.args.run.now c.args.arena.now c.args.position.now old c.args.cursor.now
+    (g.B.Nand.state c.loop-cursor.board) c.loop-cursor.cursor seeking next c.look.new.self c.in-Ok.ensures.stays c.in-Ok.ensures.looks in
     record {
       ready = c.in-Ok.ensures.ready;
-      seeking = Seeking-moved c.args.run.now c.args.arena.now c.args.position.now old c.args.cursor.now next c.look.new.self looked c.known.ensures.shape c.known.ensures.kept here c.skip.new.self c.skip.result c.skip.ensures;
+      seeking = Seeking-moved c.args.run.now c.args.arena.now c.args.position.now old c.args.cursor.now next
+          c.look.new.self looked c.known.ensures.shape c.known.ensures.kept here c.skip.new.self c.skip.result c.skip.ensures;
     }
 
 pub loop-cursor-smaller : goal.loop-cursor-smaller
@@ -81,8 +91,10 @@ loop-cursor-smaller g c =
     let old = g.B.Nand.state c.args.board.now in
     let seeking = c.loop-cursor.invariant.seeking in
     let here = looked_page c.args.run.now c.args.arena.now c.args.position.now old c.args.cursor.now (g.B.Nand.state c.loop-cursor.board) c.loop-cursor.cursor seeking
-    (g.B.Nand.state c.look.new.board) c.look.new.self c.requires.may.shape_is (omega (arith, c.loop-cursor-test.true, c.place.ensures, c.entries.ensures)) c.in-Ok.ensures.stays c.in-Ok.ensures.looks in
-    let forth = none_forth c.args.run.now old.pages c.args.arena.now seeking.es c.known.ensures.shape c.known.ensures.kept seeking.stands c.look.new.self here c.args.position.now c.skip.new.self c.skip.result c.skip.ensures c.if-skip.false in
+    (g.B.Nand.state c.look.new.board) c.look.new.self c.requires.may.shape_is
+    (omega (arith, c.loop-cursor-test.true, c.place.ensures, c.entries.ensures)) c.in-Ok.ensures.stays c.in-Ok.ensures.looks in
+    let forth = none_forth c.args.run.now old.pages c.args.arena.now seeking.es c.known.ensures.shape c.known.ensures.kept
+    seeking.stands c.look.new.self here c.args.position.now c.skip.new.self c.skip.result c.skip.ensures c.if-skip.false in
     let stays = ap (λ (x : Cursor). x.place) c.in-Ok.ensures.stays.place in
     omega (arith, forth, stays, c.loop-cursor-test.true, c.place.ensures, c.entries.ensures)
 
@@ -90,7 +102,8 @@ pub returns-in-Err-clause-on : goal.returns-in-Err-clause-on
 returns-in-Err-clause-on g c =
     record {
       goes_on =
-          Seeking-stays c.args.run.now c.args.arena.now c.args.position.now (g.B.Nand.state c.args.board.now) c.args.cursor.now (g.B.Nand.state c.loop-cursor.board) c.loop-cursor.cursor c.loop-cursor.invariant.seeking
+          Seeking-stays c.args.run.now c.args.arena.now c.args.position.now (g.B.Nand.state c.args.board.now) c.args.cursor.now
+          (g.B.Nand.state c.loop-cursor.board) c.loop-cursor.cursor c.loop-cursor.invariant.seeking
           c.look.new.self c.in-Err.ensures.stays c.in-Err.ensures.fails.kept;
       same = search rules;
       ready = search rules;
@@ -101,20 +114,23 @@ returns-in-Err-clause-err g c =
     record {
       reading = c.in-Err.ensures.reading;
       reads =
-          Seeking-fails c.args.run.now c.args.arena.now c.args.position.now (g.B.Nand.state c.args.board.now) c.args.cursor.now (g.B.Nand.state c.loop-cursor.board) c.loop-cursor.cursor c.loop-cursor.invariant.seeking
+          Seeking-fails c.args.run.now c.args.arena.now c.args.position.now (g.B.Nand.state c.args.board.now) c.args.cursor.now
+          (g.B.Nand.state c.loop-cursor.board) c.loop-cursor.cursor c.loop-cursor.invariant.seeking
           (g.B.Nand.state c.look.new.board) c.look.new.self c.in-Err.ensures.fails;
     }
 
 pub returns-clause-finds : goal.returns-clause-finds
 returns-clause-finds g c =
-    Seeking-none c.args.run.now c.args.arena.now c.args.position.now (g.B.Nand.state c.args.board.now) c.args.cursor.now (g.B.Nand.state c.loop-cursor.board) c.loop-cursor.cursor c.loop-cursor.invariant.seeking
+    Seeking-none c.args.run.now c.args.arena.now c.args.position.now (g.B.Nand.state c.args.board.now) c.args.cursor.now
+    (g.B.Nand.state c.loop-cursor.board) c.loop-cursor.cursor c.loop-cursor.invariant.seeking
     c.known.ensures.shape c.requires.may.shape_is (omega (arith, c.loop-cursor-test.false, c.place.ensures, c.entries.ensures))
 
 pub returns-clause-on : goal.returns-clause-on
 returns-clause-on g c =
     record {
       goes_on =
-          Seeking-goes_on c.args.run.now c.args.arena.now c.args.position.now (g.B.Nand.state c.args.board.now) c.args.cursor.now (g.B.Nand.state c.loop-cursor.board) c.loop-cursor.cursor c.loop-cursor.invariant.seeking;
+          Seeking-goes_on c.args.run.now c.args.arena.now c.args.position.now (g.B.Nand.state c.args.board.now) c.args.cursor.now
+          (g.B.Nand.state c.loop-cursor.board) c.loop-cursor.cursor c.loop-cursor.invariant.seeking;
       same = search rules;
       ready = search rules;
     }

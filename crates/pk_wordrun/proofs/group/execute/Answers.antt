@@ -25,4 +25,5 @@ returns-then-outcome-clause-stops g c =
     let T : Shape → Type 0 = λ s. IsValue s c.args.request.now.opcode c.args.request.now.size c.handed.result.now c.args.value.now in
     let has = subst T (sym (ap shape_or_none c.requires.room.shape_is)) c.handed.ensures.value in
     stops_next _ _ _ e.rest (command_of c.args.request.now c.args.value.now)
-    (went_value _ _ _ (g.D.Engine.sight c.exec-outcome.new.self) (command_of c.args.request.now c.handed.result.now) c.args.value.now has (e.cuts_stopped c.if-outcome.true)) e.up (e.stop c.if-outcome.true)
+    (went_value _ _ _ (g.D.Engine.sight c.exec-outcome.new.self) (command_of c.args.request.now c.handed.result.now) c.args.value.now has (e.cuts_stopped c.if-outcome.true)) e.up
+    (e.stop c.if-outcome.true)

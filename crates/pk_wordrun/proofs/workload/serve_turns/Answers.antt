@@ -12,13 +12,15 @@ loop-turn-init g c = record {
   value = c.requires.value;
   room = refl;
   workload = c.new-workload.ensures;
-  served = λ m holds. generating_none c.args.start c.args.shape.now m (g.B.Nand.state c.args.board.now) (g.D.Engine.sight c.args.drive.now) c.new-summary.result c.requires.room.shape_is c.requires.none holds c.new-summary.ensures;
+  served = λ m holds. generating_none c.args.start c.args.shape.now m (g.B.Nand.state c.args.board.now)
+      (g.D.Engine.sight c.args.drive.now) c.new-summary.result c.requires.room.shape_is c.requires.none holds c.new-summary.ensures;
 }
 
 pub serve_turn-requires-clause-can_serve : goal.serve_turn-requires-clause-can_serve
 serve_turn-requires-clause-can_serve g c =
     let v = c.loop-turn.invariant in
-    let worn = worn_is (g.D.Engine.agrees c.loop-turn.drive) (g.B.Nand.state c.loop-turn.board) c.args.shape.now c.is_worn.result (v.shape ∙ c.requires.room.shape_is) v.running.agrees (λ s f h. c.is_worn.ensures s f h v.running.runs) in
+    let worn = worn_is (g.D.Engine.agrees c.loop-turn.drive) (g.B.Nand.state c.loop-turn.board) c.args.shape.now c.is_worn.result
+    (v.shape ∙ c.requires.room.shape_is) v.running.agrees (λ s f h. c.is_worn.ensures s f h v.running.runs) in
     record { running = v.running; unworn = sym worn ∙ c.if-is_worn.false }
 
 pub serve_turn-requires-clause-room : goal.serve_turn-requires-clause-room
@@ -41,30 +43,37 @@ loop-turn-preserved g c =
       room = e.room ∙ v.room;
       workload = e.after ∙ (ap after v.workload ∙ ap (generator c.args.start) next);
       served = λ m holds.
-          generating_next c.args.start c.loop-turn.turn c.args.shape.now (g.D.Engine.sight c.args.drive.now).counts.frames m (g.B.Nand.state c.args.board.now) (g.B.Nand.state c.loop-turn.board) (g.D.Engine.sight c.loop-turn.drive) c.loop-turn.summary (v.served m holds)
-          (g.B.Nand.state c.serve_turn.new.board) (g.D.Engine.sight c.serve_turn.new.drive) c.args.count c.loop-turn-test.true c.ranges.count.fits c.loop-turn.workload v.workload c.serve_turn.new.summary e.turn;
+          generating_next c.args.start c.loop-turn.turn c.args.shape.now (g.D.Engine.sight c.args.drive.now).counts.frames m
+          (g.B.Nand.state c.args.board.now) (g.B.Nand.state c.loop-turn.board) (g.D.Engine.sight c.loop-turn.drive) c.loop-turn.summary (v.served m holds)
+          (g.B.Nand.state c.serve_turn.new.board)
+          (g.D.Engine.sight c.serve_turn.new.drive) c.args.count c.loop-turn-test.true c.ranges.count.fits c.loop-turn.workload v.workload c.serve_turn.new.summary e.turn;
     }
 
 pub returns-in-Err-serve_turn-clause-fails : goal.returns-in-Err-serve_turn-clause-fails
 returns-in-Err-serve_turn-clause-fails g c = λ m holds.
     let v = c.loop-turn.invariant in
-    unfinished_turn c.args.start c.loop-turn.turn c.args.shape.now (g.D.Engine.sight c.args.drive.now).counts.frames m (g.B.Nand.state c.args.board.now) (g.B.Nand.state c.loop-turn.board) (g.D.Engine.sight c.loop-turn.drive) c.loop-turn.summary (v.served m holds)
+    unfinished_turn c.args.start c.loop-turn.turn c.args.shape.now (g.D.Engine.sight c.args.drive.now).counts.frames m
+    (g.B.Nand.state c.args.board.now) (g.B.Nand.state c.loop-turn.board) (g.D.Engine.sight c.loop-turn.drive) c.loop-turn.summary (v.served m holds)
     c.args.count (g.B.Nand.state c.serve_turn.new.board) c.loop-turn-test.true c.loop-turn.workload v.workload c.in-Err-serve_turn.ensures.turn
 
 pub returns-in-Err-clause-fails : goal.returns-in-Err-clause-fails
 returns-in-Err-clause-fails g c = λ m holds.
     let v = c.loop-turn.invariant in
     let small = c.loop-turn-test.true in
-    unfinished_commit c.args.start c.loop-turn.turn c.args.shape.now (g.D.Engine.sight c.args.drive.now).counts.frames m (g.B.Nand.state c.args.board.now) (g.B.Nand.state c.loop-turn.board) (g.D.Engine.sight c.loop-turn.drive) c.loop-turn.summary (v.served m holds)
+    unfinished_commit c.args.start c.loop-turn.turn c.args.shape.now (g.D.Engine.sight c.args.drive.now).counts.frames m
+    (g.B.Nand.state c.args.board.now) (g.B.Nand.state c.loop-turn.board) (g.D.Engine.sight c.loop-turn.drive) c.loop-turn.summary (v.served m holds)
     c.args.count (g.B.Nand.state c.commit_group.new.board) (omega (arith, small)) c.in-Err.ensures.stops
 
 pub returns-in-Ok-clause-fails : goal.returns-in-Ok-clause-fails
 returns-in-Ok-clause-fails g c = λ m holds.
     let v = c.loop-turn.invariant in
     let small = c.loop-turn-test.true in
-    let worn = worn_is (g.D.Engine.agrees c.loop-turn.drive) (g.B.Nand.state c.loop-turn.board) c.args.shape.now c.is_worn.result (v.shape ∙ c.requires.room.shape_is) v.running.agrees (λ s f h. c.is_worn.ensures s f h v.running.runs) in
-    unfinished_worn c.args.start c.loop-turn.turn c.args.shape.now (g.D.Engine.sight c.args.drive.now).counts.frames m (g.B.Nand.state c.args.board.now) (g.B.Nand.state c.loop-turn.board) (g.D.Engine.sight c.loop-turn.drive) c.loop-turn.summary (v.served m holds)
-    c.args.count (g.B.Nand.state c.commit_group.new.board) (g.D.Engine.sight c.commit_group.new.drive) (omega (arith, small)) c.in-Ok.ensures.keeps c.in-Ok.ensures.installs (sym worn ∙ c.if-is_worn.true)
+    let worn = worn_is (g.D.Engine.agrees c.loop-turn.drive) (g.B.Nand.state c.loop-turn.board) c.args.shape.now c.is_worn.result
+    (v.shape ∙ c.requires.room.shape_is) v.running.agrees (λ s f h. c.is_worn.ensures s f h v.running.runs) in
+    unfinished_worn c.args.start c.loop-turn.turn c.args.shape.now (g.D.Engine.sight c.args.drive.now).counts.frames m
+    (g.B.Nand.state c.args.board.now) (g.B.Nand.state c.loop-turn.board) (g.D.Engine.sight c.loop-turn.drive) c.loop-turn.summary (v.served m holds)
+    c.args.count (g.B.Nand.state c.commit_group.new.board) (g.D.Engine.sight c.commit_group.new.drive)
+    (omega (arith, small)) c.in-Ok.ensures.keeps c.in-Ok.ensures.installs (sym worn ∙ c.if-is_worn.true)
 
 pub returns-clause-served : goal.returns-clause-served
 returns-clause-served g c = λ m holds.
@@ -72,5 +81,6 @@ returns-clause-served g c = λ m holds.
     let over = c.loop-turn-test.false in
     let most = c.loop-turn.auto.turn-end in
     let all : c.loop-turn.turn ≡ c.args.count = omega (arith, over, most) in
-    let N : ℕ → Type 0 = λ n. Generating c.args.start n c.args.shape.now (g.D.Engine.sight c.args.drive.now).counts.frames m (g.B.Nand.state c.args.board.now) (g.B.Nand.state c.loop-turn.board) (g.D.Engine.sight c.loop-turn.drive) c.loop-turn.summary in
+    let N : ℕ → Type 0 = λ n. Generating c.args.start n c.args.shape.now (g.D.Engine.sight c.args.drive.now).counts.frames m
+    (g.B.Nand.state c.args.board.now) (g.B.Nand.state c.loop-turn.board) (g.D.Engine.sight c.loop-turn.drive) c.loop-turn.summary in
     subst N all (v.served m holds)

@@ -37,6 +37,7 @@ returns-in-Err-over-clause-err g c = (_, c.in-Ok.ensures.reads)
 
 pub returns-in-Ok-over-clause-steady : goal.returns-in-Ok-over-clause-steady
 returns-in-Ok-over-clause-steady g c =
-    let agrees = agrees_behind c.args.shape c.args.frames _ (g.B.Nand.state c.args.board.now) (g.B.Nand.state c.scan.new.board) c.in-Ok-over.parts c.known.ensures c.requires.ready c.in-Ok.ensures.reads
+    let agrees = agrees_behind c.args.shape c.args.frames _ (g.B.Nand.state c.args.board.now)
+    (g.B.Nand.state c.scan.new.board) c.in-Ok-over.parts c.known.ensures c.requires.ready c.in-Ok.ensures.reads
     (c.in-Ok-over.ensures c.args.shape _ c.args.frames c.requires.ready.flash c.in-Ok.ensures.opened) in
     between_steady _ _ c.args.shape _ agrees (ap (λ (b : BoardState). b.shape) c.in-Ok.ensures.reads ∙ c.requires.ready.shape_is) c.known-in-Ok-over.ensures

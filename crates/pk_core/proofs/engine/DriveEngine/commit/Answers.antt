@@ -21,7 +21,8 @@ pub returns-in-Ok-clause-agrees : goal.returns-in-Ok-clause-agrees
 returns-in-Ok-clause-agrees g c =
     let e = c.in-Ok.ensures in
     none_between c.commit_pending.new.self (g.B.Nand.state c.commit_pending.new.board).shape (g.B.Nand.state c.commit_pending.new.board).pages
-    (agrees_committed c.self.inside.parts c.commit_pending.new.self (g.B.Nand.state c.args.board.now) (g.B.Nand.state c.commit_pending.new.board) (rw (← c.self.view_is) at c.requires.agrees).0 e.step.ended e.idle e.step.works.rest) e.none
+    (agrees_committed c.self.inside.parts c.commit_pending.new.self (g.B.Nand.state c.args.board.now)
+    (g.B.Nand.state c.commit_pending.new.board) (rw (← c.self.view_is) at c.requires.agrees).0 e.step.ended e.idle e.step.works.rest) e.none
 
 pub returns-in-Ok-clause-stands : goal.returns-in-Ok-clause-stands
 returns-in-Ok-clause-stands g c = rw (← c.self.view_is) (λ shape frames m stands.
@@ -48,7 +49,8 @@ returns-in-Err-clause-cuts_failed g c = rw (← c.self.view_is) (λ shape frames
 pub returns-in-Ok-clause-steady : goal.returns-in-Ok-clause-steady
 returns-in-Ok-clause-steady g c = rw (← c.self.view_is) (
     let e = c.in-Ok.ensures in
-    let agrees = agrees_committed c.self.inside.parts c.commit_pending.new.self (g.B.Nand.state c.args.board.now) (g.B.Nand.state c.commit_pending.new.board) (rw (← c.self.view_is) at c.requires.agrees).0 e.step.ended e.idle e.step.works.rest in
+    let agrees = agrees_committed c.self.inside.parts c.commit_pending.new.self (g.B.Nand.state c.args.board.now)
+    (g.B.Nand.state c.commit_pending.new.board) (rw (← c.self.view_is) at c.requires.agrees).0 e.step.ended e.idle e.step.works.rest in
     steadies c.commit_pending.new.self (g.B.Nand.state c.args.board.now) (g.B.Nand.state c.commit_pending.new.board) (sight_of c.self.inside.parts)
     (none_between c.commit_pending.new.self (g.B.Nand.state c.commit_pending.new.board).shape (g.B.Nand.state c.commit_pending.new.board).pages agrees e.none) e.step.works.rest c.known.ensures)
 

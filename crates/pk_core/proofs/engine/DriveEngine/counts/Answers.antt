@@ -9,4 +9,5 @@ pub returns-clause-map : goal.returns-clause-map
 returns-clause-map g c = λ shape flash m agrees runs is. agrees_counts c.args.self.now shape flash m agrees.0 is
 
 pub returns-clause-steady : goal.returns-clause-steady
-returns-clause-steady g c = λ shape flash m agrees runs is. between_steady c.args.self.now _ shape flash agrees refl (subst (λ (d : Parts). IsShared d.pool.shape d.pool.states) c.self.view_is c.known.ensures)
+returns-clause-steady g c = λ shape flash m agrees runs is. between_steady c.args.self.now _ shape flash agrees refl
+    (subst (λ (d : Parts). IsShared d.pool.shape d.pool.states) c.self.view_is c.known.ensures)

@@ -6,14 +6,20 @@ use Rattle.pk_core.proofs.Stepping.{tick_may}
 use Rattle.pk_core.proofs.engine.DriveEngine.tick.Goals as goal
 
 pub step-answer-requires : goal.step-answer-requires
-step-answer-requires g c = record { may = tick_may c.self.inside.parts (g.B.Nand.state c.args.board.now) (rw (← c.self.view_is) at c.requires.agrees).0 (rw (← c.self.view_is) at c.requires.runs) (rw (← c.self.view_is) at c.requires.none) c.requires.unworn c.read_count.ensures.faults }
+step-answer-requires g c = record {
+  may = tick_may c.self.inside.parts (g.B.Nand.state c.args.board.now) (rw (← c.self.view_is) at c.requires.agrees).0
+      (rw (← c.self.view_is) at c.requires.runs) (rw (← c.self.view_is) at c.requires.none) c.requires.unworn c.read_count.ensures.faults;
+}
 
 pub returns-clause-steady : goal.returns-clause-steady
-returns-clause-steady g c = rw (← c.self.view_is) (λ runs. steadies c.step-answer.new.parts (g.B.Nand.state c.args.board.now) (g.B.Nand.state c.step-answer.new.board) (sight_of c.self.inside.parts) (between_none c.step-answer.new.parts _ _ (c.step-answer.ensures.agrees runs) c.step-answer.ensures.none) c.step-answer.ensures.ticks.rest c.known.ensures)
+returns-clause-steady g c = rw (← c.self.view_is)
+    (λ runs. steadies c.step-answer.new.parts (g.B.Nand.state c.args.board.now) (g.B.Nand.state c.step-answer.new.board) (sight_of c.self.inside.parts)
+    (between_none c.step-answer.new.parts _ _ (c.step-answer.ensures.agrees runs) c.step-answer.ensures.none) c.step-answer.ensures.ticks.rest c.known.ensures)
 
 pub returns-clause-merge : goal.returns-clause-merge
 returns-clause-merge g c = λ runs.
-    merges_next c.step-answer.new.parts (g.B.Nand.state c.step-answer.new.board) (between_none c.step-answer.new.parts _ _ (c.step-answer.ensures.agrees runs) c.step-answer.ensures.none) c.known.ensures
+    merges_next c.step-answer.new.parts (g.B.Nand.state c.step-answer.new.board)
+    (between_none c.step-answer.new.parts _ _ (c.step-answer.ensures.agrees runs) c.step-answer.ensures.none) c.known.ensures
 
 pub returns-clause-flash_up : goal.returns-clause-flash_up
 returns-clause-flash_up g c = c.step-answer.ensures.ticks.flash_up c.read_count.ensures.flash_faults
@@ -21,7 +27,8 @@ returns-clause-flash_up g c = c.step-answer.ensures.ticks.flash_up c.read_count.
 pub returns-clause-fresh : goal.returns-clause-fresh
 returns-clause-fresh g c = rw (← c.self.view_is) (λ runs.
     let e = c.step-answer.ensures in
-    keeps_fresh c.self.inside.parts c.step-answer.new.parts (g.B.Nand.state c.args.board.now) (g.B.Nand.state c.step-answer.new.board) (rw (← c.self.view_is) at c.requires.agrees).0 (e.agrees runs) e.ticks.rest (e.moves runs).fresh)
+    keeps_fresh c.self.inside.parts c.step-answer.new.parts (g.B.Nand.state c.args.board.now) (g.B.Nand.state c.step-answer.new.board)
+    (rw (← c.self.view_is) at c.requires.agrees).0 (e.agrees runs) e.ticks.rest (e.moves runs).fresh)
 
 pub returns-clause-blocks : goal.returns-clause-blocks
 returns-clause-blocks g c = rw (← c.self.view_is) (λ runs. (c.step-answer.ensures.moves runs).no_more)

@@ -7,7 +7,8 @@ use Rattle.pk_data.proofs.data_space.Data.reserve.Goals as goal
 pub returns-in-Some-clause-reserved : goal.returns-in-Some-clause-reserved
 returns-in-Some-clause-reserved g c =
     let placed = c.requires.placed in
-    let told = found_next (fits_open c.args.shape.now c.args.self.now c.args.count) (next_page c.args.shape.now c.args.self.now) c.in-Some.page c.next_in_open.result c.next_in_open.ensures c.in-Some.is in
+    let told = found_next (fits_open c.args.shape.now c.args.self.now c.args.count)
+    (next_page c.args.shape.now c.args.self.now) c.in-Some.page c.next_in_open.result c.next_in_open.ensures c.in-Some.is in
     reserved_next c.args.shape.now c.args.self.now c.args.pool.now placed.0 (g.B.Nand.state c.args.board.now).pages placed.1 c.in-Some.page c.args.count placed.2 c.requires.some told.0 told.1
 
 -- another block is opened

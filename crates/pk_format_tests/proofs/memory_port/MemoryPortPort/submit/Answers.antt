@@ -30,5 +30,6 @@ returns-in-Ok-clause-took c = took_one c.args.self.now.machine c.step.new.self c
 pub returns-in-Err-clause-took : goal.returns-in-Err-clause-took
 returns-in-Err-clause-took c =
     let up = c.saturating_add-self.ensures in
-    subst (λ (m : Machine). Took (seen c.args.self.now.machine c.args.self.now.faults) (seen m c.saturating_add-self.result) (command c.args.entry.now c.args.value.now ∷ [])) (sym c.in-Err.ensures.err)
+    subst (λ (m : Machine). Took (seen c.args.self.now.machine c.args.self.now.faults) (seen m c.saturating_add-self.result) (command c.args.entry.now c.args.value.now ∷ []))
+    (sym c.in-Err.ensures.err)
     (took_fault c.args.self.now.machine c.args.self.now.faults c.saturating_add-self.result _ (omega (arith, up)))

@@ -1,6 +1,7 @@
 use Rattle.std.proofs.Common.{◌≡◌, ℕ, ◌+◌, ◌*◌, sym, ap, subst, ◌∙◌}
 use Rattle.pk_nand.specs.BoardState.{BoardState}
-use Rattle.pk_nand.specs.Calls.{InOrder, after_program}
+use Rattle.pk_nand.specs.Calls.{after_program}
+use Rattle.pk_nand.specs.Operations.{InOrder}
 use Rattle.pk_nand.proofs.Writing.{shape_is}
 use Rattle.pk_gc.specs.State.{JobState, target, programmed}
 use Rattle.pk_gc.specs.Running.{IsRunning}

@@ -1,4 +1,4 @@
-use Rattle.pk_host.specs.Calls.{AreLists, TookSome}
+use Rattle.pk_host.specs.Outcomes.{AreLists, TookSome}
 use Rattle.pk_host.proofs.PageLemmas.{IsListing}
 use Rattle.pk_host.proofs.host.Host.list_all.Given as goal
 

@@ -22,7 +22,8 @@ write_pair-requires-clause-exists g c =
 pub write_pair-requires-clause-order : goal.write_pair-requires-clause-order
 write_pair-requires-clause-order g c =
     let r = rw (← c.self.view_is) at c.requires in
-    rw (shape_is _ _ r.ready, c.commit_page-page.ensures.page) (InOrder-next_page (the_view c.self.inside) _ (takes_more (the_view c.self.inside) r.left) r.whole (commit_left (the_view c.self.inside) r.left) r.fits)
+    rw (shape_is _ _ r.ready, c.commit_page-page.ensures.page)
+    (InOrder-next_page (the_view c.self.inside) _ (takes_more (the_view c.self.inside) r.left) r.whole (commit_left (the_view c.self.inside) r.left) r.fits)
 
 pub returns-in-Ok-clause-fits : goal.returns-in-Ok-clause-fits
 returns-in-Ok-clause-fits g c =
@@ -44,7 +45,8 @@ returns-in-Ok-clause-list g c =
     let spells = next_spells (the_view c.self.inside) c.args.entries.now c.known.ensures (search rules) r.left r.some r.most r.each in
     let cut = rw (c.commit_page-page.ensures.page, c.encode.ensures) at c.in-Ok.ensures.cut in
     let first = rw (c.commit_page-page.ensures.page, c.encode.ensures) at c.in-Ok.ensures.first in
-    rw (← c.self.view_is) (Commit-adds (the_view c.self.inside) (g.B.Nand.state c.args.board.now) (g.B.Nand.state c.write_pair.new.board) _ _ c.known.ensures r.left r.whole r.fits r.blocks.different spells cut first)
+    rw (← c.self.view_is) (Commit-adds (the_view c.self.inside) (g.B.Nand.state c.args.board.now)
+    (g.B.Nand.state c.write_pair.new.board) _ _ c.known.ensures r.left r.whole r.fits r.blocks.different spells cut first)
 
 pub returns-in-Ok-clause-cuts : goal.returns-in-Ok-clause-cuts
 returns-in-Ok-clause-cuts g c =

@@ -16,7 +16,8 @@ write_first-requires-clause-exists g c =
 pub write_first-requires-clause-order : goal.write_first-requires-clause-order
 write_first-requires-clause-order g c =
     let r = rw (← c.self.view_is) at c.requires in
-    rw (shape_is _ _ r.ready, c.commit_page-page.ensures.page) (InOrder-next_page (the_view c.self.inside) _ (takes_more (the_view c.self.inside) r.left) r.whole (commit_left (the_view c.self.inside) r.left) r.fits)
+    rw (shape_is _ _ r.ready, c.commit_page-page.ensures.page)
+    (InOrder-next_page (the_view c.self.inside) _ (takes_more (the_view c.self.inside) r.left) r.whole (commit_left (the_view c.self.inside) r.left) r.fits)
 
 pub returns-in-Ok-clause-begins : goal.returns-in-Ok-clause-begins
 returns-in-Ok-clause-begins g c =

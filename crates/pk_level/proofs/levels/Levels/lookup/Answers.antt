@@ -12,7 +12,8 @@ find-requires-clause-ready g c =
 
 pub find-requires-clause-stands : goal.find-requires-clause-stands
 find-requires-clause-stands g c =
-    let own = next_stands c.args.self.now.runs c.args.arena.now c.args.key.now _ _ c.loop-place.place c.at.result.now c.requires.stand.0 c.loop-place.invariant.looking c.at.ensures c.requires.stand.1 in
+    let own = next_stands c.args.self.now.runs c.args.arena.now c.args.key.now _ _ c.loop-place.place
+    c.at.result.now c.requires.stand.0 c.loop-place.invariant.looking c.at.ensures c.requires.stand.1 in
     (own.0, own.2)
 
 pub find-requires-clause-room : goal.find-requires-clause-room
@@ -22,12 +23,14 @@ find-requires-clause-room g c =
 
 pub returns-in-Ok-Some-clause-found : goal.returns-in-Ok-Some-clause-found
 returns-in-Ok-Some-clause-found g c =
-    Looking-found c.args.self.now.runs c.args.arena.now c.args.key.now (g.B.Nand.state c.args.board.now) (g.B.Nand.state c.loop-place.board) c.loop-place.place c.at.result.now c.in-Ok-Some.entry c.loop-place.invariant.looking
+    Looking-found c.args.self.now.runs c.args.arena.now c.args.key.now (g.B.Nand.state c.args.board.now)
+    (g.B.Nand.state c.loop-place.board) c.loop-place.place c.at.result.now c.in-Ok-Some.entry c.loop-place.invariant.looking
     c.at.ensures (rw c.in-Ok-Some.field-0-is at c.in-Ok-Some.ensures.found)
 
 pub returns-in-Ok-Some-clause-reads : goal.returns-in-Ok-Some-clause-reads
 returns-in-Ok-Some-clause-reads g c =
-    reads_found c.args.self.now.runs c.args.arena.now c.args.key.now (g.B.Nand.state c.args.board.now) (g.B.Nand.state c.loop-place.board) (g.B.Nand.state c.find.new.board) c.loop-place.place c.at.result.now
+    reads_found c.args.self.now.runs c.args.arena.now c.args.key.now (g.B.Nand.state c.args.board.now)
+    (g.B.Nand.state c.loop-place.board) (g.B.Nand.state c.find.new.board) c.loop-place.place c.at.result.now
     c.loop-place.invariant.looking c.at.ensures c.in-Ok-Some.ensures.looks
 
 pub returns-in-Err-clause-err : goal.returns-in-Err-clause-err
@@ -42,7 +45,8 @@ loop-place-preserved g c =
     record {
       ready = rw level.same_shape at c.in-Ok-None.ensures.ready;
       room = c.find.auto.buf ∙ c.loop-place.invariant.room;
-      looking = Looking-next c.args.self.now.runs c.args.arena.now c.args.key.now (g.B.Nand.state c.args.board.now) (g.B.Nand.state c.loop-place.board) (g.B.Nand.state c.find.new.board) c.loop-place.place c.at.result.now
+      looking = Looking-next c.args.self.now.runs c.args.arena.now c.args.key.now (g.B.Nand.state c.args.board.now)
+          (g.B.Nand.state c.loop-place.board) (g.B.Nand.state c.find.new.board) c.loop-place.place c.at.result.now
           c.loop-place.invariant.looking c.at.ensures c.in-Ok-None.ensures.looks (rw c.in-Ok-None.field-0-is at c.in-Ok-None.ensures.found);
     }
 
@@ -53,7 +57,8 @@ returns-clause-found g c =
 
 pub returns-in-Ok-Some-clause-looks : goal.returns-in-Ok-Some-clause-looks
 returns-in-Ok-Some-clause-looks g c =
-    looks_found c.args.self.now.runs c.args.arena.now c.args.key.now (g.B.Nand.state c.args.board.now) (g.B.Nand.state c.loop-place.board) (g.B.Nand.state c.find.new.board) c.loop-place.place c.at.result.now c.in-Ok-Some.entry
+    looks_found c.args.self.now.runs c.args.arena.now c.args.key.now (g.B.Nand.state c.args.board.now)
+    (g.B.Nand.state c.loop-place.board) (g.B.Nand.state c.find.new.board) c.loop-place.place c.at.result.now c.in-Ok-Some.entry
     c.loop-place.invariant.looking c.at.ensures c.in-Ok-Some.ensures.looks (rw c.in-Ok-Some.field-0-is at c.in-Ok-Some.ensures.found)
 
 pub returns-clause-looks : goal.returns-clause-looks

@@ -12,7 +12,8 @@ append-requires-clause-blocks g c =
     epoch_blocks_are _ (g.B.Nand.state c.args.board.now).pages s.0 s.1 s.2
 
 pub returns-then-is_empty-clause-cuts : goal.returns-then-is_empty-clause-cuts
-returns-then-is_empty-clause-cuts g c = reaches_none c.args.self.now (g.B.Nand.state c.args.board.now) (sym (ap (λ (l : LogState). l.pending) c.self.view_is) ∙ none_seen c.self.inside.pending.items (search rules))
+returns-then-is_empty-clause-cuts g c = reaches_none c.args.self.now (g.B.Nand.state c.args.board.now)
+    (sym (ap (λ (l : LogState). l.pending) c.self.view_is) ∙ none_seen c.self.inside.pending.items (search rules))
 
 pub returns-in-Ok-clause-stands : goal.returns-in-Ok-clause-stands
 returns-in-Ok-clause-stands g c top found logs =
@@ -20,7 +21,8 @@ returns-in-Ok-clause-stands g c top found logs =
     let r = rw (← c.self.view_is) at c.requires in
     let some = some_seen c.self.inside.pending.items (search rules) in
     let a = rw c.deref.ensures.value at c.in-Ok.ensures in
-    rw (a.ok, a.taken, c.clear.ensures.items, ← c.self.view_is) (stands_done _ (g.B.Nand.state c.args.board.now) top found l r.ready some _ a.spells c.len.ensures.bound (rw a.ok at a.list) (rw (a.ok, a.taken) at a.fits))
+    rw (a.ok, a.taken, c.clear.ensures.items, ← c.self.view_is)
+    (stands_done _ (g.B.Nand.state c.args.board.now) top found l r.ready some _ a.spells c.len.ensures.bound (rw a.ok at a.list) (rw (a.ok, a.taken) at a.fits))
 
 pub returns-in-Ok-clause-holds : goal.returns-in-Ok-clause-holds
 returns-in-Ok-clause-holds g c top found m0 m1 maps =

@@ -54,8 +54,10 @@ returns-in-Ok-true-clause-step g c =
             let a = rw (← c.self.view_is) at can in
             let is = is_freezing _ c.args.pool.now c.args.job.now old top found m a in
             let done = installed_by _ _ _ _ _ _ _ _ _ _ _ _ step.ended top found m is c.in-Ok-true.field-0-test in
-            rw (← c.self.view_is) (log_frozen _ c.args.pool.now c.args.job.now old top found m a c.freeze_step.new.pool c.freeze_step.new.root.root c.freeze_step.new.installer c.freeze_step.new.job new done
-            c.newest-former.result c.retire_epoch.new.pool c.newest-former.ensures given (c.retire_epoch.ensures.fits new.pages) c.newest-blocks.result c.newest-blocks.ensures starts _ (search rules));
+            rw (← c.self.view_is) (log_frozen _ c.args.pool.now c.args.job.now old top found m a
+            c.freeze_step.new.pool c.freeze_step.new.root.root c.freeze_step.new.installer c.freeze_step.new.job new done
+            c.newest-former.result c.retire_epoch.new.pool c.newest-former.ensures given
+            (c.retire_epoch.ensures.fits new.pages) c.newest-blocks.result c.newest-blocks.ensures starts _ (search rules));
         broken = tt;
         works = step.works;
         stops = tt;
@@ -79,7 +81,8 @@ returns-in-Ok-false-clause-step g c =
             let a = rw (← c.self.view_is) at can in
             let is = is_freezing _ c.args.pool.now c.args.job.now old top found m a in
             let on = goes_on_by _ _ _ _ _ _ _ _ _ _ _ _ step.ended top found m is c.in-Ok-false.field-0-test in
-            rw (← c.self.view_is) (log_goes_on _ c.args.pool.now c.args.job.now old top found m a c.freeze_step.new.pool c.freeze_step.new.root c.freeze_step.new.installer c.freeze_step.new.job new on _ (search rules));
+            rw (← c.self.view_is) (log_goes_on _ c.args.pool.now c.args.job.now old top found m a c.freeze_step.new.pool
+            c.freeze_step.new.root c.freeze_step.new.installer c.freeze_step.new.job new on _ (search rules));
         broken = tt;
         works = step.works;
         stops = tt;

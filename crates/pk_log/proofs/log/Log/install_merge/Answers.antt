@@ -18,7 +18,8 @@ returns-in-Ok-clause-step g c =
         ended = λ top found m may.
             let a = rw (← c.self.view_is) at may in
             let is = step.ended top found m (can_merge _ old.pages top found m c.args.level c.args.count c.args.taken.now a) in
-            rw (← c.self.view_is) (log_merged _ old new top found m c.args.level c.args.count c.args.taken.now c.install_merge.new.root.root c.install_merge.new.installer c.empty_merged.new.frozen _ a is c.empty_merged.ensures (search rules));
+            rw (← c.self.view_is) (log_merged _ old new top found m c.args.level c.args.count c.args.taken.now
+            c.install_merge.new.root.root c.install_merge.new.installer c.empty_merged.new.frozen _ a is c.empty_merged.ensures (search rules));
         broken = tt;
         works = step.works;
         stops = tt;

@@ -10,7 +10,8 @@ returns-clause-stands g c flash top found logs =
     let l = rw (← c.self.view_is) at logs in
     let r = rw (← c.self.view_is) at c.requires in
     let storable = subst (λ (x : LogState). IsStorable x.shape (seen c.args.new)) (sym c.self.view_is) c.requires.storable in
-    rw (c.put.ensures, c.copy.ensures, c.push_reserved.ensures.items, seen_push c.self.inside.pending.items c.args.new) (stands_pushed _ (seen c.args.new) flash top found l r.room r.few r.whole storable)
+    rw (c.put.ensures, c.copy.ensures, c.push_reserved.ensures.items, seen_push c.self.inside.pending.items c.args.new)
+    (stands_pushed _ (seen c.args.new) flash top found l r.room r.few r.whole storable)
 
 pub returns-clause-fits : goal.returns-clause-fits
 returns-clause-fits g c flash top found logs =

@@ -7,5 +7,6 @@ returns-clause-runs g c source target_run pool flash arena es fs can =
     rw c.start.ensures.begun (record {
       output = refl;
       same_level = refl;
-      running = starts source target_run _ c.args.self.now.merger.shape c.args.target c.args.self.now.merger pool flash arena es fs c.start.ensures.shape c.start.ensures.own (rw c.start.ensures.begun at can);
+      running = starts source target_run _ c.args.self.now.merger.shape c.args.target c.args.self.now.merger pool flash arena es fs c.start.ensures.shape c.start.ensures.own
+          (rw c.start.ensures.begun at can);
     })

@@ -11,7 +11,12 @@ returns-clause-running g c =
     on_ok c.step.result _ _ c.step.ensures.steps (λ s es fs run.
     let j = rw (← c.self.view_is) at run in
     let r = rw c.in-Some.is at j.running in
-    record { output = refl; same_level = same_level _ _ _ _ _ _ _ _ _ _ _ _ _ c.known.ensures.shape c.known.ensures.kept s es fs r ∙ rw c.in-Some.is at j.same_level; running = runs_on _ _ _ _ _ _ _ _ _ _ _ _ _ c.known.ensures.shape c.known.ensures.kept s es fs r })
+    record {
+      output = refl;
+      same_level = same_level _ _ _ _ _ _ _ _ _ _ _ _ _ c.known.ensures.shape c.known.ensures.kept s es fs r
+          ∙ rw c.in-Some.is at j.same_level;
+      running = runs_on _ _ _ _ _ _ _ _ _ _ _ _ _ c.known.ensures.shape c.known.ensures.kept s es fs r;
+    })
 
 pub returns-clause-whole : goal.returns-clause-whole
 returns-clause-whole g c =
@@ -69,7 +74,8 @@ returns-clause-went g c e =
 
 pub returns-clause-calls : goal.returns-clause-calls
 returns-clause-calls g c =
-    either c.step.result _ _ _ c.step.ensures.steps c.step.ensures.fails (λ s. (acts_call _ _ _ _ _ _ _ _ s.next _ s.between _ _ _ s.acts).calls) (λ fault f. (fails_call _ _ _ _ _ _ _ _ fault f).calls)
+    either c.step.result _ _ _ c.step.ensures.steps c.step.ensures.fails
+    (λ s. (acts_call _ _ _ _ _ _ _ _ s.next _ s.between _ _ _ s.acts).calls) (λ fault f. (fails_call _ _ _ _ _ _ _ _ fault f).calls)
 
 pub returns-clause-only_flash : goal.returns-clause-only_flash
 returns-clause-only_flash g c =

@@ -9,16 +9,24 @@ pub copy_first-requires-clause-alike : goal.copy_first-requires-clause-alike
 copy_first-requires-clause-alike g c = pair_alike _ _ _ c.requires
 
 pub returns-in-Ok-clause-pair : goal.returns-in-Ok-clause-pair
-returns-in-Ok-clause-pair g c = resynced c.args.self.now c.set_split-in-Ok.new.self (g.P.Port.state c.args.first.now) (g.P.Port.state c.copy_first.new.first) (g.Q.Port.state c.args.second.now) (g.Q.Port.state c.copy_first.new.second) _ _ c.requires (g.met.P.Port.took_state _ _ _ c.copy_first.ensures.took_first.2) (g.met.Q.Port.took_state _ _ _ c.copy_first.ensures.took_second.2) (ap (λ (x : Mirrored). x.shape) c.set_split-in-Ok.ensures ∙ ap (λ (x : Mirrored). x.shape) c.copy_first.ensures.same ∙ ap (λ (x : Mirrored). x.shape) c.set_split.ensures) c.copy_first.ensures.keeps c.in-Ok.ensures.visits
+returns-in-Ok-clause-pair g c = resynced c.args.self.now c.set_split-in-Ok.new.self (g.P.Port.state c.args.first.now) (g.P.Port.state c.copy_first.new.first)
+    (g.Q.Port.state c.args.second.now) (g.Q.Port.state c.copy_first.new.second) _ _ c.requires (g.met.P.Port.took_state _ _ _ c.copy_first.ensures.took_first.2)
+    (g.met.Q.Port.took_state _ _ _ c.copy_first.ensures.took_second.2) (ap (λ (x : Mirrored). x.shape) c.set_split-in-Ok.ensures
+    ∙ ap (λ (x : Mirrored). x.shape) c.copy_first.ensures.same ∙ ap (λ (x : Mirrored). x.shape) c.set_split.ensures) c.copy_first.ensures.keeps c.in-Ok.ensures.visits
 
 pub returns-in-Ok-clause-mirrored : goal.returns-in-Ok-clause-mirrored
-returns-in-Ok-clause-mirrored g c = mirrored (g.P.Port.state c.args.first.now) (g.Q.Port.state c.args.second.now) (g.Q.Port.state c.copy_first.new.second) _ c.requires.both_tell (g.met.Q.Port.took_state _ _ _ c.copy_first.ensures.took_second.2) c.in-Ok.ensures.visits
+returns-in-Ok-clause-mirrored g c = mirrored (g.P.Port.state c.args.first.now) (g.Q.Port.state c.args.second.now)
+    (g.Q.Port.state c.copy_first.new.second) _ c.requires.both_tell (g.met.Q.Port.took_state _ _ _ c.copy_first.ensures.took_second.2) c.in-Ok.ensures.visits
 
 pub returns-in-Err-clause-pair : goal.returns-in-Err-clause-pair
-returns-in-Err-clause-pair g c = unresynced c.args.self.now c.copy_first.new.self (g.P.Port.state c.args.first.now) (g.P.Port.state c.copy_first.new.first) (g.Q.Port.state c.args.second.now) (g.Q.Port.state c.copy_first.new.second) _ _ c.requires (g.met.P.Port.took_state _ _ _ c.copy_first.ensures.took_first.2) (g.met.Q.Port.took_state _ _ _ c.copy_first.ensures.took_second.2) (ap (λ (x : Mirrored). x.shape) c.copy_first.ensures.same ∙ ap (λ (x : Mirrored). x.shape) c.set_split.ensures) (ap (λ (x : Mirrored). x.split) c.copy_first.ensures.same ∙ ap (λ (x : Mirrored). x.split) c.set_split.ensures)
+returns-in-Err-clause-pair g c = unresynced c.args.self.now c.copy_first.new.self (g.P.Port.state c.args.first.now) (g.P.Port.state c.copy_first.new.first)
+    (g.Q.Port.state c.args.second.now) (g.Q.Port.state c.copy_first.new.second) _ _ c.requires (g.met.P.Port.took_state _ _ _ c.copy_first.ensures.took_first.2)
+    (g.met.Q.Port.took_state _ _ _ c.copy_first.ensures.took_second.2) (ap (λ (x : Mirrored). x.shape) c.copy_first.ensures.same ∙ ap (λ (x : Mirrored). x.shape) c.set_split.ensures)
+    (ap (λ (x : Mirrored). x.split) c.copy_first.ensures.same ∙ ap (λ (x : Mirrored). x.split) c.set_split.ensures)
 
 pub returns-in-Err-clause-unread : goal.returns-in-Err-clause-unread
-returns-in-Err-clause-unread g c = λ m told. resync_unread c.args.self.now (g.P.Port.state c.args.first.now) (g.Q.Port.state c.args.second.now) (Err c.in-Err.error) c.requires c.in-Err.ensures.unread m told
+returns-in-Err-clause-unread g c = λ m told. resync_unread c.args.self.now (g.P.Port.state c.args.first.now)
+    (g.Q.Port.state c.args.second.now) (Err c.in-Err.error) c.requires c.in-Err.ensures.unread m told
 
 pub returns-in-Err-clause-not_split : goal.returns-in-Err-clause-not_split
 returns-in-Err-clause-not_split g c = not_split _ _ _ _ c.in-Err.error c.in-Err.ensures.causes

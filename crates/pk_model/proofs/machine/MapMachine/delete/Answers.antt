@@ -26,17 +26,23 @@ key-key-requires-clause-space c =
 
 pub returns-then-not-held-clause-ok : goal.returns-then-not-held-clause-ok
 returns-then-not-held-clause-ok c =
-    let gone : contains_key c.args.self.now.map (key (command_of c.args.request.now [])) ≡ false = ap (contains_key c.args.self.now.map) (sym c.key-key.ensures) ∙ sym c.held-held.ensures.there ∙ turned c.held-held.result.is_there true c.if-not-held.true in
+    let gone : contains_key c.args.self.now.map (key (command_of c.args.request.now [])) ≡ false = ap (contains_key c.args.self.now.map) (sym c.key-key.ensures)
+    ∙ sym c.held-held.ensures.there ∙ turned c.held-held.result.is_there true c.if-not-held.true in
     IfOk-weaker c.of_status.result (λ a. replied a ≡ refusal 0x87) (λ a. (v : List ℕ) → Answers c.args.self.now c.args.self.now (command_of c.args.request.now v) a)
     (λ a answer v. refused_answer c.args.self.now c.args.request.now Delete 0x87 (ap op_of c.requires.opcode) c.requires.passed (λ v. ap (λ b. check b 0x87) gone) a answer v) c.of_status.ensures
 
 pub invariant_of-self : goal.invariant_of-self
 invariant_of-self c =
-    let held : c.held-held.result.pages ≡ _ = c.held-held.ensures.pages ∙ sym (ap (λ (m : Machine). pages_if_some m.shape (get m.map c.key-key.result)) c.self.view_is) in
-    (live_removed c.self.inside.shape c.self.inside.map c.key-key.result c.self.inside.live c.held-held.result.pages c.self.invariant.0 held ∙ ap (live c.self.inside.shape) (sym c.remove.ensures), omega (arith, c.self.invariant.1))
+    let held : c.held-held.result.pages ≡ _ = c.held-held.ensures.pages ∙ sym (ap (λ (m : Machine). pages_if_some m.shape (get m.map c.key-key.result)) c.self.view_is) in (
+      live_removed c.self.inside.shape c.self.inside.map c.key-key.result c.self.inside.live c.held-held.result.pages c.self.invariant.0 held
+          ∙ ap (live c.self.inside.shape) (sym c.remove.ensures),
+      omega (arith, c.self.invariant.1),
+    )
 
 pub returns-in-Ok-clause-ok : goal.returns-in-Ok-clause-ok
 returns-in-Ok-clause-ok c = λ v.
-    let there : contains_key c.args.self.now.map (key (command_of c.args.request.now [])) ≡ true = ap (contains_key c.args.self.now.map) (sym c.key-key.ensures) ∙ sym c.held-held.ensures.there ∙ turned c.held-held.result.is_there false c.if-not-held.false in
+    let there : contains_key c.args.self.now.map (key (command_of c.args.request.now [])) ≡ true = ap (contains_key c.args.self.now.map) (sym c.key-key.ensures)
+    ∙ sym c.held-held.ensures.there ∙ turned c.held-held.result.is_there false c.if-not-held.false in
     let left : c.remove.new.self ≡ remove c.args.self.now.map (key (command_of c.args.request.now [])) = c.remove.ensures ∙ (λ i. remove (c.self.view_is i).map (c.key-key.ensures i)) in
-    served_answer c.args.self.now c.args.request.now Delete _ (ap op_of c.requires.opcode) c.requires.passed c.in-Ok.answer v (ap (λ b. check b 0x87) there) c.in-Ok.ensures (λ i. record { shape = (c.self.view_is i).shape; map = left i })
+    served_answer c.args.self.now c.args.request.now Delete _ (ap op_of c.requires.opcode) c.requires.passed c.in-Ok.answer v
+    (ap (λ b. check b 0x87) there) c.in-Ok.ensures (λ i. record { shape = (c.self.view_is i).shape; map = left i })

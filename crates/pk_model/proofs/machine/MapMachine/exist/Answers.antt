@@ -27,7 +27,8 @@ key-requires-clause-space c =
 pub returns-in-Some : goal.returns-in-Some
 returns-in-Some c =
     let got : option_copied c.get.result ≡ get c.args.self.now.map c.key.result = c.get.ensures ∙ ap (λ (m : Map). get m c.key.result) (ap (λ m. m.map) c.self.view_is) in
-    let there : contains_key c.args.self.now.map c.key.result ≡ true = found_some c.args.self.now.map c.key.result (option_copied c.get.result) c.in-Some.field-0.now got (ap option_copied c.in-Some.is) in
+    let there : contains_key c.args.self.now.map c.key.result ≡ true = found_some c.args.self.now.map c.key.result
+    (option_copied c.get.result) c.in-Some.field-0.now got (ap option_copied c.in-Some.is) in
     IfOk-weaker c.of_parts.result (λ a. replied a ≡ success 0 []) (λ a. (v : List ℕ) → Answers c.args.self.now c.args.self.now (command_of c.args.request.now v) a)
     (λ a answer v. served_answer c.args.self.now c.args.request.now Exist c.args.self.now (ap op_of c.requires.opcode) c.requires.passed a v
     (ap (λ q. check (contains_key c.args.self.now.map q) 0x87) (sym c.key.ensures) ∙ ap (λ b. check b 0x87) there) answer refl) c.of_parts.ensures

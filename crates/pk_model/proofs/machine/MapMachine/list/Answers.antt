@@ -24,8 +24,11 @@ list_into-requires-clause-space c = (key_spaced c.args.self.now.shape (command_o
 
 pub returns : goal.returns
 returns c =
-    let page : c.list_into.new.page ≡ offered_all (key (command_of c.args.request.now [])) (record { bytes = []; count = 0; left = min c.args.request.now.size 65536 - 4; full = false }) (keys c.args.self.now.map) =
-    c.list_into.ensures ∙ (λ i. offered_all (key (command_of c.args.request.now [])) (c.in_ok-page.ensures i) (keys c.args.self.now.map)) ∙ ap (λ n. offered_all (key (command_of c.args.request.now [])) (record { bytes = []; count = 0; left = n - 4; full = false }) (keys c.args.self.now.map)) c.min.ensures in
+    let page : c.list_into.new.page ≡ offered_all (key (command_of c.args.request.now []))
+    (record { bytes = []; count = 0; left = min c.args.request.now.size 65536 - 4; full = false }) (keys c.args.self.now.map) =
+    c.list_into.ensures ∙ (λ i. offered_all (key (command_of c.args.request.now [])) (c.in_ok-page.ensures i) (keys c.args.self.now.map))
+    ∙ ap (λ n. offered_all (key (command_of c.args.request.now [])) (record { bytes = []; count = 0; left = n - 4; full = false }) (keys c.args.self.now.map)) c.min.ensures in
     IfOk-weaker c.answer_of.result _ (λ a. (v : List ℕ) → Answers c.args.self.now c.args.self.now (command_of c.args.request.now v) a)
     (λ a answer v. served_answer c.args.self.now c.args.request.now ListKeys c.args.self.now (ap op_of c.requires.opcode) c.requires.passed a v refl
-    (answer ∙ ap (success 0) (listed_answer (key (command_of c.args.request.now [])) (min c.args.request.now.size 65536 - 4) (keys c.args.self.now.map) c.list_into.new.page page)) refl) c.answer_of.ensures
+    (answer ∙ ap (success 0) (listed_answer (key (command_of c.args.request.now [])) (min c.args.request.now.size 65536 - 4) (keys c.args.self.now.map) c.list_into.new.page page)) refl)
+    c.answer_of.ensures

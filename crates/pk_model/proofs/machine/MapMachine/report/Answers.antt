@@ -18,7 +18,10 @@ overflow_cast-len c =
 
 pub returns : goal.returns
 returns c =
-    IfOk-weaker c.of_parts.result (λ a. replied a ≡ success 0 (c.report_front-front.result ++ replicate 52 0)) (λ a. (v : List ℕ) → Answers c.args.self.now c.args.self.now (command_of c.args.request.now v) a)
+    IfOk-weaker c.of_parts.result (λ a. replied a ≡ success 0 (c.report_front-front.result ++ replicate 52 0))
+    (λ a. (v : List ℕ) → Answers c.args.self.now c.args.self.now (command_of c.args.request.now v) a)
     (λ a answer v. served_answer c.args.self.now c.args.request.now Report c.args.self.now (ap op_of c.requires.opcode) c.requires.passed a v refl
     (answer ∙ ap (λ (x : List ℕ). success 0 (x ++ replicate 52 0)) c.report_front-front.ensures
-    ∙ ap (success 0) (reported c.args.self.now.shape c.args.self.now.map c.self.inside.live c.limit-limit.result c.len.result (c.self.invariant.0 ∙ ap (λ (m : Machine). live m.shape m.map) c.self.view_is) (c.limit-limit.ensures.value ∙ ap (λ (m : Machine). limit m.shape) c.self.view_is) (c.len.ensures ∙ ap (λ (m : Machine). len m.map) c.self.view_is))) refl) c.of_parts.ensures
+    ∙ ap (success 0) (reported c.args.self.now.shape c.args.self.now.map c.self.inside.live c.limit-limit.result c.len.result
+    (c.self.invariant.0 ∙ ap (λ (m : Machine). live m.shape m.map) c.self.view_is) (c.limit-limit.ensures.value ∙ ap (λ (m : Machine). limit m.shape) c.self.view_is)
+    (c.len.ensures ∙ ap (λ (m : Machine). len m.map) c.self.view_is))) refl) c.of_parts.ensures

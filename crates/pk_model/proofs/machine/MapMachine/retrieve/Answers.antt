@@ -28,11 +28,14 @@ key-requires-clause-space c =
 pub returns-in-Some : goal.returns-in-Some
 returns-in-Some c =
     let got : option_copied c.get.result ≡ get c.args.self.now.map c.key.result = c.get.ensures ∙ ap (λ (m : Map). get m c.key.result) (ap (λ m. m.map) c.self.view_is) in
-    let there : contains_key c.args.self.now.map c.key.result ≡ true = found_some c.args.self.now.map c.key.result (option_copied c.get.result) c.in-Some.value.now got (ap option_copied c.in-Some.is) in
-    IfOk-weaker c.of_parts.result (λ a. replied a ≡ success c.len.result (take c.min-size.result c.bytes-in-Some.result.now)) (λ a. (v : List ℕ) → Answers c.args.self.now c.args.self.now (command_of c.args.request.now v) a)
+    let there : contains_key c.args.self.now.map c.key.result ≡ true = found_some c.args.self.now.map c.key.result
+    (option_copied c.get.result) c.in-Some.value.now got (ap option_copied c.in-Some.is) in
+    IfOk-weaker c.of_parts.result (λ a. replied a ≡ success c.len.result (take c.min-size.result c.bytes-in-Some.result.now))
+    (λ a. (v : List ℕ) → Answers c.args.self.now c.args.self.now (command_of c.args.request.now v) a)
     (λ a answer v. served_answer c.args.self.now c.args.request.now Retrieve c.args.self.now (ap op_of c.requires.opcode) c.requires.passed a v
     (ap (λ q. check (contains_key c.args.self.now.map q) 0x87) (sym c.key.ensures) ∙ ap (λ b. check b 0x87) there)
-    (answer ∙ retrieved c.args.self.now.map (key (command_of c.args.request.now [])) (option_copied c.get.result) c.in-Some.value.now c.bytes-in-Some.result.now c.len.result c.min-size.result c.args.request.now.size
+    (answer ∙ retrieved c.args.self.now.map (key (command_of c.args.request.now []))
+    (option_copied c.get.result) c.in-Some.value.now c.bytes-in-Some.result.now c.len.result c.min-size.result c.args.request.now.size
     (got ∙ ap (get c.args.self.now.map) c.key.ensures) (ap option_copied c.in-Some.is) c.bytes-in-Some.ensures c.len.ensures
     (c.min-size.ensures ∙ ap (λ (x : List ℕ). min c.args.request.now.size (length x)) (c.bytes.ensures ∙ sym c.bytes-in-Some.ensures))) refl) c.of_parts.ensures
 

@@ -12,4 +12,5 @@ pub returns-in_default-clause-ok : goal.returns-in_default-clause-ok
 returns-in_default-clause-ok c =
     let unknown : op_of c.args.request.now.opcode ≡ None = search rules in
     IfOk-weaker c.of_status.result (λ a. replied a ≡ refusal 0x01) _
-    (λ a answer. early_answer c.args.self.now (command_of c.args.request.now c.args.value.now) 0x01 (ap (fault_of c.args.self.now.shape (command_of c.args.request.now c.args.value.now)) unknown) a answer) c.of_status.ensures
+    (λ a answer. early_answer c.args.self.now (command_of c.args.request.now c.args.value.now) 0x01
+    (ap (fault_of c.args.self.now.shape (command_of c.args.request.now c.args.value.now)) unknown) a answer) c.of_status.ensures

@@ -17,8 +17,10 @@ serve-requires-clause-whole c = subst IsWhole (sym (c.of-request.ensures c.args.
 pub returns-in-Some-clause-ok : goal.returns-in-Some-clause-ok
 returns-in-Some-clause-ok c =
     let early_is : early c.args.self.now.shape (command c.args.entry.now c.args.value.now) ≡ Some c.in-Some.status =
-    ap (early c.args.self.now.shape) (sym (c.of-request.ensures c.args.value.now)) ∙ ap (λ (m : Machine). early m.shape (command_of c.of-request.result c.args.value.now)) (sym c.self.view_is) ∙ sym (c.early_fault.ensures c.args.value.now) ∙ c.in-Some.is in
-    IfOk-weaker c.of_status.result (λ a. replied a ≡ refusal c.in-Some.status) _ (λ a answer. early_answer c.args.self.now (command c.args.entry.now c.args.value.now) c.in-Some.status early_is a answer) c.of_status.ensures
+    ap (early c.args.self.now.shape) (sym (c.of-request.ensures c.args.value.now))
+    ∙ ap (λ (m : Machine). early m.shape (command_of c.of-request.result c.args.value.now)) (sym c.self.view_is) ∙ sym (c.early_fault.ensures c.args.value.now) ∙ c.in-Some.is in
+    IfOk-weaker c.of_status.result (λ a. replied a ≡ refusal c.in-Some.status) _
+    (λ a answer. early_answer c.args.self.now (command c.args.entry.now c.args.value.now) c.in-Some.status early_is a answer) c.of_status.ensures
 
 pub returns-in-None-clause-ok : goal.returns-in-None-clause-ok
 returns-in-None-clause-ok c = subst (λ (x : Command). IfOk c.serve.result (λ a. Answers c.args.self.now c.serve.new.self x a)) (c.of-request.ensures c.args.value.now) c.serve.ensures.ok

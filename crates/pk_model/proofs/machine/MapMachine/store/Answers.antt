@@ -49,7 +49,8 @@ returns-in-Some-clause-ok c =
 pub returns-in-None-clause-ok : goal.returns-in-None-clause-ok
 returns-in-None-clause-ok c =
     let late : late_of c.args.self.now.shape (limit c.args.self.now.shape) c.args.self.now.map (command_of c.args.request.now c.args.value.now) (Some Store) ≡ None =
-    sym (store_late c.args.self.now.shape c.args.self.now.map c.args.request.now c.args.value.now c.held-held.result.is_there c.self.inside.live c.held-held.result.pages c.charge.result c.limit-limit.result
+    sym (store_late c.args.self.now.shape c.args.self.now.map c.args.request.now c.args.value.now
+    c.held-held.result.is_there c.self.inside.live c.held-held.result.pages c.charge.result c.limit-limit.result
     (c.held-held.ensures.there ∙ ap (contains_key c.args.self.now.map) c.key-key.ensures) (c.self.invariant.0 ∙ ap (λ (m : Machine). live m.shape m.map) c.self.view_is)
     (c.held-held.ensures.pages ∙ ap (λ (q : List ℕ). pages_if_some c.args.self.now.shape (get c.args.self.now.map q)) c.key-key.ensures)
     (c.charge.ensures.value ∙ ap (λ (m : Machine). charge m.shape c.args.request.now.size) c.self.view_is) (c.limit-limit.ensures.value ∙ ap (λ (m : Machine). limit m.shape) c.self.view_is))

@@ -9,4 +9,5 @@ pub extend-requires : goal.extend-requires
 extend-requires c = digits_fit c.args.self.now c.loop-byte.self c.args.bytes.now _ c.loop-byte.byte-index _ c.requires (omega arith) c.loop-byte.invariant c.hex_digits.ensures
 
 pub loop-byte-preserved : goal.loop-byte-preserved
-loop-byte-preserved c = digits_written c.args.self.now c.loop-byte.self c.extend.new.self c.args.bytes.now _ c.loop-byte.byte-index (omega arith) c.loop-byte.invariant c.hex_digits.ensures c.extend.ensures
+loop-byte-preserved c = digits_written c.args.self.now c.loop-byte.self c.extend.new.self c.args.bytes.now _ c.loop-byte.byte-index
+    (omega arith) c.loop-byte.invariant c.hex_digits.ensures c.extend.ensures

@@ -23,7 +23,19 @@ returns-clause-bytes c =
     let last : take 64 c.put_text-2.new.bytes ≡ take 56 c.put_zeros-3.new.bytes ++ high = front_sized 56 8 c.put_text-2.new.bytes c.put_zeros-3.new.bytes high high_size c.put_text-2.ensures.front in
     let first : take 16 c.put_text.new.bytes ≡ take 8 c.put_u32.new.bytes ++ low = front_sized 8 8 c.put_text.new.bytes c.put_u32.new.bytes low low_size c.put_text.ensures.front in
     let all : take 64 c.put_text-2.new.bytes ≡ joined [] fields =
-    rw (last, c.put_zeros-3.ensures.front, c.put_u8-3.ensures.front, c.put_u8-2.ensures.front, c.put_u32-2.ensures.front, c.put_zeros-2.ensures.front, first, c.put_u32.ensures.front, c.put_u16.ensures.front, c.put_zeros.ensures.front, c.put_u8.ensures.front) refl in
+    rw (
+      last,
+      c.put_zeros-3.ensures.front,
+      c.put_u8-3.ensures.front,
+      c.put_u8-2.ensures.front,
+      c.put_u32-2.ensures.front,
+      c.put_zeros-2.ensures.front,
+      first,
+      c.put_u32.ensures.front,
+      c.put_u16.ensures.front,
+      c.put_zeros.ensures.front,
+      c.put_u8.ensures.front,
+    ) refl in
     sym (take_all 64 c.put_text-2.new.bytes (omega arith)) ∙ all ∙ joined_spelled [] fields
 
 pub returns-clause-fields : goal.returns-clause-fields

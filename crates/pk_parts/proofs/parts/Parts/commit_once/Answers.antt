@@ -7,7 +7,8 @@ pub returns-clause-step : goal.returns-clause-step
 returns-clause-step g c =
     let e = c.commit.ensures in
     let r = rw (← c.self.view_is) at c.requires in
-    rw (← c.self.view_is) (commit_step c.commit.result _ c.commit.new.self (g.B.Nand.state c.args.board.now) (g.B.Nand.state c.commit.new.board) r.may e.ready e.ok e.stands e.holds e.cuts e.stopped e.err e.cuts_err)
+    rw (← c.self.view_is) (commit_step c.commit.result _ c.commit.new.self (g.B.Nand.state c.args.board.now)
+    (g.B.Nand.state c.commit.new.board) r.may e.ready e.ok e.stands e.holds e.cuts e.stopped e.err e.cuts_err)
 
 pub returns-clause-rest : goal.returns-clause-rest
 returns-clause-rest g c =
@@ -33,7 +34,20 @@ returns-clause-idle g c =
 
 pub returns-clause-seen : goal.returns-clause-seen
 returns-clause-seen g c =
-    rw (← c.self.view_is) (seen_ok c.commit.result (record { log = c.self.inside.log; levels = c.self.inside.levels; arena = c.self.inside.arena; schedule = c.self.inside.schedule; space = c.self.inside.space; reclaim = c.self.inside.reclaim; pool = c.self.inside.pool; keys = c.self.inside.keys; stopped = c.self.inside.stopped; walk = c.self.inside.walk }) c.commit.new.self (g.B.Nand.state c.args.board.now) (g.B.Nand.state c.commit.new.board) c.commit.ensures.ok)
+    rw (← c.self.view_is) (seen_ok c.commit.result
+    (record {
+      log = c.self.inside.log;
+      levels = c.self.inside.levels;
+      arena = c.self.inside.arena;
+      schedule = c.self.inside.schedule;
+      space = c.self.inside.space;
+      reclaim = c.self.inside.reclaim;
+      pool = c.self.inside.pool;
+      keys = c.self.inside.keys;
+      stopped = c.self.inside.stopped;
+      walk = c.self.inside.walk;
+    }) c.commit.new.self
+    (g.B.Nand.state c.args.board.now) (g.B.Nand.state c.commit.new.board) c.commit.ensures.ok)
 
 pub returns-clause-moves : goal.returns-clause-moves
 returns-clause-moves g c =

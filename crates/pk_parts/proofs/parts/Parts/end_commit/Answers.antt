@@ -4,7 +4,8 @@ use Rattle.pk_parts.proofs.parts.Parts.end_commit.Goals as goal
 
 pub returns-then-commits : goal.returns-then-commits
 returns-then-commits g c =
-    committed_half c.args.self.now c.finish_commit.new.self (g.B.Nand.state c.args.board.now) (g.B.Nand.state c.finish_commit.new.board) c.finish_commit.result (sym c.commits.ensures ∙ c.if-commits.true) c.finish_commit.ensures
+    committed_half c.args.self.now c.finish_commit.new.self (g.B.Nand.state c.args.board.now)
+    (g.B.Nand.state c.finish_commit.new.board) c.finish_commit.result (sym c.commits.ensures ∙ c.if-commits.true) c.finish_commit.ensures
 
 pub returns-else-commits : goal.returns-else-commits
 returns-else-commits g c = committed_whole c.args.self.now (g.B.Nand.state c.args.board.now) (sym c.commits.ensures ∙ c.if-commits.false)

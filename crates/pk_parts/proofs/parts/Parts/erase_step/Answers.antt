@@ -11,17 +11,22 @@ erase_spare-requires-clause-fits g c = unfreed_fits c.args.self.now.pool (g.B.Na
 pub returns-in-Ok-true : goal.returns-in-Ok-true
 returns-in-Ok-true g c =
     let e = c.erase_spare.ensures in
-    let one = one_erased c.args.self.now c.erase_spare.new.self (g.B.Nand.state c.args.board.now) (g.B.Nand.state c.erase_spare.new.board) c.in-Ok-true.field-0 c.in-Ok-true.ensures.erased c.in-Ok-true.field-0-test in
-    erase_advances c.args.self.now (g.B.Nand.state c.args.board.now) (g.B.Nand.state c.erase_spare.new.board) c.requires.may c.requires.whole c.erase_spare.new.self one c.in-Ok-true.ensures.rest e.shared e.ready e.owned e.fits
+    let one = one_erased c.args.self.now c.erase_spare.new.self (g.B.Nand.state c.args.board.now)
+    (g.B.Nand.state c.erase_spare.new.board) c.in-Ok-true.field-0 c.in-Ok-true.ensures.erased c.in-Ok-true.field-0-test in
+    erase_advances c.args.self.now (g.B.Nand.state c.args.board.now)
+    (g.B.Nand.state c.erase_spare.new.board) c.requires.may c.requires.whole c.erase_spare.new.self one c.in-Ok-true.ensures.rest e.shared e.ready e.owned e.fits
 
 pub returns-in-Ok-false : goal.returns-in-Ok-false
 returns-in-Ok-false g c =
-    let none = none_erased c.args.self.now c.erase_spare.new.self (g.B.Nand.state c.args.board.now) (g.B.Nand.state c.erase_spare.new.board) c.in-Ok-false.field-0 c.in-Ok-false.ensures.erased c.in-Ok-false.field-0-test in
-    idle_advances c.args.self.now (g.B.Nand.state c.args.board.now) (g.B.Nand.state c.erase_spare.new.board) c.requires.may c.requires.whole c.erase_spare.new.self none c.in-Ok-false.ensures.rest c.requires.merged c.requires.frozen c.requires.reclaimed
+    let none = none_erased c.args.self.now c.erase_spare.new.self (g.B.Nand.state c.args.board.now)
+    (g.B.Nand.state c.erase_spare.new.board) c.in-Ok-false.field-0 c.in-Ok-false.ensures.erased c.in-Ok-false.field-0-test in
+    idle_advances c.args.self.now (g.B.Nand.state c.args.board.now)
+    (g.B.Nand.state c.erase_spare.new.board) c.requires.may c.requires.whole c.erase_spare.new.self none c.in-Ok-false.ensures.rest c.requires.merged c.requires.frozen c.requires.reclaimed
 
 pub returns-in-Err : goal.returns-in-Err
 returns-in-Err g c =
     let e = c.in-Err.ensures in
     let later : Parts = record c.erase_spare.new.self { stopped = true } in
     rw (c.stop.ensures.stopped, c.stop.ensures.value)
-    (erase_failed c.args.self.now (g.B.Nand.state c.args.board.now) (g.B.Nand.state c.erase_spare.new.board) c.requires.may c.requires.whole later e.failed (ap (λ (d : Parts). record d { stopped = true }) e.kept) c.erase_spare.ensures.shared)
+    (erase_failed c.args.self.now (g.B.Nand.state c.args.board.now) (g.B.Nand.state c.erase_spare.new.board) c.requires.may c.requires.whole later e.failed
+    (ap (λ (d : Parts). record d { stopped = true }) e.kept) c.erase_spare.ensures.shared)

@@ -15,11 +15,14 @@ returns g c = elim c.match-reclaim_step.branch [
       let r = rw (← c.self.view_is) at c.requires in
       let x = space c.reclaim_step.new.log c.reclaim_step.new.values c.reclaim_step.new.pool c.reclaim_step.new.job in
       rw w.result-is (rw (← c.self.view_is)
-      (commit_ended _ x (g.B.Nand.state c.args.board.now) (g.B.Nand.state c.reclaim_step.new.board) r.may r.half e.same_log e.ready e.grows e.same_roots e.rest w.in-Ok.field-0 c.reclaim_step.result w.in-Ok.ensures.does w.in-Ok.ensures.sound e.repeats)))
+      (commit_ended _ x (g.B.Nand.state c.args.board.now)
+      (g.B.Nand.state c.reclaim_step.new.board) r.may r.half e.same_log e.ready e.grows e.same_roots
+      e.rest w.in-Ok.field-0 c.reclaim_step.result w.in-Ok.ensures.does w.in-Ok.ensures.sound e.repeats)))
   | in-Err w ↦ (
       let e = c.reclaim_step.ensures in
       let r = rw (← c.self.view_is) at c.requires in
       let x = space c.reclaim_step.new.log c.reclaim_step.new.values c.reclaim_step.new.pool c.reclaim_step.new.job in
       rw w.result-is (rw (← c.self.view_is)
-      (commit_failed _ x (g.B.Nand.state c.args.board.now) (g.B.Nand.state c.reclaim_step.new.board) r.may r.half e.same_log e.ready e.grows e.same_roots e.rest w.in-Err.fault c.reclaim_step.result w.in-Err.is e.broken e.repeats)))
+      (commit_failed _ x (g.B.Nand.state c.args.board.now)
+      (g.B.Nand.state c.reclaim_step.new.board) r.may r.half e.same_log e.ready e.grows e.same_roots e.rest w.in-Err.fault c.reclaim_step.result w.in-Err.is e.broken e.repeats)))
 ]

@@ -21,4 +21,5 @@ returns-in-Err g c =
     let new = g.B.Nand.state c.finish_half.new.board in
     let failed = subst (λ r. FinishesOr c.args.self.now c.finish_half.new.self old new r) c.in-Err.is c.finish_half.ensures in
     rw (c.stop.ensures.stopped, c.stop.ensures.value)
-    (half_stops c.args.self.now old c.requires.may c.requires.half c.finish_half.new.self new (subst (λ (d : Parts). IsShared d.pool.shape d.pool.states) c.self.view_is c.known.ensures) failed.1 failed.2)
+    (half_stops c.args.self.now old c.requires.may c.requires.half c.finish_half.new.self new
+    (subst (λ (d : Parts). IsShared d.pool.shape d.pool.states) c.self.view_is c.known.ensures) failed.1 failed.2)

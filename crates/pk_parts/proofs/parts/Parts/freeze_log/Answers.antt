@@ -6,7 +6,8 @@ pub freezes-init : goal.freezes-init
 freezes-init g c = ongoing_begin c.args.self.now (g.B.Nand.state c.args.board.now) c.requires.may c.requires.none_pending c.requires.none_merges
 
 pub freeze_whole-requires-clause-may : goal.freeze_whole-requires-clause-may
-freeze_whole-requires-clause-may g c = may_freeze c.args.self.now (g.B.Nand.state c.args.board.now) c.freezes.self (g.B.Nand.state c.freezes.board) c.requires.may.ready c.freezes.invariant c.requires.number
+freeze_whole-requires-clause-may g c = may_freeze c.args.self.now (g.B.Nand.state c.args.board.now) c.freezes.self
+    (g.B.Nand.state c.freezes.board) c.requires.may.ready c.freezes.invariant c.requires.number
 
 pub returns-in-Ok-true-clause-step : goal.returns-in-Ok-true-clause-step
 returns-in-Ok-true-clause-step g c =

@@ -18,7 +18,8 @@ returns-clause-does g c = elim c.match-freeze_step.branch [
       let r = rw (← c.self.view_is) at c.requires in
       let x = index c.freeze_step.new.log c.self.inside.levels c.self.inside.arena c.freeze_step.new.pool c.freeze_step.new.self in
       let first = freeze_first _ (g.B.Nand.state c.args.board.now) r.may x (g.B.Nand.state c.freeze_step.new.board) w.in-Ok.field-0 c.freeze_step.result w.in-Ok.is w.in-Ok.ensures.turn in
-      rw w.result-is (rw (← c.self.view_is) (freeze_does _ (g.B.Nand.state c.args.board.now) r.may x (g.B.Nand.state c.freeze_step.new.board) (e.moves first) (e.freezes first) r.none_merges e.calls.ready)))
+      rw w.result-is (rw (← c.self.view_is)
+      (freeze_does _ (g.B.Nand.state c.args.board.now) r.may x (g.B.Nand.state c.freeze_step.new.board) (e.moves first) (e.freezes first) r.none_merges e.calls.ready)))
   | in-Err w ↦ rw w.result-is tt
 ]
 
@@ -40,12 +41,15 @@ returns-clause-once g c = elim c.match-freeze_step.branch [
       let r = rw (← c.self.view_is) at c.requires in
       let x = index c.freeze_step.new.log c.self.inside.levels c.self.inside.arena c.freeze_step.new.pool c.freeze_step.new.self in
       let first = freeze_first _ (g.B.Nand.state c.args.board.now) r.may x (g.B.Nand.state c.freeze_step.new.board) w.in-Ok.field-0 c.freeze_step.result w.in-Ok.is w.in-Ok.ensures.turn in
-      rw w.result-is (rw (← c.self.view_is) (freeze_went _ (g.B.Nand.state c.args.board.now) r.may x (g.B.Nand.state c.freeze_step.new.board) (e.moves first) (e.freezes first) e.same_log w.in-Ok.ensures.sound e.calls.calls e.calls.installs e.calls.ready)))
+      rw w.result-is (rw (← c.self.view_is)
+      (freeze_went _ (g.B.Nand.state c.args.board.now) r.may x (g.B.Nand.state c.freeze_step.new.board)
+      (e.moves first) (e.freezes first) e.same_log w.in-Ok.ensures.sound e.calls.calls e.calls.installs e.calls.ready)))
   | in-Err w ↦ (
       let e = c.freeze_step.ensures in
       let r = rw (← c.self.view_is) at c.requires in
       let x = index c.freeze_step.new.log c.self.inside.levels c.self.inside.arena c.freeze_step.new.pool c.freeze_step.new.self in
       let breaks = freeze_breaks _ (g.B.Nand.state c.args.board.now) r.may x (g.B.Nand.state c.freeze_step.new.board) r.none_merges w.in-Err.ensures.broken in
       rw w.result-is (rw (← c.self.view_is)
-      (freeze_failed _ (g.B.Nand.state c.args.board.now) r.may x (g.B.Nand.state c.freeze_step.new.board) w.in-Err.fault e.same_log w.in-Err.ensures.stopped breaks w.in-Err.ensures.stops e.calls.calls e.calls.installs e.calls.ready)))
+      (freeze_failed _ (g.B.Nand.state c.args.board.now) r.may x
+      (g.B.Nand.state c.freeze_step.new.board) w.in-Err.fault e.same_log w.in-Err.ensures.stopped breaks w.in-Err.ensures.stops e.calls.calls e.calls.installs e.calls.ready)))
 ]

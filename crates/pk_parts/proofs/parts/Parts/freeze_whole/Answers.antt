@@ -10,14 +10,18 @@ pub settle-requires : goal.settle-requires
 settle-requires g c =
     let s0 = g.B.Nand.state c.args.board.now in
     let s1 = g.B.Nand.state c.freeze_once.new.board in
-    record { may = may_settle_freeze c.args.self.now c.freeze_once.new.self s0 s1 c.requires.may (subst (λ r. FreezesOnce c.args.self.now c.freeze_once.new.self s0 s1 r) c.in-Ok.is c.freeze_once.ensures.once) }
+    record {
+      may = may_settle_freeze c.args.self.now c.freeze_once.new.self s0 s1 c.requires.may
+          (subst (λ r. FreezesOnce c.args.self.now c.freeze_once.new.self s0 s1 r) c.in-Ok.is c.freeze_once.ensures.once);
+    }
 
 pub returns-in-Ok-settle : goal.returns-in-Ok-settle
 returns-in-Ok-settle g c =
     let s0 = g.B.Nand.state c.args.board.now in
     let s1 = g.B.Nand.state c.freeze_once.new.board in
     let s2 = g.B.Nand.state c.settle.new.board in
-    frozen_settled c.args.self.now c.freeze_once.new.self s0 s1 c.requires.may (subst (λ r. FreezesOnce c.args.self.now c.freeze_once.new.self s0 s1 r) c.in-Ok.is c.freeze_once.ensures.once) c.settle.new.self s2 c.repeats_next-ends.result
+    frozen_settled c.args.self.now c.freeze_once.new.self s0 s1 c.requires.may
+    (subst (λ r. FreezesOnce c.args.self.now c.freeze_once.new.self s0 s1 r) c.in-Ok.is c.freeze_once.ensures.once) c.settle.new.self s2 c.repeats_next-ends.result
     (c.repeats_next-ends.ensures ∙ ap (λ (d : Parts). repeats_next d.log.next) c.self.view_is)
     (subst (λ r. SettlesOr c.freeze_once.new.self c.settle.new.self s1 s2 r) c.in-Ok-settle.is c.settle.ensures)
 
@@ -26,11 +30,13 @@ returns-in-Err-settle g c =
     let s0 = g.B.Nand.state c.args.board.now in
     let s1 = g.B.Nand.state c.freeze_once.new.board in
     let s2 = g.B.Nand.state c.settle.new.board in
-    frozen_unsettled c.args.self.now c.freeze_once.new.self s0 s1 c.requires.may (subst (λ r. FreezesOnce c.args.self.now c.freeze_once.new.self s0 s1 r) c.in-Ok.is c.freeze_once.ensures.once) c.settle.new.self s2 c.in-Err-settle.fault
+    frozen_unsettled c.args.self.now c.freeze_once.new.self s0 s1 c.requires.may
+    (subst (λ r. FreezesOnce c.args.self.now c.freeze_once.new.self s0 s1 r) c.in-Ok.is c.freeze_once.ensures.once) c.settle.new.self s2 c.in-Err-settle.fault
     (subst (λ r. SettlesOr c.freeze_once.new.self c.settle.new.self s1 s2 r) c.in-Err-settle.is c.settle.ensures)
 
 pub returns-in-Err : goal.returns-in-Err
 returns-in-Err g c =
     let s0 = g.B.Nand.state c.args.board.now in
     let s1 = g.B.Nand.state c.freeze_once.new.board in
-    frozen_failed c.args.self.now c.freeze_once.new.self s0 s1 c.requires.may c.in-Err.fault (subst (λ r. FreezesOnce c.args.self.now c.freeze_once.new.self s0 s1 r) c.in-Err.is c.freeze_once.ensures.once)
+    frozen_failed c.args.self.now c.freeze_once.new.self s0 s1 c.requires.may c.in-Err.fault
+    (subst (λ r. FreezesOnce c.args.self.now c.freeze_once.new.self s0 s1 r) c.in-Err.is c.freeze_once.ensures.once)

@@ -10,18 +10,32 @@ use Rattle.pk_parts.proofs.parts.Parts.look.Goals as goal
 pub returns-clause-looks : goal.returns-clause-looks
 returns-clause-looks g c =
     let flash = (g.B.Nand.state c.args.board.now).pages in
-    let parts : Parts = record { log = c.self.inside.log; levels = c.self.inside.levels; arena = c.self.inside.arena; schedule = c.self.inside.schedule; space = c.self.inside.space; reclaim = c.self.inside.reclaim; pool = c.self.inside.pool; keys = c.self.inside.keys; stopped = c.self.inside.stopped; walk = c.self.inside.walk } in
+    let parts : Parts = record {
+      log = c.self.inside.log;
+      levels = c.self.inside.levels;
+      arena = c.self.inside.arena;
+      schedule = c.self.inside.schedule;
+      space = c.self.inside.space;
+      reclaim = c.self.inside.reclaim;
+      pool = c.self.inside.pool;
+      keys = c.self.inside.keys;
+      stopped = c.self.inside.stopped;
+      walk = c.self.inside.walk;
+    } in
     let T : Parts → Type 0 = λ d. IfOk c.place_found.result (λ p. Looks d flash c.args.key.now p) in
-    subst T c.self.view_is (subst (λ r. IfOk r (λ p. Looks parts flash c.args.key.now p)) (sym c.place_found.ensures) (looks_found parts flash c.args.key.now c.find_entry.result c.find_entry.ensures.found))
+    subst T c.self.view_is (subst (λ r. IfOk r (λ p. Looks parts flash c.args.key.now p))
+    (sym c.place_found.ensures) (looks_found parts flash c.args.key.now c.find_entry.result c.find_entry.ensures.found))
 
 pub returns-clause-reads : goal.returns-clause-reads
 returns-clause-reads g c =
     let few = subst (λ (d : Parts). reads_through d.levels.runs + d.levels.pinned ≤ 4) c.self.view_is c.known.ensures.few in
     subst (λ r. OnOk r (ReadsOnly (g.B.Nand.state c.args.board.now) (g.B.Nand.state c.find_entry.new.board) (4 - c.args.self.now.levels.pinned))) (sym c.place_found.ensures)
-    (named_ok _ c.find_entry.result (looked_reads c.find_entry.result _ _ (reads_through c.args.self.now.levels.runs) c.args.self.now.levels.pinned c.requires.count few (rw (← c.self.view_is) c.find_entry.ensures.reads)))
+    (named_ok _ c.find_entry.result
+    (looked_reads c.find_entry.result _ _ (reads_through c.args.self.now.levels.runs) c.args.self.now.levels.pinned c.requires.count few (rw (← c.self.view_is) c.find_entry.ensures.reads)))
 
 pub returns-clause-failing : goal.returns-clause-failing
 returns-clause-failing g c =
     let few = subst (λ (d : Parts). reads_through d.levels.runs + d.levels.pinned ≤ 4) c.self.view_is c.known.ensures.few in
     subst (λ r. OnErr r (ReadsFailing (g.B.Nand.state c.args.board.now) (g.B.Nand.state c.find_entry.new.board) (4 - c.args.self.now.levels.pinned))) (sym c.place_found.ensures)
-    (named_err _ c.find_entry.result (looked_failing c.find_entry.result _ _ (reads_through c.args.self.now.levels.runs) c.args.self.now.levels.pinned c.requires.count few (rw (← c.self.view_is) c.find_entry.ensures.err)))
+    (named_err _ c.find_entry.result
+    (looked_failing c.find_entry.result _ _ (reads_through c.args.self.now.levels.runs) c.args.self.now.levels.pinned c.requires.count few (rw (← c.self.view_is) c.find_entry.ensures.err)))

@@ -34,16 +34,19 @@ returns-then-not-needs_freeze-clause-idle g c = λ _. (refl, refl)
 pub empty_active-requires-clause-may : goal.empty_active-requires-clause-may
 empty_active-requires-clause-may g c =
     let e = c.in-Ok.ensures in
-    may_after c.args.self.now c.commit_pending.new.self 0 (g.B.Nand.state c.args.board.now) (g.B.Nand.state c.commit_pending.new.board) tt c.requires.may (shape_committed c.args.self.now c.commit_pending.new.self e.rest) e.step
+    may_after c.args.self.now c.commit_pending.new.self 0 (g.B.Nand.state c.args.board.now)
+    (g.B.Nand.state c.commit_pending.new.board) tt c.requires.may (shape_committed c.args.self.now c.commit_pending.new.self e.rest) e.step
 
 pub empty_active-requires-clause-number : goal.empty_active-requires-clause-number
 empty_active-requires-clause-number g c =
-    still_numbers c.args.self.now c.commit_pending.new.self (g.B.Nand.state c.args.board.now) (g.B.Nand.state c.commit_pending.new.board) (shape_committed c.args.self.now c.commit_pending.new.self c.in-Ok.ensures.rest) c.in-Ok.ensures.step.roots_few c.requires.number
+    still_numbers c.args.self.now c.commit_pending.new.self (g.B.Nand.state c.args.board.now) (g.B.Nand.state c.commit_pending.new.board)
+    (shape_committed c.args.self.now c.commit_pending.new.self c.in-Ok.ensures.rest) c.in-Ok.ensures.step.roots_few c.requires.number
 
 pub returns-in-Ok-clause-step : goal.returns-in-Ok-clause-step
 returns-in-Ok-clause-step g c =
     let e = c.in-Ok.ensures in
-    room_committed c.empty_active.result c.args.self.now c.commit_pending.new.self c.empty_active.new.self (g.B.Nand.state c.args.board.now) (g.B.Nand.state c.commit_pending.new.board) (g.B.Nand.state c.empty_active.new.board)
+    room_committed c.empty_active.result c.args.self.now c.commit_pending.new.self c.empty_active.new.self
+    (g.B.Nand.state c.args.board.now) (g.B.Nand.state c.commit_pending.new.board) (g.B.Nand.state c.empty_active.new.board)
     c.requires.may.ready (shape_committed c.args.self.now c.commit_pending.new.self e.rest) e.step c.empty_active.ensures.step
 
 pub returns-in-Ok-clause-room : goal.returns-in-Ok-clause-room
@@ -74,7 +77,8 @@ pub returns-in-Ok-clause-idle : goal.returns-in-Ok-clause-idle
 returns-in-Ok-clause-idle g c = rw (← c.self.view_is) (not_wanted_ok _ c.empty_active.result _ (sym c.needs_freeze.ensures ∙ c.if-not-needs_freeze.false))
 
 pub returns-in-Err-clause-step : goal.returns-in-Err-clause-step
-returns-in-Err-clause-step g c = not_committed c.in-Err.fault c.args.self.now c.commit_pending.new.self (g.B.Nand.state c.args.board.now) (g.B.Nand.state c.commit_pending.new.board) c.in-Err.ensures.step
+returns-in-Err-clause-step g c = not_committed c.in-Err.fault c.args.self.now c.commit_pending.new.self
+    (g.B.Nand.state c.args.board.now) (g.B.Nand.state c.commit_pending.new.board) c.in-Err.ensures.step
 
 pub returns-in-Err-clause-pending : goal.returns-in-Err-clause-pending
 returns-in-Err-clause-pending g c = running_stopped Unit _ c.in-Err.fault c.in-Err.ensures.step.stopped

@@ -15,24 +15,29 @@ commit_pending-requires g c = record { may = may_commit c.args.self.now (g.B.Nan
 pub reclaim_for-requires-clause-may : goal.reclaim_for-requires-clause-may
 reclaim_for-requires-clause-may g c =
     let e = c.in-Ok.ensures in
-    space_committed c.args.count c.args.self.now c.commit_pending.new.self (g.B.Nand.state c.args.board.now) (g.B.Nand.state c.commit_pending.new.board) c.requires.may (shape_committed c.args.self.now c.commit_pending.new.self e.rest) e.step e.none c.requires.number
+    space_committed c.args.count c.args.self.now c.commit_pending.new.self (g.B.Nand.state c.args.board.now)
+    (g.B.Nand.state c.commit_pending.new.board) c.requires.may (shape_committed c.args.self.now c.commit_pending.new.self e.rest) e.step e.none c.requires.number
 
 pub reclaim_for-requires-clause-some : goal.reclaim_for-requires-clause-some
-reclaim_for-requires-clause-some g c = most_committed c.args.count c.args.self.now c.commit_pending.new.self (shape_committed c.args.self.now c.commit_pending.new.self c.in-Ok.ensures.rest) c.requires.some
+reclaim_for-requires-clause-some g c = most_committed c.args.count c.args.self.now c.commit_pending.new.self
+    (shape_committed c.args.self.now c.commit_pending.new.self c.in-Ok.ensures.rest) c.requires.some
 
 pub returns-in-Ok-clause-step : goal.returns-in-Ok-clause-step
 returns-in-Ok-clause-step g c =
     let e = c.in-Ok.ensures in
-    space_made c.args.count c.args.self.now c.commit_pending.new.self (g.B.Nand.state c.args.board.now) (g.B.Nand.state c.commit_pending.new.board) c.requires.may (shape_committed c.args.self.now c.commit_pending.new.self e.rest) e.step
+    space_made c.args.count c.args.self.now c.commit_pending.new.self (g.B.Nand.state c.args.board.now)
+    (g.B.Nand.state c.commit_pending.new.board) c.requires.may (shape_committed c.args.self.now c.commit_pending.new.self e.rest) e.step
     c.reclaim_for.result c.reclaim_for.new.self (g.B.Nand.state c.reclaim_for.new.board) c.reclaim_for.ensures.step
 
 pub returns-in-Ok-clause-stays : goal.returns-in-Ok-clause-stays
 returns-in-Ok-clause-stays g c =
     let e = c.in-Ok.ensures in
-    stays_made c.reclaim_for.result c.args.self.now c.commit_pending.new.self c.reclaim_for.new.self (leaves_committed c.args.self.now c.commit_pending.new.self e.rest) e.moves c.reclaim_for.ensures.stays
+    stays_made c.reclaim_for.result c.args.self.now c.commit_pending.new.self c.reclaim_for.new.self
+    (leaves_committed c.args.self.now c.commit_pending.new.self e.rest) e.moves c.reclaim_for.ensures.stays
 
 pub returns-in-Err-clause-step : goal.returns-in-Err-clause-step
-returns-in-Err-clause-step g c = space_not_made c.in-Err.fault c.args.self.now c.commit_pending.new.self (g.B.Nand.state c.args.board.now) (g.B.Nand.state c.commit_pending.new.board) c.in-Err.ensures.step
+returns-in-Err-clause-step g c = space_not_made c.in-Err.fault c.args.self.now c.commit_pending.new.self
+    (g.B.Nand.state c.args.board.now) (g.B.Nand.state c.commit_pending.new.board) c.in-Err.ensures.step
 
 pub returns-in-Err-clause-none : goal.returns-in-Err-clause-none
 returns-in-Err-clause-none g c = running_stopped Unit _ c.in-Err.fault c.in-Err.ensures.step.stopped

@@ -10,7 +10,8 @@ returns-in-Ok-Worked g c =
     let r = c.requires in
     let e = c.reclaim_once.ensures in
     let is = c.in-Ok-Worked.ensures in
-    space_worked c.args.count c.args.self.now (g.B.Nand.state c.args.board.now) r.may r.some r.awaits c.reclaim_once.new.self (g.B.Nand.state c.reclaim_once.new.board) e.none e.same_roots e.calls e.rest e.ready
+    space_worked c.args.count c.args.self.now (g.B.Nand.state c.args.board.now) r.may r.some r.awaits c.reclaim_once.new.self
+    (g.B.Nand.state c.reclaim_once.new.board) e.none e.same_roots e.calls e.rest e.ready
     (omega (arith, c.read_count.ensures.value, c.read_count.type_inv)) c.in-Ok-Worked.field-0 c.in-Ok-Worked.field-0-is is.sound is.does
     c.end_commit.new.self (g.B.Nand.state c.end_commit.new.board) c.end_commit.result c.end_commit.ensures
 
@@ -20,7 +21,8 @@ end_commit-requires g c =
     let e = c.reclaim_once.ensures in
     let is = c.in-Ok-Worked.ensures in
     record {
-      may = space_may_end c.args.count c.args.self.now (g.B.Nand.state c.args.board.now) r.may r.some r.awaits c.reclaim_once.new.self (g.B.Nand.state c.reclaim_once.new.board) e.none e.same_roots e.calls e.rest e.ready
+      may = space_may_end c.args.count c.args.self.now (g.B.Nand.state c.args.board.now) r.may r.some r.awaits c.reclaim_once.new.self
+          (g.B.Nand.state c.reclaim_once.new.board) e.none e.same_roots e.calls e.rest e.ready
           (omega (arith, c.read_count.ensures.value, c.read_count.type_inv)) c.in-Ok-Worked.field-0 c.in-Ok-Worked.field-0-is is.sound is.does;
     }
 
@@ -29,30 +31,38 @@ returns-in-Ok-Ended g c =
     let r = c.requires in
     let e = c.reclaim_once.ensures in
     let is = c.in-Ok-Ended.ensures in
-    space_ended c.args.count c.args.self.now (g.B.Nand.state c.args.board.now) r.may r.some r.awaits c.reclaim_once.new.self (g.B.Nand.state c.reclaim_once.new.board) e.none e.same_roots e.calls e.rest e.ready
+    space_ended c.args.count c.args.self.now (g.B.Nand.state c.args.board.now) r.may r.some r.awaits c.reclaim_once.new.self
+    (g.B.Nand.state c.reclaim_once.new.board) e.none e.same_roots e.calls e.rest e.ready
     (omega (arith, c.read_count.ensures.value, c.read_count.type_inv)) c.in-Ok-Ended.field-0 c.in-Ok-Ended.field-0-is is.sound is.does
 
 pub empty_active-requires-clause-may : goal.empty_active-requires-clause-may
 empty_active-requires-clause-may g c =
     let r = c.requires in
-    waits_may c.args.count c.args.self.now (g.B.Nand.state c.args.board.now) r.may r.some r.awaits c.reclaim_once.new.self (g.B.Nand.state c.reclaim_once.new.board) (waits_is c.args.self.now c.reclaim_once.new.self (g.B.Nand.state c.args.board.now) (g.B.Nand.state c.reclaim_once.new.board) c.in-Ok-NeedsFreeze.field-0 c.in-Ok-NeedsFreeze.field-0-is c.in-Ok-NeedsFreeze.ensures.does)
+    waits_may c.args.count c.args.self.now (g.B.Nand.state c.args.board.now) r.may r.some r.awaits c.reclaim_once.new.self (g.B.Nand.state c.reclaim_once.new.board)
+    (waits_is c.args.self.now c.reclaim_once.new.self (g.B.Nand.state c.args.board.now)
+    (g.B.Nand.state c.reclaim_once.new.board) c.in-Ok-NeedsFreeze.field-0 c.in-Ok-NeedsFreeze.field-0-is c.in-Ok-NeedsFreeze.ensures.does)
 
 pub empty_active-requires-clause-number : goal.empty_active-requires-clause-number
 empty_active-requires-clause-number g c =
     let r = c.requires in
-    waits_number c.args.count c.args.self.now (g.B.Nand.state c.args.board.now) r.may r.some r.awaits c.reclaim_once.new.self (g.B.Nand.state c.reclaim_once.new.board) (waits_is c.args.self.now c.reclaim_once.new.self (g.B.Nand.state c.args.board.now) (g.B.Nand.state c.reclaim_once.new.board) c.in-Ok-NeedsFreeze.field-0 c.in-Ok-NeedsFreeze.field-0-is c.in-Ok-NeedsFreeze.ensures.does)
+    waits_number c.args.count c.args.self.now (g.B.Nand.state c.args.board.now) r.may r.some r.awaits c.reclaim_once.new.self (g.B.Nand.state c.reclaim_once.new.board)
+    (waits_is c.args.self.now c.reclaim_once.new.self (g.B.Nand.state c.args.board.now)
+    (g.B.Nand.state c.reclaim_once.new.board) c.in-Ok-NeedsFreeze.field-0 c.in-Ok-NeedsFreeze.field-0-is c.in-Ok-NeedsFreeze.ensures.does)
 
 pub returns-in-Ok-NeedsFreeze : goal.returns-in-Ok-NeedsFreeze
 returns-in-Ok-NeedsFreeze g c =
     let r = c.requires in
     let e = c.empty_active.ensures in
-    space_frozen c.args.count c.args.self.now (g.B.Nand.state c.args.board.now) r.may r.some r.awaits c.reclaim_once.new.self c.empty_active.new.self (g.B.Nand.state c.reclaim_once.new.board) (g.B.Nand.state c.empty_active.new.board) c.empty_active.result
-    (waits_is c.args.self.now c.reclaim_once.new.self (g.B.Nand.state c.args.board.now) (g.B.Nand.state c.reclaim_once.new.board) c.in-Ok-NeedsFreeze.field-0 c.in-Ok-NeedsFreeze.field-0-is c.in-Ok-NeedsFreeze.ensures.does) e.step e.spends e.room e.none e.leaves e.moves
+    space_frozen c.args.count c.args.self.now (g.B.Nand.state c.args.board.now) r.may r.some r.awaits c.reclaim_once.new.self c.empty_active.new.self
+    (g.B.Nand.state c.reclaim_once.new.board) (g.B.Nand.state c.empty_active.new.board) c.empty_active.result
+    (waits_is c.args.self.now c.reclaim_once.new.self (g.B.Nand.state c.args.board.now)
+    (g.B.Nand.state c.reclaim_once.new.board) c.in-Ok-NeedsFreeze.field-0 c.in-Ok-NeedsFreeze.field-0-is c.in-Ok-NeedsFreeze.ensures.does) e.step e.spends e.room e.none e.leaves e.moves
 
 pub returns-in-Err : goal.returns-in-Err
 returns-in-Err g c =
     let r = c.requires in
     let e = c.reclaim_once.ensures in
     let is = c.in-Err.ensures in
-    space_failed c.args.count c.args.self.now (g.B.Nand.state c.args.board.now) r.may r.some r.awaits c.reclaim_once.new.self (g.B.Nand.state c.reclaim_once.new.board) e.none e.same_roots e.calls e.rest e.ready
+    space_failed c.args.count c.args.self.now (g.B.Nand.state c.args.board.now) r.may r.some r.awaits c.reclaim_once.new.self
+    (g.B.Nand.state c.reclaim_once.new.board) e.none e.same_roots e.calls e.rest e.ready
     (omega (arith, c.read_count.ensures.value, c.read_count.type_inv)) c.in-Err.fault c.read_count.ensures.faults is.fails

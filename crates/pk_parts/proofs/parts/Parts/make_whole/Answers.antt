@@ -1,5 +1,5 @@
 use Rattle.std.proofs.Common.{sym, refl, ◌∙◌}
-use Rattle.pk_parts.proofs.Halves.{not_both}
+use Rattle.pk_base.proofs.Logic.{not_both}
 use Rattle.pk_parts.proofs.Stopping.{fails_half, fails_stopped}
 use Rattle.pk_parts.proofs.parts.Parts.make_whole.Goals as goal
 
@@ -11,7 +11,8 @@ returns-in-Ok-clause-rests g c = λ none. absurd (not_both _ (sym c.is_half.ensu
 
 pub returns-in-Err-clause-finishes : goal.returns-in-Err-clause-finishes
 returns-in-Err-clause-finishes g c = λ half.
-    fails_half c.in-Err.fault c.fail.result c.finish_half.new.self c.fail.new.self c.fail.ensures.same c.fail.ensures.rest c.args.self.now (g.B.Nand.state c.args.board.now) (g.B.Nand.state c.finish_half.new.board) c.in-Err.ensures
+    fails_half c.in-Err.fault c.fail.result c.finish_half.new.self c.fail.new.self c.fail.ensures.same c.fail.ensures.rest c.args.self.now
+    (g.B.Nand.state c.args.board.now) (g.B.Nand.state c.finish_half.new.board) c.in-Err.ensures
 
 pub returns-in-Err-clause-rests : goal.returns-in-Err-clause-rests
 returns-in-Err-clause-rests g c = λ none. absurd (not_both _ (sym c.is_half.ensures ∙ c.if-is_half.true) none)

@@ -26,7 +26,8 @@ returns-in-Err-settle g c =
     let s1 = g.B.Nand.state c.merge_once.new.board in
     let s2 = g.B.Nand.state c.settle.new.board in
     let was = c.in-Ok-Worked.is ∙ ap Ok c.in-Ok-Worked.field-0-is in
-    merged_unsettled c.args.self.now c.merge_once.new.self s0 s1 c.requires (subst (λ r. MergesOnce c.args.self.now c.merge_once.new.self s0 s1 r) was c.merge_once.ensures.once) c.settle.new.self s2 c.in-Err-settle.fault
+    merged_unsettled c.args.self.now c.merge_once.new.self s0 s1 c.requires
+    (subst (λ r. MergesOnce c.args.self.now c.merge_once.new.self s0 s1 r) was c.merge_once.ensures.once) c.settle.new.self s2 c.in-Err-settle.fault
     (subst (λ r. SettlesOr c.merge_once.new.self c.settle.new.self s1 s2 r) c.in-Err-settle.is c.settle.ensures)
 
 pub returns-in-Ok-Idle : goal.returns-in-Ok-Idle

@@ -24,7 +24,20 @@ returns-clause-stands g c shape flash m drops =
 
 pub returns-clause-moves : goal.returns-clause-moves
 returns-clause-moves g c =
-    rw (← c.self.view_is) (note_stays (record { log = c.self.inside.log; levels = c.self.inside.levels; arena = c.self.inside.arena; schedule = c.self.inside.schedule; space = c.self.inside.space; reclaim = c.self.inside.reclaim; pool = c.self.inside.pool; keys = c.self.inside.keys; stopped = c.self.inside.stopped; walk = c.self.inside.walk }) _ c.push.new.self c.remove.new.self _ c.push.ensures.pushed (ap (λ s. s.open_block) c.remove.ensures.removed))
+    rw (← c.self.view_is) (note_stays
+    (record {
+      log = c.self.inside.log;
+      levels = c.self.inside.levels;
+      arena = c.self.inside.arena;
+      schedule = c.self.inside.schedule;
+      space = c.self.inside.space;
+      reclaim = c.self.inside.reclaim;
+      pool = c.self.inside.pool;
+      keys = c.self.inside.keys;
+      stopped = c.self.inside.stopped;
+      walk = c.self.inside.walk;
+    })
+    _ c.push.new.self c.remove.new.self _ c.push.ensures.pushed (ap (λ s. s.open_block) c.remove.ensures.removed))
 
 pub returns-clause-more : goal.returns-clause-more
 returns-clause-more g c = rw (← c.self.view_is) (pushed_more c.self.inside.log c.push.new.self _ c.push.ensures.pushed)

@@ -27,17 +27,33 @@ returns-clause-stands g c shape flash m value is_len puts =
     let p = rw (← c.self.view_is) at puts in
     let before = rw (c.shape-shape.ensures, ← c.self.view_is) at c.span_if_there-before.ensures in
     let now = ap (λ (n : ℕ). record { page = c.args.page; count = n }) (rw (← c.self.view_is) at c.requires.counted) in
-    put_stands _ shape flash m c.args.key value c.args.page c.args.len c.args.old is_len p c.push.new.self c.replace.new.self c.more_keys-self-inside.result c.span_if_there-before.result (record { page = c.args.page; count = c.args.count })
-    (record { pushed_is = c.push.ensures.pushed; stands = c.push.ensures.stands; fits_in = c.push.ensures.fits }) before now c.replace.ensures.moved c.replace.ensures.placed c.more_keys-self-inside.ensures
+    put_stands _ shape flash m c.args.key value c.args.page c.args.len c.args.old is_len p c.push.new.self c.replace.new.self c.more_keys-self-inside.result c.span_if_there-before.result
+    (record { page = c.args.page; count = c.args.count })
+    (record { pushed_is = c.push.ensures.pushed; stands = c.push.ensures.stands; fits_in = c.push.ensures.fits })
+    before now c.replace.ensures.moved c.replace.ensures.placed c.more_keys-self-inside.ensures
 
 pub returns-clause-moves : goal.returns-clause-moves
 returns-clause-moves g c =
-    rw (← c.self.view_is) (note_stays (record { log = c.self.inside.log; levels = c.self.inside.levels; arena = c.self.inside.arena; schedule = c.self.inside.schedule; space = c.self.inside.space; reclaim = c.self.inside.reclaim; pool = c.self.inside.pool; keys = c.self.inside.keys; stopped = c.self.inside.stopped; walk = c.self.inside.walk }) _ c.push.new.self c.replace.new.self c.more_keys-self-inside.result c.push.ensures.pushed (ap (λ s. s.open_block) c.replace.ensures.moved))
+    rw (← c.self.view_is) (note_stays
+    (record {
+      log = c.self.inside.log;
+      levels = c.self.inside.levels;
+      arena = c.self.inside.arena;
+      schedule = c.self.inside.schedule;
+      space = c.self.inside.space;
+      reclaim = c.self.inside.reclaim;
+      pool = c.self.inside.pool;
+      keys = c.self.inside.keys;
+      stopped = c.self.inside.stopped;
+      walk = c.self.inside.walk;
+    })
+    _ c.push.new.self c.replace.new.self c.more_keys-self-inside.result c.push.ensures.pushed (ap (λ s. s.open_block) c.replace.ensures.moved))
 
 pub returns-clause-noted : goal.returns-clause-noted
 returns-clause-noted g c =
     let p = rw (← c.self.view_is) at c.requires.puts in
-    put_noted _ p.0 p.1 c.args.key p.2 c.args.page c.args.len c.args.old c.push.new.self c.replace.new.self c.more_keys-self-inside.result p.3 p.4 c.push.ensures.pushed (ap (λ s. s.open_block) c.replace.ensures.moved)
+    put_noted _ p.0 p.1 c.args.key p.2 c.args.page c.args.len c.args.old c.push.new.self c.replace.new.self c.more_keys-self-inside.result p.3 p.4 c.push.ensures.pushed
+    (ap (λ s. s.open_block) c.replace.ensures.moved)
 
 pub returns-clause-more : goal.returns-clause-more
 returns-clause-more g c = rw (← c.self.view_is) (pushed_more c.self.inside.log c.push.new.self _ c.push.ensures.pushed)

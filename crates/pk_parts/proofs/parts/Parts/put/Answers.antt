@@ -19,8 +19,12 @@ make_room-requires-clause-may g c = record { ready = c.requires.can.0.ready; sta
 
 pub put_with_room-requires-clause-can : goal.put_with_room-requires-clause-can
 put_with_room-requires-clause-can g c =
-    let e = c.in-Ok.ensures in
-    (can_put_after c.args.self.now c.make_room.new.self _ (g.B.Nand.state c.args.board.now) (g.B.Nand.state c.make_room.new.board) tt e.leaves e.pending e.step c.args.key c.args.value.now c.args.old c.requires.can.0, c.requires.can.1 ∙ ap (λ s. charge s (length c.args.value.now)) (sym e.leaves.same_shape))
+    let e = c.in-Ok.ensures in (
+      can_put_after c.args.self.now c.make_room.new.self _ (g.B.Nand.state c.args.board.now)
+          (g.B.Nand.state c.make_room.new.board) tt e.leaves e.pending e.step c.args.key c.args.value.now c.args.old c.requires.can.0,
+      c.requires.can.1
+          ∙ ap (λ s. charge s (length c.args.value.now)) (sym e.leaves.same_shape),
+    )
 
 pub put_with_room-requires-clause-room : goal.put_with_room-requires-clause-room
 put_with_room-requires-clause-room g c =
@@ -30,7 +34,8 @@ put_with_room-requires-clause-room g c =
 pub returns-in-Ok-clause-step : goal.returns-in-Ok-clause-step
 returns-in-Ok-clause-step g c =
     let e = c.in-Ok.ensures in
-    step_puts_later c.args.self.now c.make_room.new.self _ (g.B.Nand.state c.args.board.now) (g.B.Nand.state c.make_room.new.board) tt e.leaves e.pending e.step c.put_with_room.result c.put_with_room.new.self (g.B.Nand.state c.put_with_room.new.board)
+    step_puts_later c.args.self.now c.make_room.new.self _ (g.B.Nand.state c.args.board.now)
+    (g.B.Nand.state c.make_room.new.board) tt e.leaves e.pending e.step c.put_with_room.result c.put_with_room.new.self (g.B.Nand.state c.put_with_room.new.board)
     c.requires.can.0.ready c.args.key c.args.value.now c.args.old c.put_with_room.ensures.step
 
 pub returns-in-Ok-clause-stays : goal.returns-in-Ok-clause-stays
@@ -43,19 +48,24 @@ returns-in-Ok-clause-opens g c =
     let e = c.in-Ok.ensures in
     let opens = StaysOrOpens c.args.self.now c.put_with_room.new.self (charge c.args.self.now.log.shape (length c.args.value.now)) in
     running_ok opens opens c.put_with_room.result (λ is. is) c.put_with_room.ensures.step.stopped
-    (opens_put c.put_with_room.result c.args.self.now c.make_room.new.self c.put_with_room.new.self (length c.args.value.now) e.moves e.leaves.same_shape (ap (λ (d : Parts). d.space) e.leaves.rest) c.put_with_room.ensures.opens)
+    (opens_put c.put_with_room.result c.args.self.now c.make_room.new.self c.put_with_room.new.self
+    (length c.args.value.now) e.moves e.leaves.same_shape (ap (λ (d : Parts). d.space) e.leaves.rest) c.put_with_room.ensures.opens)
 
 pub returns-in-Ok-clause-programs : goal.returns-in-Ok-clause-programs
 returns-in-Ok-clause-programs g c =
-    put_idle c.put_with_room.result c.args.self.now c.make_room.new.self (g.B.Nand.state c.args.board.now) (g.B.Nand.state c.make_room.new.board) (g.B.Nand.state c.put_with_room.new.board) c.args.key (length c.args.value.now) c.in-Ok.ensures.idle c.put_with_room.ensures.programs
+    put_idle c.put_with_room.result c.args.self.now c.make_room.new.self (g.B.Nand.state c.args.board.now) (g.B.Nand.state c.make_room.new.board)
+    (g.B.Nand.state c.put_with_room.new.board) c.args.key (length c.args.value.now) c.in-Ok.ensures.idle c.put_with_room.ensures.programs
 
 pub returns-in-Ok-clause-quiet : goal.returns-in-Ok-clause-quiet
-returns-in-Ok-clause-quiet g c = put_reads_none c.put_with_room.result c.args.self.now c.make_room.new.self (g.B.Nand.state c.args.board.now) (g.B.Nand.state c.make_room.new.board) (g.B.Nand.state c.put_with_room.new.board) c.args.key c.in-Ok.ensures.idle c.put_with_room.ensures.step.works
+returns-in-Ok-clause-quiet g c = put_reads_none c.put_with_room.result c.args.self.now c.make_room.new.self (g.B.Nand.state c.args.board.now)
+    (g.B.Nand.state c.make_room.new.board) (g.B.Nand.state c.put_with_room.new.board) c.args.key c.in-Ok.ensures.idle c.put_with_room.ensures.step.works
 
 pub returns-in-Err-clause-step : goal.returns-in-Err-clause-step
 returns-in-Err-clause-step g c =
-    fails_step c.in-Err.fault c.fail.result c.make_room.new.self c.fail.new.self c.fail.ensures.same c.fail.ensures.rest _ _ (λ e. KeepsAll c.args.self.now e (g.B.Nand.state c.args.board.now) (g.B.Nand.state c.make_room.new.board)) _ _ _ _ _
-    (put_failed_before c.in-Err.fault c.args.self.now c.make_room.new.self _ (g.B.Nand.state c.args.board.now) (g.B.Nand.state c.make_room.new.board) c.requires.can.0.ready c.in-Err.ensures.step c.args.key c.args.value.now c.args.old)
+    fails_step c.in-Err.fault c.fail.result c.make_room.new.self c.fail.new.self c.fail.ensures.same c.fail.ensures.rest _ _
+    (λ e. KeepsAll c.args.self.now e (g.B.Nand.state c.args.board.now) (g.B.Nand.state c.make_room.new.board)) _ _ _ _ _
+    (put_failed_before c.in-Err.fault c.args.self.now c.make_room.new.self _ (g.B.Nand.state c.args.board.now)
+    (g.B.Nand.state c.make_room.new.board) c.requires.can.0.ready c.in-Err.ensures.step c.args.key c.args.value.now c.args.old)
 
 pub returns-in-Err-clause-stays : goal.returns-in-Err-clause-stays
 returns-in-Err-clause-stays g c =
@@ -63,14 +73,16 @@ returns-in-Err-clause-stays g c =
     let a = c.args.self.now in
     let b = c.make_room.new.self in
     fails_running c.in-Err.fault c.fail.result c.make_room.new.self c.fail.new.self c.fail.ensures.same c.fail.ensures.rest (λ x. StaysBetween c.args.self.now x)
-    (running_failed Unit Unit (LeavesValues a b × (length b.log.pending ≤ length a.log.pending)) (StaysBetween a b) c.in-Err.fault (λ is. stays_kept a b is.0 is.1 c.requires.can.0.few) (running_both {T = Unit {0}} (LeavesValues a b) (length b.log.pending ≤ length a.log.pending) (Err c.in-Err.fault) e.leaves e.pending))
+    (running_failed Unit Unit (LeavesValues a b × (length b.log.pending ≤ length a.log.pending)) (StaysBetween a b) c.in-Err.fault (λ is. stays_kept a b is.0 is.1 c.requires.can.0.few)
+    (running_both {T = Unit {0}} (LeavesValues a b) (length b.log.pending ≤ length a.log.pending) (Err c.in-Err.fault) e.leaves e.pending))
 
 pub returns-in-Err-clause-opens : goal.returns-in-Err-clause-opens
 returns-in-Err-clause-opens g c =
     let a = c.args.self.now in
     let b = c.make_room.new.self in
     let count = charge a.log.shape (length c.args.value.now) in
-    fails_running c.in-Err.fault c.fail.result c.make_room.new.self c.fail.new.self c.fail.ensures.same c.fail.ensures.rest (λ x. StaysOrOpens c.args.self.now x (charge c.args.self.now.log.shape (length c.args.value.now)))
+    fails_running c.in-Err.fault c.fail.result c.make_room.new.self c.fail.new.self c.fail.ensures.same c.fail.ensures.rest
+    (λ x. StaysOrOpens c.args.self.now x (charge c.args.self.now.log.shape (length c.args.value.now)))
     (running_failed Unit Unit (Stays a b) (StaysOrOpens a b count) c.in-Err.fault (stays_opens a b count) c.in-Err.ensures.moves)
 
 pub returns-in-Ok-clause-spends : goal.returns-in-Ok-clause-spends

@@ -34,7 +34,8 @@ commit_if_full-requires g c =
     record {
       may = record {
         ready = subst (λ (s : Shape). IsReady (g.B.Nand.state c.place_value.new.board) s) (sym (two ∙ one)) step.ready;
-        stands = some_put c.args.self.now c.place_value.new.self c.note_put.new.self (g.B.Nand.state c.args.board.now) (g.B.Nand.state c.place_value.new.board) c.args.key c.args.value.now c.in-Ok.page c.args.old
+        stands = some_put c.args.self.now c.place_value.new.self c.note_put.new.self (g.B.Nand.state c.args.board.now)
+            (g.B.Nand.state c.place_value.new.board) c.args.key c.args.value.now c.in-Ok.page c.args.old
             c.requires.can.0.may e.keeps one two e.written e.place e.in_open (λ shape flash m p. c.note_put.ensures.stands shape flash m c.args.value.now refl p);
       };
     }
@@ -51,7 +52,8 @@ returns-in-Ok-clause-step g c =
     let n = c.note_put.new.self in
     let d = c.commit_if_full.new.self in
     let same = ap (λ (d : Parts). d.log.shape) c.note_put.ensures.rest ∙ ap (λ (d : Parts). d.log.shape) c.place_value.ensures.rest in
-    later c.commit_if_full.result (λ (u : Unit). KeepsAll n d s1 s2) (λ (u : Unit). PutsAll a d s0 s2 c.args.key c.args.value.now c.args.old) (BreaksAll n s1 s2) (FailsToPut a s0 s2 c.args.key c.args.value.now c.args.old)
+    later c.commit_if_full.result (λ (u : Unit). KeepsAll n d s1 s2) (λ (u : Unit). PutsAll a d s0 s2 c.args.key c.args.value.now c.args.old)
+    (BreaksAll n s1 s2) (FailsToPut a s0 s2 c.args.key c.args.value.now c.args.old)
     a.log.shape n.log.shape 0 0 0 s0 s1 s2 same (omega arith) step.works step.roots_few
     (λ u kept. put_changed a b n s0 s1 c.args.key c.args.value.now c.in-Ok.page c.args.old
     c.requires.can.0.ready e.keeps e.written e.place e.in_open (λ shape flash m p. c.note_put.ensures.stands shape flash m c.args.value.now refl p) (Ok u) d s2 kept)
@@ -64,14 +66,16 @@ returns-in-Ok-clause-stays g c =
     let one = c.place_value.ensures.rest in
     let two = c.note_put.ensures.rest in
     stays_committed c.commit_if_full.result c.args.self.now c.note_put.new.self c.commit_if_full.new.self (ap (λ (d : Parts). frames_of d) two ∙ ap (λ (d : Parts). frames_of d) one)
-    (ap (λ (d : Parts). d.stopped) two ∙ ap (λ (d : Parts). d.stopped) one) (ap (λ (d : Parts). d.log.shape) two ∙ ap (λ (d : Parts). d.log.shape) one) c.commit_if_full.ensures.rest c.commit_if_full.ensures.few
+    (ap (λ (d : Parts). d.stopped) two ∙ ap (λ (d : Parts). d.stopped) one)
+    (ap (λ (d : Parts). d.log.shape) two ∙ ap (λ (d : Parts). d.log.shape) one) c.commit_if_full.ensures.rest c.commit_if_full.ensures.few
 
 pub returns-in-Err-clause-step : goal.returns-in-Err-clause-step
 returns-in-Err-clause-step g c =
     let s0 = (g.B.Nand.state c.args.board.now) in
     let s1 = (g.B.Nand.state c.place_value.new.board) in
     let a = c.args.self.now in
-    breaks_step c.in-Err.fault c.fail.result c.place_value.new.self c.fail.new.self c.fail.ensures.same c.fail.ensures.rest (λ (u : Unit). PutsAll a c.place_value.new.self s0 s1 c.args.key c.args.value.now c.args.old) _ _ _ _ _ _
+    breaks_step c.in-Err.fault c.fail.result c.place_value.new.self c.fail.new.self c.fail.ensures.same c.fail.ensures.rest
+    (λ (u : Unit). PutsAll a c.place_value.new.self s0 s1 c.args.key c.args.value.now c.args.old) _ _ _ _ _ _
     (Step-broken _ (λ page. IsPlaced a c.place_value.new.self s0 s1 c.args.key c.args.value.now page) (λ (u : Unit). PutsAll a c.place_value.new.self s0 s1 c.args.key c.args.value.now c.args.old)
     (BreaksAll a s0 s1) (FailsToPut a s0 s1 c.args.key c.args.value.now c.args.old) a.log.shape 0 0 s0 s1 (omega arith)
     (λ broken. put_broken a s0 s1 c.args.key c.args.value.now c.args.old c.requires.can.0.ready broken) c.in-Err.ensures.step)
@@ -88,8 +92,10 @@ returns-in-Ok-clause-noted g c =
 pub returns-in-Ok-clause-programs : goal.returns-in-Ok-clause-programs
 returns-in-Ok-clause-programs g c =
     let e = c.in-Ok.ensures in
-    put_programs c.commit_if_full.result c.args.self.now c.place_value.new.self c.note_put.new.self c.commit_if_full.new.self (g.B.Nand.state c.args.board.now) (g.B.Nand.state c.place_value.new.board) (g.B.Nand.state c.commit_if_full.new.board) (length c.args.value.now)
-    c.requires.can.0.few e.programs (ap (λ (d : Parts). d.log) c.place_value.ensures.rest) c.note_put.ensures.more (ap (λ (d : Parts). d.log.shape) c.note_put.ensures.rest) c.commit_if_full.ensures.idle c.commit_if_full.ensures.full
+    put_programs c.commit_if_full.result c.args.self.now c.place_value.new.self c.note_put.new.self c.commit_if_full.new.self
+    (g.B.Nand.state c.args.board.now) (g.B.Nand.state c.place_value.new.board) (g.B.Nand.state c.commit_if_full.new.board) (length c.args.value.now)
+    c.requires.can.0.few e.programs (ap (λ (d : Parts). d.log) c.place_value.ensures.rest) c.note_put.ensures.more
+    (ap (λ (d : Parts). d.log.shape) c.note_put.ensures.rest) c.commit_if_full.ensures.idle c.commit_if_full.ensures.full
 
 pub returns-in-Ok-clause-calls : goal.returns-in-Ok-clause-calls
 returns-in-Ok-clause-calls g c = few_then _ _ _ _ _ c.place_value.ensures.calls c.commit_if_full.ensures.calls

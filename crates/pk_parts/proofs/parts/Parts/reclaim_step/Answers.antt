@@ -13,28 +13,36 @@ pub returns-in-Ok-Worked : goal.returns-in-Ok-Worked
 returns-in-Ok-Worked g c =
     let e = c.reclaim_once.ensures in
     let is = c.in-Ok-Worked.ensures in
-    goes_on c.args.self.now (g.B.Nand.state c.args.board.now) c.requires.may c.requires.whole c.requires.wanted (g.B.Nand.state c.reclaim_once.new.board) e.calls e.rest e.same_roots e.grows e.ready c.reclaim_once.new.self c.in-Ok-Worked.field-0 c.in-Ok-Worked.field-0-is is.does e.none is.sound (subst (λ (d : Parts). IsShared d.pool.shape d.pool.states) c.self.view_is c.known.ensures)
+    goes_on c.args.self.now (g.B.Nand.state c.args.board.now) c.requires.may c.requires.whole c.requires.wanted
+    (g.B.Nand.state c.reclaim_once.new.board) e.calls e.rest e.same_roots e.grows e.ready c.reclaim_once.new.self c.in-Ok-Worked.field-0 c.in-Ok-Worked.field-0-is is.does e.none is.sound
+    (subst (λ (d : Parts). IsShared d.pool.shape d.pool.states) c.self.view_is c.known.ensures)
 
 pub returns-in-Ok-Ended : goal.returns-in-Ok-Ended
 returns-in-Ok-Ended g c =
     let e = c.reclaim_once.ensures in
     let is = c.in-Ok-Ended.ensures in
-    ends_so c.args.self.now (g.B.Nand.state c.args.board.now) c.requires.may c.requires.whole c.requires.wanted (g.B.Nand.state c.reclaim_once.new.board) e.calls e.rest e.same_roots e.grows e.ready c.reclaim_once.new.self c.in-Ok-Ended.field-0 c.in-Ok-Ended.field-0-is is.does e.none is.sound (subst (λ (d : Parts). IsShared d.pool.shape d.pool.states) c.self.view_is c.known.ensures)
+    ends_so c.args.self.now (g.B.Nand.state c.args.board.now) c.requires.may c.requires.whole c.requires.wanted
+    (g.B.Nand.state c.reclaim_once.new.board) e.calls e.rest e.same_roots e.grows e.ready c.reclaim_once.new.self c.in-Ok-Ended.field-0 c.in-Ok-Ended.field-0-is is.does e.none is.sound
+    (subst (λ (d : Parts). IsShared d.pool.shape d.pool.states) c.self.view_is c.known.ensures)
 
 pub freeze_step-requires : goal.freeze_step-requires
 freeze_step-requires g c =
-    let waits = (waits_is c.args.self.now c.reclaim_once.new.self (g.B.Nand.state c.args.board.now) (g.B.Nand.state c.reclaim_once.new.board) c.in-Ok-NeedsFreeze.field-0 c.in-Ok-NeedsFreeze.field-0-is c.in-Ok-NeedsFreeze.ensures.does) in
+    let waits = (waits_is c.args.self.now c.reclaim_once.new.self (g.B.Nand.state c.args.board.now)
+    (g.B.Nand.state c.reclaim_once.new.board) c.in-Ok-NeedsFreeze.field-0 c.in-Ok-NeedsFreeze.field-0-is c.in-Ok-NeedsFreeze.ensures.does) in
     record {
       may = waits_may c.args.self.now (g.B.Nand.state c.args.board.now) c.requires.may c.requires.whole c.requires.wanted c.reclaim_once.new.self (g.B.Nand.state c.reclaim_once.new.board) waits;
       whole = subst (λ (d : Parts). is_half d ≡ false) (sym waits.same) c.requires.whole;
-      merged = waits_merged c.args.self.now (g.B.Nand.state c.args.board.now) c.requires.may c.requires.whole c.requires.wanted c.reclaim_once.new.self (g.B.Nand.state c.reclaim_once.new.board) waits c.requires.merged;
+      merged = waits_merged c.args.self.now (g.B.Nand.state c.args.board.now) c.requires.may c.requires.whole c.requires.wanted c.reclaim_once.new.self
+          (g.B.Nand.state c.reclaim_once.new.board) waits c.requires.merged;
       wanted = waits_wanted c.args.self.now (g.B.Nand.state c.args.board.now) c.requires.may c.requires.whole c.requires.wanted c.reclaim_once.new.self (g.B.Nand.state c.reclaim_once.new.board) waits;
     }
 
 pub returns-in-Ok-NeedsFreeze : goal.returns-in-Ok-NeedsFreeze
 returns-in-Ok-NeedsFreeze g c =
-    waits_advances c.args.self.now (g.B.Nand.state c.args.board.now) c.requires.may c.requires.whole c.requires.wanted c.reclaim_once.new.self c.freeze_step.new.self (g.B.Nand.state c.reclaim_once.new.board) (g.B.Nand.state c.freeze_step.new.board) c.freeze_step.result
-    (waits_is c.args.self.now c.reclaim_once.new.self (g.B.Nand.state c.args.board.now) (g.B.Nand.state c.reclaim_once.new.board) c.in-Ok-NeedsFreeze.field-0 c.in-Ok-NeedsFreeze.field-0-is c.in-Ok-NeedsFreeze.ensures.does) c.freeze_step.ensures
+    waits_advances c.args.self.now (g.B.Nand.state c.args.board.now) c.requires.may c.requires.whole c.requires.wanted c.reclaim_once.new.self c.freeze_step.new.self
+    (g.B.Nand.state c.reclaim_once.new.board) (g.B.Nand.state c.freeze_step.new.board) c.freeze_step.result
+    (waits_is c.args.self.now c.reclaim_once.new.self (g.B.Nand.state c.args.board.now)
+    (g.B.Nand.state c.reclaim_once.new.board) c.in-Ok-NeedsFreeze.field-0 c.in-Ok-NeedsFreeze.field-0-is c.in-Ok-NeedsFreeze.ensures.does) c.freeze_step.ensures
 
 pub returns-in-Err-Reading : goal.returns-in-Err-Reading
 returns-in-Err-Reading g c =
@@ -42,7 +50,8 @@ returns-in-Err-Reading g c =
     let old = g.B.Nand.state c.args.board.now in
     let new = g.B.Nand.state c.reclaim_once.new.board in
     let unread = subst (λ x. FailsReclaim c.args.self.now c.reclaim_once.new.self old new x) c.in-Err-Reading.field-0-is c.in-Err-Reading.ensures.fails in
-    unread_so c.args.self.now old c.requires.may c.requires.whole c.requires.wanted new e.calls e.rest e.same_roots e.grows e.ready c.reclaim_once.new.self unread (subst (λ (d : Parts). IsShared d.pool.shape d.pool.states) c.self.view_is c.known.ensures)
+    unread_so c.args.self.now old c.requires.may c.requires.whole c.requires.wanted new e.calls e.rest e.same_roots e.grows e.ready c.reclaim_once.new.self unread
+    (subst (λ (d : Parts). IsShared d.pool.shape d.pool.states) c.self.view_is c.known.ensures)
 
 pub returns-in-Err-Stopped : goal.returns-in-Err-Stopped
 returns-in-Err-Stopped g c =
@@ -52,4 +61,5 @@ returns-in-Err-Stopped g c =
     let broken = subst (λ x. FailsReclaim c.args.self.now c.reclaim_once.new.self old new x) c.in-Err-Stopped.field-0-is c.in-Err-Stopped.ensures.fails in
     let later : Parts = record c.reclaim_once.new.self { stopped = true } in
     rw (c.stop.ensures.stopped, c.stop.ensures.value)
-    (stops_so c.args.self.now old c.requires.may c.requires.whole c.requires.wanted new e.calls e.rest e.same_roots e.grows e.ready later refl e.none broken.0 broken.1 (subst (λ (d : Parts). IsShared d.pool.shape d.pool.states) c.self.view_is c.known.ensures))
+    (stops_so c.args.self.now old c.requires.may c.requires.whole c.requires.wanted new e.calls e.rest e.same_roots e.grows e.ready later refl e.none broken.0 broken.1
+    (subst (λ (d : Parts). IsShared d.pool.shape d.pool.states) c.self.view_is c.known.ensures))

@@ -22,7 +22,8 @@ take_with_room-requires-clause-can g c =
 pub returns-in-Ok-clause-step : goal.returns-in-Ok-clause-step
 returns-in-Ok-clause-step g c =
     let e = c.in-Ok.ensures in
-    step_takes_later c.args.self.now c.make_room.new.self _ (g.B.Nand.state c.args.board.now) (g.B.Nand.state c.make_room.new.board) tt e.leaves e.pending e.step c.take_with_room.result c.take_with_room.new.self (g.B.Nand.state c.take_with_room.new.board)
+    step_takes_later c.args.self.now c.make_room.new.self _ (g.B.Nand.state c.args.board.now)
+    (g.B.Nand.state c.make_room.new.board) tt e.leaves e.pending e.step c.take_with_room.result c.take_with_room.new.self (g.B.Nand.state c.take_with_room.new.board)
     c.requires.can.ready c.args.key c.args.old c.take_with_room.ensures.step
 
 pub returns-in-Ok-clause-stays : goal.returns-in-Ok-clause-stays
@@ -40,15 +41,19 @@ returns-in-Ok-clause-moves g c =
 
 pub returns-in-Ok-clause-programs : goal.returns-in-Ok-clause-programs
 returns-in-Ok-clause-programs g c =
-    take_idle c.take_with_room.result c.args.self.now c.make_room.new.self (g.B.Nand.state c.args.board.now) (g.B.Nand.state c.make_room.new.board) (g.B.Nand.state c.take_with_room.new.board) c.args.key c.in-Ok.ensures.idle c.take_with_room.ensures.programs
+    take_idle c.take_with_room.result c.args.self.now c.make_room.new.self (g.B.Nand.state c.args.board.now) (g.B.Nand.state c.make_room.new.board)
+    (g.B.Nand.state c.take_with_room.new.board) c.args.key c.in-Ok.ensures.idle c.take_with_room.ensures.programs
 
 pub returns-in-Ok-clause-quiet : goal.returns-in-Ok-clause-quiet
-returns-in-Ok-clause-quiet g c = put_reads_none c.take_with_room.result c.args.self.now c.make_room.new.self (g.B.Nand.state c.args.board.now) (g.B.Nand.state c.make_room.new.board) (g.B.Nand.state c.take_with_room.new.board) c.args.key c.in-Ok.ensures.idle c.take_with_room.ensures.step.works
+returns-in-Ok-clause-quiet g c = put_reads_none c.take_with_room.result c.args.self.now c.make_room.new.self (g.B.Nand.state c.args.board.now)
+    (g.B.Nand.state c.make_room.new.board) (g.B.Nand.state c.take_with_room.new.board) c.args.key c.in-Ok.ensures.idle c.take_with_room.ensures.step.works
 
 pub returns-in-Err-clause-step : goal.returns-in-Err-clause-step
 returns-in-Err-clause-step g c =
-    fails_step c.in-Err.fault c.fail.result c.make_room.new.self c.fail.new.self c.fail.ensures.same c.fail.ensures.rest _ _ (λ e. KeepsAll c.args.self.now e (g.B.Nand.state c.args.board.now) (g.B.Nand.state c.make_room.new.board)) _ _ _ _ _
-    (take_failed_before c.in-Err.fault c.args.self.now c.make_room.new.self _ (g.B.Nand.state c.args.board.now) (g.B.Nand.state c.make_room.new.board) c.requires.can.ready c.in-Err.ensures.step c.args.key c.args.old)
+    fails_step c.in-Err.fault c.fail.result c.make_room.new.self c.fail.new.self c.fail.ensures.same c.fail.ensures.rest _ _
+    (λ e. KeepsAll c.args.self.now e (g.B.Nand.state c.args.board.now) (g.B.Nand.state c.make_room.new.board)) _ _ _ _ _
+    (take_failed_before c.in-Err.fault c.args.self.now c.make_room.new.self _ (g.B.Nand.state c.args.board.now)
+    (g.B.Nand.state c.make_room.new.board) c.requires.can.ready c.in-Err.ensures.step c.args.key c.args.old)
 
 pub returns-in-Err-clause-stays : goal.returns-in-Err-clause-stays
 returns-in-Err-clause-stays g c =
@@ -56,7 +61,8 @@ returns-in-Err-clause-stays g c =
     let a = c.args.self.now in
     let b = c.make_room.new.self in
     fails_running c.in-Err.fault c.fail.result c.make_room.new.self c.fail.new.self c.fail.ensures.same c.fail.ensures.rest (λ x. StaysBetween c.args.self.now x)
-    (running_failed Unit Unit (LeavesValues a b × (length b.log.pending ≤ length a.log.pending)) (StaysBetween a b) c.in-Err.fault (λ is. stays_kept a b is.0 is.1 c.requires.can.few) (running_both {T = Unit {0}} (LeavesValues a b) (length b.log.pending ≤ length a.log.pending) (Err c.in-Err.fault) e.leaves e.pending))
+    (running_failed Unit Unit (LeavesValues a b × (length b.log.pending ≤ length a.log.pending)) (StaysBetween a b) c.in-Err.fault (λ is. stays_kept a b is.0 is.1 c.requires.can.few)
+    (running_both {T = Unit {0}} (LeavesValues a b) (length b.log.pending ≤ length a.log.pending) (Err c.in-Err.fault) e.leaves e.pending))
 
 pub returns-in-Ok-clause-spends : goal.returns-in-Ok-clause-spends
 returns-in-Ok-clause-spends g c =
@@ -67,7 +73,8 @@ pub returns-in-Err-clause-spends : goal.returns-in-Err-clause-spends
 returns-in-Err-clause-spends g c = spends_within _ _ _ _ _ _ (omega arith) (omega arith) c.make_room.ensures.spends
 
 pub returns-in-Err-clause-moves : goal.returns-in-Err-clause-moves
-returns-in-Err-clause-moves g c = fails_running c.in-Err.fault c.fail.result c.make_room.new.self c.fail.new.self c.fail.ensures.same c.fail.ensures.rest (λ x. Stays c.args.self.now x) c.in-Err.ensures.moves
+returns-in-Err-clause-moves g c = fails_running c.in-Err.fault c.fail.result c.make_room.new.self c.fail.new.self c.fail.ensures.same c.fail.ensures.rest
+    (λ x. Stays c.args.self.now x) c.in-Err.ensures.moves
 
 pub returns-in-Err-clause-stops : goal.returns-in-Err-clause-stops
 returns-in-Err-clause-stops g c = fails_stopped c.in-Err.fault c.fail.result c.make_room.new.self c.fail.new.self c.fail.ensures.same c.fail.ensures.rest

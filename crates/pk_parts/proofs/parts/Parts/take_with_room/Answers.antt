@@ -34,7 +34,8 @@ returns-clause-step g c =
     let n = c.note_gone.new.self in
     let d = c.commit_if_full.new.self in
     let same = ap (λ (d : Parts). d.log.shape) c.note_gone.ensures.rest in
-    Step-says c.commit_if_full.result (λ (u : Unit). KeepsAll n d s0 s1) (λ (u : Unit). TakesAll a d s0 s1 c.args.key c.args.old) (BreaksAll n s0 s1) (FailsToTake a s0 s1 c.args.key c.args.old) a.log.shape 0 0 s0 s1 (omega arith)
+    Step-says c.commit_if_full.result (λ (u : Unit). KeepsAll n d s0 s1) (λ (u : Unit). TakesAll a d s0 s1 c.args.key c.args.old)
+    (BreaksAll n s0 s1) (FailsToTake a s0 s1 c.args.key c.args.old) a.log.shape 0 0 s0 s1 (omega arith)
     (λ u kept. take_changed a n s0 c.args.key c.args.old c.requires.can.ready c.note_gone.ensures.stands (Ok u) d s1 kept)
     (λ broken. take_failed a n s0 c.args.key c.args.old c.requires.can.ready c.note_gone.ensures.stands (Err Stopped) s1 broken)
     (subst (λ (s : Shape). Step (λ (u : Unit). KeepsAll n d s0 s1) (BreaksAll n s0 s1) s 0 s0 s1 c.commit_if_full.result) same c.commit_if_full.ensures.step)
@@ -42,7 +43,8 @@ returns-clause-step g c =
 pub returns-clause-stays : goal.returns-clause-stays
 returns-clause-stays g c =
     let rest = c.note_gone.ensures.rest in
-    stays_committed c.commit_if_full.result c.args.self.now c.note_gone.new.self c.commit_if_full.new.self (ap (λ (d : Parts). frames_of d) rest) (ap (λ (d : Parts). d.stopped) rest) (ap (λ (d : Parts). d.log.shape) rest)
+    stays_committed c.commit_if_full.result c.args.self.now c.note_gone.new.self c.commit_if_full.new.self
+    (ap (λ (d : Parts). frames_of d) rest) (ap (λ (d : Parts). d.stopped) rest) (ap (λ (d : Parts). d.log.shape) rest)
     c.commit_if_full.ensures.rest c.commit_if_full.ensures.few
 
 pub returns-clause-moves : goal.returns-clause-moves
@@ -50,4 +52,6 @@ returns-clause-moves g c = stays_then_ok c.commit_if_full.result _ _ _ c.note_go
 
 pub returns-clause-programs : goal.returns-clause-programs
 returns-clause-programs g c =
-    take_programs c.commit_if_full.result c.args.self.now c.note_gone.new.self c.commit_if_full.new.self (g.B.Nand.state c.args.board.now) (g.B.Nand.state c.commit_if_full.new.board) c.requires.can.few c.note_gone.ensures.more (ap (λ (d : Parts). d.log.shape) c.note_gone.ensures.rest) c.commit_if_full.ensures.idle c.commit_if_full.ensures.full
+    take_programs c.commit_if_full.result c.args.self.now c.note_gone.new.self c.commit_if_full.new.self (g.B.Nand.state c.args.board.now)
+    (g.B.Nand.state c.commit_if_full.new.board) c.requires.can.few c.note_gone.ensures.more
+    (ap (λ (d : Parts). d.log.shape) c.note_gone.ensures.rest) c.commit_if_full.ensures.idle c.commit_if_full.ensures.full

@@ -36,7 +36,8 @@ returns-in-Ok-clause-fits g c =
     let r = rw (← c.self.view_is) at c.requires.ready in
     let f = rw (← c.self.view_is) at c.requires.fits in
     let i = c.self.invariant in
-    rw c.in-Ok.ensures.ok (PoolOnFlash-ready _ _ c.in-Some.b (erased_block _ _ c.in-Some.b i.plan.is_shape r (exists _ _ _ Free l.here i)) (PoolOnFlash-after_erase _ _ c.in-Some.b i.plan.is_shape r f))
+    rw c.in-Ok.ensures.ok (PoolOnFlash-ready _ _ c.in-Some.b (erased_block _ _ c.in-Some.b i.plan.is_shape r (exists _ _ _ Free l.here i))
+    (PoolOnFlash-after_erase _ _ c.in-Some.b i.plan.is_shape r f))
 
 pub returns-in-Err-clause-failed : goal.returns-in-Err-clause-failed
 returns-in-Err-clause-failed g c =

@@ -102,4 +102,5 @@ pub returns-in-Some-clause-counted : goal.returns-in-Some-clause-counted
 returns-in-Some-clause-counted g c = let l = rw c.deref.ensures.value at c.in-Some.ensures in rw (← c.self.view_is) (used_taken c.self.inside.states.items c.in-Some.b Ready c.args.owner refl l.here)
 
 pub returns-in-Ok-clause-counted : goal.returns-in-Ok-clause-counted
-returns-in-Ok-clause-counted g c = let l = rw c.deref-in-None.ensures.value at c.in-Some-lowest.ensures in rw (← c.self.view_is) (used_taken c.self.inside.states.items c.in-Some-lowest.b Free c.args.owner refl l.here)
+returns-in-Ok-clause-counted g c = let l = rw c.deref-in-None.ensures.value at c.in-Some-lowest.ensures in rw
+    (← c.self.view_is) (used_taken c.self.inside.states.items c.in-Some-lowest.b Free c.args.owner refl l.here)

@@ -20,7 +20,8 @@ completed-requires-clause-into g c =
 pub returns-in-Ok-clause-completes : goal.returns-in-Ok-clause-completes
 returns-in-Ok-clause-completes g c =
     let is = c.of-request.ensures c.args.value.now in
-    let T : Command → Type 0 = λ k. Replies (seen c.args.self.now.shape (g.B.Nand.state c.args.self.now.board.now) c.args.self.now.tally.now.faults) (seen c.args.self.now.shape (g.B.Nand.state c.serve_lent.new.board) c.answer.new.self.faults) k (reply_of c.in-Ok.outcome c.serve_lent.new.into) in
+    let T : Command → Type 0 = λ k. Replies (seen c.args.self.now.shape (g.B.Nand.state c.args.self.now.board.now) c.args.self.now.tally.now.faults)
+    (seen c.args.self.now.shape (g.B.Nand.state c.serve_lent.new.board) c.answer.new.self.faults) k (reply_of c.in-Ok.outcome c.serve_lent.new.into) in
     c.completed.ensures _ _ _ (ap (λ (k : Command). k.cid) (sym is)) (subst T is (c.in-Ok.ensures.replies _ _))
 
 pub returns-in-Ok-clause-took : goal.returns-in-Ok-clause-took
@@ -30,7 +31,8 @@ returns-in-Ok-clause-took g c = (
   refl,
   refl,
   refl,
-  chain_one c.args.self.now.shape (mount (g.B.Nand.state c.args.self.now.board.now) (g.D.Engine.sight c.args.self.now.drive.now)) (mount (g.B.Nand.state c.serve_lent.new.board) (g.D.Engine.sight c.serve_lent.new.drive)) _ _ _ _ _ c.in-Ok.ensures.fits.shape_is _ (c.of-request.ensures c.args.value.now)
+  chain_one c.args.self.now.shape (mount (g.B.Nand.state c.args.self.now.board.now) (g.D.Engine.sight c.args.self.now.drive.now))
+      (mount (g.B.Nand.state c.serve_lent.new.board) (g.D.Engine.sight c.serve_lent.new.drive)) _ _ _ _ _ c.in-Ok.ensures.fits.shape_is _ (c.of-request.ensures c.args.value.now)
       (stepped_ok c.args.self.now.shape _ _ _ _ _ _ _ c.in-Ok.ensures.fits.shape_is _ c.in-Ok.ensures.makes (ap (λ t. t.faults) c.answer.ensures) (ap (λ t. t.halt) c.answer.ensures)),
 )
 
@@ -41,6 +43,7 @@ returns-in-Err-clause-took g c = (
   refl,
   refl,
   refl,
-  chain_one c.args.self.now.shape (mount (g.B.Nand.state c.args.self.now.board.now) (g.D.Engine.sight c.args.self.now.drive.now)) (mount (g.B.Nand.state c.serve_lent.new.board) (g.D.Engine.sight c.serve_lent.new.drive)) _ _ _ _ _ c.in-Err.ensures.fits.shape_is _ (c.of-request.ensures c.args.value.now)
+  chain_one c.args.self.now.shape (mount (g.B.Nand.state c.args.self.now.board.now) (g.D.Engine.sight c.args.self.now.drive.now))
+      (mount (g.B.Nand.state c.serve_lent.new.board) (g.D.Engine.sight c.serve_lent.new.drive)) _ _ _ _ _ c.in-Err.ensures.fits.shape_is _ (c.of-request.ensures c.args.value.now)
       (stepped_err c.args.self.now.shape _ _ _ _ _ _ _ c.in-Err.ensures.fits.shape_is c.in-Err.halt c.in-Err.ensures.makes c.fail.ensures.rose c.fail.ensures.up c.fail.ensures.halt),
 )

@@ -31,7 +31,8 @@ total-requires g c =
     let same : c.self.inside.shape ≡ shape = ap (λ (h : Held). h.shape) c.self.view_is in
     let is : IsShape shape = subst IsShape same c.known.ensures in
     let fits : (i : ℕ) → get_or page i 0 < 256 = λ i. omega (arith, c.type_inv.page i) in
-    let sizes_is : c.sizes_of-sizes.result ≡ sizes_at shape page = c.sizes_of-sizes.ensures ∙ (λ i. map (run_blocks (same i)) (c.get_u32.ensures i ∷ c.get_u32-2.ensures i ∷ c.get_u32-3.ensures i ∷ c.get_u32-4.ensures i ∷ [])) in
+    let sizes_is : c.sizes_of-sizes.result ≡ sizes_at shape page = c.sizes_of-sizes.ensures
+    ∙ (λ i. map (run_blocks (same i)) (c.get_u32.ensures i ∷ c.get_u32-2.ensures i ∷ c.get_u32-3.ensures i ∷ c.get_u32-4.ensures i ∷ [])) in
     omega (arith, ap total sizes_is, total_small shape (total (sizes_at shape page)) is (sizes_fit shape page fits c.requires.sized is c.requires.passes))
 
 pub read_blocks-requires-2-clause-there : goal.read_blocks-requires-2-clause-there
@@ -41,7 +42,8 @@ read_blocks-requires-2-clause-there g c =
     let same : c.self.inside.shape ≡ shape = ap (λ (h : Held). h.shape) c.self.view_is in
     let is : IsShape shape = subst IsShape same c.known.ensures in
     let fits : (i : ℕ) → get_or page i 0 < 256 = λ i. omega (arith, c.type_inv.page i) in
-    let sizes_is : c.sizes_of-sizes.result ≡ sizes_at shape page = c.sizes_of-sizes.ensures ∙ (λ i. map (run_blocks (same i)) (c.get_u32.ensures i ∷ c.get_u32-2.ensures i ∷ c.get_u32-3.ensures i ∷ c.get_u32-4.ensures i ∷ [])) in
+    let sizes_is : c.sizes_of-sizes.result ≡ sizes_at shape page = c.sizes_of-sizes.ensures
+    ∙ (λ i. map (run_blocks (same i)) (c.get_u32.ensures i ∷ c.get_u32-2.ensures i ∷ c.get_u32-3.ensures i ∷ c.get_u32-4.ensures i ∷ [])) in
     omega (arith, sizes_room shape page fits c.requires.sized is c.requires.passes, c.get_u16-journal.ensures, c.total.ensures, ap total sizes_is)
 
 pub read_blocks-requires-2-clause-room : goal.read_blocks-requires-2-clause-room
@@ -51,7 +53,8 @@ read_blocks-requires-2-clause-room g c =
     let same : c.self.inside.shape ≡ shape = ap (λ (h : Held). h.shape) c.self.view_is in
     let is : IsShape shape = subst IsShape same c.known.ensures in
     let fits : (i : ℕ) → get_or page i 0 < 256 = λ i. omega (arith, c.type_inv.page i) in
-    let sizes_is : c.sizes_of-sizes.result ≡ sizes_at shape page = c.sizes_of-sizes.ensures ∙ (λ i. map (run_blocks (same i)) (c.get_u32.ensures i ∷ c.get_u32-2.ensures i ∷ c.get_u32-3.ensures i ∷ c.get_u32-4.ensures i ∷ [])) in
+    let sizes_is : c.sizes_of-sizes.result ≡ sizes_at shape page = c.sizes_of-sizes.ensures
+    ∙ (λ i. map (run_blocks (same i)) (c.get_u32.ensures i ∷ c.get_u32-2.ensures i ∷ c.get_u32-3.ensures i ∷ c.get_u32-4.ensures i ∷ [])) in
     omega (arith, sizes_fit shape page fits c.requires.sized is c.requires.passes, ap total sizes_is, c.total.ensures, ap length c.deref_mut.ensures.value, c.self.invariant.room, ap meta_blocks same)
 
 pub invariant_of-self : goal.invariant_of-self
@@ -61,7 +64,8 @@ invariant_of-self g c =
     let same : c.self.inside.shape ≡ shape = ap (λ (h : Held). h.shape) c.self.view_is in
     let is : IsShape shape = subst IsShape same c.known.ensures in
     let fits : (i : ℕ) → get_or page i 0 < 256 = λ i. omega (arith, c.type_inv.page i) in
-    let sizes_is : c.sizes_of-sizes.result ≡ sizes_at shape page = c.sizes_of-sizes.ensures ∙ (λ i. map (run_blocks (same i)) (c.get_u32.ensures i ∷ c.get_u32-2.ensures i ∷ c.get_u32-3.ensures i ∷ c.get_u32-4.ensures i ∷ [])) in
+    let sizes_is : c.sizes_of-sizes.result ≡ sizes_at shape page = c.sizes_of-sizes.ensures
+    ∙ (λ i. map (run_blocks (same i)) (c.get_u32.ensures i ∷ c.get_u32-2.ensures i ∷ c.get_u32-3.ensures i ∷ c.get_u32-4.ensures i ∷ [])) in
     let sized : length c.read_blocks-2.new.into ≡ length c.self.inside.blocks.items = c.read_blocks-2.ensures.len ∙ ap length c.deref_mut.ensures.value in
     let even = (journal_facts shape page fits c.requires.sized is c.requires.passes).even in
     record {
@@ -80,7 +84,8 @@ returns-clause-root g c =
     let same : c.self.inside.shape ≡ shape = ap (λ (h : Held). h.shape) c.self.view_is in
     let is : IsShape shape = subst IsShape same c.known.ensures in
     let fits : (i : ℕ) → get_or page i 0 < 256 = λ i. omega (arith, c.type_inv.page i) in
-    let sizes_is : c.sizes_of-sizes.result ≡ sizes_at shape page = c.sizes_of-sizes.ensures ∙ (λ i. map (run_blocks (same i)) (c.get_u32.ensures i ∷ c.get_u32-2.ensures i ∷ c.get_u32-3.ensures i ∷ c.get_u32-4.ensures i ∷ [])) in
+    let sizes_is : c.sizes_of-sizes.result ≡ sizes_at shape page = c.sizes_of-sizes.ensures
+    ∙ (λ i. map (run_blocks (same i)) (c.get_u32.ensures i ∷ c.get_u32-2.ensures i ∷ c.get_u32-3.ensures i ∷ c.get_u32-4.ensures i ∷ [])) in
     let sized : length c.read_blocks-2.new.into ≡ length c.self.inside.blocks.items = c.read_blocks-2.ensures.len ∙ ap length c.deref_mut.ensures.value in
     let kept = whole c.self.inside.blocks.len c.read_blocks-2.new.into c.self.inside.blocks.items sized (omega arith) in
     let journal_is = c.get_u16-journal.ensures in
@@ -89,4 +94,11 @@ returns-clause-root g c =
     let blocks_read = subst (λ (n : ℕ). take n c.read_blocks-2.new.into ≡ u16s_at n (drop (64 + 2 * c.get_u16-journal.result) page)) count c.read_blocks-2.ensures.front in
     let runs_read = subst (λ (k : ℕ). take (total (sizes_at shape page)) c.read_blocks-2.new.into ≡ u16s_at (total (sizes_at shape page)) (drop (64 + 2 * k) page)) journal_is blocks_read in
     filled shape page fits c.requires.sized is c.requires.passes c.read_blocks.new.into c.read_blocks-2.new.into epochs_read runs_read
-    ∙ (λ i. Some (record { number = sym c.get_u64-self-inside.ensures i; epoch = sym c.get_u64-self-inside-2.ensures i; newest = take 2 (take (sym journal_is i) c.read_blocks.new.into); older = drop 2 (take (sym journal_is i) c.read_blocks.new.into); counts = sym c.get_u32.ensures i ∷ sym c.get_u32-2.ensures i ∷ sym c.get_u32-3.ensures i ∷ sym c.get_u32-4.ensures i ∷ []; runs = parts (sym sizes_is i) (sym kept i) }))
+    ∙ (λ i. Some (record {
+      number = sym c.get_u64-self-inside.ensures i;
+      epoch = sym c.get_u64-self-inside-2.ensures i;
+      newest = take 2 (take (sym journal_is i) c.read_blocks.new.into);
+      older = drop 2 (take (sym journal_is i) c.read_blocks.new.into);
+      counts = sym c.get_u32.ensures i ∷ sym c.get_u32-2.ensures i ∷ sym c.get_u32-3.ensures i ∷ sym c.get_u32-4.ensures i ∷ [];
+      runs = parts (sym sizes_is i) (sym kept i);
+    }))

@@ -13,7 +13,8 @@ put_run-requires-clause-room g c =
     let i : ℕ = c.args.level - 1 in
     let new : List ℕ = c.args.blocks.now in
     let inside = c.self.inside in
-    let own : length (concat (slice_set (parts inside.sizes inside.blocks.items) i new)) ≤ meta_blocks inside.shape = subst (λ (h : Held). length (concat (slice_set h.root.runs i new)) ≤ meta_blocks h.shape) (sym c.self.view_is) c.requires.room in
+    let own : length (concat (slice_set (parts inside.sizes inside.blocks.items) i new)) ≤ meta_blocks inside.shape = subst
+    (λ (h : Held). length (concat (slice_set h.root.runs i new)) ≤ meta_blocks h.shape) (sym c.self.view_is) c.requires.room in
     omega (arith, own, joined_set inside.sizes inside.blocks.items i new (omega (arith, c.self.invariant.room, c.self.invariant.fits)), c.self.invariant.room, ap length c.deref_mut.ensures.value)
 
 pub invariant_of-self : goal.invariant_of-self
@@ -21,7 +22,8 @@ invariant_of-self g c =
     let i : ℕ = c.args.level - 1 in
     let new : List ℕ = c.args.blocks.now in
     let inside = c.self.inside in
-    let own : length (concat (slice_set (parts inside.sizes inside.blocks.items) i new)) ≤ meta_blocks inside.shape = subst (λ (h : Held). length (concat (slice_set h.root.runs i new)) ≤ meta_blocks h.shape) (sym c.self.view_is) c.requires.room in
+    let own : length (concat (slice_set (parts inside.sizes inside.blocks.items) i new)) ≤ meta_blocks inside.shape = subst
+    (λ (h : Held). length (concat (slice_set h.root.runs i new)) ≤ meta_blocks h.shape) (sym c.self.view_is) c.requires.room in
     let joined = joined_set inside.sizes inside.blocks.items i new (omega (arith, c.self.invariant.room, c.self.invariant.fits)) in
     let sized : length c.put_run.new.items ≡ length inside.blocks.items = c.put_run.ensures.len ∙ ap length c.deref_mut.ensures.value in
     record {

@@ -7,11 +7,13 @@ finish_pair-requires-clause-may g c = let s = c.requires.may in (s.3, s.4, s.5, 
 
 pub returns-clause-settles : goal.returns-clause-settles
 returns-clause-settles g c =
-    settles_all _ _ c.args.pool.now c.finish_pair.new.pool c.args.self.now c.known.ensures (g.B.Nand.state c.args.board.now) (g.B.Nand.state c.finish_pair.new.board) c.finish_pair.ensures.same_log c.finish_pair.result c.finish_pair.ensures.step c.finish_pair.ensures.freed
+    settles_all _ _ c.args.pool.now c.finish_pair.new.pool c.args.self.now c.known.ensures (g.B.Nand.state c.args.board.now)
+    (g.B.Nand.state c.finish_pair.new.board) c.finish_pair.ensures.same_log c.finish_pair.result c.finish_pair.ensures.step c.finish_pair.ensures.freed
 
 pub returns-clause-broken : goal.returns-clause-broken
 returns-clause-broken g c =
-    breaks_all _ _ c.args.pool.now c.finish_pair.new.pool c.args.self.now c.known.ensures (g.B.Nand.state c.args.board.now) (g.B.Nand.state c.finish_pair.new.board) c.finish_pair.ensures.same_log c.finish_pair.result c.finish_pair.ensures.step
+    breaks_all _ _ c.args.pool.now c.finish_pair.new.pool c.args.self.now c.known.ensures (g.B.Nand.state c.args.board.now)
+    (g.B.Nand.state c.finish_pair.new.board) c.finish_pair.ensures.same_log c.finish_pair.result c.finish_pair.ensures.step
 
 pub returns-clause-calls : goal.returns-clause-calls
 returns-clause-calls g c = calls_one _ _ _ _ _ _ c.finish_pair.ensures.step

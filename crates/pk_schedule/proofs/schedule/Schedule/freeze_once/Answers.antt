@@ -10,17 +10,20 @@ freeze_step-requires-clause-can g c =
 pub returns-clause-moves : goal.returns-clause-moves
 returns-clause-moves g c =
     let none = rw (← c.self.view_is) at c.requires.may.4.none_merges in
-    rw (← c.self.view_is) (moves _ none c.known.ensures (g.B.Nand.state c.args.board.now) c.freeze_step.new.self c.freeze_step.new.pool c.freeze_step.new.job (g.B.Nand.state c.freeze_step.new.board) c.freeze_step.result c.freeze_step.ensures.step.step)
+    rw (← c.self.view_is) (moves _ none c.known.ensures (g.B.Nand.state c.args.board.now) c.freeze_step.new.self c.freeze_step.new.pool c.freeze_step.new.job
+    (g.B.Nand.state c.freeze_step.new.board) c.freeze_step.result c.freeze_step.ensures.step.step)
 
 pub returns-clause-freezes : goal.returns-clause-freezes
 returns-clause-freezes g c =
     let may = rw (← c.self.view_is) at c.requires.may in
-    rw (← c.self.view_is) (freezes _ may.4.none_merges c.known.ensures (g.B.Nand.state c.args.board.now) c.freeze_step.new.self c.freeze_step.new.pool c.freeze_step.new.job (g.B.Nand.state c.freeze_step.new.board) c.freeze_step.result c.freeze_step.ensures.step.step may)
+    rw (← c.self.view_is) (freezes _ may.4.none_merges c.known.ensures (g.B.Nand.state c.args.board.now) c.freeze_step.new.self c.freeze_step.new.pool c.freeze_step.new.job
+    (g.B.Nand.state c.freeze_step.new.board) c.freeze_step.result c.freeze_step.ensures.step.step may)
 
 pub returns-clause-broken : goal.returns-clause-broken
 returns-clause-broken g c =
     let none = rw (← c.self.view_is) at c.requires.may.4.none_merges in
-    rw (← c.self.view_is) (broken _ none c.known.ensures (g.B.Nand.state c.args.board.now) c.freeze_step.new.self c.freeze_step.new.pool c.freeze_step.new.job (g.B.Nand.state c.freeze_step.new.board) c.freeze_step.result c.freeze_step.ensures.step.step)
+    rw (← c.self.view_is) (broken _ none c.known.ensures (g.B.Nand.state c.args.board.now) c.freeze_step.new.self c.freeze_step.new.pool c.freeze_step.new.job
+    (g.B.Nand.state c.freeze_step.new.board) c.freeze_step.result c.freeze_step.ensures.step.step)
 
 pub returns-clause-calls : goal.returns-clause-calls
 returns-clause-calls g c = calls_one _ _ _ _ _ _ c.freeze_step.ensures.step

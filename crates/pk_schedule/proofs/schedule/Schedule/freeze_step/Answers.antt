@@ -17,7 +17,8 @@ returns-in-Ok-clause-settles g c = λ done. c.in-Ok.ensures.settles c.args.level
 
 pub returns-in-Err-clause-broken : goal.returns-in-Err-clause-broken
 returns-in-Err-clause-broken g c = λ frames top found m may.
-    c.in-Err.ensures.broken c.args.levels.now c.args.arena.now frames top found m (at_half _ frames (g.B.Nand.state c.args.board.now).pages top found m may (sym c.repeats_next.ensures ∙ c.if-repeats_next.true))
+    c.in-Err.ensures.broken c.args.levels.now c.args.arena.now frames top found m
+    (at_half _ frames (g.B.Nand.state c.args.board.now).pages top found m may (sym c.repeats_next.ensures ∙ c.if-repeats_next.true))
 
 pub returns-in-Err-freeze_once-clause-broken : goal.returns-in-Err-freeze_once-clause-broken
 returns-in-Err-freeze_once-clause-broken g c = λ frames top found m may.

@@ -16,7 +16,8 @@ returns-then-erases_next-clause-step g c =
     let old = g.B.Nand.state c.args.board.now in
     let x : Index = index c.args.log.now c.args.levels.now c.args.arena.now c.args.pool.now c.args.self.now in
     record {
-      step = made_prepared x c.requires.phase.0 c.requires.phase.1 c.known.ensures c.known-2.ensures.levels old (g.B.Nand.state c.prepare_root.new.board) c.prepare_root.new.self (sym c.erases_next.ensures ∙ c.if-erases_next.true) c.prepare_root.result c.prepare_root.ensures.step.step;
+      step = made_prepared x c.requires.phase.0 c.requires.phase.1 c.known.ensures c.known-2.ensures.levels old
+          (g.B.Nand.state c.prepare_root.new.board) c.prepare_root.new.self (sym c.erases_next.ensures ∙ c.if-erases_next.true) c.prepare_root.result c.prepare_root.ensures.step.step;
       calls = c.prepare_root.ensures.step.calls;
       grows = c.prepare_root.ensures.step.grows;
     }
@@ -30,7 +31,8 @@ install_merge-requires-clause-may g c =
     let x : Index = index c.args.log.now c.args.levels.now c.args.arena.now c.args.pool.now c.args.self.now in
     let is : c.args.self.now.phase ≡ Ready c.merging-level.result = ready_at c.merging-level.result c.args.self.now.phase c.merging-level.ensures c.requires.phase in
     let out_is : c.output-output.result.now ≡ output c.args.self.now = c.output-output.ensures ∙ ap (λ (s : Schedule). output s) c.self.view_is in
-    ask_merge x c.merging-level.result is c.known.ensures c.known-2.ensures.levels old c.output-output.result.now c.entries-count.result c.blocks-2.result.now out_is c.entries-count.ensures c.blocks-2.ensures c.requires.may
+    ask_merge x c.merging-level.result is c.known.ensures c.known-2.ensures.levels old c.output-output.result.now
+    c.entries-count.result c.blocks-2.result.now out_is c.entries-count.ensures c.blocks-2.ensures c.requires.may
 
 pub end_first-requires : goal.end_first-requires
 end_first-requires g c =
@@ -66,8 +68,11 @@ returns-then-level-eq1-clause-step g c =
     let new = g.B.Nand.state c.install_merge.new.board in
     let out_is : c.output-output.result.now ≡ output c.args.self.now = c.output-output.ensures ∙ ap (λ (s : Schedule). output s) c.self.view_is in
     let older_told : c.older-older.result ≡ older_of c.args.log.now.root.older = c.older-older.ensures ∙ ap (λ (h : Held). older_of h.root.older) c.root.ensures in
-    let merges = merges_told x c.merging-level.result is c.known.ensures c.known-2.ensures.levels old c.output-output.result.now c.entries-count.result c.blocks-2.result.now out_is c.entries-count.ensures c.blocks-2.ensures c.install_merge.new.self new c.in-Ok.ensures.step.step.ended in
-    let made = made_first x c.merging-level.result is c.known.ensures c.known-2.ensures.levels old new c.install_merge.new.self (programs_then c.args.log.now.next c.requires.may.4.settles.whole (sym c.erases_next.ensures ∙ c.if-erases_next.false)) merges c.end_first.new.levels c.end_first.new.arena c.end_first.new.pool c.end_first.new.self c.end_first.ensures.rest c.if-level-eq1.true c.older-older.result older_told c.end_first.ensures.ends (c.end_first.ensures.counted Values) in
+    let merges = merges_told x c.merging-level.result is c.known.ensures c.known-2.ensures.levels old c.output-output.result.now c.entries-count.result
+    c.blocks-2.result.now out_is c.entries-count.ensures c.blocks-2.ensures c.install_merge.new.self new c.in-Ok.ensures.step.step.ended in
+    let made = made_first x c.merging-level.result is c.known.ensures c.known-2.ensures.levels old new c.install_merge.new.self
+    (programs_then c.args.log.now.next c.requires.may.4.settles.whole (sym c.erases_next.ensures ∙ c.if-erases_next.false)) merges c.end_first.new.levels c.end_first.new.arena
+    c.end_first.new.pool c.end_first.new.self c.end_first.ensures.rest c.if-level-eq1.true c.older-older.result older_told c.end_first.ensures.ends (c.end_first.ensures.counted Values) in
     record {
       step = record {
         ended = steps_on x c.merging-level.result is c.known.ensures c.known-2.ensures.levels old _ new made;
@@ -89,9 +94,12 @@ returns-else-level-eq1-clause-step g c =
     let is : c.args.self.now.phase ≡ Ready c.merging-level.result = ready_at c.merging-level.result c.args.self.now.phase c.merging-level.ensures c.requires.phase in
     let new = g.B.Nand.state c.install_merge.new.board in
     let out_is : c.output-output.result.now ≡ output c.args.self.now = c.output-output.ensures ∙ ap (λ (s : Schedule). output s) c.self.view_is in
-    let merges = merges_told x c.merging-level.result is c.known.ensures c.known-2.ensures.levels old c.output-output.result.now c.entries-count.result c.blocks-2.result.now out_is c.entries-count.ensures c.blocks-2.ensures c.install_merge.new.self new c.in-Ok.ensures.step.step.ended in
+    let merges = merges_told x c.merging-level.result is c.known.ensures c.known-2.ensures.levels old c.output-output.result.now c.entries-count.result
+    c.blocks-2.result.now out_is c.entries-count.ensures c.blocks-2.ensures c.install_merge.new.self new c.in-Ok.ensures.step.step.ended in
     let low = (ask_level x c.merging-level.result is c.known.ensures c.known-2.ensures.levels old c.requires.may).0 in
-    let made = made_deep x c.merging-level.result is c.known.ensures c.known-2.ensures.levels old new c.install_merge.new.self (programs_then c.args.log.now.next c.requires.may.4.settles.whole (sym c.erases_next.ensures ∙ c.if-erases_next.false)) merges c.end_deep.new.levels c.end_deep.new.arena c.end_deep.new.pool c.end_deep.new.self c.end_deep.ensures.rest (omega (arith, low, c.if-level-eq1.false)) c.end_deep.ensures.ends (c.end_deep.ensures.counted Values) in
+    let made = made_deep x c.merging-level.result is c.known.ensures c.known-2.ensures.levels old new c.install_merge.new.self
+    (programs_then c.args.log.now.next c.requires.may.4.settles.whole (sym c.erases_next.ensures ∙ c.if-erases_next.false)) merges c.end_deep.new.levels c.end_deep.new.arena
+    c.end_deep.new.pool c.end_deep.new.self c.end_deep.ensures.rest (omega (arith, low, c.if-level-eq1.false)) c.end_deep.ensures.ends (c.end_deep.ensures.counted Values) in
     record {
       step = record {
         ended = steps_on x c.merging-level.result is c.known.ensures c.known-2.ensures.levels old _ new made;
@@ -116,7 +124,8 @@ returns-in-Err-clause-step g c =
     record {
       step = record {
         ended = tt;
-        broken = merge_breaks x c.merging-level.result is c.known.ensures c.known-2.ensures.levels old c.output-output.result.now c.entries-count.result c.blocks-2.result.now out_is c.entries-count.ensures c.blocks-2.ensures new c.in-Err.ensures.step.step.broken;
+        broken = merge_breaks x c.merging-level.result is c.known.ensures c.known-2.ensures.levels old c.output-output.result.now
+            c.entries-count.result c.blocks-2.result.now out_is c.entries-count.ensures c.blocks-2.ensures new c.in-Err.ensures.step.step.broken;
         works = tt;
         stops = c.in-Err.ensures.step.step.stops;
         stopped = c.in-Err.ensures.step.step.stopped;

@@ -1,4 +1,5 @@
-use Rattle.pk_schedule.proofs.Stepping.{level_within, few_roots, ran, goes_by, completes_by, less_goes_by, less_ends_by, unmoved_by, stands_by, broken_by, ok_end, ready_by, failed_end, fault_is, other_answer}
+use Rattle.pk_schedule.proofs.Stepping.{level_within, few_roots, ran, goes_by, completes_by, less_goes_by, less_ends_by, unmoved_by, stands_by, broken_by, ok_end, ready_by, failed_end, fault_is}
+use Rattle.pk_schedule.proofs.Stepping.{other_answer}
 use Rattle.pk_schedule.proofs.schedule.Schedule.run_job.Goals as goal
 
 pub source_of-source-requires : goal.source_of-source-requires
@@ -14,21 +15,45 @@ run-target-requires g c =
 pub step-requires-clause-running : goal.step-requires-clause-running
 step-requires-clause-running g c =
     let s = rw (← c.self.view_is) at c.requires.may in
-    let phase = rw (← c.self.view_is) at c.requires.phase in
-    (_, _, ran _ s.0 (g.B.Nand.state c.args.board.now) s.1 s.2 s.3 s.4 c.known.ensures c.requires.ready c.args.level phase c.source_of-source.result (c.source_of-source.ensures c.args.arena.now c.args.pool.now c.args.self.now) c.run-target.result.now c.run-target.ensures.run)
+    let phase = rw (← c.self.view_is) at c.requires.phase in (
+      _,
+      _,
+      ran _ s.0 (g.B.Nand.state c.args.board.now) s.1 s.2 s.3 s.4 c.known.ensures c.requires.ready c.args.level phase c.source_of-source.result
+          (c.source_of-source.ensures c.args.arena.now c.args.pool.now c.args.self.now) c.run-target.result.now c.run-target.ensures.run,
+    )
 
 pub returns-in-Ok-true-clause-steps : goal.returns-in-Ok-true-clause-steps
 returns-in-Ok-true-clause-steps g c =
     record {
-      moves = λ frames top found m may. rw (← c.self.view_is) (completes_by _ frames (g.B.Nand.state c.args.board.now) top found m (rw (← c.self.view_is) at may) c.known.ensures c.requires.ready c.args.level (rw (← c.self.view_is) at c.requires.phase) c.source_of-source.result (c.source_of-source.ensures c.args.arena.now c.args.pool.now c.args.self.now) c.run-target.result.now c.run-target.ensures.run (g.B.Nand.state c.step.new.board) c.step.new.self c.step.new.pool c.step.new.arena c.in-Ok-true.ensures.running c.in-Ok-true.ensures.steps c.in-Ok-true.ensures.job c.in-Ok-true.ensures.others c.in-Ok-true.ensures.leases c.in-Ok-true.ensures.cuts c.in-Ok-true.field-0 c.in-Ok-true.field-0-test c.in-Ok-true.ensures.whole);
-      less = λ frames top found m may. rw (← c.self.view_is) (less_ends_by _ frames (g.B.Nand.state c.args.board.now) top found m (rw (← c.self.view_is) at may) c.known.ensures c.requires.ready c.args.level (rw (← c.self.view_is) at c.requires.phase) c.source_of-source.result (c.source_of-source.ensures c.args.arena.now c.args.pool.now c.args.self.now) c.run-target.result.now c.run-target.ensures.run (g.B.Nand.state c.step.new.board) c.step.new.self c.step.new.pool c.step.new.arena c.in-Ok-true.ensures.running c.in-Ok-true.ensures.steps c.in-Ok-true.ensures.job c.in-Ok-true.ensures.others c.in-Ok-true.ensures.leases c.in-Ok-true.ensures.cuts c.in-Ok-true.ensures.lowers);
+      moves = λ frames top found m may. rw (← c.self.view_is)
+          (completes_by _ frames (g.B.Nand.state c.args.board.now) top found m (rw (← c.self.view_is) at may) c.known.ensures c.requires.ready c.args.level
+          (rw (← c.self.view_is) at c.requires.phase) c.source_of-source.result
+          (c.source_of-source.ensures c.args.arena.now c.args.pool.now c.args.self.now) c.run-target.result.now c.run-target.ensures.run
+          (g.B.Nand.state c.step.new.board) c.step.new.self c.step.new.pool c.step.new.arena c.in-Ok-true.ensures.running c.in-Ok-true.ensures.steps c.in-Ok-true.ensures.job
+          c.in-Ok-true.ensures.others c.in-Ok-true.ensures.leases c.in-Ok-true.ensures.cuts c.in-Ok-true.field-0 c.in-Ok-true.field-0-test c.in-Ok-true.ensures.whole);
+      less = λ frames top found m may. rw (← c.self.view_is)
+          (less_ends_by _ frames (g.B.Nand.state c.args.board.now) top found m (rw (← c.self.view_is) at may) c.known.ensures c.requires.ready c.args.level
+          (rw (← c.self.view_is) at c.requires.phase) c.source_of-source.result
+          (c.source_of-source.ensures c.args.arena.now c.args.pool.now c.args.self.now) c.run-target.result.now c.run-target.ensures.run
+          (g.B.Nand.state c.step.new.board) c.step.new.self c.step.new.pool c.step.new.arena c.in-Ok-true.ensures.running c.in-Ok-true.ensures.steps
+          c.in-Ok-true.ensures.job c.in-Ok-true.ensures.others c.in-Ok-true.ensures.leases c.in-Ok-true.ensures.cuts c.in-Ok-true.ensures.lowers);
     }
 
 pub returns-in-Ok-false-clause-steps : goal.returns-in-Ok-false-clause-steps
 returns-in-Ok-false-clause-steps g c =
     record {
-      moves = λ frames top found m may. rw (← c.self.view_is) (goes_by _ frames (g.B.Nand.state c.args.board.now) top found m (rw (← c.self.view_is) at may) c.known.ensures c.requires.ready c.args.level (rw (← c.self.view_is) at c.requires.phase) c.source_of-source.result (c.source_of-source.ensures c.args.arena.now c.args.pool.now c.args.self.now) c.run-target.result.now c.run-target.ensures.run (g.B.Nand.state c.step.new.board) c.step.new.self c.step.new.pool c.step.new.arena c.in-Ok-false.ensures.running c.in-Ok-false.ensures.steps c.in-Ok-false.ensures.job c.in-Ok-false.ensures.others c.in-Ok-false.ensures.leases c.in-Ok-false.ensures.cuts c.in-Ok-false.field-0 c.in-Ok-false.ensures.done c.in-Ok-false.field-0-test);
-      less = λ frames top found m may. rw (← c.self.view_is) (less_goes_by _ frames (g.B.Nand.state c.args.board.now) top found m (rw (← c.self.view_is) at may) c.known.ensures c.requires.ready c.args.level (rw (← c.self.view_is) at c.requires.phase) c.source_of-source.result (c.source_of-source.ensures c.args.arena.now c.args.pool.now c.args.self.now) c.run-target.result.now c.run-target.ensures.run (g.B.Nand.state c.step.new.board) c.step.new.self c.step.new.pool c.step.new.arena c.in-Ok-false.ensures.running c.in-Ok-false.ensures.steps c.in-Ok-false.ensures.job c.in-Ok-false.ensures.others c.in-Ok-false.ensures.leases c.in-Ok-false.ensures.cuts c.in-Ok-false.ensures.lowers);
+      moves = λ frames top found m may. rw (← c.self.view_is)
+          (goes_by _ frames (g.B.Nand.state c.args.board.now) top found m (rw (← c.self.view_is) at may) c.known.ensures c.requires.ready c.args.level
+          (rw (← c.self.view_is) at c.requires.phase) c.source_of-source.result
+          (c.source_of-source.ensures c.args.arena.now c.args.pool.now c.args.self.now) c.run-target.result.now c.run-target.ensures.run
+          (g.B.Nand.state c.step.new.board) c.step.new.self c.step.new.pool c.step.new.arena c.in-Ok-false.ensures.running c.in-Ok-false.ensures.steps c.in-Ok-false.ensures.job
+          c.in-Ok-false.ensures.others c.in-Ok-false.ensures.leases c.in-Ok-false.ensures.cuts c.in-Ok-false.field-0 c.in-Ok-false.ensures.done c.in-Ok-false.field-0-test);
+      less = λ frames top found m may. rw (← c.self.view_is)
+          (less_goes_by _ frames (g.B.Nand.state c.args.board.now) top found m (rw (← c.self.view_is) at may) c.known.ensures c.requires.ready c.args.level
+          (rw (← c.self.view_is) at c.requires.phase) c.source_of-source.result
+          (c.source_of-source.ensures c.args.arena.now c.args.pool.now c.args.self.now) c.run-target.result.now c.run-target.ensures.run
+          (g.B.Nand.state c.step.new.board) c.step.new.self c.step.new.pool c.step.new.arena c.in-Ok-false.ensures.running c.in-Ok-false.ensures.steps
+          c.in-Ok-false.ensures.job c.in-Ok-false.ensures.others c.in-Ok-false.ensures.leases c.in-Ok-false.ensures.cuts c.in-Ok-false.ensures.lowers);
     }
 
 pub returns-in-Ok-true-clause-calls : goal.returns-in-Ok-true-clause-calls
@@ -65,8 +90,17 @@ returns-in-Err-clause-unread g c =
     let read = c.in-Err.ensures.read (other_answer c.in-Err.fault _ e) in
     let only = read.2 in
     record {
-      unmoved = rw (← c.self.view_is) (unmoved_by _ s.0 (g.B.Nand.state c.args.board.now) s.1 s.2 s.3 s.4 c.known.ensures c.requires.ready c.args.level (rw (← c.self.view_is) at c.requires.phase) c.source_of-source.result (c.source_of-source.ensures c.args.arena.now c.args.pool.now c.args.self.now) c.run-target.result.now c.run-target.ensures.run (g.B.Nand.state c.step.new.board) c.step.new.self c.step.new.pool c.step.new.arena (c.in-Err.ensures.again (other_answer c.in-Err.fault _ e)) c.in-Err.ensures.kept c.in-Err.fault is c.in-Err.ensures.fails c.in-Err.ensures.job only);
-      again = λ frames top found m may. (stands_by _ frames (g.B.Nand.state c.args.board.now) top found m (rw (← c.self.view_is) at may) c.known.ensures c.requires.ready c.args.level (rw (← c.self.view_is) at c.requires.phase) c.source_of-source.result (c.source_of-source.ensures c.args.arena.now c.args.pool.now c.args.self.now) c.run-target.result.now c.run-target.ensures.run (g.B.Nand.state c.step.new.board) c.step.new.self c.step.new.pool c.step.new.arena (c.in-Err.ensures.again (other_answer c.in-Err.fault _ e)) c.in-Err.ensures.kept c.in-Err.fault (fault_is c.in-Err.fault _ e) c.in-Err.ensures.fails c.in-Err.ensures.job (c.in-Err.ensures.read (other_answer c.in-Err.fault _ e)).2);
+      unmoved = rw (← c.self.view_is)
+          (unmoved_by _ s.0 (g.B.Nand.state c.args.board.now) s.1 s.2 s.3 s.4 c.known.ensures c.requires.ready c.args.level (rw (← c.self.view_is) at c.requires.phase) c.source_of-source.result
+          (c.source_of-source.ensures c.args.arena.now c.args.pool.now c.args.self.now) c.run-target.result.now c.run-target.ensures.run
+          (g.B.Nand.state c.step.new.board) c.step.new.self c.step.new.pool c.step.new.arena
+          (c.in-Err.ensures.again (other_answer c.in-Err.fault _ e)) c.in-Err.ensures.kept c.in-Err.fault is c.in-Err.ensures.fails c.in-Err.ensures.job only);
+      again = λ frames top found m may.
+          (stands_by _ frames (g.B.Nand.state c.args.board.now) top found m (rw (← c.self.view_is) at may) c.known.ensures c.requires.ready c.args.level
+          (rw (← c.self.view_is) at c.requires.phase) c.source_of-source.result
+          (c.source_of-source.ensures c.args.arena.now c.args.pool.now c.args.self.now) c.run-target.result.now c.run-target.ensures.run
+          (g.B.Nand.state c.step.new.board) c.step.new.self c.step.new.pool c.step.new.arena (c.in-Err.ensures.again (other_answer c.in-Err.fault _ e)) c.in-Err.ensures.kept c.in-Err.fault
+          (fault_is c.in-Err.fault _ e) c.in-Err.ensures.fails c.in-Err.ensures.job (c.in-Err.ensures.read (other_answer c.in-Err.fault _ e)).2);
       read = read.0;
       flash = read.1;
       only = only;
@@ -74,14 +108,19 @@ returns-in-Err-clause-unread g c =
 
 pub returns-in-Err-clause-broken : goal.returns-in-Err-clause-broken
 returns-in-Err-clause-broken g c =
-    λ e.
-    ((λ frames top found m may. broken_by _ frames (g.B.Nand.state c.args.board.now) top found m (rw (← c.self.view_is) at may) c.known.ensures c.requires.ready c.args.level (rw (← c.self.view_is) at c.requires.phase) c.source_of-source.result (c.source_of-source.ensures c.args.arena.now c.args.pool.now c.args.self.now) c.run-target.result.now c.run-target.ensures.run (g.B.Nand.state c.step.new.board) c.step.new.self c.step.new.pool c.step.new.arena c.in-Err.fault (fault_is c.in-Err.fault _ e) c.in-Err.ensures.fails), c.in-Err.ensures.stopped (other_answer c.in-Err.fault _ e))
+    λ e. (
+      (λ frames top found m may. broken_by _ frames (g.B.Nand.state c.args.board.now) top found m (rw (← c.self.view_is) at may) c.known.ensures c.requires.ready c.args.level
+          (rw (← c.self.view_is) at c.requires.phase) c.source_of-source.result (c.source_of-source.ensures c.args.arena.now c.args.pool.now c.args.self.now) c.run-target.result.now
+          c.run-target.ensures.run (g.B.Nand.state c.step.new.board) c.step.new.self c.step.new.pool c.step.new.arena c.in-Err.fault (fault_is c.in-Err.fault _ e) c.in-Err.ensures.fails),
+      c.in-Err.ensures.stopped (other_answer c.in-Err.fault _ e),
+    )
 
 pub returns-in-Err-clause-calls : goal.returns-in-Err-clause-calls
 returns-in-Err-clause-calls g c =
     let s = rw (← c.self.view_is) at c.requires.may in
     let phase = rw (← c.self.view_is) at c.requires.phase in
-    let end = failed_end _ s.0 (g.B.Nand.state c.args.board.now) s.1 s.2 s.3 s.4 c.known.ensures c.requires.ready c.args.level phase (g.B.Nand.state c.step.new.board) c.in-Err.fault (λ e. (c.in-Err.ensures.read e).2) c.in-Err.ensures.went in
+    let end = failed_end _ s.0 (g.B.Nand.state c.args.board.now) s.1 s.2 s.3 s.4 c.known.ensures c.requires.ready c.args.level phase
+    (g.B.Nand.state c.step.new.board) c.in-Err.fault (λ e. (c.in-Err.ensures.read e).2) c.in-Err.ensures.went in
     let ready = ready_by _ s.0 (g.B.Nand.state c.args.board.now) s.1 s.2 s.3 s.4 c.known.ensures c.requires.ready c.args.level phase (g.B.Nand.state c.step.new.board) c.in-Err.ensures.ready in
     record {
       calls = c.in-Err.ensures.calls;

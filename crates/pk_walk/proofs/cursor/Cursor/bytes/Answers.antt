@@ -10,4 +10,5 @@ pub returns-in-Some : goal.returns-in-Some
 returns-in-Some g c = rw (← c.self.view_is) (c.bytes.ensures.contents ∙ ap (seen_bytes c.self.inside.page.items c.args.arena.now) (sym c.in-Some.ensures))
 
 pub returns-in-None : goal.returns-in-None
-returns-in-None g c = rw (← c.self.view_is) (c.deref.ensures.value ∙ ap (seen_bytes c.self.inside.page.items c.args.arena.now) (sym (slice_get_past c.args.run.now.leases (c.self.inside.loaded - 1) c.in-None.ensures)))
+returns-in-None g c = rw (← c.self.view_is)
+    (c.deref.ensures.value ∙ ap (seen_bytes c.self.inside.page.items c.args.arena.now) (sym (slice_get_past c.args.run.now.leases (c.self.inside.loaded - 1) c.in-None.ensures)))

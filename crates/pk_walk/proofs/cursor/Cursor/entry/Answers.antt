@@ -1,6 +1,6 @@
 use Rattle.std.proofs.Common.{◌≡◌, ℕ, ◌-◌, ◌%◌, ◌∙◌, List, slice_get, ap, sym, subst}
 use Rattle.pk_base.specs.Shape.{page_entries}
-use Rattle.pk_meta.specs.Page.{IsMetaPage}
+use Rattle.pk_meta.specs.PageChecks.{IsMetaPage}
 use Rattle.pk_walk.specs.Walking.{Cursor}
 use Rattle.pk_walk.proofs.Following.{page_before, before_place, in_page}
 use Rattle.pk_walk.proofs.cursor.Cursor.entry.Goals as goal

@@ -22,5 +22,6 @@ returns-in-Ok-clause-loads g c =
     record {
       cursor = search rules;
       reads = looked c.args.run.now.leases c.args.self.now.loaded c.args.p (g.B.Nand.state c.args.board.now) (g.B.Nand.state c.load_page.new.board) before c.in-Ok.ensures.ok;
-      all = λ come. looked_all c.args.run.now.leases c.args.self.now.loaded c.args.p (g.B.Nand.state c.args.board.now) (g.B.Nand.state c.load_page.new.board) (omega (arith, inside, h, other, come)) c.in-Ok.ensures.ok;
+      all = λ come. looked_all c.args.run.now.leases c.args.self.now.loaded c.args.p (g.B.Nand.state c.args.board.now)
+          (g.B.Nand.state c.load_page.new.board) (omega (arith, inside, h, other, come)) c.in-Ok.ensures.ok;
     }

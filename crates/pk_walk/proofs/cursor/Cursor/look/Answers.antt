@@ -1,7 +1,7 @@
 use Rattle.std.proofs.Common.{◌≡◌, ℕ, [], ◌/◌, suc, ap, sym, subst, ◌∙◌}
 use Rattle.pk_base.specs.Shape.{page_entries}
 use Rattle.pk_base.specs.Page.{page_at, whole}
-use Rattle.pk_nand.specs.Calls.{ReadFailed}
+use Rattle.pk_nand.specs.Operations.{ReadFailed}
 use Rattle.pk_run.specs.Kept.{page_of}
 use Rattle.pk_walk.specs.Walking.{Cursor, Reads, read_of}
 use Rattle.pk_walk.proofs.Following.{page_exists, page_seen, may_load, head_here, head_all, stays_loaded, stays_failed}
@@ -11,7 +11,8 @@ pub load-requires-clause-may : goal.load-requires-clause-may
 load-requires-clause-may g c =
     let size : c.entries-size.result ≡ page_entries c.args.run.now.shape = c.entries-size.ensures.value ∙ ap page_entries (ap (λ (x : Cursor). x.shape) c.self.view_is ∙ c.requires.shape) in
     let page : c.self.inside.place / c.entries-size.result ≡ c.args.self.now.place / page_entries c.args.run.now.shape = λ i. ap (λ (x : Cursor). x.place) c.self.view_is i / size i in
-    may_load (g.B.Nand.state c.args.board.now).pages c.args.run.now c.requires.follows.0 c.requires.follows.1 c.args.self.now (c.self.inside.place / c.entries-size.result) c.known.ensures.shape c.known.ensures.kept c.requires.exists c.requires.follows.3 page
+    may_load (g.B.Nand.state c.args.board.now).pages c.args.run.now c.requires.follows.0 c.requires.follows.1 c.args.self.now
+    (c.self.inside.place / c.entries-size.result) c.known.ensures.shape c.known.ensures.kept c.requires.exists c.requires.follows.3 page
 
 pub returns-in-Ok-clause-looks : goal.returns-in-Ok-clause-looks
 returns-in-Ok-clause-looks g c =
@@ -21,12 +22,15 @@ returns-in-Ok-clause-looks g c =
     let own = subst (λ (p : ℕ). c.args.run.now.leases ≡ [] → page_at (g.B.Nand.state c.args.board.now).pages (page_of c.args.run.now p) ≡ whole c.load.new.self.bytes) page c.in-Ok.ensures.page in
     let loaded = ap (λ (x : Cursor). x.loaded) moved in
     record {
-      page = page_seen c.args.run.now (g.B.Nand.state c.args.board.now).pages c.args.arena.now c.requires.follows.0 c.load.new.self (c.args.self.now.place / page_entries c.args.run.now.shape) c.requires.follows.2
+      page = page_seen c.args.run.now (g.B.Nand.state c.args.board.now).pages c.args.arena.now c.requires.follows.0 c.load.new.self
+          (c.args.self.now.place / page_entries c.args.run.now.shape) c.requires.follows.2
           (page_exists c.args.run.now c.args.self.now.place c.known.ensures.shape c.known.ensures.kept c.requires.exists) loaded own;
       loaded = loaded;
       here = head_here c.args.run.now c.args.self.now c.load.new.self c.known.ensures.shape c.requires.shape moved;
-      reads = subst (λ (n : ℕ). Reads (read_of c.args.run.now.leases c.args.self.now.loaded) (read_of c.args.run.now.leases n) (g.B.Nand.state c.args.board.now) (g.B.Nand.state c.load.new.board)) (sym (ap (λ (x : Cursor). x.loaded) c.in-Ok.ensures.loads.cursor)) c.in-Ok.ensures.loads.reads;
-      all = head_all c.args.run.now c.args.self.now c.load.new.self (c.self.inside.place / c.entries-size.result) (g.B.Nand.state c.args.board.now) (g.B.Nand.state c.load.new.board) c.requires.shape page (ap (λ (x : Cursor). x.loaded) c.in-Ok.ensures.loads.cursor) c.in-Ok.ensures.loads.all;
+      reads = subst (λ (n : ℕ). Reads (read_of c.args.run.now.leases c.args.self.now.loaded) (read_of c.args.run.now.leases n) (g.B.Nand.state c.args.board.now) (g.B.Nand.state c.load.new.board))
+          (sym (ap (λ (x : Cursor). x.loaded) c.in-Ok.ensures.loads.cursor)) c.in-Ok.ensures.loads.reads;
+      all = head_all c.args.run.now c.args.self.now c.load.new.self (c.self.inside.place / c.entries-size.result) (g.B.Nand.state c.args.board.now)
+          (g.B.Nand.state c.load.new.board) c.requires.shape page (ap (λ (x : Cursor). x.loaded) c.in-Ok.ensures.loads.cursor) c.in-Ok.ensures.loads.all;
     }
 
 pub returns-in-Ok-clause-stays : goal.returns-in-Ok-clause-stays
@@ -42,7 +46,8 @@ pub returns-in-Err-clause-stays : goal.returns-in-Err-clause-stays
 returns-in-Err-clause-stays g c =
     let size : c.entries-size.result ≡ page_entries c.args.run.now.shape = c.entries-size.ensures.value ∙ ap page_entries (ap (λ (x : Cursor). x.shape) c.self.view_is ∙ c.requires.shape) in
     let page : c.self.inside.place / c.entries-size.result ≡ c.args.self.now.place / page_entries c.args.run.now.shape = λ i. ap (λ (x : Cursor). x.place) c.self.view_is i / size i in
-    stays_failed (g.B.Nand.state c.args.board.now).pages c.args.run.now c.args.self.now c.load.new.self (c.self.inside.place / c.entries-size.result) c.known.ensures.shape page c.in-Err.ensures.fails.before c.in-Err.ensures.fails.cursor
+    stays_failed (g.B.Nand.state c.args.board.now).pages c.args.run.now c.args.self.now c.load.new.self
+    (c.self.inside.place / c.entries-size.result) c.known.ensures.shape page c.in-Err.ensures.fails.before c.in-Err.ensures.fails.cursor
 
 pub returns-in-Err-clause-fails : goal.returns-in-Err-clause-fails
 returns-in-Err-clause-fails g c =

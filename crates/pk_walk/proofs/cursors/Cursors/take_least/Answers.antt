@@ -79,7 +79,8 @@ pub returns-then-is_gt-5-clause-least : goal.returns-then-is_gt-5-clause-least
 returns-then-is_gt-5-clause-least g c =
     let are = (rw (← c.self.view_is) at c.orders-orders.ensures) _ _ _ _ _ _ refl in
     rw (← c.self.view_is) (frozen_went (seen_tops c.args.tops.now) c.self.inside.first c.self.inside.second c.self.inside.third c.self.inside.fourth c.orders-orders.result are
-    (option_map seen c.take-then-is_gt-5.result) (record { active = seen_head c.args.tops.now.active.head; frozen = seen_head c.take-then-is_gt-5.new.self }) c.pass-4.new.self c.pass-3.new.self c.pass-2.new.self c.pass.new.self
+    (option_map seen c.take-then-is_gt-5.result)
+    (record { active = seen_head c.args.tops.now.active.head; frozen = seen_head c.take-then-is_gt-5.new.self }) c.pass-4.new.self c.pass-3.new.self c.pass-2.new.self c.pass.new.self
     (sym c.is_gt.ensures ∙ c.if-is_gt.false) c.pass.ensures
     (sym c.is_gt-2.ensures ∙ c.if-is_gt-2.false) c.pass-2.ensures
     (sym c.is_gt-3.ensures ∙ c.if-is_gt-3.false) c.pass-3.ensures
@@ -90,7 +91,8 @@ pub returns-then-is_gt-5-clause-behind : goal.returns-then-is_gt-5-clause-behind
 returns-then-is_gt-5-clause-behind g c =
     let are = (rw (← c.self.view_is) at c.orders-orders.ensures) _ _ _ _ _ _ refl in
     rw (← c.self.view_is) (frozen_went (seen_tops c.args.tops.now) c.self.inside.first c.self.inside.second c.self.inside.third c.self.inside.fourth c.orders-orders.result are
-    (option_map seen c.take-then-is_gt-5.result) (record { active = seen_head c.args.tops.now.active.head; frozen = seen_head c.take-then-is_gt-5.new.self }) c.pass-4.new.self c.pass-3.new.self c.pass-2.new.self c.pass.new.self
+    (option_map seen c.take-then-is_gt-5.result)
+    (record { active = seen_head c.args.tops.now.active.head; frozen = seen_head c.take-then-is_gt-5.new.self }) c.pass-4.new.self c.pass-3.new.self c.pass-2.new.self c.pass.new.self
     (sym c.is_gt.ensures ∙ c.if-is_gt.false) c.pass.ensures
     (sym c.is_gt-2.ensures ∙ c.if-is_gt-2.false) c.pass-2.ensures
     (sym c.is_gt-3.ensures ∙ c.if-is_gt-3.false) c.pass-3.ensures
@@ -145,11 +147,13 @@ returns-then-is_gt-4-clause-kept g c =
 
 pub returns-then-is_gt-5-clause-kept : goal.returns-then-is_gt-5-clause-kept
 returns-then-is_gt-5-clause-kept g c =
-    none_kept (record { active = seen_head c.args.tops.now.active.head; frozen = seen_head c.take-then-is_gt-5.new.self }) (c.pass-4.new.self ∷ c.pass-3.new.self ∷ c.pass-2.new.self ∷ c.pass.new.self ∷ []) c.none.result c.none.ensures
+    none_kept (record { active = seen_head c.args.tops.now.active.head; frozen = seen_head c.take-then-is_gt-5.new.self })
+    (c.pass-4.new.self ∷ c.pass-3.new.self ∷ c.pass-2.new.self ∷ c.pass.new.self ∷ []) c.none.result c.none.ensures
 
 pub returns-clause-kept : goal.returns-clause-kept
 returns-clause-kept g c =
-    none_kept (record { active = seen_head c.take-2.new.self; frozen = seen_head c.pass-5.new.self }) (c.pass-4.new.self ∷ c.pass-3.new.self ∷ c.pass-2.new.self ∷ c.pass.new.self ∷ []) c.none.result c.none.ensures
+    none_kept (record { active = seen_head c.take-2.new.self; frozen = seen_head c.pass-5.new.self })
+    (c.pass-4.new.self ∷ c.pass-3.new.self ∷ c.pass-2.new.self ∷ c.pass.new.self ∷ []) c.none.result c.none.ensures
 
 pub returns-then-is_gt-clause-passed : goal.returns-then-is_gt-clause-passed
 returns-then-is_gt-clause-passed g c = c.lead.ensures ∙ ap (λ o. behind_found o c.args.position.now) (sym c.take.ensures.entry)

@@ -12,7 +12,8 @@ tell-requires-clause-fits g c =
     let d = g.D.Engine.sight c.args.drive.now in
     let R : Shape → Type 0 = λ s. IsReady b s in
     let H : Shape → Type 0 = λ s. (m : Map) × HoldsMap s d.counts.frames b d m in
-    fits-somehow (g.D.Engine.agrees c.args.drive.now) c.self.inside.shape b d c.known.ensures c.held_map.ensures (subst R (sym c.self.view_is) c.requires.ready) c.requires.agrees c.requires.none (subst H (sym c.self.view_is) c.requires.stands)
+    fits-somehow (g.D.Engine.agrees c.args.drive.now) c.self.inside.shape b d c.known.ensures c.held_map.ensures
+    (subst R (sym c.self.view_is) c.requires.ready) c.requires.agrees c.requires.none (subst H (sym c.self.view_is) c.requires.stands)
 
 pub tell_keys-requires-clause-fits : goal.tell_keys-requires-clause-fits
 tell_keys-requires-clause-fits g c =
@@ -20,7 +21,8 @@ tell_keys-requires-clause-fits g c =
     let d = g.D.Engine.sight c.args.drive.now in
     let R : Shape → Type 0 = λ s. IsReady b s in
     let H : Shape → Type 0 = λ s. (m : Map) × HoldsMap s d.counts.frames b d m in
-    fits-somehow (g.D.Engine.agrees c.args.drive.now) c.self.inside.shape b d c.known.ensures c.held_map.ensures (subst R (sym c.self.view_is) c.requires.ready) c.requires.agrees c.requires.none (subst H (sym c.self.view_is) c.requires.stands)
+    fits-somehow (g.D.Engine.agrees c.args.drive.now) c.self.inside.shape b d c.known.ensures c.held_map.ensures
+    (subst R (sym c.self.view_is) c.requires.ready) c.requires.agrees c.requires.none (subst H (sym c.self.view_is) c.requires.stands)
 
 pub tell_workload-requires-clause-fits : goal.tell_workload-requires-clause-fits
 tell_workload-requires-clause-fits g c =
@@ -28,4 +30,5 @@ tell_workload-requires-clause-fits g c =
     let d = g.D.Engine.sight c.args.drive.now in
     let R : Shape → Type 0 = λ s. IsReady b s in
     let H : Shape → Type 0 = λ s. (m : Map) × HoldsMap s d.counts.frames b d m in
-    fits-opened (g.D.Engine.agrees c.args.drive.now) c.self.inside.shape b d c.known.ensures c.held_map.ensures (subst R (sym c.self.view_is) c.requires.ready) c.requires.agrees c.requires.none (subst H (sym c.self.view_is) c.requires.stands)
+    fits-opened (g.D.Engine.agrees c.args.drive.now) c.self.inside.shape b d c.known.ensures c.held_map.ensures
+    (subst R (sym c.self.view_is) c.requires.ready) c.requires.agrees c.requires.none (subst H (sym c.self.view_is) c.requires.stands)

@@ -1,6 +1,6 @@
 use Rattle.std.proofs.Common.{ap}
 use Rattle.pk_nvme.specs.Bytes.{RoomyList}
-use Rattle.pk_host.specs.Calls.{existed}
+use Rattle.pk_host.specs.Outcomes.{existed}
 use Rattle.pk_words.proofs.SaidLemmas.{said_status}
 use Rattle.pk_words.proofs.words.Words.delete.Goals as goal
 

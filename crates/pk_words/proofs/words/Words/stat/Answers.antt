@@ -5,7 +5,8 @@ use Rattle.pk_words.proofs.ReportLemmas.{said_numbers, refused_numbers}
 use Rattle.pk_words.proofs.words.Words.stat.Goals as goal
 
 pub returns-in-Ok-clause-said : goal.returns-in-Ok-clause-said
-returns-in-Ok-clause-said g c = said_numbers (g.P.Port.state c.args.port.now) (g.P.Port.state c.report.new.port) c.report.new.numbers _ c.in-Ok.ensures.numbers c.in-Ok.ensures.leaves (ap (λ (t : RoomyList). t.items) c.say_numbers.ensures)
+returns-in-Ok-clause-said g c = said_numbers (g.P.Port.state c.args.port.now)
+    (g.P.Port.state c.report.new.port) c.report.new.numbers _ c.in-Ok.ensures.numbers c.in-Ok.ensures.leaves (ap (λ (t : RoomyList). t.items) c.say_numbers.ensures)
 
 pub returns-in-Err-Refused-clause-said : goal.returns-in-Err-Refused-clause-said
 returns-in-Err-Refused-clause-said g c =

@@ -1,0 +1,523 @@
+-- The steps of a relocation in memory.
+use Rattle.std.proofs.Common.{◌≡◌, ◌≢◌, ℕ, suc, ◌+◌, ◌-◌, ◌*◌, ◌/◌, ◌%◌, ◌<◌, ◌≤◌, Bool, true, false, List, [], length, take, refl, sym, ap, subst, ◌∙◌, arith}
+use Rattle.std.proofs.Common.{Some}
+use Rattle.std.specs.Prelude.{nat_lt, ◌==◌, ◌&&◌, if◌then◌else◌, Result, Ok, Err, IfOk, OnErr, Vec}
+use Rattle.std.specs.declared.alloc.Global.{Global}
+use Rattle.std.proofs.lemmas.Bool.Decides.{nat_tests}
+use Rattle.std.proofs.lemmas.Nat.{div-add-mod'}
+use Rattle.pk_base.specs.Shape.{Shape, page_count}
+use Rattle.pk_base.specs.Page.{Page, Flash, page_at, erased, whole, torn as torn_page, IsPage}
+use Rattle.pk_base.specs.Mark.{Mark, program, erase, post, after}
+use Rattle.pk_nand.specs.BoardState.{BoardState}
+use Rattle.pk_nand.specs.Calls.{Rose, after_program, ProgramFailed}
+use Rattle.pk_nand.specs.Operations.{InOrder, filled, after_read, after_erase, ReadFailed, EraseFailed}
+use Rattle.pk_nand.specs.Crash.{Reached, Went}
+use Rattle.pk_nand.specs.declared.types.NandFault.{NandFault}
+use Rattle.pk_nand.proofs.Reaching.{Reached-start, Went-reached}
+use Rattle.pk_nand.proofs.Leaving.{page_at-slice_set, page_at-slice_set_same}
+use Rattle.pk_remap.specs.declared.phase.Phase.{Phase}
+use Rattle.pk_remap.specs.declared.phase.Phase.TheVariants.{EraseSpare, Read, Write, EraseTable, First, Second}
+use Rattle.pk_remap.specs.declared.relocation.Call.{Call}
+use Rattle.pk_remap.specs.declared.relocation.Call.TheVariants.{Program, Erase}
+use Rattle.pk_remap.specs.declared.relocation.Relocation.{Relocation as InMemory}
+use Rattle.pk_remap.specs.Table.{table_bytes}
+use Rattle.pk_remap.specs.Places.{inner_shape, place, placed_page}
+use Rattle.pk_remap.specs.Newest.{IsTablePage}
+use Rattle.pk_remap.specs.Through.{MayShow, IsMarkWithin}
+use Rattle.pk_nand.proofs.Writing.{shape_is}
+use Rattle.pk_remap.proofs.Placing.{div-of, mod-of, place-below}
+use Rattle.pk_remap.proofs.Lifting.{placed_page-inside}
+use Rattle.pk_nand.specs.Seen.{answer}
+use Rattle.pk_nand.specs.declared.types.PageRead.TheVariants.{Whole, Erased as ReadErased, Torn as ReadTorn}
+use Rattle.pk_remap.specs.Relocating.{Relocation, block, copies_of, fill_of, spare_block, spare_page, next_table, IsSpareFilled, IsRelocating, IsTop}
+use Rattle.pk_remap.specs.Stepping.{WentSafely, RelocationGoesOn, IsSource, IsOtherTable, SpareFailed}
+use Rattle.pk_remap.specs.Running.{mark_of, is_program, relocation_of, copies, is_kept, bytes_for, phase_after, phase_rank, relocation_steps_left, IsTableFresh}
+use Rattle.pk_remap.specs.Running.{IsTableHalf, AtPhase, RelocationRuns, IsRelocated, RelocationStops, StepOutcome, reading, in_table, no_spare, torn}
+use Rattle.pk_remap.proofs.Cutting.{none_cut, block_inside}
+use Rattle.pk_remap.proofs.Stepping.{copies_written, copies_less, low_inside, writes_in_order, erases_spare, fails_to_erase_spare, reads_source, writes_page}
+use Rattle.pk_remap.proofs.Stepping.{fails_to_write, fills, erases_table, fails_to_erase_table, writes_first, fails_to_write_first, writes_second}
+use Rattle.pk_remap.proofs.Stepping.{fails_to_write_second}
+
+-- ---- numbers of a call
+
+pub fill_copies : (shape : Shape) (mark : Mark) (k : ℕ) → k < copies_of shape mark → k < fill_of shape mark
+fill_copies shape (program at bytes) k less = omega (arith, less)
+fill_copies shape (erase b) k less = absurd (omega (arith, less))
+fill_copies shape (post bytes) k less = absurd (omega (arith, less))
+
+pub copies_fill : (shape : Shape) (mark : Mark) (k : ℕ) → k < fill_of shape mark → k ≤ copies_of shape mark
+copies_fill shape (program at bytes) k less = omega (arith, less)
+copies_fill shape (erase b) k less = absurd (omega (arith, less))
+copies_fill shape (post bytes) k less = absurd (omega (arith, less))
+
+-- the page that is programmed, in its place in the block
+new_source : (shape : Shape) (at : ℕ) (bytes : List ℕ) (before : Flash) → at < length before
+    → page_at (after shape (program at bytes) before) (at / shape.block_pages * shape.block_pages + at % shape.block_pages) ≡ whole bytes
+new_source shape at bytes before inside =
+    ap (page_at (after shape (program at bytes) before)) (div-add-mod' at shape.block_pages) ∙ page_at-slice_set_same before at (whole bytes) inside
+
+if_true : {X : Type 0} (t : Bool) (x y : X) → t ≡ true → (if t then x else y) ≡ x
+if_true true x y e = refl
+if_true false x y e = cc
+
+if_false : {X : Type 0} (t : Bool) (x y : X) → t ≡ false → (if t then x else y) ≡ y
+if_false false x y e = refl
+if_false true x y e = cc
+
+-- ---- what is next in the spare
+
+module _ (r : InMemory) (before flash : Flash) (serving : IsRelocating (relocation_of r) before flash) (top : IsTop (relocation_of r) flash)
+    (partner : (k : ℕ) → is_kept r k ≡ true → IsSource (relocation_of r) before k (take r.shape.page_bytes r.partner.items)) where
+  source_new : (k : ℕ) → is_program r.call ≡ true → k ≡ copies r → IsSource (relocation_of r) before k (bytes_for r k)
+  source_new k is same =
+      let test : (k == copies r) ≡ true = equal k (copies r) same in
+      by r.call refl is (subst (λ (x : ℕ). x ≡ x) same refl)
+      ∙ ap (λ (b : List ℕ). whole b)
+      (sym (if_true (k == copies r) (take r.shape.page_bytes r.bytes.items)
+      (if is_kept r k then take r.shape.page_bytes r.partner.items else take r.shape.page_bytes r.copy.items) test))
+    where
+      equal : (a b : ℕ) → a ≡ b → (a == b) ≡ true
+      equal a b e = grind (arith, nat_tests)
+
+      by : (call : Call) → r.call ≡ call → is_program call ≡ true → copies r ≡ copies r
+          → page_at (after r.shape (relocation_of r).mark before)
+          (block (relocation_of r) * r.shape.block_pages + k) ≡ whole (take r.shape.page_bytes r.bytes.items)
+      by (Program page) e t u =
+          let bytes : List ℕ = take r.shape.page_bytes r.bytes.items in
+          let P : Call → Type 0 = λ c. IsMarkWithin r.shape (mark_of c bytes) in
+          let within : page < page_count r.shape = subst P e serving.within in
+          let Q : Call → Type 0 = λ c. k ≡ copies_of r.shape (mark_of c bytes) in
+          let here : k ≡ page % r.shape.block_pages = subst Q e same in
+          let T : Call → Type 0 = λ c. page_at (after r.shape (mark_of c bytes) before)
+          (block (record (relocation_of r) { mark = mark_of c bytes }) * r.shape.block_pages + k) ≡ whole bytes in
+          let size = serving.whole_above.size in
+          subst T (sym e) (ap (λ (x : ℕ). page_at (after r.shape (program page bytes) before) (page / r.shape.block_pages * r.shape.block_pages + x)) here
+          ∙ new_source r.shape page bytes before (omega (arith, within, size)))
+      by (Erase b) e t u = cc
+
+  pub phase_after_fits : (k : ℕ) → IsSpareFilled (relocation_of r) before flash k
+      → k ≤ fill_of r.shape (relocation_of r).mark → AtPhase r before flash (phase_after r k)
+  phase_after_fits k filled most = by (nat_lt k (copies r)) (is_kept r k) (is_program r.call && (k == copies r)) refl refl refl
+    where
+      and_true : (a b : Bool) → (a && b) ≡ true → (a ≡ true) × (b ≡ true)
+      and_true true b e = (refl, e)
+      and_true false b e = cc
+
+      fill_most : (call : Call) → (is_program call && (k == copies_of r.shape (mark_of call (take r.shape.page_bytes r.bytes.items)))) ≡ false
+          → k ≤ fill_of r.shape (mark_of call (take r.shape.page_bytes r.bytes.items))
+          → copies_of r.shape (mark_of call (take r.shape.page_bytes r.bytes.items)) ≤ k
+          → k ≡ fill_of r.shape (mark_of call (take r.shape.page_bytes r.bytes.items))
+      fill_most (Program page) e most past = let other : k ≢ page % r.shape.block_pages = grind (arith, nat_tests) in omega (arith, most, past, other)
+      fill_most (Erase b) e most past = omega (arith, most)
+
+      full_of : (call : Call) → (is_program call ≡ true) → k ≡ copies_of r.shape (mark_of call (take r.shape.page_bytes r.bytes.items))
+          → k < fill_of r.shape (mark_of call (take r.shape.page_bytes r.bytes.items))
+      full_of (Program page) t e = omega (arith, e)
+      full_of (Erase b) t e = cc
+
+      by : (s t u : Bool) → nat_lt k (copies r) ≡ s → is_kept r k ≡ t → (is_program r.call && (k == copies r)) ≡ u
+          → AtPhase r before flash (if s then (if t then Write k else Read k) else if u then Write k else EraseTable)
+      by true true u p q e =
+          let less : k < copies r = grind (arith, nat_tests) in
+          let apart : (k == copies r) ≡ false = grind (arith, nat_tests) in (
+            top,
+            filled,
+            fill_copies r.shape (relocation_of r).mark k less,
+            partner k q ∙ ap (λ (b : List ℕ). whole b)
+                (sym (if_false (k == copies r) (take r.shape.page_bytes r.bytes.items)
+                (if is_kept r k then take r.shape.page_bytes r.partner.items else take r.shape.page_bytes r.copy.items) apart
+                ∙ if_true (is_kept r k) (take r.shape.page_bytes r.partner.items) (take r.shape.page_bytes r.copy.items) q)),
+          )
+      by true false u p q e = let less : k < copies r = grind (arith, nat_tests) in (top, filled, less, q)
+      by false t true p q e =
+          let own = and_true (is_program r.call) (k == copies r) e in
+          let test = own.1 in
+          let same : k ≡ copies r = grind (arith, nat_tests) in
+          (top, filled, full_of r.call own.0 same, source_new k own.0 same)
+      by false t false p q e =
+          let past : copies r ≤ k = grind (arith, nat_tests) in
+          let same = fill_most r.call e most past in
+          (top, fills (relocation_of r) before flash serving (subst (IsSpareFilled (relocation_of r) before flash) same filled))
+
+-- ---- how many steps remain
+
+rank_cases : (s t u : Bool) (k : ℕ) → k ≤ 256
+    → phase_rank (if s then (if t then Write k else Read k) else if u then Write k else EraseTable) ≤ 2 * (257 - k) + 3
+rank_cases true true u k few = omega arith
+rank_cases true false u k few = omega arith
+rank_cases false t true k few = omega arith
+rank_cases false t false k few = omega arith
+
+rank_after : (r : InMemory) (k : ℕ) → k ≤ 256 → phase_rank (phase_after r k) ≤ 2 * (257 - k) + 3
+rank_after r k few = rank_cases (nat_lt k (copies r)) (is_kept r k) (is_program r.call && (k == copies r)) k few
+
+-- ---- steps
+
+went : (old new : BoardState) (P : Flash → List ℕ → Type 0) → Reached old new P → Went old new P
+went old new P reached = (reached.0, Went-reached reached.0 old new P reached.1)
+
+-- no mark was made
+rests : (r : Relocation) (before : Flash) (old new : BoardState) → RelocationGoesOn r before old → IsTop r old.pages
+    → new.shape ≡ old.shape → new.pages ≡ old.pages → new.trail ≡ old.trail → new.posted ≡ old.posted → WentSafely r before old new
+rests r before old new on top shape pages trail posted = (
+  [],
+  Went-reached [] old new (λ flash _. MayShow r.shape r.spares before r.mark flash)
+      (Reached-start old new (λ flash _. MayShow r.shape r.spares before r.mark flash) shape pages trail posted (none_cut r before old.pages on.serving top)),
+)
+
+module _ (r : InMemory) (before : Flash) (old : BoardState) (runs : RelocationRuns r before old) where
+  -- the step stops, and this is why
+  abbrev pub Stopped : BoardState → Type 0
+  Stopped new = WentSafely (relocation_of r) before old new × RelocationStops r old new
+
+  -- with another phase
+  again : (phase : Phase) (new : BoardState) → RelocationGoesOn (relocation_of r) before new
+      → AtPhase r before new.pages phase → RelocationRuns (record r { phase = phase }) before new
+  again phase new on phase_fits = record {
+    goes_on = on;
+    phase_fits = phase_fits;
+    partner = runs.partner;
+    fits = runs.fits;
+    serves_room = runs.serves_room;
+    partner_room = runs.partner_room;
+    bytes_room = runs.bytes_room;
+    copy_room = runs.copy_room;
+  }
+
+  -- with another phase of a lower rank
+  lower : (phase next : Phase) → r.phase ≡ phase → phase_rank next < phase_rank phase → (r.spares - r.taken) * 1024 + phase_rank next < relocation_steps_left r
+  lower phase next is less = let same : phase_rank r.phase ≡ phase_rank phase = ap phase_rank is in omega (arith, same, less)
+
+  -- with the next spare
+  pub next_spare : (new : BoardState) → SpareFailed (relocation_of r) before old new → r.taken + 1 < r.spares
+      → StepOutcome r before old (Ok false) (record r { taken = r.taken + 1; phase = EraseSpare }) new
+  next_spare new failed room = (
+    failed.cuts,
+    record {
+      goes_on = failed.goes_on room;
+      phase_fits = failed.top;
+      partner = runs.partner;
+      fits = runs.fits;
+      serves_room = runs.serves_room;
+      partner_room = runs.partner_room;
+      bytes_room = runs.bytes_room;
+      copy_room = runs.copy_room;
+    },
+    omega (arith, room),
+  )
+
+  pub no_spare_left : (new : BoardState) (e : NandFault) → SpareFailed (relocation_of r) before old new → Rose old.stop_faults new.stop_faults
+      → r.spares ≤ r.taken + 1 → StepOutcome r before old (Err e) (record r { taken = r.taken + 1; phase = EraseSpare }) new
+  no_spare_left new e failed rose none = (failed.cuts, no_spare rose none)
+
+  stands_in : (phase : Phase) → r.phase ≡ phase → AtPhase r before old.pages phase
+  stands_in phase is = subst (AtPhase r before old.pages) is runs.phase_fits
+
+  pub spare_erased : r.phase ≡ EraseSpare → (new : BoardState) → new ≡ after_erase old (spare_block (relocation_of r))
+      → StepOutcome r before old (Ok false) (record r { phase = phase_after r 0 }) new
+  spare_erased phase new is =
+      let own = erases_spare (relocation_of r) before old new runs.goes_on (stands_in EraseSpare phase) is in (
+        went old new _ own.cuts,
+        again (phase_after r 0) new own.goes_on
+            (phase_after_fits r before new.pages own.goes_on.serving own.top runs.partner 0 own.filled (omega arith)),
+        lower EraseSpare (phase_after r 0) phase (let most = rank_after r 0 (omega arith) in omega (arith, most)),
+      )
+
+  pub spare_erase_failed : r.phase ≡ EraseSpare → (new : BoardState)
+      → EraseFailed old new (spare_block (relocation_of r)) → SpareFailed (relocation_of r) before old new
+  spare_erase_failed phase new failed = fails_to_erase_spare (relocation_of r) before old new runs.goes_on (stands_in EraseSpare phase) failed
+
+  pub page_written : (k : ℕ) → r.phase ≡ Write k → k < r.shape.block_pages → (new : BoardState)
+      → new ≡ after_program old (spare_page (relocation_of r) k) (bytes_for r k)
+      → StepOutcome r before old (Ok false) (record r { phase = phase_after r (suc k) }) new
+  page_written k phase less new is =
+      let s = stands_in (Write k) phase in
+      let own = writes_page (relocation_of r) before k (bytes_for r k) old new runs.goes_on s.0 less s.1 s.3 is in
+      let few = s.2 in (
+        went old new _ own.cuts,
+        again (phase_after r (suc k)) new own.goes_on
+            (phase_after_fits r before new.pages own.goes_on.serving own.top runs.partner (suc k) own.filled (omega (arith, few))),
+        lower (Write k) (phase_after r (suc k)) phase
+            (let block_most = runs.goes_on.serving.shape_is.block_most in let most = rank_after r
+            (suc k) (omega (arith, less, block_most)) in omega (arith, most, less, block_most)),
+      )
+
+  pub page_write_failed : (k : ℕ) → r.phase ≡ Write k → k < r.shape.block_pages → (new : BoardState)
+      → ProgramFailed old new (spare_page (relocation_of r) k) (bytes_for r k) → SpareFailed (relocation_of r) before old new
+  page_write_failed k phase less new failed =
+      let s = stands_in (Write k) phase in
+      fails_to_write (relocation_of r) before k (bytes_for r k) old new runs.goes_on s.0 less s.3 failed
+
+  pub table_erased : r.phase ≡ EraseTable → (other : ℕ) → IsOtherTable (relocation_of r) other → (new : BoardState) → new ≡ after_erase old other
+      → StepOutcome r before old (Ok false) (record r { phase = First (other * r.shape.block_pages) }) new
+  table_erased phase other is_other new is =
+      let s = stands_in EraseTable phase in
+      let own = erases_table (relocation_of r) before other old new runs.goes_on s.0 s.1 is_other is in (
+        went old new _ own.cuts,
+        again (First (other * r.shape.block_pages)) new own.goes_on
+            (record { other = other; is_other = is_other; begins = refl; pair = own.pair; full = own.full; all_erased = own.all_erased }),
+        lower EraseTable (First (other * r.shape.block_pages)) phase (omega arith),
+      )
+
+  pub table_erase_failed : r.phase ≡ EraseTable → (other : ℕ) → IsOtherTable (relocation_of r) other
+      → (new : BoardState) → EraseFailed old new other → Stopped new
+  table_erase_failed phase other is_other new failed =
+      let s = stands_in EraseTable phase in (
+        fails_to_erase_table (relocation_of r) before other old new runs.goes_on s.0 is_other failed,
+        in_table failed.stop other is_other (ap (λ s. s.failed_at) failed.rest),
+      )
+
+  -- the step goes on with the next spare, or stops
+  pub next_or_stop : (new : BoardState) (result : Result Bool NandFault) → SpareFailed (relocation_of r) before old new → Rose old.stop_faults new.stop_faults
+      → IfOk result (λ done. (done ≡ false) × (r.taken + 1 < r.spares)) → OnErr result (r.spares ≤ r.taken + 1)
+      → StepOutcome r before old result (record r { taken = r.taken + 1; phase = EraseSpare }) new
+  next_or_stop new (Ok false) failed rose ok err = next_spare new failed ok.1
+  next_or_stop new (Ok true) failed rose ok err = let e = ok.0 in cc
+  next_or_stop new (Err e) failed rose ok err = no_spare_left new e failed rose err
+
+  -- ---- the read of a page that is to be copied
+
+  pub page_read : (k : ℕ) → r.phase ≡ Read k → (copy : Vec ℕ Global) (bytes : List ℕ) (new : BoardState) → new ≡ after_read old
+      → page_at old.pages (placed_page r.shape (relocation_of r).table (block (relocation_of r) * r.shape.block_pages + k)) ≡ whole bytes
+      → take r.shape.page_bytes copy.items ≡ bytes → r.shape.page_bytes ≤ length copy.items
+      → StepOutcome r before old (Ok false) (record r { copy = copy; phase = Write k }) new
+  page_read k phase copy bytes new is found taken room =
+      let s = stands_in (Read k) phase in
+      let less : k < copies r = s.2 in
+      let on : RelocationGoesOn (relocation_of r) before new = let T : BoardState
+      → Type 0 = λ b. RelocationGoesOn (relocation_of r) before b in subst T (sym is)
+      (record { ready = record { shape_is = runs.goes_on.ready.shape_is; flash = runs.goes_on.ready.flash }; serving = runs.goes_on.serving }) in
+      let pages : new.pages ≡ old.pages = ap (λ s. s.pages) is in
+      let apart : (k == copies r) ≡ false = grind (arith, nat_tests) in
+      let source : IsSource (relocation_of r) before k bytes = reads_source (relocation_of r) before old.pages k bytes runs.goes_on.serving less found in
+      let same : bytes_for (record r { copy = copy; phase = Write k }) k ≡ bytes =
+      if_false (k == copies r) (take r.shape.page_bytes r.bytes.items)
+      (if is_kept r k then take r.shape.page_bytes r.partner.items else take r.shape.page_bytes copy.items) apart
+      ∙ if_false (is_kept r k) (take r.shape.page_bytes r.partner.items) (take r.shape.page_bytes copy.items) s.3 ∙ taken in (
+        rests (relocation_of r) before old new runs.goes_on s.0 (ap (λ s. s.shape) is) pages (ap (λ s. s.trail) is) (ap (λ s. s.posted) is),
+        record {
+          goes_on = on;
+          phase_fits = (
+            subst (IsTop (relocation_of r)) (sym pages) s.0,
+            (let T : Flash → Type 0 = λ f. IsSpareFilled (relocation_of r) before f k in subst T (sym pages) s.1),
+            fill_copies r.shape (relocation_of r).mark k less,
+            source ∙ ap (λ (b : List ℕ). whole b) (sym same),
+          );
+          partner = runs.partner;
+          fits = runs.fits;
+          serves_room = runs.serves_room;
+          partner_room = runs.partner_room;
+          bytes_room = runs.bytes_room;
+          copy_room = room;
+        },
+        lower (Read k) (Write k) phase (omega arith),
+      )
+
+  -- it is Torn
+  pub page_torn : (k : ℕ) → r.phase ≡ Read k → (new : BoardState) → new ≡ after_read old
+      → page_at old.pages (placed_page r.shape (relocation_of r).table (block (relocation_of r) * r.shape.block_pages + k)) ≡ torn_page → Stopped new
+  page_torn k phase new is found =
+      let s = stands_in (Read k) phase in (
+        rests (relocation_of r) before old new runs.goes_on s.0 (ap (λ s. s.shape) is)
+            (ap (λ s. s.pages) is) (ap (λ s. s.trail) is) (ap (λ s. s.posted) is),
+        torn k phase found,
+      )
+
+  -- it is not Erased
+  pub page_written_before : (k : ℕ) → r.phase ≡ Read k
+      → page_at old.pages (placed_page r.shape (relocation_of r).table (block (relocation_of r) * r.shape.block_pages + k)) ≡ erased → ⊥
+  page_written_before k phase is = let s = stands_in (Read k) phase in copies_written (relocation_of r) before old.pages k runs.goes_on.serving s.2 is
+
+  pub page_read_failed : (k : ℕ) → r.phase ≡ Read k → (new : BoardState) (at : ℕ) → ReadFailed old new at → Stopped new
+  page_read_failed k phase new at failed =
+      let s = stands_in (Read k) phase in (
+        rests (relocation_of r) before old new runs.goes_on s.0 (ap (λ s. s.shape) failed.rest)
+            (ap (λ s. s.pages) failed.rest) (ap (λ s. s.trail) failed.rest) (ap (λ s. s.posted) failed.rest),
+        reading failed.read,
+      )
+
+  -- ---- the two programs of the next table
+
+  table_inside' : (k : ℕ) → IsTablePage r.shape r.spares k → k < length old.pages
+  table_inside' k there =
+      let size = runs.goes_on.serving.whole_below.size in
+      omega (arith, size, there.to, turned r.shape.block_pages (r.shape.blocks + r.spares))
+    where
+      turned : (n m : ℕ) → n * (m + 2) ≡ m * n + 2 * n
+      turned n m = omega arith
+
+  pub fresh_pages : (pair : ℕ) → IsTableFresh (relocation_of r) before old.pages pair
+      → (page_at old.pages pair ≡ erased) × (page_at old.pages (suc pair) ≡ erased)
+  fresh_pages pair fresh =
+      let least = runs.goes_on.serving.shape_is.block_least in (
+        fresh.all_erased pair (omega (arith, fresh.begins)) (omega (arith, fresh.begins, least)),
+        fresh.all_erased (suc pair) (omega (arith, fresh.begins)) (omega (arith, fresh.begins, least)),
+      )
+
+  pub first_written : (pair : ℕ) → r.phase ≡ First pair → (new : BoardState) (bytes : List ℕ) → IsPage r.shape bytes
+      → bytes ≡ table_bytes r.shape r.spares (next_table (relocation_of r)) → new ≡ after_program old pair bytes
+      → (copy : Vec ℕ Global) → r.shape.page_bytes ≤ length copy.items → StepOutcome r before old (Ok false) (record r { copy = copy; phase = Second pair }) new
+  first_written pair phase new bytes page same is copy room =
+      let fresh : IsTableFresh (relocation_of r) before old.pages pair = stands_in (First pair) phase in
+      let two = fresh_pages pair fresh in
+      let own = writes_first (relocation_of r) before pair old new runs.goes_on
+      (subst (IsPage r.shape) same page) fresh.pair fresh.full two.0 two.1 (is ∙ ap (λ (b : List ℕ). after_program old pair b) same) in
+      let pages = ap (λ s. s.pages) is in (
+        went old new _ own.cuts,
+        record {
+          goes_on = own.goes_on;
+          phase_fits = record {
+            other = fresh.other;
+            is_other = fresh.is_other;
+            begins = fresh.begins;
+            pair = own.is_pair;
+            full = own.full;
+            first = own.first;
+            rest = λ k from to. ap (λ (f : Flash). page_at f k) pages ∙ page_at-slice_set old.pages pair k (whole bytes) (λ e. omega (arith, e, from))
+                ∙ fresh.all_erased k (omega (arith, from, fresh.begins)) (omega (arith, to, fresh.begins));
+          };
+          partner = runs.partner;
+          fits = runs.fits;
+          serves_room = runs.serves_room;
+          partner_room = runs.partner_room;
+          bytes_room = runs.bytes_room;
+          copy_room = room;
+        },
+        lower (First pair) (Second pair) phase (omega arith),
+      )
+
+  -- the block of a failed program of the pair
+  failed_block : (new : BoardState) (at k other : ℕ) (bytes : List ℕ) → ProgramFailed old new at bytes
+      → at ≡ other * r.shape.block_pages + k → k < r.shape.block_pages → new.failed_at ≡ Some other
+  failed_block new at k other bytes failed place less =
+      ap (λ s. s.failed_at) failed.rest
+      ∙ ap (λ (s : Shape). Some (at / s.block_pages)) (shape_is old (inner_shape r.shape r.spares) runs.goes_on.ready)
+      ∙ ap (λ (x : ℕ). Some (x / r.shape.block_pages)) place
+      ∙ ap (λ (x : ℕ). Some x) (div-of other r.shape.block_pages k less)
+
+  pub first_failed : (pair : ℕ) → r.phase ≡ First pair → (new : BoardState) (bytes : List ℕ)
+      → IsPage r.shape bytes → bytes ≡ table_bytes r.shape r.spares (next_table (relocation_of r))
+      → ProgramFailed old new pair bytes → Stopped new
+  first_failed pair phase new bytes page same failed =
+      let fresh : IsTableFresh (relocation_of r) before old.pages pair = stands_in (First pair) phase in
+      let two = fresh_pages pair fresh in
+      let least = runs.goes_on.serving.shape_is.block_least in
+      let T : List ℕ → Type 0 = λ b. ProgramFailed old new pair b in (
+        fails_to_write_first (relocation_of r) before pair old new runs.goes_on
+            (subst (IsPage r.shape) same page) fresh.pair fresh.full two.0 two.1 (subst T same failed),
+        in_table failed.stop fresh.other fresh.is_other (failed_block new pair 0 fresh.other bytes failed (omega (arith, fresh.begins)) (omega (arith, least))),
+      )
+
+  pub second_written : (pair : ℕ) → r.phase ≡ Second pair → (new : BoardState) (bytes : List ℕ)
+      → IsPage r.shape bytes → bytes ≡ table_bytes r.shape r.spares (next_table (relocation_of r))
+      → new ≡ after_program old (suc pair) bytes → WentSafely (relocation_of r) before old new × IsRelocated (relocation_of r) before new
+  second_written pair phase new bytes page same is =
+      let half : IsTableHalf (relocation_of r) before old.pages pair = stands_in (Second pair) phase in
+      let least = runs.goes_on.serving.shape_is.block_least in
+      let behind : page_at old.pages (suc pair) ≡ erased = half.rest (suc pair) (omega arith) (omega (arith, least)) in
+      let own = writes_second (relocation_of r) before pair old new runs.goes_on
+      (subst (IsPage r.shape) same page) half.pair half.full half.first behind (is ∙ ap (λ (b : List ℕ). after_program old (suc pair) b) same) in
+      (went old new _ own.cuts, record { page = pair; newest = own.newest; done = own.done })
+
+  pub second_failed : (pair : ℕ) → r.phase ≡ Second pair → (new : BoardState) (bytes : List ℕ)
+      → IsPage r.shape bytes → bytes ≡ table_bytes r.shape r.spares (next_table (relocation_of r))
+      → ProgramFailed old new (suc pair) bytes → Stopped new
+  second_failed pair phase new bytes page same failed =
+      let half : IsTableHalf (relocation_of r) before old.pages pair = stands_in (Second pair) phase in
+      let least = runs.goes_on.serving.shape_is.block_least in
+      let behind : page_at old.pages (suc pair) ≡ erased = half.rest (suc pair) (omega arith) (omega (arith, least)) in
+      let T : List ℕ → Type 0 = λ b. ProgramFailed old new (suc pair) b in (
+        fails_to_write_second (relocation_of r) before pair old new runs.goes_on
+            (subst (IsPage r.shape) same page) half.pair half.full half.first behind (subst T same failed),
+        in_table failed.stop half.other half.is_other
+            (failed_block new (suc pair) 1 half.other bytes failed (omega (arith, half.begins)) (omega (arith, least))),
+      )
+
+  -- the programs of the pair are in order
+  pub first_in_order : (pair : ℕ) → r.phase ≡ First pair → (pair < length old.pages) × InOrder (inner_shape r.shape r.spares) old.pages pair
+  first_in_order pair phase =
+      let fresh : IsTableFresh (relocation_of r) before old.pages pair = stands_in (First pair) phase in
+      let least = runs.goes_on.serving.shape_is.block_least in
+      let n : ℕ = r.shape.block_pages in
+      let zero_is : pair ≡ fresh.other * n + 0 = omega (arith, fresh.begins) in
+      let rest : pair % n ≡ 0 = ap (λ (x : ℕ). x % n) zero_is ∙ mod-of fresh.other n 0 (omega (arith, least)) in (
+        table_inside' pair fresh.pair.first,
+        record {
+          before = λ k from to. absurd (omega (arith, from, to, rest));
+          behind = λ k from to. fresh.all_erased k (omega (arith, from, fresh.begins)) (omega (arith, to, fresh.begins, rest));
+        },
+      )
+
+  pub second_in_order : (pair : ℕ) → r.phase ≡ Second pair → (suc pair < length old.pages) × InOrder (inner_shape r.shape r.spares) old.pages (suc pair)
+  second_in_order pair phase =
+      let half : IsTableHalf (relocation_of r) before old.pages pair = stands_in (Second pair) phase in
+      let least = runs.goes_on.serving.shape_is.block_least in
+      let n : ℕ = r.shape.block_pages in
+      let one_is : suc pair ≡ half.other * n + 1 = omega (arith, half.begins) in
+      let rest : suc pair % n ≡ 1 = ap (λ (x : ℕ). x % n) one_is ∙ mod-of half.other n 1 (omega (arith, least)) in (
+        table_inside' (suc pair) half.pair.second,
+        record {
+          before = λ k from to is.
+              let here : k ≡ pair = omega (arith, from, to, rest) in
+              apart (table_bytes r.shape r.spares (next_table (relocation_of r))) (sym half.first ∙ ap (page_at old.pages) (sym here) ∙ is);
+          behind = λ k from to. half.rest k (omega (arith, from)) (omega (arith, to, rest));
+        },
+      )
+    where
+      apart : (bytes : List ℕ) → whole bytes ≡ erased → ⊥
+      apart bytes e = cc
+
+  -- a page of the spare is programmed in order, and is one of its block
+  pub write_less : (k : ℕ) → r.phase ≡ Write k → k < r.shape.block_pages
+  write_less k phase =
+      let s = stands_in (Write k) phase in
+      let serving = runs.goes_on.serving in
+      let least = serving.shape_is.block_least in
+      let few = copies_less r.shape before (let e : 0 < r.shape.block_pages = omega (arith, least) in e) (relocation_of r).mark serving.call in
+      omega (arith, copies_fill r.shape (relocation_of r).mark k s.2, few)
+
+  pub write_order : (k : ℕ) → r.phase ≡ Write k → InOrder (inner_shape r.shape r.spares) old.pages (spare_page (relocation_of r) k)
+  write_order k phase =
+      let s = stands_in (Write k) phase in
+      (writes_in_order (relocation_of r) before old.pages k runs.goes_on.serving (copies_fill r.shape (relocation_of r).mark k s.2) s.1).1
+
+  -- the inner page of a page of the block
+  pub read_place : (k : ℕ) → r.phase ≡ Read k
+      → (placed_page r.shape (relocation_of r).table (block (relocation_of r) * r.shape.block_pages + k)
+      ≡ place r.shape (relocation_of r).table (block (relocation_of r)) * r.shape.block_pages + k)
+      × (placed_page r.shape (relocation_of r).table (block (relocation_of r) * r.shape.block_pages + k) < length old.pages)
+      × (place r.shape (relocation_of r).table (block (relocation_of r)) ≤ 8192)
+  read_place k phase =
+      let s = stands_in (Read k) phase in
+      let serving = runs.goes_on.serving in
+      let least = serving.shape_is.block_least in
+      let n_some : 0 < r.shape.block_pages = omega (arith, least) in
+      let few = copies_less r.shape before n_some (relocation_of r).mark serving.call in
+      let less : k < r.shape.block_pages = omega (arith, s.2, few) in
+      let used : length (relocation_of r).table.serves ≤ r.spares = let u = serving.used in let l = serving.left in omega (arith, u, l) in
+      let size = serving.whole_below.size in
+      let inside = low_inside r.shape before n_some (relocation_of r).mark k serving.within s.2 in
+      let below = place-below r.shape (relocation_of r).table (block (relocation_of r)) (block_inside (relocation_of r) before old.pages serving) in
+      let most = serving.shape_is.blocks_most in
+      let spares = serving.few in (
+        (λ i. place r.shape (relocation_of r).table (div-of (block (relocation_of r)) r.shape.block_pages k less i) * r.shape.block_pages + mod-of
+            (block (relocation_of r)) r.shape.block_pages k less i),
+        omega (arith, placed_page-inside r.shape r.spares (relocation_of r).table n_some used (block (relocation_of r) * r.shape.block_pages + k) inside, size),
+        omega (arith, below, most, used, spares),
+      )
+
+-- what a read answers
+pub answer_whole : (p : Page) → Whole ≡ answer p → (bytes : List ℕ) × (p ≡ whole bytes) × ((old : List ℕ) → filled p old ≡ bytes)
+answer_whole erased e = cc
+answer_whole (whole bytes) e = (bytes, refl, λ old. refl)
+answer_whole torn_page e = cc
+
+pub answer_erased : (p : Page) → ReadErased ≡ answer p → p ≡ erased
+answer_erased erased e = refl
+answer_erased (whole bytes) e = cc
+answer_erased torn_page e = cc
+
+pub answer_torn : (p : Page) → ReadTorn ≡ answer p → p ≡ torn_page
+answer_torn erased e = cc
+answer_torn (whole bytes) e = cc
+answer_torn torn_page e = refl

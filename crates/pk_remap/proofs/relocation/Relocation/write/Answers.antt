@@ -1,0 +1,36 @@
+use Rattle.std.proofs.Common.{◌≡◌, ◌+◌, suc, ◌∙◌, arith}
+use Rattle.pk_nand.specs.BoardState.{BoardState}
+use Rattle.pk_nand.specs.Calls.{after_program}
+use Rattle.pk_nand.proofs.Writing.{shape_is}
+use Rattle.pk_remap.specs.Relocating.{spare_page}
+use Rattle.pk_remap.specs.Running.{relocation_of}
+use Rattle.pk_remap.proofs.Running.{page_written, page_write_failed, next_or_stop, write_order, write_less}
+use Rattle.pk_remap.proofs.relocation.Relocation.write.Goals as goal
+
+pub program-requires-clause-order : goal.program-requires-clause-order
+program-requires-clause-order g c =
+    let at : c.page_in-at.result ≡ spare_page (relocation_of c.args.self.now) c.args.page = rw c.blocks-2.ensures.value at c.page_in-at.ensures in
+    let board : BoardState = g.N.Nand.state c.args.inner.now in
+    rw (at, shape_is board _ c.requires.runs.1.goes_on.ready)
+    (write_order c.args.self.now c.requires.runs.0 board c.requires.runs.1 c.args.page c.requires.phase)
+
+pub returns-in-Ok : goal.returns-in-Ok
+returns-in-Ok g c before runs =
+    let at : c.page_in-at.result ≡ spare_page (relocation_of c.args.self.now) c.args.page = rw c.blocks-2.ensures.value at c.page_in-at.ensures in
+    let board : BoardState = g.N.Nand.state c.args.inner.now in
+    let next : c.args.page + 1 ≡ suc c.args.page = omega arith in
+    rw (c.phase_after-self.ensures, next)
+    (page_written c.args.self.now before board runs c.args.page c.requires.phase
+    (write_less c.args.self.now before board runs c.args.page c.requires.phase) (g.N.Nand.state c.program.new.self)
+    (c.in-Ok.ensures.ok ∙ (λ i. after_program board (at i) (c.bytes_for.ensures i))))
+
+pub returns-in-Err : goal.returns-in-Err
+returns-in-Err g c before runs =
+    let at : c.page_in-at.result ≡ spare_page (relocation_of c.args.self.now) c.args.page = rw c.blocks-2.ensures.value at c.page_in-at.ensures in
+    let board : BoardState = g.N.Nand.state c.args.inner.now in
+    let new : BoardState = g.N.Nand.state c.program.new.self in
+    let failed = rw (at, c.bytes_for.ensures) at c.in-Err.ensures.err in
+    rw c.take_next.ensures.next
+    (next_or_stop c.args.self.now before board runs new c.take_next.result
+    (page_write_failed c.args.self.now before board runs c.args.page c.requires.phase
+    (write_less c.args.self.now before board runs c.args.page c.requires.phase) new failed) failed.stop c.take_next.ensures.ok c.take_next.ensures.err)

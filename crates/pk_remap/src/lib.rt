@@ -1,0 +1,23 @@
+//! A flash with spare blocks over another flash: a block whose program or erase failed is copied to a spare block, so that the drive
+//! above meets no fault. A table page says which spare block each block is in. Wherever one of the steps that copy a block is cut, and
+//! where one fails, the outer flash is as it was before the call that failed, or what this call may leave.
+#![tactic(auto)]
+
+mod check;
+pub mod laws;
+mod layout;
+mod phase;
+mod places;
+mod relocation;
+mod search;
+mod steps;
+mod table;
+mod top;
+
+pub use layout::{FAILED, LIST_FROM, MOST_SPARES};
+pub use phase::Phase;
+pub use places::{page_in, place};
+pub use relocation::{Call, Relocation};
+pub use search::newest;
+pub use table::{BadTable, decode, encode};
+pub use top::Top;
