@@ -285,10 +285,11 @@ class Check(OnImage):
 
 
 class ExportAndImport(OnImage):
+    shape = (512, 16, 80)  # SMALL holds 246 values
     values = {bytes([i]): bytes([i]) * (i * 7) for i in range(256)} | {b"\xff" * 16: b"", "ключ".encode(): "значение\n".encode()}
 
     def other(self, name="other.img"):
-        make(self.path(name), *SMALL, program=PROGRAM)
+        make(self.path(name), *self.shape, program=PROGRAM)
         return self.path(name)
 
     def small(self):
@@ -649,7 +650,7 @@ class Shell(OnImage):
         self.ctl("shell", self.path("none"), "-e", "list", status=8)
         with Drive(self.image, program=PROGRAM):
             self.shell("list", status=6)
-        self.change(STATES, b"\0")
+        self.change(STATES, b"\0\0")
         self.shell("list", status=8)
         self.assertIn("pinkctl check", self.said)
 
