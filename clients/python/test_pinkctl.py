@@ -522,6 +522,16 @@ class Salvage(OnImage):
         self.assertIn("it may be older, or deleted since", self.out)
         self.assertEqual(self.salvage("--sure-only"), {b"c": b"3"})
 
+    def test_a_commit_whose_pages_differ(self):
+        self.store({b"a": b"1", b"b": b"2"})
+        with Drive(self.image, program=PROGRAM) as d:
+            del d[b"a"]
+        it, flash = self.flash()
+        page = max(flash.newest.pages) - 1
+        self.change(self.place(page, 32 + 4), b"b")  # the deletion of a, as that of b
+        self.assertEqual(self.salvage(), {b"a": b"1", b"b": b"2"})
+        self.assertIn("0 sure, 2 doubtful; 0 lost", self.out)
+
     def test_a_lost_newest_root(self):
         self.store({b"a": b"1"})
         self.store({b"b": b"2"})
