@@ -23,9 +23,12 @@ const NEW: Value = Value { first: 3, len: 100 };
 
 // ---- the pairs of a trail
 
-// The page of a root or of a commit that this mark programs.
-fn relied_on(mark: &Mark) -> Option<u32> {
-    match mark {
+// The page of a root or of a commit that the mark with this number programs.
+fn relied_on(flash: &Flash, k: usize) -> Option<u32> {
+    if k >= flash.marks() {
+        return None;
+    }
+    match flash.mark(k) {
         Mark::Program { page, bytes } => {
             let text = bytes.bytes();
             if text.starts_with(b"PINKROOT") || text.starts_with(b"PINKJRNL") {
@@ -53,10 +56,10 @@ fn next_change(flash: &Flash, mark: usize) -> Option<usize> {
 fn half_made(rt: &impl Abort, flash: &Flash, place: Place) -> u32 {
     let mut count = 0u32;
     for i in 0..flash.marks() {
-        match relied_on(flash.mark(i)) {
+        match relied_on(flash, i) {
             Some(page) if page % 2 == 0 => {
                 let next = next_change(flash, i).expect(rt, "a second program");
-                let second = relied_on(flash.mark(next));
+                let second = relied_on(flash, next);
                 holds(
                     rt,
                     second == Some(page.saturating_add(1)),
