@@ -43,9 +43,11 @@ module _ (r : Relocation) (old : BoardState) (can : CanRelocate r old) where
     where
       by : (mark : Mark) → IsMarkWithin shape mark → (block' : ℕ)
           × (touched_block inner (mark_below shape r.table mark) ≡ Some block') × (block' < shape.blocks + length r.table.serves)
-      by (program at bytes) within =
-          (place shape r.table (at / n), ap (λ (b : ℕ). Some b) (placed_page-div shape r.table some at),
-              place-below shape r.table (at / n) (page_block shape r.table some at within))
+      by (program at bytes) within = (
+        place shape r.table (at / n),
+        ap (λ (b : ℕ). Some b) (placed_page-div shape r.table some at),
+        place-below shape r.table (at / n) (page_block shape r.table some at within),
+      )
       by (erase b) within = (place shape r.table b, refl, place-below shape r.table b within)
       by (post bytes) within = absurd within
 
@@ -57,7 +59,7 @@ module _ (r : Relocation) (old : BoardState) (can : CanRelocate r old) where
         let here = table_block shape r.spares some k there in
         let less = own.2 in
         elsewhere inner (mark_below shape r.table r.mark) k own.0 (page_at old.pages k)
-            (page_at cut k) own.1 (λ e. omega (arith, e, here, less, used)) (i.pages k)
+        (page_at cut k) own.1 (λ e. omega (arith, e, here, less, used)) (i.pages k)
 
     pub cut_top : IsTop r cut
     cut_top = newest-kept shape r.spares (page_at old.pages) (page_at cut) r.top r.table can.top

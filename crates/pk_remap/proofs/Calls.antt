@@ -24,8 +24,10 @@ module _ (old : BoardState) (shape : Shape) (ready : IsReady old shape) (P : Fla
     pub program_reached : (new : BoardState) → new ≡ after_program old at bytes → Reached old new (λ flash _. P flash)
     program_reached new is =
         let T : BoardState → Type 0 = λ s. Reached old s (λ flash _. P flash) in
-        subst T (sym is) (program at bytes ∷ [],
-            Reached-program old (λ flash _. P flash) at bytes (λ flash i. within flash (own flash (program at bytes) i)) done_program)
+        subst T (sym is) (
+          program at bytes ∷ [],
+          Reached-program old (λ flash _. P flash) at bytes (λ flash i. within flash (own flash (program at bytes) i)) done_program,
+        )
 
     pub program_went : (new : BoardState) → ProgramFailed old new at bytes → Went old new (λ flash _. P flash)
     program_went new failed = Went-program_failed old (λ flash _. P flash) new at bytes failed

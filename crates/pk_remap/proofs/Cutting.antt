@@ -19,12 +19,12 @@ use Rattle.pk_remap.specs.Table.{table_bytes, table_page, is_table, is_served}
 use Rattle.pk_remap.specs.Places.{inner_shape, place, placed_page, through_by}
 use Rattle.pk_remap.specs.Newest.{first_table_page, IsTablePage, IsNewest, IsNewestBeside}
 use Rattle.pk_remap.specs.Through.{MayShow, IsMarkWithin}
-use Rattle.pk_remap.specs.Relocating.{Relocation, block_of, block, spare_block, spare_page, next_table, IsSpareFull, IsRelocating, IsTop, IsTablePair}
+use Rattle.pk_remap.specs.Relocating.{Relocation, block_of, block, spare_block, spare_page, next_table, IsSpareFull, IsRelocating, IsTop, SameTables, IsTablePair}
 use Rattle.pk_remap.proofs.TableLemmas.{table_parts, parts_table, page_again}
 use Rattle.pk_remap.proofs.Placing.{block_of as page_block, length-through, page-through, past-through, more_here, more_other}
 use Rattle.pk_remap.proofs.Finding.{beside-kept, pair-newest}
 use Rattle.pk_remap.proofs.Lifting.{times_le}
-use Rattle.pk_remap.proofs.Standing.{may_show, apart_through, spare-newest, spare-through, turn-newest, turn-through, table_block, NoneOr, pair-none_or}
+use Rattle.pk_remap.proofs.Standing.{may_show, apart_through, table_page_kept, spare-newest, spare-through, turn-newest, turn-through, table_block, NoneOr, pair-none_or}
 use Rattle.pk_remap.proofs.Standing.{pair-others}
 
 -- a page after the last is Torn
@@ -98,11 +98,14 @@ module _ (r : Relocation) (before flash : Flash) (serving : IsRelocating r befor
     pub spare_top : IsTop r flash → IsTop r cut
     spare_top top = spare-newest shape r.spares some r.table r.top mark (spare_block r) flash cut out spare_after_used spare_before_tables in_spare i top
 
+    pub spare_tables : SameTables r flash cut
+    spare_tables = table_page_kept shape r.spares some r.table r.top mark (spare_block r) flash cut out spare_after_used spare_before_tables in_spare i
+
     pub spare_above : Interrupted shape r.mark before (through_by shape r.table (page_at cut)) []
     spare_above =
         let P : Flash → Type 0 = λ g. Interrupted shape r.mark before g [] in
         subst P (sym (spare-through shape r.spares some r.table r.top mark (spare_block r) flash cut out spare_after_used spare_before_tables in_spare i))
-            serving.above
+        serving.above
 
     pub spare_cut : IsTop r flash → MayShow shape r.spares before r.mark cut
     spare_cut top = may_show shape r.spares before cut r.mark r.top r.table (spare_top top) spare_above
@@ -137,7 +140,7 @@ module _ (r : Relocation) (before flash : Flash) (serving : IsRelocating r befor
   next_place : shape.blocks + length r.table.serves + length (replicate (r.taken - length r.table.serves) FAILED) ≡ spare_block r
   next_place =
       let len : length (replicate (r.taken - length r.table.serves) FAILED)
-          ≡ r.taken - length r.table.serves = length-replicate (r.taken - length r.table.serves) FAILED in
+      ≡ r.taken - length r.table.serves = length-replicate (r.taken - length r.table.serves) FAILED in
       let used = serving.used in
       omega (arith, len, used)
 
@@ -149,10 +152,15 @@ module _ (r : Relocation) (before flash : Flash) (serving : IsRelocating r befor
       let left = serving.left in
       let number : r.table.number ≤ length r.table.serves + 1 = grind (arith, nat_tests) in
       let failed_len : length (replicate (r.taken - length r.table.serves) FAILED)
-          ≡ r.taken - length r.table.serves = length-replicate (r.taken - length r.table.serves) FAILED in
+      ≡ r.taken - length r.table.serves = length-replicate (r.taken - length r.table.serves) FAILED in
       let len : length (next_table r).serves ≡ r.taken + 1 =
-      omega (arith, length-append r.table.serves (replicate (r.taken - length r.table.serves) FAILED ++ block r ∷ []),
-          length-append (replicate (r.taken - length r.table.serves) FAILED) (block r ∷ []), failed_len, used) in
+      omega (
+        arith,
+        length-append r.table.serves (replicate (r.taken - length r.table.serves) FAILED ++ block r ∷ []),
+        length-append (replicate (r.taken - length r.table.serves) FAILED) (block r ∷ []),
+        failed_len,
+        used,
+      ) in
       let inside = block_inside in
       let here : nat_lt (block r) shape.blocks ≡ true = grind (arith, nat_tests) in
       parts_table shape r.spares (next_table r) (record {
@@ -178,7 +186,7 @@ module _ (r : Relocation) (before flash : Flash) (serving : IsRelocating r befor
       → through_by shape (next_table r) (page_at cut) ≡ after shape r.mark before
   exchange cut full above = same_pages (after shape r.mark before) (through_by shape (next_table r) (page_at cut))
       (length-through shape (next_table r) (page_at cut) ∙ sym (length-after shape r.mark before ∙ serving.whole_above.size))
-          (λ k. by_bound k (nat_lt k (page_count shape)) refl)
+      (λ k. by_bound k (nat_lt k (page_count shape)) refl)
     where
       few : shape.blocks ≤ FAILED
       few = let most = serving.shape_is.blocks_most in omega (arith, most)
@@ -230,11 +238,14 @@ module _ (r : Relocation) (before flash : Flash) (serving : IsRelocating r befor
     pub pair_full : IsSpareFull r before cut
     pair_full k less =
         others (spare_page r k) (λ e. omega (arith, e, spare_page_before k less, is_pair.first.from))
-            (λ e. omega (arith, e, spare_page_before k less, is_pair.second.from)) ∙ full k less
+        (λ e. omega (arith, e, spare_page_before k less, is_pair.second.from)) ∙ full k less
 
     at_there : IsTablePage shape r.spares at
-    at_there = elim is_at [ inl e ↦ subst (IsTablePage shape r.spares)
-        (sym e) is_pair.first | inr e ↦ subst (IsTablePage shape r.spares) (sym e) is_pair.second ]
+    at_there = elim is_at [
+      | inl e ↦ subst (IsTablePage shape r.spares)
+          (sym e) is_pair.first
+      | inr e ↦ subst (IsTablePage shape r.spares) (sym e) is_pair.second
+    ]
 
     pub pair_above : Interrupted shape r.mark before (through_by shape r.table (page_at cut)) []
     pair_above =
@@ -243,7 +254,7 @@ module _ (r : Relocation) (before flash : Flash) (serving : IsRelocating r befor
         let left = serving.left in
         let behind : shape.blocks + length r.table.serves ≤ at / n = omega (arith, table_block shape r.spares some at at_there, used, left) in
         subst P (sym (apart_through shape r.spares some r.table (program at (table_bytes shape r.spares (next_table r))) (at / n) flash cut out behind refl i))
-            serving.above
+        serving.above
 
     pub pair_beside : IsNewestBeside shape r.spares pair (page_at cut) r.top r.table
     pair_beside = beside-kept shape r.spares (page_at flash) (page_at cut) r.top r.table pair is_pair.beside (λ k there one two. others k one two)
@@ -257,7 +268,7 @@ module _ (r : Relocation) (before flash : Flash) (serving : IsRelocating r befor
     pub pair_cut : MayShow shape r.spares before r.mark cut
     pair_cut =
         elim (pair-newest shape r.spares (page_at cut) r.top r.table (next_table r) pair pair_beside
-            (let e : r.table.number < r.table.number + 1 = omega arith in e) is_pair.first is_pair.second
+        (let e : r.table.number < r.table.number + 1 = omega arith in e) is_pair.first is_pair.second
         (none_or pair first) (none_or (suc pair) second)) [
           | inl is ↦ may_show shape r.spares before cut r.mark r.top r.table is pair_above
           | inr q ↦ next_shows q.0 q.1

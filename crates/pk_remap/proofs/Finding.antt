@@ -218,7 +218,7 @@ module _ (shape : Shape) (spares : ℕ) (at : ℕ → Page) (page : ℕ) (table 
     is = is;
     newest = λ k there other own. by_page k (IsNewer pair new k other)
         (λ e. let same : other ≡ new = same_table other new (sym own ∙ ap (λ (x : ℕ). table_in shape spares (at x)) e ∙ is) in inr
-            (ap (λ (x : SpareTable). x.number) same, omega (arith, e)))
+        (ap (λ (x : SpareTable). x.number) same, omega (arith, e)))
         (λ e. let here : table_in shape spares (at (suc pair)) ≡ Some other = ap (λ (x : ℕ). table_in shape spares (at x)) (sym e) ∙ own in
         elim or [
           | inl none ↦ absurd (none_some other (sym none ∙ here))
@@ -235,7 +235,7 @@ module _ (shape : Shape) (spares : ℕ) (at : ℕ → Page) (page : ℕ) (table 
     newest = λ k there other own. by_page k (IsNewer (suc pair) new k other)
         (λ e. absurd (none_some other (sym none ∙ ap (λ (x : ℕ). table_in shape spares (at x)) (sym e) ∙ own)))
         (λ e. let same : other ≡ new = same_table other new (sym own ∙ ap (λ (x : ℕ). table_in shape spares (at x)) e ∙ is) in inr
-            (ap (λ (x : SpareTable). x.number) same, omega (arith, e)))
+        (ap (λ (x : SpareTable). x.number) same, omega (arith, e)))
         (λ one two. older (suc pair) k there one two other own);
   }
 

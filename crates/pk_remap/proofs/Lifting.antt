@@ -42,14 +42,14 @@ module _ (shape : Shape) (spares : ℕ) (table : SpareTable) (some : 0 < shape.b
       let b = place-below shape table (k / n) (block_of shape table some k inside) in
       let r = mod-lt k {m = n} some in
       let room : suc (place shape table (k / n)) * n ≤ (shape.blocks + length table.serves) * n = times_le
-          (suc (place shape table (k / n))) (shape.blocks + length table.serves) n b in
+      (suc (place shape table (k / n))) (shape.blocks + length table.serves) n b in
       omega (arith, r, room)
 
   pub placed_page-inside : (k : ℕ) → k < page_count shape → placed_page shape table k < page_count (inner_shape shape spares)
   placed_page-inside k inside =
       let b = placed_page-below k inside in
       let room : (shape.blocks + length table.serves) * n ≤ (shape.blocks + spares + 2) * n = times_le
-          (shape.blocks + length table.serves) (shape.blocks + spares + 2) n (omega (arith, used)) in
+      (shape.blocks + length table.serves) (shape.blocks + spares + 2) n (omega (arith, used)) in
       let turned : n * (shape.blocks + spares + 2) ≡ (shape.blocks + spares + 2) * n = commute n (shape.blocks + spares + 2) in
       omega (arith, b, room, turned)
     where
@@ -61,9 +61,9 @@ module _ (shape : Shape) (spares : ℕ) (table : SpareTable) (some : 0 < shape.b
       → IsPartner (inner_shape shape spares) (placed_page shape table at) (placed_page shape table k) → IsPartner shape at k
   placed_page-partner at k in_at in_k is =
       let same : placed_page shape table at / n ≡ placed_page shape table k / n = partner_block
-          (inner_shape shape spares) (placed_page shape table at) (placed_page shape table k) is in
+      (inner_shape shape spares) (placed_page shape table at) (placed_page shape table k) is in
       let quot : at / n ≡ k / n = place-apart shape table (at / n) (k / n) (block_of shape table some at in_at)
-          (block_of shape table some k in_k) (sym (placed_page-div shape table some at) ∙ same ∙ placed_page-div shape table some k) in
+      (block_of shape table some k in_k) (sym (placed_page-div shape table some at) ∙ same ∙ placed_page-div shape table some k) in
       let P : ℕ → Type 0 = λ q. place shape table q * n + at % n ≡ place shape table (k / n) * n + k % n + 1 in
       let rest : at % n ≡ k % n + 1 = let moved = subst P quot is.0 in omega (arith, moved) in
       let whole_at : at / n * n + at % n ≡ at = div-add-mod' at n in
@@ -97,7 +97,7 @@ module _ (shape : Shape) (spares : ℕ) (table : SpareTable) (some : 0 < shape.b
         let inside : k < page_count shape = grind (arith, nat_tests) in
         rw (page-through shape table (page_at flash) k inside, page-through shape table (page_at cut) k inside)
         (lift-leaves mark k (page_at flash (placed_page shape table k))
-            (page_at cut (placed_page shape table k)) within inside (i.pages (placed_page shape table k)))
+        (page_at cut (placed_page shape table k)) within inside (i.pages (placed_page shape table k)))
     by k false t =
         let past : page_count shape ≤ k = grind (arith, nat_tests) in
         rw (past-through shape table (page_at flash) k past, past-through shape table (page_at cut) k past) (leaves_same shape mark k torn)
@@ -122,19 +122,19 @@ module _ (shape : Shape) (spares : ℕ) (table : SpareTable) (some : 0 < shape.b
 
     program_page : (at : ℕ) (bytes : List ℕ) (k : ℕ) → at < page_count shape
         → page_at (through_by shape table (page_at (slice_set flash (placed_page shape table at) (whole bytes)))) k
-            ≡ page_at (slice_set above at (whole bytes)) k
+        ≡ page_at (slice_set above at (whole bytes)) k
     program_page at bytes k within = by_bound k
         (page_at (through_by shape table (page_at (slice_set flash (placed_page shape table at) (whole bytes)))) k
         ≡ page_at (slice_set above at (whole bytes)) k)
         (λ inside. page-through shape table (page_at (slice_set flash (placed_page shape table at) (whole bytes))) k inside
         ∙ by_equal k at (page_at (slice_set flash (placed_page shape table at) (whole bytes))
-            (placed_page shape table k) ≡ page_at (slice_set above at (whole bytes)) k)
+        (placed_page shape table k) ≡ page_at (slice_set above at (whole bytes)) k)
         (λ same. ap (λ (x : ℕ). page_at (slice_set flash (placed_page shape table at) (whole bytes)) (placed_page shape table x)) same
         ∙ page_at-slice_set_same flash (placed_page shape table at) (whole bytes) (omega (arith, placed_page-inside at within, size))
         ∙ sym (page_at-slice_set_same above at (whole bytes) (omega (arith, within, length-through shape table (page_at flash))))
         ∙ ap (λ (x : ℕ). page_at (slice_set above at (whole bytes)) x) (sym same))
         (λ other. page_at-slice_set flash (placed_page shape table at) (placed_page shape table k)
-            (whole bytes) (λ e. other (placed_page-apart shape table some k at inside within e))
+        (whole bytes) (λ e. other (placed_page-apart shape table some k at inside within e))
         ∙ sym (page-through shape table (page_at flash) k inside) ∙ sym (page_at-slice_set above at k (whole bytes) other)))
         (λ past. past-through shape table (page_at (slice_set flash (placed_page shape table at) (whole bytes))) k past
         ∙ sym (past-through shape table (page_at flash) k past)
@@ -142,21 +142,21 @@ module _ (shape : Shape) (spares : ℕ) (table : SpareTable) (some : 0 < shape.b
 
     erase_page : (block k : ℕ) → block < shape.blocks
         → page_at (through_by shape table (page_at (erased_from (inner_shape shape spares) (place shape table block) 0 flash))) k
-            ≡ page_at (erased_from shape block 0 above) k
+        ≡ page_at (erased_from shape block 0 above) k
     erase_page block k within = by_bound k
         (page_at (through_by shape table (page_at (erased_from (inner_shape shape spares) (place shape table block) 0 flash))) k
         ≡ page_at (erased_from shape block 0 above) k)
         (λ inside. page-through shape table (page_at (erased_from (inner_shape shape spares) (place shape table block) 0 flash)) k inside
         ∙ by_equal (k / n) block (page_at (erased_from (inner_shape shape spares) (place shape table block) 0 flash)
-            (placed_page shape table k) ≡ page_at (erased_from shape block 0 above) k)
+        (placed_page shape table k) ≡ page_at (erased_from shape block 0 above) k)
         (λ same. page-erased_in (inner_shape shape spares) (place shape table block) 0 flash
-            (placed_page shape table k) (omega (arith, placed_page-inside k inside, size))
+        (placed_page shape table k) (omega (arith, placed_page-inside k inside, size))
         (ap (λ (x : ℕ). x / n) (zero-add (placed_page shape table k)) ∙ placed_page-div shape table some k ∙ ap (place shape table) same)
         ∙ sym (page-erased_in shape block 0 above k
-            (omega (arith, inside, length-through shape table (page_at flash))) (ap (λ (x : ℕ). x / n) (zero-add k) ∙ same)))
+        (omega (arith, inside, length-through shape table (page_at flash))) (ap (λ (x : ℕ). x / n) (zero-add k) ∙ same)))
         (λ other. page_at-erased_from (inner_shape shape spares) (place shape table block) 0 flash (placed_page shape table k)
         (λ e. other (place-apart shape table (k / n) block (block_of shape table some k inside) within
-            (sym (placed_page-div shape table some k) ∙ ap (λ (x : ℕ). x / n) (sym (zero-add (placed_page shape table k))) ∙ e)))
+        (sym (placed_page-div shape table some k) ∙ ap (λ (x : ℕ). x / n) (sym (zero-add (placed_page shape table k))) ∙ e)))
         ∙ sym (page-through shape table (page_at flash) k inside)
         ∙ sym (page_at-erased_from shape block 0 above k (λ e. other (ap (λ (x : ℕ). x / n) (sym (zero-add k)) ∙ e)))))
         (λ past. past-through shape table (page_at (erased_from (inner_shape shape spares) (place shape table block) 0 flash)) k past
@@ -181,12 +181,12 @@ module _ (shape : Shape) (spares : ℕ) (table : SpareTable) (some : 0 < shape.b
     lift-done mark within = same_pages (after shape mark above)
         (through_by shape table (page_at (after (inner_shape shape spares) (mark_below shape table mark) flash)))
         (length-through shape table (page_at (after (inner_shape shape spares) (mark_below shape table mark) flash))
-            ∙ sym (length-after shape mark above ∙ length-through shape table (page_at flash)))
+        ∙ sym (length-after shape mark above ∙ length-through shape table (page_at flash)))
         (λ k. pages mark k within)
       where
         pages : (mark : Mark) (k : ℕ) → IsMarkWithin shape mark
             → page_at (through_by shape table (page_at (after (inner_shape shape spares) (mark_below shape table mark) flash))) k
-                ≡ page_at (after shape mark above) k
+            ≡ page_at (after shape mark above) k
         pages (program at bytes) k within = program_page at bytes k within
         pages (erase block) k within = erase_page block k within
         pages (post bytes) k within = absurd within

@@ -29,14 +29,14 @@ serving-cases spare (b ∷ bs) block found = by (nat_eq b block) refl (λ f. ser
     by true e more =
         let same : b ≡ block = grind (arith, nat_tests) in
         let here : serving spare (b ∷ bs) block found ≡ serving (suc spare) bs block spare = ap
-            (λ (t : Bool). serving (suc spare) bs block (if t then spare else found)) e in
+        (λ (t : Bool). serving (suc spare) bs block (if t then spare else found)) e in
         elim (more spare) [
           | inl is ↦ inr (record { i = 0; less = omega arith; is = ap (λ (x : ℕ). Some x) same; at = here ∙ is ∙ sym (add-zero spare) })
           | inr s ↦ inr (record { i = suc s.i; less = omega (arith, s.less); is = s.is; at = here ∙ s.at ∙ omega arith })
         ]
     by false e more =
         let here : serving spare (b ∷ bs) block found ≡ serving (suc spare) bs block found = ap
-            (λ (t : Bool). serving (suc spare) bs block (if t then spare else found)) e in
+        (λ (t : Bool). serving (suc spare) bs block (if t then spare else found)) e in
         elim (more found) [
           | inl is ↦ inl (here ∙ is)
           | inr s ↦ inr (record { i = suc s.i; less = omega (arith, s.less); is = s.is; at = here ∙ s.at ∙ omega arith })
@@ -48,7 +48,7 @@ serving-append spare [] bs block found = ap (λ (k : ℕ). serving k bs block fo
 serving-append spare (a ∷ front) bs block found =
     serving-append (suc spare) front bs block (if a == block then spare else found)
     ∙ ap (λ (k : ℕ). serving k bs block (serving (suc spare) front block (if a == block then spare else found)))
-        (let e : suc spare + length front ≡ spare + suc (length front) = omega arith in e)
+    (let e : suc spare + length front ≡ spare + suc (length front) = omega arith in e)
 
 pub serving-failed : (n spare block found : ℕ) → block ≢ FAILED → serving spare (replicate n FAILED) block found ≡ found
 serving-failed zero spare block found other = refl
@@ -138,7 +138,7 @@ module _ (shape : Shape) (table : SpareTable) (some : 0 < shape.block_pages) whe
   pub placed_page-apart : (a b : ℕ) → a < n * shape.blocks → b < n * shape.blocks → placed_page shape table a ≡ placed_page shape table b → a ≡ b
   placed_page-apart a b in_a in_b same =
       let quot : a / n ≡ b / n = place-apart shape table (a / n) (b / n) (block_of a in_a)
-          (block_of b in_b) (sym (placed_page-div a) ∙ ap (λ (x : ℕ). x / n) same ∙ placed_page-div b) in
+      (block_of b in_b) (sym (placed_page-div a) ∙ ap (λ (x : ℕ). x / n) same ∙ placed_page-div b) in
       let rest : a % n ≡ b % n = sym (placed_page-mod a) ∙ ap (λ (x : ℕ). x % n) same ∙ placed_page-mod b in
       same_page a b quot rest
 
@@ -174,25 +174,25 @@ module _ (shape : Shape) (table : SpareTable) (at : ℕ → Page) where
 module _ (shape : Shape) (table : SpareTable) (failed block : ℕ) (few : shape.blocks ≤ FAILED) (inside : block < shape.blocks) where
   more_serving : (b : ℕ) → b < shape.blocks
       → place shape (with_one_more table failed block) b
-          ≡ (if block == b then shape.blocks + length table.serves + length (replicate failed FAILED) else place shape table b)
+      ≡ (if block == b then shape.blocks + length table.serves + length (replicate failed FAILED) else place shape table b)
   more_serving b less =
       let other : b ≢ FAILED = λ e. omega (arith, less, few, e) in
       serving-append shape.blocks table.serves (replicate failed FAILED ++ block ∷ []) b b
       ∙ serving-append (shape.blocks + length table.serves) (replicate failed FAILED) (block ∷ []) b (place shape table b)
       ∙ ap (λ (x : ℕ). if block == b then shape.blocks + length table.serves + length (replicate failed FAILED) else x)
-          (serving-failed failed (shape.blocks + length table.serves) b (place shape table b) other)
+      (serving-failed failed (shape.blocks + length table.serves) b (place shape table b) other)
 
   -- the block is in the new spare, and each other block is in the same inner block as before
   pub more_here : place shape (with_one_more table failed block) block ≡ shape.blocks + length table.serves + length (replicate failed FAILED)
   more_here =
       let e : nat_eq block block ≡ true = grind (arith, nat_tests) in
       more_serving block inside ∙ ap
-          (λ (t : Bool). if t then shape.blocks + length table.serves + length (replicate failed FAILED) else place shape table block) e
+      (λ (t : Bool). if t then shape.blocks + length table.serves + length (replicate failed FAILED) else place shape table block) e
 
   pub more_other : (b : ℕ) → b < shape.blocks → b ≢ block → place shape (with_one_more table failed block) b ≡ place shape table b
   more_other b less other =
       more_serving b less ∙ ap (λ (t : Bool). if t then shape.blocks + length table.serves + length (replicate failed FAILED) else place shape table b)
-          (by (nat_eq block b) refl)
+      (by (nat_eq block b) refl)
     where
       by : (t : Bool) → nat_eq block b ≡ t → nat_eq block b ≡ false
       by false e = e

@@ -51,7 +51,7 @@ module _ (shape : Shape) (spares : ℕ) (at : ℕ → Page) where
         is = e;
         newest = λ j low high table is. split j (IsNewer (from + n) new j table)
             (λ same. let own : table ≡ new = same_table table new
-                (sym is ∙ here j (Some new) e same) in inr (ap (λ (x : SpareTable). x.number) own, omega (arith, same)))
+            (sym is ∙ here j (Some new) e same) in inr (ap (λ (x : SpareTable). x.number) own, omega (arith, same)))
             (λ other. absurd (none_some table (sym (none j low (omega (arith, high, other))) ∙ is)));
       }
       by (Some top) (Some new) e was = by_number (nat_lt top.1.number new.number) refl
@@ -65,9 +65,12 @@ module _ (shape : Shape) (spares : ℕ) (at : ℕ → Page) where
                 is = e;
                 newest = λ j low high table is. split j (IsNewer (from + n) new j table)
                     (λ same. let own : table ≡ new = same_table table new
-                        (sym is ∙ here j (Some new) e same) in inr (ap (λ (x : SpareTable). x.number) own, omega (arith, same)))
-                    (λ other. elim (was.newest j low (omega (arith, high, other)) table is) [ inl lower ↦ inl
-                        (omega (arith, lower, less)) | inr equal ↦ inl (omega (arith, equal.0, less)) ]);
+                    (sym is ∙ here j (Some new) e same) in inr (ap (λ (x : SpareTable). x.number) own, omega (arith, same)))
+                    (λ other. elim (was.newest j low (omega (arith, high, other)) table is) [
+                      | inl lower ↦ inl
+                          (omega (arith, lower, less))
+                      | inr equal ↦ inl (omega (arith, equal.0, less))
+                    ]);
               }
           by_number false t =
               let most : new.number ≤ top.1.number = grind (arith, nat_tests) in

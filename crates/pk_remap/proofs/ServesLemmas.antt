@@ -30,7 +30,7 @@ fault_stop g page i count less e = ap (serves_fault g (32 + 2 * i)) (left_more p
 
 pub fault_more : (g : Shape) (page : List ℕ) (i count : ℕ) → i < count → is_served g (u16_at page (32 + 2 * i)) ≡ true
     → serves_fault g (32 + 2 * (i + 1)) (u16s_at (count - (i + 1)) (drop (32 + 2 * (i + 1)) page))
-        ≡ serves_fault g (32 + 2 * i) (u16s_at (count - i) (drop (32 + 2 * i) page))
+    ≡ serves_fault g (32 + 2 * i) (u16s_at (count - i) (drop (32 + 2 * i) page))
 fault_more g page i count less e =
     let next : 32 + 2 * (i + 1) ≡ (32 + 2 * i) + 2 = omega arith in
     let rest : List ℕ = u16s_at (count - (i + 1)) (drop (32 + 2 * (i + 1)) page) in
@@ -57,7 +57,7 @@ check_from_served g at [] e = refl
 check_from_served g at (b ∷ bs) e =
     let tests = both_true (is_served g b) (list_all (is_served g) bs) e in
     first_none (unless at (is_served g b) ∷ serves_fault g (at + 2) bs ∷ [])
-        (true_unless at (is_served g b) tests.0, (check_from_served g (at + 2) bs tests.1, tt))
+    (true_unless at (is_served g b) tests.0, (check_from_served g (at + 2) bs tests.1, tt))
 
 -- the numbers fit into two bytes
 pub served_small : (g : Shape) (bs : List ℕ) → IsShape g → list_all (is_served g) bs ≡ true → list_all (λ b. nat_lt b 65536) bs ≡ true

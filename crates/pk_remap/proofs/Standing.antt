@@ -50,7 +50,7 @@ module _ (shape : Shape) (spares : ℕ) (some : 0 < shape.block_pages) where
       → through_by shape table at' ≡ through_by shape table at
   same_through table at at' same =
       same_pages (through_by shape table at) (through_by shape table at')
-          (length-through shape table at' ∙ sym (length-through shape table at)) (λ k. by k (nat_lt k (page_count shape)) refl)
+      (length-through shape table at' ∙ sym (length-through shape table at)) (λ k. by k (nat_lt k (page_count shape)) refl)
     where
       by : (k : ℕ) (t : Bool) → nat_lt k (page_count shape) ≡ t → page_at (through_by shape table at') k ≡ page_at (through_by shape table at) k
       by k true t =
@@ -66,19 +66,19 @@ module _ (shape : Shape) (spares : ℕ) (some : 0 < shape.block_pages) where
       → through_by shape table (page_at new) ≡ through_by shape table (page_at old)
   apart_through table mark block old new out behind touched i = same_through table (page_at old) (page_at new) (λ k inside.
       elsewhere (inner_shape shape spares) mark (placed_page shape table k) block
-          (page_at old (placed_page shape table k)) (page_at new (placed_page shape table k)) touched
+      (page_at old (placed_page shape table k)) (page_at new (placed_page shape table k)) touched
       (λ e. omega (arith, sym (placed_page-div shape table some k) ∙ e, place-below shape table (k / n) (block_of shape table some k inside), behind))
-          (i.pages (placed_page shape table k)))
+      (i.pages (placed_page shape table k)))
 
   -- ---- on an unused spare
 
   module _ (table : SpareTable) (page : ℕ) (mark : Mark) (block : ℕ) (old new : Flash) (out : List ℕ)
       (spare : shape.blocks + length table.serves ≤ block) (before_tables : block < shape.blocks + spares)
       (touched : touched_block (inner_shape shape spares) mark ≡ Some block) (i : Interrupted (inner_shape shape spares) mark old new out) where
-    table_page_kept : (k : ℕ) → IsTablePage shape spares k → page_at new k ≡ page_at old k
+    pub table_page_kept : (k : ℕ) → IsTablePage shape spares k → page_at new k ≡ page_at old k
     table_page_kept k there =
         elsewhere (inner_shape shape spares) mark k block (page_at old k)
-            (page_at new k) touched (λ e. omega (arith, e, table_block k there, before_tables)) (i.pages k)
+        (page_at new k) touched (λ e. omega (arith, e, table_block k there, before_tables)) (i.pages k)
 
     pub spare-newest : IsNewest shape spares (page_at old) page table → IsNewest shape spares (page_at new) page table
     spare-newest is = newest-kept shape spares (page_at old) (page_at new) page table is

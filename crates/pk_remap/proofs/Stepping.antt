@@ -25,10 +25,10 @@ use Rattle.pk_remap.specs.Stepping.{FirstWritten, SecondWritten, IsOtherTable, I
 use Rattle.pk_remap.specs.Stepping.{WritesSpare, FailsToWriteSpare, Fills, ErasesTable, FailsToEraseTable, WritesFirst, FailsToWriteFirst, WritesSecond}
 use Rattle.pk_remap.specs.Stepping.{FailsToWriteSecond}
 use Rattle.pk_remap.proofs.Placing.{page-through, div-of, mod-of}
-use Rattle.pk_remap.proofs.Finding.{newest-beside, pair-first}
+use Rattle.pk_remap.proofs.Finding.{pair-first}
 use Rattle.pk_remap.proofs.Lifting.{times_le}
 use Rattle.pk_remap.proofs.Standing.{shows, NoneOr}
-use Rattle.pk_remap.proofs.Cutting.{some, spare_before_tables, spare_top, spare_above, spare_cut, turn_top, turn_above, turn_cut, next_again, exchange}
+use Rattle.pk_remap.proofs.Cutting.{some, spare_before_tables, spare_top, spare_tables, spare_above, spare_cut, turn_top, turn_above, turn_cut, next_again, exchange}
 use Rattle.pk_remap.proofs.Cutting.{spare_page_before, pair_full, pair_above, pair_beside, pair_cut}
 use Rattle.pk_remap.proofs.Calls.{program_reached, program_went, erase_reached, erase_went, left_interrupted, done_interrupted}
 
@@ -69,8 +69,10 @@ serving_next r before flash serving room = record {
 ready_again : (old new : BoardState) (shape : Shape) (mark : Mark) → IsReady old shape
     → new.shape ≡ old.shape → ((at : ℕ) (bytes : List ℕ) → mark ≡ program at bytes → IsPage shape bytes)
     → Interrupted shape mark old.pages new.pages [] → IsReady new shape
-ready_again old new shape mark ready same full i = record { shape_is = same ∙ ready.shape_is;
-    flash = IsFlash-interrupted shape mark old.pages new.pages [] full ready.flash i }
+ready_again old new shape mark ready same full i = record {
+  shape_is = same ∙ ready.shape_is;
+  flash = IsFlash-interrupted shape mark old.pages new.pages [] full ready.flash i;
+}
 
 module _ (r : Relocation) (before : Flash) (old : BoardState) (on : RelocationGoesOn r before old) where
   abbrev shape : Shape
@@ -95,7 +97,7 @@ module _ (r : Relocation) (before : Flash) (old : BoardState) (on : RelocationGo
       let size = serving.whole_below.size in
       let turned : n * (shape.blocks + r.spares + 2) ≡ (shape.blocks + r.spares + 2) * n = commute n (shape.blocks + r.spares + 2) in
       let room : (shape.blocks + r.spares) * n ≤ (shape.blocks + r.spares + 2) * n = times_le
-          (shape.blocks + r.spares) (shape.blocks + r.spares + 2) n (omega arith) in
+      (shape.blocks + r.spares) (shape.blocks + r.spares + 2) n (omega arith) in
       omega (arith, less', size, turned, room)
     where
       commute : (a b : ℕ) → a * b ≡ b * a
@@ -114,23 +116,26 @@ module _ (r : Relocation) (before : Flash) (old : BoardState) (on : RelocationGo
     spare_erased new is =
         let pages : new.pages ≡ after (shape_of old) (erase (spare_block r)) old.pages = ap (λ s. s.pages) is in
         let i : Interrupted inner (erase (spare_block r)) old.pages new.pages [] = done_interrupted old inner
-            (erase (spare_block r)) new.pages on.ready pages in
+        (erase (spare_block r)) new.pages on.ready pages in
         let ready : IsReady new inner = ready_again old new inner
-            (erase (spare_block r)) on.ready (ap (λ s. s.shape) is) (full_erase inner (spare_block r)) i in
+        (erase (spare_block r)) on.ready (ap (λ s. s.shape) is) (full_erase inner (spare_block r)) i in
         let same : after (shape_of old) (erase (spare_block r)) old.pages ≡ after inner (erase (spare_block r)) old.pages = ap
-            (λ (s : Shape). after s (erase (spare_block r)) old.pages) (shape_is old inner on.ready) in
+        (λ (s : Shape). after s (erase (spare_block r)) old.pages) (shape_is old inner on.ready) in
         record {
           cuts = erase_reached old inner on.ready (λ cut. MayShow shape r.spares before r.mark cut) (spare_block r) erase_cut new is;
-          goes_on = record { ready = ready;
-              serving = serving_again r before old.pages new.pages serving ready.flash
-              (spare_above r before old.pages serving (erase (spare_block r)) new.pages [] refl i) };
+          goes_on = record {
+            ready = ready;
+            serving = serving_again r before old.pages new.pages serving ready.flash
+                (spare_above r before old.pages serving (erase (spare_block r)) new.pages [] refl i);
+          };
           top = spare_top r before old.pages serving (erase (spare_block r)) new.pages [] refl i top;
           filled = record {
             copied = λ k none. absurd (omega (arith, none));
             rest = λ k from less. ap (λ (f : Flash). page_at f (spare_page r k)) (pages ∙ same)
                 ∙ page-erased_in inner (spare_block r) 0 old.pages (spare_page r k)
-                    (spare_inside k less) (ap (λ (x : ℕ). x / n) (zero-add (spare_page r k)) ∙ spare_div k less);
+                (spare_inside k less) (ap (λ (x : ℕ). x / n) (zero-add (spare_page r k)) ∙ spare_div k less);
           };
+          tables = spare_tables r before old.pages serving (erase (spare_block r)) new.pages [] refl i;
         }
 
     -- what a failed call on the spare leaves
@@ -148,6 +153,7 @@ module _ (r : Relocation) (before : Flash) (old : BoardState) (on : RelocationGo
                 (serving_again r before old.pages new.pages serving ready.flash (spare_above r before old.pages serving mark new.pages [] touched i)) room;
           };
           top = spare_top r before old.pages serving mark new.pages [] touched i top;
+          tables = spare_tables r before old.pages serving mark new.pages [] touched i;
         }
 
     pub erase_failed : (new : BoardState) → EraseFailed old new (spare_block r) → SpareFailed r before old new
@@ -180,40 +186,43 @@ module _ (r : Relocation) (before : Flash) (old : BoardState) (on : RelocationGo
       page_written new filled is =
           let pages : new.pages ≡ after (shape_of old) (program (spare_page r k) bytes) old.pages = ap (λ s. s.pages) is in
           let i : Interrupted inner (program (spare_page r k) bytes) old.pages new.pages [] = done_interrupted old inner
-              (program (spare_page r k) bytes) new.pages on.ready pages in
+          (program (spare_page r k) bytes) new.pages on.ready pages in
           let ready : IsReady new inner = ready_again old new inner (program (spare_page r k) bytes) on.ready
-              (ap (λ s. s.shape) is) (full_program inner (spare_page r k) bytes full) i in
+          (ap (λ s. s.shape) is) (full_program inner (spare_page r k) bytes full) i in
           record {
             cuts = program_reached old inner on.ready (λ cut. MayShow shape r.spares before r.mark cut) (spare_page r k) bytes write_cut new is;
-            goes_on = record { ready = ready;
-                serving = serving_again r before old.pages new.pages serving ready.flash
-                (spare_above r before old.pages serving (program (spare_page r k) bytes) new.pages [] in_block i) };
+            goes_on = record {
+              ready = ready;
+              serving = serving_again r before old.pages new.pages serving ready.flash
+                  (spare_above r before old.pages serving (program (spare_page r k) bytes) new.pages [] in_block i);
+            };
             top = spare_top r before old.pages serving (program (spare_page r k) bytes) new.pages [] in_block i top;
             filled = record {
               copied = λ j below. ap (λ (f : Flash). page_at f (spare_page r j)) pages ∙ copied j below (nat_eq j k) refl;
               rest = λ j from inside. ap (λ (f : Flash). page_at f (spare_page r j)) pages
                   ∙ page_at-slice_set old.pages (spare_page r k) (spare_page r j) (whole bytes) (λ e. omega (arith, e, from))
-                      ∙ filled.rest j (omega (arith, from)) inside;
+                  ∙ filled.rest j (omega (arith, from)) inside;
             };
+            tables = spare_tables r before old.pages serving (program (spare_page r k) bytes) new.pages [] in_block i;
           }
         where
           copied : (j : ℕ) → j < suc k → (t : Bool) → nat_eq j k ≡ t
               → page_at (after (shape_of old) (program (spare_page r k) bytes) old.pages)
-                  (spare_page r j) ≡ page_at (after shape r.mark before) (block r * n + j)
+              (spare_page r j) ≡ page_at (after shape r.mark before) (block r * n + j)
           copied j below true t =
               let same : j ≡ k = grind (arith, nat_tests) in
               let P : ℕ → Type 0 = λ x. page_at (after (shape_of old) (program (spare_page r k) bytes) old.pages)
-                  (spare_page r x) ≡ page_at (after shape r.mark before) (block r * n + x) in
+              (spare_page r x) ≡ page_at (after shape r.mark before) (block r * n + x) in
               subst P (sym same) (page_at-slice_set_same old.pages (spare_page r k) (whole bytes) (spare_inside k less) ∙ sym source)
           copied j below false t =
               let other : j ≢ k = grind (arith, nat_tests) in
               page_at-slice_set old.pages (spare_page r k) (spare_page r j) (whole bytes) (λ e. other (omega (arith, e)))
-                  ∙ filled.copied j (omega (arith, below, other))
+              ∙ filled.copied j (omega (arith, below, other))
 
       pub write_failed : (new : BoardState) → ProgramFailed old new (spare_page r k) bytes → SpareFailed r before old new
       write_failed new failed =
           in_spare_failed (program (spare_page r k) bytes) new in_block
-              (full_program inner (spare_page r k) bytes full) (ap (λ s. s.shape) failed.rest) failed.left
+          (full_program inner (spare_page r k) bytes full) (ap (λ s. s.shape) failed.rest) failed.left
           (program_went old inner on.ready (λ cut. MayShow shape r.spares before r.mark cut) (spare_page r k) bytes write_cut new failed)
 
   -- ---- the erase of the other table block
@@ -254,37 +263,42 @@ module _ (r : Relocation) (before : Flash) (old : BoardState) (on : RelocationGo
         let i : Interrupted inner (erase other) old.pages new.pages [] = done_interrupted old inner (erase other) new.pages on.ready pages in
         let ready : IsReady new inner = ready_again old new inner (erase other) on.ready (ap (λ s. s.shape) is) (full_erase inner other) i in
         let same : after (shape_of old) (erase other) old.pages ≡ after inner (erase other) old.pages = ap
-            (λ (s : Shape). after s (erase other) old.pages) (shape_is old inner on.ready) in
+        (λ (s : Shape). after s (erase other) old.pages) (shape_is old inner on.ready) in
         let new_top : IsTop r new.pages = turn_top r before old.pages serving other new.pages [] is_other.from is_other.beside i top in
         let least = serving.shape_is.block_least in
         let first : IsTablePage shape r.spares (other * n + 0) = other_is_table 0 n_some in
-        let second : IsTablePage shape r.spares (other * n + 1) = other_is_table 1 (omega (arith, least)) in
         let zero_is : other * n + 0 ≡ other * n = omega arith in
         let one_is : other * n + 1 ≡ suc (other * n) = omega arith in
+        let rest : other * n % n ≡ 0 = ap (λ (x : ℕ). x % n) (sym zero_is) ∙ mod-of other n 0 n_some in
         record {
           cuts = erase_reached old inner on.ready (λ cut. MayShow shape r.spares before r.mark cut) other turn_erase_cut new is;
-          goes_on = record { ready = ready;
-              serving = serving_again r before old.pages new.pages serving ready.flash
-              (turn_above r before old.pages serving other new.pages [] is_other.from is_other.beside i) };
+          goes_on = record {
+            ready = ready;
+            serving = serving_again r before old.pages new.pages serving ready.flash
+                (turn_above r before old.pages serving other new.pages [] is_other.from is_other.beside i);
+          };
           full = λ k less. ap (λ (f : Flash). page_at f (spare_page r k)) (pages ∙ same)
               ∙ page_at-erased_from inner other 0 old.pages (spare_page r k)
               (λ e. let own : spare_block r ≡ other = sym (spare_div k less) ∙ ap (λ (x : ℕ). x / n) (sym (zero-add (spare_page r k)))
-                  ∙ e in omega (arith, own, spare_before_tables r before old.pages serving, is_other.from))
+              ∙ e in omega (arith, own, spare_before_tables r before old.pages serving, is_other.from))
               ∙ full k less;
-          pair = record {
-            beside = newest-beside shape r.spares (page_at new.pages) (page_at new.pages) r.top r.table (other * n) new_top
-                (λ e. is_other.beside (ap (λ (x : ℕ). x / n) (e ∙ sym zero_is) ∙ other_page 0 n_some))
-                (λ e. is_other.beside (ap (λ (x : ℕ). x / n) (e ∙ sym one_is) ∙ other_page 1 (omega (arith, least))));
-            first = subst (IsTablePage shape r.spares) zero_is first;
-            second = subst (IsTablePage shape r.spares) one_is second;
-            even = ap (λ (x : ℕ). x % n % 2) (sym zero_is) ∙ ap (λ (x : ℕ). x % 2) (mod-of other n 0 n_some);
+          top = new_top;
+          next = record {
+            is_table = subst (IsTablePage shape r.spares) zero_is first;
+            even = ap (λ (x : ℕ). x % 2) rest;
+            room = omega (arith, rest, least);
+            not_first = λ e. is_other.beside (ap (λ (x : ℕ). x / n) (e ∙ sym zero_is) ∙ other_page 0 n_some);
+            not_second = λ e. is_other.beside (ap (λ (x : ℕ). x / n) (e ∙ sym one_is) ∙ other_page 1 (omega (arith, least)));
+            order = record {
+              before = λ k from to. absurd (omega (arith, from, to, rest));
+              behind = λ k from to.
+                  let e : other * n + (k - other * n) ≡ k = omega (arith, from) in
+                  let inside : k - other * n < n = omega (arith, from, to, rest) in
+                  ap (λ (f : Flash). page_at f k) (pages ∙ same)
+                  ∙ page-erased_in inner other 0 old.pages k (let room = other_inside (k - other * n) inside in omega (arith, room, e))
+                  (ap (λ (x : ℕ). x / n) (zero-add k ∙ sym e) ∙ other_page (k - other * n) inside);
+            };
           };
-          all_erased = λ k from to.
-              let e : other * n + (k - other * n) ≡ k = omega (arith, from) in
-              let inside : k - other * n < n = omega (arith, from, to) in
-              ap (λ (f : Flash). page_at f k) (pages ∙ same)
-              ∙ page-erased_in inner other 0 old.pages k (let room = other_inside (k - other * n) inside in omega (arith, room, e))
-              (ap (λ (x : ℕ). x / n) (zero-add k ∙ sym e) ∙ other_page (k - other * n) inside);
         }
 
   -- ---- the two programs of the next table
@@ -345,11 +359,17 @@ module _ (r : Relocation) (before : Flash) (old : BoardState) (on : RelocationGo
         let ready = table_ready page pair (inl refl) first second new is in
         record {
           cuts = table_reached page pair (inl refl) first second new is;
-          goes_on = record { ready = ready;
-              serving = serving_again r before old.pages new.pages serving ready.flash (table_above page pair (inl refl) first second new is) };
+          goes_on = record {
+            ready = ready;
+            serving = serving_again r before old.pages new.pages serving ready.flash (table_above page pair (inl refl) first second new is);
+          };
           full = table_full page pair (inl refl) first second new is;
-          is_pair = record { beside = table_beside page pair (inl refl) first second new is;
-              first = is_pair.first; second = is_pair.second; even = is_pair.even };
+          is_pair = record {
+            beside = table_beside page pair (inl refl) first second new is;
+            first = is_pair.first;
+            second = is_pair.second;
+            even = is_pair.even;
+          };
           first = ap (λ (f : Flash). page_at f pair) pages ∙ page_at-slice_set_same old.pages pair (whole bytes) (table_inside pair is_pair.first);
         }
 
@@ -367,7 +387,7 @@ module _ (r : Relocation) (before : Flash) (old : BoardState) (on : RelocationGo
         ap (λ (f : Flash). page_at f (suc pair)) pages ∙ page_at-slice_set_same old.pages (suc pair) (whole bytes) (table_inside (suc pair) is_pair.second) in
         let newest : IsNewest shape r.spares (page_at new.pages) pair (next_table r) =
         pair-first shape r.spares (page_at new.pages) r.top r.table (next_table r) pair (table_beside page (suc pair) (inr refl) first second new is)
-            (let e : r.table.number < r.table.number + 1 = omega arith in e) is_pair.first is_pair.second
+        (let e : r.table.number < r.table.number + 1 = omega arith in e) is_pair.first is_pair.second
         (ap (table_in shape r.spares) here ∙ again) (inr (ap (table_in shape r.spares) behind ∙ again)) in
         record {
           cuts = table_reached page (suc pair) (inr refl) first second new is;
@@ -375,7 +395,7 @@ module _ (r : Relocation) (before : Flash) (old : BoardState) (on : RelocationGo
           newest = newest;
           done = shows shape r.spares new.pages pair (next_table r) newest
               ∙ ap (λ (f : Flash). Some f) (exchange r before old.pages serving new.pages
-                  (table_full page (suc pair) (inr refl) first second new is) (table_above page (suc pair) (inr refl) first second new is));
+              (table_full page (suc pair) (inr refl) first second new is) (table_above page (suc pair) (inr refl) first second new is));
         }
 
 -- ---- the pages of the block once the call is done
@@ -405,7 +425,7 @@ module _ (shape : Shape) (before : Flash) (some : 0 < shape.block_pages) where
       ∙ call.0.behind (at / shape.block_pages * shape.block_pages + i) (omega (arith, row, from)) (omega (arith, row, to))
   high_page (erase b) i call within size from to =
       page-erased_in shape b 0 before (b * shape.block_pages + i)
-          (omega (arith, size, turned shape.block_pages shape.blocks, times_le (suc b) shape.blocks shape.block_pages within, to))
+      (omega (arith, size, turned shape.block_pages shape.blocks, times_le (suc b) shape.blocks shape.block_pages within, to))
       (ap (λ (x : ℕ). x / shape.block_pages) (zero-add (b * shape.block_pages + i)) ∙ div-of b shape.block_pages i to)
     where
       turned : (n m : ℕ) → n * m ≡ m * n
@@ -459,7 +479,7 @@ copies_written r before flash k serving less is =
     let P : Page → Type 0 = λ p. MayLeave r.shape r.mark (block r * r.shape.block_pages + k) (page_at before (block r * r.shape.block_pages + k)) p in
     (low_page r.shape before n_some r.mark k serving.call less).1
     (low_erased r.shape r.mark k (page_at before (block r * r.shape.block_pages + k)) less
-        (subst P shown (serving.above.pages (block r * r.shape.block_pages + k))))
+    (subst P shown (serving.above.pages (block r * r.shape.block_pages + k))))
 
 -- ---- the laws
 
@@ -478,7 +498,7 @@ reads_source r before flash k bytes serving less is =
     let P : Page → Type 0 = λ p. MayLeave r.shape r.mark (block r * r.shape.block_pages + k) (page_at before (block r * r.shape.block_pages + k)) p in
     (low_page r.shape before n_some r.mark k serving.call less).0
     ∙ low_whole r.shape r.mark k (page_at before (block r * r.shape.block_pages + k)) bytes less
-        (subst P shown (serving.above.pages (block r * r.shape.block_pages + k)))
+    (subst P shown (serving.above.pages (block r * r.shape.block_pages + k)))
 
 pub writes_in_order : WritesInOrder
 writes_in_order r before flash k serving most filled =
@@ -527,7 +547,7 @@ fills r before flash serving filled i less = by (nat_lt i (fill_of r.shape r.mar
     by false t =
         let past : fill_of r.shape r.mark ≤ i = grind (arith, nat_tests) in
         filled.rest i past less ∙ sym (high_page r.shape before
-            (some r before flash serving) r.mark i serving.call serving.within serving.whole_above.size past less)
+        (some r before flash serving) r.mark i serving.call serving.within serving.whole_above.size past less)
 
 pub erases_table : ErasesTable
 erases_table r before other old new on top full is_other is = table_erased r before old on top other is_other new full is
@@ -541,7 +561,7 @@ writes_first r before pair old new on page is_pair full one two is = first_writt
 pub fails_to_write_first : FailsToWriteFirst
 fails_to_write_first r before pair old new on page is_pair full one two failed =
     table_went r before old on pair is_pair full page pair (inl refl) (erased_or r before old on pair is_pair full pair one)
-        (erased_or r before old on pair is_pair full (suc pair) two) new failed
+    (erased_or r before old on pair is_pair full (suc pair) two) new failed
 
 pub writes_second : WritesSecond
 writes_second r before pair old new on page is_pair full one two is = second_written r before old on pair is_pair full new page one two is
@@ -549,4 +569,4 @@ writes_second r before pair old new on page is_pair full one two is = second_wri
 pub fails_to_write_second : FailsToWriteSecond
 fails_to_write_second r before pair old new on page is_pair full one two failed =
     table_went r before old on pair is_pair full page (suc pair) (inr refl)
-        (whole_or r before old on pair is_pair full pair one) (erased_or r before old on pair is_pair full (suc pair) two) new failed
+    (whole_or r before old on pair is_pair full pair one) (erased_or r before old on pair is_pair full (suc pair) two) new failed

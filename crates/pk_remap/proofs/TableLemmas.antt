@@ -59,7 +59,7 @@ rows_table g s t =
     let numbers : List ℕ = flat_map u16 t.serves in
     let front : List ℕ → List ℕ = before_serves g s t.number n in
     let size : g.page_bytes - (32 + 2 * n) ≡ g.page_bytes - length (front numbers) = omega
-        (arith, before_length g s t.number n numbers, length-numbers t.serves) in
+    (arith, before_length g s t.number n numbers, length-numbers t.serves) in
     ap (λ (r : List ℕ). front (numbers ++ r)) (append-nil (zeros (g.page_bytes - (32 + 2 * n))))
     ∙ ap (λ (k : ℕ). front (numbers ++ zeros k)) size
 
@@ -106,11 +106,11 @@ module _ (g : Shape) (s : ℕ) (page : List ℕ) (fits : (i : ℕ) → get_or pa
         unlike_stands 0 table_magic page one.0 (omega arith)
         ⊕ number_stands 8 8 page fits (omega arith)
         ⊕ (number_stands 4 16 page fits (omega arith)
-            ∙ ap (λ (k : ℕ). u32 k ++ drop 20 page) (equal (u32_at page 16) g.page_bytes (unless_true 16 _ one.1.1.0)))
+        ∙ ap (λ (k : ℕ). u32 k ++ drop 20 page) (equal (u32_at page 16) g.page_bytes (unless_true 16 _ one.1.1.0)))
         ⊕ (number_stands 2 20 page fits (omega arith)
-            ∙ ap (λ (k : ℕ). u16 k ++ drop 22 page) (equal (u16_at page 20) g.block_pages (unless_true 20 _ one.1.1.1.0)))
+        ∙ ap (λ (k : ℕ). u16 k ++ drop 22 page) (equal (u16_at page 20) g.block_pages (unless_true 20 _ one.1.1.1.0)))
         ⊕ (number_stands 2 22 page fits (omega arith)
-            ∙ ap (λ (k : ℕ). u16 k ++ drop 24 page) (equal (u16_at page 22) g.blocks (unless_true 22 _ one.1.1.1.1.0)))
+        ∙ ap (λ (k : ℕ). u16 k ++ drop 24 page) (equal (u16_at page 22) g.blocks (unless_true 22 _ one.1.1.1.1.0)))
         ⊕ (number_stands 2 24 page fits (omega arith) ∙ ap (λ (k : ℕ). u16 k ++ drop 26 page) (equal (u16_at page 24) s (unless_true 24 _ one.1.1.1.1.1.0)))
         ⊕ number_stands 2 26 page fits (omega arith)
         ⊕ unlike_stands 28 (zeros 4) page one.1.1.1.1.1.1.1.0 (omega arith)
@@ -166,7 +166,7 @@ module _ (g : Shape) (shape : IsShape g) (s : ℕ) (small : s ≤ 64) (t : Spare
   row : Stand 0 (rows g s t.number m t.serves) page
   row =
       let sized : AreSized (rows g s t.number m t.serves) = refl ⊕ refl ⊕ refl ⊕ refl
-          ⊕ refl ⊕ refl ⊕ refl ⊕ refl ⊕ length-numbers t.serves ⊕ length-replicate _ 0 ⊕ tt in
+      ⊕ refl ⊕ refl ⊕ refl ⊕ refl ⊕ length-numbers t.serves ⊕ length-replicate _ 0 ⊕ tt in
       spelled_stand 0 (rows g s t.number m t.serves) page sized (sym (rows_table g s t))
 
   used_small : m ≤ s
@@ -211,7 +211,7 @@ module _ (g : Shape) (shape : IsShape g) (s : ℕ) (small : s ≤ 64) (t : Spare
         back = first_none (serves_checks g page) (
             rw (used_read, serves_read) (check_from_served g 32 t.serves h.served)
             ⊕ rw used_read (stands_unlike (32 + 2 * m) (zeros (g.page_bytes - (32 + 2 * m)))
-                (drop (32 + 2 * m + (g.page_bytes - (32 + 2 * m))) page) page row.1.1.1.1.1.1.1.1.1.0)
+            (drop (32 + 2 * m + (g.page_bytes - (32 + 2 * m))) page) page row.1.1.1.1.1.1.1.1.1.0)
             ⊕ tt);
         value = λ i. record { number = number_read i; serves = (ap (λ (k : ℕ). u16s_at k (drop 32 page)) used_read ∙ serves_read) i };
       }
@@ -225,10 +225,10 @@ module _ (g : Shape) (shape : IsShape g) (s : ℕ) (small : s ≤ 64) (t : Spare
   unfolding table_page
   page_again =
       let same : bytes_eq page (table_bytes g s (table_at page)) ≡ true = ap (λ (x : SpareTable). bytes_eq page (table_bytes g s x)) read.value
-          ∙ bytes_same page in
+      ∙ bytes_same page in
       let is : is_table g s (table_at page) ≡ true = ap (is_table g s) read.value ∙ parts_table g s t h in
       test_some (is_table g s (table_at page)) (bytes_eq page (table_bytes g s (table_at page))) (table_at page) is same
-          ∙ ap (λ (x : SpareTable). Some x) read.value
+      ∙ ap (λ (x : SpareTable). Some x) read.value
     where
       test_some : (p q : Bool) (t : SpareTable) → p ≡ true → q ≡ true → (if p && q then Some t else None) ≡ Some t
       test_some p q t e f = rw (e, f) refl
@@ -296,6 +296,6 @@ module _ (g : Shape) (s : ℕ) (page : List ℕ) (fits : (i : ℕ) → get_or pa
 -- the rows that are written one after another
 pub encoded : (g : Shape) (s number : ℕ) (serves : List ℕ)
     → spelled (table_magic ∷ u64 number ∷ u32 g.page_bytes ∷ u16 g.block_pages ∷ u16 g.blocks ∷ u16 s ∷ u16
-        (length serves) ∷ zeros 4 ∷ flat_map u16 serves ∷ zeros (g.page_bytes - (32 + 2 * length serves)) ∷ [])
+    (length serves) ∷ zeros 4 ∷ flat_map u16 serves ∷ zeros (g.page_bytes - (32 + 2 * length serves)) ∷ [])
     ≡ table_bytes g s (record { number = number; serves = serves })
 encoded g s number serves = rows_table g s (record { number = number; serves = serves })

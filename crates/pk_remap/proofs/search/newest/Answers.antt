@@ -24,10 +24,10 @@ loop-i-preserved g c =
     ∙ read_table shape c.args.spares (page_at now.pages at) c.loop-i.buf
     ∙ ap (λ (f : Flash). table_in shape c.args.spares (page_at f at)) pages in
     let more = searched-step shape c.args.spares (page_at old.pages) c.page_in-first.result c.loop-i.i
-        (table_found c.loop-i.best c.loop-i.serves) own (sym same) c.loop-i.invariant.found in
+    (table_found c.loop-i.best c.loop-i.serves) own (sym same) c.loop-i.invariant.found in
     let next : suc c.loop-i.i ≡ c.loop-i.i + 1 = omega arith in
     let P : ℕ → Type 0 = λ k. Found shape c.args.spares (page_at old.pages) c.page_in-first.result k
-        (table_found c.take_read-best.result c.take_read-best.new.serves) in
+    (table_found c.take_read-best.result c.take_read-best.new.serves) in
     let Q : Option (ℕ × SpareTable) → Type 0 = λ r. Found shape c.args.spares (page_at old.pages) c.page_in-first.result (suc c.loop-i.i) r in
     record {
       found = subst P next (subst Q (sym c.take_read-best.ensures.newer) more);
@@ -45,5 +45,5 @@ returns-clause-found g c =
     let first : c.page_in-first.result ≡ first_table_page shape c.args.spares = omega (arith, place) in
     let P : ℕ → Type 0 = λ f. Found shape c.args.spares (page_at old.pages) f c.loop-i.i (table_found c.loop-i.best c.loop-i.serves) in
     let Q : ℕ → Type 0 = λ n. Found shape c.args.spares (page_at old.pages)
-        (first_table_page shape c.args.spares) n (table_found c.loop-i.best c.loop-i.serves) in
+    (first_table_page shape c.args.spares) n (table_found c.loop-i.best c.loop-i.serves) in
     searched-all shape c.args.spares (page_at old.pages) (table_found c.loop-i.best c.loop-i.serves) (subst Q count (subst P first c.loop-i.invariant.found))

@@ -5,7 +5,7 @@ pub returns-in-Ok : goal.returns-in-Ok
 returns-in-Ok g c before runs =
     rw c.phase_after-self.ensures
     (spare_erased c.args.self.now before (g.N.Nand.state c.args.inner.now) runs c.requires.phase
-        (g.N.Nand.state c.erase.new.self) (rw c.blocks-2.ensures.value at c.in-Ok.ensures.ok))
+    (g.N.Nand.state c.erase.new.self) (rw c.blocks-2.ensures.value at c.in-Ok.ensures.ok))
 
 pub returns-in-Err : goal.returns-in-Err
 returns-in-Err g c before runs =
@@ -13,4 +13,4 @@ returns-in-Err g c before runs =
     rw c.take_next.ensures.next
     (next_or_stop c.args.self.now before (g.N.Nand.state c.args.inner.now) runs (g.N.Nand.state c.erase.new.self) c.take_next.result
     (spare_erase_failed c.args.self.now before (g.N.Nand.state c.args.inner.now) runs c.requires.phase
-        (g.N.Nand.state c.erase.new.self) failed) failed.stop c.take_next.ensures.ok c.take_next.ensures.err)
+    (g.N.Nand.state c.erase.new.self) failed) failed.stop c.take_next.ensures.ok c.take_next.ensures.err)

@@ -9,8 +9,11 @@ pub returns-in-Ok : goal.returns-in-Ok
 returns-in-Ok g c before runs =
     let r = c.args.self.now in
     let board : BoardState = g.N.Nand.state c.args.inner.now in
-    let is_other : IsOtherTable (relocation_of r) c.other_table-other.result = record { from = c.other_table-other.ensures.from;
-        to = c.other_table-other.ensures.to; beside = c.other_table-other.ensures.beside } in
+    let is_other : IsOtherTable (relocation_of r) c.other_table-other.result = record {
+      from = c.other_table-other.ensures.from;
+      to = c.other_table-other.ensures.to;
+      beside = c.other_table-other.ensures.beside;
+    } in
     let none : c.other_table-other.result * r.shape.block_pages + 0 ≡ c.other_table-other.result * r.shape.block_pages = omega arith in
     rw (c.page_in.ensures, none)
     (table_erased r before board runs c.requires.phase c.other_table-other.result is_other (g.N.Nand.state c.erase.new.self) c.in-Ok.ensures.ok)
@@ -19,6 +22,9 @@ pub returns-in-Err : goal.returns-in-Err
 returns-in-Err g c before runs =
     let r = c.args.self.now in
     let board : BoardState = g.N.Nand.state c.args.inner.now in
-    let is_other : IsOtherTable (relocation_of r) c.other_table-other.result = record { from = c.other_table-other.ensures.from;
-        to = c.other_table-other.ensures.to; beside = c.other_table-other.ensures.beside } in
+    let is_other : IsOtherTable (relocation_of r) c.other_table-other.result = record {
+      from = c.other_table-other.ensures.from;
+      to = c.other_table-other.ensures.to;
+      beside = c.other_table-other.ensures.beside;
+    } in
     table_erase_failed r before board runs c.requires.phase c.other_table-other.result is_other (g.N.Nand.state c.erase.new.self) c.in-Err.ensures.err

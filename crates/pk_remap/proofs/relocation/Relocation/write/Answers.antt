@@ -12,7 +12,7 @@ program-requires-clause-order g c =
     let at : c.page_in-at.result ≡ spare_page (relocation_of c.args.self.now) c.args.page = rw c.blocks-2.ensures.value at c.page_in-at.ensures in
     let board : BoardState = g.N.Nand.state c.args.inner.now in
     rw (at, shape_is board _ c.requires.runs.1.goes_on.ready)
-        (write_order c.args.self.now c.requires.runs.0 board c.requires.runs.1 c.args.page c.requires.phase)
+    (write_order c.args.self.now c.requires.runs.0 board c.requires.runs.1 c.args.page c.requires.phase)
 
 pub returns-in-Ok : goal.returns-in-Ok
 returns-in-Ok g c before runs =
@@ -21,7 +21,7 @@ returns-in-Ok g c before runs =
     let next : c.args.page + 1 ≡ suc c.args.page = omega arith in
     rw (c.phase_after-self.ensures, next)
     (page_written c.args.self.now before board runs c.args.page c.requires.phase
-        (write_less c.args.self.now before board runs c.args.page c.requires.phase) (g.N.Nand.state c.program.new.self)
+    (write_less c.args.self.now before board runs c.args.page c.requires.phase) (g.N.Nand.state c.program.new.self)
     (c.in-Ok.ensures.ok ∙ (λ i. after_program board (at i) (c.bytes_for.ensures i))))
 
 pub returns-in-Err : goal.returns-in-Err
@@ -33,4 +33,4 @@ returns-in-Err g c before runs =
     rw c.take_next.ensures.next
     (next_or_stop c.args.self.now before board runs new c.take_next.result
     (page_write_failed c.args.self.now before board runs c.args.page c.requires.phase
-        (write_less c.args.self.now before board runs c.args.page c.requires.phase) new failed) failed.stop c.take_next.ensures.ok c.take_next.ensures.err)
+    (write_less c.args.self.now before board runs c.args.page c.requires.phase) new failed) failed.stop c.take_next.ensures.ok c.take_next.ensures.err)
