@@ -1,6 +1,6 @@
 -- The steps of a relocation in memory.
 use Rattle.std.proofs.Common.{◌≡◌, ◌≢◌, ℕ, suc, ◌+◌, ◌-◌, ◌*◌, ◌/◌, ◌%◌, ◌<◌, ◌≤◌, Bool, true, false, List, [], length, take, refl, sym, ap, subst, ◌∙◌, arith}
-use Rattle.std.proofs.Common.{Some, None}
+use Rattle.std.proofs.Common.{Some, None, inl, inr}
 use Rattle.std.specs.Prelude.{nat_lt, nat_eq, slice_set, ◌==◌, ◌&&◌, if◌then◌else◌, Option, Result, Ok, Err, IfOk, OnErr, Vec}
 use Rattle.std.specs.declared.alloc.Global.{Global}
 use Rattle.std.proofs.lemmas.Bool.Decides.{nat_tests}
@@ -34,7 +34,7 @@ use Rattle.pk_nand.specs.declared.types.PageRead.TheVariants.{Whole, Erased as R
 use Rattle.pk_remap.specs.Relocating.{Relocation, block, copies_of, fill_of, spare_block, spare_page, next_table, IsSpareFilled, IsSpareFull, IsRelocating, IsTop, SameTables, IsNextPair}
 use Rattle.pk_remap.specs.Stepping.{WentSafely, RelocationGoesOn, IsSource, IsOtherTable, SpareFailed}
 use Rattle.pk_remap.specs.Running.{mark_of, is_program, relocation_of, copies, is_kept, bytes_for, next_after, with_table, table_phase, phase_after, phase_rank, relocation_steps_left}
-use Rattle.pk_remap.specs.Running.{IsTableHalf, AtPhase, HasRoomFor, HasRoom, HasTurn, RelocationRuns, IsAtRest, IsRelocated, SameCall, RelocationStops, StepOutcome, reading, in_table, no_spare, torn}
+use Rattle.pk_remap.specs.Running.{IsTableHalf, AtPhase, HasRoomFor, HasRoom, HasTurn, RelocationRuns, IsAtRest, IsRelocated, SameCall, NoReadFailed, RelocationStops, StepOutcome, reading, in_table, no_spare, torn}
 use Rattle.pk_remap.proofs.TableLemmas.{table_parts}
 use Rattle.pk_remap.proofs.Cutting.{none_cut, block_inside, next_grammar}
 use Rattle.pk_remap.proofs.Turning.{block_of_table, next_kept, next_pair, erased_pair, second_order, following_pair}
@@ -194,7 +194,7 @@ module _ (r : InMemory) (before : Flash) (old : BoardState) (runs : RelocationRu
 
   -- the step stops, and this is why
   abbrev pub Stopped : InMemory → BoardState → Type 0
-  Stopped r' new = WentSafely (relocation_of r) before old new × RelocationStops r old new × SameCall r r'
+  Stopped r' new = WentSafely (relocation_of r) before old new × RelocationStops r old r' new × SameCall r r'
 
   with_copy : (copy : Vec ℕ Global) → MOST_PAGE_BYTES ≤ length copy.items → HasRoom (record r { copy = copy })
   with_copy copy room = record { fits = runs.room.fits; all = runs.room.all; kept_page = runs.room.kept_page; new_page = runs.room.new_page; read_page = room }
@@ -225,6 +225,9 @@ module _ (r : InMemory) (before : Flash) (old : BoardState) (runs : RelocationRu
     most = let left = runs.goes_on.serving.left in omega (arith, left);
     room = runs.room;
   }
+
+  none_failed : (new : BoardState) → new.read_faults ≡ old.read_faults → new.stop_faults ≡ old.stop_faults → NoReadFailed old new
+  none_failed new reads stops = record { reads = reads; stops = inl stops }
 
   turn_kept : (new : Flash) → SameTables (relocation_of r) old.pages new → HasTurn r new
   turn_kept new same pair is = next_kept r.shape r.spares r.top n_some old.pages new pair same (runs.turn pair is)
@@ -258,6 +261,8 @@ module _ (r : InMemory) (before : Flash) (old : BoardState) (runs : RelocationRu
     },
     omega (arith, room),
     same_next,
+    refl,
+    record { reads = failed.reads; stops = inr failed.stop },
   )
 
   pub no_spare_left : (new : BoardState) (e : NandFault) → SpareFailed (relocation_of r) before old new → Rose old.stop_faults new.stop_faults
@@ -276,6 +281,8 @@ module _ (r : InMemory) (before : Flash) (old : BoardState) (runs : RelocationRu
             (phase_after_fits r before new.pages own.goes_on.serving own.top (turn_kept new.pages own.tables) runs.partner 0 own.filled (omega arith)),
         lower EraseSpare (phase_after r 0) phase (let most = rank_after r 0 (omega arith) in omega (arith, most)),
         same_phase (phase_after r 0) r.next,
+        refl,
+        none_failed new (ap (λ s. s.read_faults) is) (ap (λ s. s.stop_faults) is),
       )
 
   pub spare_erase_failed : r.phase ≡ EraseSpare → (new : BoardState)
@@ -296,6 +303,8 @@ module _ (r : InMemory) (before : Flash) (old : BoardState) (runs : RelocationRu
         lower (Write k) (phase_after r (suc k)) phase
             (let most = rank_after r (suc k) (omega (arith, less, block_most)) in omega (arith, most, less, block_most)),
         same_phase (phase_after r (suc k)) r.next,
+        refl,
+        none_failed new (ap (λ s. s.read_faults) is) (ap (λ s. s.stop_faults) is),
       )
 
   pub page_write_failed : (k : ℕ) → r.phase ≡ Write k → k < r.shape.block_pages → (new : BoardState)
@@ -319,6 +328,8 @@ module _ (r : InMemory) (before : Flash) (old : BoardState) (runs : RelocationRu
         },
         lower EraseTable (First (other * r.shape.block_pages)) phase (omega arith),
         same_phase (First (other * r.shape.block_pages)) None,
+        refl,
+        none_failed new (ap (λ s. s.read_faults) is) (ap (λ s. s.stop_faults) is),
       )
 
   pub table_erase_failed : r.phase ≡ EraseTable → (other : ℕ) → IsOtherTable (relocation_of r) other
@@ -372,6 +383,8 @@ module _ (r : InMemory) (before : Flash) (old : BoardState) (runs : RelocationRu
         },
         lower (Read k) (Write k) phase (omega arith),
         same_call copy room (Write k) r.next,
+        refl,
+        none_failed new (ap (λ s. s.read_faults) is) (ap (λ s. s.stop_faults) is),
       )
 
   -- it is Torn
@@ -382,7 +395,7 @@ module _ (r : InMemory) (before : Flash) (old : BoardState) (runs : RelocationRu
       let s = stands_in (Read k) phase in (
         rests (relocation_of r) before old new runs.goes_on s.0 (ap (λ s. s.shape) is)
             (ap (λ s. s.pages) is) (ap (λ s. s.trail) is) (ap (λ s. s.posted) is),
-        torn k phase found,
+        torn k phase found (ap (λ s. s.pages) is),
         same_call copy room r.phase r.next,
       )
 
@@ -412,8 +425,8 @@ module _ (r : InMemory) (before : Flash) (old : BoardState) (runs : RelocationRu
       turned n m = omega arith
 
   -- a failed program of a table page is one in a table block
-  table_stops : (new : BoardState) (at : ℕ) (bytes : List ℕ) → IsTablePage r.shape r.spares at → ProgramFailed old new at bytes → RelocationStops r old new
-  table_stops new at bytes there failed =
+  table_stops : (r' : InMemory) (new : BoardState) (at : ℕ) (bytes : List ℕ) → IsTablePage r.shape r.spares at → ProgramFailed old new at bytes → RelocationStops r old r' new
+  table_stops r' new at bytes there failed =
       in_table failed.stop (at / n) (block_of_table r.shape r.spares r.top n_some at there)
       (ap (λ s. s.failed_at) failed.rest ∙ ap (λ (s : Shape). Some (at / s.block_pages)) (shape_is old (inner_shape r.shape r.spares) runs.goes_on.ready))
 
@@ -445,6 +458,8 @@ module _ (r : InMemory) (before : Flash) (old : BoardState) (runs : RelocationRu
         },
         lower (First pair) (Second pair) phase (omega arith),
         same_call copy room (Second pair) None,
+        refl,
+        none_failed new (ap (λ s. s.read_faults) is) (ap (λ s. s.stop_faults) is),
       )
 
   pub first_failed : (pair : ℕ) → r.phase ≡ First pair → (new : BoardState) (bytes : List ℕ)
@@ -457,7 +472,7 @@ module _ (r : InMemory) (before : Flash) (old : BoardState) (runs : RelocationRu
       let T : List ℕ → Type 0 = λ b. ProgramFailed old new pair b in (
         fails_to_write_first (relocation_of r) before pair old new runs.goes_on
             (subst (IsPage r.shape) same page) is_pair s.2 two.0 two.1 (subst T same failed),
-        table_stops new pair bytes s.1.is_table failed,
+        table_stops (record r { copy = copy; next = None }) new pair bytes s.1.is_table failed,
         same_call copy room r.phase None,
       )
 
@@ -532,7 +547,7 @@ module _ (r : InMemory) (before : Flash) (old : BoardState) (runs : RelocationRu
       let T : List ℕ → Type 0 = λ b. ProgramFailed old new (suc pair) b in (
         fails_to_write_second (relocation_of r) before pair old new runs.goes_on
             (subst (IsPage r.shape) same page) half.pair half.full half.first (half_erased pair half) (subst T same failed),
-        table_stops new (suc pair) bytes half.pair.second failed,
+        table_stops (record r { copy = copy }) new (suc pair) bytes half.pair.second failed,
         same_call copy room r.phase r.next,
       )
 

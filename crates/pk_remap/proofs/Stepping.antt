@@ -10,7 +10,7 @@ use Rattle.pk_base.specs.Page.{Page, Flash, page_at, erased, whole, torn, IsPage
 use Rattle.pk_base.specs.Mark.{Mark, program, erase, post, after}
 use Rattle.pk_nand.specs.BoardState.{BoardState, shape_of}
 use Rattle.pk_nand.specs.Cut.{Interrupted, MayLeave, touched_block}
-use Rattle.pk_nand.specs.Calls.{IsReady, after_program, after_erase, ProgramFailed, EraseFailed, LeftBy}
+use Rattle.pk_nand.specs.Calls.{IsReady, after_program, after_erase, ProgramFailed, EraseFailed, LeftBy, Rose}
 use Rattle.pk_nand.proofs.Leaving.{IsFlash-interrupted, IsFlash-after, full_program, full_erase, page_at-slice_set, page_at-slice_set_same, page_at-erased_from}
 use Rattle.pk_nand.proofs.Leaving.{page-erased_in}
 use Rattle.pk_nand.proofs.Writing.{shape_is}
@@ -141,8 +141,8 @@ module _ (r : Relocation) (before : Flash) (old : BoardState) (on : RelocationGo
     -- what a failed call on the spare leaves
     in_spare_failed : (mark : Mark) (new : BoardState) → touched_block inner mark ≡ Some (spare_block r)
         → ((at : ℕ) (bytes : List ℕ) → mark ≡ program at bytes → IsPage inner bytes) → new.shape ≡ old.shape
-        → LeftBy mark old new → WentSafely r before old new → SpareFailed r before old new
-    in_spare_failed mark new touched full same left cuts =
+        → LeftBy mark old new → WentSafely r before old new → new.read_faults ≡ old.read_faults → Rose old.stop_faults new.stop_faults → SpareFailed r before old new
+    in_spare_failed mark new touched full same left cuts reads stop =
         let i : Interrupted inner mark old.pages new.pages [] = left_interrupted old new inner mark on.ready left in
         let ready : IsReady new inner = ready_again old new inner mark on.ready same full i in
         record {
@@ -154,12 +154,15 @@ module _ (r : Relocation) (before : Flash) (old : BoardState) (on : RelocationGo
           };
           top = spare_top r before old.pages serving mark new.pages [] touched i top;
           tables = spare_tables r before old.pages serving mark new.pages [] touched i;
+          reads = reads;
+          stop = stop;
         }
 
     pub erase_failed : (new : BoardState) → EraseFailed old new (spare_block r) → SpareFailed r before old new
     erase_failed new failed =
         in_spare_failed (erase (spare_block r)) new refl (full_erase inner (spare_block r)) (ap (λ s. s.shape) failed.rest) failed.left
         (erase_went old inner on.ready (λ cut. MayShow shape r.spares before r.mark cut) (spare_block r) erase_cut new failed)
+        (ap (λ s. s.read_faults) failed.rest) failed.stop
 
     -- ---- a program of the spare
 
@@ -224,6 +227,7 @@ module _ (r : Relocation) (before : Flash) (old : BoardState) (on : RelocationGo
           in_spare_failed (program (spare_page r k) bytes) new in_block
           (full_program inner (spare_page r k) bytes full) (ap (λ s. s.shape) failed.rest) failed.left
           (program_went old inner on.ready (λ cut. MayShow shape r.spares before r.mark cut) (spare_page r k) bytes write_cut new failed)
+          (ap (λ s. s.read_faults) failed.rest) failed.stop
 
   -- ---- the erase of the other table block
 

@@ -1,5 +1,5 @@
 -- A relocation in memory, over a board: what is known before each step, and what a step does.
-use Rattle.std.specs.Prelude.{◌≡◌, ℕ, suc, ◌+◌, ◌-◌, ◌*◌, ◌%◌, ◌<◌, ◌≤◌, ◌==◌, ◌&&◌, nat_lt, if◌then◌else◌, Bool, true, false, List, length, take, Option, Some, None, Result, Ok, Err}
+use Rattle.std.specs.Prelude.{◌≡◌, ◌⊎◌, ℕ, suc, ◌+◌, ◌-◌, ◌*◌, ◌%◌, ◌<◌, ◌≤◌, ◌==◌, ◌&&◌, nat_lt, if◌then◌else◌, Bool, true, false, List, length, take, Option, Some, None, Result, Ok, Err}
 use Rattle.pk_base.specs.declared.sizes.TheConstants.{MOST_PAGE_BYTES}
 use Rattle.pk_base.specs.Shape.{Shape, IsShape}
 use Rattle.pk_base.specs.Page.{Flash, page_at, erased, whole, torn as torn_page}
@@ -140,12 +140,17 @@ pub record SameCall (r r' : InMemory) : Type 0 where
   pub most : r'.taken ≤ r.spares
   pub room : HasRoom r'
 
+-- no read failed; programs and erases may have
+pub record NoReadFailed (old new : BoardState) : Type 0 where
+  pub reads : new.read_faults ≡ old.read_faults
+  pub stops : (new.stop_faults ≡ old.stop_faults) ⊎ Rose old.stop_faults new.stop_faults
+
 -- why a step may stop: a read failed; a program or an erase failed in a table block, or on the last spare; or the page that it read to copy is Torn
-pub data RelocationStops (r : InMemory) (old new : BoardState) : Type 0 where
-  reading : Rose old.read_faults new.read_faults → RelocationStops r old new
-  in_table : Rose old.stop_faults new.stop_faults → (b : ℕ) → IsTableBlock r.shape r.spares b → new.failed_at ≡ Some b → RelocationStops r old new
-  no_spare : Rose old.stop_faults new.stop_faults → r.spares ≤ r.taken + 1 → RelocationStops r old new
-  torn : (k : ℕ) → r.phase ≡ Read k → page_at old.pages (placed_page r.shape (relocation_of r).table (block (relocation_of r) * r.shape.block_pages + k)) ≡ torn_page → RelocationStops r old new
+pub data RelocationStops (r : InMemory) (old : BoardState) (r' : InMemory) (new : BoardState) : Type 0 where
+  reading : Rose old.read_faults new.read_faults → RelocationStops r old r' new
+  in_table : Rose old.stop_faults new.stop_faults → (b : ℕ) → IsTableBlock r.shape r.spares b → new.failed_at ≡ Some b → RelocationStops r old r' new
+  no_spare : Rose old.stop_faults new.stop_faults → r.spares ≤ r'.taken → RelocationStops r old r' new
+  torn : (k : ℕ) → r.phase ≡ Read k → page_at old.pages (placed_page r.shape (relocation_of r).table (block (relocation_of r) * r.shape.block_pages + k)) ≡ torn_page → new.pages ≡ old.pages → RelocationStops r old r' new
 
 -- how far a phase is from the end
 abbrev pub phase_rank : Phase → ℕ
@@ -164,8 +169,9 @@ relocation_steps_left r = (r.spares - r.taken) * 1024 + phase_rank r.phase
 abbrev pub StepOutcome : InMemory → Flash → BoardState → Result Bool NandFault → InMemory → BoardState → Type 0
 StepOutcome r before old (Ok false) r' new =
     WentSafely (relocation_of r) before old new × RelocationRuns r' before new × (relocation_steps_left r' < relocation_steps_left r) × SameCall r r'
+    × (relocation_of r' ≡ record (relocation_of r) { taken = r'.taken }) × NoReadFailed old new
 StepOutcome r before old (Ok true) r' new = WentSafely (relocation_of r) before old new × IsRelocated r before r' new × SameCall r r'
-StepOutcome r before old (Err e) r' new = WentSafely (relocation_of r) before old new × RelocationStops r old new × SameCall r r'
+StepOutcome r before old (Err e) r' new = WentSafely (relocation_of r) before old new × RelocationStops r old r' new × SameCall r r'
 
 -- A step of a relocation, whatever the outer flash was before the call that it serves.
 abbrev pub RelocationSteps : InMemory → BoardState → Result Bool NandFault → InMemory → BoardState → Type 0

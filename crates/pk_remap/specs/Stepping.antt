@@ -4,7 +4,7 @@ use Rattle.pk_base.specs.Shape.{Shape}
 use Rattle.pk_base.specs.Page.{Flash, page_at, erased, whole, IsPage}
 use Rattle.pk_base.specs.Mark.{after}
 use Rattle.pk_nand.specs.BoardState.{BoardState}
-use Rattle.pk_nand.specs.Calls.{IsReady, InOrder, after_program, after_erase, ProgramFailed, EraseFailed}
+use Rattle.pk_nand.specs.Calls.{IsReady, InOrder, Rose, after_program, after_erase, ProgramFailed, EraseFailed}
 use Rattle.pk_nand.specs.Crash.{Reached, Went}
 use Rattle.pk_remap.specs.Table.{table_bytes}
 use Rattle.pk_remap.specs.Places.{inner_shape, placed_page}
@@ -49,6 +49,8 @@ pub record SpareFailed (r : Relocation) (before : Flash) (old new : BoardState) 
   pub cuts : WentSafely r before old new
   pub goes_on : r.taken + 1 < r.spares → RelocationGoesOn (with_next_spare r) before new
   pub top : IsTop (with_next_spare r) new.pages
+  pub reads : new.read_faults ≡ old.read_faults
+  pub stop : Rose old.stop_faults new.stop_faults
   pub tables : SameTables r old.pages new.pages
 
 -- The other table block was erased: its first pair is next.
