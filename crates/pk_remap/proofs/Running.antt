@@ -167,7 +167,7 @@ rank_after r k few = rank_cases (nat_lt k (copies r)) (is_kept r k) (is_program 
 
 -- ---- steps
 
-went : (old new : BoardState) (P : Flash → List ℕ → Type 0) → Reached old new P → Went old new P
+pub went : (old new : BoardState) (P : Flash → List ℕ → Type 0) → Reached old new P → Went old new P
 went old new P reached = (reached.0, Went-reached reached.0 old new P reached.1)
 
 -- no mark was made

@@ -88,7 +88,7 @@ module _ (r : InMemory) (before : Flash) (old : BoardState) (r1 : InMemory) (mid
       let P : Relocation → Type 0 = λ q. through q.shape q.spares new.pages ≡ Some (after q.shape q.mark before) in
       (went_more new step.0, step.1.rests, subst P far.again step.1.done, same_then r r1 r2 far.same step.2)
 
-  stopped_why : (r2 : InMemory) (new : BoardState) → RelocationStops r1 mid r2 new → ServingStops r old r2 new
+  stopped_why : (r2 : InMemory) (new : BoardState) → RelocationStops r1 mid r2 new → ServingStops (relocation_of r) old r2.taken new
   stopped_why r2 new (reading rose) = read_failed (let P : ℕ → Type 0 = λ x. Rose x new.read_faults in subst P far.faults.reads rose)
   stopped_why r2 new (in_table rose b is at) =
       let P : Relocation → Type 0 = λ q. IsTableBlock q.shape q.spares b in

@@ -362,7 +362,7 @@ fn program_table<N: Nand>(
 }
 
 /// Reads a page into the first bytes of a buffer.
-fn read_into<N: Nand>(
+pub fn read_into<N: Nand>(
     inner: &mut N,
     at: u32,
     size: usize,
