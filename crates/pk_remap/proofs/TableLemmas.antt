@@ -11,6 +11,7 @@ use Rattle.pk_base.specs.Shape.{Shape, IsShape}
 use Rattle.pk_base.proofs.Tables.{◌⊕◌, fields_of, AllNone, all_none, first_none, unless_true, true_unless, unlike_stands, stands_unlike, number_stands}
 use Rattle.pk_base.proofs.Tables.{stands_number, Stand, AreSized, stand_spelled, spelled_stand}
 use Rattle.pk_rootfmt.specs.Root.{u16s_at}
+use Rattle.pk_base.proofs.Logic.{both_true}
 use Rattle.pk_rootfmt.proofs.BlockLemmas.{length-u16s, length-numbers, numbers_stand, numbers_again}
 use Rattle.pk_rootfmt.proofs.PageLemmas.{bytes_same, same_bytes}
 use Rattle.pk_remap.specs.Table.{SpareTable, table_bytes, table_at, table_page, table_of, is_table, is_served}
