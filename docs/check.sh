@@ -113,7 +113,7 @@ sed -n 's/^| .* | \(`.*\|the test.*\) |$/\1/p' docs/WRONG-BODIES.md | while IFS=
             *)
                 echo "$crate $name" >>"$named"
                 [ -f "crates/$crate/must-fail/$name.edit" ] \
-                    || grep -rqw "fn $name" crates/pk_trials/src crates/pk_hardship_tests/src \
+                    || grep -rqw "fn $name" crates/pk_test_program/src crates/pk_test_stress_run/src \
                     || fault "docs/WRONG-BODIES.md: neither a wrong body nor a test $name"
                 ;;
         esac
@@ -148,7 +148,7 @@ done
 
 for crate in $(sed -n 's/^\(pk_[a-z_]*\):.*/\1/p' crates.txt); do
     case $crate in
-        *_tests) ;;
+        pk_test_*) ;;
         *) grep -qw "$crate" docs/CRATES.md || fault "docs/CRATES.md: nothing of $crate" ;;
     esac
 done
