@@ -5,9 +5,10 @@
 
 Each image is one of some drives with one to three changed bytes. Of each: `check` and pinkdump agree
 on the map or on the first wrong page; and if `check` says whole, the map is that of the drive as
-it was, but for values whose own bytes were changed (there is no checksum). Of the refused ones each
-value that `salvage` reads was once stored under its key, and each that it is sure of is the last one,
-with the same exception. It is no part of the gate. It ends with a count, and with status 1 at the first image that differs.
+it was, but for values whose own bytes were changed (there is no checksum), and for images in which
+an entry of a run was changed, which are counted. Of the refused ones each value that `salvage`
+reads was once stored under its key, and each that it is sure of is the last one, except for values
+whose own bytes were changed. It is no part of the gate. It ends with a count, and with status 1 at the first image that differs.
 """
 
 import collections
@@ -27,6 +28,7 @@ from pinkctl.__main__ import main as pinkctl
 SHAPES = [(512, 16, 64), (512, 8, 33), (1024, 16, 40), (512, 16, 22), (4096, 8, 40)]
 KEYS = [150, 5, 100, 10, 24]
 SESSIONS = [1, 3, 12, 3, 6]
+WHOLE_BY_RUN = "whole with another map: an entry of a run was changed"
 
 
 class Drive(NamedTuple):
@@ -131,6 +133,13 @@ def differs(drive, verdict, at):
     return {k: v for k, v in values.items() if k not in own} != {k: v for k, v in drive.map.items() if k not in own}
 
 
+def touches_run(drive, at):
+    """Whether one of these bytes is of a page of a run."""
+    it = image.load_image(drive.data)
+    pages = ((place - it.first) // it.shape.page_bytes for place in at if place >= it.first)
+    return any(it.page(page).startswith(layout.META_TEXT) for page in pages)
+
+
 def never_stored(drive, data, at):
     """What salvage reads that was never stored, but for values whose own bytes were changed; and all that it reads."""
     found = rescue.rescue_image(data)
@@ -177,8 +186,9 @@ class Trial:
             self.fail(drive, data, at, f"compared: {verdict.compared}: {verdict.text}")
         if verdict.flash and verdict.flash.opens and differs(drive, verdict, at):
             self.counts["open with another map"] += 1
-            if verdict.name == "whole":
+            if verdict.name == "whole" and not touches_run(drive, at):
                 self.fail(drive, data, at, "check says whole, and the map differs")
+            self.counts[WHOLE_BY_RUN] += verdict.name == "whole"
         if verdict.name in ("refused", "no drive", "unknown") and self.counts["salvaged"] < self.salvages:
             self.salvage(drive, data, at, path)
 
@@ -235,7 +245,7 @@ def main():
     for name, count in sorted(trial.counts.items()):
         print(f"{count:6} {name}")
     print(f"{trial.kept[0]:6} of {trial.kept[1]} values that the salvaged drives held were read with their last value")
-    print(f"{images} images of {len(drives)} drives: none that check calls whole has another map, no value was read that was never stored")
+    print(f"{images} images of {len(drives)} drives: {trial.counts[WHOLE_BY_RUN]} that check calls whole have another map, no value was read that was never stored")
 
 
 if __name__ == "__main__":

@@ -98,7 +98,7 @@ awk '
                     [ -f "crates/$crate/must-fail/$name.edit" ] || fault "docs/GUARANTEES.md: no wrong body $name of $crate"
                     echo "$crate $name" >>"$named"
                     ;;
-                *) has "$crate" "$name" || has pk_drive "$name" || fault "docs/GUARANTEES.md: no clause $name of $crate" ;;
+                *) has "$crate" "$name" || has pk_drive "$name" || has pk_call "$name" || fault "docs/GUARANTEES.md: no clause $name of $crate" ;;
             esac
             ;;
     esac

@@ -285,10 +285,11 @@ class Check(OnImage):
 
 
 class ExportAndImport(OnImage):
+    shape = (512, 16, 80)  # SMALL holds 246 values
     values = {bytes([i]): bytes([i]) * (i * 7) for i in range(256)} | {b"\xff" * 16: b"", "ключ".encode(): "значение\n".encode()}
 
     def other(self, name="other.img"):
-        make(self.path(name), *SMALL, program=PROGRAM)
+        make(self.path(name), *self.shape, program=PROGRAM)
         return self.path(name)
 
     def small(self):
@@ -521,6 +522,16 @@ class Salvage(OnImage):
         self.assertIn("it may be older, or deleted since", self.out)
         self.assertEqual(self.salvage("--sure-only"), {b"c": b"3"})
 
+    def test_a_commit_whose_pages_differ(self):
+        self.store({b"a": b"1", b"b": b"2"})
+        with Drive(self.image, program=PROGRAM) as d:
+            del d[b"a"]
+        it, flash = self.flash()
+        page = max(flash.newest.pages) - 1
+        self.change(self.place(page, 32 + 4), b"b")  # the deletion of a, as that of b
+        self.assertEqual(self.salvage(), {b"a": b"1", b"b": b"2"})
+        self.assertIn("0 sure, 2 doubtful; 0 lost", self.out)
+
     def test_a_lost_newest_root(self):
         self.store({b"a": b"1"})
         self.store({b"b": b"2"})
@@ -649,7 +660,7 @@ class Shell(OnImage):
         self.ctl("shell", self.path("none"), "-e", "list", status=8)
         with Drive(self.image, program=PROGRAM):
             self.shell("list", status=6)
-        self.change(STATES, b"\0")
+        self.change(STATES, b"\0\0")
         self.shell("list", status=8)
         self.assertIn("pinkctl check", self.said)
 

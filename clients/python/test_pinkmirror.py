@@ -24,7 +24,7 @@ from pinkmirror import LONGEST_VALUE, Mirror
 
 PROGRAM = os.environ.get("PINK_PROGRAM", pinkdrive.PROGRAM)
 SMALL = (512, 16, 64)
-TIGHT = (512, 16, 22)  # 24 live pages
+TIGHT = (512, 16, 22)  # 24 live pages, so 12 values of a pair of pages
 
 
 class OnPair(unittest.TestCase):
@@ -119,12 +119,12 @@ class Full(OnPair):
     shape = TIGHT
 
     def test_a_full_pair_refuses_and_stays_in_step(self):
-        for i in range(24):
+        for i in range(12):
             self.pair[b"%02d" % i] = b"x"
         with self.assertRaises(CapacityExceeded):
             self.pair[b"more"] = b"x"
         self.assertEqual(self.alone(self.first), self.alone(self.second))
-        self.assertEqual(len(self.alone(self.first)), 24)
+        self.assertEqual(len(self.alone(self.first)), 12)
 
 
 class Lost(OnPair):

@@ -39,6 +39,7 @@ DAMAGED_INDEX = "its entry is in a damaged page of the index"
 BELOW_GAP = "a newer part of the index is damaged: it may be older, or deleted since"
 MISNAMED = "an entry of another key leads to a value of this key: it may be older"
 UNFINISHED = "its commit is marked as not finished"
+COPIES_DIFFER = "the two pages of its commit differ: it may be older, or deleted since"
 OLDER = "the newest entry of the key leads to no value: this is an older one"
 DAMAGED_VALUE = "a page of the value was changed: the value may be, too"
 NO_INDEX = "it is in no readable page of the index: it may be older, or deleted since"
@@ -231,7 +232,9 @@ def add_epoch(image: Image, layout: Layout, number: int, blocks: tuple[int, ...]
         pages = layout.commit_pages(blocks, place)
         good = [page for page in pages if is_commit(layout, image.page(page), number, place)]
         page = next((page for page in good if image.states[page] == WHOLE), good[0] if good else None)
-        if page is not None:
+        if len({image.page(page) for page in good}) > 1:
+            add_copies(image, layout, good, f"commit {place + 1} of epoch {number}", index)
+        elif page is not None:
             commit = commit_in(layout, image.page(page))
             index.add(commit.entries[::-1] if commit else [], None if image.states[page] == WHOLE else UNFINISHED)
         elif any(image.states[page] == WHOLE for page in pages):
@@ -241,6 +244,17 @@ def add_epoch(image: Image, layout: Layout, number: int, blocks: tuple[int, ...]
 def is_commit(layout: Layout, data: bytes, number: int, place: int) -> bool:
     commit = commit_in(layout, data)
     return commit is not None and (commit.epoch, commit.place) == (number, place)
+
+
+def add_copies(image: Image, layout: Layout, pages: Sequence[int], what: str, index: Index) -> None:
+    """Adds the entries of the two pages of a commit that differ: those that only one page has are doubtful."""
+    first, second = (commit.entries if (commit := commit_in(layout, image.page(page))) else [] for page in pages)
+    index.damaged.append(f"page {pages[0]} or {pages[1]}, {what}")
+    for entry, other in zip(first[::-1], second[::-1]):
+        if entry == other:
+            index.add([entry])
+        else:
+            index.add([entry, other], COPIES_DIFFER)
 
 
 def add_damaged_commit(image: Image, layout: Layout, pages: Sequence[int], what: str, index: Index) -> None:
@@ -340,6 +354,8 @@ def agreed_values(image: Image, layout: Layout, index: Index) -> dict[bytes, lis
 def decide(rescue: Rescue, key: bytes, candidates: Sequence[Candidate], trusted: bool) -> Optional[Saved]:
     """The value of a key by its entries: that of the first entry that reads, up to a deletion."""
     for number, (place, why) in enumerate(candidates):
+        if place is None and why == COPIES_DIFFER:
+            continue
         if place is None:
             return None
         if reads_exactly(rescue.image, rescue.layout, key, place):

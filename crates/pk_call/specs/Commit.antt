@@ -1,11 +1,17 @@
--- The calls of a commit, for every map that the drive may represent.
-use Rattle.std.specs.Prelude.{◌≡◌, ◌≢◌, ◌≤◌, ℕ, []}
+-- What a commit does, for every map that the drive may represent.
+use Rattle.std.specs.Prelude.{◌≡◌, ◌≢◌, ◌≤◌, ℕ, [], Bool, true, false}
 use Rattle.pk_base.specs.Shape.{Shape, commit_programs}
 use Rattle.pk_base.specs.Map.{Map}
 use Rattle.pk_nand.specs.BoardState.{BoardState}
+use Rattle.pk_nand.specs.Calls.{Rose}
 use Rattle.pk_nand.specs.Counts.{counted_by}
+use Rattle.pk_nand.specs.Effects.{NoFault}
 use Rattle.pk_model.specs.Sight.{Sight}
+use Rattle.pk_model.specs.Wear.{roots}
+use Rattle.pk_call.specs.Call.{KeepsMap}
 use Rattle.pk_call.specs.Drive.{HoldsMap}
+use Rattle.pk_call.specs.Moving.{Commits}
+use Rattle.pk_call.specs.Steady.{Steadies}
 
 -- At least n of the programs of a commit were made, the failed one included, and no other call.
 pub record ProgramsOfCommit (least : ℕ) (old new : BoardState) : Type 0 where
@@ -20,3 +26,25 @@ pub record ProgramsOfCommit (least : ℕ) (old new : BoardState) : Type 0 where
 abbrev pub CommitPrograms : ℕ → BoardState → BoardState → Sight → Type 0
 CommitPrograms least old new before =
     (shape : Shape) (frames : ℕ) (m : Map) → HoldsMap shape frames old before m → before.pending ≢ [] → ProgramsOfCommit least old new
+
+-- What it leaves: the same map and nothing pending; if nothing was pending it did nothing.
+pub record AnswersCommit (old new : BoardState) (before after : Sight) (stopped : Bool) : Type 0 where
+  pub stands : stopped ≡ false → KeepsMap old new before after
+  pub none : stopped ≡ false → after.pending ≡ []
+  pub idle : before.pending ≡ [] → (stopped ≡ false) × (new ≡ old) × (after ≡ before)
+
+-- What is counted: reads, faults, roots and programs.
+pub record CountsPrograms (old new : BoardState) (before : Sight) (stopped : Bool) : Type 0 where
+  pub reads : new.reads ≡ old.reads
+  pub read_faults : new.read_faults ≡ old.read_faults
+  pub stop : stopped ≡ true → Rose old.stop_faults new.stop_faults
+  pub sound : stopped ≡ false → NoFault old new
+  pub flash_up : old.flash_faults ≤ new.flash_faults
+  pub program : CommitPrograms 1 old new before
+  pub programs : stopped ≡ false → CommitPrograms commit_programs old new before
+  pub installs : roots new ≡ roots old
+
+-- What is seen of the drive.
+pub record ShowsCommit (old new : BoardState) (before after : Sight) (stopped : Bool) : Type 0 where
+  pub seen : stopped ≡ false → Commits before after
+  pub steady : stopped ≡ false → Steadies old new before after

@@ -9,3 +9,5 @@ pub mod Calling
 pub mod Settling
 pub mod Steady
 pub mod Moving
+pub mod Running
+pub mod Answering

@@ -142,8 +142,10 @@ module _ (d : Parts) (old new : BoardState) (r : Request) (o : Outcome) (into : 
       let same_roots : roots new ≡ roots old = ap roots l.board_is in
       record {
         stands = λ runs. stands;
-        cuts = λ runs shape frames m st. reaches shape m;
-        cuts_stopped = λ stopped. absurd (not_both o.stopped l.runs stopped);
+        found = record {
+          cuts = λ runs shape frames m st. reaches shape m;
+          cuts_stopped = λ stopped. absurd (not_both o.stopped l.runs stopped);
+        };
         rest = only_flash;
         reads_are = l.reads;
         up = l.up;

@@ -1,31 +1,37 @@
 -- A command that is refused by the checks that read it alone.
-use Rattle.std.proofs.Common.{◌≡◌, inl, ℕ, refl, sym, ap, ◌∙◌, arith, Some}
-use Rattle.pk_base.specs.Shape.{Shape, limit}
-use Rattle.pk_base.specs.Map.{Map}
+use Rattle.std.proofs.Common.{◌≡◌, ◌≤◌, inl, ℕ, refl, sym, ap, subst, ◌∙◌, arith, false, List, Some}
+use Rattle.pk_base.specs.Shape.{limit}
 use Rattle.pk_nvme.specs.Command.{Command}
 use Rattle.pk_nvme.specs.Reply.{refusal}
 use Rattle.pk_nand.specs.BoardState.{BoardState, shape_of as shape_told, shape_or_none}
+use Rattle.pk_nand.specs.Calls.{last_count}
 use Rattle.pk_model.specs.Answer.{early}
 use Rattle.pk_model.proofs.Answering.{refuses_early}
-use Rattle.pk_call.specs.Drive.{HoldsMap}
-use Rattle.pk_call.specs.Exec.{Executed}
+use Rattle.pk_call.specs.Seen.{reply_of}
+use Rattle.pk_call.specs.declared.types.Outcome.{Outcome}
 use Rattle.pk_parts.specs.Parts.{Parts, sight_of}
 use Rattle.pk_parts.specs.Agreeing.{DriveOnFlash}
+use Rattle.pk_parts.proofs.Unchanging.{reads_none}
+use Rattle.pk_core.specs.Done.{Does}
 use Rattle.pk_core.specs.Quiet.{eleven}
 use Rattle.pk_core.proofs.Standing.{stands_for}
+use Rattle.pk_core.proofs.Statuses.{early_sound}
+use Rattle.pk_core.proofs.Unchanging.{AnswersAll, does_reads}
 
 -- the board has the drive's shape
 pub told_shape : (d : Parts) (board : BoardState) → DriveOnFlash d board.shape board.pages → shape_told board ≡ d.log.shape
 told_shape d board agrees = ap shape_or_none agrees.told_is ∙ sym agrees.with.shape_is
 
-pub executes_none : (d : Parts) (board : BoardState) (shape : Shape) (frames : ℕ) (m : Map) (c : Command) (status : ℕ) → DriveOnFlash d board.shape board.pages → early d.log.shape c ≡ Some status
-    → HoldsMap shape frames board (sight_of d) m → Executed shape frames board (sight_of d) m c (refusal status) 0
-executes_none d board shape frames m c status agrees refused stands =
-    let here = (stands_for d board shape frames m agrees stands).with.shape_is in
-    let s = refuses_early shape (limit shape) frames m eleven c status (ap (λ x. early x c) (sym here) ∙ refused) in
-    record {
-      left = m;
-      stepped = inl (record { own = eleven; eleven = refl; replied = sym s.replied; leaves = sym s.leaves });
-      stands = stands;
-      bounded = λ is. omega arith;
-    }
+module _ (d : Parts) (board : BoardState) (c : Command) (status : ℕ) (agrees : DriveOnFlash d board.shape board.pages) (refused : early d.log.shape c ≡ Some status) where
+  refused_all : AnswersAll board (sight_of d) c (refusal status) 0
+  refused_all shape frames m stands =
+      let here = (stands_for d board shape frames m agrees stands).with.shape_is in
+      let s = refuses_early shape (limit shape) frames m eleven c status (ap (λ x. early x c) (sym here) ∙ refused) in
+      (inl (record { own = eleven; eleven = refl; replied = sym s.replied; leaves = sym s.leaves }), λ is. omega arith)
+
+  -- it does nothing
+  pub refused_done : (o : Outcome) (into : List ℕ) → board.reads ≤ last_count → o ≡ record { status = status; result = 0; data_len = 0; reads = 0; stopped = false }
+      → Does board board (sight_of d) (sight_of d) c (reply_of o into) o.reads o.stopped
+  refused_done o into few told =
+      subst (λ (x : Outcome). Does board board (sight_of d) (sight_of d) c (reply_of x into) x.reads x.stopped) (sym told)
+      (does_reads board board (sight_of d) c (refusal status) 0 0 few few (reads_none board few) (omega arith) (early_sound d.log.shape c status refused) refused_all)

@@ -1,5 +1,5 @@
 -- Commands that ended.
-use Rattle.std.proofs.Common.{◌≡◌, ◌⊎◌, inl, inr, ℕ, refl, sym, ap, subst, ◌∙◌, Bool, true, false, List, [], ◌<◌, length, Option}
+use Rattle.std.proofs.Common.{◌≡◌, inl, inr, ℕ, refl, sym, ap, subst, ◌∙◌, Bool, true, false, List, [], ◌<◌, length, Option}
 use Rattle.pk_base.specs.Shape.{Shape, page_entries}
 use Rattle.pk_base.specs.Page.{Flash}
 use Rattle.pk_nvme.specs.Command.{Command}

@@ -34,3 +34,4 @@ pub mod Stored
 pub mod StoreCalls
 pub mod LookedUp
 pub mod Whole
+pub mod Recording

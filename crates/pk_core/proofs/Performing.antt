@@ -1,5 +1,5 @@
 -- What a command leaves of epochs and blocks, by its opcode.
-use Rattle.std.proofs.Common.{◌≡◌, ◌⊎◌, inl, refl, ℕ, ◌≤◌, ap, sym, subst, arith, List, true, false}
+use Rattle.std.proofs.Common.{◌≡◌, inl, refl, ℕ, ◌≤◌, ap, sym, subst, arith, List, true, false}
 use Rattle.pk_base.specs.Shape.{charge}
 use Rattle.pk_nvme.specs.Command.{key}
 use Rattle.pk_nvme.specs.Seen.{command_of}

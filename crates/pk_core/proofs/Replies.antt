@@ -1,5 +1,5 @@
 -- The keys that a List gives are those of the map.
-use Rattle.std.proofs.Common.{◌≡◌, ℕ, zero, suc, ◌≤◌, refl, sym, ap, subst, ◌∙◌, not, List, [], ◌∷◌, ◌++◌, length, take, map, reverse, Option, if◌then◌else◌, arith}
+use Rattle.std.proofs.Common.{◌≡◌, ◌==◌, ℕ, suc, Bool, true, false, refl, sym, ap, subst, ◌∙◌, not, List, [], ◌∷◌, ◌++◌, length, map, reverse, Option, if◌then◌else◌}
 use Rattle.std.specs.List.{flat_map, AllByRecursion}
 use Rattle.std.specs.Ordering.{is_lt}
 use Rattle.std.specs.FinMap.{entries}
@@ -53,14 +53,16 @@ keys_listed d shape flash top found without all from with =
 
 -- ---- the keys from the least of a namespace on
 
-pub least_of_none : (space n : ℕ) (bytes : List ℕ) → n ≡ 0 → space ∷ 0 ∷ [] ≡ least_in space (take n bytes)
-least_of_none space zero bytes e = refl
-least_of_none space (suc n) bytes e = absurd (omega (arith, e))
+pub least_of_none : (space : ℕ) (bytes : List ℕ) → true ≡ (length bytes == 0) → space ∷ 0 ∷ [] ≡ least_in space bytes
+least_of_none space [] e = refl
+least_of_none space (b ∷ bytes) e = absurd (not_empty (length bytes) e)
+  where
+    not_empty : (n : ℕ) → true ≡ (suc n == 0) → ⊥
+    not_empty n e = cc
 
-pub least_of_some : (space n : ℕ) (bytes : List ℕ) → 1 ≤ n → 1 ≤ length bytes → space ∷ take n bytes ≡ least_in space (take n bytes)
-least_of_some space zero bytes some full = absurd (omega (arith, some))
-least_of_some space (suc n) [] some full = absurd (omega (arith, full))
-least_of_some space (suc n) (b ∷ bytes) some full = refl
+pub least_of_some : (space : ℕ) (bytes : List ℕ) → false ≡ (length bytes == 0) → space ∷ bytes ≡ least_in space bytes
+least_of_some space [] e = absurd (let clash : false ≡ true = e in cc)
+least_of_some space (b ∷ bytes) e = refl
 
 not_lower : (space : ℕ) (bytes : List ℕ) (key : Key) → IsKey key → is_lt (key_cmp key (least_in space bytes)) ≡ is_lt (key_cmp key (space ∷ bytes))
 not_lower space [] key is = least_key space key is

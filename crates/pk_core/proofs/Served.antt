@@ -118,13 +118,15 @@ module _ (d : Parts) (old new : BoardState) (a : DriveOnFlash d old.shape old.pa
           (stands_so e new d.log.shape after (same_shape ∙ told) (between e d.log.shape new.pages after changed.stands));
       bounded = λ is. absurd (other is);
     });
-    cuts = λ _. for_its_map d old a (λ s f m. Reaches s old new (CrashFinds s (command c) old.pages m)) (
-      changed.cuts.0,
-      weaken changed.cuts.0 old new (CrashFinds d.log.shape (change after) old.pages a.all)
-          (CrashFinds d.log.shape (command c) old.pages a.all) exec_cut changed.cuts.1,
-      changed.cuts.2,
-    );
-    cuts_stopped = λ is. absurd (yes_no is);
+    found = record {
+      cuts = λ _. for_its_map d old a (λ s f m. Reaches s old new (CrashFinds s (command c) old.pages m)) (
+        changed.cuts.0,
+        weaken changed.cuts.0 old new (CrashFinds d.log.shape (change after) old.pages a.all)
+            (CrashFinds d.log.shape (command c) old.pages a.all) exec_cut changed.cuts.1,
+        changed.cuts.2,
+      );
+      cuts_stopped = λ is. absurd (yes_no is);
+    };
     rest = rest;
     reads_are = counted;
     up = (let same = none.1 in omega (arith, same));
@@ -147,9 +149,11 @@ module _ (d : Parts) (old new : BoardState) (a : DriveOnFlash d old.shape old.pa
       stands = subst (λ (f : ℕ). HoldsMap d.log.shape f new (sight_of e) a.all) same_frames (stands_so e new d.log.shape a.all (same_shape ∙ told) (between e d.log.shape new.pages a.all kept.stands));
       bounded = λ is. absurd (other is);
     });
-    cuts = λ _. for_its_map d old a (λ s f m. Reaches s old new (CrashFinds s (command c) old.pages m))
-        (kept.cuts.0, weaken kept.cuts.0 old new (CrashFinds d.log.shape commit old.pages a.all) (CrashFinds d.log.shape (command c) old.pages a.all) kept_cut kept.cuts.1, kept.cuts.2);
-    cuts_stopped = λ is. absurd (yes_no is);
+    found = record {
+      cuts = λ _. for_its_map d old a (λ s f m. Reaches s old new (CrashFinds s (command c) old.pages m))
+          (kept.cuts.0, weaken kept.cuts.0 old new (CrashFinds d.log.shape commit old.pages a.all) (CrashFinds d.log.shape (command c) old.pages a.all) kept_cut kept.cuts.1, kept.cuts.2);
+      cuts_stopped = λ is. absurd (yes_no is);
+    };
     rest = rest;
     reads_are = counted;
     up = unread.up;
@@ -166,9 +170,11 @@ module _ (d : Parts) (old new : BoardState) (a : DriveOnFlash d old.shape old.pa
       → Halts old new → Does old new (sight_of d) s c (refusal 0x88) (new.reads - old.reads) true
   does_stop s went halts = record {
     stands = λ is. absurd (no_yes is);
-    cuts = λ is. absurd (no_yes is);
-    cuts_stopped = λ _. for_its_map d old a (λ s f m. Goes s old new (CrashFinds s (command c) old.pages m))
-        (went.0, weaken_went went.0 old new (CrashFinds d.log.shape (change after) old.pages a.all) (CrashFinds d.log.shape (command c) old.pages a.all) exec_cut went.1, went.2);
+    found = record {
+      cuts = λ is. absurd (no_yes is);
+      cuts_stopped = λ _. for_its_map d old a (λ s f m. Goes s old new (CrashFinds s (command c) old.pages m))
+          (went.0, weaken_went went.0 old new (CrashFinds d.log.shape (change after) old.pages a.all) (CrashFinds d.log.shape (command c) old.pages a.all) exec_cut went.1, went.2);
+    };
     rest = rest;
     reads_are = counted;
     up = (let same = halts.read in omega (arith, same));
@@ -478,12 +484,14 @@ does_behind d e f old mid new most c into o same made other count told_is does =
       stands = λ run shape frames m st.
           let y = x.stands run shape frames m (record { shape_is = st.shape_is; frames_is = st.frames_is; map_is = st.map_is }) in
           record { left = y.left; stepped = y.stepped; stands = y.stands; bounded = λ k. absurd (other k) };
-      cuts = λ run shape frames m st.
-          let y = x.cuts run shape frames m (record { shape_is = st.shape_is; frames_is = st.frames_is; map_is = st.map_is }) in
-          (y.0, record { trail = y.1.trail; posted = y.1.posted; same_shape = y.1.same_shape; cuts = y.1.cuts; stands = y.1.stands }, y.2);
-      cuts_stopped = λ run shape frames m st.
-          let y = x.cuts_stopped run shape frames m (record { shape_is = st.shape_is; frames_is = st.frames_is; map_is = st.map_is }) in
-          (y.0, record { trail = y.1.trail; posted = y.1.posted; same_shape = y.1.same_shape; cuts = y.1.cuts; stands = y.1.stands }, y.2);
+      found = record {
+        cuts = λ run shape frames m st.
+            let y = x.found.cuts run shape frames m (record { shape_is = st.shape_is; frames_is = st.frames_is; map_is = st.map_is }) in
+            (y.0, record { trail = y.1.trail; posted = y.1.posted; same_shape = y.1.same_shape; cuts = y.1.cuts; stands = y.1.stands }, y.2);
+        cuts_stopped = λ run shape frames m st.
+            let y = x.found.cuts_stopped run shape frames m (record { shape_is = st.shape_is; frames_is = st.frames_is; map_is = st.map_is }) in
+            (y.0, record { trail = y.1.trail; posted = y.1.posted; same_shape = y.1.same_shape; cuts = y.1.cuts; stands = y.1.stands }, y.2);
+      };
       rest = x.rest;
       reads_are = omega (arith, told_is, more, last, up);
       up = x.up;

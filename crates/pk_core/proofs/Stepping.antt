@@ -66,8 +66,10 @@ worked_fault b e = cc
 pub steps_none : (old : BoardState) (s : Sight) → old.reads ≤ last_count → s.pending ≡ [] → BackgroundSteps old old s s Worked 0
 steps_none old s few none = record {
   stands = λ _ shape frames m st. st;
-  cuts = λ _ shape frames m st. ([], Reached-start old old (CrashFinds shape background old.pages m) refl refl refl refl (refl, subst (λ p. reading shape old.pages p ≡ Ok m) none st.map_is), tt);
-  cuts_stopped = λ e. absurd (yes_no false refl e);
+  found = record {
+    cuts = λ _ shape frames m st. ([], Reached-start old old (CrashFinds shape background old.pages m) refl refl refl refl (refl, subst (λ p. reading shape old.pages p ≡ Ok m) none st.map_is), tt);
+    cuts_stopped = λ e. absurd (yes_no false refl e);
+  };
   rest = refl;
   spends = spends_same 0 0 old old refl;
   few = few;
@@ -109,9 +111,9 @@ sound_step a b s t (Fault stopped) ticks e = absurd (yes_no true e refl)
 module _ (s0 s1 : BoardState) (e0 e1 : Sight) (n : ℕ) (first : BackgroundSteps s0 s1 e0 e1 Worked n) where
   -- a cut after the steps so far is one after the first
   seen : (shape : Shape) (frames : ℕ) (m : Map) (st : HoldsMap shape frames s0 e0 m) (f : Flash) (q : List ℕ)
-      → CrashFinds shape background s0.pages m f q → CrashFinds shape background s0.pages m f (all_posted (first.cuts refl shape frames m st).0 ++ q)
+      → CrashFinds shape background s0.pages m f q → CrashFinds shape background s0.pages m f (all_posted (first.found.cuts refl shape frames m st).0 ++ q)
   seen shape frames m st f q cut =
-      let run = first.cuts refl shape frames m st in
+      let run = first.found.cuts refl shape frames m st in
       let ends = at_end run.0 s0 s1 (CrashFinds shape background s0.pages m) run.1 in
       (ap (λ (xs : List ℕ). xs ++ q) ends.0 ∙ cut.0, cut.1)
 
@@ -121,14 +123,16 @@ module _ (s0 s1 : BoardState) (e0 e1 : Sight) (n : ℕ) (first : BackgroundSteps
       let reads = one_read s1 s2 first.few ticks.calls in
       record {
         stands = λ runs shape frames m st. ticks.stands runs shape frames m (first.stands refl shape frames m st);
-        cuts = λ runs shape frames m st.
-            let run = first.cuts refl shape frames m st in
-            Reaches-then shape run.0 s0 s1 (CrashFinds shape background s0.pages m) st.shape_is run.1 run.2 s2
-            (CrashFinds shape background s0.pages m) (seen shape frames m st) (ticks.cuts runs shape frames m (first.stands refl shape frames m st));
-        cuts_stopped = λ stops shape frames m st.
-            let run = first.cuts refl shape frames m st in
-            Goes-then shape run.0 s0 s1 (CrashFinds shape background s0.pages m) st.shape_is run.1 run.2 s2
-            (CrashFinds shape background s0.pages m) (seen shape frames m st) (ticks.cuts_stopped stops shape frames m (first.stands refl shape frames m st));
+        found = record {
+          cuts = λ runs shape frames m st.
+              let run = first.found.cuts refl shape frames m st in
+              Reaches-then shape run.0 s0 s1 (CrashFinds shape background s0.pages m) st.shape_is run.1 run.2 s2
+              (CrashFinds shape background s0.pages m) (seen shape frames m st) (ticks.cuts runs shape frames m (first.stands refl shape frames m st));
+          cuts_stopped = λ stops shape frames m st.
+              let run = first.found.cuts refl shape frames m st in
+              Goes-then shape run.0 s0 s1 (CrashFinds shape background s0.pages m) st.shape_is run.1 run.2 s2
+              (CrashFinds shape background s0.pages m) (seen shape frames m st) (ticks.cuts_stopped stops shape frames m (first.stands refl shape frames m st));
+        };
         rest = only_then s0 s1 s2 first.rest ticks.rest;
         spends = record { calls = few_more n s0 s1 s2 first.spends.calls ticks.calls; installs = (let a = first.spends.installs in let b = ticks.installs in omega (arith, a, b)) };
         few = reads.few;
@@ -153,8 +157,7 @@ no_more_step d e a b (Fault false) step runs = let same = ap (λ (s : Sight). s.
 pub steps_within : (old new : BoardState) (s t : Sight) (answer : Ticked) (n k : ℕ) → n ≤ k → BackgroundSteps old new s t answer n → BackgroundSteps old new s t answer k
 steps_within old new s t answer n k less w = record {
   stands = w.stands;
-  cuts = w.cuts;
-  cuts_stopped = w.cuts_stopped;
+  found = w.found;
   rest = w.rest;
   spends = spends_within n k n k old new less less w.spends;
   few = w.few;
@@ -202,12 +205,14 @@ module _ (old new : BoardState) (d d' : Parts) (r : Request) (v : List ℕ) (a :
           stands = w.stands runs shape frames m st;
           bounded = λ e. absurd (other_kind r.opcode op e);
         };
-        cuts = λ runs shape frames m st.
-            let run = w.cuts runs shape frames m st in
-            (run.0, weaken run.0 old new (CrashFinds shape background old.pages m) (CrashFinds shape (command (command_of r v)) old.pages m) (λ f q cut. (cut.0, inr (inl cut.1))) run.1, run.2);
-        cuts_stopped = λ stops shape frames m st.
-            let run = w.cuts_stopped stops shape frames m st in
-            (run.0, weaken_went run.0 old new (CrashFinds shape background old.pages m) (CrashFinds shape (command (command_of r v)) old.pages m) (λ f q cut. (cut.0, inr (inl cut.1))) run.1, run.2);
+        found = record {
+          cuts = λ runs shape frames m st.
+              let run = w.found.cuts runs shape frames m st in
+              (run.0, weaken run.0 old new (CrashFinds shape background old.pages m) (CrashFinds shape (command (command_of r v)) old.pages m) (λ f q cut. (cut.0, inr (inl cut.1))) run.1, run.2);
+          cuts_stopped = λ stops shape frames m st.
+              let run = w.found.cuts_stopped stops shape frames m st in
+              (run.0, weaken_went run.0 old new (CrashFinds shape background old.pages m) (CrashFinds shape (command (command_of r v)) old.pages m) (λ f q cut. (cut.0, inr (inl cut.1))) run.1, run.2);
+        };
         rest = w.rest;
         reads_are = omega (arith, is, few, more);
         up = w.up;

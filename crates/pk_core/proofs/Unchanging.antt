@@ -73,8 +73,10 @@ does_reads old new s c reply most reads few few' made is sound answers =
         stands = record { shape_is = st.shape_is; frames_is = st.frames_is; map_is = st.map_is };
         bounded = a.1;
       };
-      cuts = λ _ shape frames m st. ([], Reached-start old (record old { reads = n }) (CrashFinds shape (command c) old.pages m) refl refl refl refl (refl, inl refl), tt);
-      cuts_stopped = λ e. absurd (yes_no e);
+      found = record {
+        cuts = λ _ shape frames m st. ([], Reached-start old (record old { reads = n }) (CrashFinds shape (command c) old.pages m) refl refl refl refl (refl, inl refl), tt);
+        cuts_stopped = λ e. absurd (yes_no e);
+      };
       rest = refl;
       reads_are = omega (arith, is, up, few');
       up = omega arith;
@@ -105,13 +107,15 @@ does_unread old new s c most reads few few' faults made is answers =
         stands = record { shape_is = st.shape_is; frames_is = st.frames_is; map_is = st.map_is };
         bounded = a.1;
       };
-      cuts = λ _ shape frames m st. (
-        [],
-        Reached-start old (record old { reads = n; flash_faults = all; read_faults = unread; failed_at = at })
-            (CrashFinds shape (command c) old.pages m) refl refl refl refl (refl, inl refl),
-        tt,
-      );
-      cuts_stopped = λ e. absurd (yes_no e);
+      found = record {
+        cuts = λ _ shape frames m st. (
+          [],
+          Reached-start old (record old { reads = n; flash_faults = all; read_faults = unread; failed_at = at })
+              (CrashFinds shape (command c) old.pages m) refl refl refl refl (refl, inl refl),
+          tt,
+        );
+        cuts_stopped = λ e. absurd (yes_no e);
+      };
       rest = refl;
       reads_are = omega (arith, is, up, few');
       up = omega (arith, rose, faults);

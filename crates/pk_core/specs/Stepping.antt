@@ -6,7 +6,8 @@ use Rattle.pk_nand.specs.Calls.{Rose, last_count}
 use Rattle.pk_model.specs.Sight.{Sight}
 use Rattle.pk_nand.specs.Effects.{OnlyFlash, NoFault}
 use Rattle.pk_model.specs.Crashes.{background}
-use Rattle.pk_call.specs.Call.{KeepsMap, CallReaches, CallGoes}
+use Rattle.pk_call.specs.Call.{KeepsMap}
+use Rattle.pk_call.specs.Running.{FoundAfterCrash}
 use Rattle.pk_call.specs.Seen.{stopped_by}
 use Rattle.pk_call.specs.declared.types.Ticked.{Ticked}
 use Rattle.pk_call.specs.declared.types.Ticked.TheVariants.{Worked, Idle, Fault}
@@ -24,8 +25,7 @@ has_failed (Fault stopped) = true
 -- What at most n steps did together to a drive and its board, if the last of them answered this.
 pub record BackgroundSteps (old new : BoardState) (before after : Sight) (answer : Ticked) (most : ℕ) : Type 0 where
   pub stands : stopped_by answer ≡ false → KeepsMap old new before after
-  pub cuts : stopped_by answer ≡ false → CallReaches old new before background
-  pub cuts_stopped : stopped_by answer ≡ true → CallGoes old new before background
+  pub found : FoundAfterCrash old new before background (stopped_by answer)
   pub rest : OnlyFlash old new
   pub spends : Spends most most old new
   pub few : new.reads ≤ last_count

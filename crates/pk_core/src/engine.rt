@@ -102,13 +102,12 @@ impl<A: Region> Engine for Drive<A> {
     fn commit<B: Nand>(&mut self, board: &mut B) -> Result<(), NandFault> {
         let _ = board.read_count();
         match self.parts.commit_pending(board) {
-            Ok(()) => {
-                self.parts.known();
-                Ok(())
-            }
+            Ok(()) => {}
             // a commit only programs
-            Err(_) => Err(NandFault),
+            Err(_) => return Err(NandFault),
         }
+        self.parts.known();
+        Ok(())
     }
 
     fn tick<B: Nand>(&mut self, board: &mut B) -> Ticked {

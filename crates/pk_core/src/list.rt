@@ -112,10 +112,12 @@ fn first_key(request: &Request) -> Key
     requires space { 1 ≤ request.now.namespace × request.now.namespace ≤ MOST_SPACES }
     ensures { result ≡ first_listed (command_of request.now []) }
 {
-    if request.key_len == 0 {
-        Key::of(request.namespace as u8, &[0])
+    let space = request.namespace as u8;
+    let from = &request.key[..request.key_len as usize];
+    if from.is_empty() {
+        Key::of(space, &[0])
     } else {
-        request.key()
+        Key::of(space, from)
     }
 }
 

@@ -15,8 +15,8 @@ use Rattle.pk_model.specs.Reading.{Holds}
 use Rattle.pk_model.specs.Wear.{roots, is_worn}
 use Rattle.pk_model.proofs.Growing.{weaken_went, Goes-reaches}
 use Rattle.pk_words.specs.Lines.{failed_line}
-use Rattle.pk_call.specs.Meter.{meter}
-use Rattle.pk_model.specs.Run.{commands}
+use Rattle.pk_call.specs.Meter.{Meter, meter}
+use Rattle.pk_model.specs.Run.{Exchange, commands}
 use Rattle.pk_serve.proofs.Counting.{metered-unworn, few_unworn}
 use Rattle.pk_mirror.specs.Causes.{NotEmpty}
 use Rattle.pk_port.specs.Asking.{KeptSilently, KeptWord}
@@ -88,7 +88,7 @@ unworn_by : (shape : Shape) (start : Map) (p q : Standing) → p.on.board.shape 
 unworn_by shape start p q has holds going before none walk =
     let w = all_served shape start walk.0 p q before none (chained shape start p walk.0 q has holds going walk.2) in
     let run = w.asked.answered in
-    few_unworn p.on.board (metered-unworn run.all (meter p.on.board) (meter q.on.board) (λ nothing. walk.1 (sym run.are ∙ ap commands nothing)) w.asked.metered)
+    few_unworn p.on.board (metered-unworn run.all (meter p.on.board) (meter q.on.board) (λ nothing. walk.1 (sym run.are ∙ ap commands nothing)) run.metered)
 
 -- neither drive was worn
 abbrev BothUnworn : BoardState → BoardState → Type 0
@@ -116,12 +116,9 @@ module _ (task : PairTask) (shape : Shape) (m other : Map) (cs ds : List Command
 
   first_silent : (failed : Type 0) → Goes shape a b (KeptFirst task failed shape m)
   first_silent failed =
-      let run = kept_by shape m cs p p' walk in (
-        run.0,
-        weaken_went run.0 a b (KeptSilently shape p.on.frames m cs (rise a.read_faults b.read_faults))
-            (KeptFirst task failed shape m) (silent failed (rise a.read_faults b.read_faults)) run.1,
-        run.2,
-      )
+      let run = kept_by shape m cs p p' walk in
+      (run.0, weaken_went run.0 a b (KeptSilently shape p.on.frames m cs (rise a.read_faults b.read_faults))
+          (KeptFirst task failed shape m) (silent failed (rise a.read_faults b.read_faults)) run.1, run.2)
 
   ended : (end : WordEnd) → PairEnds task shape m a b c d end → PairTold task shape m other a b c d end
   ended end ends = record {
@@ -167,24 +164,28 @@ module _ (task : PairTask) (shape : Shape) (m other : Map) (cs ds : List Command
   module _ (w : AllServed shape m cs p p') (v : AllServed shape other ds q q') (text : List ℕ)
       (said : PairSaid (BothUnworn a c) task (seen shape a p.faults) (seen shape b p'.faults) (seen shape c q.faults) (seen shape d q'.faults) m text) where
     -- what the text says of the map that the first drive holds
-    abbrev Says : List ℕ → Map → Type 0
-    Says t left = ((left ≡ map_left_by shape task m) × (t ≡ text_by shape task m)) ⊎ (EitherUnread a b c d × (t ≡ failed_line))
+    abbrev Says : List Exchange → List ℕ → Map → Type 0
+    Says all t left = ((left ≡ map_left_by shape task m) × (t ≡ text_by shape task m)) ⊎ (EitherUnread a b c d × (t ≡ failed_line))
 
-    says : Says text w.asked.left
+    says : Says w.asked.answered.all text w.asked.left
     says = elim said [
       | inl (unworn, done) ↦ inl (some_same w.asked.left (map_left_by shape task m) (sym (ap result_ok w.asked.held) ∙ done.first_left), done.spelled)
       | inr unread ↦ inr unread
     ]
 
-    posting : (n : Option ℕ) (f : Flash) (posted : List ℕ) → KeptWord Says shape p.on.frames m cs n f posted → KeptFirst task (EitherUnread a b c d) shape m f posted
-    posting n f posted (k, inl none) = record { held = kept_first task shape p.on.frames m cs n [] f are k; said = inl none }
-    posting n f posted (k, inr s) = record {
-      held = kept_first task shape p.on.frames m cs n [] f are k;
+    posting : (from to : Meter) (f : Flash) (posted : List ℕ) → KeptWord Says shape p.on.frames m cs from to f posted → KeptFirst task (EitherUnread a b c d) shape m f posted
+    posting from to f posted (k, inl none) = record { held = kept_first task shape p.on.frames m cs (rise from.read_faults to.read_faults) [] f are k; said = inl none }
+    posting from to f posted (k, inr s) = record {
+      held = kept_first task shape p.on.frames m cs (rise from.read_faults to.read_faults) [] f are k;
       said = elim s.says [
         | inl (left, spelled) ↦ inr (inl (subst (λ (x : Map). Holds shape f x) left s.held, (s.unposted, s.front ∙ spelled)))
         | inr (failed, spelled) ↦ inr (inr (failed, (s.unposted, s.front ∙ spelled)))
       ];
     }
+
+    -- what every cut of the first board keeps
+    abbrev word : Flash → List ℕ → Type 0
+    word = KeptWord Says shape p.on.frames m cs (meter a) (meter b)
 
     -- what holds at the end
     finished_says : PairAnswered task shape m a (after_post b text) c d text ⊎ (EitherUnread a b c d × (text ≡ failed_line))
@@ -206,10 +207,9 @@ module _ (task : PairTask) (shape : Shape) (m other : Map) (cs ds : List Command
     posted : PairTold task shape m other a (after_post b text) c d Done
     posted =
         let run = asked-posts Says shape p.on.frames m cs a b w.asked text says in
-        let n = rise a.read_faults b.read_faults in
-        let goes = Goes-reaches shape a (after_post b text) (KeptWord Says shape p.on.frames m cs n) run in
+        let goes = Goes-reaches shape a (after_post b text) word run in
         record {
-          first_kept = (goes.0, weaken_went goes.0 a (after_post b text) (KeptWord Says shape p.on.frames m cs n) (KeptFirst task (EitherUnread a b c d) shape m) (posting n) goes.1, goes.2);
+          first_kept = (goes.0, weaken_went goes.0 a (after_post b text) word (KeptFirst task (EitherUnread a b c d) shape m) (posting (meter a) (meter b)) goes.1, goes.2);
           second_kept = second_kept shape other ds q q' too;
           ends = record {
             text = text;
@@ -231,13 +231,12 @@ module _ (task : PairTask) (shape : Shape) (m other : Map) (cs ds : List Command
     -- the output failed
     pub told-unposted : (last : BoardState) → PostFailed b last text → PairTold task shape m other a last c d Output
     told-unposted last failed =
-        let n = rise a.read_faults b.read_faults in
         let run = asked-post_failed Says shape p.on.frames m cs a b w.asked text says last failed in
         let same : last.read_faults ≡ b.read_faults = ap (λ (s : BoardState). s.read_faults) failed.rest in
         let same_stop : last.stop_faults ≡ b.stop_faults = ap (λ (s : BoardState). s.stop_faults) failed.rest in
         let F : ℕ → Type 0 = λ k. Goes shape a last (KeptFirst task (Rose a.read_faults k ⊎ Rose c.read_faults d.read_faults) shape m) in
         record {
-          first_kept = subst F (sym same) (run.0, weaken_went run.0 a last (KeptWord Says shape p.on.frames m cs n) (KeptFirst task (EitherUnread a b c d) shape m) (posting n) run.1, run.2);
+          first_kept = subst F (sym same) (run.0, weaken_went run.0 a last word (KeptFirst task (EitherUnread a b c d) shape m) (posting (meter a) (meter b)) run.1, run.2);
           second_kept = second_kept shape other ds q q' too;
           ends = subst (λ (k : ℕ). Rose k last.out_faults) (ap (λ (s : BoardState). s.out_faults) w.asked.rest) failed.faults;
           first_used =
@@ -289,7 +288,7 @@ module _ (task : PairTask) (shape : Shape) (m other : Map) (p p' q q' : Standing
   tells-posted by text said last is =
       let (none, nor) = both_none p'.halt q'.halt by in
       told-posted task shape m other walk.0 too.0 p p' q q' walk.1 few_roots one two (all_served shape m walk.0 p p' first none one)
-      (all_served shape other too.0 q q' second nor two) text (unworn none nor text said) last is
+          (all_served shape other too.0 q q' second nor two) text (unworn none nor text said) last is
 
   pub tells-unposted : end_by p'.halt q'.halt ≡ None → (text : List ℕ)
       → PairSaid (BothWalked shape p p' q q') task (seen shape p.on.board p.faults) (seen shape p'.on.board p'.faults) (seen shape q.on.board q.faults) (seen shape q'.on.board q'.faults) m text
@@ -297,7 +296,7 @@ module _ (task : PairTask) (shape : Shape) (m other : Map) (p p' q q' : Standing
   tells-unposted by text said last failed =
       let (none, nor) = both_none p'.halt q'.halt by in
       told-unposted task shape m other walk.0 too.0 p p' q q' walk.1 few_roots one two (all_served shape m walk.0 p p' first none one)
-      (all_served shape other too.0 q q' second nor two) text (unworn none nor text said) last failed
+          (all_served shape other too.0 q q' second nor two) text (unworn none nor text said) last failed
 
   pub faults-never : end_by p'.halt q'.halt ≡ None → p.faults ≡ 0 → q.faults ≡ 0
       → PairFault (seen shape p.on.board p.faults) (seen shape p'.on.board p'.faults) (seen shape q.on.board q.faults) (seen shape q'.on.board q'.faults) → ⊥

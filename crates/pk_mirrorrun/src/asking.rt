@@ -3,7 +3,8 @@ ghost use Rattle.std.specs.Prelude.{◌≡◌, true, OnOk, OnErr};
 ghost use Rattle.pk_base.specs.Map.{Map};
 ghost use Rattle.pk_model.specs.Reading.{Holds};
 ghost use Rattle.pk_mirror.specs.Pair.{Mirrored};
-ghost use Rattle.pk_port.specs.Ready.{Fits, HasRoom};
+ghost use Rattle.pk_call.specs.Running.{HasRoomForData};
+ghost use Rattle.pk_port.specs.Ready.{Fits};
 ghost use Rattle.pk_port.specs.Steps.{standing, seen as seen_on};
 ghost use Rattle.pk_words.specs.Said.{Spoken};
 ghost use Rattle.pk_mirrorwords.specs.PairTasks.{seen, IsShort};
@@ -38,8 +39,8 @@ pub fn ask<D: Engine, B: Nand, E: Engine, C: Nand>(
         (D.sight first_drive.old) ∥₁ }
     requires second_fits { ∥ Fits (E.agrees second_drive.old) shape (C.state second.old)
         (E.sight second_drive.old) ∥₁ }
-    requires first_room { HasRoom shape first_buffer.old }
-    requires second_room { HasRoom shape second_buffer.old }
+    requires first_room { HasRoomForData shape first_buffer.old }
+    requires second_room { HasRoomForData shape second_buffer.old }
 
     // The maps, the words and the memory.
     requires first_map { (m : Map) × Holds shape (B.state first.old).pages m }

@@ -3,7 +3,8 @@ ghost use Rattle.std.specs.Prelude.{◌≡◌, true};
 ghost use Rattle.pk_base.specs.Map.{Map};
 ghost use Rattle.pk_model.specs.Reading.{Holds};
 ghost use Rattle.pk_mirror.specs.Pair.{Mirrored};
-ghost use Rattle.pk_port.specs.Ready.{Fits, HasRoom};
+ghost use Rattle.pk_call.specs.Running.{HasRoomForData};
+ghost use Rattle.pk_port.specs.Ready.{Fits};
 ghost use Rattle.pk_words.specs.Said.{Spoken};
 ghost use Rattle.pk_mirrorwords.specs.PairTasks.{seen, IsShort};
 ghost use Rattle.pk_mirrorrun.specs.PairTold.{PairTold, IsServing, end_by};
@@ -49,8 +50,8 @@ pub fn tell<D: Engine, B: Board, E: Engine, C: Board>(
         (D.sight first_drive.old) ∥₁ }
     requires second_fits { ∥ Fits (E.agrees second_drive.old) shape (C.state second.old)
         (E.sight second_drive.old) ∥₁ }
-    requires first_room { HasRoom shape first_buffer.old }
-    requires second_room { HasRoom shape second_buffer.old }
+    requires first_room { HasRoomForData shape first_buffer.old }
+    requires second_room { HasRoomForData shape second_buffer.old }
 
     // The maps, the words and the memory.
     requires first_runs { IsServing shape (B.state first.old) (D.sight first_drive.old) }

@@ -15,12 +15,12 @@ use Rattle.pk_model.specs.Kept.{AtMost, rise}
 use Rattle.pk_model.specs.Reading.{Holds}
 use Rattle.pk_model.specs.Run.{Exchange, commands, faults, records}
 use Rattle.pk_model.proofs.Growing.{weaken, weaken_went, at_end, Reaches-then, Goes-then, Goes-post_failed, GrowsAlong-post}
-use Rattle.pk_call.specs.Meter.{meter, Metered}
+use Rattle.pk_call.specs.Meter.{Meter, meter, Metered}
 use Rattle.pk_serve.specs.Port.{StepCut}
 use Rattle.pk_serve.specs.Serving.{StepWithin}
 use Rattle.pk_serve.proofs.Answering.{reply_other, answers}
 use Rattle.pk_serve.proofs.Counting.{at_most-zero, at_most-more, at_most-one, commands-push, faults-push, faults-one}
-use Rattle.pk_port.specs.Asking.{KeptSilently, KeptWord, Asked}
+use Rattle.pk_port.specs.Asking.{KeptSilently, KeptWord, Asked, Ran}
 use Rattle.pk_port.specs.Steps.{Mounted, Serves, Stops}
 use Rattle.pk_base.proofs.Logic.{ok_same}
 use Rattle.pk_nand.proofs.Effects.{only_then}
@@ -47,8 +47,7 @@ silent-more shape frames start cs more n later up f q (none, k) = (
 pub asked-none : (shape : Shape) (frames : ℕ) (start : Map) (a : BoardState) → a.shape ≡ Some shape → Holds shape a.pages start → Asked shape frames start a a []
 asked-none shape frames start a has holds = record {
   left = start;
-  answered = record { all = []; are = refl; ran = refl; few = at_most-zero (rise a.read_faults a.read_faults) };
-  metered = refl;
+  answered = record { all = []; are = refl; ran = refl; few = at_most-zero (rise a.read_faults a.read_faults); metered = refl };
   held = holds;
   shape_is = has;
   reached = (
@@ -74,22 +73,34 @@ asked-none shape frames start a has holds = record {
   rest = refl;
 }
 
-pub asked-none-all : (shape : Shape) (frames : ℕ) (start : Map) (a : BoardState) (has : a.shape ≡ Some shape) (holds : Holds shape a.pages start)
-    → (asked-none shape frames start a has holds).answered.all ≡ []
-unfolding asked-none
-asked-none-all shape frames start a has holds = refl
+-- the bound on faults for a list with one more
+pub few_more : (n : Option ℕ) (xs : List Exchange) (x : Exchange) (k : ℕ) → faults (x ∷ []) ≡ k → AtMost n (faults xs + k) → AtMost n (faults (xs ++ x ∷ []))
+few_more n xs x k e h = let T : ℕ → Type 0 = λ f. AtMost n f in subst T (sym (faults-push xs x ∙ ap (λ f. faults xs + f) e)) h
+
+pub few_same : (n : Option ℕ) (xs : List Exchange) → AtMost n (faults xs) → AtMost n (faults xs + 0)
+few_same n xs h = let T : ℕ → Type 0 = λ k. AtMost n k in let e : faults xs ≡ faults xs + 0 = omega arith in subst T e h
+
+module _ (shape : Shape) (frames : ℕ) (start : Map) (cs : List Command) (from mid : Meter) (m : Map) (r : Ran shape frames start cs from mid m) where
+  pushed : (x : Exchange) (c : Command) → x.command ≡ c → commands (r.all ++ x ∷ []) ≡ cs ++ c ∷ []
+  pushed x c is = commands-push r.all x ∙ (ap (λ l. l ++ x.command ∷ []) r.are ∙ ap (λ k. cs ++ k ∷ []) is)
+
+  -- one more command was answered
+  pub ran-next : (to : Meter) (c : Command) (x : Exchange) (left : Map) → from.read_faults ≤ mid.read_faults → mid.read_faults ≤ to.read_faults → x.command ≡ c
+      → StepWithin shape frames m x left → Metered mid x to → Ran shape frames start (cs ++ c ∷ []) from to left
+  ran-next to c x left rose up is step metered =
+      let n = rise from.read_faults to.read_faults in
+      record {
+        all = r.all ++ x ∷ [];
+        are = pushed x c is;
+        ran = FoldsTo-push (StepWithin shape frames) start r.all m x left r.ran step;
+        few = elim (faults-one x) [
+          | inl good ↦ few_more n r.all x 0 good.1 (few_same n r.all (at_most-more from.read_faults mid.read_faults to.read_faults (faults r.all) up r.few))
+          | inr bad ↦ few_more n r.all x 1 bad.1 (at_most-one from.read_faults mid.read_faults to.read_faults (faults r.all) rose (metered.failed bad.0) r.few)
+        ];
+        metered = FoldsTo-push Metered from r.all mid x to r.metered metered;
+      }
 
 module _ (shape : Shape) (frames : ℕ) (start : Map) (a b : BoardState) (cs : List Command) (w : Asked shape frames start a b cs) where
-  -- the bound on faults after one more command
-  few_more : (n : Option ℕ) (x : Exchange) (k : ℕ) → faults (x ∷ []) ≡ k → AtMost n (faults w.answered.all + k) → AtMost n (faults (w.answered.all ++ x ∷ []))
-  few_more n x k e h = let T : ℕ → Type 0 = λ f. AtMost n f in subst T (sym (faults-push w.answered.all x ∙ ap (λ f. faults w.answered.all + f) e)) h
-
-  few_same : (n : Option ℕ) → AtMost n (faults w.answered.all) → AtMost n (faults w.answered.all + 0)
-  few_same n h = let T : ℕ → Type 0 = λ k. AtMost n k in let e : faults w.answered.all ≡ faults w.answered.all + 0 = omega arith in subst T e h
-
-  pushed : (x : Exchange) (c : Command) → x.command ≡ c → commands (w.answered.all ++ x ∷ []) ≡ cs ++ c ∷ []
-  pushed x c is = commands-push w.answered.all x ∙ (ap (λ l. l ++ x.command ∷ []) w.answered.are ∙ ap (λ k. cs ++ k ∷ []) is)
-
   module _ (c : Command) (later : ℕ) (up : b.read_faults ≤ later) where
     abbrev now : Option ℕ
     now = rise a.read_faults later
@@ -119,14 +130,14 @@ module _ (shape : Shape) (frames : ℕ) (start : Map) (a b : BoardState) (cs : L
             | inr behind ↦ record {
               served = w.answered.all ++ x ∷ [];
               unserved = [];
-              from_front = append-nil (commands (w.answered.all ++ x ∷ [])) ∙ pushed x c refl;
+              from_front = append-nil (commands (w.answered.all ++ x ∷ [])) ∙ pushed shape frames start cs (meter a) (meter b) w.left w.answered x c refl;
               map_left = map_after shape (limit shape) w.left c;
               ran = FoldsTo-push (StepWithin shape frames) start w.answered.all w.left x
                   (map_after shape (limit shape) w.left c) w.answered.ran (inl (answers shape (limit shape) frames w.left c), λ _. omega arith);
               held = behind;
               unposted = records 0 (w.answered.all ++ x ∷ []);
               begins = refl;
-              few_faults = few_more now x 0 other (few_same now few_now);
+              few_faults = few_more now w.answered.all x 0 other (few_same now w.answered.all few_now);
             }
           ],
         )
@@ -158,18 +169,7 @@ module _ (shape : Shape) (start : Map) (a : BoardState) (cs : List Command) (old
       let W : Map → Type 0 = λ m. StepWithin shape old.frames m x s.left in
       record {
         left = s.left;
-        answered = record {
-          all = w.answered.all ++ x ∷ [];
-          are = pushed shape old.frames start a old.board cs w x c s.is;
-          ran = FoldsTo-push (StepWithin shape old.frames) start w.answered.all w.left x s.left w.answered.ran (subst W same s.step);
-          few = elim (faults-one x) [
-            | inl good ↦ few_more shape old.frames start a old.board cs w n x 0 good.1
-                (few_same shape old.frames start a old.board cs w n (at_most-more a.read_faults old.board.read_faults new.board.read_faults (faults w.answered.all) s.up w.answered.few))
-            | inr bad ↦ few_more shape old.frames start a old.board cs w n x 1 bad.1
-                (at_most-one a.read_faults old.board.read_faults new.board.read_faults (faults w.answered.all) w.rose (s.metered.failed bad.0) w.answered.few)
-          ];
-        };
-        metered = FoldsTo-push Metered (meter a) w.answered.all (meter old.board) x (meter new.board) w.metered s.metered;
+        answered = ran-next shape old.frames start cs (meter a) (meter old.board) w.left w.answered (meter new.board) c x s.left w.rose s.up s.is (subst W same s.step) s.metered;
         held = s.holds;
         shape_is = w.shape_is;
         reached = Reaches-then shape more.0 a old.board (KeptSilently shape old.frames start (cs ++ c ∷ []) n) w.shape_is more.1 more.2 new.board
@@ -178,10 +178,6 @@ module _ (shape : Shape) (start : Map) (a : BoardState) (cs : List Command) (old
         no_stop = s.no_stop ∙ w.no_stop;
         rest = only_then a old.board new.board w.rest s.rest;
       }
-
-  pub asked-next-all : (x : Exchange) (s : Serves shape old new c x) → (asked-next x s).answered.all ≡ w.answered.all ++ x ∷ []
-  unfolding asked-next
-  asked-next-all x s = refl
 
   -- one more command stopped the drive
   pub asked-stops : Stops shape old new c → Goes shape a new.board (KeptSilently shape old.frames start (cs ++ c ∷ []) (rise a.read_faults new.board.read_faults))
@@ -192,26 +188,31 @@ module _ (shape : Shape) (start : Map) (a : BoardState) (cs : List Command) (old
 
 -- ---- what is said after the commands
 
-module _ (Says : List ℕ → Map → Type 0) (shape : Shape) (frames : ℕ) (start : Map) (cs : List Command) where
+module _ (Says : List Exchange → List ℕ → Map → Type 0) (shape : Shape) (frames : ℕ) (start : Map) (cs : List Command) where
   -- no byte was posted
-  silent_word : (n : Option ℕ) (f : Flash) (q : List ℕ) → KeptSilently shape frames start cs n f q → KeptWord Says shape frames start cs n f q
-  silent_word n f q (none, k) = (k, inl none)
+  silent_word : (from to : Meter) (f : Flash) (q : List ℕ) → KeptSilently shape frames start cs (rise from.read_faults to.read_faults) f q → KeptWord Says shape frames start cs from to f q
+  silent_word from to f q (none, k) = (k, inl none)
 
-  pub went-silent : (n : Option ℕ) (a b : BoardState) → Goes shape a b (KeptSilently shape frames start cs n) → Goes shape a b (KeptWord Says shape frames start cs n)
-  went-silent n a b went = (went.0, weaken_went went.0 a b (KeptSilently shape frames start cs n) (KeptWord Says shape frames start cs n) (silent_word n) went.1, went.2)
+  pub went-silent : (from to : Meter) (a b : BoardState) → Goes shape a b (KeptSilently shape frames start cs (rise from.read_faults to.read_faults))
+      → Goes shape a b (KeptWord Says shape frames start cs from to)
+  went-silent from to a b went = (
+    went.0,
+    weaken_went went.0 a b (KeptSilently shape frames start cs (rise from.read_faults to.read_faults)) (KeptWord Says shape frames start cs from to) (silent_word from to) went.1,
+    went.2,
+  )
 
   module _ (a b : BoardState) (w : Asked shape frames start a b cs) where
     abbrev said_at : Flash → List ℕ → Type 0
-    said_at = KeptWord Says shape frames start cs (rise a.read_faults b.read_faults)
+    said_at = KeptWord Says shape frames start cs (meter a) (meter b)
 
     abbrev asked_before : Reaches shape a b said_at
     asked_before = (
       w.reached.0,
-      weaken w.reached.0 a b (KeptSilently shape frames start cs (rise a.read_faults b.read_faults)) said_at (silent_word (rise a.read_faults b.read_faults)) w.reached.1,
+      weaken w.reached.0 a b (KeptSilently shape frames start cs (rise a.read_faults b.read_faults)) said_at (silent_word (meter a) (meter b)) w.reached.1,
       w.reached.2,
     )
 
-    module _ (text : List ℕ) (says : Says text w.left) where
+    module _ (text : List ℕ) (says : Says w.answered.all text w.left) where
       -- a prefix of the text was posted
       fronts : (out rest : List ℕ) → out ++ rest ≡ text → said_at b.pages (all_posted w.reached.0 ++ out)
       fronts out rest e =

@@ -1,9 +1,8 @@
 -- What a port keeps to between two commands.
-use Rattle.std.specs.Prelude.{◌≡◌, ◌≤◌, ℕ, List, [], length, false, Option, Some}
-use Rattle.pk_base.specs.Shape.{Shape, greatest}
+use Rattle.std.specs.Prelude.{◌≡◌, [], false, Option, Some}
+use Rattle.pk_base.specs.Shape.{Shape}
 use Rattle.pk_base.specs.Page.{Flash}
 use Rattle.pk_base.specs.Map.{Map}
-use Rattle.pk_nvme.specs.declared.limits.TheConstants.{MOST_LIST_BYTES}
 use Rattle.pk_nand.specs.BoardState.{BoardState}
 use Rattle.pk_model.specs.Sight.{Sight}
 use Rattle.pk_call.specs.Drive.{HoldsMap}
@@ -21,8 +20,3 @@ pub record Ready (agrees : Option Shape → Flash → Type 0) (shape : Shape) (b
 pub record Fits (agrees : Option Shape → Flash → Type 0) (shape : Shape) (board : BoardState) (drive : Sight) : Type 0 where
   pub shape_is : board.shape ≡ Some shape
   pub ready : drive.stopped ≡ false → Ready agrees shape board drive
-
--- A buffer has room for the data of any command: those of a List, and a whole value.
-pub record HasRoom (shape : Shape) (buffer : List ℕ) : Type 0 where
-  pub for_list : MOST_LIST_BYTES ≤ length buffer
-  pub for_value : greatest shape ≤ length buffer

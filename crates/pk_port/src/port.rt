@@ -1,6 +1,7 @@
 //! The port: a drive, its board and a buffer, lent together.
 ghost use Rattle.std.specs.Prelude.{◌≡◌};
-ghost use Rattle.pk_port.specs.Ready.{Fits, HasRoom};
+ghost use Rattle.pk_call.specs.Running.{HasRoomForData};
+ghost use Rattle.pk_port.specs.Ready.{Fits};
 
 use crate::Tally;
 use pk_base::Shape;
@@ -21,6 +22,6 @@ pub struct DrivePort<'d, 'b, 't, 'm, D: Engine, B: Nand> {
     pub buffer: &'m mut [u8],
     /// The shape of the board.
     pub shape: Shape,
-    ghost room: { HasRoom shape buffer.now },
+    ghost room: { HasRoomForData shape buffer.now },
     ghost fits: { ∥ Fits (D.agrees drive.now) shape (B.state board.now) (D.sight drive.now) ∥₁ },
 }

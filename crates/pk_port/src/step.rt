@@ -1,15 +1,14 @@
 //! One command on a drive with its board.
-ghost use Rattle.std.specs.Prelude.{◌≡◌, ◌≢◌, ◌≤◌, ◌<◌, ℕ, [], length, IfOk};
-ghost use Rattle.pk_base.specs.Shape.{greatest};
+ghost use Rattle.std.specs.Prelude.{◌≤◌, ℕ, length, IfOk};
 ghost use Rattle.pk_nvme.specs.Seen.{command_of};
 ghost use Rattle.pk_nvme.specs.Command.{IsWhole};
-ghost use Rattle.pk_nvme.specs.declared.opcode.TheConstants.{STORE};
 ghost use Rattle.pk_call.specs.Exec.{IsValue};
 ghost use Rattle.pk_call.specs.Seen.{reply_of};
 ghost use Rattle.pk_host.specs.Good.{IsHanded};
 ghost use Rattle.pk_host.specs.Port.{Replies, room_of};
 ghost use Rattle.pk_port.specs.Steps.{mount, seen, Makes};
-ghost use Rattle.pk_port.specs.Ready.{Fits, HasRoom};
+ghost use Rattle.pk_call.specs.Running.{PassesValue, HasRoomForData};
+ghost use Rattle.pk_port.specs.Ready.{Fits};
 
 use crate::Halt;
 use pk_base::Shape;
@@ -25,10 +24,7 @@ use pk_serve::submit;
 fn handed<'v>(shape: &Shape, request: &Request, value: &'v [u8]) -> &'v [u8]
     requires { IsWhole (command_of request.now value.now) }
     ensures value { IsValue shape.now request.now.opcode request.now.size result.now value.now }
-    ensures sized { request.now.opcode ≡ STORE → request.now.size ≤ greatest shape.now
-        → length result.now ≡ request.now.size }
-    ensures empty { request.now.opcode ≢ STORE → result.now ≡ [] }
-    ensures too_large { greatest shape.now < request.now.size → result.now ≡ [] }
+    ensures passes { PassesValue shape.now request.now.opcode request.now.size result.now }
 {
     if request.opcode == STORE && request.size > shape.greatest() {
         return &[];
@@ -48,7 +44,7 @@ pub fn serve<D: Engine, B: Nand>(
     // The drive on its board, what is passed, and the buffer for data.
     requires fits { Fits (D.agrees drive.old) shape.now (B.state board.old) (D.sight drive.old) }
     requires handed { IsHanded (command_of request.now value.now) }
-    requires room { HasRoom shape.now into.old }
+    requires room { HasRoomForData shape.now into.old }
 
     // The drive on its board, and what it made of the command.
     ensures fits { Fits (D.agrees drive.new) shape.now (B.state board.new) (D.sight drive.new) }
@@ -92,7 +88,7 @@ pub fn serve_lent<D: Engine, B: Nand>(
     requires fits { ∥ Fits (D.agrees drive.old) shape.now (B.state board.old)
         (D.sight drive.old) ∥₁ }
     requires handed { IsHanded (command_of request.now value.now) }
-    requires room { HasRoom shape.now into.old }
+    requires room { HasRoomForData shape.now into.old }
 
     // The drive on its board, and what it made of the command.
     ensures fits { Fits (D.agrees drive.new) shape.now (B.state board.new) (D.sight drive.new) }

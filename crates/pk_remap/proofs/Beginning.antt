@@ -52,7 +52,7 @@ module _ (r : Relocation) (old : BoardState) (can : CanRelocate r old) where
       by (post bytes) within = absurd within
 
   module _ (cut : Flash) (i : Interrupted inner (mark_below shape r.table r.mark) old.pages cut []) where
-    table_kept : (k : ℕ) → IsTablePage shape r.spares k → page_at cut k ≡ page_at old.pages k
+    pub table_kept : (k : ℕ) → IsTablePage shape r.spares k → page_at cut k ≡ page_at old.pages k
     table_kept k there =
         let own = block_below in
         let used = used_spares in

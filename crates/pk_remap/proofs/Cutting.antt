@@ -19,12 +19,12 @@ use Rattle.pk_remap.specs.Table.{table_bytes, table_page, is_table, is_served}
 use Rattle.pk_remap.specs.Places.{inner_shape, place, placed_page, through_by}
 use Rattle.pk_remap.specs.Newest.{first_table_page, IsTablePage, IsNewest, IsNewestBeside}
 use Rattle.pk_remap.specs.Through.{MayShow, IsMarkWithin}
-use Rattle.pk_remap.specs.Relocating.{Relocation, block_of, block, spare_block, spare_page, next_table, IsSpareFull, IsRelocating, IsTop, IsTablePair}
+use Rattle.pk_remap.specs.Relocating.{Relocation, block_of, block, spare_block, spare_page, next_table, IsSpareFull, IsRelocating, IsTop, SameTables, IsTablePair}
 use Rattle.pk_remap.proofs.TableLemmas.{table_parts, parts_table, page_again}
 use Rattle.pk_remap.proofs.Placing.{block_of as page_block, length-through, page-through, past-through, more_here, more_other}
 use Rattle.pk_remap.proofs.Finding.{beside-kept, pair-newest}
 use Rattle.pk_remap.proofs.Lifting.{times_le}
-use Rattle.pk_remap.proofs.Standing.{may_show, apart_through, spare-newest, spare-through, turn-newest, turn-through, table_block, NoneOr, pair-none_or}
+use Rattle.pk_remap.proofs.Standing.{may_show, apart_through, table_page_kept, spare-newest, spare-through, turn-newest, turn-through, table_block, NoneOr, pair-none_or}
 use Rattle.pk_remap.proofs.Standing.{pair-others}
 
 -- a page after the last is Torn
@@ -97,6 +97,9 @@ module _ (r : Relocation) (before flash : Flash) (serving : IsRelocating r befor
       (i : Interrupted (inner_shape shape r.spares) mark flash cut out) where
     pub spare_top : IsTop r flash → IsTop r cut
     spare_top top = spare-newest shape r.spares some r.table r.top mark (spare_block r) flash cut out spare_after_used spare_before_tables in_spare i top
+
+    pub spare_tables : SameTables r flash cut
+    spare_tables = table_page_kept shape r.spares some r.table r.top mark (spare_block r) flash cut out spare_after_used spare_before_tables in_spare i
 
     pub spare_above : Interrupted shape r.mark before (through_by shape r.table (page_at cut)) []
     spare_above =

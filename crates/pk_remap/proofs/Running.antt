@@ -1,10 +1,13 @@
 -- The steps of a relocation in memory.
 use Rattle.std.proofs.Common.{◌≡◌, ◌≢◌, ℕ, suc, ◌+◌, ◌-◌, ◌*◌, ◌/◌, ◌%◌, ◌<◌, ◌≤◌, Bool, true, false, List, [], length, take, refl, sym, ap, subst, ◌∙◌, arith}
-use Rattle.std.proofs.Common.{Some}
-use Rattle.std.specs.Prelude.{nat_lt, ◌==◌, ◌&&◌, if◌then◌else◌, Result, Ok, Err, IfOk, OnErr, Vec}
+use Rattle.std.proofs.Common.{Some, None, inl, inr}
+use Rattle.std.specs.Prelude.{nat_lt, nat_eq, slice_set, ◌==◌, ◌&&◌, if◌then◌else◌, Option, Result, Ok, Err, IfOk, OnErr, Vec}
 use Rattle.std.specs.declared.alloc.Global.{Global}
 use Rattle.std.proofs.lemmas.Bool.Decides.{nat_tests}
 use Rattle.std.proofs.lemmas.Nat.{div-add-mod'}
+use Rattle.std.proofs.lemmas.List.{length-take-le}
+use Rattle.pk_base.specs.declared.sizes.TheConstants.{MOST_PAGE_BYTES}
+use Rattle.pk_remap.specs.declared.layout.TheConstants.{MOST_SPARES}
 use Rattle.pk_base.specs.Shape.{Shape, page_count}
 use Rattle.pk_base.specs.Page.{Page, Flash, page_at, erased, whole, torn as torn_page, IsPage}
 use Rattle.pk_base.specs.Mark.{Mark, program, erase, post, after}
@@ -14,26 +17,29 @@ use Rattle.pk_nand.specs.Operations.{InOrder, filled, after_read, after_erase, R
 use Rattle.pk_nand.specs.Crash.{Reached, Went}
 use Rattle.pk_nand.specs.declared.types.NandFault.{NandFault}
 use Rattle.pk_nand.proofs.Reaching.{Reached-start, Went-reached}
-use Rattle.pk_nand.proofs.Leaving.{page_at-slice_set, page_at-slice_set_same}
+use Rattle.pk_nand.proofs.Leaving.{page_at-slice_set_same}
 use Rattle.pk_remap.specs.declared.phase.Phase.{Phase}
 use Rattle.pk_remap.specs.declared.phase.Phase.TheVariants.{EraseSpare, Read, Write, EraseTable, First, Second}
 use Rattle.pk_remap.specs.declared.relocation.Call.{Call}
 use Rattle.pk_remap.specs.declared.relocation.Call.TheVariants.{Program, Erase}
 use Rattle.pk_remap.specs.declared.relocation.Relocation.{Relocation as InMemory}
-use Rattle.pk_remap.specs.Table.{table_bytes}
+use Rattle.pk_remap.specs.Table.{SpareTable, table_bytes, is_table}
 use Rattle.pk_remap.specs.Places.{inner_shape, place, placed_page}
-use Rattle.pk_remap.specs.Newest.{IsTablePage}
+use Rattle.pk_remap.specs.Newest.{IsTablePage, IsNewest}
 use Rattle.pk_remap.specs.Through.{MayShow, IsMarkWithin}
-use Rattle.pk_nand.proofs.Writing.{shape_is}
+use Rattle.pk_nand.proofs.Writing.{shape_is, mod-next}
 use Rattle.pk_remap.proofs.Placing.{div-of, mod-of, place-below}
 use Rattle.pk_remap.proofs.Lifting.{placed_page-inside}
 use Rattle.pk_nand.specs.Seen.{answer}
 use Rattle.pk_nand.specs.declared.types.PageRead.TheVariants.{Whole, Erased as ReadErased, Torn as ReadTorn}
-use Rattle.pk_remap.specs.Relocating.{Relocation, block, copies_of, fill_of, spare_block, spare_page, next_table, IsSpareFilled, IsRelocating, IsTop}
+use Rattle.pk_remap.specs.Relocating.{Relocation, block, copies_of, fill_of, spare_block, spare_page, next_table, IsSpareFilled, IsSpareFull, IsRelocating, IsTop, SameTables, IsNextPair}
 use Rattle.pk_remap.specs.Stepping.{WentSafely, RelocationGoesOn, IsSource, IsOtherTable, SpareFailed}
-use Rattle.pk_remap.specs.Running.{mark_of, is_program, relocation_of, copies, is_kept, bytes_for, phase_after, phase_rank, relocation_steps_left, IsTableFresh}
-use Rattle.pk_remap.specs.Running.{IsTableHalf, AtPhase, RelocationRuns, IsRelocated, RelocationStops, StepOutcome, reading, in_table, no_spare, torn}
-use Rattle.pk_remap.proofs.Cutting.{none_cut, block_inside}
+use Rattle.pk_remap.specs.Running.{mark_of, is_program, relocation_of, copies, is_kept, bytes_for, next_after, with_table, table_phase, phase_after, phase_rank, relocation_steps_left}
+use Rattle.pk_remap.specs.Running.{IsTableHalf, AtPhase, HasRoomFor, HasRoom, HasTurn, RelocationRuns, IsAtRest, IsRelocated, SameCall, NoReadFailed, RelocationStops, StepOutcome, reading, in_table}
+use Rattle.pk_remap.specs.Running.{no_spare, torn}
+use Rattle.pk_remap.proofs.TableLemmas.{table_parts}
+use Rattle.pk_remap.proofs.Cutting.{none_cut, block_inside, next_grammar}
+use Rattle.pk_remap.proofs.Turning.{block_of_table, next_kept, next_pair, erased_pair, second_order, following_pair}
 use Rattle.pk_remap.proofs.Stepping.{copies_written, copies_less, low_inside, writes_in_order, erases_spare, fails_to_erase_spare, reads_source, writes_page}
 use Rattle.pk_remap.proofs.Stepping.{fails_to_write, fills, erases_table, fails_to_erase_table, writes_first, fails_to_write_first, writes_second}
 use Rattle.pk_remap.proofs.Stepping.{fails_to_write_second}
@@ -67,6 +73,7 @@ if_false true x y e = cc
 -- ---- what is next in the spare
 
 module _ (r : InMemory) (before flash : Flash) (serving : IsRelocating (relocation_of r) before flash) (top : IsTop (relocation_of r) flash)
+    (turn : HasTurn r flash)
     (partner : (k : ℕ) → is_kept r k ≡ true → IsSource (relocation_of r) before k (take r.shape.page_bytes r.partner.items)) where
   source_new : (k : ℕ) → is_program r.call ≡ true → k ≡ copies r → IsSource (relocation_of r) before k (bytes_for r k)
   source_new k is same =
@@ -116,7 +123,7 @@ module _ (r : InMemory) (before flash : Flash) (serving : IsRelocating (relocati
       full_of (Erase b) t e = cc
 
       by : (s t u : Bool) → nat_lt k (copies r) ≡ s → is_kept r k ≡ t → (is_program r.call && (k == copies r)) ≡ u
-          → AtPhase r before flash (if s then (if t then Write k else Read k) else if u then Write k else EraseTable)
+          → AtPhase r before flash (if s then (if t then Write k else Read k) else if u then Write k else table_phase r.next)
       by true true u p q e =
           let less : k < copies r = grind (arith, nat_tests) in
           let apart : (k == copies r) ≡ false = grind (arith, nat_tests) in (
@@ -137,23 +144,32 @@ module _ (r : InMemory) (before flash : Flash) (serving : IsRelocating (relocati
       by false t false p q e =
           let past : copies r ≤ k = grind (arith, nat_tests) in
           let same = fill_most r.call e most past in
-          (top, fills (relocation_of r) before flash serving (subst (IsSpareFilled (relocation_of r) before flash) same filled))
+          table_next r.next turn (fills (relocation_of r) before flash serving (subst (IsSpareFilled (relocation_of r) before flash) same filled))
+        where
+          table_next : (next : Option ℕ) → ((pair : ℕ) → next ≡ Some pair → IsNextPair r.shape r.spares r.top flash pair)
+              → IsSpareFull (relocation_of r) before flash → AtPhase r before flash (table_phase next)
+          table_next None turn full = (top, full)
+          table_next (Some pair) turn full = (top, turn pair refl, full)
 
 -- ---- how many steps remain
 
-rank_cases : (s t u : Bool) (k : ℕ) → k ≤ 256
-    → phase_rank (if s then (if t then Write k else Read k) else if u then Write k else EraseTable) ≤ 2 * (257 - k) + 3
-rank_cases true true u k few = omega arith
-rank_cases true false u k few = omega arith
-rank_cases false t true k few = omega arith
-rank_cases false t false k few = omega arith
+rank_table : (next : Option ℕ) → phase_rank (table_phase next) ≤ 3
+rank_table None = omega arith
+rank_table (Some pair) = omega arith
+
+rank_cases : (s t u : Bool) (k : ℕ) (next : Option ℕ) → k ≤ 256
+    → phase_rank (if s then (if t then Write k else Read k) else if u then Write k else table_phase next) ≤ 2 * (257 - k) + 3
+rank_cases true true u k next few = omega arith
+rank_cases true false u k next few = omega arith
+rank_cases false t true k next few = omega arith
+rank_cases false t false k next few = let most = rank_table next in omega (arith, most)
 
 rank_after : (r : InMemory) (k : ℕ) → k ≤ 256 → phase_rank (phase_after r k) ≤ 2 * (257 - k) + 3
-rank_after r k few = rank_cases (nat_lt k (copies r)) (is_kept r k) (is_program r.call && (k == copies r)) k few
+rank_after r k few = rank_cases (nat_lt k (copies r)) (is_kept r k) (is_program r.call && (k == copies r)) k r.next few
 
 -- ---- steps
 
-went : (old new : BoardState) (P : Flash → List ℕ → Type 0) → Reached old new P → Went old new P
+pub went : (old new : BoardState) (P : Flash → List ℕ → Type 0) → Reached old new P → Went old new P
 went old new P reached = (reached.0, Went-reached reached.0 old new P reached.1)
 
 -- no mark was made
@@ -165,23 +181,68 @@ rests r before old new on top shape pages trail posted = (
       (Reached-start old new (λ flash _. MayShow r.shape r.spares before r.mark flash) shape pages trail posted (none_cut r before old.pages on.serving top)),
 )
 
-module _ (r : InMemory) (before : Flash) (old : BoardState) (runs : RelocationRuns r before old) where
-  -- the step stops, and this is why
-  abbrev pub Stopped : BoardState → Type 0
-  Stopped new = WentSafely (relocation_of r) before old new × RelocationStops r old new
+none_pair : {X : Type 0} (pair : ℕ) → None ≡ Some pair → X
+none_pair pair e = absurd (apart e)
+  where
+    apart : None ≡ Some pair → ⊥
+    apart e = cc
 
-  -- with another phase
-  again : (phase : Phase) (new : BoardState) → RelocationGoesOn (relocation_of r) before new
+module _ (r : InMemory) (before : Flash) (old : BoardState) (runs : RelocationRuns r before old) where
+  abbrev n : ℕ
+  n = r.shape.block_pages
+
+  n_some : 0 < n
+  n_some = let least = runs.goes_on.serving.shape_is.block_least in omega (arith, least)
+
+  -- the step stops, and this is why
+  abbrev pub Stopped : InMemory → BoardState → Type 0
+  Stopped r' new = WentSafely (relocation_of r) before old new × RelocationStops r old r' new × SameCall r r'
+
+  with_copy : (copy : Vec ℕ Global) → MOST_PAGE_BYTES ≤ length copy.items → HasRoom (record r { copy = copy })
+  with_copy copy room = record { fits = runs.room.fits; all = runs.room.all; kept_page = runs.room.kept_page; new_page = runs.room.new_page; read_page = room }
+
+  -- the same call, whatever the step did to the phase, the copy and the next pair
+  same_call : (copy : Vec ℕ Global) → MOST_PAGE_BYTES ≤ length copy.items → (phase : Phase) (next : Option ℕ)
+      → SameCall r (record r { copy = copy; phase = phase; next = next })
+  same_call copy room phase next = record {
+    shape = refl;
+    spares = refl;
+    call = refl;
+    bytes = refl;
+    taken = omega arith;
+    most = let left = runs.goes_on.serving.left in omega (arith, left);
+    room = with_copy copy room;
+  }
+
+  pub same_phase : (phase : Phase) (next : Option ℕ) → SameCall r (record r { phase = phase; next = next })
+  same_phase phase next = same_call r.copy runs.room.read_page phase next
+
+  same_next : SameCall r (record r { taken = r.taken + 1; phase = EraseSpare })
+  same_next = record {
+    shape = refl;
+    spares = refl;
+    call = refl;
+    bytes = refl;
+    taken = omega arith;
+    most = let left = runs.goes_on.serving.left in omega (arith, left);
+    room = runs.room;
+  }
+
+  none_failed : (new : BoardState) → new.read_faults ≡ old.read_faults → new.stop_faults ≡ old.stop_faults → NoReadFailed old new
+  none_failed new reads stops = record { reads = reads; stops = inl stops }
+
+  turn_kept : (new : Flash) → SameTables (relocation_of r) old.pages new → HasTurn r new
+  turn_kept new same pair is = next_kept r.shape r.spares r.top n_some old.pages new pair same (runs.turn pair is)
+
+  -- with another phase, after a call on the spare
+  again : (phase : Phase) (new : BoardState) → RelocationGoesOn (relocation_of r) before new → SameTables (relocation_of r) old.pages new.pages
       → AtPhase r before new.pages phase → RelocationRuns (record r { phase = phase }) before new
-  again phase new on phase_fits = record {
+  again phase new on same phase_fits = record {
     goes_on = on;
     phase_fits = phase_fits;
     partner = runs.partner;
-    fits = runs.fits;
-    serves_room = runs.serves_room;
-    partner_room = runs.partner_room;
-    bytes_room = runs.bytes_room;
-    copy_room = runs.copy_room;
+    turn = turn_kept new.pages same;
+    room = runs.room;
   }
 
   -- with another phase of a lower rank
@@ -197,18 +258,18 @@ module _ (r : InMemory) (before : Flash) (old : BoardState) (runs : RelocationRu
       goes_on = failed.goes_on room;
       phase_fits = failed.top;
       partner = runs.partner;
-      fits = runs.fits;
-      serves_room = runs.serves_room;
-      partner_room = runs.partner_room;
-      bytes_room = runs.bytes_room;
-      copy_room = runs.copy_room;
+      turn = turn_kept new.pages failed.tables;
+      room = runs.room;
     },
     omega (arith, room),
+    same_next,
+    refl,
+    record { reads = failed.reads; stops = inr failed.stop },
   )
 
   pub no_spare_left : (new : BoardState) (e : NandFault) → SpareFailed (relocation_of r) before old new → Rose old.stop_faults new.stop_faults
       → r.spares ≤ r.taken + 1 → StepOutcome r before old (Err e) (record r { taken = r.taken + 1; phase = EraseSpare }) new
-  no_spare_left new e failed rose none = (failed.cuts, no_spare rose none)
+  no_spare_left new e failed rose none = (failed.cuts, no_spare rose none, same_next)
 
   stands_in : (phase : Phase) → r.phase ≡ phase → AtPhase r before old.pages phase
   stands_in phase is = subst (AtPhase r before old.pages) is runs.phase_fits
@@ -218,9 +279,12 @@ module _ (r : InMemory) (before : Flash) (old : BoardState) (runs : RelocationRu
   spare_erased phase new is =
       let own = erases_spare (relocation_of r) before old new runs.goes_on (stands_in EraseSpare phase) is in (
         went old new _ own.cuts,
-        again (phase_after r 0) new own.goes_on
-            (phase_after_fits r before new.pages own.goes_on.serving own.top runs.partner 0 own.filled (omega arith)),
+        again (phase_after r 0) new own.goes_on own.tables
+            (phase_after_fits r before new.pages own.goes_on.serving own.top (turn_kept new.pages own.tables) runs.partner 0 own.filled (omega arith)),
         lower EraseSpare (phase_after r 0) phase (let most = rank_after r 0 (omega arith) in omega (arith, most)),
+        same_phase (phase_after r 0) r.next,
+        refl,
+        none_failed new (ap (λ s. s.read_faults) is) (ap (λ s. s.stop_faults) is),
       )
 
   pub spare_erase_failed : r.phase ≡ EraseSpare → (new : BoardState)
@@ -233,13 +297,16 @@ module _ (r : InMemory) (before : Flash) (old : BoardState) (runs : RelocationRu
   page_written k phase less new is =
       let s = stands_in (Write k) phase in
       let own = writes_page (relocation_of r) before k (bytes_for r k) old new runs.goes_on s.0 less s.1 s.3 is in
-      let few = s.2 in (
+      let few = s.2 in
+      let block_most = runs.goes_on.serving.shape_is.block_most in (
         went old new _ own.cuts,
-        again (phase_after r (suc k)) new own.goes_on
-            (phase_after_fits r before new.pages own.goes_on.serving own.top runs.partner (suc k) own.filled (omega (arith, few))),
+        again (phase_after r (suc k)) new own.goes_on own.tables
+            (phase_after_fits r before new.pages own.goes_on.serving own.top (turn_kept new.pages own.tables) runs.partner (suc k) own.filled (omega (arith, few))),
         lower (Write k) (phase_after r (suc k)) phase
-            (let block_most = runs.goes_on.serving.shape_is.block_most in let most = rank_after r
-            (suc k) (omega (arith, less, block_most)) in omega (arith, most, less, block_most)),
+            (let most = rank_after r (suc k) (omega (arith, less, block_most)) in omega (arith, most, less, block_most)),
+        same_phase (phase_after r (suc k)) r.next,
+        refl,
+        none_failed new (ap (λ s. s.read_faults) is) (ap (λ s. s.stop_faults) is),
       )
 
   pub page_write_failed : (k : ℕ) → r.phase ≡ Write k → k < r.shape.block_pages → (new : BoardState)
@@ -249,22 +316,31 @@ module _ (r : InMemory) (before : Flash) (old : BoardState) (runs : RelocationRu
       fails_to_write (relocation_of r) before k (bytes_for r k) old new runs.goes_on s.0 less s.3 failed
 
   pub table_erased : r.phase ≡ EraseTable → (other : ℕ) → IsOtherTable (relocation_of r) other → (new : BoardState) → new ≡ after_erase old other
-      → StepOutcome r before old (Ok false) (record r { phase = First (other * r.shape.block_pages) }) new
+      → StepOutcome r before old (Ok false) (record r { phase = First (other * r.shape.block_pages); next = None }) new
   table_erased phase other is_other new is =
       let s = stands_in EraseTable phase in
       let own = erases_table (relocation_of r) before other old new runs.goes_on s.0 s.1 is_other is in (
         went old new _ own.cuts,
-        again (First (other * r.shape.block_pages)) new own.goes_on
-            (record { other = other; is_other = is_other; begins = refl; pair = own.pair; full = own.full; all_erased = own.all_erased }),
+        record {
+          goes_on = own.goes_on;
+          phase_fits = (own.top, own.next, own.full);
+          partner = runs.partner;
+          turn = λ p e. none_pair p e;
+          room = runs.room;
+        },
         lower EraseTable (First (other * r.shape.block_pages)) phase (omega arith),
+        same_phase (First (other * r.shape.block_pages)) None,
+        refl,
+        none_failed new (ap (λ s. s.read_faults) is) (ap (λ s. s.stop_faults) is),
       )
 
   pub table_erase_failed : r.phase ≡ EraseTable → (other : ℕ) → IsOtherTable (relocation_of r) other
-      → (new : BoardState) → EraseFailed old new other → Stopped new
+      → (new : BoardState) → EraseFailed old new other → Stopped (record r { next = None }) new
   table_erase_failed phase other is_other new failed =
       let s = stands_in EraseTable phase in (
         fails_to_erase_table (relocation_of r) before other old new runs.goes_on s.0 is_other failed,
-        in_table failed.stop other is_other (ap (λ s. s.failed_at) failed.rest),
+        in_table failed.stop other (record { from = is_other.from; to = is_other.to }) (ap (λ s. s.failed_at) failed.rest),
+        same_phase r.phase None,
       )
 
   -- the step goes on with the next spare, or stops
@@ -279,13 +355,13 @@ module _ (r : InMemory) (before : Flash) (old : BoardState) (runs : RelocationRu
 
   pub page_read : (k : ℕ) → r.phase ≡ Read k → (copy : Vec ℕ Global) (bytes : List ℕ) (new : BoardState) → new ≡ after_read old
       → page_at old.pages (placed_page r.shape (relocation_of r).table (block (relocation_of r) * r.shape.block_pages + k)) ≡ whole bytes
-      → take r.shape.page_bytes copy.items ≡ bytes → r.shape.page_bytes ≤ length copy.items
+      → take r.shape.page_bytes copy.items ≡ bytes → MOST_PAGE_BYTES ≤ length copy.items
       → StepOutcome r before old (Ok false) (record r { copy = copy; phase = Write k }) new
   page_read k phase copy bytes new is found taken room =
       let s = stands_in (Read k) phase in
       let less : k < copies r = s.2 in
-      let on : RelocationGoesOn (relocation_of r) before new = let T : BoardState
-      → Type 0 = λ b. RelocationGoesOn (relocation_of r) before b in subst T (sym is)
+      let T : BoardState → Type 0 = λ b. RelocationGoesOn (relocation_of r) before b in
+      let on : RelocationGoesOn (relocation_of r) before new = subst T (sym is)
       (record { ready = record { shape_is = runs.goes_on.ready.shape_is; flash = runs.goes_on.ready.flash }; serving = runs.goes_on.serving }) in
       let pages : new.pages ≡ old.pages = ap (λ s. s.pages) is in
       let apart : (k == copies r) ≡ false = grind (arith, nat_tests) in
@@ -304,23 +380,25 @@ module _ (r : InMemory) (before : Flash) (old : BoardState) (runs : RelocationRu
             source ∙ ap (λ (b : List ℕ). whole b) (sym same),
           );
           partner = runs.partner;
-          fits = runs.fits;
-          serves_room = runs.serves_room;
-          partner_room = runs.partner_room;
-          bytes_room = runs.bytes_room;
-          copy_room = room;
+          turn = turn_kept new.pages (λ j there. ap (λ (f : Flash). page_at f j) pages);
+          room = with_copy copy room;
         },
         lower (Read k) (Write k) phase (omega arith),
+        same_call copy room (Write k) r.next,
+        refl,
+        none_failed new (ap (λ s. s.read_faults) is) (ap (λ s. s.stop_faults) is),
       )
 
   -- it is Torn
-  pub page_torn : (k : ℕ) → r.phase ≡ Read k → (new : BoardState) → new ≡ after_read old
-      → page_at old.pages (placed_page r.shape (relocation_of r).table (block (relocation_of r) * r.shape.block_pages + k)) ≡ torn_page → Stopped new
-  page_torn k phase new is found =
+  pub page_torn : (k : ℕ) → r.phase ≡ Read k → (copy : Vec ℕ Global) → MOST_PAGE_BYTES ≤ length copy.items → (new : BoardState) → new ≡ after_read old
+      → page_at old.pages (placed_page r.shape (relocation_of r).table (block (relocation_of r) * r.shape.block_pages + k)) ≡ torn_page
+      → Stopped (record r { copy = copy }) new
+  page_torn k phase copy room new is found =
       let s = stands_in (Read k) phase in (
         rests (relocation_of r) before old new runs.goes_on s.0 (ap (λ s. s.shape) is)
             (ap (λ s. s.pages) is) (ap (λ s. s.trail) is) (ap (λ s. s.posted) is),
-        torn k phase found,
+        torn k phase found (ap (λ s. s.pages) is),
+        same_call copy room r.phase r.next,
       )
 
   -- it is not Erased
@@ -328,12 +406,14 @@ module _ (r : InMemory) (before : Flash) (old : BoardState) (runs : RelocationRu
       → page_at old.pages (placed_page r.shape (relocation_of r).table (block (relocation_of r) * r.shape.block_pages + k)) ≡ erased → ⊥
   page_written_before k phase is = let s = stands_in (Read k) phase in copies_written (relocation_of r) before old.pages k runs.goes_on.serving s.2 is
 
-  pub page_read_failed : (k : ℕ) → r.phase ≡ Read k → (new : BoardState) (at : ℕ) → ReadFailed old new at → Stopped new
-  page_read_failed k phase new at failed =
+  pub page_read_failed : (k : ℕ) → r.phase ≡ Read k → (copy : Vec ℕ Global) → MOST_PAGE_BYTES ≤ length copy.items → (new : BoardState) (at : ℕ)
+      → ReadFailed old new at → Stopped (record r { copy = copy }) new
+  page_read_failed k phase copy room new at failed =
       let s = stands_in (Read k) phase in (
         rests (relocation_of r) before old new runs.goes_on s.0 (ap (λ s. s.shape) failed.rest)
             (ap (λ s. s.pages) failed.rest) (ap (λ s. s.trail) failed.rest) (ap (λ s. s.posted) failed.rest),
         reading failed.read,
+        same_call copy room r.phase r.next,
       )
 
   -- ---- the two programs of the next table
@@ -346,126 +426,152 @@ module _ (r : InMemory) (before : Flash) (old : BoardState) (runs : RelocationRu
       turned : (n m : ℕ) → n * (m + 2) ≡ m * n + 2 * n
       turned n m = omega arith
 
-  pub fresh_pages : (pair : ℕ) → IsTableFresh (relocation_of r) before old.pages pair
-      → (page_at old.pages pair ≡ erased) × (page_at old.pages (suc pair) ≡ erased)
-  fresh_pages pair fresh =
-      let least = runs.goes_on.serving.shape_is.block_least in (
-        fresh.all_erased pair (omega (arith, fresh.begins)) (omega (arith, fresh.begins, least)),
-        fresh.all_erased (suc pair) (omega (arith, fresh.begins)) (omega (arith, fresh.begins, least)),
-      )
+  -- a failed program of a table page is one in a table block
+  table_stops : (r' : InMemory) (new : BoardState) (at : ℕ) (bytes : List ℕ) → IsTablePage r.shape r.spares at → ProgramFailed old new at bytes → RelocationStops r old r' new
+  table_stops r' new at bytes there failed =
+      in_table failed.stop (at / n) (block_of_table r.shape r.spares r.top n_some at there)
+      (ap (λ s. s.failed_at) failed.rest ∙ ap (λ (s : Shape). Some (at / s.block_pages)) (shape_is old (inner_shape r.shape r.spares) runs.goes_on.ready))
 
   pub first_written : (pair : ℕ) → r.phase ≡ First pair → (new : BoardState) (bytes : List ℕ) → IsPage r.shape bytes
       → bytes ≡ table_bytes r.shape r.spares (next_table (relocation_of r)) → new ≡ after_program old pair bytes
-      → (copy : Vec ℕ Global) → r.shape.page_bytes ≤ length copy.items → StepOutcome r before old (Ok false) (record r { copy = copy; phase = Second pair }) new
+      → (copy : Vec ℕ Global) → MOST_PAGE_BYTES ≤ length copy.items
+      → StepOutcome r before old (Ok false) (record r { copy = copy; phase = Second pair; next = None }) new
   first_written pair phase new bytes page same is copy room =
-      let fresh : IsTableFresh (relocation_of r) before old.pages pair = stands_in (First pair) phase in
-      let two = fresh_pages pair fresh in
+      let s = stands_in (First pair) phase in
+      let is_pair = next_pair (relocation_of r) n_some old.pages pair s.0 s.1 in
+      let two = erased_pair r.shape r.spares r.top n_some old.pages pair s.1 in
       let own = writes_first (relocation_of r) before pair old new runs.goes_on
-      (subst (IsPage r.shape) same page) fresh.pair fresh.full two.0 two.1 (is ∙ ap (λ (b : List ℕ). after_program old pair b) same) in
+      (subst (IsPage r.shape) same page) is_pair s.2 two.0 two.1 (is ∙ ap (λ (b : List ℕ). after_program old pair b) same) in
       let pages = ap (λ s. s.pages) is in (
         went old new _ own.cuts,
         record {
           goes_on = own.goes_on;
           phase_fits = record {
-            other = fresh.other;
-            is_other = fresh.is_other;
-            begins = fresh.begins;
             pair = own.is_pair;
+            room = s.1.room;
             full = own.full;
             first = own.first;
-            rest = λ k from to. ap (λ (f : Flash). page_at f k) pages ∙ page_at-slice_set old.pages pair k (whole bytes) (λ e. omega (arith, e, from))
-                ∙ fresh.all_erased k (omega (arith, from, fresh.begins)) (omega (arith, to, fresh.begins));
+            order = (let T : Flash → Type 0 = λ f. InOrder (inner_shape r.shape r.spares) f (suc pair) in
+                subst T (sym pages) (second_order r.shape r.spares r.top n_some old.pages pair bytes (table_inside' pair s.1.is_table) s.1));
           };
           partner = runs.partner;
-          fits = runs.fits;
-          serves_room = runs.serves_room;
-          partner_room = runs.partner_room;
-          bytes_room = runs.bytes_room;
-          copy_room = room;
+          turn = λ p e. none_pair p e;
+          room = with_copy copy room;
         },
         lower (First pair) (Second pair) phase (omega arith),
+        same_call copy room (Second pair) None,
+        refl,
+        none_failed new (ap (λ s. s.read_faults) is) (ap (λ s. s.stop_faults) is),
       )
-
-  -- the block of a failed program of the pair
-  failed_block : (new : BoardState) (at k other : ℕ) (bytes : List ℕ) → ProgramFailed old new at bytes
-      → at ≡ other * r.shape.block_pages + k → k < r.shape.block_pages → new.failed_at ≡ Some other
-  failed_block new at k other bytes failed place less =
-      ap (λ s. s.failed_at) failed.rest
-      ∙ ap (λ (s : Shape). Some (at / s.block_pages)) (shape_is old (inner_shape r.shape r.spares) runs.goes_on.ready)
-      ∙ ap (λ (x : ℕ). Some (x / r.shape.block_pages)) place
-      ∙ ap (λ (x : ℕ). Some x) (div-of other r.shape.block_pages k less)
 
   pub first_failed : (pair : ℕ) → r.phase ≡ First pair → (new : BoardState) (bytes : List ℕ)
-      → IsPage r.shape bytes → bytes ≡ table_bytes r.shape r.spares (next_table (relocation_of r))
-      → ProgramFailed old new pair bytes → Stopped new
-  first_failed pair phase new bytes page same failed =
-      let fresh : IsTableFresh (relocation_of r) before old.pages pair = stands_in (First pair) phase in
-      let two = fresh_pages pair fresh in
-      let least = runs.goes_on.serving.shape_is.block_least in
+      → IsPage r.shape bytes → bytes ≡ table_bytes r.shape r.spares (next_table (relocation_of r)) → ProgramFailed old new pair bytes
+      → (copy : Vec ℕ Global) → MOST_PAGE_BYTES ≤ length copy.items → Stopped (record r { copy = copy; next = None }) new
+  first_failed pair phase new bytes page same failed copy room =
+      let s = stands_in (First pair) phase in
+      let is_pair = next_pair (relocation_of r) n_some old.pages pair s.0 s.1 in
+      let two = erased_pair r.shape r.spares r.top n_some old.pages pair s.1 in
       let T : List ℕ → Type 0 = λ b. ProgramFailed old new pair b in (
         fails_to_write_first (relocation_of r) before pair old new runs.goes_on
-            (subst (IsPage r.shape) same page) fresh.pair fresh.full two.0 two.1 (subst T same failed),
-        in_table failed.stop fresh.other fresh.is_other (failed_block new pair 0 fresh.other bytes failed (omega (arith, fresh.begins)) (omega (arith, least))),
+            (subst (IsPage r.shape) same page) is_pair s.2 two.0 two.1 (subst T same failed),
+        table_stops (record r { copy = copy; next = None }) new pair bytes s.1.is_table failed,
+        same_call copy room r.phase None,
       )
 
+  -- the second page of the pair is Erased
+  half_erased : (pair : ℕ) → IsTableHalf (relocation_of r) before old.pages pair → page_at old.pages (suc pair) ≡ erased
+  half_erased pair half =
+      let next : (pair + 1) % n ≡ pair % n + 1 = mod-next pair n half.room in
+      let one : pair + 1 ≡ suc pair = omega arith in
+      let rest : suc pair % n ≡ pair % n + 1 = ap (λ (x : ℕ). x % n) (sym one) ∙ next in
+      half.order.behind (suc pair) (omega arith) (let room = half.room in omega (arith, rest, room))
+
   pub second_written : (pair : ℕ) → r.phase ≡ Second pair → (new : BoardState) (bytes : List ℕ)
-      → IsPage r.shape bytes → bytes ≡ table_bytes r.shape r.spares (next_table (relocation_of r))
-      → new ≡ after_program old (suc pair) bytes → WentSafely (relocation_of r) before old new × IsRelocated (relocation_of r) before new
-  second_written pair phase new bytes page same is =
+      → IsPage r.shape bytes → bytes ≡ table_bytes r.shape r.spares (next_table (relocation_of r)) → new ≡ after_program old (suc pair) bytes
+      → (copy : Vec ℕ Global) → MOST_PAGE_BYTES ≤ length copy.items
+      → (serves : List ℕ) → take (r.taken + 1) serves ≡ (next_table (relocation_of r)).serves → length serves ≡ MOST_SPARES
+      → StepOutcome r before old (Ok true) (with_table (record r { copy = copy }) pair serves) new
+  second_written pair phase new bytes page same is copy room serves front all =
       let half : IsTableHalf (relocation_of r) before old.pages pair = stands_in (Second pair) phase in
-      let least = runs.goes_on.serving.shape_is.block_least in
-      let behind : page_at old.pages (suc pair) ≡ erased = half.rest (suc pair) (omega arith) (omega (arith, least)) in
       let own = writes_second (relocation_of r) before pair old new runs.goes_on
-      (subst (IsPage r.shape) same page) half.pair half.full half.first behind (is ∙ ap (λ (b : List ℕ). after_program old (suc pair) b) same) in
-      (went old new _ own.cuts, record { page = pair; newest = own.newest; done = own.done })
+      (subst (IsPage r.shape) same page) half.pair half.full half.first (half_erased pair half) (is ∙ ap (λ (b : List ℕ). after_program old (suc pair) b) same) in
+      let serving = runs.goes_on.serving in
+      let left = serving.left in
+      let few = serving.few in
+      let r' : InMemory = with_table (record r { copy = copy }) pair serves in
+      let table_is : (relocation_of r').table ≡ next_table (relocation_of r) = ap (λ (s : List ℕ). record { number = r.number + 1; serves = s }) front in
+      let T : SpareTable → Type 0 = λ t. is_table r.shape r.spares t ≡ true in
+      let N : SpareTable → Type 0 = λ t. IsNewest r.shape r.spares (page_at new.pages) pair t in
+      let pages : new.pages ≡ slice_set old.pages (suc pair) (whole bytes) = ap (λ s. s.pages) is in
+      let used : length (take (r.taken + 1) serves) ≡ r.taken + 1 = length-take-le (r.taken + 1) serves (omega (arith, left, few, all)) in
+      let fits : HasRoom r' = record { fits = omega (arith, left, few); all = all; kept_page = runs.room.kept_page; new_page = runs.room.new_page; read_page = room } in (
+        went old new _ own.cuts,
+        record {
+          rests = record {
+            ready = own.ready;
+            shape_is = serving.shape_is;
+            few = serving.few;
+            grammar = subst T (sym table_is) (next_grammar (relocation_of r) before old.pages serving);
+            used = omega (arith, used);
+            taken = omega (arith, left);
+            top = subst N (sym table_is) own.newest;
+            turn = λ p known. (let P : Flash → Type 0 = λ f. IsNextPair r.shape r.spares pair f p in subst P (sym pages) (turned half p known));
+            room = fits;
+          };
+          table_is = table_is;
+          done = own.done;
+        },
+        record { shape = refl; spares = refl; call = refl; bytes = refl; taken = omega arith; most = omega (arith, left); room = fits },
+      )
+    where
+      -- the next pair, unless the block is full
+      turned : IsTableHalf (relocation_of r) before old.pages pair → (p : ℕ) → next_after r.shape pair ≡ Some p
+          → IsNextPair r.shape r.spares pair (slice_set old.pages (suc pair) (whole bytes)) p
+      turned half p known = by (nat_eq ((pair + 2) % n) 0) refl known
+        where
+          same_some : (x y : ℕ) → Some x ≡ Some y → x ≡ y
+          same_some x y e = cc
+
+          by : (t : Bool) → nat_eq ((pair + 2) % n) 0 ≡ t → (if t then None else Some (pair + 2)) ≡ Some p
+              → IsNextPair r.shape r.spares pair (slice_set old.pages (suc pair) (whole bytes)) p
+          by true t e = none_pair p e
+          by false t e =
+              let other : (pair + 2) % n ≢ 0 = grind (arith, nat_tests) in
+              subst (IsNextPair r.shape r.spares pair (slice_set old.pages (suc pair) (whole bytes))) (same_some (pair + 2) p e)
+              (following_pair r.shape r.spares pair n_some old.pages bytes runs.goes_on.serving.shape_is.eights half.pair.first half.pair.even half.room
+              (table_inside' (suc pair) half.pair.second) half.order other)
 
   pub second_failed : (pair : ℕ) → r.phase ≡ Second pair → (new : BoardState) (bytes : List ℕ)
-      → IsPage r.shape bytes → bytes ≡ table_bytes r.shape r.spares (next_table (relocation_of r))
-      → ProgramFailed old new (suc pair) bytes → Stopped new
-  second_failed pair phase new bytes page same failed =
+      → IsPage r.shape bytes → bytes ≡ table_bytes r.shape r.spares (next_table (relocation_of r)) → ProgramFailed old new (suc pair) bytes
+      → (copy : Vec ℕ Global) → MOST_PAGE_BYTES ≤ length copy.items → Stopped (record r { copy = copy }) new
+  second_failed pair phase new bytes page same failed copy room =
       let half : IsTableHalf (relocation_of r) before old.pages pair = stands_in (Second pair) phase in
-      let least = runs.goes_on.serving.shape_is.block_least in
-      let behind : page_at old.pages (suc pair) ≡ erased = half.rest (suc pair) (omega arith) (omega (arith, least)) in
       let T : List ℕ → Type 0 = λ b. ProgramFailed old new (suc pair) b in (
         fails_to_write_second (relocation_of r) before pair old new runs.goes_on
-            (subst (IsPage r.shape) same page) half.pair half.full half.first behind (subst T same failed),
-        in_table failed.stop half.other half.is_other
-            (failed_block new (suc pair) 1 half.other bytes failed (omega (arith, half.begins)) (omega (arith, least))),
+            (subst (IsPage r.shape) same page) half.pair half.full half.first (half_erased pair half) (subst T same failed),
+        table_stops (record r { copy = copy }) new (suc pair) bytes half.pair.second failed,
+        same_call copy room r.phase r.next,
       )
 
   -- the programs of the pair are in order
   pub first_in_order : (pair : ℕ) → r.phase ≡ First pair → (pair < length old.pages) × InOrder (inner_shape r.shape r.spares) old.pages pair
-  first_in_order pair phase =
-      let fresh : IsTableFresh (relocation_of r) before old.pages pair = stands_in (First pair) phase in
-      let least = runs.goes_on.serving.shape_is.block_least in
-      let n : ℕ = r.shape.block_pages in
-      let zero_is : pair ≡ fresh.other * n + 0 = omega (arith, fresh.begins) in
-      let rest : pair % n ≡ 0 = ap (λ (x : ℕ). x % n) zero_is ∙ mod-of fresh.other n 0 (omega (arith, least)) in (
-        table_inside' pair fresh.pair.first,
-        record {
-          before = λ k from to. absurd (omega (arith, from, to, rest));
-          behind = λ k from to. fresh.all_erased k (omega (arith, from, fresh.begins)) (omega (arith, to, fresh.begins, rest));
-        },
-      )
+  first_in_order pair phase = let s = stands_in (First pair) phase in (table_inside' pair s.1.is_table, s.1.order)
 
   pub second_in_order : (pair : ℕ) → r.phase ≡ Second pair → (suc pair < length old.pages) × InOrder (inner_shape r.shape r.spares) old.pages (suc pair)
   second_in_order pair phase =
       let half : IsTableHalf (relocation_of r) before old.pages pair = stands_in (Second pair) phase in
-      let least = runs.goes_on.serving.shape_is.block_least in
-      let n : ℕ = r.shape.block_pages in
-      let one_is : suc pair ≡ half.other * n + 1 = omega (arith, half.begins) in
-      let rest : suc pair % n ≡ 1 = ap (λ (x : ℕ). x % n) one_is ∙ mod-of half.other n 1 (omega (arith, least)) in (
-        table_inside' (suc pair) half.pair.second,
-        record {
-          before = λ k from to is.
-              let here : k ≡ pair = omega (arith, from, to, rest) in
-              apart (table_bytes r.shape r.spares (next_table (relocation_of r))) (sym half.first ∙ ap (page_at old.pages) (sym here) ∙ is);
-          behind = λ k from to. half.rest k (omega (arith, from)) (omega (arith, to, rest));
-        },
-      )
-    where
-      apart : (bytes : List ℕ) → whole bytes ≡ erased → ⊥
-      apart bytes e = cc
+      (table_inside' (suc pair) half.pair.second, half.order)
+
+  -- the number of the table is small
+  pub small_number : r.number ≤ 65
+  small_number =
+      let own = table_parts r.shape r.spares (relocation_of r).table runs.goes_on.serving.grammar in
+      let most = own.most in
+      let used = runs.goes_on.serving.used in
+      let left = runs.goes_on.serving.left in
+      let few = runs.goes_on.serving.few in
+      let number : r.number ≤ length (take r.used r.serves) + 1 = grind (arith, nat_tests) in
+      omega (arith, number, used, left, few)
 
   -- a page of the spare is programmed in order, and is one of its block
   pub write_less : (k : ℕ) → r.phase ≡ Write k → k < r.shape.block_pages

@@ -75,7 +75,7 @@ module _ (shape : Shape) (spares : ℕ) (some : 0 < shape.block_pages) where
   module _ (table : SpareTable) (page : ℕ) (mark : Mark) (block : ℕ) (old new : Flash) (out : List ℕ)
       (spare : shape.blocks + length table.serves ≤ block) (before_tables : block < shape.blocks + spares)
       (touched : touched_block (inner_shape shape spares) mark ≡ Some block) (i : Interrupted (inner_shape shape spares) mark old new out) where
-    table_page_kept : (k : ℕ) → IsTablePage shape spares k → page_at new k ≡ page_at old k
+    pub table_page_kept : (k : ℕ) → IsTablePage shape spares k → page_at new k ≡ page_at old k
     table_page_kept k there =
         elsewhere (inner_shape shape spares) mark k block (page_at old k)
         (page_at new k) touched (λ e. omega (arith, e, table_block k there, before_tables)) (i.pages k)

@@ -10,7 +10,7 @@ use Rattle.pk_base.specs.Page.{Page, Flash, page_at, erased, whole, torn, IsPage
 use Rattle.pk_base.specs.Mark.{Mark, program, erase, post, after}
 use Rattle.pk_nand.specs.BoardState.{BoardState, shape_of}
 use Rattle.pk_nand.specs.Cut.{Interrupted, MayLeave, touched_block}
-use Rattle.pk_nand.specs.Calls.{IsReady, after_program, ProgramFailed, LeftBy}
+use Rattle.pk_nand.specs.Calls.{IsReady, after_program, ProgramFailed, LeftBy, Rose}
 use Rattle.pk_nand.specs.Operations.{after_erase, EraseFailed}
 use Rattle.pk_nand.proofs.Leaving.{IsFlash-interrupted, IsFlash-after, full_program, full_erase, page_at-slice_set, page_at-slice_set_same, page_at-erased_from}
 use Rattle.pk_nand.proofs.Leaving.{page-erased_in}
@@ -26,10 +26,10 @@ use Rattle.pk_remap.specs.Stepping.{FirstWritten, SecondWritten, IsOtherTable, I
 use Rattle.pk_remap.specs.Stepping.{WritesSpare, FailsToWriteSpare, Fills, ErasesTable, FailsToEraseTable, WritesFirst, FailsToWriteFirst, WritesSecond}
 use Rattle.pk_remap.specs.Stepping.{FailsToWriteSecond}
 use Rattle.pk_remap.proofs.Placing.{page-through, div-of, mod-of}
-use Rattle.pk_remap.proofs.Finding.{newest-beside, pair-first}
+use Rattle.pk_remap.proofs.Finding.{pair-first}
 use Rattle.pk_remap.proofs.Lifting.{times_le}
 use Rattle.pk_remap.proofs.Standing.{shows, NoneOr}
-use Rattle.pk_remap.proofs.Cutting.{some, spare_before_tables, spare_top, spare_above, spare_cut, turn_top, turn_above, turn_cut, next_again, exchange}
+use Rattle.pk_remap.proofs.Cutting.{some, spare_before_tables, spare_top, spare_tables, spare_above, spare_cut, turn_top, turn_above, turn_cut, next_again, exchange}
 use Rattle.pk_remap.proofs.Cutting.{spare_page_before, pair_full, pair_above, pair_beside, pair_cut}
 use Rattle.pk_remap.proofs.Calls.{program_reached, program_went, erase_reached, erase_went, left_interrupted, done_interrupted}
 
@@ -136,13 +136,14 @@ module _ (r : Relocation) (before : Flash) (old : BoardState) (on : RelocationGo
                 ∙ page-erased_in inner (spare_block r) 0 old.pages (spare_page r k)
                 (spare_inside k less) (ap (λ (x : ℕ). x / n) (zero-add (spare_page r k)) ∙ spare_div k less);
           };
+          tables = spare_tables r before old.pages serving (erase (spare_block r)) new.pages [] refl i;
         }
 
     -- what a failed call on the spare leaves
     in_spare_failed : (mark : Mark) (new : BoardState) → touched_block inner mark ≡ Some (spare_block r)
         → ((at : ℕ) (bytes : List ℕ) → mark ≡ program at bytes → IsPage inner bytes) → new.shape ≡ old.shape
-        → LeftBy mark old new → WentSafely r before old new → SpareFailed r before old new
-    in_spare_failed mark new touched full same left cuts =
+        → LeftBy mark old new → WentSafely r before old new → new.read_faults ≡ old.read_faults → Rose old.stop_faults new.stop_faults → SpareFailed r before old new
+    in_spare_failed mark new touched full same left cuts reads stop =
         let i : Interrupted inner mark old.pages new.pages [] = left_interrupted old new inner mark on.ready left in
         let ready : IsReady new inner = ready_again old new inner mark on.ready same full i in
         record {
@@ -153,12 +154,16 @@ module _ (r : Relocation) (before : Flash) (old : BoardState) (on : RelocationGo
                 (serving_again r before old.pages new.pages serving ready.flash (spare_above r before old.pages serving mark new.pages [] touched i)) room;
           };
           top = spare_top r before old.pages serving mark new.pages [] touched i top;
+          tables = spare_tables r before old.pages serving mark new.pages [] touched i;
+          reads = reads;
+          stop = stop;
         }
 
     pub erase_failed : (new : BoardState) → EraseFailed old new (spare_block r) → SpareFailed r before old new
     erase_failed new failed =
         in_spare_failed (erase (spare_block r)) new refl (full_erase inner (spare_block r)) (ap (λ s. s.shape) failed.rest) failed.left
         (erase_went old inner on.ready (λ cut. MayShow shape r.spares before r.mark cut) (spare_block r) erase_cut new failed)
+        (ap (λ s. s.read_faults) failed.rest) failed.stop
 
     -- ---- a program of the spare
 
@@ -202,6 +207,7 @@ module _ (r : Relocation) (before : Flash) (old : BoardState) (on : RelocationGo
                   ∙ page_at-slice_set old.pages (spare_page r k) (spare_page r j) (whole bytes) (λ e. omega (arith, e, from))
                   ∙ filled.rest j (omega (arith, from)) inside;
             };
+            tables = spare_tables r before old.pages serving (program (spare_page r k) bytes) new.pages [] in_block i;
           }
         where
           copied : (j : ℕ) → j < suc k → (t : Bool) → nat_eq j k ≡ t
@@ -222,6 +228,7 @@ module _ (r : Relocation) (before : Flash) (old : BoardState) (on : RelocationGo
           in_spare_failed (program (spare_page r k) bytes) new in_block
           (full_program inner (spare_page r k) bytes full) (ap (λ s. s.shape) failed.rest) failed.left
           (program_went old inner on.ready (λ cut. MayShow shape r.spares before r.mark cut) (spare_page r k) bytes write_cut new failed)
+          (ap (λ s. s.read_faults) failed.rest) failed.stop
 
   -- ---- the erase of the other table block
 
@@ -265,9 +272,9 @@ module _ (r : Relocation) (before : Flash) (old : BoardState) (on : RelocationGo
         let new_top : IsTop r new.pages = turn_top r before old.pages serving other new.pages [] is_other.from is_other.beside i top in
         let least = serving.shape_is.block_least in
         let first : IsTablePage shape r.spares (other * n + 0) = other_is_table 0 n_some in
-        let second : IsTablePage shape r.spares (other * n + 1) = other_is_table 1 (omega (arith, least)) in
         let zero_is : other * n + 0 ≡ other * n = omega arith in
         let one_is : other * n + 1 ≡ suc (other * n) = omega arith in
+        let rest : other * n % n ≡ 0 = ap (λ (x : ℕ). x % n) (sym zero_is) ∙ mod-of other n 0 n_some in
         record {
           cuts = erase_reached old inner on.ready (λ cut. MayShow shape r.spares before r.mark cut) other turn_erase_cut new is;
           goes_on = record {
@@ -280,20 +287,23 @@ module _ (r : Relocation) (before : Flash) (old : BoardState) (on : RelocationGo
               (λ e. let own : spare_block r ≡ other = sym (spare_div k less) ∙ ap (λ (x : ℕ). x / n) (sym (zero-add (spare_page r k)))
               ∙ e in omega (arith, own, spare_before_tables r before old.pages serving, is_other.from))
               ∙ full k less;
-          pair = record {
-            beside = newest-beside shape r.spares (page_at new.pages) (page_at new.pages) r.top r.table (other * n) new_top
-                (λ e. is_other.beside (ap (λ (x : ℕ). x / n) (e ∙ sym zero_is) ∙ other_page 0 n_some))
-                (λ e. is_other.beside (ap (λ (x : ℕ). x / n) (e ∙ sym one_is) ∙ other_page 1 (omega (arith, least))));
-            first = subst (IsTablePage shape r.spares) zero_is first;
-            second = subst (IsTablePage shape r.spares) one_is second;
-            even = ap (λ (x : ℕ). x % n % 2) (sym zero_is) ∙ ap (λ (x : ℕ). x % 2) (mod-of other n 0 n_some);
+          top = new_top;
+          next = record {
+            is_table = subst (IsTablePage shape r.spares) zero_is first;
+            even = ap (λ (x : ℕ). x % 2) rest;
+            room = omega (arith, rest, least);
+            not_first = λ e. is_other.beside (ap (λ (x : ℕ). x / n) (e ∙ sym zero_is) ∙ other_page 0 n_some);
+            not_second = λ e. is_other.beside (ap (λ (x : ℕ). x / n) (e ∙ sym one_is) ∙ other_page 1 (omega (arith, least)));
+            order = record {
+              before = λ k from to. absurd (omega (arith, from, to, rest));
+              behind = λ k from to.
+                  let e : other * n + (k - other * n) ≡ k = omega (arith, from) in
+                  let inside : k - other * n < n = omega (arith, from, to, rest) in
+                  ap (λ (f : Flash). page_at f k) (pages ∙ same)
+                  ∙ page-erased_in inner other 0 old.pages k (let room = other_inside (k - other * n) inside in omega (arith, room, e))
+                  (ap (λ (x : ℕ). x / n) (zero-add k ∙ sym e) ∙ other_page (k - other * n) inside);
+            };
           };
-          all_erased = λ k from to.
-              let e : other * n + (k - other * n) ≡ k = omega (arith, from) in
-              let inside : k - other * n < n = omega (arith, from, to) in
-              ap (λ (f : Flash). page_at f k) (pages ∙ same)
-              ∙ page-erased_in inner other 0 old.pages k (let room = other_inside (k - other * n) inside in omega (arith, room, e))
-              (ap (λ (x : ℕ). x / n) (zero-add k ∙ sym e) ∙ other_page (k - other * n) inside);
         }
 
   -- ---- the two programs of the next table

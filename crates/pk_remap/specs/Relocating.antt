@@ -1,5 +1,5 @@
 -- A relocation: the call of the outer flash that it serves, the spare that it fills, and what is known while it goes on.
-use Rattle.std.specs.Prelude.{◌≡◌, ℕ, suc, ◌+◌, ◌-◌, ◌*◌, ◌/◌, ◌%◌, ◌<◌, ◌≤◌, [], length, true, ⊤}
+use Rattle.std.specs.Prelude.{◌≡◌, ◌≢◌, ℕ, suc, ◌+◌, ◌-◌, ◌*◌, ◌/◌, ◌%◌, ◌<◌, ◌≤◌, [], length, true, ⊤}
 use Rattle.pk_base.specs.Shape.{Shape, IsShape}
 use Rattle.pk_base.specs.Page.{Flash, page_at, erased, IsPage, IsFlash}
 use Rattle.pk_base.specs.Mark.{Mark, program, erase, post, after}
@@ -90,6 +90,19 @@ pub record IsRelocating (r : Relocation) (before flash : Flash) : Type 0 where
 
 abbrev pub IsTop : Relocation → Flash → Type 0
 IsTop r flash = IsNewest r.shape r.spares (page_at flash) r.top r.table
+
+-- no page of the table blocks differs
+abbrev pub SameTables : Relocation → Flash → Flash → Type 0
+SameTables r old new = (k : ℕ) → IsTablePage r.shape r.spares k → page_at new k ≡ page_at old k
+
+-- the pair of this first page can be programmed, beside the newest table: its pages are the first Erased ones of their table block
+pub record IsNextPair (shape : Shape) (spares top : ℕ) (flash : Flash) (pair : ℕ) : Type 0 where
+  pub is_table : IsTablePage shape spares pair
+  pub even : pair % shape.block_pages % 2 ≡ 0
+  pub room : pair % shape.block_pages + 1 < shape.block_pages
+  pub not_first : top ≢ pair
+  pub not_second : top ≢ suc pair
+  pub order : InOrder (inner_shape shape spares) flash pair
 
 -- the pair is next: the former table is the newest of all other pages, and its pages are in a table block
 pub record IsTablePair (r : Relocation) (flash : Flash) (pair : ℕ) : Type 0 where

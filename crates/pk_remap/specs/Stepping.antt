@@ -1,16 +1,17 @@
 -- What the steps of a relocation do, call by call: each cut of the one call, and what is known after it.
 use Rattle.std.specs.Prelude.{◌≡◌, ◌≢◌, ℕ, suc, ◌+◌, ◌*◌, ◌/◌, ◌<◌, ◌≤◌, List, length, Some}
+use Rattle.pk_base.specs.Shape.{Shape}
 use Rattle.pk_base.specs.Page.{Flash, page_at, erased, whole, IsPage}
 use Rattle.pk_base.specs.Mark.{after}
 use Rattle.pk_nand.specs.BoardState.{BoardState}
-use Rattle.pk_nand.specs.Calls.{IsReady, after_program, ProgramFailed}
-use Rattle.pk_nand.specs.Operations.{InOrder, IsErasedBlock, after_erase, EraseFailed}
+use Rattle.pk_nand.specs.Calls.{IsReady, Rose, after_program, ProgramFailed}
+use Rattle.pk_nand.specs.Operations.{InOrder, after_erase, EraseFailed}
 use Rattle.pk_nand.specs.Crash.{Reached, Went}
 use Rattle.pk_remap.specs.Table.{table_bytes}
 use Rattle.pk_remap.specs.Places.{inner_shape, placed_page}
 use Rattle.pk_remap.specs.Newest.{IsNewest}
 use Rattle.pk_remap.specs.Through.{through, MayShow}
-use Rattle.pk_remap.specs.Relocating.{Relocation, block, copies_of, fill_of, spare_block, spare_page, next_table, IsSpareFilled, IsSpareFull, IsRelocating, IsTop, IsTablePair}
+use Rattle.pk_remap.specs.Relocating.{Relocation, block, copies_of, fill_of, spare_block, spare_page, next_table, IsSpareFilled, IsSpareFull, IsRelocating, IsTop, SameTables, IsNextPair, IsTablePair}
 
 -- the same with the next spare
 abbrev pub with_next_spare : Relocation → Relocation
@@ -34,6 +35,7 @@ pub record SpareErased (r : Relocation) (before : Flash) (old new : BoardState) 
   pub goes_on : RelocationGoesOn r before new
   pub top : IsTop r new.pages
   pub filled : IsSpareFilled r before new.pages 0
+  pub tables : SameTables r old.pages new.pages
 
 -- A page of the spare was programmed.
 pub record PageWritten (r : Relocation) (before : Flash) (k : ℕ) (old new : BoardState) : Type 0 where
@@ -41,20 +43,24 @@ pub record PageWritten (r : Relocation) (before : Flash) (k : ℕ) (old new : Bo
   pub goes_on : RelocationGoesOn r before new
   pub top : IsTop r new.pages
   pub filled : IsSpareFilled r before new.pages (suc k)
+  pub tables : SameTables r old.pages new.pages
 
 -- A call on the spare failed: the next spare may be taken, if there is one.
 pub record SpareFailed (r : Relocation) (before : Flash) (old new : BoardState) : Type 0 where
   pub cuts : WentSafely r before old new
   pub goes_on : r.taken + 1 < r.spares → RelocationGoesOn (with_next_spare r) before new
   pub top : IsTop (with_next_spare r) new.pages
+  pub reads : new.read_faults ≡ old.read_faults
+  pub stop : Rose old.stop_faults new.stop_faults
+  pub tables : SameTables r old.pages new.pages
 
 -- The other table block was erased: its first pair is next.
 pub record TableErased (r : Relocation) (before : Flash) (other : ℕ) (old new : BoardState) : Type 0 where
   pub cuts : ReachedSafely r before old new
   pub goes_on : RelocationGoesOn r before new
+  pub top : IsTop r new.pages
   pub full : IsSpareFull r before new.pages
-  pub pair : IsTablePair r new.pages (other * r.shape.block_pages)
-  pub all_erased : IsErasedBlock (inner_shape r.shape r.spares) new.pages other
+  pub next : IsNextPair r.shape r.spares r.top new.pages (other * r.shape.block_pages)
 
 -- The next table was programmed in the first page of the pair.
 pub record FirstWritten (r : Relocation) (before : Flash) (pair : ℕ) (old new : BoardState) : Type 0 where
@@ -72,6 +78,11 @@ pub record SecondWritten (r : Relocation) (before : Flash) (pair : ℕ) (old new
   pub done : through r.shape r.spares new.pages ≡ Some (after r.shape r.mark before)
 
 -- ---- as laws
+
+-- a table block
+pub record IsTableBlock (shape : Shape) (spares b : ℕ) : Type 0 where
+  pub from : shape.blocks + spares ≤ b
+  pub to : b < shape.blocks + spares + 2
 
 -- of the two table blocks the one without the newest table
 pub record IsOtherTable (r : Relocation) (other : ℕ) : Type 0 where

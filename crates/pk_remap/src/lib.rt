@@ -10,6 +10,7 @@ mod phase;
 mod places;
 mod relocation;
 mod search;
+mod serving;
 mod steps;
 mod table;
 mod top;

@@ -19,6 +19,8 @@ pub struct Relocation {
     pub(crate) used: usize,
     pub(crate) serves: [u16; 64],
     pub(crate) top: u32,
+    /// The pair for the next table, if this value wrote the newest one and the block of that has another pair.
+    pub(crate) next: Option<u32>,
     /// The spare that is filled; those before it are used, or they failed.
     pub(crate) taken: u16,
     pub(crate) call: Call,

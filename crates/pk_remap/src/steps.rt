@@ -1,5 +1,5 @@
 //! The steps of a relocation, each by one call of the inner flash.
-ghost use Rattle.std.specs.Prelude.{◌≡◌, ◌≢◌, ◌+◌, ◌-◌, ◌/◌, ◌≤◌, ◌<◌, ◌++◌, ◌∷◌, [], length, take, replicate, false, IfOk, OnErr, OnOk};
+ghost use Rattle.std.specs.Prelude.{◌≡◌, ◌≢◌, ◌+◌, ◌-◌, ◌^◌, ◌/◌, ◌≤◌, ◌<◌, ◌++◌, ◌∷◌, [], length, take, replicate, false, IfOk, OnErr, OnOk};
 ghost use Rattle.pk_base.specs.Page.{Flash, page_at, IsPage};
 ghost use Rattle.pk_remap.specs.Table.{table_bytes};
 ghost use Rattle.pk_nand.specs.BoardState.{shape_of};
@@ -9,7 +9,7 @@ ghost use Rattle.pk_nand.specs.Seen.{answer};
 ghost use Rattle.pk_remap.specs.declared.phase.Phase.TheVariants.{EraseSpare, Read, Write, EraseTable, First, Second};
 ghost use Rattle.pk_remap.specs.declared.layout.TheConstants.{MOST_SPARES};
 ghost use Rattle.pk_remap.specs.Relocating.{block as block_of, next_table};
-ghost use Rattle.pk_remap.specs.Running.{relocation_of, copies as copies_of, is_kept as kept_at, bytes_for as bytes_at, phase_after, is_program as is_program_of, RelocationRuns, RelocationSteps};
+ghost use Rattle.pk_remap.specs.Running.{relocation_of, copies as copies_of, is_kept as kept_at, bytes_for as bytes_at, phase_after, table_phase as table_phase_of, with_table, is_program as is_program_of, RelocationRuns, RelocationSteps};
 
 use crate::layout::FAILED;
 use crate::phase::Phase;
@@ -74,7 +74,17 @@ impl Relocation {
         } else if self.is_program() && filled == copies {
             Phase::Write { page: filled }
         } else {
-            Phase::EraseTable
+            self.table_phase()
+        }
+    }
+
+    /// The step after the spare is filled: the program of the next table, or the erase of the block for it.
+    fn table_phase(&self) -> Phase
+        ensures { result ≡ table_phase_of self.now.next }
+    {
+        match self.next {
+            Some(page) => Phase::First { page },
+            None => Phase::EraseTable,
         }
     }
 
@@ -190,6 +200,7 @@ impl Relocation {
     {
         self.shape.known();
         let other = self.other_table();
+        self.next = None;
         match inner.erase(other) {
             Ok(()) => {
                 self.phase = Phase::First {
@@ -221,6 +232,26 @@ impl Relocation {
         serves
     }
 
+    /// Takes the table of the pair that begins with this page for the newest one.
+    fn take_table(&mut self, page: u32, serves: [u16; 64])
+        requires page { page < 2 ^ 31 }
+        requires number { self.old.number < 2 ^ 63 }
+        requires taken { self.old.taken < MOST_SPARES }
+        ensures { self.new ≡ with_table self.old page serves }
+    {
+        self.shape.known();
+        self.number += 1;
+        self.used = self.taken as usize + 1;
+        self.serves = serves;
+        self.top = page;
+        self.taken += 1;
+        self.next = if (page + 2) % self.shape.block_pages() == 0 {
+            None
+        } else {
+            Some(page + 2)
+        };
+    }
+
     fn first<N: Nand>(&mut self, inner: &mut N, page: u32) -> Result<bool, NandFault>
         requires phase { self.old.phase ≡ First page }
         requires runs { (before : Flash) × RelocationRuns self.old before (N.state inner.old) }
@@ -228,6 +259,7 @@ impl Relocation {
     {
         self.shape.known();
         let serves = self.next_serves();
+        self.next = None;
         match program_table(
             inner,
             page,
@@ -261,7 +293,10 @@ impl Relocation {
             &serves[..self.taken as usize + 1],
             &mut self.copy,
         ) {
-            Ok(()) => Ok(true),
+            Ok(()) => {
+                self.take_table(page, serves);
+                Ok(true)
+            }
             Err(_) => Err(NandFault),
         }
     }
@@ -328,7 +363,7 @@ fn program_table<N: Nand>(
 }
 
 /// Reads a page into the first bytes of a buffer.
-fn read_into<N: Nand>(
+pub fn read_into<N: Nand>(
     inner: &mut N,
     at: u32,
     size: usize,

@@ -5,12 +5,13 @@ use Rattle.pk_base.specs.Page.{Flash as Pages}
 use Rattle.pk_nand.specs.BoardState.{BoardState}
 use Rattle.pk_model.specs.Sight.{Sight}
 use Rattle.pk_serve.specs.Ends.{NoFaults}
-use Rattle.pk_serve.specs.Part.{IsRunning, KeepsRunning, Faulted}
+use Rattle.pk_call.specs.Running.{DriveRuns}
+use Rattle.pk_serve.specs.Part.{KeepsRunning, Faulted}
 use Rattle.pk_serve.specs.declared.end.End.{End}
 use Rattle.pk_serve.proofs.Blaming.{quiet-then, cause-then}
 
 -- the flash is unchanged
-pub running-still : (agreeing : Option Shape → Pages → Type 0) (drive : Sight) (b c : BoardState) → (c.shape ≡ b.shape) × (c.pages ≡ b.pages) → IsRunning agreeing drive b → IsRunning agreeing drive c
+pub running-still : (agreeing : Option Shape → Pages → Type 0) (drive : Sight) (b c : BoardState) → (c.shape ≡ b.shape) × (c.pages ≡ b.pages) → DriveRuns agreeing drive b → DriveRuns agreeing drive c
 running-still agreeing drive b c same h =
     let T : Option Shape → Type 0 = λ s. agreeing s b.pages in
     let U : Pages → Type 0 = λ p. agreeing c.shape p in

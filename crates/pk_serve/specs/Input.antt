@@ -10,7 +10,7 @@ use Rattle.pk_model.specs.Sight.{Sight}
 use Rattle.pk_model.specs.Wear.{is_worn}
 use Rattle.pk_call.specs.Exec.{IsValue}
 use Rattle.pk_serve.specs.Ends.{IsFault}
-use Rattle.pk_serve.specs.Part.{IsHanded}
+use Rattle.pk_call.specs.Running.{PassesValue}
 use Rattle.pk_serve.specs.Serving.{CommandServed, CommandStops}
 use Rattle.pk_serve.specs.declared.end.End.{End}
 use Rattle.pk_serve.specs.declared.end.End.TheVariants.{Done, Truncated, Input, Output, Flash, Worn}
@@ -126,7 +126,7 @@ pub record Valued (old new : BoardState) (shape : Shape) (opcode size : ℕ) (ha
   pub value : List ℕ
   pub whole : length value ≡ (if opcode == STORE then size else 0)
   pub is_value : IsValue shape opcode size handed value
-  pub is_handed : IsHanded shape opcode size handed
+  pub is_handed : PassesValue shape opcode size handed
   pub input : old.input ≡ put_back value new.input
   pub rest : new ≡ record old { input = new.input }
 

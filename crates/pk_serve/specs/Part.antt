@@ -1,38 +1,20 @@
 -- What a part of the serving loop asks of the drive, the board and the buffers, and what it leaves.
-use Rattle.std.specs.Prelude.{◌≡◌, ◌≢◌, ℕ, ◌<◌, ◌≤◌, List, [], length, Option, Some, false}
+use Rattle.std.specs.Prelude.{◌≡◌, ℕ, ◌<◌, ◌≤◌, List, [], length, Option, Some}
 use Rattle.pk_base.specs.Shape.{Shape, greatest}
 use Rattle.pk_base.specs.Page.{Flash as Pages}
-use Rattle.pk_nvme.specs.declared.limits.TheConstants.{MOST_LIST_BYTES}
-use Rattle.pk_nvme.specs.declared.opcode.TheConstants.{STORE}
 use Rattle.pk_nand.specs.BoardState.{BoardState}
 use Rattle.pk_model.specs.Sight.{Sight}
-use Rattle.pk_model.specs.Wear.{is_worn, roots}
+use Rattle.pk_model.specs.Wear.{roots}
+use Rattle.pk_call.specs.Running.{DriveRuns, HasRoomForData}
 use Rattle.pk_serve.specs.Ends.{NoFaults, HasCause, IsFault}
 use Rattle.pk_serve.specs.declared.end.End.{End}
 
 -- ---- what is asked
 
--- the drive agrees with the board, and runs
-pub record IsRunning (agreeing : Option Shape → Pages → Type 0) (drive : Sight) (board : BoardState) : Type 0 where
-  pub agrees : agreeing board.shape board.pages
-  pub runs : drive.stopped ≡ false
-
--- and is not worn
-pub record CanServe (agreeing : Option Shape → Pages → Type 0) (drive : Sight) (board : BoardState) : Type 0 where
-  pub running : IsRunning agreeing drive board
-  pub unworn : is_worn board ≡ false
-
--- of a value this is passed: all of it if it is not too large, and nothing else
-pub record IsHanded (shape : Shape) (opcode size : ℕ) (handed : List ℕ) : Type 0 where
-  pub sized : opcode ≡ STORE → size ≤ greatest shape → length handed ≡ size
-  pub empty : opcode ≢ STORE → handed ≡ []
-  pub too_large : greatest shape < size → handed ≡ []
-
--- the board has this shape, and a buffer has room for the data of each command: a list, or a value
+-- the board has this shape, and a buffer has room for the data of each command
 pub record HasRoom (board : BoardState) (shape : Shape) (into : List ℕ) : Type 0 where
   pub shape_is : board.shape ≡ Some shape
-  pub for_list : MOST_LIST_BYTES ≤ length into
-  pub for_value : greatest shape ≤ length into
+  pub buffer : HasRoomForData shape into
 
 -- and another one for the value after each entry
 pub record HasBuffers (board : BoardState) (shape : Shape) (value into : List ℕ) : Type 0 where
@@ -42,7 +24,7 @@ pub record HasBuffers (board : BoardState) (shape : Shape) (value into : List �
 
 -- a run may begin: the drive runs, no record is held, and the buffers have room
 pub record CanRun (agreeing : Option Shape → Pages → Type 0) (drive : Sight) (board : BoardState) (shape : Shape) (held : List (List ℕ)) (value into : List ℕ) : Type 0 where
-  pub running : IsRunning agreeing drive board
+  pub running : DriveRuns agreeing drive board
   pub none : held ≡ []
   pub buffers : HasBuffers board shape value into
 
@@ -50,7 +32,7 @@ pub record CanRun (agreeing : Option Shape → Pages → Type 0) (drive : Sight)
 
 -- nothing failed: the drive agrees with the board and runs, and no fault was counted
 pub record KeepsRunning (agreeing : Option Shape → Pages → Type 0) (drive : Sight) (old new : BoardState) : Type 0 where
-  pub running : IsRunning agreeing drive new
+  pub running : DriveRuns agreeing drive new
   pub quiet : NoFaults old new
 
 -- the output or the flash failed, and its count of faults shows it

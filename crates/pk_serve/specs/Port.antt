@@ -1,5 +1,5 @@
 -- One command on a drive with nothing pending.
-use Rattle.std.specs.Prelude.{◌≡◌, ◌⊎◌, ◌≤◌, ℕ, List, [], Some}
+use Rattle.std.specs.Prelude.{◌≡◌, ◌≢◌, ◌⊎◌, ◌+◌, ◌≤◌, ℕ, List, [], Some, Result, OnOk, OnErr, IfOk}
 use Rattle.pk_base.specs.Shape.{Shape, limit}
 use Rattle.pk_base.specs.Page.{Flash}
 use Rattle.pk_base.specs.Map.{Map}
@@ -7,13 +7,21 @@ use Rattle.pk_nvme.specs.Command.{Command}
 use Rattle.pk_nvme.specs.Reply.{Reply}
 use Rattle.pk_nvme.specs.Opcode.{op_of}
 use Rattle.pk_nvme.specs.declared.opcode.Opcode.TheVariants.{Retrieve}
+use Rattle.pk_nvme.specs.declared.request.Request.{Request}
+use Rattle.pk_nvme.specs.declared.status.TheConstants.{UNRECOVERED_ERROR}
 use Rattle.pk_nand.specs.BoardState.{BoardState}
+use Rattle.pk_nand.specs.Calls.{Rose}
+use Rattle.pk_nand.specs.declared.types.NandFault.{NandFault}
 use Rattle.pk_model.specs.Answer.{map_after}
 use Rattle.pk_model.specs.Run.{Step}
 use Rattle.pk_model.specs.Bounds.{most_reads}
 use Rattle.pk_model.specs.Reading.{Holds}
 use Rattle.pk_model.specs.Sight.{Sight}
+use Rattle.pk_model.specs.Wear.{roots}
 use Rattle.pk_call.specs.Drive.{HoldsMap}
+use Rattle.pk_call.specs.Exec.{most_installs}
+use Rattle.pk_call.specs.Meter.{reads_after}
+use Rattle.pk_call.specs.declared.types.Outcome.{Outcome}
 use Rattle.pk_model.specs.Growth.{Reaches, Goes}
 
 -- wherever it is cut the flash holds the map before the command or the one after it
@@ -36,3 +44,13 @@ Submits old new before after c reply reads =
 -- a command that stopped the drive
 abbrev pub SubmitStops : BoardState → BoardState → Sight → Command → Type 0
 SubmitStops old new before c = (shape : Shape) (frames : ℕ) (m : Map) → HoldsMap shape frames old before m → before.pending ≡ [] → Goes shape old new (StepCut shape m c)
+
+-- What the command and its commit count: reads, faults and roots.
+pub record CountsSubmit (old new : BoardState) (r : Request) (result : Result Outcome NandFault) : Type 0 where
+  pub reads : IfOk result (λ o. new.reads ≡ reads_after old.reads o.reads)
+  pub up : old.read_faults ≤ new.read_faults
+  pub unread : IfOk result (λ o. o.status ≡ UNRECOVERED_ERROR → Rose old.read_faults new.read_faults)
+  pub sound : IfOk result (λ o. o.status ≢ UNRECOVERED_ERROR → new.read_faults ≡ old.read_faults)
+  pub no_stop : OnOk result (new.stop_faults ≡ old.stop_faults)
+  pub stop : OnErr result (Rose old.stop_faults new.stop_faults)
+  pub installs : roots new ≤ roots old + most_installs r.opcode r.size

@@ -4,7 +4,8 @@
 ghost use Rattle.std.specs.Prelude.{◌≡◌, ◌<◌, ◌⊎◌, [], true, OnOk, IfErr};
 ghost use Rattle.pk_queue.specs.Queue.{bytes_of};
 ghost use Rattle.pk_serve.specs.Ends.{IsFault, Blames};
-ghost use Rattle.pk_serve.specs.Part.{IsRunning, CanRun, HasBuffers, KeepsRunning, SameSizes};
+ghost use Rattle.pk_call.specs.Running.{DriveRuns};
+ghost use Rattle.pk_serve.specs.Part.{CanRun, HasBuffers, KeepsRunning, SameSizes};
 ghost use Rattle.pk_serve.specs.Input.{InputAdvances, Quits};
 ghost use Rattle.pk_serve.specs.Script.{Runs};
 ghost use Rattle.pk_serve.specs.Further.{most_entries};
@@ -28,7 +29,7 @@ pub fn serve_next<D: Engine, B: Board>(
     shape: &Shape,
     taken: u32,
 ) -> Result<(), End>
-    requires running { IsRunning (D.agrees drive.old) (D.sight drive.old) (B.state board.old) }
+    requires running { DriveRuns (D.agrees drive.old) (D.sight drive.old) (B.state board.old) }
     requires count { taken < most_entries }
     requires buffers { HasBuffers (B.state board.old) shape.now value.old into.old }
 
@@ -98,7 +99,7 @@ pub fn serve_entries<D: Engine, B: Board>(
     // The drive and the board after them.
     ensures shape { (B.state board.new).shape ≡ (B.state board.old).shape }
     ensures open { IsFault result
-        ⊎ IsRunning (D.agrees drive.new) (D.sight drive.new) (B.state board.new) }
+        ⊎ DriveRuns (D.agrees drive.new) (D.sight drive.new) (B.state board.new) }
 {
     for taken in 0..u32::MAX {
         match serve_next(drive, board, held, value, into, shape, taken) {

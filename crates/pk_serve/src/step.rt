@@ -6,7 +6,8 @@ ghost use Rattle.pk_queue.specs.Queue.{bytes_of};
 ghost use Rattle.pk_call.specs.Seen.{reply_of};
 ghost use Rattle.pk_call.specs.Exec.{IsValue};
 ghost use Rattle.pk_serve.specs.Ends.{NoFaults};
-ghost use Rattle.pk_serve.specs.Part.{IsRunning, CanServe, IsHanded, HasRoom, KeepsRunning, Faulted, TakesNone, InstallsNone, OnlyGives, SameRoom};
+ghost use Rattle.pk_call.specs.Running.{DriveRuns, CanServe, PassesValue};
+ghost use Rattle.pk_serve.specs.Part.{HasRoom, KeepsRunning, Faulted, TakesNone, InstallsNone, OnlyGives, SameRoom};
 ghost use Rattle.pk_serve.specs.Serving.{Flushed, FailsHolding, Posts, PostBreaks, Keeps, CommandServed, CommandStops};
 ghost use Rattle.pk_serve.specs.Further.{most_entries};
 ghost use Rattle.pk_nvme.specs.declared.opcode.TheConstants.{TICK};
@@ -67,7 +68,7 @@ pub fn give_all<B: Board>(board: &mut B, heads: &[[u8; RECORD_HEAD_BYTES]]) -> R
 /// Commits, and posts the records that were held; nothing is done if no entry is pending and no
 /// record is held.
 pub fn flush<D: Engine, B: Board>(drive: &mut D, board: &mut B, held: &mut Queue) -> Result<(), End>
-    requires { IsRunning (D.agrees drive.old) (D.sight drive.old) (B.state board.old) }
+    requires { DriveRuns (D.agrees drive.old) (D.sight drive.old) (B.state board.old) }
 
     // The drive and the board.
     ensures runs_on { OnOk result (KeepsRunning (D.agrees drive.new) (D.sight drive.new)
@@ -108,7 +109,7 @@ pub fn prepare<D: Engine, B: Board>(
     held: &mut Queue,
     request: &Request,
 ) -> Result<(), End>
-    requires { IsRunning (D.agrees drive.old) (D.sight drive.old) (B.state board.old) }
+    requires { DriveRuns (D.agrees drive.old) (D.sight drive.old) (B.state board.old) }
 
     // The drive and the board.
     ensures runs_on { OnOk result (KeepsRunning (D.agrees drive.new) (D.sight drive.new)
@@ -171,7 +172,7 @@ pub fn finish<D: Engine, B: Board>(
     bytes: &[u8],
     waits: bool,
 ) -> Result<(), End>
-    requires running { IsRunning (D.agrees drive.old) (D.sight drive.old) (B.state board.old) }
+    requires running { DriveRuns (D.agrees drive.old) (D.sight drive.old) (B.state board.old) }
     requires has_room { waits ≡ true → length held.old.heads < held.old.room }
     requires bare { waits ≡ true → bytes.now ≡ [] }
 
@@ -220,7 +221,7 @@ pub fn serve_one<D: Engine, B: Board>(
 ) -> Result<(), End>
     requires can_serve { CanServe (D.agrees drive.old) (D.sight drive.old) (B.state board.old) }
     requires count { entry.now.before < most_entries }
-    requires handed { IsHanded shape.now entry.now.request.opcode entry.now.request.size value.now }
+    requires handed { PassesValue shape.now entry.now.request.opcode entry.now.request.size value.now }
     requires has_room { HasRoom (B.state board.old) shape.now into.old }
 
     // The drive, the board and the buffers.

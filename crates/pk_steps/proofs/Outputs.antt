@@ -1,7 +1,9 @@
 -- The output of the next merge fits into its run.
-use Rattle.std.proofs.Common.{◌≡◌, ◌⊎◌, inl, inr, ℕ, ◌+◌, ◌-◌, ◌*◌, ◌<◌, ◌≤◌, sym, ap, subst, ◌∙◌, arith, Bool, true, false, T, List, [], ◌∷◌, ◌++◌, length, map, reverse, filter, nat_le, ◌==◌}
-use Rattle.std.proofs.Common.{is_some, slice_index, if◌then◌else◌, Option, Some, None, ◌||◌, zip, leb→le, length-append, mul-le-mul_right, add-mul, append_assoc, append-nil, le_trans}
+use Rattle.std.proofs.Common.{◌≡◌, ◌⊎◌, inl, inr, ℕ, zero, suc, ◌+◌, ◌-◌, ◌*◌, ◌<◌, ◌≤◌, refl, sym, ap, subst, ◌∙◌, arith, Bool, true, false, cond, T, List, [], ◌∷◌, ◌++◌, length, map, reverse}
+use Rattle.std.proofs.Common.{filter, nat_le, ◌==◌, is_some, slice_index, if◌then◌else◌, Option, Some, None, Result, Ok, ◌||◌, zip, leb→le, length-append, mul-le-mul_right, add-mul, append_assoc}
+use Rattle.std.proofs.Common.{append-nil, le_trans}
 use Rattle.std.specs.Int.{div_ceil}
+use Rattle.std.specs.Ordering.{eq_by_cmp}
 use Rattle.std.specs.FinMap.Entries.{find, is_sorted, below_all}
 use Rattle.std.proofs.lemmas.List.FromFn.{length-range_with_len}
 use Rattle.pk_base.specs.Choices.{or_else}
@@ -17,8 +19,10 @@ use Rattle.pk_meta.specs.Over.{over}
 use Rattle.pk_rootfmt.specs.Root.{Root, named}
 use Rattle.pk_model.specs.Found.{Found, entries_in_order}
 use Rattle.pk_model.specs.Values.{placed, all_pages}
+use Rattle.pk_base.proofs.Logic.{left_part, right_part, both, ok_same}
+use Rattle.pk_base.proofs.KeyLemmas.{missing, same_key, firsts_sorted}
 use Rattle.pk_model.proofs.Lookups.{find-firsts, find-placed, flat}
-use Rattle.pk_model.proofs.Merges.{placed_sorted, keep, find-kept}
+use Rattle.pk_model.proofs.Merges.{placed_sorted}
 use Rattle.pk_base.proofs.ShapeLemmas.{charge_least}
 use Rattle.pk_model.proofs.Live.{ceil_room}
 use Rattle.pk_base.specs.Refusal.{ensure}
@@ -39,8 +43,6 @@ use Rattle.pk_steps.specs.Fitting.{OutputFits}
 use Rattle.pk_steps.proofs.FourRuns.{Runs, Pieces, four_of_root, four_runs, pieces_of}
 use Rattle.pk_steps.proofs.Amounts.{run_most, epoch_most, WithinCaps, within_caps, counted_of}
 use Rattle.pk_steps.proofs.Keys.{Has, no_more_than_both, find-both, has_firsts, firsts_of_both, firsts_reversed, firsts_fewer}
-use Rattle.pk_base.proofs.Logic.{left_part, right_part, both, ok_same}
-use Rattle.pk_base.proofs.KeyLemmas.{firsts_sorted}
 
 -- ---- which test led to the level
 
@@ -75,6 +77,24 @@ values_most shape is_shape (e ∷ es) =
     let pages = length-range_with_len e.1.page (charge shape e.1.len) in
     omega (arith, rest, one, size, pages)
 
+-- what is kept of an entry in the last run
+keep : Option (Option Place) → Option (Option Place)
+keep None = None
+keep (Some None) = None
+keep (Some (Some p)) = Some (Some p)
+
+find-filtered : (q : Key) (es : List Entry) → T (is_sorted key_cmp es) → find key_cmp q (filter (λ e. is_some e.1) es) ≡ keep (find key_cmp q es)
+unfolding keep
+find-filtered q [] h = refl
+find-filtered q ((k, Some p) ∷ es) h = elim (eq_by_cmp key_cmp q k) as (λ b. cond b (Some (Some p)) (find key_cmp q (filter (λ e. is_some e.1) es)) ≡ keep
+    (cond b (Some (Some p)) (find key_cmp q es))) [ true ↦ refl | false ↦ find-filtered q es (right_part (below_all key_cmp k es) (is_sorted key_cmp es) h) ]
+find-filtered q ((k, None) ∷ es) h =
+    let rest = find-filtered q es (right_part (below_all key_cmp k es) (is_sorted key_cmp es) h) in
+    elim (eq_by_cmp key_cmp q k) as (λ b. eq_by_cmp key_cmp q k ≡ b → find key_cmp q (filter (λ e. is_some e.1) es) ≡ keep (cond b (Some None) (find key_cmp q es))) [
+      | true ↦ λ e. rest ∙ ap keep (ap (λ x. find key_cmp x es) (same_key q k e) ∙ missing k es (left_part (below_all key_cmp k es) (is_sorted key_cmp es) h))
+      | false ↦ λ e. rest
+    ] refl
+
 below_filtered : (k : Key) (es : List Entry) → T (below_all key_cmp k es) → T (below_all key_cmp k (filter (λ e. is_some e.1) es))
 below_filtered k [] h = tt
 below_filtered k ((q, Some p) ∷ es) h = both _ (below_all key_cmp k (filter (λ e. is_some e.1) es))
@@ -105,8 +125,8 @@ module _ (upper r3 r4 : List Entry) where
   -- each key of the output is a key of the lists above, or of a value
   among : (q : Key) → Has q kept → Has q (firsts upper) ⊎ Has q (placed (firsts all))
   among q has =
-      let output : find key_cmp q (filter (λ e. is_some e.1) (over r3 r4)) ≡ keep (find key_cmp q (r3 ++ r4)) = find-kept q (over r3 r4) (firsts_sorted (r3 ++ r4))
-      ∙ ap keep (find-firsts q (r3 ++ r4)) in
+      let output : find key_cmp q (filter (λ e. is_some e.1) (over r3 r4)) ≡ keep (find key_cmp q (r3 ++ r4)) = find-filtered q (over r3 r4) (firsts_sorted (r3 ++ r4))
+          ∙ ap keep (find-firsts q (r3 ++ r4)) in
       elim (counts_or_above (find key_cmp q upper) (find key_cmp q (r3 ++ r4)) (subst (λ o. T (is_some o)) output has)) [
         | inl above ↦ inl (has_firsts q upper above)
         | inr counts ↦ inr (subst (λ o. T (is_some o)) (sym (find-placed q (firsts all) (firsts_sorted all) ∙ ap flat (find-firsts q all ∙ find-both q upper (r3 ++ r4)))) counts)
@@ -230,7 +250,7 @@ module _ (shape : Shape) (flash : Flash) (extra : List Entry) (top : ℕ × Root
       let lists : map (λ es. length es) found.runs ≡ length runs.r1 ∷ length runs.r2 ∷ length runs.r3 ∷ length runs.r4 ∷ [] = ap (map (λ es. length es)) runs.lists_are in
       let f = length (firsts found.older) in
       elim (chosen (f == 0) (nat_le (f + slice_index counts 0) (room shape 1)) (nat_le (slice_index counts 0 + slice_index counts 1) (room shape 2))
-      (nat_le (slice_index counts 1 + slice_index counts 2) (room shape 3)) level next) [
+          (nat_le (slice_index counts 1 + slice_index counts 2) (room shape 3)) level next) [
         | inl one ↦ into_one level one.0 (leb→le _ _ (subst (λ ns. T (nat_le (f + slice_index ns 0) (room shape 1))) lists one.1))
         | inr (inl two) ↦ into_two level two.0 (leb→le _ _ (subst (λ ns. T (nat_le (slice_index ns 0 + slice_index ns 1) (room shape 2))) lists two.1))
         | inr (inr (inl three)) ↦ into_three level three.0 (leb→le _ _ (subst (λ ns. T (nat_le (slice_index ns 1 + slice_index ns 2) (room shape 3))) lists three.1))

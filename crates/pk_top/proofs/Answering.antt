@@ -8,8 +8,11 @@ use Rattle.pk_nand.specs.BoardState.{BoardState, shape_or_none}
 use Rattle.pk_nand.specs.Calls.{Rose, Loaded, longer}
 use Rattle.pk_nand.specs.declared.types.LoadFault.{LoadFault}
 use Rattle.pk_nand.specs.declared.types.LoadFault.TheVariants.{Fault, BadImage, Memory}
+use Rattle.pk_model.specs.Kept.{AtMost, rise}
 use Rattle.pk_model.specs.Reading.{Holds}
+use Rattle.pk_model.specs.Run.{faults}
 use Rattle.pk_model.specs.Wear.{root_number, roots}
+use Rattle.pk_call.specs.Meter.{Meter, meter, MeteredAll}
 use Rattle.pk_serve.specs.Complete.{NoneRose}
 use Rattle.pk_scan.specs.Opening.{NotOpened}
 use Rattle.pk_scan.specs.declared.errors.OpenError.{OpenError}
@@ -25,6 +28,7 @@ use Rattle.pk_top.specs.Ends.{open_status}
 use Rattle.pk_top.specs.Loads.{load_status, HasReason}
 use Rattle.pk_top.specs.Serves.{behind_opening}
 use Rattle.pk_top.specs.Statuses.{Untouched}
+use Rattle.pk_top.proofs.Asked.{same_meter}
 use Rattle.pk_top.proofs.Completing.{reads_leave, untouched_loaded}
 use Rattle.pk_top.proofs.Telling.{untouched_same, refused_untouched}
 
@@ -42,16 +46,12 @@ worn_never : (before behind more : ℕ) → nat_le 9223372036854775808 behind �
 worn_never before behind more worn used far few = grind (arith, nat_tests, worn, used, far, few)
 
 module _ (task : Task) (few : most_roots task < 4611686018427387904) (shape : Shape) (loaded new : BoardState) where
-  finished : (start m : Map) → start ≡ m → WordDone task shape WORD_FRAMES start (behind_opening shape WORD_FRAMES loaded) new → WordDone task shape WORD_FRAMES m loaded new
-  finished start m same f =
-      let T : Map → Type 0 = λ s. WordDone task shape WORD_FRAMES s loaded new in
-      subst T same (record { left = f.left; text = f.text; says = f.says; posted = f.posted; holds = f.holds; sound = record { output = f.sound.output; stop = f.sound.stop } })
-
   by_end : (status : ℕ) (end : WordEnd) → status ≡ word_status end → AskedTo task shape loaded new end → AsksAll task shape loaded new status
   by_end status Done is asked start holds far none sound =
       let held : Holds shape loaded.pages asked.start = asked.holds in
       let same : asked.start ≡ start = cc in
-      inl (is, finished asked.start start same asked.ends)
+      let T : Map → Type 0 = λ s. WordDone task shape WORD_FRAMES s (behind_opening shape WORD_FRAMES loaded) new in
+      inl (is, subst T same asked.ends)
   by_end status Output is asked start holds far none sound = absurd (none.output asked.ends)
   by_end status FlashFailed is asked start holds far none sound = absurd (none.stops asked.ends)
   by_end status Worn is asked start holds far none sound = absurd (worn_never (roots loaded) (roots new) (most_roots task) asked.ends.0 (asked.used refl) far few)
@@ -80,16 +80,33 @@ module _ (task : Task) (few : most_roots task < 4611686018427387904) (old new : 
     same_shape : loaded.shape ≡ old.shape
     same_shape = (found.held some).1
 
-    finished_loaded : (start : Map) → WordDone task shape WORD_FRAMES start loaded new → WordDone task shape WORD_FRAMES start old new
+    same_roots : roots old ≡ roots loaded
+    same_roots = λ k. root_number (shape_or_none (sym same_shape k)) (sym same_pages k)
+
+    finished_loaded : (start : Map) → WordDone task shape WORD_FRAMES start (behind_opening shape WORD_FRAMES loaded) new
+        → WordDone task shape WORD_FRAMES start (behind_opening shape WORD_FRAMES old) new
     finished_loaded start f =
-        let R : ℕ → Type 0 = λ n. SaysTask task n new.read_faults shape WORD_FRAMES start f.text f.left in
+        let R : ℕ → Type 0 = λ n. SaysTask task n new.read_faults shape WORD_FRAMES start f.answered.all f.text f.left in
+        let F : ℕ → Type 0 = λ n. AtMost (rise n new.read_faults) (faults f.answered.all) in
+        let M : Meter → Type 0 = λ t. MeteredAll t f.answered.all (meter new) in
+        let same_faults : loaded.read_faults ≡ old.read_faults = ap (λ (s : BoardState). s.read_faults) found.rest in
         record {
           left = f.left;
+          asked = f.asked;
+          are = f.are;
+          answered = record {
+            all = f.answered.all;
+            are = f.answered.are;
+            ran = f.answered.ran;
+            few = subst F same_faults f.answered.few;
+            metered = subst M (same_meter shape old loaded found some) f.answered.metered;
+          };
           text = f.text;
-          says = subst R (ap (λ (s : BoardState). s.read_faults) found.rest) f.says;
+          says = subst R same_faults f.says;
           posted = f.posted ∙ ap (λ (o : Option (List ℕ)). longer o f.text) (ap (λ (s : BoardState). s.posted) found.rest);
           holds = f.holds;
           sound = record { output = f.sound.output ∙ ap (λ (s : BoardState). s.out_faults) found.rest; stop = f.sound.stop ∙ ap (λ (s : BoardState). s.stop_faults) found.rest };
+          unworn = λ begins. ap (λ n. nat_le 9223372036854775808 n) same_roots ∙ f.unworn begins;
         }
 
     none_loaded : NoneRose old new → NoneRose loaded new
@@ -110,8 +127,7 @@ module _ (task : Task) (few : most_roots task < 4611686018427387904) (old new : 
         let H : Flash → Type 0 = λ f. Holds shape f start in
         let F : ℕ → Type 0 = λ n. Rose n new.flash_faults → ⊥ in
         let W : ℕ → Type 0 = λ n. n < 4611686018427387904 in
-        let same : roots old ≡ roots loaded = λ k. root_number (shape_or_none (sym same_shape k)) (sym same_pages k) in
-        elim (all start (subst H (sym same_pages) holds) (subst W same far) (none_loaded none) (subst F (sym (ap (λ (s : BoardState). s.flash_faults) found.rest)) sound)) [
+        elim (all start (subst H (sym same_pages) holds) (subst W same_roots far) (none_loaded none) (subst F (sym (ap (λ (s : BoardState). s.flash_faults) found.rest)) sound)) [
           | inl done ↦ inl (done.0, finished_loaded start done.1)
           | inr nothing ↦ inr (nothing.0, untouched_loaded 0 old new status shape loaded found has nothing.1)
         ]

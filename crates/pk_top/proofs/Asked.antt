@@ -1,13 +1,14 @@
 -- A run of a word that asks the drive, from the load on.
-use Rattle.std.proofs.Common.{◌≡◌, ◌⊎◌, inl, inr, ℕ, List, [], Option, Some, None, Result, Ok, refl, sym, ◌∙◌, ap, subst, arith}
+use Rattle.std.proofs.Common.{◌≡◌, ◌⊎◌, inl, inr, ℕ, List, [], Option, Some, None, IsSome, Result, Ok, refl, sym, ◌∙◌, ap, subst, arith}
 use Rattle.pk_base.specs.Entry.{Entry}
 use Rattle.pk_base.specs.Map.{Map}
 use Rattle.pk_base.specs.Page.{Flash, IsFlash}
 use Rattle.pk_base.specs.Refusal.{Refusal}
 use Rattle.pk_base.specs.Shape.{Shape}
 use Rattle.pk_nvme.specs.Command.{Command}
-use Rattle.pk_nand.specs.BoardState.{BoardState}
+use Rattle.pk_nand.specs.BoardState.{BoardState, shape_or_none}
 use Rattle.pk_nand.specs.Calls.{Rose, Loaded, IsReady}
+use Rattle.pk_nand.specs.Counts.{counted_by}
 use Rattle.pk_nand.specs.Effects.{OnlyReading}
 use Rattle.pk_nand.specs.Resting.{RestsFlash}
 use Rattle.pk_nand.proofs.Reaching.{Reached-start, Went-reached}
@@ -16,14 +17,17 @@ use Rattle.pk_model.specs.Growth.{Goes}
 use Rattle.pk_model.specs.Kept.{Kept, rise}
 use Rattle.pk_model.specs.Reading.{reading, Holds}
 use Rattle.pk_model.specs.Sight.{Sight}
+use Rattle.pk_model.specs.Wear.{root_number}
 use Rattle.pk_serve.proofs.Counting.{at_most-zero}
 use Rattle.pk_call.specs.Drive.{HoldsMap}
+use Rattle.pk_call.specs.Meter.{Meter, meter}
 use Rattle.pk_scan.specs.Opening.{NotOpened}
+use Rattle.pk_scan.specs.Reads.{opening_reads}
 use Rattle.pk_scan.specs.declared.errors.OpenError.{OpenError}
 use Rattle.pk_words.specs.Lines.{key_lines}
 use Rattle.pk_words.specs.Says.{wanted_keys}
 use Rattle.pk_wordrun.specs.Tasks.{Task, answer, list, generate, KeptTask}
-use Rattle.pk_wordrun.specs.Told.{Told, EndsBy}
+use Rattle.pk_wordrun.specs.Told.{Told, EndsBy, KeepsInput}
 use Rattle.pk_wordrun.specs.declared.end.WordEnd.{WordEnd}
 use Rattle.pk_wordrun.specs.declared.end.WordEnd.TheVariants.{Done, Output, Flash as FlashFailed, Worn}
 use Rattle.pk_top.specs.Asks.{word_status, KeepsTask, AskedTo, Asks, AskRun}
@@ -50,27 +54,43 @@ kept-none shape frames start cs before behind flash holds = record {
 }
 
 -- a flash that holds the map, before any byte was posted
-pub silent : (task : Task) (before behind : ℕ) (shape : Shape) (frames : ℕ) (start : Map) (flash : Flash) → Holds shape flash start → KeptTask task before behind shape frames start flash []
-silent (answer q) before behind shape frames start flash holds = (kept-none shape frames start _ before behind flash holds, inl refl)
-silent (list from) before behind shape frames start flash holds = record {
-  held = holds;
-  text = key_lines (wanted_keys from start);
-  says = (refl, inl refl);
-  unposted = key_lines (wanted_keys from start);
-  front = refl;
-}
-silent (generate begin count) before behind shape frames start flash holds = (kept-none shape frames start _ before behind flash holds, inl refl)
+pub silent : (task : Task) (from to : Meter) (shape : Shape) (frames : ℕ) (start : Map) (flash : Flash) → Holds shape flash start → KeptTask task from to shape frames start flash []
+silent (answer q) from to shape frames start flash holds = (kept-none shape frames start _ from.read_faults to.read_faults flash holds, inl refl)
+silent (list key) from to shape frames start flash holds =
+    let lines = key_lines (wanted_keys key start) in record { held = holds; text = lines; says = (refl, inl refl); unposted = lines; front = refl }
+silent (generate begin count) from to shape frames start flash holds = (kept-none shape frames start _ from.read_faults to.read_faults flash holds, inl refl)
 
 -- what a word keeps is a flash that holds a map
-pub task_holds : (task : Task) (before behind : ℕ) (shape : Shape) (frames : ℕ) (start : Map) (flash : Flash) (posted : List ℕ) → KeptTask task before behind shape frames start flash posted
+pub task_holds : (task : Task) (from to : Meter) (shape : Shape) (frames : ℕ) (start : Map) (flash : Flash) (posted : List ℕ) → KeptTask task from to shape frames start flash posted
     → (m : Map) × Holds shape flash m
-task_holds (answer q) before behind shape frames start flash posted kept = (kept.0.map_left, kept.0.held)
-task_holds (list from) before behind shape frames start flash posted kept = (start, kept.held)
-task_holds (generate begin count) before behind shape frames start flash posted kept = (kept.0.map_left, kept.0.held)
+task_holds (answer q) from to shape frames start flash posted kept = (kept.0.map_left, kept.0.held)
+task_holds (list key) from to shape frames start flash posted kept = (start, kept.held)
+task_holds (generate begin count) from to shape frames start flash posted kept = (kept.0.map_left, kept.0.held)
+
+-- reads do not touch the input
+pub input_still : (a b : BoardState) → OnlyReading a b → KeepsInput a b
+input_still a b only = record { input = ap (λ (s : BoardState). s.input) only; in_faults = ap (λ (s : BoardState). s.in_faults) only }
+
+-- the counts after the reads of opening are the same before the load, if the board holds its pages from the start
+pub same_meter : (shape : Shape) (old loaded : BoardState) → Loaded old loaded (Some shape) → IsSome old.shape
+    → meter (behind_opening shape WORD_FRAMES loaded) ≡ meter (behind_opening shape WORD_FRAMES old)
+same_meter shape old loaded found some =
+    let held = found.held some in
+    let reads : loaded.reads ≡ old.reads = ap (λ (s : BoardState). s.reads) found.rest in
+    let faults : loaded.read_faults ≡ old.read_faults = ap (λ (s : BoardState). s.read_faults) found.rest in
+    λ k. record {
+      reads = counted_by (opening_reads shape (held.0 k) WORD_FRAMES) (reads k);
+      read_faults = faults k;
+      roots = root_number (shape_or_none (held.1 k)) (held.0 k);
+    }
 
 module _ (task : Task) (shape : Shape) (loaded new : BoardState) where
+  -- the counts of the board after the reads of opening, and at the end
+  abbrev from : Meter
+  from = meter (behind_opening shape WORD_FRAMES loaded)
+
   abbrev KeptFrom : Flash → List ℕ → Type 0
-  KeptFrom flash posted = (start : Map) → Holds shape loaded.pages start → KeptTask task loaded.read_faults new.read_faults shape WORD_FRAMES start flash posted
+  KeptFrom flash posted = (start : Map) → Holds shape loaded.pages start → KeptTask task from (meter new) shape WORD_FRAMES start flash posted
 
   keeps-none : OnlyReading loaded new → KeepsTask task shape loaded new
   keeps-none only = (
@@ -78,7 +98,7 @@ module _ (task : Task) (shape : Shape) (loaded new : BoardState) where
     Went-reached [] loaded new KeptFrom
         (Reached-start loaded new KeptFrom (ap (λ (s : BoardState). s.shape) only)
         (ap (λ (s : BoardState). s.pages) only) (ap (λ (s : BoardState). s.trail) only) (ap (λ (s : BoardState). s.posted) only)
-        (λ start holds. silent task loaded.read_faults new.read_faults shape WORD_FRAMES start loaded.pages holds)),
+        (λ start holds. silent task from (meter new) shape WORD_FRAMES start loaded.pages holds)),
     tt,
   )
 
@@ -97,6 +117,7 @@ module _ (task : Task) (shape : Shape) (loaded new : BoardState) where
   pub Asks-not : (status : ℕ) (error : OpenError) → status ≡ open_status error → NotOpened shape loaded new error → OnlyReading loaded new → Asks task shape loaded new status
   Asks-not status error tells reason only = record {
     kept = keeps-none only;
+    input = input_still loaded new only;
     rests = λ _. rests-reading only;
     outcome = inl (record { error = error; tells = tells; reason = reason; only_reads = only });
   }
@@ -107,11 +128,11 @@ module _ (task : Task) (shape : Shape) (loaded new : BoardState) where
     start-held = let T : List Entry → Type 0 = λ p. reading shape loaded.pages p ≡ Ok start in subst T none stands.map_is
 
     -- a flash holds one map
-    kept-from : (flash : Flash) (posted : List ℕ) → KeptTask task loaded.read_faults new.read_faults shape WORD_FRAMES start flash posted → KeptFrom flash posted
+    kept-from : (flash : Flash) (posted : List ℕ) → KeptTask task from (meter new) shape WORD_FRAMES start flash posted → KeptFrom flash posted
     kept-from flash posted kept m holds =
         let held : Holds shape loaded.pages start = start-held in
         let same : start ≡ m = cc in
-        let T : Map → Type 0 = λ s. KeptTask task loaded.read_faults new.read_faults shape WORD_FRAMES s flash posted in
+        let T : Map → Type 0 = λ s. KeptTask task from (meter new) shape WORD_FRAMES s flash posted in
         subst T same kept
 
     told-by : (status : ℕ) (end : WordEnd) → status ≡ word_status end → Told task shape WORD_FRAMES start (behind_opening shape WORD_FRAMES loaded) new end → Asks task shape loaded new status
@@ -127,6 +148,7 @@ module _ (task : Task) (shape : Shape) (loaded new : BoardState) where
         },
         told.kept.2,
       );
+      input = record { input = told.input.input; in_faults = told.input.in_faults };
       rests = λ only. rests-opened (told.rests only);
       outcome = inr (end, tells, record { start = start; holds = start-held; ends = told.ends; used = told.used });
     }

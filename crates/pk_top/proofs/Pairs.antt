@@ -42,6 +42,7 @@ use Rattle.pk_top.specs.Ends.{open_status}
 use Rattle.pk_top.specs.Loads.{load_status, HasReason}
 use Rattle.pk_top.specs.Serves.{NotServed, behind_opening}
 use Rattle.pk_top.specs.Statuses.{GivesNothing, Untouched, Tells}
+use Rattle.pk_top.proofs.Asked.{input_still}
 use Rattle.pk_top.specs.PairRuns.{NotFound, KeepsPair, AskedPair, AsksPair, PairRun, PairTells, LacksPair, PairRefused, PairWhole}
 use Rattle.pk_top.proofs.Telling.{tells_refused, tells_not, tells_no_drive, wants_untouched, wants_sound, untouched_same, load_untouched, refused_untouched}
 
@@ -94,13 +95,20 @@ module _ (task : PairTask) (shape : Shape) (loaded new loaded' new' : BoardState
 
   -- memory for the words was missing
   pub AsksPair-memory : (status : ℕ) → status ≡ 7 → new ≡ loaded → new' ≡ loaded' → OnlyReading loaded new → OnlyReading loaded' new' → AsksPair task shape loaded new loaded' new' status
-  AsksPair-memory status is same same' only also = record { kept = still only also; outcome = inl (is, same, same') }
+  AsksPair-memory status is same same' only also = record {
+    kept = still only also;
+    first_input = input_still loaded new only;
+    second_input = input_still loaded' new' also;
+    outcome = inl (is, same, same');
+  }
 
   -- the first drive was not opened
   pub AsksPair-first : (status : ℕ) (error : OpenError) → status ≡ open_status error → NotOpened shape loaded new error
       → OnlyReading loaded new → new' ≡ loaded' → OnlyReading loaded' new' → AsksPair task shape loaded new loaded' new' status
   AsksPair-first status error tells reason only same' also = record {
     kept = still only also;
+    first_input = input_still loaded new only;
+    second_input = input_still loaded' new' also;
     outcome = inr (inl (inl (record { error = error; tells = tells; reason = reason; only_reads = only }, same')));
   }
 
@@ -110,6 +118,8 @@ module _ (task : PairTask) (shape : Shape) (loaded new loaded' new' : BoardState
       → AsksPair task shape loaded new loaded' new' status
   AsksPair-second status error tells is only reason also = record {
     kept = still only also;
+    first_input = input_still loaded new only;
+    second_input = input_still loaded' new' also;
     outcome = inr (inl (inr (is, record { error = error; tells = tells; reason = reason; only_reads = also })));
   }
 
@@ -156,6 +166,8 @@ module _ (task : PairTask) (shape : Shape) (loaded new loaded' new' : BoardState
           told.second_kept.2,
         );
       };
+      first_input = record { input = told.first_input.input; in_faults = told.first_input.in_faults };
+      second_input = record { input = told.second_input.input; in_faults = told.second_input.in_faults };
       outcome = inr (inr (
         end,
         tells,

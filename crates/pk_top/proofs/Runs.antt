@@ -16,11 +16,12 @@ use Rattle.pk_nand.specs.Crash.{EveryCut}
 use Rattle.pk_model.specs.Reading.{reading, Holds}
 use Rattle.pk_model.specs.Script.{script}
 use Rattle.pk_serve.proofs.Counting.{at_most-zero}
-use Rattle.pk_top.specs.Serves.{ServeRun, ServesFound}
+use Rattle.pk_call.specs.Meter.{Meter, meter}
+use Rattle.pk_top.specs.Serves.{ServeRun, ServesFound, behind_opening}
 use Rattle.pk_wordrun.specs.Tasks.{Task, KeptTask}
 use Rattle.pk_top.specs.Asks.{AsksFound, AskRun}
 use Rattle.pk_top.specs.declared.asking.TheConstants.{WORD_FRAMES}
-use Rattle.pk_top.proofs.Asked.{silent, task_holds}
+use Rattle.pk_top.proofs.Asked.{silent, task_holds, same_meter}
 use Rattle.pk_top.specs.Sessions.{ProgramRun, IsRun, LeavesMap, KeptThrough, RunOn, KeptThroughRuns}
 use Rattle.pk_top.specs.Resting.{Rests}
 use Rattle.pk_top.specs.Words.{Word, make, serve, ask, assemble, show, word_of}
@@ -38,6 +39,10 @@ module _ (shape : Shape) (r : ProgramRun) (is : IsRun shape r) where
   some_shape : IsSome r.old.shape
   some_shape = let T : Option Shape → Type 0 = IsSome in subst T (sym is.shape_is) refl
 
+  -- the counts after the reads of opening
+  abbrev opened : Shape → Meter
+  opened s = meter (behind_opening s WORD_FRAMES r.old)
+
   -- the end is the last cut
   Ended : Type 0
   Ended = Cut shape r.old.pages r.marks r.new.pages (all_posted r.marks)
@@ -48,7 +53,7 @@ module _ (shape : Shape) (r : ProgramRun) (is : IsRun shape r) where
       (m : Map) → Holds shape r.old.pages m → EveryCut shape r.old.pages r.marks (λ flash posted. Kept shape frames m (script r.input).0 (rise r.old.read_faults r.new.read_faults) posted flash)
 
   abbrev AsksCut : Task → Type 0
-  AsksCut task = (m : Map) → Holds shape r.old.pages m → EveryCut shape r.old.pages r.marks (KeptTask task r.old.read_faults r.new.read_faults shape WORD_FRAMES m)
+  AsksCut task = (m : Map) → Holds shape r.old.pages m → EveryCut shape r.old.pages r.marks (KeptTask task (opened shape) (meter r.new) shape WORD_FRAMES m)
 
   abbrev RestsCut : Type 0
   RestsCut = EveryCut shape r.old.pages r.marks (Standing r.old.pages)
@@ -139,9 +144,9 @@ module _ (shape : Shape) (r : ProgramRun) (is : IsRun shape r) where
       let none : r.marks ≡ [] = same_marks r.old.trail is.before r.marks [] is.trail (longer-nil r.old.trail ∙ (sym same ∙ is.more)) in
       let T : List Mark → Type 0 = λ marks. Cut shape r.old.pages marks cut posted in
       let here : (cut ≡ r.old.pages) × (posted ≡ []) = subst T none stands in
-      let F : Flash → Type 0 = λ f. KeptTask task r.old.read_faults r.new.read_faults shape WORD_FRAMES m f posted in
-      let P : List ℕ → Type 0 = λ q. KeptTask task r.old.read_faults r.new.read_faults shape WORD_FRAMES m r.old.pages q in
-      subst F (sym here.0) (subst P (sym here.1) (silent task r.old.read_faults r.new.read_faults shape WORD_FRAMES m r.old.pages holds))
+      let F : Flash → Type 0 = λ f. KeptTask task (opened shape) (meter r.new) shape WORD_FRAMES m f posted in
+      let P : List ℕ → Type 0 = λ q. KeptTask task (opened shape) (meter r.new) shape WORD_FRAMES m r.old.pages q in
+      subst F (sym here.0) (subst P (sym here.1) (silent task (opened shape) (meter r.new) shape WORD_FRAMES m r.old.pages holds))
 
   asks_found : (task : Task) → AsksFound task r.old r.new r.status → AsksCut task
   asks_found task found m holds cut posted stands =
@@ -159,9 +164,9 @@ module _ (shape : Shape) (r : ProgramRun) (is : IsRun shape r) where
       let H : Flash → Type 0 = λ f. Holds found.shape f m in
       let G : Shape → Type 0 = λ s. Holds s r.old.pages m in
       let kept = goes.1.cuts cut posted at m (subst H (sym held.0) (subst G (sym same) holds)) in
-      let K : Shape → Type 0 = λ s. KeptTask task r.old.read_faults r.new.read_faults s WORD_FRAMES m cut posted in
-      let R : ℕ → Type 0 = λ n. KeptTask task n r.new.read_faults found.shape WORD_FRAMES m cut posted in
-      subst K same (subst R (ap (λ (s : BoardState). s.read_faults) found.found.rest) kept)
+      let K : Shape → Type 0 = λ s. KeptTask task (opened s) (meter r.new) s WORD_FRAMES m cut posted in
+      let R : Meter → Type 0 = λ t. KeptTask task t (meter r.new) found.shape WORD_FRAMES m cut posted in
+      subst K same (subst R (same_meter found.shape r.old found.loaded found.found some_shape) kept)
 
   asks_cut : (task : Task) → AskRun task r.old r.new r.status → AsksCut task
   asks_cut task (inl none) = quiet_untouched task (ap (λ (s : BoardState). s.trail) none.1)
@@ -188,7 +193,7 @@ module _ (shape : Shape) (r : ProgramRun) (is : IsRun shape r) where
       (kept.map_left, (kept, refl), kept.held)
   left_by (Some (ask task)) of rests m holds =
       let kept = asks_cut task (is.asks task of) m holds r.left r.posted is.cut in
-      let held = task_holds task r.old.read_faults r.new.read_faults shape WORD_FRAMES m r.left r.posted kept in
+      let held = task_holds task (opened shape) (meter r.new) shape WORD_FRAMES m r.left r.posted kept in
       (held.0, kept, held.1)
 
   left : (m : Map) → Holds shape r.old.pages m → Left (word_of r.words) m

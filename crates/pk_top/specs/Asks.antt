@@ -9,9 +9,10 @@ use Rattle.pk_nand.specs.Resting.{RestsFlash}
 use Rattle.pk_model.specs.Growth.{Goes}
 use Rattle.pk_model.specs.Reading.{Holds}
 use Rattle.pk_model.specs.Wear.{roots}
+use Rattle.pk_call.specs.Meter.{meter}
 use Rattle.pk_serve.specs.Complete.{NoneRose, far_below}
-use Rattle.pk_wordrun.specs.Tasks.{Task, only_asks, SaysTask, KeptTask}
-use Rattle.pk_wordrun.specs.Told.{EndsBy, WordDone, most_roots}
+use Rattle.pk_wordrun.specs.Tasks.{Task, only_asks, KeptTask}
+use Rattle.pk_wordrun.specs.Told.{EndsBy, WordDone, KeepsInput, most_roots}
 use Rattle.pk_wordrun.specs.declared.end.WordEnd.{WordEnd}
 use Rattle.pk_wordrun.specs.declared.end.WordEnd.TheVariants.{Done, Output, Flash as FlashFailed, Worn}
 use Rattle.pk_top.specs.declared.status.TheConstants.Status.{DONE, OUTPUT, FLASH, MEMORY, NO_DRIVE, WORN}
@@ -31,7 +32,7 @@ word_status Worn = WORN.0
 abbrev pub KeepsTask : Task → Shape → BoardState → BoardState → Type 0
 KeepsTask task shape loaded new =
     Goes shape loaded new (λ flash posted. (start : Map) → Holds shape loaded.pages start
-    → KeptTask task loaded.read_faults new.read_faults shape WORD_FRAMES start flash posted)
+    → KeptTask task (meter (behind_opening shape WORD_FRAMES loaded)) (meter new) shape WORD_FRAMES start flash posted)
 
 -- The drive was opened, and this is the end of the word.
 pub record AskedTo (task : Task) (shape : Shape) (loaded new : BoardState) (end : WordEnd) : Type 0 where
@@ -40,9 +41,10 @@ pub record AskedTo (task : Task) (shape : Shape) (loaded new : BoardState) (end 
   pub ends : EndsBy task shape WORD_FRAMES start (behind_opening shape WORD_FRAMES loaded) new end
   pub used : end ≡ Worn → roots new ≤ roots loaded + most_roots task
 
--- What was done on an image of this shape, from its load on. A word that only asks leaves each page.
+-- What was done on an image of this shape, from its load on. A word that only asks leaves each page, and none of these words reads the input.
 pub record Asks (task : Task) (shape : Shape) (loaded new : BoardState) (status : ℕ) : Type 0 where
   pub kept : KeepsTask task shape loaded new
+  pub input : KeepsInput loaded new
   pub rests : only_asks task ≡ true → RestsFlash loaded new
   pub outcome : NotServed shape loaded new status ⊎ ((end : WordEnd) × (status ≡ word_status end) × AskedTo task shape loaded new end)
 
@@ -65,7 +67,7 @@ AskRun task old new status =
 abbrev pub AsksAll : Task → Shape → BoardState → BoardState → ℕ → Type 0
 AsksAll task shape loaded new status =
     (start : Map) → Holds shape loaded.pages start → roots loaded < far_below → NoneRose loaded new → (Rose loaded.flash_faults new.flash_faults → ⊥)
-    → ((status ≡ DONE.0) × WordDone task shape WORD_FRAMES start loaded new) ⊎ ((status ≡ MEMORY.0) × Untouched loaded new)
+    → ((status ≡ DONE.0) × WordDone task shape WORD_FRAMES start (behind_opening shape WORD_FRAMES loaded) new) ⊎ ((status ≡ MEMORY.0) × Untouched loaded new)
 
 -- the same of a board that holds its pages from the start
 abbrev pub AsksWhole : Task → BoardState → BoardState → ℕ → Type 0

@@ -9,6 +9,7 @@ use Rattle.pk_model.specs.Growth.{Goes}
 use Rattle.pk_model.specs.Reading.{Holds, Refuses}
 use Rattle.pk_model.specs.Wear.{is_worn, roots}
 use Rattle.pk_serve.specs.Complete.{NoneRose, far_below}
+use Rattle.pk_wordrun.specs.Told.{KeepsInput}
 use Rattle.pk_wordrun.specs.declared.end.WordEnd.{WordEnd}
 use Rattle.pk_mirrorwords.specs.PairTasks.{PairTask}
 use Rattle.pk_mirrorrun.specs.PairTold.{EitherUnread, map_left_by, text_by, KeptFirst, KeptSecond, PairEnds, UsedRoots, most_pair_roots}
@@ -47,9 +48,12 @@ abbrev pub NotOpenedPair : Shape → BoardState → BoardState → BoardState �
 NotOpenedPair shape loaded new loaded' new' status =
     (NotServed shape loaded new status × (new' ≡ loaded')) ⊎ ((new ≡ behind_opening shape WORD_FRAMES loaded) × NotServed shape loaded' new' status)
 
--- What was done on two images of one shape, from their loads on: memory was missing, or a drive was not opened, or the word came to an end.
+-- What was done on two images of one shape, from their loads on: memory was missing, or a drive was not opened, or the word came to an end. No input
+-- was read.
 pub record AsksPair (task : PairTask) (shape : Shape) (loaded new loaded' new' : BoardState) (status : ℕ) : Type 0 where
   pub kept : KeepsPair task shape loaded new loaded' new'
+  pub first_input : KeepsInput loaded new
+  pub second_input : KeepsInput loaded' new'
   pub outcome :
       ((status ≡ MEMORY.0) × (new ≡ loaded) × (new' ≡ loaded'))
       ⊎ (NotOpenedPair shape loaded new loaded' new' status ⊎ ((end : WordEnd) × (status ≡ word_status end) × AskedPair task shape loaded new loaded' new' end))

@@ -11,8 +11,9 @@ use Rattle.pk_model.specs.Kept.{Kept, rise}
 use Rattle.pk_model.specs.Reading.{Holds}
 use Rattle.pk_top.specs.Makes.{IsMade}
 use Rattle.pk_top.specs.Resting.{Rests}
-use Rattle.pk_top.specs.Serves.{ServeRun}
+use Rattle.pk_top.specs.Serves.{ServeRun, behind_opening}
 use Rattle.pk_model.specs.Script.{script}
+use Rattle.pk_call.specs.Meter.{meter}
 use Rattle.pk_wordrun.specs.Tasks.{Task, KeptTask}
 use Rattle.pk_top.specs.Asks.{AskRun}
 use Rattle.pk_top.specs.declared.asking.TheConstants.{WORD_FRAMES}
@@ -47,7 +48,7 @@ pub record IsRun (shape : Shape) (r : ProgramRun) : Type 0 where
 abbrev pub LeavesMap : Option Word → Shape → ProgramRun → Map → Map → Type 0
 LeavesMap (Some (serve frames)) shape r m m' =
     (kept : Kept shape frames m (script r.input).0 (rise r.old.read_faults r.new.read_faults) r.posted r.left) × (m' ≡ kept.map_left)
-LeavesMap (Some (ask task)) shape r m m' = KeptTask task r.old.read_faults r.new.read_faults shape WORD_FRAMES m r.left r.posted
+LeavesMap (Some (ask task)) shape r m m' = KeptTask task (meter (behind_opening shape WORD_FRAMES r.old)) (meter r.new) shape WORD_FRAMES m r.left r.posted
 LeavesMap (Some (make other)) shape r m m' = m' ≡ m
 LeavesMap (Some assemble) shape r m m' = m' ≡ m
 LeavesMap (Some show) shape r m m' = m' ≡ m

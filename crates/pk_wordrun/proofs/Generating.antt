@@ -1,6 +1,6 @@
 -- A workload, one command after another, and its summary.
-use Rattle.std.proofs.Common.{◌≡◌, ℕ, zero, suc, ◌+◌, ◌*◌, ◌%◌, ◌<◌, ◌≤◌, ◌==◌, nat_le, nat_lt, if◌then◌else◌, List, [], ◌∷◌, ◌++◌, length, Option, Some, Ok, Bool, true, false, refl, sym, ◌∙◌, ap}
-use Rattle.std.proofs.Common.{subst, arith, append-nil, append_assoc, length-append}
+use Rattle.std.proofs.Common.{◌≡◌, ℕ, zero, suc, ◌+◌, ◌*◌, ◌%◌, ◌<◌, ◌≤◌, ◌==◌, nat_le, nat_lt, if◌then◌else◌, List, [], ◌∷◌, ◌++◌, length, Option, Some, Ok, Bool, true, false, not, refl, sym, ◌∙◌}
+use Rattle.std.proofs.Common.{ap, subst, arith, append-nil, append_assoc, length-append}
 use Rattle.std.specs.FinMap.{len}
 use Rattle.std.proofs.lemmas.List.{length-map}
 use Rattle.std.proofs.lemmas.Bool.Decides.{nat_tests}
@@ -18,7 +18,7 @@ use Rattle.pk_nand.specs.Operations.{after_post, PostFailed}
 use Rattle.pk_gen.specs.Workload.{Generator, workload, generator, request_of, value_of, a_of, b_of, c_of, is_store, value_len, request, tick}
 use Rattle.pk_call.specs.Drive.{CountsMap}
 use Rattle.pk_call.specs.Exec.{most_installs}
-use Rattle.pk_call.specs.Meter.{meter, MeteredAll}
+use Rattle.pk_call.specs.Meter.{Meter, meter, MeteredAll}
 use Rattle.pk_call.specs.Seen.{counts_of}
 use Rattle.pk_call.specs.declared.types.Counts.{Counts}
 use Rattle.pk_model.specs.Sight as model
@@ -29,9 +29,9 @@ use Rattle.pk_model.specs.Wear.{is_worn, roots}
 use Rattle.pk_model.specs.Reading.{reading, Holds}
 use Rattle.pk_model.specs.Run.{Exchange, commands}
 use Rattle.pk_model.proofs.Growing.{Goes-reaches, weaken_went}
-use Rattle.pk_serve.specs.Part.{IsRunning}
+use Rattle.pk_call.specs.Running.{DriveRuns}
 use Rattle.pk_serve.specs.Answered.{installs}
-use Rattle.pk_serve.proofs.Counting.{metered-roots, commands-push}
+use Rattle.pk_serve.proofs.Counting.{metered-roots, metered-unworn, few_unworn, commands-push}
 use Rattle.pk_port.specs.Asking.{KeptSilently}
 use Rattle.pk_port.specs.declared.halt.Halt.{Halt}
 use Rattle.pk_port.specs.declared.halt.Halt.TheVariants.{Stopped, Worn as UsedUp}
@@ -204,16 +204,21 @@ module _ (begin turn : ℕ) (shape : Shape) (frames : ℕ) (start : Map) (a b : 
       omega (arith, all, few, small)
 
   -- no more roots are installed
-  pub unfinished_worn : (count : ℕ) (c : BoardState) (e : Sight) → turn ≤ count → KeepsGroup b c d e → roots c ≡ roots b → is_worn b ≡ true → Unfinished begin count shape frames start a c UsedUp
-  unfinished_worn count c e small keeps same worn =
+  pub unfinished_worn : (count : ℕ) (c : BoardState) (e : Sight) → turn < count → KeepsGroup b c d e → e.pending ≡ [] → roots c ≡ roots b → is_worn b ≡ true
+      → Unfinished begin count shape frames start a c UsedUp
+  unfinished_worn count c e small keeps none same worn =
       let g = keeps shape frames start a w.all w.grouped in
-      let more = front begin turn count small in
+      let more = front begin turn count (omega (arith, small)) in
       let R : List Command → Type 0 = λ l. Goes shape a c (KeptSilently shape frames start l (rise a.read_faults c.read_faults)) in
       record {
         kept = goes_all shape frames start (workload begin turn) more.0 (workload begin count) more.1 (rise a.read_faults c.read_faults) a c
             (subst R w.are (Goes-reaches shape a c (KeptSilently shape frames start (commands w.all) (rise a.read_faults c.read_faults)) g.reached));
-        ends = (ap (λ n. nat_le 9223372036854775808 n) same ∙ worn, record { output = ap (λ (x : BoardState). x.out_faults) g.rest; stop = g.no_stop });
-        used = λ _. roots_few c count g.metered small;
+        ends = (
+          ap (λ n. nat_le 9223372036854775808 n) same ∙ worn,
+          record { output = ap (λ (x : BoardState). x.out_faults) g.rest; stop = g.no_stop },
+          (turn, small, (grouped_asked shape frames start a c e w.all g none (workload begin turn) w.are).0),
+        );
+        used = λ _. roots_few c count g.metered (omega (arith, small));
         input = keeps-flash a c g.rest;
       }
 
@@ -227,7 +232,7 @@ module _ (begin turn : ℕ) (shape : Shape) (frames : ℕ) (start : Map) (a b : 
 
 -- the numbers that a drive counts are those of the map that the flash holds
 pub counted : (agrees : Option Shape → Pages → Type 0) (shape : Shape) (b : BoardState) (d : Sight) (counts : Counts)
-    → b.shape ≡ Some shape → IsRunning agrees d b → d.pending ≡ [] → counts_of counts ≡ d.counts
+    → b.shape ≡ Some shape → DriveRuns agrees d b → d.pending ≡ [] → counts_of counts ≡ d.counts
     → ((s : Shape) (f : Pages) (m : Map) → agrees (Some s) f → d.stopped ≡ false → map_of s f d ≡ Ok m → CountsMap s d.counts.frames m d.counts)
     → (m : Map) → Holds shape b.pages m → (counts.keys ≡ len m) × (counts.live ≡ live shape m)
 counted agrees shape b d counts has running none numbers told m held =
@@ -241,30 +246,39 @@ module _ (begin count : ℕ) (shape : Shape) (frames : ℕ) (start : Map) (a b :
   abbrev text : List ℕ
   text = summary_lines w.asked.answered.all keys pages
 
-  abbrev Says : List ℕ → Map → Type 0
+  abbrev Says : List Exchange → List ℕ → Map → Type 0
   Says = SaysTask (generate begin count) a.read_faults b.read_faults shape frames start
 
-  says_left : Says text w.asked.left
-  says_left = record {
-    all = w.asked.answered.all;
-    are = w.asked.answered.are;
-    ran = w.asked.answered.ran;
-    few = w.asked.answered.few;
-    spelled = ap (λ k. summary_lines w.asked.answered.all k pages) are.0 ∙ ap (λ p. summary_lines w.asked.answered.all (len w.asked.left) p) are.1;
-  }
+  says_left : Says w.asked.answered.all text w.asked.left
+  says_left = ap (λ k. summary_lines w.asked.answered.all k pages) are.0 ∙ ap (λ p. summary_lines w.asked.answered.all (len w.asked.left) p) are.1
+
+  -- a workload that has a command does not begin on a worn drive
+  unworn_before : not (count == 0) ≡ true → is_worn a ≡ false
+  unworn_before some =
+      let all = w.asked.answered.all in
+      let none : all ≡ [] → ⊥ =
+      λ e.
+      let is : count ≡ 0 = sym (workload-length begin count) ∙ ap (λ (l : List Command). length l) (sym w.asked.answered.are ∙ ap commands e) in
+      let T : ℕ → Type 0 = λ n. not (n == 0) ≡ true in
+      never_both (subst T is some) in
+      few_unworn a (metered-unworn all (meter a) (meter b) none w.asked.answered.metered)
 
   told_posted : Told (generate begin count) shape frames start a (after_post b text) Done
   told_posted = record {
-    kept = Goes-reaches shape a (after_post b text) (KeptTask (generate begin count) a.read_faults b.read_faults shape frames start)
+    kept = Goes-reaches shape a (after_post b text) (KeptTask (generate begin count) (meter a) (meter b) shape frames start)
         (asked-posts Says shape frames start (workload begin count) a b w.asked text says_left);
     rests = λ e. never_both e;
     ends = record {
       left = w.asked.left;
+      asked = workload begin count;
+      are = refl;
+      answered = w.asked.answered;
       text = text;
       says = says_left;
       posted = ap (λ p. longer p text) (ap (λ (x : BoardState). x.posted) w.asked.rest);
       holds = w.asked.held;
       sound = record { output = ap (λ (x : BoardState). x.out_faults) w.asked.rest; stop = w.asked.no_stop };
+      unworn = unworn_before;
     };
     used = λ e. absurd (done_unworn e);
     input = record { input = ap (λ (x : BoardState). x.input) w.asked.rest; in_faults = ap (λ (x : BoardState). x.in_faults) w.asked.rest };
@@ -276,8 +290,8 @@ module _ (begin count : ℕ) (shape : Shape) (frames : ℕ) (start : Map) (a b :
   -- the output failed
   pub told_unposted : (last : BoardState) → PostFailed b last text → Told (generate begin count) shape frames start a last Output
   told_unposted last failed =
-      let same : last.read_faults ≡ b.read_faults = ap (λ (x : BoardState). x.read_faults) failed.rest in
-      let G : ℕ → Type 0 = λ n. Goes shape a last (KeptTask (generate begin count) a.read_faults n shape frames start) in
+      let same : meter last ≡ meter b = ap meter failed.rest in
+      let G : Meter → Type 0 = λ t. Goes shape a last (KeptTask (generate begin count) (meter a) t shape frames start) in
       let R : ℕ → Type 0 = λ n. Rose n last.out_faults in
       record {
         kept = subst G (sym same) (asked-post_failed Says shape frames start (workload begin count) a b w.asked text says_left last failed);
@@ -294,7 +308,7 @@ module _ (begin count : ℕ) (shape : Shape) (frames : ℕ) (start : Map) (a b :
 pub told_unfinished : (begin count : ℕ) (shape : Shape) (frames : ℕ) (start : Map) (a b : BoardState) (halt : Halt) → Unfinished begin count shape frames start a b halt
     → Told (generate begin count) shape frames start a b (end_of halt)
 told_unfinished begin count shape frames start a b halt u = record {
-  kept = went-silent (SaysTask (generate begin count) a.read_faults b.read_faults shape frames start) shape frames start (workload begin count) (rise a.read_faults b.read_faults) a b u.kept;
+  kept = went-silent (SaysTask (generate begin count) a.read_faults b.read_faults shape frames start) shape frames start (workload begin count) (meter a) (meter b) a b u.kept;
   rests = λ e. never_both e;
   ends = u.ends;
   used = u.used;

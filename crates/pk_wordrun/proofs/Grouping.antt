@@ -26,18 +26,11 @@ use Rattle.pk_call.specs.Exec.{Executed, ExecStands, most_installs}
 use Rattle.pk_call.specs.Meter.{Meter, Metered, MeteredAll, meter, reads_after}
 use Rattle.pk_serve.specs.Serving.{StepWithin}
 use Rattle.pk_serve.proofs.Answering.{reply_other, answers}
-use Rattle.pk_serve.proofs.Counting.{at_most-zero, at_most-more, at_most-one, commands-push, faults-push, faults-one}
+use Rattle.pk_serve.proofs.Counting.{at_most-zero, at_most-more, at_most-one, commands-push, faults-one}
 use Rattle.pk_port.specs.Asking.{KeptSilently, Asked}
-use Rattle.pk_port.proofs.Growing.{silent-more, asked-none}
+use Rattle.pk_port.proofs.Growing.{few_more, few_same, silent-more, asked-none}
 use Rattle.pk_wordrun.specs.Grouped.{exchange, Grouped, StoppedIn, KeepsGroup, AddsToGroup, StopsGroup}
 use Rattle.pk_nand.proofs.Effects.{only_then}
-
--- the bound on faults for a list with one more
-few_more : (n : Option ℕ) (xs : List Exchange) (x : Exchange) (k : ℕ) → faults (x ∷ []) ≡ k → AtMost n (faults xs + k) → AtMost n (faults (xs ++ x ∷ []))
-few_more n xs x k e h = let T : ℕ → Type 0 = λ f. AtMost n f in subst T (sym (faults-push xs x ∙ ap (λ f. faults xs + f) e)) h
-
-few_same : (n : Option ℕ) (xs : List Exchange) → AtMost n (faults xs) → AtMost n (faults xs + 0)
-few_same n xs h = let T : ℕ → Type 0 = λ k. AtMost n k in let e : faults xs ≡ faults xs + 0 = omega arith in subst T e h
 
 module _ (shape : Shape) (frames : ℕ) (start : Map) (a b : BoardState) (drive : Sight) (all : List Exchange) (w : Grouped shape frames start a b drive all) where
   abbrev now : Option ℕ
@@ -213,8 +206,7 @@ module _ (shape : Shape) (frames : ℕ) (start : Map) (a b : BoardState) (drive 
       let R : List Command → Type 0 = λ l. Reaches shape a b (KeptSilently shape frames start l now) in (
         record {
           left = w.left;
-          answered = record { all = all; are = are; ran = w.ran; few = w.few };
-          metered = w.metered;
+          answered = record { all = all; are = are; ran = w.ran; few = w.few; metered = w.metered };
           held = subst M none w.stands.map_is;
           shape_is = w.shape_is;
           reached = subst R are w.reached;

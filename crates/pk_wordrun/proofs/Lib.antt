@@ -1,6 +1,7 @@
 mod Resting
 pub mod Telling
 mod Posting
+mod Piecing
 mod Lists
 mod Counting
 pub mod Opening

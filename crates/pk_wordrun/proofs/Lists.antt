@@ -1,12 +1,14 @@
 -- A list that goes out piece by piece.
-use Rattle.std.proofs.Common.{◌≡◌, inl, inr, ℕ, ◌≤◌, List, [], ◌∷◌, ◌++◌, Option, Some, None, refl, sym, ◌∙◌, ap, subst, append-nil, append_assoc, arith}
+use Rattle.std.proofs.Common.{◌≡◌, ◌⊎◌, inl, inr, ℕ, ◌≤◌, nat_le, true, false, List, [], ◌∷◌, ◌++◌, Option, Some, None, refl, sym, ◌∙◌, ap, subst, append-nil, append_assoc, arith}
 use Rattle.std.proofs.lemmas.Grind.{flat_map-append}
 use Rattle.std.specs.Result.{result_ok}
+use Rattle.std.specs.List.{AllByRecursion}
 use Rattle.pk_base.specs.Key.{Key}
-use Rattle.pk_base.specs.Shape.{Shape}
+use Rattle.pk_base.specs.Shape.{Shape, limit}
 use Rattle.pk_base.specs.Page.{Flash}
 use Rattle.pk_base.specs.Map.{Map}
 use Rattle.pk_base.specs.Mark.{Mark, all_posted, post}
+use Rattle.pk_nvme.specs.Command.{Command}
 use Rattle.pk_nand.specs.BoardState.{BoardState, shape_or_none}
 use Rattle.pk_nand.specs.Calls.{Rose, longer}
 use Rattle.pk_nand.specs.Operations.{after_post, PostFailed}
@@ -15,20 +17,26 @@ use Rattle.pk_nand.specs.Effects.{OnlyReading}
 use Rattle.pk_nand.proofs.CutLemmas.{posted-append}
 use Rattle.pk_nand.proofs.Reaching.{Reached-start, Reached-then, Reached-post, Went-reached}
 use Rattle.pk_model.specs.Growth.{Reaches, Goes}
+use Rattle.pk_model.specs.Kept.{rise}
+use Rattle.pk_model.specs.Run.{commands}
 use Rattle.pk_model.specs.Reading.{reading, Holds}
 use Rattle.pk_model.proofs.Growing.{weaken, Goes-reaches, Goes-then, grows_behind, Goes-post_failed, GrowsAlong-post}
-use Rattle.pk_model.specs.Wear.{root_number, roots}
+use Rattle.pk_model.specs.Wear.{root_number, roots, is_worn}
+use Rattle.pk_call.specs.Meter.{meter}
+use Rattle.pk_serve.proofs.Counting.{at_most-zero, metered-unworn, few_unworn}
+use Rattle.pk_port.specs.Asking.{Ran}
+use Rattle.pk_port.proofs.Growing.{ran-next}
 use Rattle.pk_nand.specs.Resting.{RestsFlash}
 use Rattle.pk_nand.proofs.Resting.{Rests-same, Rests-then}
 use Rattle.pk_wordrun.proofs.Resting.{rests-reading, rests-posted, rests-unposted}
 use Rattle.pk_wordrun.proofs.Telling.{done_unworn, output_unworn, flash_unworn}
 use Rattle.pk_words.specs.Lines.{key_line, key_lines}
-use Rattle.pk_words.specs.Says.{wanted_keys}
-use Rattle.pk_words.specs.Listing.{keys_left, start_at}
+use Rattle.pk_words.specs.Says.{SaysKeys, wanted_keys}
+use Rattle.pk_words.specs.Listing.{keys_left, start_at, asked_at}
 use Rattle.pk_words.specs.declared.listing.ListPosition.{ListPosition}
 use Rattle.pk_wordrun.specs.Pieces.{PieceAsked, PieceTold, PieceEnds}
-use Rattle.pk_wordrun.specs.Tasks.{list, SaysTask, KeptTask}
-use Rattle.pk_wordrun.specs.Told.{Told}
+use Rattle.pk_wordrun.specs.Tasks.{list, KeptTask, KeptList}
+use Rattle.pk_wordrun.specs.Told.{Told, AreOf}
 use Rattle.pk_wordrun.specs.declared.end.WordEnd.{WordEnd}
 use Rattle.pk_wordrun.specs.declared.end.WordEnd.TheVariants.{Done, Output, Flash as FlashFailed, Worn}
 
@@ -37,7 +45,7 @@ abbrev FrontOf : Shape → Map → List ℕ → Flash → List ℕ → Type 0
 FrontOf shape start lines flash posted = Holds shape flash start × ((rest : List ℕ) × (posted ++ rest ≡ lines))
 
 -- So far: nothing was done but reads, and the lines of the first keys were posted; the others remain at this place.
-pub record IsSaying (from : Option Key) (shape : Shape) (start : Map) (a b : BoardState) (place : ListPosition) : Type 0 where
+pub record IsSaying (from : Option Key) (shape : Shape) (frames : ℕ) (start : Map) (a b : BoardState) (place : ListPosition) : Type 0 where
   pub has : a.shape ≡ Some shape
   pub holds : Holds shape a.pages start
   pub reached : Reaches shape a b (FrontOf shape start (key_lines (wanted_keys from start)))
@@ -51,13 +59,17 @@ pub record IsSaying (from : Option Key) (shape : Shape) (start : Map) (a b : Boa
   pub stop : b.stop_faults ≡ a.stop_faults
   pub input : b.input ≡ a.input
   pub in_faults : b.in_faults ≡ a.in_faults
+  pub done : List Command
+  pub answered : Ran shape frames start done (meter a) (meter b) start
+  pub begun : ((done ≡ []) × (b ≡ a) × (place ≡ start_at from)) ⊎ AreOf (list from) shape done
 
 wanted_at : (from : Option Key) (m : Map) → wanted_keys from m ≡ keys_left (start_at from) m
 wanted_at None m = refl
 wanted_at (Some key) m = refl
 
-pub saying_none : (from : Option Key) (shape : Shape) (start : Map) (a : BoardState) → a.shape ≡ Some shape → Holds shape a.pages start → IsSaying from shape start a a (start_at from)
-saying_none from shape start a has holds = record {
+pub saying_none : (from : Option Key) (shape : Shape) (frames : ℕ) (start : Map) (a : BoardState) → a.shape ≡ Some shape → Holds shape a.pages start
+    → IsSaying from shape frames start a a (start_at from)
+saying_none from shape frames start a has holds = record {
   has = has;
   holds = holds;
   reached = ([], Reached-start a a (FrontOf shape start (key_lines (wanted_keys from start))) refl refl refl refl (holds, (key_lines (wanted_keys from start), refl)), tt);
@@ -71,7 +83,24 @@ saying_none from shape start a has holds = record {
   stop = refl;
   input = refl;
   in_faults = refl;
+  done = [];
+  answered = record { all = []; are = refl; ran = refl; few = at_most-zero (rise a.read_faults a.read_faults); metered = refl };
+  begun = inl (refl, refl, refl);
 }
+
+-- the commands of pieces, and one more
+abbrev IsOfPiece : Command → Type 0
+IsOfPiece c = (place : ListPosition) × (c ≡ asked_at place)
+
+pieces_push : (place : ListPosition) (cs : List Command) → AllByRecursion IsOfPiece cs → AllByRecursion IsOfPiece (cs ++ asked_at place ∷ [])
+pieces_push place [] all = ((place, refl), tt)
+pieces_push place (c ∷ cs) all = (all.0, pieces_push place cs all.1)
+
+-- a drive that answered a command of a list was not worn before it
+unworn_before : (from : Option Key) (shape : Shape) (frames : ℕ) (start : Map) (a b : BoardState) (cs : List Command) → AreOf (list from) shape cs → Ran shape frames start cs (meter a) (meter b) start
+    → is_worn a ≡ false
+unworn_before from shape frames start a b cs are r =
+    few_unworn a (metered-unworn r.all (meter a) (meter b) (λ none. let clash : asked_at (start_at from) ∷ are.0 ≡ [] = sym are.1 ∙ (sym r.are ∙ ap commands none) in cc) r.metered)
 
 rose_later : (x y z : ℕ) → Rose y z → x ≤ y → Rose x z
 rose_later x y z rose up = omega (arith, rose, up)
@@ -86,7 +115,7 @@ reads_on marks a b c P only run = record {
   stands = ap (λ (s : BoardState). s.pages) only ∙ run.stands;
 }
 
-module _ (from : Option Key) (shape : Shape) (frames : ℕ) (start : Map) (a b : BoardState) (place : ListPosition) (so_far : IsSaying from shape start a b place) where
+module _ (from : Option Key) (shape : Shape) (frames : ℕ) (start : Map) (a b : BoardState) (place : ListPosition) (so_far : IsSaying from shape frames start a b place) where
   abbrev lines : List ℕ
   lines = key_lines (wanted_keys from start)
 
@@ -132,17 +161,29 @@ module _ (from : Option Key) (shape : Shape) (frames : ℕ) (start : Map) (a b :
 
   -- ---- one more piece
 
+  -- its command was answered
+  answered_next : (asked : BoardState) (next : Option ListPosition) (text : List ℕ) → PieceAsked shape frames b asked place next text
+      → Ran shape frames start (so_far.done ++ asked_at place ∷ []) (meter a) (meter asked) start
+  answered_next asked next text is =
+      ran-next shape frames start so_far.done (meter a) (meter b) start so_far.answered (meter asked) (asked_at place) is.x start so_far.up is.up is.is (is.step start held) is.metered
+
+  are_next : AreOf (list from) shape (so_far.done ++ asked_at place ∷ [])
+  are_next = elim so_far.begun [
+    | inl first ↦ ([], ap (λ (l : List Command). l ++ asked_at place ∷ []) first.0 ∙ ap (λ (p : ListPosition). asked_at p ∷ []) first.2, tt)
+    | inr are ↦ (are.0 ++ asked_at place ∷ [], ap (λ (l : List Command). l ++ asked_at place ∷ []) are.1, pieces_push place are.0 are.2)
+  ]
+
   -- the lines of the next keys, and those after them
   pieces : (page left : List Key) → keys_left place start ≡ page ++ left → lines ≡ key_lines so_far.front ++ (key_lines page ++ key_lines left)
   pieces page left e =
       ap key_lines (so_far.split ∙ ap (λ (ks : List Key). so_far.front ++ ks) e)
       ∙ (flat_map-append key_line so_far.front (page ++ left) ∙ ap (λ t. key_lines so_far.front ++ t) (flat_map-append key_line page left))
 
-  pub saying_more : (asked : BoardState) (next : ListPosition) (text : List ℕ) → PieceAsked shape b asked place (Some next) text
-      → (c : BoardState) → c ≡ after_post asked text → IsSaying from shape start a c next
-  saying_more asked next text is c posted = let T : BoardState → Type 0 = λ x. IsSaying from shape start a x next in subst T (sym posted) (goes_on (is.piece.lines start told))
+  pub saying_more : (asked : BoardState) (next : ListPosition) (text : List ℕ) → PieceAsked shape frames b asked place (Some next) text
+      → (c : BoardState) → c ≡ after_post asked text → IsSaying from shape frames start a c next
+  saying_more asked next text is c posted = let T : BoardState → Type 0 = λ x. IsSaying from shape frames start a x next in subst T (sym posted) (goes_on (is.piece.lines start told))
     where
-      goes_on : (page : List Key) × (keys_left place start ≡ page ++ keys_left next start) × (text ≡ key_lines page) → IsSaying from shape start a (after_post asked text) next
+      goes_on : (page : List Key) × (keys_left place start ≡ page ++ keys_left next start) × (text ≡ key_lines page) → IsSaying from shape frames start a (after_post asked text) next
       goes_on (page, split, spelled) =
           let begins : (out rest : List ℕ) → out ++ rest ≡ text → (f : Flash) → Holds shape f start → FrontOf shape start lines f (key_lines so_far.front ++ out) =
           λ out rest e f h. (
@@ -169,19 +210,26 @@ module _ (from : Option Key) (shape : Shape) (frames : ℕ) (start : Map) (a b :
             stop = ap (λ (s : BoardState). s.stop_faults) is.reads ∙ so_far.stop;
             input = ap (λ (s : BoardState). s.input) is.reads ∙ so_far.input;
             in_faults = ap (λ (s : BoardState). s.in_faults) is.reads ∙ so_far.in_faults;
+            done = so_far.done ++ asked_at place ∷ [];
+            answered = answered_next asked (Some next) text is;
+            begun = inr are_next;
           }
 
   -- ---- the end
 
+  -- what every cut keeps up to this state of the board
+  abbrev kept_to : BoardState → Flash → List ℕ → Type 0
+  kept_to c = KeptTask (list from) (meter a) (meter c) shape frames start
+
   -- every cut so far begins the lines of all keys
-  all_lines : (x y : ℕ) (f : Flash) (q : List ℕ) → FrontOf shape start lines f q → KeptTask (list from) x y shape frames start f q
+  all_lines : (x y : ℕ) (f : Flash) (q : List ℕ) → FrontOf shape start lines f q → KeptList from x y shape frames start f q
   all_lines x y f q (h, (rest, e)) = record { held = h; text = lines; says = (refl, inl refl); unposted = rest; front = e }
 
   -- the whole text with this piece, whatever the piece is
   abbrev Ending : List ℕ → ℕ → ℕ → Type 0
-  Ending text x y = SaysTask (list from) x y shape frames start (key_lines so_far.front ++ text) start
+  Ending text x y = SaysKeys from (Rose x y) shape (limit shape) frames start (key_lines so_far.front ++ text) start
 
-  last_piece : (asked : BoardState) (text : List ℕ) → PieceAsked shape b asked place None text → (y : ℕ) → asked.read_faults ≤ y → Ending text a.read_faults y
+  last_piece : (asked : BoardState) (text : List ℕ) → PieceAsked shape frames b asked place None text → (y : ℕ) → asked.read_faults ≤ y → Ending text a.read_faults y
   last_piece asked text is y later = elim (is.piece start told) [
     | inl none ↦ (
       refl,
@@ -194,8 +242,8 @@ module _ (from : Option Key) (shape : Shape) (frames : ℕ) (start : Map) (a b :
     )
   ]
 
-  begins_ending : (text : List ℕ) (x y : ℕ) → Ending text x y → (out rest : List ℕ) → out ++ rest ≡ text
-      → (f : Flash) → Holds shape f start → KeptTask (list from) x y shape frames start f (key_lines so_far.front ++ out)
+  begins_ending : (text : List ℕ) (x y : ℕ) → Ending text x y → (out rest : List ℕ) → out ++ rest ≡ text → (f : Flash) → Holds shape f start
+      → KeptList from x y shape frames start f (key_lines so_far.front ++ out)
   begins_ending text x y says out rest e f h = record {
     held = h;
     text = key_lines so_far.front ++ text;
@@ -204,40 +252,42 @@ module _ (from : Option Key) (shape : Shape) (frames : ℕ) (start : Map) (a b :
     front = append_assoc (key_lines so_far.front) out rest ∙ ap (λ t. key_lines so_far.front ++ t) e;
   }
 
-  module _ (asked : BoardState) (text : List ℕ) (is : PieceAsked shape b asked place None text) where
+  module _ (asked : BoardState) (text : List ℕ) (is : PieceAsked shape frames b asked place None text) where
     ended : Told (list from) shape frames start a (after_post asked text) Done
     ended =
         let says = last_piece asked text is asked.read_faults (omega arith) in
-        let run = posts_more asked is.reads text (KeptTask (list from) a.read_faults asked.read_faults shape frames start)
-        (all_lines a.read_faults asked.read_faults) (begins_ending text a.read_faults asked.read_faults says) in
+        let run = posts_more asked is.reads text (kept_to asked) (all_lines a.read_faults asked.read_faults) (begins_ending text a.read_faults asked.read_faults says) in
         record {
-          kept = Goes-reaches shape a (after_post asked text) (KeptTask (list from) a.read_faults asked.read_faults shape frames start) run;
+          kept = Goes-reaches shape a (after_post asked text) (kept_to asked) run;
           rests = λ _. rests_on (after_post asked text) (rests-posted b asked (after_post asked text) text is.reads refl);
           ends = record {
             left = start;
+            asked = so_far.done ++ asked_at place ∷ [];
+            are = are_next;
+            answered = answered_next asked None text is;
             text = key_lines so_far.front ++ text;
             says = says;
             posted = run.1.posted ∙ ap (λ t. longer a.posted t)
                 (posted-append marks (post text ∷ []) ∙ (ap (λ t. t ++ (text ++ [])) so_far.said ∙ ap (λ t. key_lines so_far.front ++ t) (append-nil text)));
-            holds = held_asked asked is.reads text (KeptTask (list from) a.read_faults asked.read_faults shape frames start)
-                (all_lines a.read_faults asked.read_faults) (begins_ending text a.read_faults asked.read_faults says);
+            holds = held_asked asked is.reads text (kept_to asked) (all_lines a.read_faults asked.read_faults) (begins_ending text a.read_faults asked.read_faults says);
             sound = record { output = ap (λ (s : BoardState). s.out_faults) is.reads ∙ so_far.output; stop = ap (λ (s : BoardState). s.stop_faults) is.reads ∙ so_far.stop };
+            unworn = λ _. unworn_before from shape frames start a asked (so_far.done ++ asked_at place ∷ []) are_next (answered_next asked None text is);
           };
           used = λ e. absurd (done_unworn e);
           input = record { input = ap (λ (s : BoardState). s.input) is.reads ∙ so_far.input; in_faults = ap (λ (s : BoardState). s.in_faults) is.reads ∙ so_far.in_faults };
         }
 
-  pub saying_done : (c : BoardState) → PieceTold shape b c place None → Told (list from) shape frames start a c Done
+  pub saying_done : (c : BoardState) → PieceTold shape frames b c place None → Told (list from) shape frames start a c Done
   saying_done c t = let T : BoardState → Type 0 = λ x. Told (list from) shape frames start a x Done in subst T (sym t.posted) (ended t.asked t.text t.is)
 
   -- the output failed in this piece
   unposted : (asked : BoardState) (text : List ℕ) → OnlyReading b asked → (c : BoardState) → PostFailed asked c text
-      → ((out rest : List ℕ) → out ++ rest ≡ text → (f : Flash) → Holds shape f start → KeptTask (list from) a.read_faults c.read_faults shape frames start f (key_lines so_far.front ++ out))
+      → ((out rest : List ℕ) → out ++ rest ≡ text → (f : Flash) → Holds shape f start → KeptList from a.read_faults c.read_faults shape frames start f (key_lines so_far.front ++ out))
       → Told (list from) shape frames start a c Output
   unposted asked text only c failed begins =
       let R : ℕ → Type 0 = λ n. Rose n c.out_faults in
       record {
-        kept = fails_more asked only text (KeptTask (list from) a.read_faults c.read_faults shape frames start) (all_lines a.read_faults c.read_faults) begins c failed;
+        kept = fails_more asked only text (kept_to c) (all_lines a.read_faults c.read_faults) begins c failed;
         rests = λ _. rests_on c (rests-unposted b asked c text only failed);
         ends = subst R (ap (λ (s : BoardState). s.out_faults) only ∙ so_far.output) failed.faults;
         used = λ e. absurd (output_unworn e);
@@ -248,8 +298,8 @@ module _ (from : Option Key) (shape : Shape) (frames : ℕ) (start : Map) (a b :
       }
 
   -- a prefix of the lines of the next keys
-  begins_lines : (next : ListPosition) (asked : BoardState) (text : List ℕ) → PieceAsked shape b asked place (Some next) text → (x y : ℕ)
-      → (out rest : List ℕ) → out ++ rest ≡ text → (f : Flash) → Holds shape f start → KeptTask (list from) x y shape frames start f (key_lines so_far.front ++ out)
+  begins_lines : (next : ListPosition) (asked : BoardState) (text : List ℕ) → PieceAsked shape frames b asked place (Some next) text → (x y : ℕ)
+      → (out rest : List ℕ) → out ++ rest ≡ text → (f : Flash) → Holds shape f start → KeptList from x y shape frames start f (key_lines so_far.front ++ out)
   begins_lines next asked text is x y out rest e f h =
       let p = is.piece.lines start told in
       all_lines x y f (key_lines so_far.front ++ out) (
@@ -262,27 +312,36 @@ module _ (from : Option Key) (shape : Shape) (frames : ℕ) (start : Map) (a b :
         ),
       )
 
-  ends_output : (c : BoardState) (asked : BoardState) (text : List ℕ) (next : Option ListPosition)
-      → PieceAsked shape b asked place next text → PostFailed asked c text → Told (list from) shape frames start a c Output
+  ends_output : (c : BoardState) (asked : BoardState) (text : List ℕ) (next : Option ListPosition) → PieceAsked shape frames b asked place next text
+      → PostFailed asked c text → Told (list from) shape frames start a c Output
   ends_output c asked text (Some next) is failed = unposted asked text is.reads c failed (begins_lines next asked text is a.read_faults c.read_faults)
   ends_output c asked text None is failed =
       let same : c.read_faults ≡ asked.read_faults = ap (λ (s : BoardState). s.read_faults) failed.rest in
       unposted asked text is.reads c failed (begins_ending text a.read_faults c.read_faults (last_piece asked text is c.read_faults (omega (arith, same))))
 
   -- nothing more was done but reads
-  stands_still : (c : BoardState) → OnlyReading b c → Goes shape a c (KeptTask (list from) a.read_faults c.read_faults shape frames start)
+  stands_still : (c : BoardState) → OnlyReading b c → Goes shape a c (kept_to c)
   stands_still c only = (
     marks,
-    Went-reached marks a c (KeptTask (list from) a.read_faults c.read_faults shape frames start)
-        (weaken marks a c (FrontOf shape start lines) (KeptTask (list from) a.read_faults c.read_faults shape frames start)
-        (all_lines a.read_faults c.read_faults) (reads_on marks a b c (FrontOf shape start lines) only so_far.reached.1)),
+    Went-reached marks a c (kept_to c)
+        (weaken marks a c (FrontOf shape start lines) (kept_to c) (all_lines a.read_faults c.read_faults) (reads_on marks a b c (FrontOf shape start lines) only so_far.reached.1)),
     so_far.reached.2,
   )
 
   same_roots : roots b ≡ roots a
   same_roots = λ k. root_number (shape_or_none (so_far.reached.1.same_shape k)) (so_far.pages k)
 
-  pub saying_ends : (c : BoardState) (end : WordEnd) → PieceEnds shape b c place end → Told (list from) shape frames start a c end
+  -- on a worn drive nothing was done
+  none_done : is_worn b ≡ true → b ≡ a
+  none_done worn = elim so_far.begun [
+    | inl first ↦ first.1
+    | inr are ↦ absurd (
+        let unworn = unworn_before from shape frames start a b so_far.done are so_far.answered in
+        let clash : true ≡ false = sym worn ∙ (ap (λ n. nat_le 9223372036854775808 n) same_roots ∙ unworn) in cc
+        )
+  ]
+
+  pub saying_ends : (c : BoardState) (end : WordEnd) → PieceEnds shape frames b c place end → Told (list from) shape frames start a c end
   saying_ends c Done never = absurd never
   saying_ends c Output u = ends_output c u.asked u.text u.next u.is u.failed
   saying_ends c FlashFailed s =
@@ -299,7 +358,7 @@ module _ (from : Option Key) (shape : Shape) (frames : ℕ) (start : Map) (a b :
       subst T (sym w.0) (record {
         kept = stands_still b refl;
         rests = λ _. so_far.rests;
-        ends = (w.1, record { output = so_far.output; stop = so_far.stop });
+        ends = (w.1, record { output = so_far.output; stop = so_far.stop }, none_done w.1);
         used = λ e. (let same = same_roots in omega (arith, same));
         input = record { input = so_far.input; in_faults = so_far.in_faults };
       })

@@ -10,10 +10,11 @@ use Rattle.pk_nand.specs.Operations.{after_post, PostFailed}
 use Rattle.pk_nand.specs.Effects.{OnlyFlash}
 use Rattle.pk_nand.proofs.Reaching.{Reached-start, Went-reached}
 use Rattle.pk_model.specs.Growth.{Goes}
-use Rattle.pk_model.specs.Kept.{AtMost, rise}
+use Rattle.pk_model.specs.Kept.{rise}
 use Rattle.pk_model.specs.Reading.{Holds}
 use Rattle.pk_model.specs.Run.{Exchange}
 use Rattle.pk_model.proofs.Growing.{Goes-reaches}
+use Rattle.pk_call.specs.Meter.{Meter, meter}
 use Rattle.pk_serve.proofs.Counting.{at_most-zero}
 use Rattle.pk_port.specs.Asking.{Asked, KeptWord}
 use Rattle.pk_port.specs.Steps.{Mounted, seen, Serves, Stops, Fails, HasCause}
@@ -49,11 +50,11 @@ pub keeps-flash : (a b : BoardState) → OnlyFlash a b → KeepsInput a b
 keeps-flash a b only = record { input = ap (λ (s : BoardState). s.input) only; in_faults = ap (λ (s : BoardState). s.in_faults) only }
 
 -- no command was made
-pub kept-none : (Says : List ℕ → Map → Type 0) (shape : Shape) (frames : ℕ) (start : Map) (cs : List Command) (n : Option ℕ) (a : BoardState) → ((k : ℕ) → k ≡ 0 → AtMost n k)
-    → Holds shape a.pages start → Goes shape a a (KeptWord Says shape frames start cs n)
-kept-none Says shape frames start cs n a few holds = (
+pub kept-none : (Says : List Exchange → List ℕ → Map → Type 0) (shape : Shape) (frames : ℕ) (start : Map) (cs : List Command) (from to : Meter) (a : BoardState)
+    → Holds shape a.pages start → Goes shape a a (KeptWord Says shape frames start cs from to)
+kept-none Says shape frames start cs from to a holds = (
   [],
-  Went-reached [] a a (KeptWord Says shape frames start cs n) (Reached-start a a (KeptWord Says shape frames start cs n) refl refl refl refl (
+  Went-reached [] a a (KeptWord Says shape frames start cs from to) (Reached-start a a (KeptWord Says shape frames start cs from to) refl refl refl refl (
     record {
       served = [];
       unserved = cs;
@@ -63,7 +64,7 @@ kept-none Says shape frames start cs n a few holds = (
       held = holds;
       unposted = [];
       begins = refl;
-      few_faults = few 0 refl;
+      few_faults = at_most-zero (rise from.read_faults to.read_faults);
     },
     inl refl,
   )),
@@ -71,10 +72,10 @@ kept-none Says shape frames start cs n a few holds = (
 )
 
 module _ (q : Question) (shape : Shape) (start : Map) (old new : Mounted) (has : old.board.shape ≡ Some shape) (holds : Holds shape old.board.pages start) where
-  abbrev Says : ℕ → ℕ → List ℕ → Map → Type 0
+  abbrev Says : ℕ → ℕ → List Exchange → List ℕ → Map → Type 0
   Says before behind = SaysTask (answer q) before behind shape old.frames start
 
-  abbrev says_now : List ℕ → Map → Type 0
+  abbrev says_now : List Exchange → List ℕ → Map → Type 0
   says_now = Says old.board.read_faults new.board.read_faults
 
   abbrev cs : List Command
@@ -83,7 +84,8 @@ module _ (q : Question) (shape : Shape) (start : Map) (old new : Mounted) (has :
   asked : (x : Exchange) → Serves shape old new (command_of shape q) x → Asked shape old.frames start old.board new.board cs
   asked x s = asked-next shape start old.board [] old new (command_of shape q) (asked-none shape old.frames start old.board has holds) x s
 
-  says-left : (w : Asked shape old.frames start old.board new.board cs) (text : List ℕ) → Said (QuestionAnswers q) (seen shape old.board 0) (seen shape new.board 0) text → says_now text w.left
+  says-left : (w : Asked shape old.frames start old.board new.board cs) (text : List ℕ)
+      → Said (QuestionAnswers q) (seen shape old.board 0) (seen shape new.board 0) text → says_now w.answered.all text w.left
   says-left w text said =
       let s = said start (ap result_ok holds) in
       let same : s.left ≡ w.left = some_same s.left w.left (sym s.told ∙ ap result_ok w.held) in
@@ -97,16 +99,20 @@ module _ (q : Question) (shape : Shape) (start : Map) (old new : Mounted) (has :
         let w = asked x s in
         let says = says-left w text said in
         record {
-          kept = Goes-reaches shape old.board (after_post new.board text) (KeptTask (answer q) old.board.read_faults new.board.read_faults shape old.frames start)
+          kept = Goes-reaches shape old.board (after_post new.board text) (KeptTask (answer q) (meter old.board) (meter new.board) shape old.frames start)
               (asked-posts says_now shape old.frames start cs old.board new.board w text says);
           rests = λ only. rests-posted old.board new.board (after_post new.board text) text (s.looks (asked_looks shape q only)) refl;
           ends = record {
             left = w.left;
+            asked = cs;
+            are = refl;
+            answered = w.answered;
             text = text;
             says = says;
             posted = ap (λ p. longer p text) (ap (λ (b : BoardState). b.posted) s.rest);
             holds = w.held;
             sound = record { output = ap (λ (b : BoardState). b.out_faults) s.rest; stop = s.no_stop };
+            unworn = λ _. s.runs.unworn;
           };
           used = λ e. absurd (done_unworn e);
           input = record { input = ap (λ (b : BoardState). b.input) s.rest; in_faults = ap (λ (b : BoardState). b.in_faults) s.rest };
@@ -120,8 +126,8 @@ module _ (q : Question) (shape : Shape) (start : Map) (old new : Mounted) (has :
     told-output last failed =
         let w = asked x s in
         let says = says-left w text said in
-        let same : last.read_faults ≡ new.board.read_faults = ap (λ (b : BoardState). b.read_faults) failed.rest in
-        let G : ℕ → Type 0 = λ n. Goes shape old.board last (KeptTask (answer q) old.board.read_faults n shape old.frames start) in
+        let same : meter last ≡ meter new.board = ap meter failed.rest in
+        let G : Meter → Type 0 = λ t. Goes shape old.board last (KeptTask (answer q) (meter old.board) t shape old.frames start) in
         let R : ℕ → Type 0 = λ n. Rose n last.out_faults in
         record {
           kept = subst G (sym same) (asked-post_failed says_now shape old.frames start cs old.board new.board w text says last failed);
@@ -137,7 +143,7 @@ module _ (q : Question) (shape : Shape) (start : Map) (old new : Mounted) (has :
   -- the command stopped the drive
   told-stopped : Stops shape old new (command_of shape q) → Told (answer q) shape old.frames start old.board new.board (end_of Stopped)
   told-stopped s = record {
-    kept = went-silent says_now shape old.frames start cs (rise old.board.read_faults new.board.read_faults) old.board new.board
+    kept = went-silent says_now shape old.frames start cs (meter old.board) (meter new.board) old.board new.board
         (asked-stops shape start old.board [] old new (command_of shape q) (asked-none shape old.frames start old.board has holds) s);
     rests = λ only. rests-reading old.board new.board (s.looks (asked_looks shape q only));
     ends = s.stop;
@@ -149,10 +155,9 @@ module _ (q : Question) (shape : Shape) (start : Map) (old new : Mounted) (has :
   told-nothing : (halt : Halt) → old.stopped ≡ false → HasCause old halt → Told (answer q) shape old.frames start old.board old.board (end_of halt)
   told-nothing Stopped going cause = absurd (let e : true ≡ false = sym cause ∙ going in cc)
   told-nothing UsedUp going cause = record {
-    kept = kept-none (Says old.board.read_faults old.board.read_faults) shape old.frames start cs (rise old.board.read_faults old.board.read_faults) old.board
-        (λ k zero. subst (AtMost (rise old.board.read_faults old.board.read_faults)) (sym zero) (at_most-zero (rise old.board.read_faults old.board.read_faults))) holds;
+    kept = kept-none (Says old.board.read_faults old.board.read_faults) shape old.frames start cs (meter old.board) (meter old.board) old.board holds;
     rests = λ only. Rests-same old.board old.board refl;
-    ends = (cause, record { output = refl; stop = refl });
+    ends = (cause, record { output = refl; stop = refl }, refl);
     used = λ e. omega arith;
     input = record { input = refl; in_faults = refl };
   }

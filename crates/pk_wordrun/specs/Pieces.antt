@@ -1,42 +1,51 @@
 -- A piece of a list: one command, and what it gives to the host.
 use Rattle.std.specs.Prelude.{◌≡◌, ℕ, ◌≤◌, List, Option, true}
 use Rattle.pk_base.specs.Shape.{Shape}
+use Rattle.pk_base.specs.Map.{Map}
 use Rattle.pk_nand.specs.BoardState.{BoardState}
 use Rattle.pk_nand.specs.Calls.{Rose}
 use Rattle.pk_nand.specs.Operations.{after_post, PostFailed}
 use Rattle.pk_nand.specs.Effects.{OnlyReading}
+use Rattle.pk_model.specs.Reading.{Holds}
+use Rattle.pk_model.specs.Run.{Exchange}
 use Rattle.pk_model.specs.Wear.{is_worn}
+use Rattle.pk_call.specs.Meter.{meter, Metered}
+use Rattle.pk_serve.specs.Serving.{StepWithin}
 use Rattle.pk_port.specs.Steps.{seen}
-use Rattle.pk_words.specs.Listing.{Piece}
+use Rattle.pk_words.specs.Listing.{Piece, asked_at}
 use Rattle.pk_words.specs.declared.listing.ListPosition.{ListPosition}
 use Rattle.pk_wordrun.specs.declared.end.WordEnd.{WordEnd}
 use Rattle.pk_wordrun.specs.declared.end.WordEnd.TheVariants.{Done, Output, Flash, Worn}
 
--- The command only read, and this text is the piece.
-pub record PieceAsked (shape : Shape) (a b : BoardState) (place : ListPosition) (next : Option ListPosition) (text : List ℕ) : Type 0 where
+-- The command only read, its number of reads is exact, and this text is the piece.
+pub record PieceAsked (shape : Shape) (frames : ℕ) (a b : BoardState) (place : ListPosition) (next : Option ListPosition) (text : List ℕ) : Type 0 where
   pub piece : Piece (seen shape a 0) (seen shape b 0) place next text
+  pub x : Exchange
+  pub is : x.command ≡ asked_at place
+  pub step : (m : Map) → Holds shape a.pages m → StepWithin shape frames m x m
+  pub metered : Metered (meter a) x (meter b)
   pub reads : OnlyReading a b
   pub up : a.read_faults ≤ b.read_faults
 
 -- and it went out
-pub record PieceTold (shape : Shape) (a c : BoardState) (place : ListPosition) (next : Option ListPosition) : Type 0 where
+pub record PieceTold (shape : Shape) (frames : ℕ) (a c : BoardState) (place : ListPosition) (next : Option ListPosition) : Type 0 where
   pub asked : BoardState
   pub text : List ℕ
-  pub is : PieceAsked shape a asked place next text
+  pub is : PieceAsked shape frames a asked place next text
   pub posted : c ≡ after_post asked text
 
 -- or it did not
-pub record PieceUnposted (shape : Shape) (a c : BoardState) (place : ListPosition) : Type 0 where
+pub record PieceUnposted (shape : Shape) (frames : ℕ) (a c : BoardState) (place : ListPosition) : Type 0 where
   pub asked : BoardState
   pub text : List ℕ
   pub next : Option ListPosition
-  pub is : PieceAsked shape a asked place next text
+  pub is : PieceAsked shape frames a asked place next text
   pub failed : PostFailed asked c text
 
 -- Why no piece was posted: the output failed; or a flash operation that stops a drive, which no command that reads makes; or the numbers of
 -- roots are used up, and nothing was done.
-abbrev pub PieceEnds : Shape → BoardState → BoardState → ListPosition → WordEnd → Type 0
-PieceEnds shape a c place Done = ⊥
-PieceEnds shape a c place Output = PieceUnposted shape a c place
-PieceEnds shape a c place Flash = OnlyReading a c × (a.read_faults ≤ c.read_faults) × Rose a.stop_faults c.stop_faults
-PieceEnds shape a c place Worn = (c ≡ a) × (is_worn a ≡ true)
+abbrev pub PieceEnds : Shape → ℕ → BoardState → BoardState → ListPosition → WordEnd → Type 0
+PieceEnds shape frames a c place Done = ⊥
+PieceEnds shape frames a c place Output = PieceUnposted shape frames a c place
+PieceEnds shape frames a c place Flash = OnlyReading a c × (a.read_faults ≤ c.read_faults) × Rose a.stop_faults c.stop_faults
+PieceEnds shape frames a c place Worn = (c ≡ a) × (is_worn a ≡ true)

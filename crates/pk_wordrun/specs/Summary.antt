@@ -1,13 +1,11 @@
 -- The summary of a workload that was served.
-use Rattle.std.specs.Prelude.{◌≡◌, ℕ, ◌+◌, max, ◌==◌, if◌then◌else◌, List, [], ◌∷◌, ◌++◌, length, codes, Option}
+use Rattle.std.specs.Prelude.{◌≡◌, ℕ, ◌+◌, max, ◌==◌, if◌then◌else◌, List, [], ◌∷◌, ◌++◌, length, codes}
 use Rattle.std.specs.FinMap.{len}
 use Rattle.pk_base.specs.Shape.{Shape}
 use Rattle.pk_base.specs.Map.{Map, live}
 use Rattle.pk_nvme.specs.declared.opcode.TheConstants.{RETRIEVE}
 use Rattle.pk_nvme.specs.declared.status.TheConstants.{SUCCESSFUL_COMPLETION, KEY_DOES_NOT_EXIST, INVALID_VALUE_SIZE, CAPACITY_EXCEEDED, UNRECOVERED_ERROR}
-use Rattle.pk_model.specs.Kept.{AtMost}
-use Rattle.pk_model.specs.Run.{Exchange, commands, RunWithin, faults}
-use Rattle.pk_gen.specs.Workload.{workload}
+use Rattle.pk_model.specs.Run.{Exchange}
 use Rattle.pk_words.specs.Lines.{number_line}
 
 -- how many of the commands were answered so
@@ -37,10 +35,6 @@ summary_lines all keys pages =
     ++ number_line (codes "live") pages
     ++ number_line (codes "most") (most_read all)
 
--- A run of the workload from one map to another, with at most n read errors, and its summary.
-pub record SaysSummary (begin count : ℕ) (n : Option ℕ) (shape : Shape) (frames : ℕ) (m : Map) (text : List ℕ) (m' : Map) : Type 0 where
-  pub all : List Exchange
-  pub are : commands all ≡ workload begin count
-  pub ran : RunWithin shape frames m all m'
-  pub few : AtMost n (faults all)
-  pub spelled : text ≡ summary_lines all (len m') (live shape m')
+-- The summary of commands that were answered so, which left this map.
+abbrev pub SaysSummary : Shape → List Exchange → List ℕ → Map → Type 0
+SaysSummary shape all text m' = text ≡ summary_lines all (len m') (live shape m')

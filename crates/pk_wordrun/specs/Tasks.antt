@@ -5,8 +5,9 @@ use Rattle.pk_base.specs.Shape.{Shape, limit}
 use Rattle.pk_base.specs.Page.{Flash}
 use Rattle.pk_base.specs.Map.{Map}
 use Rattle.pk_nand.specs.Calls.{Rose}
-use Rattle.pk_model.specs.Kept.{rise}
+use Rattle.pk_call.specs.Meter.{Meter}
 use Rattle.pk_model.specs.Reading.{Holds}
+use Rattle.pk_model.specs.Run.{Exchange}
 use Rattle.pk_gen.specs.Workload.{workload}
 use Rattle.pk_port.specs.Asking.{KeptWord}
 use Rattle.pk_words.specs.Question.{Question, put, get, delete, has, stat, command_of, QuestionAnswers}
@@ -37,25 +38,26 @@ only_asks (generate begin count) = false
 abbrev pub SaysAnswer : Question → ℕ → ℕ → Shape → Map → List ℕ → Map → Type 0
 SaysAnswer q before behind shape m text m' = (frames : ℕ) × QuestionAnswers q (Rose before behind) shape (limit shape) frames m text m'
 
--- What a word says, from map to map, on a drive with this many frames, if the count of failed reads went from one number to another.
-abbrev pub SaysTask : Task → ℕ → ℕ → Shape → ℕ → Map → List ℕ → Map → Type 0
-SaysTask (answer q) before behind shape frames m text m' = SaysAnswer q before behind shape m text m'
-SaysTask (list from) before behind shape frames m text m' = SaysKeys from (Rose before behind) shape (limit shape) frames m text m'
-SaysTask (generate begin count) before behind shape frames m text m' = SaysSummary begin count (rise before behind) shape frames m text m'
+-- What a word says, from map to map, on a drive with this many frames, if its commands were answered so and the count of failed reads went from
+-- one number to another.
+abbrev pub SaysTask : Task → ℕ → ℕ → Shape → ℕ → Map → List Exchange → List ℕ → Map → Type 0
+SaysTask (answer q) before behind shape frames m all text m' = SaysAnswer q before behind shape m text m'
+SaysTask (list from) before behind shape frames m all text m' = SaysKeys from (Rose before behind) shape (limit shape) frames m text m'
+SaysTask (generate begin count) before behind shape frames m all text m' = SaysSummary shape all text m'
 
 -- The map is unchanged, and what was posted begins a text of the list.
 pub record KeptList (from : Option Key) (before behind : ℕ) (shape : Shape) (frames : ℕ) (start : Map) (flash : Flash) (posted : List ℕ) : Type 0 where
   pub held : Holds shape flash start
   pub text : List ℕ
-  pub says : SaysTask (list from) before behind shape frames start text start
+  pub says : SaysKeys from (Rose before behind) shape (limit shape) frames start text start
   pub unposted : List ℕ
   pub front : posted ++ unposted ≡ text
 
 -- What every cut of a word keeps: the map after a prefix of the word's commands; and if a byte was posted, the map after all of them, and
--- what was posted begins a text that is said of both maps. A list changes no map.
-abbrev pub KeptTask : Task → ℕ → ℕ → Shape → ℕ → Map → Flash → List ℕ → Type 0
-KeptTask (answer q) before behind shape frames start flash posted =
-    KeptWord (SaysTask (answer q) before behind shape frames start) shape frames start (command_of shape q ∷ []) (rise before behind) flash posted
-KeptTask (list from) before behind shape frames start flash posted = KeptList from before behind shape frames start flash posted
-KeptTask (generate begin count) before behind shape frames start flash posted =
-    KeptWord (SaysTask (generate begin count) before behind shape frames start) shape frames start (workload begin count) (rise before behind) flash posted
+-- what was posted begins a text that is said of their answers and both maps. A list changes no map.
+abbrev pub KeptTask : Task → Meter → Meter → Shape → ℕ → Map → Flash → List ℕ → Type 0
+KeptTask (answer q) from to shape frames start flash posted =
+    KeptWord (SaysTask (answer q) from.read_faults to.read_faults shape frames start) shape frames start (command_of shape q ∷ []) from to flash posted
+KeptTask (list key) from to shape frames start flash posted = KeptList key from.read_faults to.read_faults shape frames start flash posted
+KeptTask (generate begin count) from to shape frames start flash posted =
+    KeptWord (SaysTask (generate begin count) from.read_faults to.read_faults shape frames start) shape frames start (workload begin count) from to flash posted

@@ -2,7 +2,8 @@
 ghost use Rattle.std.specs.Prelude.{◌≡◌, length, OnOk};
 ghost use Rattle.pk_words.specs.Question.{seen, command_of, IsShort, QuestionAnswers};
 ghost use Rattle.pk_words.specs.Said.{Said, Spoken};
-ghost use Rattle.pk_port.specs.Ready.{Fits, HasRoom};
+ghost use Rattle.pk_call.specs.Running.{HasRoomForData};
+ghost use Rattle.pk_port.specs.Ready.{Fits};
 ghost use Rattle.pk_port.specs.Steps.{mount, seen as seen_on};
 ghost use Rattle.pk_wordrun.specs.Turns.{Turns};
 
@@ -25,7 +26,7 @@ pub fn ask<D: Engine, B: Nand>(
     requires fits { ∥ Fits (D.agrees drive.old) shape (B.state board.old) (D.sight drive.old) ∥₁ }
     requires shape { words.old.shape ≡ shape }
     requires short { IsShort (seen question.now) }
-    requires room { HasRoom shape buffer.old }
+    requires room { HasRoomForData shape buffer.old }
 
     // The drive on its board, and what it made of the command.
     ensures fits { ∥ Fits (D.agrees drive.new) shape (B.state board.new) (D.sight drive.new) ∥₁ }

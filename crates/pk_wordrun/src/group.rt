@@ -2,16 +2,16 @@
 //!
 //! No record goes to the host. That of a Store or a Delete waits while its entry is pending with few others; before every other
 //! command, and after one whose record does not wait, what is pending is committed.
-ghost use Rattle.std.specs.Prelude.{◌≡◌, ◌≢◌, ◌≤◌, ◌<◌, [], ◌∷◌, length, OnOk, OnErr, IfOk};
-ghost use Rattle.pk_base.specs.Shape.{greatest};
+ghost use Rattle.std.specs.Prelude.{◌≡◌, [], ◌∷◌, length, OnOk, OnErr, IfOk};
 ghost use Rattle.pk_nvme.specs.Command.{IsWhole};
 ghost use Rattle.pk_nvme.specs.Seen.{command_of};
 ghost use Rattle.pk_call.specs.Exec.{IsValue};
 ghost use Rattle.pk_call.specs.Seen.{reply_of};
 ghost use Rattle.pk_model.specs.Wear.{roots};
-ghost use Rattle.pk_serve.specs.Part.{IsRunning, CanServe, HasRoom};
+ghost use Rattle.pk_call.specs.Running.{DriveRuns, CanServe, PassesValue};
+ghost use Rattle.pk_serve.specs.Part.{HasRoom};
 ghost use Rattle.pk_wordrun.specs.Grouped.{exchange, KeepsGroup, AddsToGroup, StopsGroup};
-ghost use Rattle.pk_nvme.specs.declared.opcode.TheConstants.{STORE, TICK};
+ghost use Rattle.pk_nvme.specs.declared.opcode.TheConstants.{TICK};
 
 use pk_base::Shape;
 use pk_call::Outcome;
@@ -23,11 +23,11 @@ use pk_nvme::status::SUCCESSFUL_COMPLETION;
 
 /// Commits what is pending.
 pub fn commit_group<D: Engine, B: Nand>(drive: &mut D, board: &mut B) -> Result<(), NandFault>
-    requires { IsRunning (D.agrees drive.old) (D.sight drive.old) (B.state board.old) }
+    requires { DriveRuns (D.agrees drive.old) (D.sight drive.old) (B.state board.old) }
 
     // The drive and the board.
     ensures running { OnOk result
-        (IsRunning (D.agrees drive.new) (D.sight drive.new) (B.state board.new)) }
+        (DriveRuns (D.agrees drive.new) (D.sight drive.new) (B.state board.new)) }
     ensures none { OnOk result ((D.sight drive.new).pending ≡ []) }
     ensures shape { (B.state board.new).shape ≡ (B.state board.old).shape }
     ensures installs { roots (B.state board.new) ≡ roots (B.state board.old) }
@@ -51,11 +51,11 @@ fn prepare<D: Engine, B: Nand>(
     request: &Request,
     held: &mut u32,
 ) -> Result<(), NandFault>
-    requires { IsRunning (D.agrees drive.old) (D.sight drive.old) (B.state board.old) }
+    requires { DriveRuns (D.agrees drive.old) (D.sight drive.old) (B.state board.old) }
 
     // The drive and the board.
     ensures running { OnOk result
-        (IsRunning (D.agrees drive.new) (D.sight drive.new) (B.state board.new)) }
+        (DriveRuns (D.agrees drive.new) (D.sight drive.new) (B.state board.new)) }
     ensures tick { OnOk result (request.now.opcode ≡ TICK → (D.sight drive.new).pending ≡ []) }
     ensures shape { (B.state board.new).shape ≡ (B.state board.old).shape }
     ensures installs { roots (B.state board.new) ≡ roots (B.state board.old) }
@@ -80,10 +80,7 @@ fn prepare<D: Engine, B: Nand>(
 fn handed<'v>(shape: &Shape, request: &Request, value: &'v [u8]) -> &'v [u8]
     requires { IsWhole (command_of request.now value.now) }
     ensures value { IsValue shape.now request.now.opcode request.now.size result.now value.now }
-    ensures sized { request.now.opcode ≡ STORE → request.now.size ≤ greatest shape.now
-        → length result.now ≡ request.now.size }
-    ensures empty { request.now.opcode ≢ STORE → result.now ≡ [] }
-    ensures too_large { greatest shape.now < request.now.size → result.now ≡ [] }
+    ensures passes { PassesValue shape.now request.now.opcode request.now.size result.now }
 {
     if request.opcode == STORE && request.size > shape.greatest() {
         return &[];
@@ -106,7 +103,7 @@ fn execute<D: Engine, B: Nand>(
     requires whole { IsWhole (command_of request.now value.now) }
     requires room { HasRoom (B.state board.old) shape.now into.old }
     ensures running { OnOk result
-        (IsRunning (D.agrees drive.new) (D.sight drive.new) (B.state board.new)) }
+        (DriveRuns (D.agrees drive.new) (D.sight drive.new) (B.state board.new)) }
     ensures shape { (B.state board.new).shape ≡ (B.state board.old).shape }
     ensures room { length into.new ≡ length into.old }
 
@@ -148,11 +145,11 @@ fn finish<D: Engine, B: Nand>(
     waits: bool,
     held: &mut u32,
 ) -> Result<(), NandFault>
-    requires { IsRunning (D.agrees drive.old) (D.sight drive.old) (B.state board.old) }
+    requires { DriveRuns (D.agrees drive.old) (D.sight drive.old) (B.state board.old) }
 
     // The drive and the board.
     ensures running { OnOk result
-        (IsRunning (D.agrees drive.new) (D.sight drive.new) (B.state board.new)) }
+        (DriveRuns (D.agrees drive.new) (D.sight drive.new) (B.state board.new)) }
     ensures shape { (B.state board.new).shape ≡ (B.state board.old).shape }
 
     // The commands that were served before.
@@ -187,7 +184,7 @@ pub fn serve_grouped<D: Engine, B: Nand>(
     requires whole { IsWhole (command_of request.now value.now) }
     requires room { HasRoom (B.state board.old) shape.now into.old }
     ensures running { OnOk result
-        (IsRunning (D.agrees drive.new) (D.sight drive.new) (B.state board.new)) }
+        (DriveRuns (D.agrees drive.new) (D.sight drive.new) (B.state board.new)) }
     ensures shape { (B.state board.new).shape ≡ (B.state board.old).shape }
     ensures room { length into.new ≡ length into.old }
 

@@ -2,7 +2,8 @@
 ghost use Rattle.std.specs.Prelude.{◌≡◌, length, false, Some, IfOk, IfErr};
 ghost use Rattle.pk_words.specs.Listing.{Piece, asked_at};
 ghost use Rattle.pk_words.specs.Said.{Spoken};
-ghost use Rattle.pk_port.specs.Ready.{Fits, HasRoom};
+ghost use Rattle.pk_call.specs.Running.{HasRoomForData};
+ghost use Rattle.pk_port.specs.Ready.{Fits};
 ghost use Rattle.pk_port.specs.Steps.{mount, seen as seen_on};
 ghost use Rattle.pk_wordrun.specs.Turns.{Turns};
 ghost use Rattle.pk_wordrun.specs.Pieces.{PieceTold, PieceEnds};
@@ -26,7 +27,7 @@ fn ask_keys<D: Engine, B: Nand>(
 ) -> Result<Option<ListPosition>, Halt>
     // The drive on its board, and the buffer for data.
     requires fits { ∥ Fits (D.agrees drive.old) shape (B.state board.old) (D.sight drive.old) ∥₁ }
-    requires room { HasRoom shape buffer.old }
+    requires room { HasRoomForData shape buffer.old }
 
     // The drive on its board, and what it made of the command.
     ensures fits { ∥ Fits (D.agrees drive.new) shape (B.state board.new) (D.sight drive.new) ∥₁ }
@@ -72,19 +73,21 @@ pub fn tell_piece<D: Engine, B: Board>(
     // The drive on its board, and the buffer for data.
     requires fits { ∥ Fits (D.agrees drive.old) shape (B.state board.old) (D.sight drive.old) ∥₁ }
     requires runs { (D.sight drive.old).stopped ≡ false }
-    requires room { HasRoom shape buffer.old }
+    requires room { HasRoomForData shape buffer.old }
 
     // The drive on its board after it.
     ensures fits { IfOk result (λ next. ∥ Fits (D.agrees drive.new) shape (B.state board.new)
         (D.sight drive.new) ∥₁) }
     ensures runs { IfOk result (λ next. (D.sight drive.new).stopped ≡ false) }
+    ensures frames { IfOk result
+        (λ next. (D.sight drive.new).counts.frames ≡ (D.sight drive.old).counts.frames) }
     ensures room { length buffer.new ≡ length buffer.old }
 
     // The piece, or why there is none.
-    ensures told { IfOk result (λ next. PieceTold shape (B.state board.old) (B.state board.new)
-        place next) }
-    ensures ends { IfErr result (λ end. PieceEnds shape (B.state board.old) (B.state board.new)
-        place end) }
+    ensures told { IfOk result (λ next. PieceTold shape (D.sight drive.old).counts.frames
+        (B.state board.old) (B.state board.new) place next) }
+    ensures ends { IfErr result (λ end. PieceEnds shape (D.sight drive.old).counts.frames
+        (B.state board.old) (B.state board.new) place end) }
 {
     match ask_keys(words, drive, board, buffer, shape, place) {
         Ok(next) => match say(board, words.text()) {

@@ -3,7 +3,8 @@ ghost use Rattle.std.specs.Prelude.{◌≡◌, false, Some};
 ghost use Rattle.pk_base.specs.Map.{Map};
 ghost use Rattle.pk_model.specs.Reading.{Holds};
 ghost use Rattle.pk_words.specs.Said.{Spoken};
-ghost use Rattle.pk_port.specs.Ready.{Fits, HasRoom};
+ghost use Rattle.pk_call.specs.Running.{HasRoomForData};
+ghost use Rattle.pk_port.specs.Ready.{Fits};
 ghost use Rattle.pk_wordrun.specs.Tasks.{list};
 ghost use Rattle.pk_wordrun.specs.Told.{Told};
 
@@ -27,7 +28,7 @@ pub fn tell_keys<D: Engine, B: Board>(
     requires fits { ∥ Fits (D.agrees drive.old) shape (B.state board.old) (D.sight drive.old) ∥₁ }
     requires on_board { (B.state board.old).shape ≡ Some shape }
     requires runs { (D.sight drive.old).stopped ≡ false }
-    requires room { HasRoom shape buffer.old }
+    requires room { HasRoomForData shape buffer.old }
 
     ensures { (start : Map) → Holds shape (B.state board.old).pages start
         → Told (list from) shape (D.sight drive.old).counts.frames start (B.state board.old)

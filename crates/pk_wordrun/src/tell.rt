@@ -4,7 +4,8 @@ ghost use Rattle.pk_base.specs.Map.{Map};
 ghost use Rattle.pk_model.specs.Reading.{Holds};
 ghost use Rattle.pk_words.specs.Question.{seen, IsShort};
 ghost use Rattle.pk_words.specs.Said.{Spoken};
-ghost use Rattle.pk_port.specs.Ready.{Fits, HasRoom};
+ghost use Rattle.pk_call.specs.Running.{HasRoomForData};
+ghost use Rattle.pk_port.specs.Ready.{Fits};
 ghost use Rattle.pk_wordrun.specs.Tasks.{answer};
 ghost use Rattle.pk_wordrun.specs.Told.{Told};
 
@@ -31,7 +32,7 @@ pub fn tell<D: Engine, B: Board>(
     requires runs { (D.sight drive.old).stopped ≡ false }
     requires shape { words.old.shape ≡ shape }
     requires short { IsShort (seen question.now) }
-    requires room { HasRoom shape buffer.old }
+    requires room { HasRoomForData shape buffer.old }
 
     ensures { (start : Map) → Holds shape (B.state board.old).pages start
         → Told (answer (seen question.now)) shape (D.sight drive.old).counts.frames start

@@ -6,8 +6,10 @@ ghost use Rattle.pk_nvme.specs.Seen.{command_of};
 ghost use Rattle.pk_gen.specs.Workload.{Generator, request_of, value_of, after};
 ghost use Rattle.pk_gen.specs.declared.numbers.TheConstants.{MOST_VALUE_BYTES};
 ghost use Rattle.pk_model.specs.Reading.{Holds};
-ghost use Rattle.pk_serve.specs.Part.{IsRunning, CanServe, HasRoom};
-ghost use Rattle.pk_port.specs.Ready.{Fits, HasRoom as RoomFor};
+ghost use Rattle.pk_call.specs.Running.{DriveRuns, CanServe};
+ghost use Rattle.pk_serve.specs.Part.{HasRoom};
+ghost use Rattle.pk_call.specs.Running.{HasRoomForData};
+ghost use Rattle.pk_port.specs.Ready.{Fits};
 ghost use Rattle.pk_nvme.specs.Command.{IsWhole};
 ghost use Rattle.pk_wordrun.specs.Generated.{Generating, Generated, Unfinished};
 ghost use Rattle.pk_wordrun.specs.Tasks.{generate};
@@ -44,7 +46,7 @@ fn serve_turn<D: Engine, B: Nand>(
     requires value { MOST_VALUE_BYTES ≤ value.old.room }
     requires room { HasRoom (B.state board.old) shape.now buffer.old }
     ensures running { OnOk result
-        (IsRunning (D.agrees drive.new) (D.sight drive.new) (B.state board.new)) }
+        (DriveRuns (D.agrees drive.new) (D.sight drive.new) (B.state board.new)) }
     ensures shape { (B.state board.new).shape ≡ (B.state board.old).shape }
     ensures value { value.new.room ≡ value.old.room }
     ensures room { length buffer.new ≡ length buffer.old }
@@ -77,14 +79,14 @@ fn serve_turns<D: Engine, B: Nand>(
     count: u32,
 ) -> Result<Summary, Halt>
     // The drive on its board with nothing pending, and the buffers.
-    requires running { IsRunning (D.agrees drive.old) (D.sight drive.old) (B.state board.old) }
+    requires running { DriveRuns (D.agrees drive.old) (D.sight drive.old) (B.state board.old) }
     requires none { (D.sight drive.old).pending ≡ [] }
     requires value { MOST_VALUE_BYTES ≤ value.old.room }
     requires room { HasRoom (B.state board.old) shape.now buffer.old }
 
     // All commands were served, or one was not.
     ensures running { OnOk result
-        (IsRunning (D.agrees drive.new) (D.sight drive.new) (B.state board.new)) }
+        (DriveRuns (D.agrees drive.new) (D.sight drive.new) (B.state board.new)) }
     ensures served { IfOk result (λ s. (m : Map) → Holds shape.now (B.state board.old).pages m
         → Generating start count shape.now (D.sight drive.old).counts.frames m (B.state board.old)
         (B.state board.new) (D.sight drive.new) s) }
@@ -133,11 +135,11 @@ fn serve_workload<D: Engine, B: Nand>(
     requires fits { Fits (D.agrees drive.old) shape.now (B.state board.old) (D.sight drive.old) }
     requires runs { (D.sight drive.old).stopped ≡ false }
     requires value { MOST_VALUE_BYTES ≤ value.old.room }
-    requires room { RoomFor shape.now buffer.old }
+    requires room { HasRoomForData shape.now buffer.old }
 
     // All commands were answered, or one was not.
     ensures running { OnOk result
-        (IsRunning (D.agrees drive.new) (D.sight drive.new) (B.state board.new)) }
+        (DriveRuns (D.agrees drive.new) (D.sight drive.new) (B.state board.new)) }
     ensures none { OnOk result ((D.sight drive.new).pending ≡ []) }
     ensures served { IfOk result (λ s. (m : Map) → Holds shape.now (B.state board.old).pages m
         → Generated start count shape.now (D.sight drive.old).counts.frames m (B.state board.old)
@@ -170,7 +172,7 @@ pub fn tell_workload<D: Engine, B: Board>(
     requires runs { (D.sight drive.old).stopped ≡ false }
     requires value { MOST_VALUE_BYTES ≤ value.old.room }
     requires text { SUMMARY_BYTES ≤ text.old.room }
-    requires room { RoomFor shape buffer.old }
+    requires room { HasRoomForData shape buffer.old }
 
     ensures { (m : Map) → Holds shape (B.state board.old).pages m
         → Told (generate series.start series.count) shape (D.sight drive.old).counts.frames m

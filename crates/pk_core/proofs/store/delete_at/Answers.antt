@@ -1,7 +1,6 @@
-use Rattle.std.proofs.Common.{ap, sym, ◌-◌, [], refl, subst, arith, false, ℕ}
+use Rattle.std.proofs.Common.{ap, ◌-◌, [], refl, subst, arith, false, ℕ}
 use Rattle.pk_nvme.specs.Seen.{command_of}
 use Rattle.pk_call.specs.declared.types.Outcome.{Outcome}
-use Rattle.pk_parts.specs.Parts.{Parts}
 use Rattle.pk_core.specs.Done.{Executes}
 use Rattle.pk_parts.specs.Quiet.{Looks}
 use Rattle.pk_core.proofs.LookedUp.{deletes_none, deletes_came}

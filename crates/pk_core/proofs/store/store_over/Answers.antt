@@ -2,7 +2,6 @@ use Rattle.std.proofs.Common.{ap, refl, sym, subst, ◌∙◌, length, ◌-◌, 
 use Rattle.pk_nvme.specs.Seen.{command_of}
 use Rattle.pk_base.specs.Shape.{charge, limit}
 use Rattle.pk_call.specs.declared.types.Outcome.{Outcome}
-use Rattle.pk_parts.specs.Parts.{Parts}
 use Rattle.pk_core.specs.Done.{Executes}
 use Rattle.pk_core.specs.Serving.{pages_at}
 use Rattle.pk_core.proofs.LookedUp.{stores_none, stores_came}

@@ -1,7 +1,6 @@
 use Rattle.std.proofs.Common.{◌∙◌, sym, ap, length, arith}
 use Rattle.pk_base.specs.Shape.{charge}
-use Rattle.pk_core.proofs.Whole.{wholes, fails_half, unworn_then, can_put_then, stores_whole, stays_whole, opens_whole, put_spends, stores_unmade, unmade_spends, put_makes_whole, puts_quietly}
-use Rattle.pk_core.proofs.Whole.{reads_nowhere}
+use Rattle.pk_core.proofs.Whole.{wholes, fails_half, unworn_then, can_put_then, stores_whole, stays_whole, opens_whole, put_spends, stores_unmade, unmade_spends, puts_quietly, reads_nowhere}
 use Rattle.pk_parts.proofs.ReadSteps.{running_stopped}
 use Rattle.pk_core.proofs.storing.put_whole.Goals as goal
 

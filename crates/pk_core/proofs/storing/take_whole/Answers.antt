@@ -1,6 +1,5 @@
 use Rattle.std.proofs.Common.{arith}
-use Rattle.pk_core.proofs.Whole.{wholes, fails_half, numbers_then, can_take_then, takes_whole, stays_whole, moves_whole, take_spends, takes_unmade, unmade_spends, take_makes_whole, takes_quietly}
-use Rattle.pk_core.proofs.Whole.{reads_quietly}
+use Rattle.pk_core.proofs.Whole.{wholes, fails_half, numbers_then, can_take_then, takes_whole, stays_whole, moves_whole, take_spends, takes_unmade, unmade_spends, takes_quietly, reads_quietly}
 use Rattle.pk_parts.proofs.ReadSteps.{running_stopped}
 use Rattle.pk_core.proofs.storing.take_whole.Goals as goal
 

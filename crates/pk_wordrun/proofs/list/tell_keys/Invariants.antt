@@ -10,7 +10,9 @@ abbrev pub invariant-loop-next : goal.invariant-loop-next
 invariant-loop-next g l =
     ∥ Fits (g.D.Engine.agrees l.drive) l.shape (g.B.Nand.state l.board) (g.D.Engine.sight l.drive) ∥₁
     × ((g.D.Engine.sight l.drive).stopped ≡ false)
-    × ((start : Map) → Holds l.shape (g.B.Nand.state l.initial.board).pages start → IsSaying l.fn.from l.shape start (g.B.Nand.state l.initial.board) (g.B.Nand.state l.board) l.place)
+    × ((g.D.Engine.sight l.drive).counts.frames ≡ (g.D.Engine.sight l.initial.drive).counts.frames)
+    × ((start : Map) → Holds l.shape (g.B.Nand.state l.initial.board).pages start
+    → IsSaying l.fn.from l.shape (g.D.Engine.sight l.initial.drive).counts.frames start (g.B.Nand.state l.initial.board) (g.B.Nand.state l.board) l.place)
 
 abbrev pub decreases-loop-next : goal.decreases-loop-next
 decreases-loop-next g l = pieces_left l.place

@@ -26,10 +26,10 @@ serve_turn-requires-clause-can_serve g c =
 pub serve_turn-requires-clause-room : goal.serve_turn-requires-clause-room
 serve_turn-requires-clause-room g c =
     let v = c.loop-turn.invariant in
-    let list = c.requires.room.for_list in
-    let value = c.requires.room.for_value in
+    let list = c.requires.room.buffer.for_list in
+    let value = c.requires.room.buffer.for_value in
     let same = v.room in
-    record { shape_is = v.shape ∙ c.requires.room.shape_is; for_list = omega (arith, list, same); for_value = omega (arith, value, same) }
+    record { shape_is = v.shape ∙ c.requires.room.shape_is; buffer = record { for_list = omega (arith, list, same); for_value = omega (arith, value, same) } }
 
 pub loop-turn-preserved : goal.loop-turn-preserved
 loop-turn-preserved g c =
@@ -67,13 +67,12 @@ returns-in-Err-clause-fails g c = λ m holds.
 pub returns-in-Ok-clause-fails : goal.returns-in-Ok-clause-fails
 returns-in-Ok-clause-fails g c = λ m holds.
     let v = c.loop-turn.invariant in
-    let small = c.loop-turn-test.true in
     let worn = worn_is (g.D.Engine.agrees c.loop-turn.drive) (g.B.Nand.state c.loop-turn.board) c.args.shape.now c.is_worn.result
     (v.shape ∙ c.requires.room.shape_is) v.running.agrees (λ s f h. c.is_worn.ensures s f h v.running.runs) in
     unfinished_worn c.args.start c.loop-turn.turn c.args.shape.now (g.D.Engine.sight c.args.drive.now).counts.frames m
     (g.B.Nand.state c.args.board.now) (g.B.Nand.state c.loop-turn.board) (g.D.Engine.sight c.loop-turn.drive) c.loop-turn.summary (v.served m holds)
-    c.args.count (g.B.Nand.state c.commit_group.new.board) (g.D.Engine.sight c.commit_group.new.drive)
-    (omega (arith, small)) c.in-Ok.ensures.keeps c.in-Ok.ensures.installs (sym worn ∙ c.if-is_worn.true)
+    c.args.count (g.B.Nand.state c.commit_group.new.board) (g.D.Engine.sight c.commit_group.new.drive) c.loop-turn-test.true
+    c.in-Ok.ensures.keeps c.in-Ok.ensures.none c.in-Ok.ensures.installs (sym worn ∙ c.if-is_worn.true)
 
 pub returns-clause-served : goal.returns-clause-served
 returns-clause-served g c = λ m holds.

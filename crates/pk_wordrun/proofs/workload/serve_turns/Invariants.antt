@@ -2,7 +2,7 @@ use Rattle.std.proofs.Common.{◌≡◌, ◌≤◌, length}
 use Rattle.pk_base.specs.Map.{Map}
 use Rattle.pk_gen.specs.Workload.{generator}
 use Rattle.pk_model.specs.Reading.{Holds}
-use Rattle.pk_serve.specs.Part.{IsRunning}
+use Rattle.pk_call.specs.Running.{DriveRuns}
 use Rattle.pk_wordrun.specs.Generated.{Generating}
 use Rattle.pk_wordrun.proofs.workload.serve_turns.Given as goal
 
@@ -11,7 +11,7 @@ invariant-loop-turn g l =
     let a = g.B.Nand.state l.initial.board in
     let b = g.B.Nand.state l.board in
     record {
-      running : IsRunning (g.D.Engine.agrees l.drive) (g.D.Engine.sight l.drive) b;
+      running : DriveRuns (g.D.Engine.agrees l.drive) (g.D.Engine.sight l.drive) b;
       shape : b.shape ≡ a.shape;
       value : 4000 ≤ l.value.room;
       room : length l.buffer ≡ length l.initial.buffer;

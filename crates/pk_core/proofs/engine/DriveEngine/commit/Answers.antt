@@ -3,65 +3,125 @@ use Rattle.pk_nand.specs.BoardState.{BoardState}
 use Rattle.pk_core.proofs.Standing.{stands_for, stands_here, still_stands}
 use Rattle.pk_core.proofs.Committing.{committed, not_committed, agrees_committed}
 use Rattle.pk_parts.specs.Parts.{Parts, sight_of, frames_of}
+use Rattle.pk_parts.proofs.Halves.{not_made}
 use Rattle.pk_parts.proofs.Unchanging.{agrees_ready}
-use Rattle.pk_core.proofs.Executing.{none_between}
+use Rattle.pk_core.proofs.Executing.{none_between, never}
 use Rattle.pk_core.proofs.Sights.{works_up, stops_up}
 use Rattle.pk_core.proofs.Steadying.{steadies}
 use Rattle.pk_core.proofs.engine.DriveEngine.commit.Goals as goal
 
 pub commit_pending-requires : goal.commit_pending-requires
-commit_pending-requires g c = record {
-  may = record {
-    ready = agrees_ready c.self.inside.parts (g.B.Nand.state c.args.board.now) (rw (← c.self.view_is) at c.requires.agrees).0;
-    stands = stands_here c.self.inside.parts (g.B.Nand.state c.args.board.now).shape (g.B.Nand.state c.args.board.now).pages (rw (← c.self.view_is) at c.requires.agrees).0;
-  };
+commit_pending-requires g c =
+    let agrees = (rw (← c.self.view_is) at c.requires.runs).agrees.0 in
+    record {
+      may = record {
+        ready = agrees_ready c.self.inside.parts (g.B.Nand.state c.args.board.now) agrees;
+        stands = stands_here c.self.inside.parts (g.B.Nand.state c.args.board.now).shape (g.B.Nand.state c.args.board.now).pages agrees;
+      };
+    }
+
+-- ---- it is done
+
+pub returns-clause-leaves : goal.returns-clause-leaves
+returns-clause-leaves g c =
+    let e = c.in-Ok.ensures in
+    let was = rw (← c.self.view_is) at c.requires.runs in
+    let new = g.B.Nand.state c.commit_pending.new.board in
+    record {
+      stops = ap (λ (d : Parts). d.stopped) e.rest ∙ was.runs;
+      agrees = λ _. none_between c.commit_pending.new.self new.shape new.pages
+          (agrees_committed c.self.inside.parts c.commit_pending.new.self (g.B.Nand.state c.args.board.now) new was.agrees.0 e.step.ended e.idle e.step.works.rest) e.none;
+      rest = e.step.works.rest;
+    }
+
+pub returns-clause-answers : goal.returns-clause-answers
+returns-clause-answers g c = rw (← c.self.view_is) (
+    let e = c.in-Ok.ensures in
+    let new = g.B.Nand.state c.commit_pending.new.board in
+    record {
+      stands = λ _ shape frames m stands.
+          let was = stands_for c.self.inside.parts (g.B.Nand.state c.args.board.now) shape frames m (rw (← c.self.view_is) at c.requires.runs).agrees.0 stands in
+          still_stands _ new shape frames m (ap (λ (s : BoardState). s.shape) e.step.works.rest ∙ stands.shape_is) (ap (λ (d : Parts). frames_of d) e.rest ∙ stands.frames_is)
+          (committed c.self.inside.parts c.commit_pending.new.self shape m (g.B.Nand.state c.args.board.now) new was e.step.ended e.idle).stands;
+      none = λ _. e.none;
+      idle = λ none. let is = e.idle none in (refl, is.2, ap sight_of is.1);
+    })
+
+pub returns-clause-found : goal.returns-clause-found
+returns-clause-found g c = rw (← c.self.view_is) (record {
+  cuts = λ _ shape frames m stands.
+      let e = c.in-Ok.ensures in
+      let was = stands_for c.self.inside.parts (g.B.Nand.state c.args.board.now) shape frames m (rw (← c.self.view_is) at c.requires.runs).agrees.0 stands in
+      (committed c.self.inside.parts c.commit_pending.new.self shape m (g.B.Nand.state c.args.board.now) (g.B.Nand.state c.commit_pending.new.board) was e.step.ended e.idle).cuts;
+  cuts_stopped = λ is. absurd (never is refl);
+})
+
+pub returns-clause-counts : goal.returns-clause-counts
+returns-clause-counts g c = rw (← c.self.view_is) (
+    let e = c.in-Ok.ensures in
+    let works = e.step.works in
+    record {
+      reads = works.reads;
+      read_faults = works.no_fault.1;
+      stop = λ is. absurd (never is refl);
+      sound = λ _. works.no_fault;
+      flash_up = works_up _ _ works;
+      program = λ _ _ _ _. e.program;
+      programs = λ _ _ _ _ _. e.programs;
+      installs = e.step.roots_few;
+    })
+
+pub returns-clause-shows : goal.returns-clause-shows
+returns-clause-shows g c = rw (← c.self.view_is) (
+    let e = c.in-Ok.ensures in
+    let new = g.B.Nand.state c.commit_pending.new.board in
+    let was = (rw (← c.self.view_is) at c.requires.runs).agrees.0 in
+    let agrees = agrees_committed c.self.inside.parts c.commit_pending.new.self (g.B.Nand.state c.args.board.now) new was e.step.ended e.idle e.step.works.rest in
+    let between = none_between c.commit_pending.new.self new.shape new.pages agrees e.none in
+    record {
+      seen = λ _. e.seen;
+      steady = λ _. steadies c.commit_pending.new.self (g.B.Nand.state c.args.board.now) new (sight_of c.self.inside.parts) between e.step.works.rest c.known.ensures;
+    })
+
+-- ---- a program failed
+
+pub returns-in-Err-clause-leaves : goal.returns-in-Err-clause-leaves
+returns-in-Err-clause-leaves g c = record {
+  stops = ap (λ (d : Parts). d.stopped) c.in-Err.ensures.kept;
+  agrees = λ is. absurd (never refl is);
+  rest = c.in-Err.ensures.step.stops.rest;
 }
 
-pub returns-in-Ok-clause-agrees : goal.returns-in-Ok-clause-agrees
-returns-in-Ok-clause-agrees g c =
-    let e = c.in-Ok.ensures in
-    none_between c.commit_pending.new.self (g.B.Nand.state c.commit_pending.new.board).shape (g.B.Nand.state c.commit_pending.new.board).pages
-    (agrees_committed c.self.inside.parts c.commit_pending.new.self (g.B.Nand.state c.args.board.now)
-    (g.B.Nand.state c.commit_pending.new.board) (rw (← c.self.view_is) at c.requires.agrees).0 e.step.ended e.idle e.step.works.rest) e.none
+pub returns-in-Err-clause-answers : goal.returns-in-Err-clause-answers
+returns-in-Err-clause-answers g c = rw (← c.self.view_is) (record {
+  stands = λ is. absurd (never refl is);
+  none = λ is. absurd (never refl is);
+  idle = λ none. absurd (not_made c.in-Err.field-0 (c.in-Err.ensures.idle none).0);
+})
 
-pub returns-in-Ok-clause-stands : goal.returns-in-Ok-clause-stands
-returns-in-Ok-clause-stands g c = rw (← c.self.view_is) (λ shape frames m stands.
-    let e = c.in-Ok.ensures in
-    let same = ap (λ (s : BoardState). s.shape) e.step.works.rest in
-    let was = stands_for c.self.inside.parts (g.B.Nand.state c.args.board.now) shape frames m (rw (← c.self.view_is) at c.requires.agrees).0 stands in
-    still_stands _ (g.B.Nand.state c.commit_pending.new.board) shape frames m (same ∙ stands.shape_is) (ap (λ (d : Parts). frames_of d) e.rest ∙ stands.frames_is)
-    (committed c.self.inside.parts c.commit_pending.new.self shape m (g.B.Nand.state c.args.board.now) (g.B.Nand.state c.commit_pending.new.board) was e.step.ended e.idle).stands)
+pub returns-in-Err-clause-found : goal.returns-in-Err-clause-found
+returns-in-Err-clause-found g c = rw (← c.self.view_is) (record {
+  cuts = λ is. absurd (never refl is);
+  cuts_stopped = λ _ shape frames m stands.
+      let e = c.in-Err.ensures in
+      let was = stands_for c.self.inside.parts (g.B.Nand.state c.args.board.now) shape frames m (rw (← c.self.view_is) at c.requires.runs).agrees.0 stands in
+      not_committed c.self.inside.parts c.commit_pending.new.self shape m (g.B.Nand.state c.args.board.now) (g.B.Nand.state c.commit_pending.new.board) was c.in-Err.field-0 e.step.broken e.idle;
+})
 
-pub returns-in-Ok-clause-cuts : goal.returns-in-Ok-clause-cuts
-returns-in-Ok-clause-cuts g c = rw (← c.self.view_is) (λ shape frames m stands.
-    let e = c.in-Ok.ensures in
-    let was = stands_for c.self.inside.parts (g.B.Nand.state c.args.board.now) shape frames m (rw (← c.self.view_is) at c.requires.agrees).0 stands in
-    (committed c.self.inside.parts c.commit_pending.new.self shape m (g.B.Nand.state c.args.board.now) (g.B.Nand.state c.commit_pending.new.board) was e.step.ended e.idle).cuts)
-
-pub returns-in-Err-clause-cuts_failed : goal.returns-in-Err-clause-cuts_failed
-returns-in-Err-clause-cuts_failed g c = rw (← c.self.view_is) (λ shape frames m stands.
+pub returns-in-Err-clause-counts : goal.returns-in-Err-clause-counts
+returns-in-Err-clause-counts g c = rw (← c.self.view_is) (
     let e = c.in-Err.ensures in
-    let was = stands_for c.self.inside.parts (g.B.Nand.state c.args.board.now) shape frames m (rw (← c.self.view_is) at c.requires.agrees).0 stands in
-    not_committed c.self.inside.parts c.commit_pending.new.self shape m (g.B.Nand.state c.args.board.now) (g.B.Nand.state c.commit_pending.new.board) was c.in-Err.field-0 e.step.broken e.idle)
+    let stops = e.step.stops in
+    record {
+      reads = stops.reads;
+      read_faults = stops.read;
+      stop = λ _. stops.stop;
+      sound = λ is. absurd (never refl is);
+      flash_up = stops_up _ _ stops c.read_count.ensures.flash_faults;
+      program = λ _ _ _ _. e.program;
+      programs = λ is. absurd (never refl is);
+      installs = e.step.roots_few;
+    })
 
--- ---- what is seen of it, and that it is steady
-
-pub returns-in-Ok-clause-steady : goal.returns-in-Ok-clause-steady
-returns-in-Ok-clause-steady g c = rw (← c.self.view_is) (
-    let e = c.in-Ok.ensures in
-    let agrees = agrees_committed c.self.inside.parts c.commit_pending.new.self (g.B.Nand.state c.args.board.now)
-    (g.B.Nand.state c.commit_pending.new.board) (rw (← c.self.view_is) at c.requires.agrees).0 e.step.ended e.idle e.step.works.rest in
-    steadies c.commit_pending.new.self (g.B.Nand.state c.args.board.now) (g.B.Nand.state c.commit_pending.new.board) (sight_of c.self.inside.parts)
-    (none_between c.commit_pending.new.self (g.B.Nand.state c.commit_pending.new.board).shape (g.B.Nand.state c.commit_pending.new.board).pages agrees e.none) e.step.works.rest c.known.ensures)
-
-pub returns-in-Ok-clause-idle : goal.returns-in-Ok-clause-idle
-returns-in-Ok-clause-idle g c = rw (← c.self.view_is) (λ none. let e = c.in-Ok.ensures.idle none in (refl, e.2, ap sight_of e.1))
-
-pub returns-in-Ok-clause-flash_up : goal.returns-in-Ok-clause-flash_up
-returns-in-Ok-clause-flash_up g c = works_up _ _ c.in-Ok.ensures.step.works
-
-pub returns-in-Err-clause-flash_up : goal.returns-in-Err-clause-flash_up
-returns-in-Err-clause-flash_up g c = stops_up _ _ c.in-Err.ensures.step.stops c.read_count.ensures.flash_faults
-
-pub returns-in-Ok-clause-seen : goal.returns-in-Ok-clause-seen
-returns-in-Ok-clause-seen g c = rw (← c.self.view_is) c.in-Ok.ensures.seen
+pub returns-in-Err-clause-shows : goal.returns-in-Err-clause-shows
+returns-in-Err-clause-shows g c = record { seen = λ is. absurd (never refl is); steady = λ is. absurd (never refl is) }

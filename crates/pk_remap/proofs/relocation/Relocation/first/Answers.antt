@@ -1,5 +1,6 @@
 use Rattle.std.proofs.Common.{◌≡◌, ◌+◌, ◌++◌, ◌≤◌, ℕ, List, length, take, drop, sym, ap, ◌∙◌, arith}
 use Rattle.std.proofs.Math.Seq.{take-append_seam}
+use Rattle.pk_base.specs.declared.sizes.TheConstants.{MOST_PAGE_BYTES}
 use Rattle.pk_nand.specs.BoardState.{BoardState}
 use Rattle.pk_nand.proofs.Writing.{shape_is}
 use Rattle.pk_remap.specs.Table.{table_bytes}
@@ -20,16 +21,14 @@ returns-in-Ok g c before runs =
     let board : BoardState = g.N.Nand.state c.args.inner.now in
     let new : List ℕ = c.program_table.new.buffer in
     let same : take r.shape.page_bytes new ≡ table_bytes r.shape r.spares (next_table (relocation_of r)) =
-    c.program_table.ensures.bytes ∙ ap
-    (λ (x : List ℕ). table_bytes r.shape r.spares (record { number = r.number + 1; serves = x })) c.next_serves-serves.ensures.front in
+    c.program_table.ensures.bytes ∙ ap (λ (x : List ℕ). table_bytes r.shape r.spares (record { number = r.number + 1; serves = x })) c.next_serves-serves.ensures.front in
     let a = c.program_table.auto.buffer in
     let b = c.deref_mut.ensures in
     let size : r.copy.len ≡ length new = sym (a ∙ b.len) in
-    let items : take r.copy.len (new ++ drop (length new) r.copy.items) ≡ new = ap (λ (n : ℕ). take n (new ++ drop (length new) r.copy.items)) size
-    ∙ take-append_seam _ _ in
-    let room : r.shape.page_bytes ≤ length new = let old = runs.copy_room in omega (arith, old, c.program_table.ensures.len, ap length b.value) in
-    first_written r before board runs c.args.page c.requires.phase (g.N.Nand.state c.program_table.new.inner)
-    (take r.shape.page_bytes new) c.program_table.ensures.page same c.in-Ok.ensures.ok _ (rw items room)
+    let items : take r.copy.len (new ++ drop (length new) r.copy.items) ≡ new = ap (λ (n : ℕ). take n (new ++ drop (length new) r.copy.items)) size ∙ take-append_seam _ _ in
+    let room : MOST_PAGE_BYTES ≤ length new = let old = runs.room.read_page in omega (arith, old, c.program_table.ensures.len, ap length b.value) in
+    first_written r before board runs c.args.page c.requires.phase (g.N.Nand.state c.program_table.new.inner) (take r.shape.page_bytes new)
+    c.program_table.ensures.page same c.in-Ok.ensures.ok _ (rw items room)
 
 pub returns-in-Err : goal.returns-in-Err
 returns-in-Err g c before runs =
@@ -37,7 +36,11 @@ returns-in-Err g c before runs =
     let board : BoardState = g.N.Nand.state c.args.inner.now in
     let new : List ℕ = c.program_table.new.buffer in
     let same : take r.shape.page_bytes new ≡ table_bytes r.shape r.spares (next_table (relocation_of r)) =
-    c.program_table.ensures.bytes ∙ ap
-    (λ (x : List ℕ). table_bytes r.shape r.spares (record { number = r.number + 1; serves = x })) c.next_serves-serves.ensures.front in
-    first_failed r before board runs c.args.page c.requires.phase (g.N.Nand.state c.program_table.new.inner)
-    (take r.shape.page_bytes new) c.program_table.ensures.page same c.in-Err.ensures.err
+    c.program_table.ensures.bytes ∙ ap (λ (x : List ℕ). table_bytes r.shape r.spares (record { number = r.number + 1; serves = x })) c.next_serves-serves.ensures.front in
+    let a = c.program_table.auto.buffer in
+    let b = c.deref_mut.ensures in
+    let size : r.copy.len ≡ length new = sym (a ∙ b.len) in
+    let items : take r.copy.len (new ++ drop (length new) r.copy.items) ≡ new = ap (λ (n : ℕ). take n (new ++ drop (length new) r.copy.items)) size ∙ take-append_seam _ _ in
+    let room : MOST_PAGE_BYTES ≤ length new = let old = runs.room.read_page in omega (arith, old, c.program_table.ensures.len, ap length b.value) in
+    first_failed r before board runs c.args.page c.requires.phase (g.N.Nand.state c.program_table.new.inner) (take r.shape.page_bytes new)
+    c.program_table.ensures.page same c.in-Err.ensures.err _ (rw items room)

@@ -1,5 +1,6 @@
 use Rattle.std.proofs.Common.{◌≡◌, ◌+◌, ◌*◌, ◌++◌, ◌≤◌, ℕ, List, length, take, drop, sym, ap, ◌∙◌, arith}
 use Rattle.std.proofs.Math.Seq.{take-append_seam}
+use Rattle.pk_base.specs.declared.sizes.TheConstants.{MOST_PAGE_BYTES}
 use Rattle.pk_base.specs.Page.{page_at, whole}
 use Rattle.pk_nand.specs.BoardState.{BoardState}
 use Rattle.pk_remap.specs.Places.{place, placed_page}
@@ -42,7 +43,7 @@ returns-in-Ok-Whole g c before runs =
     let items : take r.copy.len (new ++ drop (length new) r.copy.items) ≡ new = ap (λ (n : ℕ). take n (new ++ drop (length new) r.copy.items)) size
     ∙ take-append_seam _ _ in
     let taken : take r.shape.page_bytes new ≡ found.0 = rw c.page_bytes-size.ensures.value at (c.in-Ok-Whole.ensures.bytes ∙ found.2 _) in
-    let room : r.shape.page_bytes ≤ length new = let old = runs.copy_room in omega (arith, old, c.in-Ok-Whole.ensures.len, ap length b.value) in
+    let room : MOST_PAGE_BYTES ≤ length new = let old = runs.room.read_page in omega (arith, old, c.in-Ok-Whole.ensures.len, ap length b.value) in
     page_read r before board runs c.args.page c.requires.phase _ found.0 (g.N.Nand.state c.read_into.new.inner) c.in-Ok-Whole.ensures.ok here
     (ap (λ (x : List ℕ). take r.shape.page_bytes x) items ∙ taken) (rw items room)
 
@@ -66,10 +67,25 @@ returns-in-Ok-Torn g c before runs =
     let own = read_place r before board runs c.args.page c.requires.phase in
     let is : c.page_in-at.result ≡ placed_page r.shape (relocation_of r).table (block (relocation_of r) * r.shape.block_pages + c.args.page) =
     c.page_in-at.ensures ∙ ap (λ (x : ℕ). x * r.shape.block_pages + c.args.page) at ∙ sym own.0 in
-    page_torn r before board runs c.args.page c.requires.phase (g.N.Nand.state c.read_into.new.inner) c.in-Ok-Torn.ensures.ok
+    let new : List ℕ = c.read_into.new.buffer in
+    let a = c.read_into.auto.buffer in
+    let b = c.deref_mut.ensures in
+    let size : r.copy.len ≡ length new = sym (a ∙ b.len) in
+    let items : take r.copy.len (new ++ drop (length new) r.copy.items) ≡ new = ap (λ (n : ℕ). take n (new ++ drop (length new) r.copy.items)) size
+    ∙ take-append_seam _ _ in
+    let room : MOST_PAGE_BYTES ≤ length new = let old = runs.room.read_page in omega (arith, old, c.in-Ok-Torn.ensures.len, ap length b.value) in
+    page_torn r before board runs c.args.page c.requires.phase _ (rw items room) (g.N.Nand.state c.read_into.new.inner) c.in-Ok-Torn.ensures.ok
     (ap (page_at board.pages) (sym is) ∙ answer_torn (page_at board.pages c.page_in-at.result) (rw c.in-Ok-Torn.field-0-is at c.in-Ok-Torn.ensures.found))
 
 pub returns-in-Err : goal.returns-in-Err
 returns-in-Err g c before runs =
-    page_read_failed c.args.self.now before (g.N.Nand.state c.args.inner.now) runs c.args.page c.requires.phase
+    let r = c.args.self.now in
+    let new : List ℕ = c.read_into.new.buffer in
+    let a = c.read_into.auto.buffer in
+    let b = c.deref_mut.ensures in
+    let size : r.copy.len ≡ length new = sym (a ∙ b.len) in
+    let items : take r.copy.len (new ++ drop (length new) r.copy.items) ≡ new = ap (λ (n : ℕ). take n (new ++ drop (length new) r.copy.items)) size
+    ∙ take-append_seam _ _ in
+    let room : MOST_PAGE_BYTES ≤ length new = let old = runs.room.read_page in omega (arith, old, c.in-Err.ensures.len, ap length b.value) in
+    page_read_failed r before (g.N.Nand.state c.args.inner.now) runs c.args.page c.requires.phase _ (rw items room)
     (g.N.Nand.state c.read_into.new.inner) c.page_in-at.result c.in-Err.ensures.err

@@ -1,4 +1,6 @@
-use Rattle.std.proofs.Common.{◌≡◌, ◌+◌, ℕ, suc, List, take, ap, ◌∙◌, arith}
+use Rattle.std.proofs.Common.{◌≡◌, ◌+◌, ◌++◌, ◌≤◌, ℕ, suc, List, length, take, drop, sym, ap, ◌∙◌, arith}
+use Rattle.std.proofs.Math.Seq.{take-append_seam}
+use Rattle.pk_base.specs.declared.sizes.TheConstants.{MOST_PAGE_BYTES}
 use Rattle.pk_nand.specs.BoardState.{BoardState}
 use Rattle.pk_nand.specs.Calls.{after_program}
 use Rattle.pk_nand.proofs.Writing.{shape_is}
@@ -19,23 +21,32 @@ pub returns-in-Ok : goal.returns-in-Ok
 returns-in-Ok g c before runs =
     let r = c.args.self.now in
     let board : BoardState = g.N.Nand.state c.args.inner.now in
-    let next : c.args.page + 1 ≡ suc c.args.page = omega arith in
     let new : List ℕ = c.program_table.new.buffer in
     let same : take r.shape.page_bytes new ≡ table_bytes r.shape r.spares (next_table (relocation_of r)) =
-    c.program_table.ensures.bytes ∙ ap
-    (λ (x : List ℕ). table_bytes r.shape r.spares (record { number = r.number + 1; serves = x })) c.next_serves-serves.ensures.front in
-    second_written r before board runs c.args.page c.requires.phase
-    (g.N.Nand.state c.program_table.new.inner) (take r.shape.page_bytes new) c.program_table.ensures.page same
-    (c.in-Ok.ensures.ok ∙ ap (λ (k : ℕ). after_program board k (take r.shape.page_bytes new)) next)
+    c.program_table.ensures.bytes ∙ ap (λ (x : List ℕ). table_bytes r.shape r.spares (record { number = r.number + 1; serves = x })) c.next_serves-serves.ensures.front in
+    let next : c.args.page + 1 ≡ suc c.args.page = omega arith in
+    let a = c.program_table.auto.buffer in
+    let b = c.deref_mut.ensures in
+    let size : r.copy.len ≡ length new = sym (a ∙ b.len) in
+    let items : take r.copy.len (new ++ drop (length new) r.copy.items) ≡ new = ap (λ (n : ℕ). take n (new ++ drop (length new) r.copy.items)) size ∙ take-append_seam _ _ in
+    let room : MOST_PAGE_BYTES ≤ length new = let old = runs.room.read_page in omega (arith, old, c.program_table.ensures.len, ap length b.value) in
+    rw c.take_table.ensures
+    (second_written r before board runs c.args.page c.requires.phase (g.N.Nand.state c.program_table.new.inner) (take r.shape.page_bytes new)
+    c.program_table.ensures.page same (c.in-Ok.ensures.ok ∙ ap (λ (k : ℕ). after_program board k (take r.shape.page_bytes new)) next) _ (rw items room)
+    c.next_serves-serves.result c.next_serves-serves.ensures.front c.next_serves-serves.ensures.len)
 
 pub returns-in-Err : goal.returns-in-Err
 returns-in-Err g c before runs =
     let r = c.args.self.now in
     let board : BoardState = g.N.Nand.state c.args.inner.now in
-    let next : c.args.page + 1 ≡ suc c.args.page = omega arith in
     let new : List ℕ = c.program_table.new.buffer in
     let same : take r.shape.page_bytes new ≡ table_bytes r.shape r.spares (next_table (relocation_of r)) =
-    c.program_table.ensures.bytes ∙ ap
-    (λ (x : List ℕ). table_bytes r.shape r.spares (record { number = r.number + 1; serves = x })) c.next_serves-serves.ensures.front in
-    second_failed r before board runs c.args.page c.requires.phase (g.N.Nand.state c.program_table.new.inner)
-    (take r.shape.page_bytes new) c.program_table.ensures.page same (rw next at c.in-Err.ensures.err)
+    c.program_table.ensures.bytes ∙ ap (λ (x : List ℕ). table_bytes r.shape r.spares (record { number = r.number + 1; serves = x })) c.next_serves-serves.ensures.front in
+    let next : c.args.page + 1 ≡ suc c.args.page = omega arith in
+    let a = c.program_table.auto.buffer in
+    let b = c.deref_mut.ensures in
+    let size : r.copy.len ≡ length new = sym (a ∙ b.len) in
+    let items : take r.copy.len (new ++ drop (length new) r.copy.items) ≡ new = ap (λ (n : ℕ). take n (new ++ drop (length new) r.copy.items)) size ∙ take-append_seam _ _ in
+    let room : MOST_PAGE_BYTES ≤ length new = let old = runs.room.read_page in omega (arith, old, c.program_table.ensures.len, ap length b.value) in
+    second_failed r before board runs c.args.page c.requires.phase (g.N.Nand.state c.program_table.new.inner) (take r.shape.page_bytes new)
+    c.program_table.ensures.page same (rw next at c.in-Err.ensures.err) _ (rw items room)

@@ -1,0 +1,44 @@
+use Rattle.std.proofs.Common.{◌≡◌, ◌<◌, ◌≤◌}
+use Rattle.pk_nand.specs.BoardState.{BoardState}
+use Rattle.pk_nand.proofs.Writing.{shape_is}
+use Rattle.pk_remap.specs.Places.{place}
+use Rattle.pk_remap.specs.Running.{relocation_of}
+use Rattle.pk_remap.specs.Serving.{outer_of}
+use Rattle.pk_remap.proofs.Outer.{erase_inside, erase_done, erase_begins, erase_served, erase_none_left}
+use Rattle.pk_remap.proofs.relocation.Relocation.erase_outer.Goals as goal
+
+pub erase-requires : goal.erase-requires
+erase-requires g c =
+    let r = c.args.self.now in
+    let board : BoardState = g.N.Nand.state c.args.inner.now in
+    let at : c.place-at.result ≡ place r.shape (relocation_of r).table c.args.block = c.place-at.ensures in
+    rw (shape_is board _ c.requires.rests.ready, at) (erase_inside r board c.requires.rests c.args.block c.requires.inside)
+
+pub serve-requires : goal.serve-requires
+serve-requires g c =
+    let r = c.args.self.now in
+    let board : BoardState = g.N.Nand.state c.args.inner.now in
+    let at : c.place-at.result ≡ place r.shape (relocation_of r).table c.args.block = c.place-at.ensures in
+    (outer_of r board.pages, erase_begins r board c.requires.rests c.args.block c.requires.inside (g.N.Nand.state c.erase.new.self) (rw at at c.in-Err.ensures.err) c.if-self.true)
+
+pub returns-in-Ok : goal.returns-in-Ok
+returns-in-Ok g c =
+    let r = c.args.self.now in
+    let board : BoardState = g.N.Nand.state c.args.inner.now in
+    let at : c.place-at.result ≡ place r.shape (relocation_of r).table c.args.block = c.place-at.ensures in
+    erase_done r board c.requires.rests c.args.block c.requires.inside _ (g.N.Nand.state c.erase.new.self) (rw at at c.in-Ok.ensures.ok)
+
+pub returns-then-self : goal.returns-then-self
+returns-then-self g c =
+    let r = c.args.self.now in
+    let board : BoardState = g.N.Nand.state c.args.inner.now in
+    let at : c.place-at.result ≡ place r.shape (relocation_of r).table c.args.block = c.place-at.ensures in
+    erase_served r board c.requires.rests c.args.block c.requires.inside (g.N.Nand.state c.erase.new.self) (rw at at c.in-Err.ensures.err) c.if-self.true
+        c.serve.result c.serve.new.self (g.N.Nand.state c.serve.new.inner) c.serve.ensures
+
+pub returns-else-self : goal.returns-else-self
+returns-else-self g c =
+    let r = c.args.self.now in
+    let board : BoardState = g.N.Nand.state c.args.inner.now in
+    let at : c.place-at.result ≡ place r.shape (relocation_of r).table c.args.block = c.place-at.ensures in
+    erase_none_left r board c.requires.rests c.args.block c.requires.inside _ (g.N.Nand.state c.erase.new.self) (rw at at c.in-Err.ensures.err) c.if-self.false

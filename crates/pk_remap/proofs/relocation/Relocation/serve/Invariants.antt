@@ -1,0 +1,12 @@
+use Rattle.pk_base.specs.Page.{Flash}
+use Rattle.pk_remap.specs.Running.{RelocationRuns, relocation_steps_left}
+use Rattle.pk_remap.proofs.Served.{SoFar}
+use Rattle.pk_remap.proofs.relocation.Relocation.serve.Given as goal
+
+abbrev pub invariant-loop : goal.invariant-loop
+invariant-loop g l = record {
+  far : (before : Flash) → RelocationRuns l.fn.self before (g.N.Nand.state l.fn.inner) → SoFar l.fn.self before (g.N.Nand.state l.fn.inner) l.self (g.N.Nand.state l.inner);
+}
+
+abbrev pub decreases-loop : goal.decreases-loop
+decreases-loop g l = relocation_steps_left l.self
