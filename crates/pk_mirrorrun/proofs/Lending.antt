@@ -50,16 +50,16 @@ pub said_lent : (asked : Type 0) (task : PairTask) (shape one two : Shape) (p p'
     → (asked → BothWalked shape p p' q q') → one ≡ shape → two ≡ shape → last ≡ p' → last' ≡ q'
     → PairSaid asked task (seen shape p.on.board p.faults) (seen one p'.on.board p'.faults) (seen shape q.on.board q.faults) (seen two q'.on.board q'.faults) m text
     → PairSaid (BothWalked shape p last q last') task (seen shape p.on.board p.faults)
-        (seen shape last.on.board last.faults) (seen shape q.on.board q.faults) (seen shape last'.on.board last'.faults) m text
+    (seen shape last.on.board last.faults) (seen shape q.on.board q.faults) (seen shape last'.on.board last'.faults) m text
 said_lent asked task shape one two p p' last q q' last' m text walked same same' back back' said =
     let First : Shape → Type 0 = λ s. PairSaid asked task (seen shape p.on.board p.faults) (seen s p'.on.board p'.faults) (seen shape q.on.board q.faults) (seen two q'.on.board q'.faults) m text in
     let Second : Shape → Type 0 = λ s. PairSaid asked task (seen shape p.on.board p.faults) (seen shape p'.on.board p'.faults) (seen shape q.on.board q.faults) (seen s q'.on.board q'.faults) m text in
     let Last : Standing → Type 0 = λ x. PairSaid (BothWalked shape p x q q') task (seen shape p.on.board p.faults)
-        (seen shape x.on.board x.faults) (seen shape q.on.board q.faults) (seen shape q'.on.board q'.faults) m text in
+    (seen shape x.on.board x.faults) (seen shape q.on.board q.faults) (seen shape q'.on.board q'.faults) m text in
     let Last' : Standing → Type 0 = λ x. PairSaid (BothWalked shape p last q x) task (seen shape p.on.board p.faults)
-        (seen shape last.on.board last.faults) (seen shape q.on.board q.faults) (seen shape x.on.board x.faults) m text in
+    (seen shape last.on.board last.faults) (seen shape q.on.board q.faults) (seen shape x.on.board x.faults) m text in
     let walk : PairSaid (BothWalked shape p p' q q') task (seen shape p.on.board p.faults)
-        (seen shape p'.on.board p'.faults) (seen shape q.on.board q.faults) (seen shape q'.on.board q'.faults) m text =
+    (seen shape p'.on.board p'.faults) (seen shape q.on.board q.faults) (seen shape q'.on.board q'.faults) m text =
     elim (subst Second same' (subst First same said)) [
       | inl (some, done) ↦ inl (walked some, done)
       | inr unread ↦ inr unread

@@ -116,9 +116,12 @@ module _ (task : PairTask) (shape : Shape) (m other : Map) (cs ds : List Command
 
   first_silent : (failed : Type 0) → Goes shape a b (KeptFirst task failed shape m)
   first_silent failed =
-      let run = kept_by shape m cs p p' walk in
-      (run.0, weaken_went run.0 a b (KeptSilently shape p.on.frames m cs (rise a.read_faults b.read_faults))
-          (KeptFirst task failed shape m) (silent failed (rise a.read_faults b.read_faults)) run.1, run.2)
+      let run = kept_by shape m cs p p' walk in (
+        run.0,
+        weaken_went run.0 a b (KeptSilently shape p.on.frames m cs (rise a.read_faults b.read_faults))
+            (KeptFirst task failed shape m) (silent failed (rise a.read_faults b.read_faults)) run.1,
+        run.2,
+      )
 
   ended : (end : WordEnd) → PairEnds task shape m a b c d end → PairTold task shape m other a b c d end
   ended end ends = record {
@@ -288,7 +291,7 @@ module _ (task : PairTask) (shape : Shape) (m other : Map) (p p' q q' : Standing
   tells-posted by text said last is =
       let (none, nor) = both_none p'.halt q'.halt by in
       told-posted task shape m other walk.0 too.0 p p' q q' walk.1 few_roots one two (all_served shape m walk.0 p p' first none one)
-          (all_served shape other too.0 q q' second nor two) text (unworn none nor text said) last is
+      (all_served shape other too.0 q q' second nor two) text (unworn none nor text said) last is
 
   pub tells-unposted : end_by p'.halt q'.halt ≡ None → (text : List ℕ)
       → PairSaid (BothWalked shape p p' q q') task (seen shape p.on.board p.faults) (seen shape p'.on.board p'.faults) (seen shape q.on.board q.faults) (seen shape q'.on.board q'.faults) m text
@@ -296,7 +299,7 @@ module _ (task : PairTask) (shape : Shape) (m other : Map) (p p' q q' : Standing
   tells-unposted by text said last failed =
       let (none, nor) = both_none p'.halt q'.halt by in
       told-unposted task shape m other walk.0 too.0 p p' q q' walk.1 few_roots one two (all_served shape m walk.0 p p' first none one)
-          (all_served shape other too.0 q q' second nor two) text (unworn none nor text said) last failed
+      (all_served shape other too.0 q q' second nor two) text (unworn none nor text said) last failed
 
   pub faults-never : end_by p'.halt q'.halt ≡ None → p.faults ≡ 0 → q.faults ≡ 0
       → PairFault (seen shape p.on.board p.faults) (seen shape p'.on.board p'.faults) (seen shape q.on.board q.faults) (seen shape q'.on.board q'.faults) → ⊥

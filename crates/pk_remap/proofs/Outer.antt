@@ -128,14 +128,14 @@ module _ (r : InMemory) (old : BoardState) (rest : IsAtRest r old) (mark : Mark)
     begun = record r { call = call; kept = kept; bytes = bytes; phase = EraseSpare }
 
     pub begun_runs : ((k : ℕ) → (kept && (suc k == copies_of r.shape mark)) ≡ true
-            → page_at (after r.shape mark before) (block_of r.shape mark * r.shape.block_pages + k) ≡ whole (take r.shape.page_bytes r.partner.items))
+        → page_at (after r.shape mark before) (block_of r.shape mark * r.shape.block_pages + k) ≡ whole (take r.shape.page_bytes r.partner.items))
         → RelocationRuns begun before new
     begun_runs partner =
         let failed : CallHasFailed (for_mark r mark) old new = fails_below (for_mark r mark) old new can same left in
         let i : Interrupted inner below old.pages new.pages [] = left_interrupted old new inner below rest.ready left in
         let P : Mark → Type 0 = λ m. RelocationGoesOn (for_mark r m) before new in
         let Q : Mark → Type 0 = λ m. (k : ℕ) → (kept && (suc k == copies_of r.shape m)) ≡ true
-            → page_at (after r.shape m before) (block_of r.shape m * r.shape.block_pages + k) ≡ whole (take r.shape.page_bytes r.partner.items) in
+        → page_at (after r.shape m before) (block_of r.shape m * r.shape.block_pages + k) ≡ whole (take r.shape.page_bytes r.partner.items) in
         record {
           goes_on = subst P (sym mark_is) (failed.begins room);
           phase_fits = failed.top;
@@ -193,8 +193,8 @@ module _ (r : InMemory) (old : BoardState) (rest : IsAtRest r old) (block : ℕ)
         flash = IsFlash-interrupted (inner_shape r.shape r.spares) (erase at) old.pages new.pages [] (full_erase (inner_shape r.shape r.spares) at) rest.ready.flash i;
       } in
       done_now r old rest (erase block) erase_call u new ready pages
-          (went old new (λ flash _. MayShow r.shape r.spares (outer_of r old.pages) (erase block) flash)
-          (erase_reached old (inner_shape r.shape r.spares) rest.ready (λ f. MayShow r.shape r.spares (outer_of r old.pages) (erase block) f) at (safe_cut r old rest (erase block) erase_call) new is))
+      (went old new (λ flash _. MayShow r.shape r.spares (outer_of r old.pages) (erase block) flash)
+      (erase_reached old (inner_shape r.shape r.spares) rest.ready (λ f. MayShow r.shape r.spares (outer_of r old.pages) (erase block) f) at (safe_cut r old rest (erase block) erase_call) new is))
 
   pub erase_went' : (new : BoardState) → EraseFailed old new at → Went old new (λ flash _. MayShow r.shape r.spares (outer_of r old.pages) (erase block) flash)
   erase_went' new failed =
@@ -211,7 +211,7 @@ module _ (r : InMemory) (old : BoardState) (rest : IsAtRest r old) (block : ℕ)
       → RelocationServes erase_begun new result r' end → OuterOutcome r (erase block) old result r' end
   erase_served new failed room result r' end own =
       served_outer r old rest (erase block) erase_call new (ap (λ s. s.shape) failed.rest) failed.left (Erase block) false r.bytes refl room rest.room.new_page
-          result r' end (erase_went' new failed) failed.stop (ap (λ s. s.read_faults) failed.rest) (own (outer_of r old.pages) (erase_begins new failed room))
+      result r' end (erase_went' new failed) failed.stop (ap (λ s. s.read_faults) failed.rest) (own (outer_of r old.pages) (erase_begins new failed room))
 
   pub erase_none_left : (e : NandFault) (new : BoardState) → EraseFailed old new at → r.spares ≤ r.taken → OuterOutcome r (erase block) old (Err e) r new
   erase_none_left e new failed none = none_left r old rest (erase block) erase_call e new none failed.stop (erase_went' new failed)
@@ -276,7 +276,7 @@ module _ (r : InMemory) (old : BoardState) (rest : IsAtRest r old) (page : ℕ) 
             let k_is : here * n + j ≡ k = omega (arith, from, rest_is) in
             let below : j < o = omega (arith, from, to, rest_is) in
             order.before (b * n + j) (omega (arith, whole_page)) (omega (arith, whole_page, below))
-                (sym (row_page j (omega (arith, below, less))) ∙ ap (page_at old.pages) k_is ∙ e);
+            (sym (row_page j (omega (arith, below, less))) ∙ ap (page_at old.pages) k_is ∙ e);
         behind = λ k from to.
             let j : ℕ = k - here * n in
             let k_is : here * n + j ≡ k = omega (arith, from) in
@@ -307,7 +307,7 @@ module _ (r : InMemory) (old : BoardState) (rest : IsAtRest r old) (page : ℕ) 
           flash = IsFlash-interrupted shape_in (program at_page bytes) old.pages new.pages [] (full_program shape_in at_page bytes full) rest.ready.flash i;
         } in
         done_now r old rest (program page bytes) program_call u new ready pages
-            (went old new (λ flash _. Q flash) (program_reached old shape_in rest.ready Q at_page bytes (safe_cut r old rest (program page bytes) program_call) new is))
+        (went old new (λ flash _. Q flash) (program_reached old shape_in rest.ready Q at_page bytes (safe_cut r old rest (program page bytes) program_call) new is))
 
     program_went' : (new : BoardState) → ProgramFailed old new at_page bytes → Went old new (λ flash _. Q flash)
     program_went' new failed = program_went old shape_in rest.ready Q at_page bytes (safe_cut r old rest (program page bytes) program_call) new failed
@@ -324,7 +324,7 @@ module _ (r : InMemory) (old : BoardState) (rest : IsAtRest r old) (page : ℕ) 
       pub program_begins : HasPartner r page (outer_of r old.pages) → RelocationRuns program_begun (outer_of r old.pages) new
       program_begins partner =
           begun_runs r old rest (program page bytes) program_call new (ap (λ s. s.shape) failed.rest) failed.left (Program page) r.kept buffer
-              (ap (program page) front) room large (λ k is. by k (both r.kept (suc k == page % n) is))
+          (ap (program page) front) room large (λ k is. by k (both r.kept (suc k == page % n) is))
         where
           both : (a b : Bool) → (a && b) ≡ true → (a ≡ true) × (b ≡ true)
           both true b e = (refl, e)
@@ -345,8 +345,8 @@ module _ (r : InMemory) (old : BoardState) (rest : IsAtRest r old) (page : ℕ) 
           → RelocationServes program_begun new result r' end → OuterOutcome r (program page bytes) old result r' end
       program_served partner result r' end own =
           served_outer r old rest (program page bytes) program_call new (ap (λ s. s.shape) failed.rest) failed.left (Program page) r.kept buffer
-              (ap (program page) front) room large result r' end (program_went' new failed) failed.stop (ap (λ s. s.read_faults) failed.rest)
-              (own (outer_of r old.pages) (program_begins partner))
+          (ap (program page) front) room large result r' end (program_went' new failed) failed.stop (ap (λ s. s.read_faults) failed.rest)
+          (own (outer_of r old.pages) (program_begins partner))
 
 -- ---- the first page of a pair
 
@@ -417,10 +417,13 @@ module _ (r : InMemory) (old : BoardState) (rest : IsAtRest r old) where
 
   pub kept_failed : (page : ℕ) (e : NandFault) (partner : Vec ℕ Global) (new : BoardState) → MOST_PAGE_BYTES ≤ length partner.items
       → ReadFailed old new (placed_page r.shape (relocation_of r).table (page - 1)) → PartnerOutcome r page old (Err e) (record r { kept = false; partner = partner }) new
-  kept_failed page e partner new large failed = (failed, record {
-    shape = refl;
-    spares = refl;
-    taken = omega arith;
-    most = rest.taken;
-    room = record { fits = rest.room.fits; all = rest.room.all; kept_page = large; new_page = rest.room.new_page; read_page = rest.room.read_page };
-  })
+  kept_failed page e partner new large failed = (
+    failed,
+    record {
+      shape = refl;
+      spares = refl;
+      taken = omega arith;
+      most = rest.taken;
+      room = record { fits = rest.room.fits; all = rest.room.all; kept_page = large; new_page = rest.room.new_page; read_page = rest.room.read_page };
+    },
+  )

@@ -126,7 +126,7 @@ module _ (upper r3 r4 : List Entry) where
   among : (q : Key) → Has q kept → Has q (firsts upper) ⊎ Has q (placed (firsts all))
   among q has =
       let output : find key_cmp q (filter (λ e. is_some e.1) (over r3 r4)) ≡ keep (find key_cmp q (r3 ++ r4)) = find-filtered q (over r3 r4) (firsts_sorted (r3 ++ r4))
-          ∙ ap keep (find-firsts q (r3 ++ r4)) in
+      ∙ ap keep (find-firsts q (r3 ++ r4)) in
       elim (counts_or_above (find key_cmp q upper) (find key_cmp q (r3 ++ r4)) (subst (λ o. T (is_some o)) output has)) [
         | inl above ↦ inl (has_firsts q upper above)
         | inr counts ↦ inr (subst (λ o. T (is_some o)) (sym (find-placed q (firsts all) (firsts_sorted all) ∙ ap flat (find-firsts q all ∙ find-both q upper (r3 ++ r4)))) counts)
@@ -250,7 +250,7 @@ module _ (shape : Shape) (flash : Flash) (extra : List Entry) (top : ℕ × Root
       let lists : map (λ es. length es) found.runs ≡ length runs.r1 ∷ length runs.r2 ∷ length runs.r3 ∷ length runs.r4 ∷ [] = ap (map (λ es. length es)) runs.lists_are in
       let f = length (firsts found.older) in
       elim (chosen (f == 0) (nat_le (f + slice_index counts 0) (room shape 1)) (nat_le (slice_index counts 0 + slice_index counts 1) (room shape 2))
-          (nat_le (slice_index counts 1 + slice_index counts 2) (room shape 3)) level next) [
+      (nat_le (slice_index counts 1 + slice_index counts 2) (room shape 3)) level next) [
         | inl one ↦ into_one level one.0 (leb→le _ _ (subst (λ ns. T (nat_le (f + slice_index ns 0) (room shape 1))) lists one.1))
         | inr (inl two) ↦ into_two level two.0 (leb→le _ _ (subst (λ ns. T (nat_le (slice_index ns 0 + slice_index ns 1) (room shape 2))) lists two.1))
         | inr (inr (inl three)) ↦ into_three level three.0 (leb→le _ _ (subst (λ ns. T (nat_le (slice_index ns 1 + slice_index ns 2) (room shape 3))) lists three.1))

@@ -18,7 +18,7 @@ returns-clause-said g c = on_ok_map c.answer_pair.result _ _ (λ said m held.
     _
     (standing (g.C.Nand.state c.args.second.now) (g.E.Engine.sight c.args.second_drive.now) c.args.second_tally.now.faults c.args.second_tally.now.halt)
     (standing (g.C.Nand.state c.answer_pair.new.second.board.now)
-        (g.E.Engine.sight c.answer_pair.new.second.drive.now) c.answer_pair.new.second.tally.now.faults c.answer_pair.new.second.tally.now.halt)
+    (g.E.Engine.sight c.answer_pair.new.second.drive.now) c.answer_pair.new.second.tally.now.faults c.answer_pair.new.second.tally.now.halt)
     _
     m c.answer_pair.new.room.text
     (λ asked. ((asked.0.0, asked.0.1, asked.0.2.5), (asked.1.0, asked.1.1, asked.1.2.5)))

@@ -23,26 +23,26 @@ returns-in-Some g c = λ m other held also. tells-halted (seen c.args.task.now) 
 pub returns-in-Ok-say : goal.returns-in-Ok-say
 returns-in-Ok-say g c = λ m other held also.
     tells-posted (seen c.args.task.now) c.args.shape m other
-        (standing (g.B.Nand.state c.args.first.now) (g.D.Engine.sight c.args.first_drive.now) c.new-first_tally.result.faults c.new-first_tally.result.halt)
-        (standing (g.B.Nand.state c.ask-answered.new.first) (g.D.Engine.sight c.ask-answered.new.first_drive) c.ask-answered.new.first_tally.faults c.ask-answered.new.first_tally.halt)
-        (standing (g.C.Nand.state c.args.second.now) (g.E.Engine.sight c.args.second_drive.now) c.new-second_tally.result.faults c.new-second_tally.result.halt)
-        (standing (g.C.Nand.state c.ask-answered.new.second) (g.E.Engine.sight c.ask-answered.new.second_drive) c.ask-answered.new.second_tally.faults c.ask-answered.new.second_tally.halt)
-        c.requires.first_runs.shape_is c.requires.second_runs.shape_is held also c.requires.first_runs.runs c.requires.second_runs.runs c.ask-answered.ensures.first
-        c.ask-answered.ensures.second c.new-first_tally.ensures.halt c.new-second_tally.ensures.halt
-        (sym c.end_by.ensures ∙ c.in-None.is) c.ask-answered.new.room.text (c.in-Ok.ensures.said m held) (g.B.Nand.state c.say.new.board)
+    (standing (g.B.Nand.state c.args.first.now) (g.D.Engine.sight c.args.first_drive.now) c.new-first_tally.result.faults c.new-first_tally.result.halt)
+    (standing (g.B.Nand.state c.ask-answered.new.first) (g.D.Engine.sight c.ask-answered.new.first_drive) c.ask-answered.new.first_tally.faults c.ask-answered.new.first_tally.halt)
+    (standing (g.C.Nand.state c.args.second.now) (g.E.Engine.sight c.args.second_drive.now) c.new-second_tally.result.faults c.new-second_tally.result.halt)
+    (standing (g.C.Nand.state c.ask-answered.new.second) (g.E.Engine.sight c.ask-answered.new.second_drive) c.ask-answered.new.second_tally.faults c.ask-answered.new.second_tally.halt)
+    c.requires.first_runs.shape_is c.requires.second_runs.shape_is held also c.requires.first_runs.runs c.requires.second_runs.runs c.ask-answered.ensures.first
+    c.ask-answered.ensures.second c.new-first_tally.ensures.halt c.new-second_tally.ensures.halt
+    (sym c.end_by.ensures ∙ c.in-None.is) c.ask-answered.new.room.text (c.in-Ok.ensures.said m held) (g.B.Nand.state c.say.new.board)
     (c.in-Ok-say.ensures.posts ∙ ap (λ (t : List ℕ). after_post (g.B.Nand.state c.ask-answered.new.first) t) c.text.ensures)
 
 pub returns-in-Err-say : goal.returns-in-Err-say
 returns-in-Err-say g c = λ m other held also.
     let T : List ℕ → Type 0 = λ t. PostFailed (g.B.Nand.state c.ask-answered.new.first) (g.B.Nand.state c.say.new.board) t in
     tells-unposted (seen c.args.task.now) c.args.shape m other
-        (standing (g.B.Nand.state c.args.first.now) (g.D.Engine.sight c.args.first_drive.now) c.new-first_tally.result.faults c.new-first_tally.result.halt)
-        (standing (g.B.Nand.state c.ask-answered.new.first) (g.D.Engine.sight c.ask-answered.new.first_drive) c.ask-answered.new.first_tally.faults c.ask-answered.new.first_tally.halt)
-        (standing (g.C.Nand.state c.args.second.now) (g.E.Engine.sight c.args.second_drive.now) c.new-second_tally.result.faults c.new-second_tally.result.halt)
-        (standing (g.C.Nand.state c.ask-answered.new.second) (g.E.Engine.sight c.ask-answered.new.second_drive) c.ask-answered.new.second_tally.faults c.ask-answered.new.second_tally.halt)
-        c.requires.first_runs.shape_is c.requires.second_runs.shape_is held also c.requires.first_runs.runs c.requires.second_runs.runs c.ask-answered.ensures.first
-        c.ask-answered.ensures.second c.new-first_tally.ensures.halt c.new-second_tally.ensures.halt (sym c.end_by.ensures ∙ c.in-None.is) c.ask-answered.new.room.text
-        (c.in-Ok.ensures.said m held) (g.B.Nand.state c.say.new.board) (subst T c.text.ensures c.in-Err-say.ensures.fails)
+    (standing (g.B.Nand.state c.args.first.now) (g.D.Engine.sight c.args.first_drive.now) c.new-first_tally.result.faults c.new-first_tally.result.halt)
+    (standing (g.B.Nand.state c.ask-answered.new.first) (g.D.Engine.sight c.ask-answered.new.first_drive) c.ask-answered.new.first_tally.faults c.ask-answered.new.first_tally.halt)
+    (standing (g.C.Nand.state c.args.second.now) (g.E.Engine.sight c.args.second_drive.now) c.new-second_tally.result.faults c.new-second_tally.result.halt)
+    (standing (g.C.Nand.state c.ask-answered.new.second) (g.E.Engine.sight c.ask-answered.new.second_drive) c.ask-answered.new.second_tally.faults c.ask-answered.new.second_tally.halt)
+    c.requires.first_runs.shape_is c.requires.second_runs.shape_is held also c.requires.first_runs.runs c.requires.second_runs.runs c.ask-answered.ensures.first
+    c.ask-answered.ensures.second c.new-first_tally.ensures.halt c.new-second_tally.ensures.halt (sym c.end_by.ensures ∙ c.in-None.is) c.ask-answered.new.room.text
+    (c.in-Ok.ensures.said m held) (g.B.Nand.state c.say.new.board) (subst T c.text.ensures c.in-Err-say.ensures.fails)
 
 pub unreachable-requires : goal.unreachable-requires
 unreachable-requires g c = faults-never (seen c.args.task.now) c.args.shape c.requires.first_runs.map c.requires.second_runs.map

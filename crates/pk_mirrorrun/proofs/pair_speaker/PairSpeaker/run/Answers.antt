@@ -17,7 +17,7 @@ tell-requires-clause-first_fits g c =
     let R : Shape → Type 0 = λ s. IsReady b s in
     let H : Shape → Type 0 = λ s. (m : Map) × HoldsMap s d.counts.frames b d m in
     fits-somehow (g.D.Engine.agrees c.args.first_drive.now) c.self.inside.shape b d c.known.ensures c.held_map.ensures
-        (subst R (sym c.self.view_is) c.requires.first_ready) c.requires.first_agrees c.requires.first_none (subst H (sym c.self.view_is) c.requires.first_stands)
+    (subst R (sym c.self.view_is) c.requires.first_ready) c.requires.first_agrees c.requires.first_none (subst H (sym c.self.view_is) c.requires.first_stands)
 
 pub tell-requires-clause-second_fits : goal.tell-requires-clause-second_fits
 tell-requires-clause-second_fits g c =
@@ -26,7 +26,7 @@ tell-requires-clause-second_fits g c =
     let R : Shape → Type 0 = λ s. IsReady b s in
     let H : Shape → Type 0 = λ s. (m : Map) × HoldsMap s d.counts.frames b d m in
     fits-somehow (g.E.Engine.agrees c.args.second_drive.now) c.self.inside.shape b d c.known.ensures c.held_map.ensures
-        (subst R (sym c.self.view_is) c.requires.second_ready) c.requires.second_agrees c.requires.second_none (subst H (sym c.self.view_is) c.requires.second_stands)
+    (subst R (sym c.self.view_is) c.requires.second_ready) c.requires.second_agrees c.requires.second_none (subst H (sym c.self.view_is) c.requires.second_stands)
 
 pub tell-requires-clause-first_runs : goal.tell-requires-clause-first_runs
 tell-requires-clause-first_runs g c =

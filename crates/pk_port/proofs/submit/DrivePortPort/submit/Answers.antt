@@ -21,7 +21,7 @@ pub returns-in-Ok-clause-completes : goal.returns-in-Ok-clause-completes
 returns-in-Ok-clause-completes g c =
     let is = c.of-request.ensures c.args.value.now in
     let T : Command → Type 0 = λ k. Replies (seen c.args.self.now.shape (g.B.Nand.state c.args.self.now.board.now) c.args.self.now.tally.now.faults)
-        (seen c.args.self.now.shape (g.B.Nand.state c.serve_lent.new.board) c.answer.new.self.faults) k (reply_of c.in-Ok.outcome c.serve_lent.new.into) in
+    (seen c.args.self.now.shape (g.B.Nand.state c.serve_lent.new.board) c.answer.new.self.faults) k (reply_of c.in-Ok.outcome c.serve_lent.new.into) in
     c.completed.ensures _ _ _ (ap (λ (k : Command). k.cid) (sym is)) (subst T is (c.in-Ok.ensures.replies _ _))
 
 pub returns-in-Ok-clause-took : goal.returns-in-Ok-clause-took

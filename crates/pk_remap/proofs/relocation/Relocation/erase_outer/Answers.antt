@@ -34,7 +34,7 @@ returns-then-self g c =
     let board : BoardState = g.N.Nand.state c.args.inner.now in
     let at : c.place-at.result ≡ place r.shape (relocation_of r).table c.args.block = c.place-at.ensures in
     erase_served r board c.requires.rests c.args.block c.requires.inside (g.N.Nand.state c.erase.new.self) (rw at at c.in-Err.ensures.err) c.if-self.true
-        c.serve.result c.serve.new.self (g.N.Nand.state c.serve.new.inner) c.serve.ensures
+    c.serve.result c.serve.new.self (g.N.Nand.state c.serve.new.inner) c.serve.ensures
 
 pub returns-else-self : goal.returns-else-self
 returns-else-self g c =

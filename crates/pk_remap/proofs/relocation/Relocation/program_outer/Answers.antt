@@ -25,7 +25,7 @@ returns-in-Ok g c =
     let r = c.args.self.now in
     let board : BoardState = g.N.Nand.state c.args.inner.now in
     program_done r board c.requires.rests c.args.page c.requires.inside c.args.bytes.now c.requires.full c.requires.order _
-        (g.N.Nand.state c.program.new.self) (rw c.inner_page-at.ensures at c.in-Ok.ensures.ok)
+    (g.N.Nand.state c.program.new.self) (rw c.inner_page-at.ensures at c.in-Ok.ensures.ok)
 
 pub serve-requires : goal.serve-requires
 serve-requires g c =
@@ -40,9 +40,11 @@ serve-requires g c =
     let large : MOST_PAGE_BYTES ≤ length new = let old = c.requires.rests.room.new_page in omega (arith, old, c.put_front.ensures.len, ap length b.value) in
     let T : ℕ → Type 0 = λ n. take n new ≡ c.args.bytes.now in
     let front : take r.shape.page_bytes new ≡ c.args.bytes.now = subst T c.requires.full.0 c.put_front.ensures.front in
-    let failed = rw c.inner_page-at.ensures at c.in-Err.ensures.err in
-    (outer_of r board.pages, program_begins r board c.requires.rests c.args.page c.requires.inside c.args.bytes.now c.requires.full c.requires.order
-        (g.N.Nand.state c.program.new.self) failed c.if-self.true _ (rw items front) (rw items large) c.requires.partner)
+    let failed = rw c.inner_page-at.ensures at c.in-Err.ensures.err in (
+      outer_of r board.pages,
+      program_begins r board c.requires.rests c.args.page c.requires.inside c.args.bytes.now c.requires.full c.requires.order
+          (g.N.Nand.state c.program.new.self) failed c.if-self.true _ (rw items front) (rw items large) c.requires.partner,
+    )
 
 pub returns-then-self : goal.returns-then-self
 returns-then-self g c =
@@ -59,12 +61,12 @@ returns-then-self g c =
     let front : take r.shape.page_bytes new ≡ c.args.bytes.now = subst T c.requires.full.0 c.put_front.ensures.front in
     let failed = rw c.inner_page-at.ensures at c.in-Err.ensures.err in
     program_served r board c.requires.rests c.args.page c.requires.inside c.args.bytes.now c.requires.full c.requires.order
-        (g.N.Nand.state c.program.new.self) failed c.if-self.true _ (rw items front) (rw items large) c.requires.partner
-        c.serve.result c.serve.new.self (g.N.Nand.state c.serve.new.inner) c.serve.ensures
+    (g.N.Nand.state c.program.new.self) failed c.if-self.true _ (rw items front) (rw items large) c.requires.partner
+    c.serve.result c.serve.new.self (g.N.Nand.state c.serve.new.inner) c.serve.ensures
 
 pub returns-else-self : goal.returns-else-self
 returns-else-self g c =
     let r = c.args.self.now in
     let board : BoardState = g.N.Nand.state c.args.inner.now in
     program_none_left r board c.requires.rests c.args.page c.requires.inside c.args.bytes.now c.requires.full c.requires.order _
-        (g.N.Nand.state c.program.new.self) (rw c.inner_page-at.ensures at c.in-Err.ensures.err) c.if-self.false
+    (g.N.Nand.state c.program.new.self) (rw c.inner_page-at.ensures at c.in-Err.ensures.err) c.if-self.false

@@ -18,8 +18,8 @@ returns-in-Ok-true g c before runs =
     let far = c.loop.invariant.far before runs in
     let T : Result Bool NandFault → Type 0 = λ x. StepOutcome c.loop.self before (g.N.Nand.state c.loop.inner) x c.step.new.self (g.N.Nand.state c.step.new.inner) in
     served_now c.args.self.now before (g.N.Nand.state c.args.inner.now) c.loop.self (g.N.Nand.state c.loop.inner) far _
-        c.step.new.self (g.N.Nand.state c.step.new.inner)
-        (subst T (c.in-Ok-true.is ∙ ap (λ (b : Bool). Ok b) c.in-Ok-true.field-0-test) (c.step.ensures before far.runs))
+    c.step.new.self (g.N.Nand.state c.step.new.inner)
+    (subst T (c.in-Ok-true.is ∙ ap (λ (b : Bool). Ok b) c.in-Ok-true.field-0-test) (c.step.ensures before far.runs))
 
 pub loop-smaller : goal.loop-smaller
 loop-smaller g c =
@@ -33,8 +33,8 @@ loop-preserved g c = record {
       let far = c.loop.invariant.far before runs in
       let T : Result Bool NandFault → Type 0 = λ x. StepOutcome c.loop.self before (g.N.Nand.state c.loop.inner) x c.step.new.self (g.N.Nand.state c.step.new.inner) in
       so_far_more c.args.self.now before (g.N.Nand.state c.args.inner.now) c.loop.self (g.N.Nand.state c.loop.inner) far
-          c.step.new.self (g.N.Nand.state c.step.new.inner)
-          (subst T (c.in-Ok-false.is ∙ ap (λ (b : Bool). Ok b) c.in-Ok-false.field-0-test) (c.step.ensures before far.runs));
+      c.step.new.self (g.N.Nand.state c.step.new.inner)
+      (subst T (c.in-Ok-false.is ∙ ap (λ (b : Bool). Ok b) c.in-Ok-false.field-0-test) (c.step.ensures before far.runs));
 }
 
 pub returns-in-Err : goal.returns-in-Err
@@ -42,4 +42,4 @@ returns-in-Err g c before runs =
     let far = c.loop.invariant.far before runs in
     let T : Result Bool NandFault → Type 0 = λ x. StepOutcome c.loop.self before (g.N.Nand.state c.loop.inner) x c.step.new.self (g.N.Nand.state c.step.new.inner) in
     stopped_now c.args.self.now before (g.N.Nand.state c.args.inner.now) c.loop.self (g.N.Nand.state c.loop.inner) far _
-        c.step.new.self (g.N.Nand.state c.step.new.inner) (subst T c.in-Err.is (c.step.ensures before far.runs))
+    c.step.new.self (g.N.Nand.state c.step.new.inner) (subst T c.in-Err.is (c.step.ensures before far.runs))
