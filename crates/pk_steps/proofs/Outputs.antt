@@ -1,7 +1,6 @@
 -- The output of the next merge fits into its run.
-use Rattle.std.proofs.Common.{◌≡◌, ◌⊎◌, inl, inr, ℕ, zero, suc, ◌+◌, ◌-◌, ◌*◌, ◌<◌, ◌≤◌, refl, sym, ap, subst, ◌∙◌, arith, Bool, true, false, cond, T, List, [], ◌∷◌, ◌++◌, length, map, reverse}
-use Rattle.std.proofs.Common.{filter, nat_le, ◌==◌, is_some, slice_index, if◌then◌else◌, Option, Some, None, Result, Ok, ◌||◌, zip, leb→le, length-append, mul-le-mul_right, add-mul, append_assoc}
-use Rattle.std.proofs.Common.{append-nil, le_trans}
+use Rattle.std.proofs.Common.{◌≡◌, ◌⊎◌, inl, inr, ℕ, ◌+◌, ◌-◌, ◌*◌, ◌<◌, ◌≤◌, sym, ap, subst, ◌∙◌, arith, Bool, true, false, T, List, [], ◌∷◌, ◌++◌, length, map, reverse, filter, nat_le, ◌==◌}
+use Rattle.std.proofs.Common.{refl, cond, is_some, slice_index, if◌then◌else◌, Option, Some, None, ◌||◌, zip, leb→le, length-append, mul-le-mul_right, add-mul, append_assoc, append-nil, le_trans}
 use Rattle.std.specs.Int.{div_ceil}
 use Rattle.std.specs.Ordering.{eq_by_cmp}
 use Rattle.std.specs.FinMap.Entries.{find, is_sorted, below_all}
@@ -19,9 +18,8 @@ use Rattle.pk_meta.specs.Over.{over}
 use Rattle.pk_rootfmt.specs.Root.{Root, named}
 use Rattle.pk_model.specs.Found.{Found, entries_in_order}
 use Rattle.pk_model.specs.Values.{placed, all_pages}
-use Rattle.pk_base.proofs.Logic.{left_part, right_part, both, ok_same}
-use Rattle.pk_base.proofs.KeyLemmas.{missing, same_key, firsts_sorted}
-use Rattle.pk_model.proofs.Lookups.{find-firsts, find-placed, flat}
+use Rattle.pk_model.proofs.MapLemmas.{missing}
+use Rattle.pk_model.proofs.Lookups.{find-firsts, find-placed, flat, same_key}
 use Rattle.pk_model.proofs.Merges.{placed_sorted}
 use Rattle.pk_base.proofs.ShapeLemmas.{charge_least}
 use Rattle.pk_model.proofs.Live.{ceil_room}
@@ -43,6 +41,8 @@ use Rattle.pk_steps.specs.Fitting.{OutputFits}
 use Rattle.pk_steps.proofs.FourRuns.{Runs, Pieces, four_of_root, four_runs, pieces_of}
 use Rattle.pk_steps.proofs.Amounts.{run_most, epoch_most, WithinCaps, within_caps, counted_of}
 use Rattle.pk_steps.proofs.Keys.{Has, no_more_than_both, find-both, has_firsts, firsts_of_both, firsts_reversed, firsts_fewer}
+use Rattle.pk_base.proofs.Logic.{left_part, right_part, both, ok_same}
+use Rattle.pk_base.proofs.KeyLemmas.{firsts_sorted}
 
 -- ---- which test led to the level
 
@@ -77,7 +77,19 @@ values_most shape is_shape (e ∷ es) =
     let pages = length-range_with_len e.1.page (charge shape e.1.len) in
     omega (arith, rest, one, size, pages)
 
--- what is kept of an entry in the last run
+below_filtered : (k : Key) (es : List Entry) → T (below_all key_cmp k es) → T (below_all key_cmp k (filter (λ e. is_some e.1) es))
+below_filtered k [] h = tt
+below_filtered k ((q, Some p) ∷ es) h = both _ (below_all key_cmp k (filter (λ e. is_some e.1) es))
+    (left_part _ (below_all key_cmp k es) h) (below_filtered k es (right_part _ (below_all key_cmp k es) h))
+below_filtered k ((q, None) ∷ es) h = below_filtered k es (right_part _ (below_all key_cmp k es) h)
+
+filtered_sorted : (es : List Entry) → T (is_sorted key_cmp es) → T (is_sorted key_cmp (filter (λ e. is_some e.1) es))
+filtered_sorted [] h = tt
+filtered_sorted ((q, Some p) ∷ es) h = both (below_all key_cmp q (filter (λ e. is_some e.1) es)) (is_sorted key_cmp (filter (λ e. is_some e.1) es))
+    (below_filtered q es (left_part (below_all key_cmp q es) (is_sorted key_cmp es) h)) (filtered_sorted es (right_part (below_all key_cmp q es) (is_sorted key_cmp es) h))
+filtered_sorted ((q, None) ∷ es) h = filtered_sorted es (right_part (below_all key_cmp q es) (is_sorted key_cmp es) h)
+
+-- a deleted key that is dropped
 keep : Option (Option Place) → Option (Option Place)
 keep None = None
 keep (Some None) = None
@@ -94,18 +106,6 @@ find-filtered q ((k, None) ∷ es) h =
       | true ↦ λ e. rest ∙ ap keep (ap (λ x. find key_cmp x es) (same_key q k e) ∙ missing k es (left_part (below_all key_cmp k es) (is_sorted key_cmp es) h))
       | false ↦ λ e. rest
     ] refl
-
-below_filtered : (k : Key) (es : List Entry) → T (below_all key_cmp k es) → T (below_all key_cmp k (filter (λ e. is_some e.1) es))
-below_filtered k [] h = tt
-below_filtered k ((q, Some p) ∷ es) h = both _ (below_all key_cmp k (filter (λ e. is_some e.1) es))
-    (left_part _ (below_all key_cmp k es) h) (below_filtered k es (right_part _ (below_all key_cmp k es) h))
-below_filtered k ((q, None) ∷ es) h = below_filtered k es (right_part _ (below_all key_cmp k es) h)
-
-filtered_sorted : (es : List Entry) → T (is_sorted key_cmp es) → T (is_sorted key_cmp (filter (λ e. is_some e.1) es))
-filtered_sorted [] h = tt
-filtered_sorted ((q, Some p) ∷ es) h = both (below_all key_cmp q (filter (λ e. is_some e.1) es)) (is_sorted key_cmp (filter (λ e. is_some e.1) es))
-    (below_filtered q es (left_part (below_all key_cmp q es) (is_sorted key_cmp es) h)) (filtered_sorted es (right_part (below_all key_cmp q es) (is_sorted key_cmp es) h))
-filtered_sorted ((q, None) ∷ es) h = filtered_sorted es (right_part (below_all key_cmp q es) (is_sorted key_cmp es) h)
 
 -- an entry that the last run keeps counts, or one above it has its key
 counts_or_above : (above below : Option (Option Place)) → T (is_some (keep below)) → T (is_some above) ⊎ T (is_some (flat (or_else above below)))
