@@ -113,7 +113,7 @@ sed -n 's/^| .* | \(`.*\|the test.*\) |$/\1/p' docs/WRONG-BODIES.md | while IFS=
             *)
                 echo "$crate $name" >>"$named"
                 [ -f "crates/$crate/must-fail/$name.edit" ] \
-                    || grep -rqw "fn $name" crates/pk_trials/src crates/pk_hardship_tests/src \
+                    || grep -rqw "fn $name" crates/pk_test_program/src crates/pk_test_stress_run/src \
                     || fault "docs/WRONG-BODIES.md: neither a wrong body nor a test $name"
                 ;;
         esac

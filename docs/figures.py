@@ -16,7 +16,7 @@ from typing import Iterable
 
 TOP = pathlib.Path(__file__).resolve().parent.parent
 KEPT = TOP / "docs" / "figures.txt"
-TESTS = re.compile(r"/(pk_\w*_tests|pk_trials|pk_sessions|pk_hardships|pk_boards)/")
+TESTS = re.compile(r"/(pk_\w*_tests|pk_test_program|pk_test_scripts|pk_test_stress|pk_test_boards)/")
 DEFINITION = re.compile(r"(?:(?:abbrev|unfoldable|pub|record|data)\s+)+([A-Za-z_][\w']*)")
 WORDS = r"\b(behind|so many|stands?|tells?|told|front of|in a row|is left)\b"
 

@@ -27,8 +27,8 @@ use Rattle.pk_root.specs.declared.next.Next.{Next}
 use Rattle.pk_root.specs.declared.next.Next.TheVariants.{Erase, Program, Again}
 use Rattle.pk_root.specs.Installing.{repeats_next, before_pair, InstallerOnFlash, Repeats, FailsToRepeat}
 use Rattle.pk_root.proofs.Installs.{again_install, again_start, again_fits, again_behind}
-use Rattle.pk_steps.specs.Under.{IsUnder}
-use Rattle.pk_steps.proofs.Untouched.{under_reads}
+use Rattle.pk_law_steps.specs.Under.{IsUnder}
+use Rattle.pk_law_steps.proofs.Untouched.{under_reads}
 use Rattle.pk_compact.specs.Installing.{CanRepeat, IsRepeated, RepeatsRoot, RepeatBreaks}
 use Rattle.pk_compact.specs.Steps.{StepByCall}
 use Rattle.pk_compact.proofs.Installing.{under_at, under_behind}

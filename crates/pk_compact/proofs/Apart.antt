@@ -7,7 +7,7 @@ use Rattle.pk_plan.specs.declared.owner.Owner.TheVariants.{Journal}
 use Rattle.pk_pool.specs.declared.state.BlockState.TheVariants.{Free, Ready, Owned}
 use Rattle.pk_pool.specs.Blocks.{Blocks, IsSpare, with_state, given_back}
 use Rattle.pk_pool.proofs.States.{get-set_other, owned_is_not_free, owned_is_not_ready}
-use Rattle.pk_steps.proofs.Places.{In}
+use Rattle.pk_law_steps.proofs.Places.{In}
 
 -- a block with an owner is not spare
 pub owned_not_spare : (pool : Blocks) (b : ℕ) → slice_get pool.states b ≡ Some (Owned Journal) → IsSpare pool b → ⊥

@@ -18,7 +18,7 @@ use Rattle.pk_pool.specs.declared.state.BlockState.TheVariants.{Free, Ready, Own
 use Rattle.pk_pool.specs.Blocks.{Blocks, unused, with_state, IsSpare, PoolOnFlash}
 use Rattle.pk_root.specs.declared.next.Next.{Next}
 use Rattle.pk_root.specs.Installing.{InstallerOnFlash, repeats_next}
-use Rattle.pk_steps.proofs.Places.{In}
+use Rattle.pk_law_steps.proofs.Places.{In}
 use Rattle.pk_compact.specs.declared.freezing.FreezeJob.TheVariants.{Idle}
 use Rattle.pk_compact.specs.FreezeSteps.{IsFreezing}
 

@@ -4,12 +4,12 @@ use Rattle.std.specs.List.{concat}
 use Rattle.pk_rootfmt.specs.Root.{Root, named}
 use Rattle.pk_model.specs.Tree.{blocks_after}
 use Rattle.pk_model.proofs.SamePages.{any_front, any_back}
-use Rattle.pk_steps.specs.Under.{IsValuePage}
-use Rattle.pk_steps.proofs.Places.{In, in_append}
-use Rattle.pk_steps.specs.Merging.{merged_root}
-use Rattle.pk_steps.proofs.Merging.{in_after}
-use Rattle.pk_steps.proofs.Following.{merged_next}
-use Rattle.pk_steps.proofs.Freeing.{freed}
+use Rattle.pk_law_steps.specs.Under.{IsValuePage}
+use Rattle.pk_law_steps.proofs.Places.{In, in_append}
+use Rattle.pk_law_steps.specs.Merging.{merged_root}
+use Rattle.pk_law_steps.proofs.Merging.{in_after}
+use Rattle.pk_law_steps.proofs.Following.{merged_next}
+use Rattle.pk_law_steps.proofs.Freeing.{freed}
 use Rattle.pk_compact.specs.Laws.{ApartMerged}
 use Rattle.pk_compact.proofs.Apart.{spare_back}
 

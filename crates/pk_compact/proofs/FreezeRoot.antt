@@ -6,8 +6,8 @@ use Rattle.std.specs.List.{concat}
 use Rattle.pk_base.specs.Shape.{Shape, IsShape}
 use Rattle.pk_base.specs.Page.{Flash, page_at, SameBehind}
 use Rattle.pk_base.specs.Map.{Map}
-use Rattle.pk_work.specs.Rest.{Lowers, steps_of}
-use Rattle.pk_work.specs.Jobs.{freeze_rest}
+use Rattle.pk_law_work.specs.Rest.{Lowers, steps_of}
+use Rattle.pk_law_work.specs.Jobs.{freeze_rest}
 use Rattle.pk_plan.specs.declared.owner.Owner.TheVariants.{Journal}
 use Rattle.pk_nand.specs.BoardState.{BoardState}
 use Rattle.pk_nand.specs.Calls.{IsReady}
@@ -23,13 +23,13 @@ use Rattle.pk_pool.proofs.Fitting.{PoolOnFlash-same}
 use Rattle.pk_root.specs.declared.next.Next.{Next}
 use Rattle.pk_root.specs.declared.next.Next.TheVariants.{Erase, Program, Again}
 use Rattle.pk_root.specs.Installing.{erases_next, programs_next, repeats_next}
-use Rattle.pk_steps.specs.Under.{IsValuePage, places}
-use Rattle.pk_steps.specs.Roots.{frozen_root, frozen}
-use Rattle.pk_steps.specs.Next.{IsNext}
-use Rattle.pk_steps.specs.Freezing.{IsFrozen}
-use Rattle.pk_steps.proofs.FrozenNext.{frozen_next}
-use Rattle.pk_steps.proofs.Untouched.{values_under}
-use Rattle.pk_steps.proofs.Places.{In, in_append}
+use Rattle.pk_law_steps.specs.Under.{IsValuePage, places}
+use Rattle.pk_law_steps.specs.Roots.{frozen_root, frozen}
+use Rattle.pk_law_steps.specs.Next.{IsNext}
+use Rattle.pk_law_steps.specs.Freezing.{IsFrozen}
+use Rattle.pk_law_steps.proofs.FrozenNext.{frozen_next}
+use Rattle.pk_law_steps.proofs.Untouched.{values_under}
+use Rattle.pk_law_steps.proofs.Places.{In, in_append}
 use Rattle.pk_compact.specs.Freezing.{IsApart, AreTwo}
 use Rattle.pk_compact.specs.Steps.{next_root}
 use Rattle.pk_compact.specs.declared.freezing.FreezeJob.TheVariants.{Idle, HasTwo}

@@ -21,7 +21,7 @@ use Rattle.pk_pool.specs.Blocks.{Blocks, IsShared, IsSpare, PoolOnFlash, used_by
 use Rattle.pk_pool.specs.Taking.{FailsToErase}
 use Rattle.pk_root.specs.declared.next.Next.{Next}
 use Rattle.pk_root.specs.Installing.{erases_next}
-use Rattle.pk_steps.specs.Roots.{frozen}
+use Rattle.pk_law_steps.specs.Roots.{frozen}
 use Rattle.pk_compact.specs.Steps.{AtMostErases, next_root}
 use Rattle.pk_compact.specs.declared.freezing.FreezeJob.{FreezeJob}
 use Rattle.pk_compact.specs.declared.freezing.FreezeJob.TheVariants.{Idle, HasOne, HasTwo}

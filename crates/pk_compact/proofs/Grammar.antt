@@ -6,7 +6,7 @@ use Rattle.pk_base.specs.Shape.{Shape}
 use Rattle.pk_rootfmt.specs.Root.{Root, named, is_root, is_number, has_runs, differ}
 use Rattle.pk_model.proofs.Commits.{any_behind}
 use Rattle.pk_model.proofs.RootAlone.{all_back}
-use Rattle.pk_steps.proofs.Places.{In, not_of, any_in, differ_back}
+use Rattle.pk_law_steps.proofs.Places.{In, not_of, any_in, differ_back}
 use Rattle.pk_compact.specs.Freezing.{AreTwo}
 use Rattle.pk_compact.specs.Steps.{next_root}
 use Rattle.pk_base.proofs.Logic.{both}

@@ -20,7 +20,7 @@ use Rattle.pk_model.proofs.Steps.{roots_few}
 use Rattle.pk_root.specs.declared.next.Next.{Next}
 use Rattle.pk_root.specs.Installing.{other_block, KeepsRoot, Installs, ErasesOther, FailsToInstall, FailsToErase}
 use Rattle.pk_root.specs.Laws.{SameFront}
-use Rattle.pk_steps.proofs.Standing.{installed}
+use Rattle.pk_law_steps.proofs.Standing.{installed}
 use Rattle.pk_compact.specs.Installing.{Prepares, PrepareBreaks, CanInstall, InstallsRoot, InstallBreaks}
 use Rattle.pk_compact.specs.Steps.{StepByCall, AtMostErases}
 use Rattle.pk_compact.proofs.Taking.{leaves_others, not_behind}

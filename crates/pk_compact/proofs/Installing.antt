@@ -24,8 +24,8 @@ use Rattle.pk_model.proofs.Entries.{counting_all, journal_are, meta_are}
 use Rattle.pk_root.specs.declared.next.Next.TheVariants.{Erase}
 use Rattle.pk_root.specs.Installing.{other_block, InstallerOnFlash}
 use Rattle.pk_root.proofs.Installs.{behind_block}
-use Rattle.pk_steps.specs.Under.{IsUnder}
-use Rattle.pk_steps.proofs.Untouched.{under_reads}
+use Rattle.pk_law_steps.specs.Under.{IsUnder}
+use Rattle.pk_law_steps.proofs.Untouched.{under_reads}
 use Rattle.pk_model.specs.Growth.{Grows, Reaches, Goes}
 use Rattle.pk_model.specs.Crashes.{CrashFinds, background}
 use Rattle.pk_model.proofs.Running.{Reaches-erase, Goes-erase}

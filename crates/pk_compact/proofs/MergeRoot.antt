@@ -16,11 +16,11 @@ use Rattle.pk_model.specs.Crashes.{CrashFinds, background}
 use Rattle.pk_model.proofs.Roots.{newest_sound}
 use Rattle.pk_model.proofs.Commits.{root_valid}
 use Rattle.pk_root.specs.declared.next.Next.{Next}
-use Rattle.pk_steps.specs.Next.{IsNext}
-use Rattle.pk_steps.specs.Merging.{merged_root, merged_found}
-use Rattle.pk_steps.proofs.FourRuns.{IsLevel, next_is_level}
-use Rattle.pk_steps.proofs.Following.{merged_next}
-use Rattle.pk_steps.proofs.Amounts.{quota}
+use Rattle.pk_law_steps.specs.Next.{IsNext}
+use Rattle.pk_law_steps.specs.Merging.{merged_root, merged_found}
+use Rattle.pk_law_steps.proofs.FourRuns.{IsLevel, next_is_level}
+use Rattle.pk_law_steps.proofs.Following.{merged_next}
+use Rattle.pk_law_steps.proofs.Amounts.{quota}
 use Rattle.pk_compact.specs.Installing.{CanInstall, IsInstalled, InstallsRoot, InstallBreaks}
 use Rattle.pk_compact.specs.Steps.{StepByCall}
 use Rattle.pk_compact.specs.Merging.{CanMerge, HasMerged, MergesRoot, MergeBreaks}

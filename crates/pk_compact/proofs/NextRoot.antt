@@ -29,10 +29,10 @@ use Rattle.pk_root.specs.declared.next.Next.TheVariants.{Erase, Program, Again}
 use Rattle.pk_root.specs.Installing.{other_block, erases_next, programs_next, repeats_next, before_pair, InstallerOnFlash, KeepsRoot, Installs, ErasesOther, FailsToInstall, FailsToErase}
 use Rattle.pk_root.proofs.Installs.{install}
 use Rattle.pk_root.proofs.Places.{set_back}
-use Rattle.pk_steps.specs.Under.{IsUnder}
-use Rattle.pk_steps.specs.Next.{IsNext}
-use Rattle.pk_steps.proofs.Untouched.{under_reads}
-use Rattle.pk_steps.proofs.Standing.{installed}
+use Rattle.pk_law_steps.specs.Under.{IsUnder}
+use Rattle.pk_law_steps.specs.Next.{IsNext}
+use Rattle.pk_law_steps.proofs.Untouched.{under_reads}
+use Rattle.pk_law_steps.proofs.Standing.{installed}
 use Rattle.pk_compact.specs.Installing.{CanPrepare, Prepares, PrepareBreaks, CanInstall, IsInstalled}
 use Rattle.pk_compact.proofs.Installing.{under_behind, other_reaches, other_goes, other_under, other_behind}
 use Rattle.pk_compact.proofs.Numbering.{same_newest}

@@ -24,8 +24,8 @@ use Rattle.pk_pool.specs.Blocks.{Blocks, IsSpare, with_state}
 use Rattle.pk_pool.specs.Taking.{TakesReady, ErasesFree}
 use Rattle.pk_pool.proofs.States.{get-set_other, get-set_same, owned_is_not_free, owned_is_not_ready}
 use Rattle.pk_pool.proofs.Fitting.{IsReady-erase}
-use Rattle.pk_steps.specs.Under.{IsUnder, IsValuePage, places}
-use Rattle.pk_steps.proofs.Untouched.{erases, under_reads}
+use Rattle.pk_law_steps.specs.Under.{IsUnder, IsValuePage, places}
+use Rattle.pk_law_steps.proofs.Untouched.{erases, under_reads}
 use Rattle.pk_model.specs.Growth.{Grows, Reaches, Goes}
 use Rattle.pk_model.specs.Crashes.{CrashFinds, background}
 use Rattle.pk_nand.specs.Effects.{Works}

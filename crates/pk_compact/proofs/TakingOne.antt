@@ -5,8 +5,8 @@ use Rattle.std.specs.List.{AllByRecursion}
 use Rattle.pk_base.specs.Shape.{Shape, IsShape}
 use Rattle.pk_base.specs.Page.{page_at}
 use Rattle.pk_base.specs.Map.{Map}
-use Rattle.pk_work.specs.Rest.{Lowers, steps_of}
-use Rattle.pk_work.specs.Jobs.{freeze_rest}
+use Rattle.pk_law_work.specs.Rest.{Lowers, steps_of}
+use Rattle.pk_law_work.specs.Jobs.{freeze_rest}
 use Rattle.pk_plan.specs.declared.owner.Owner.TheVariants.{Journal}
 use Rattle.pk_nand.specs.BoardState.{BoardState}
 use Rattle.pk_nand.specs.Calls.{IsReady}
@@ -29,7 +29,7 @@ use Rattle.pk_pool.proofs.Sharing.{behind_roots}
 use Rattle.pk_root.specs.declared.next.Next.{Next}
 use Rattle.pk_root.specs.Laws.{SameFront}
 use Rattle.pk_root.proofs.Places.{InstallerOnFlash-by_same}
-use Rattle.pk_steps.proofs.Places.{In}
+use Rattle.pk_law_steps.proofs.Places.{In}
 use Rattle.pk_compact.specs.Freezing.{IsApart}
 use Rattle.pk_compact.specs.Steps.{AtMostErases}
 use Rattle.pk_compact.specs.declared.freezing.FreezeJob.{FreezeJob}

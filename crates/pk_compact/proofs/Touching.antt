@@ -15,8 +15,8 @@ use Rattle.pk_model.specs.Found.{Found}
 use Rattle.pk_model.specs.Growth.{Grows, Goes}
 use Rattle.pk_model.specs.Crashes.{CrashFinds, background}
 use Rattle.pk_model.proofs.Running.{Reaches-program, Goes-program}
-use Rattle.pk_steps.specs.Under.{IsUnder}
-use Rattle.pk_steps.proofs.Untouched.{erases, under_reads}
+use Rattle.pk_law_steps.specs.Under.{IsUnder}
+use Rattle.pk_law_steps.proofs.Untouched.{erases, under_reads}
 use Rattle.pk_compact.specs.Laws.{IsUnread, CallLeaves, ProgramUnread, EraseUnread}
 use Rattle.pk_compact.proofs.Taking.{take_reaches, take_under, take_goes}
 

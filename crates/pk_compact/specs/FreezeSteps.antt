@@ -5,8 +5,8 @@ use Rattle.pk_base.specs.Shape.{Shape, root_pages}
 use Rattle.pk_base.specs.Page.{Flash, page_at, SameBehind}
 use Rattle.pk_base.specs.Map.{Map}
 use Rattle.pk_base.specs.declared.sizes.TheConstants.{ROOT_BLOCKS, EPOCH_BLOCKS}
-use Rattle.pk_work.specs.Rest.{Lowers, steps_of}
-use Rattle.pk_work.specs.Jobs.{freeze_rest}
+use Rattle.pk_law_work.specs.Rest.{Lowers, steps_of}
+use Rattle.pk_law_work.specs.Jobs.{freeze_rest}
 use Rattle.pk_plan.specs.declared.owner.Owner.TheVariants.{Journal}
 use Rattle.pk_nand.specs.BoardState.{BoardState}
 use Rattle.pk_nand.specs.Operations.{IsErasedBlock}
@@ -23,8 +23,8 @@ use Rattle.pk_pool.specs.Unready.{unready}
 use Rattle.pk_root.specs.declared.next.Next.{Next}
 use Rattle.pk_root.specs.declared.next.Next.TheVariants.{Erase, Program, Again}
 use Rattle.pk_root.specs.Installing.{InstallerOnFlash, repeats_next}
-use Rattle.pk_steps.specs.Under.{IsUnder}
-use Rattle.pk_steps.specs.Roots.{frozen_root, frozen}
+use Rattle.pk_law_steps.specs.Under.{IsUnder}
+use Rattle.pk_law_steps.specs.Roots.{frozen_root, frozen}
 use Rattle.pk_compact.specs.Freezing.{IsApart}
 use Rattle.pk_compact.specs.Installing.{IsHalf}
 use Rattle.pk_compact.specs.declared.freezing.FreezeJob.{FreezeJob}

@@ -6,7 +6,7 @@ use Rattle.pk_rootfmt.specs.Root.{Root, named}
 use Rattle.pk_model.specs.Found.{Found}
 use Rattle.pk_model.specs.Laws.{AnyByRecursion}
 use Rattle.pk_pool.specs.Blocks.{Blocks, IsSpare}
-use Rattle.pk_steps.specs.Under.{IsValuePage, places}
+use Rattle.pk_law_steps.specs.Under.{IsValuePage, places}
 
 -- no spare block is read: the root names none, and none has a page of a value
 pub record IsApart (shape : Shape) (pool : Blocks) (root : Root) (found : Found) : Type 0 where

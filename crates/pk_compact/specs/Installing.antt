@@ -12,8 +12,8 @@ use Rattle.pk_model.specs.Wear.{root_number}
 use Rattle.pk_root.specs.declared.next.Next.{Next}
 use Rattle.pk_root.specs.declared.next.Next.TheVariants.{Again}
 use Rattle.pk_root.specs.Installing.{InstallerOnFlash, programs_next, repeats_next, before_pair}
-use Rattle.pk_steps.specs.Under.{IsUnder}
-use Rattle.pk_steps.specs.Next.{IsNext}
+use Rattle.pk_law_steps.specs.Under.{IsUnder}
+use Rattle.pk_law_steps.specs.Next.{IsNext}
 
 -- ---- the erase
 

@@ -13,8 +13,8 @@ use Rattle.pk_model.specs.Laws.{AnyByRecursion}
 use Rattle.pk_model.specs.Growth.{Reaches, Goes}
 use Rattle.pk_model.specs.Crashes.{CrashFinds, background}
 use Rattle.pk_pool.specs.Blocks.{given_back, Blocks, IsSpare}
-use Rattle.pk_steps.specs.Under.{IsUnder, IsValuePage, places}
-use Rattle.pk_steps.specs.Merging.{IsMerged, merged_root, merged_found, freed_by}
+use Rattle.pk_law_steps.specs.Under.{IsUnder, IsValuePage, places}
+use Rattle.pk_law_steps.specs.Merging.{IsMerged, merged_root, merged_found, freed_by}
 use Rattle.pk_compact.specs.Freezing.{IsApart}
 
 -- No spare block is read after a merge, if blocks of its source and of its target's former run were freed.

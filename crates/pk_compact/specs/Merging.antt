@@ -13,8 +13,8 @@ use Rattle.pk_model.specs.Crashes.{CrashFinds, background}
 use Rattle.pk_model.specs.Wear.{root_number}
 use Rattle.pk_root.specs.declared.next.Next.{Next}
 use Rattle.pk_root.specs.Installing.{InstallerOnFlash}
-use Rattle.pk_steps.specs.Under.{IsUnder}
-use Rattle.pk_steps.specs.Merging.{IsMerged, merged_root, merged_found}
+use Rattle.pk_law_steps.specs.Under.{IsUnder}
+use Rattle.pk_law_steps.specs.Merging.{IsMerged, merged_root, merged_found}
 use Rattle.pk_compact.specs.Installing.{IsHalf}
 
 -- the root without the source of a merge into this level: the older epoch, or the run above

@@ -7,7 +7,7 @@ ghost use Rattle.pk_nand.specs.Calls.{IsReady};
 ghost use Rattle.pk_rootfmt.specs.Root.{Root as RootValue, last_number};
 ghost use Rattle.pk_model.specs.Found.{Found};
 ghost use Rattle.pk_root.specs.Installing.{programs_next};
-ghost use Rattle.pk_steps.specs.Merging.{merged_root};
+ghost use Rattle.pk_law_steps.specs.Merging.{merged_root};
 ghost use Rattle.pk_compact.specs.Merging.{CanMerge, MergesRoot, MergeBreaks, without_source};
 ghost use Rattle.pk_compact.specs.Steps.{StepByCall};
 

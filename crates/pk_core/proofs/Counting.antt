@@ -18,9 +18,9 @@ use Rattle.pk_model.specs.Bounds.{most_reads}
 use Rattle.pk_model.specs.Found.{Found}
 use Rattle.pk_model.specs.Reading.{reading}
 use Rattle.pk_model.specs.Run.{Step}
-use Rattle.pk_steps.specs.Under.{places}
-use Rattle.pk_steps.proofs.Untouched.{under_reads}
-use Rattle.pk_steps.proofs.Counting.{counts}
+use Rattle.pk_law_steps.specs.Under.{places}
+use Rattle.pk_law_steps.proofs.Untouched.{under_reads}
+use Rattle.pk_law_steps.proofs.Counting.{counts}
 use Rattle.pk_data.proofs.Standing.{total_of}
 use Rattle.pk_model.specs.Wear.{root_number, number_of}
 use Rattle.pk_call.specs.Drive.{CountsMap}

@@ -20,7 +20,7 @@ use Rattle.pk_model.specs.Reading.{reading}
 use Rattle.pk_model.specs.Laws.{IsStorable}
 use Rattle.pk_model.proofs.HeldMap.{map_held}
 use Rattle.pk_model.proofs.Answering.{serves}
-use Rattle.pk_steps.proofs.Untouched.{under_reads}
+use Rattle.pk_law_steps.proofs.Untouched.{under_reads}
 use Rattle.pk_nand.specs.Effects.{OnlyFlash, OnlyReading}
 use Rattle.pk_call.specs.Exec.{ExecStands}
 use Rattle.pk_model.specs.Crashes.{CrashFinds, command}

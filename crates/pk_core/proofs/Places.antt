@@ -5,7 +5,7 @@ use Rattle.std.specs.List.{AllByRecursion}
 use Rattle.std.proofs.lemmas.List.Sums.{sum_by-cons}
 use Rattle.pk_rootfmt.specs.Root.{differ}
 use Rattle.pk_pool.specs.declared.state.BlockState.{BlockState}
-use Rattle.pk_steps.proofs.Places.{In, differ_cons}
+use Rattle.pk_law_steps.proofs.Places.{In, differ_cons}
 
 module _ (p : BlockState → Bool) where
   -- the numbers of the states that pass the test, of which the first is this one

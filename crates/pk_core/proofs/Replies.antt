@@ -16,8 +16,8 @@ use Rattle.pk_rootfmt.specs.Root.{Root}
 use Rattle.pk_model.specs.Found.{Found, entries_in_order}
 use Rattle.pk_model.proofs.Lookups.{flat, find-firsts}
 use Rattle.pk_model.proofs.Merges.{first_some, first_some_assoc, find-append_lists, same_placed}
-use Rattle.pk_steps.specs.Under.{places}
-use Rattle.pk_steps.proofs.Counting.{counts}
+use Rattle.pk_law_steps.specs.Under.{places}
+use Rattle.pk_law_steps.proofs.Counting.{counts}
 use Rattle.pk_walk.specs.Visible.{visible}
 use Rattle.pk_parts.specs.Parts.{Parts}
 use Rattle.pk_parts.specs.Agreeing.{DriveOnFlashWith}

@@ -7,8 +7,8 @@ use Rattle.pk_pool.specs.Blocks.{is_ready, used_by, freed}
 use Rattle.pk_pool.specs.Unready.{unready}
 use Rattle.pk_pool.proofs.Leaving.{freed_unready}
 use Rattle.pk_model.specs.Sight.{Sight}
-use Rattle.pk_work.specs.Backlog.{Backlog, is_tight}
-use Rattle.pk_work.specs.Work.{work}
+use Rattle.pk_law_work.specs.Backlog.{Backlog, is_tight}
+use Rattle.pk_law_work.specs.Work.{work}
 use Rattle.pk_jrn.specs.Epochs.{left_of}
 use Rattle.pk_data.specs.State.{fits_open}
 use Rattle.pk_schedule.specs.declared.phase.Phase.{Phase}

@@ -28,22 +28,22 @@ use Rattle.pk_jrn.proofs.Puts.{firsts-reverse}
 use Rattle.pk_model.specs.Found.{Found}
 use Rattle.pk_model.specs.Values.{all_pages}
 use Rattle.pk_model.specs.Sight.{Sight, most_work}
-use Rattle.pk_steps.specs.Under.{IsValuePage, places}
-use Rattle.pk_steps.proofs.Places.{In, in_append, few_blocks, in_value}
+use Rattle.pk_law_steps.specs.Under.{IsValuePage, places}
+use Rattle.pk_law_steps.proofs.Places.{In, in_append, few_blocks, in_value}
 use Rattle.pk_live.proofs.Ranges.{has}
 use Rattle.pk_data.specs.Placed.{HoldsValues, IsOpenIn}
 use Rattle.pk_data.specs.Laws.{is_for_values}
 use Rattle.pk_data.proofs.Outputs.{no_member, freed, freed_is, used_freed}
-use Rattle.pk_work.specs.Rest.{whole_merge, whole_reclaim}
+use Rattle.pk_law_work.specs.Rest.{whole_merge, whole_reclaim}
 use Rattle.pk_schedule.specs.Steps.{backlog_of as backlog_of_index}
 use Rattle.pk_parts.proofs.Reclaiming.{reclaim_within}
 use Rattle.pk_data.specs.State.{OpenBlock}
 use Rattle.pk_nand.specs.BoardState.{BoardState}
 use Rattle.pk_nand.specs.Effects.{OnlyFlash}
 use Rattle.pk_call.specs.Steady.{Steadies, IsSteady, IsReadyBlock, HasReady, entries_of_runs, live_blocks, pages_of_runs}
-use Rattle.pk_work.specs.Backlog.{IsBacklog, due_level}
-use Rattle.pk_work.specs.Work.{work}
-use Rattle.pk_work.proofs.Within.{work_most}
+use Rattle.pk_law_work.specs.Backlog.{IsBacklog, due_level}
+use Rattle.pk_law_work.specs.Work.{work}
+use Rattle.pk_law_work.proofs.Within.{work_most}
 use Rattle.pk_schedule.specs.declared.phase.Phase.{Phase}
 use Rattle.pk_schedule.specs.declared.phase.Phase.TheVariants.{Idle, Running, Ready as ReadyToInstall}
 use Rattle.pk_schedule.specs.Index.{Index, MergeStands, merging}

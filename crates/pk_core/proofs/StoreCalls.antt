@@ -2,7 +2,7 @@
 use Rattle.std.proofs.Common.{ℕ, ◌+◌, ◌≤◌, arith}
 use Rattle.pk_base.specs.Shape.{Shape, IsShape, charge, greatest, most_pages}
 use Rattle.pk_base.proofs.ShapeLemmas.{charge_most}
-use Rattle.pk_work.specs.Calls.{pair_calls, store_roots}
+use Rattle.pk_law_work.specs.Calls.{pair_calls, store_roots}
 use Rattle.pk_nand.specs.BoardState.{BoardState}
 use Rattle.pk_parts.specs.Costs.{Spends, space_and_put_calls}
 use Rattle.pk_parts.proofs.Callings.{spends_within}

@@ -19,8 +19,8 @@ use Rattle.pk_model.specs.Found.{Found}
 use Rattle.pk_model.specs.Growth.{Reaches, Goes}
 use Rattle.pk_model.specs.Crashes.{CrashFinds, commit, change}
 use Rattle.pk_model.specs.Wear.{roots, is_worn}
-use Rattle.pk_work.specs.Calls.{room_calls, space_calls}
-use Rattle.pk_steps.specs.Under.{places}
+use Rattle.pk_law_work.specs.Calls.{room_calls, space_calls}
+use Rattle.pk_law_steps.specs.Under.{places}
 use Rattle.pk_log.specs.State.{needs_freeze}
 use Rattle.pk_data.specs.State.{fits_open}
 use Rattle.pk_parts.specs.Parts.{Parts, counts_of}

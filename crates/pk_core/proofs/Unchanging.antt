@@ -36,7 +36,7 @@ use Rattle.pk_model.specs.Found.{Found}
 use Rattle.pk_model.specs.Run.{Step}
 use Rattle.pk_model.specs.Sight.{Sight, Counts}
 use Rattle.pk_model.proofs.Answering.{refuses_late, serves}
-use Rattle.pk_steps.specs.Under.{places}
+use Rattle.pk_law_steps.specs.Under.{places}
 use Rattle.pk_call.specs.Drive.{HoldsMap, CountsMap}
 use Rattle.pk_call.specs.Seen.{reply_of as shown}
 use Rattle.pk_call.specs.declared.types.Outcome.{Outcome}

@@ -19,9 +19,9 @@ use Rattle.pk_model.specs.Growth.{Reaches, Goes}
 use Rattle.pk_model.specs.Crashes.{CrashFinds, background, commit, change}
 use Rattle.pk_model.specs.Wear.{roots, is_worn}
 use Rattle.pk_model.proofs.Growing.{weaken, weaken_went, at_end}
-use Rattle.pk_work.specs.Calls.{commit_calls, pair_calls, room_calls, room_roots, store_roots}
+use Rattle.pk_law_work.specs.Calls.{commit_calls, pair_calls, room_calls, room_roots, store_roots}
 use Rattle.pk_call.specs.Calling.{FewCalls}
-use Rattle.pk_steps.specs.Under.{places}
+use Rattle.pk_law_steps.specs.Under.{places}
 use Rattle.pk_log.specs.State.{LogState}
 use Rattle.pk_parts.specs.Parts.{Parts, frames_of, is_half}
 use Rattle.pk_parts.specs.Moves.{StandsFor, StandsBetween, KeepsAll}

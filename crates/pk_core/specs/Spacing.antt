@@ -9,7 +9,7 @@ use Rattle.pk_base.specs.Map.{Map, live}
 use Rattle.pk_nand.specs.declared.types.Fault.{Fault}
 use Rattle.pk_nand.specs.BoardState.{BoardState}
 use Rattle.pk_nand.specs.Calls.{IsReady}
-use Rattle.pk_work.specs.Calls.{room_calls, space_calls}
+use Rattle.pk_law_work.specs.Calls.{room_calls, space_calls}
 use Rattle.pk_model.specs.Growth.{Goes}
 use Rattle.pk_model.specs.Crashes.{CrashFinds, change}
 use Rattle.pk_parts.specs.Parts.{Parts}

@@ -4,7 +4,7 @@ ghost use Rattle.pk_parts.specs.Parts.{pages_for, is_half};
 ghost use Rattle.pk_parts.specs.Costs.{NumbersLast, Spends, put_calls, space_and_put_calls};
 ghost use Rattle.pk_nand.specs.Calls.{last_count};
 ghost use Rattle.pk_model.specs.Wear.{is_worn};
-ghost use Rattle.pk_work.specs.Calls.{commit_calls, lookup_calls, pair_calls, room_calls, room_roots, store_roots};
+ghost use Rattle.pk_law_work.specs.Calls.{commit_calls, lookup_calls, pair_calls, room_calls, room_roots, store_roots};
 ghost use Rattle.pk_parts.specs.Changes.{CanPut, StaysBetween};
 ghost use Rattle.pk_parts.specs.Emptying.{OnRunning};
 ghost use Rattle.pk_parts.specs.Staying.{Stays, StaysOrOpens, IsNoted};

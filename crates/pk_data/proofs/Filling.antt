@@ -22,7 +22,7 @@ use Rattle.pk_pool.specs.Taking.{SameButBlock, ReachesIn, WentIn, FailsToErase}
 use Rattle.pk_pool.proofs.States.{get-set_other, set_is}
 use Rattle.pk_pool.proofs.Fitting.{block_of, even_start, PoolOnFlash-outside, owned_not_ready}
 use Rattle.pk_live.specs.Values.{Values}
-use Rattle.pk_steps.specs.Under.{IsValuePage}
+use Rattle.pk_law_steps.specs.Under.{IsValuePage}
 use Rattle.pk_live.specs.declared.open_block.OpenBlock.{OpenBlock}
 use Rattle.pk_live.specs.OpenBlocks.{closed_with}
 use Rattle.pk_data.specs.State.{DataState, has_left, page_behind, fits_open, next_page, block_opened, more_used, with_written, needs_reclaim}

@@ -9,7 +9,7 @@ use Rattle.pk_base.specs.Shape.{Shape, IsShape, page_count, charge}
 use Rattle.pk_base.specs.Entry.{Place}
 use Rattle.pk_base.specs.EntryChecks.{IsPlace}
 use Rattle.pk_model.specs.Laws.{IsPageOf}
-use Rattle.pk_steps.specs.Under.{IsValuePage}
+use Rattle.pk_law_steps.specs.Under.{IsValuePage}
 use Rattle.pk_live.specs.Lives.{head_of}
 use Rattle.pk_live.proofs.Standing.{map_set}
 use Rattle.pk_data.specs.Placed.{AreApart, without}

@@ -17,8 +17,8 @@ use Rattle.pk_model.specs.Values.{all_pages}
 use Rattle.pk_model.specs.Laws.{IsPageOf}
 use Rattle.pk_model.proofs.MapLemmas.{key_total, key_antisymm, below_less}
 use Rattle.pk_model.proofs.Commits.{apart, rest_differs}
-use Rattle.pk_steps.specs.Under.{IsValuePage}
-use Rattle.pk_steps.proofs.Places.{range_in, value_in}
+use Rattle.pk_law_steps.specs.Under.{IsValuePage}
+use Rattle.pk_law_steps.proofs.Places.{range_in, value_in}
 use Rattle.pk_live.specs.Lives.{head_of}
 use Rattle.pk_data.specs.Placed.{AreApart, without}
 use Rattle.pk_base.proofs.Logic.{left_part, right_part, less}

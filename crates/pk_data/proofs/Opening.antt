@@ -20,8 +20,8 @@ use Rattle.pk_live.specs.Values.{Values}
 use Rattle.pk_model.specs.Values.{all_pages, fits}
 use Rattle.pk_model.specs.Laws.{AnyByRecursion}
 use Rattle.pk_model.proofs.ValueSets.{fits_parts}
-use Rattle.pk_steps.specs.Under.{IsValuePage}
-use Rattle.pk_steps.proofs.Places.{value_in, in_value}
+use Rattle.pk_law_steps.specs.Under.{IsValuePage}
+use Rattle.pk_law_steps.proofs.Places.{value_in, in_value}
 use Rattle.pk_live.specs.Lives.{is_used}
 use Rattle.pk_live.proofs.Blocks.{value_exists, block_exists}
 use Rattle.pk_data.specs.State.{with_none_open}

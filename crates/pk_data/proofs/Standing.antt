@@ -17,7 +17,7 @@ use Rattle.pk_pool.specs.Blocks.{Blocks}
 use Rattle.pk_pool.proofs.Fitting.{block_of}
 use Rattle.pk_model.specs.Values.{all_pages}
 use Rattle.pk_model.specs.Laws.{IsPageOf}
-use Rattle.pk_steps.specs.Under.{IsValuePage}
+use Rattle.pk_law_steps.specs.Under.{IsValuePage}
 use Rattle.pk_live.specs.Lives.{head_of}
 use Rattle.pk_live.proofs.Standing.{heads_read, total_is}
 use Rattle.pk_live.specs.declared.open_block.OpenBlock.{OpenBlock}

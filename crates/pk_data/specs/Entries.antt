@@ -7,7 +7,7 @@ use Rattle.pk_base.specs.Page.{Flash}
 use Rattle.pk_base.specs.Entry.{Place}
 use Rattle.pk_pool.specs.Blocks.{Blocks}
 use Rattle.pk_model.specs.Laws.{IsPageOf}
-use Rattle.pk_steps.specs.Under.{IsValuePage}
+use Rattle.pk_law_steps.specs.Under.{IsValuePage}
 use Rattle.pk_data.specs.declared.span.Span.{Span}
 use Rattle.pk_data.specs.State.{DataState}
 use Rattle.pk_data.specs.Placed.{ValuesOnFlash}

@@ -10,7 +10,7 @@ use Rattle.pk_pool.specs.declared.state.BlockState.{BlockState}
 use Rattle.pk_pool.specs.Blocks.{Blocks, PoolOnFlash, IsSpare, is_owned_by, unused, with_state}
 use Rattle.pk_live.specs.Values.{no_values}
 use Rattle.pk_model.specs.Laws.{AnyByRecursion}
-use Rattle.pk_steps.specs.Under.{IsValuePage}
+use Rattle.pk_law_steps.specs.Under.{IsValuePage}
 use Rattle.pk_data.specs.State.{DataState}
 use Rattle.pk_data.specs.Placed.{HoldsValues, IsOutput, ValuesOnFlash, FoundAtOpening}
 

@@ -13,7 +13,7 @@ use Rattle.pk_pool.specs.Blocks.{Blocks, PoolOnFlash, NoneLeaves, used_by}
 use Rattle.pk_live.specs.Values.{Values, IsClosed}
 use Rattle.pk_rootfmt.specs.Root.{differ}
 use Rattle.pk_model.specs.Laws.{AnyByRecursion, IsPageOf}
-use Rattle.pk_steps.specs.Under.{IsValuePage}
+use Rattle.pk_law_steps.specs.Under.{IsValuePage}
 use Rattle.pk_live.specs.Lives.{head_of, Lives}
 use Rattle.pk_pool.specs.declared.state.BlockState.TheVariants.{Owned}
 pub use Rattle.pk_live.specs.OpenBlocks.{IsNotOpen}

@@ -12,7 +12,7 @@ use Rattle.pk_nand.specs.Crash.{SameOutside}
 use Rattle.pk_pool.specs.declared.state.BlockState.TheVariants.{Owned}
 use Rattle.pk_pool.specs.Blocks.{Blocks, IsSpare, with_state}
 use Rattle.pk_pool.specs.Taking.{TakesReady, ErasesFree, ReachesIn}
-use Rattle.pk_steps.specs.Under.{IsValuePage}
+use Rattle.pk_law_steps.specs.Under.{IsValuePage}
 use Rattle.pk_data.specs.State.{DataState, fits_open, next_page, block_opened}
 use Rattle.pk_data.specs.Placed.{HoldsValues, ValuesOnFlash}
 

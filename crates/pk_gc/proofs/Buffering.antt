@@ -11,7 +11,7 @@ use Rattle.pk_model.proofs.MapLemmas.{key_total}
 use Rattle.pk_buf.specs.Table.{Table}
 use Rattle.pk_jrn.specs.Replays.{puts}
 use Rattle.pk_jrn.proofs.Puts.{puts_are_firsts, firsts-reverse}
-use Rattle.pk_moves.specs.Moves.{entries_of}
+use Rattle.pk_law_moves.specs.Moves.{entries_of}
 use Rattle.pk_gc.specs.declared.moves.Move.{Move}
 use Rattle.pk_gc.specs.State.{placed_at, new_place, is_left, left_of, is_new, heads_behind, entries_behind, entries_all}
 use Rattle.pk_gc.specs.Running.{AreInOrder}

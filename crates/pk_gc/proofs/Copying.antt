@@ -20,8 +20,8 @@ use Rattle.pk_gc.specs.State.{placed_at, new_place, source, target, read_next, p
 use Rattle.pk_gc.specs.Running.{AreInOrder, IsMove, IsRunning, IsNextValue, begun_move}
 use Rattle.pk_segfmt.proofs.StoredLemmas.{charge_some}
 use Rattle.pk_model.specs.Laws.{AnyByRecursion}
-use Rattle.pk_steps.specs.Under.{IsValuePage}
-use Rattle.pk_moves.specs.Moves.{AreApart}
+use Rattle.pk_law_steps.specs.Under.{IsValuePage}
+use Rattle.pk_law_moves.specs.Moves.{AreApart}
 use Rattle.pk_base.proofs.BlockLemmas.{apart}
 
 -- pages of two blocks differ

@@ -25,13 +25,13 @@ use Rattle.pk_model.specs.Laws.{IsWholePage, IsCommit}
 use Rattle.pk_model.specs.Growth.{Grows, Goes}
 use Rattle.pk_model.specs.Crashes.{CrashFinds, background}
 use Rattle.pk_model.proofs.Running.{Reaches-program, Goes-program}
-use Rattle.pk_steps.specs.Under.{IsUnder}
-use Rattle.pk_steps.specs.Roots.{committed}
+use Rattle.pk_law_steps.specs.Under.{IsUnder}
+use Rattle.pk_law_steps.specs.Roots.{committed}
 use Rattle.pk_model.proofs.Commits.{commit_start}
-use Rattle.pk_steps.proofs.Untouched.{under_reads}
-use Rattle.pk_steps.proofs.NewestBlocks.{newest_exist, valid_root}
-use Rattle.pk_moves.specs.Moves.{entries_of, CanMove}
-use Rattle.pk_moves.proofs.Moving.{moves_pair, moves_committed}
+use Rattle.pk_law_steps.proofs.Untouched.{under_reads}
+use Rattle.pk_law_steps.proofs.NewestBlocks.{newest_exist, valid_root}
+use Rattle.pk_law_moves.specs.Moves.{entries_of, CanMove}
+use Rattle.pk_law_moves.proofs.Moving.{moves_pair, moves_committed}
 use Rattle.pk_gc.specs.Cuts.{Journals, IsHalfMoved, MovesStand, CommitBegins, CommitBeginFails, CommitEnds, CommitEndFails}
 
 -- ---- the pair of a commit of moves, seen from the flash before its first program

@@ -16,10 +16,10 @@ use Rattle.pk_base.specs.Entry.{Entry, Place}
 use Rattle.pk_segfmt.proofs.StoredLemmas.{charge_some}
 use Rattle.pk_model.specs.Laws.{AnyByRecursion, IsPageOf}
 use Rattle.pk_model.proofs.MapLemmas.{key_total}
-use Rattle.pk_steps.specs.Under.{IsValuePage}
+use Rattle.pk_law_steps.specs.Under.{IsValuePage}
 use Rattle.pk_pool.proofs.States.{get-set_other}
 use Rattle.pk_live.specs.Lives.{head_of}
-use Rattle.pk_moves.specs.Moves.{AreApart, entries_of}
+use Rattle.pk_law_moves.specs.Moves.{AreApart, entries_of}
 use Rattle.pk_gc.specs.declared.course.Course.{Course}
 use Rattle.pk_gc.specs.declared.moves.Move.{Move}
 use Rattle.pk_gc.specs.State.{JobState, source, placed_at, new_place, moved_entry, is_left, left_of, is_new, heads_behind, entries_behind, heads_all, CanGo, CanGoAll}
@@ -35,7 +35,7 @@ use Rattle.std.proofs.lemmas.List.{get_or-drop}
 use Rattle.pk_live.specs.Values.{block_sum}
 use Rattle.pk_plan.specs.declared.owner.Owner.TheVariants.{Values as for_values}
 use Rattle.pk_base.proofs.BlockLemmas.{apart}
-use Rattle.pk_moves.proofs.Emptying.{found_page}
+use Rattle.pk_law_moves.proofs.Emptying.{found_page}
 
 -- a head other than those of a move is unchanged
 stays : (heads : List ℕ) (m : Move) (k : ℕ) → k ≢ m.from → k ≢ m.to → slice_get (heads_behind heads m) k ≡ slice_get heads k

@@ -16,13 +16,13 @@ use Rattle.pk_rootfmt.specs.Root.{named}
 use Rattle.pk_model.specs.Laws.{AnyByRecursion}
 use Rattle.pk_model.proofs.MapLemmas.{key_total, missing}
 use Rattle.pk_model.proofs.Lookups.{same_key}
-use Rattle.pk_steps.specs.Under.{IsValuePage, places}
+use Rattle.pk_law_steps.specs.Under.{IsValuePage, places}
 use Rattle.pk_pool.proofs.Fitting.{in_block, block_of}
 use Rattle.pk_live.specs.Lives.{head_of}
 use Rattle.pk_base.specs.EntryChecks.{IsEntry}
-use Rattle.pk_moves.specs.Moves.{entries_of, IsCopy, AreCopies, AreApart}
-use Rattle.pk_moves.specs.Victims.{AreMoved}
-use Rattle.pk_moves.proofs.Emptying.{lie_in_others}
+use Rattle.pk_law_moves.specs.Moves.{entries_of, IsCopy, AreCopies, AreApart}
+use Rattle.pk_law_moves.specs.Victims.{AreMoved}
+use Rattle.pk_law_moves.proofs.Emptying.{lie_in_others}
 use Rattle.pk_gc.specs.declared.course.Course.{Course}
 use Rattle.pk_gc.specs.declared.moves.Move.{Move}
 use Rattle.pk_gc.specs.State.{placed_at, new_place, is_left, left_of, source}

@@ -20,14 +20,14 @@ use Rattle.pk_model.specs.Laws.{IsPageOf}
 use Rattle.pk_model.proofs.Lookups.{same_key}
 use Rattle.pk_pool.proofs.Fitting.{block_of}
 use Rattle.pk_live.specs.Lives.{head_of}
-use Rattle.pk_moves.specs.Moves.{AreApart}
+use Rattle.pk_law_moves.specs.Moves.{AreApart}
 use Rattle.pk_gc.specs.State.{source, unseen, live_from, live_unseen}
 use Rattle.pk_gc.specs.Running.{IsWholeAt}
 use Rattle.pk_gc.specs.Going.{NextIsValue}
 use Rattle.pk_gc.proofs.Finishing.{begins, begun}
 use Rattle.pk_gc.proofs.Ending.{head_found}
 use Rattle.pk_gc.proofs.Counting.{live_begins}
-use Rattle.pk_moves.proofs.Emptying.{found_page}
+use Rattle.pk_law_moves.proofs.Emptying.{found_page}
 
 found_all : (P : Key × Place → Type 0) (key : Key) (place : Place) (es : List (Key × Place)) → AllByRecursion P es → find key_cmp key es ≡ Some place → P (key, place)
 found_all P key place [] all found = cc

@@ -9,9 +9,9 @@ use Rattle.pk_base.specs.Entry.{Place}
 use Rattle.pk_segfmt.proofs.StoredLemmas.{charge_some}
 use Rattle.pk_model.specs.Laws.{IsPageOf}
 use Rattle.pk_model.proofs.MapLemmas.{key_total, key_antisymm}
-use Rattle.pk_steps.specs.Under.{IsValuePage}
+use Rattle.pk_law_steps.specs.Under.{IsValuePage}
 use Rattle.pk_pool.proofs.Fitting.{block_of}
-use Rattle.pk_moves.proofs.Moved.{page_put}
+use Rattle.pk_law_moves.proofs.Moved.{page_put}
 use Rattle.pk_gc.specs.declared.course.Course.{Course}
 use Rattle.pk_gc.specs.declared.moves.Move.{Move}
 use Rattle.pk_gc.specs.State.{source}

@@ -4,7 +4,7 @@ use Rattle.std.proofs.Math.Seq.{take-suc}
 use Rattle.pk_base.specs.Entry.{Entry}
 use Rattle.pk_live.specs.Values.{Values}
 use Rattle.pk_buf.specs.Table.{Table}
-use Rattle.pk_moves.specs.Moves.{entries_of}
+use Rattle.pk_law_moves.specs.Moves.{entries_of}
 use Rattle.pk_gc.specs.declared.moves.Move.{Move}
 use Rattle.pk_gc.specs.State.{moved_entry, placed_at, is_left, left_of, heads_behind, entries_behind, heads_all, entries_all}
 

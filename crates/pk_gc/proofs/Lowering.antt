@@ -5,8 +5,8 @@ use Rattle.std.proofs.lemmas.Bool.{cases_eq}
 use Rattle.std.proofs.lemmas.List.Sums.{sum_by-cons}
 use Rattle.pk_base.specs.Shape.{Shape, charge, dense}
 use Rattle.pk_segfmt.proofs.StoredLemmas.{charge_some}
-use Rattle.pk_work.specs.Rest.{steps_of, left_of, whole_reclaim, Lowers}
-use Rattle.pk_work.specs.Jobs.{reclaim_rest}
+use Rattle.pk_law_work.specs.Rest.{steps_of, left_of, whole_reclaim, Lowers}
+use Rattle.pk_law_work.specs.Jobs.{reclaim_rest}
 use Rattle.pk_plan.specs.declared.owner.Owner.TheVariants.{Values as for_values}
 use Rattle.pk_nand.specs.BoardState.{BoardState}
 use Rattle.pk_pool.specs.declared.state.BlockState.TheVariants.{Free, Owned}

@@ -5,7 +5,7 @@ use Rattle.pk_nand.specs.BoardState.{BoardState}
 use Rattle.pk_buf.specs.Table.{Table}
 use Rattle.pk_jrn.specs.Epochs.{JournalEpoch, left_of as commits_left}
 use Rattle.pk_jrn.specs.Appends.{BeginsCommit, FailsToBegin}
-use Rattle.pk_moves.specs.Moves.{entries_of}
+use Rattle.pk_law_moves.specs.Moves.{entries_of}
 use Rattle.pk_gc.specs.declared.moves.Move.{Move}
 use Rattle.pk_gc.specs.declared.reclaimed.Committed.{Committed}
 use Rattle.pk_gc.specs.declared.reclaimed.Committed.TheVariants.{None, NeedsFreeze, All}

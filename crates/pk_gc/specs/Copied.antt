@@ -11,10 +11,10 @@ use Rattle.pk_base.specs.Firsts.{firsts}
 use Rattle.pk_rootfmt.specs.Root.{Root, named}
 use Rattle.pk_model.specs.Found.{Found}
 use Rattle.pk_model.specs.Laws.{AnyByRecursion}
-use Rattle.pk_steps.specs.Under.{places}
+use Rattle.pk_law_steps.specs.Under.{places}
 use Rattle.pk_live.specs.Lives.{head_of}
-use Rattle.pk_moves.specs.Moves.{entries_of, CanMove, LieIn}
-use Rattle.pk_moves.specs.Victims.{AreMoved, exchanged}
+use Rattle.pk_law_moves.specs.Moves.{entries_of, CanMove, LieIn}
+use Rattle.pk_law_moves.specs.Victims.{AreMoved, exchanged}
 use Rattle.pk_gc.specs.declared.course.Course.{Course}
 use Rattle.pk_gc.specs.declared.moves.Move.{Move}
 use Rattle.pk_gc.specs.State.{placed_at, left_of, source}

@@ -15,9 +15,9 @@ use Rattle.pk_model.specs.Found.{Found}
 use Rattle.pk_model.specs.Laws.{IsCommit}
 use Rattle.pk_model.specs.Growth.{Reaches, Goes}
 use Rattle.pk_model.specs.Crashes.{CrashFinds, background}
-use Rattle.pk_steps.specs.Under.{IsUnder}
-use Rattle.pk_steps.specs.Roots.{committed}
-use Rattle.pk_moves.specs.Moves.{entries_of, CanMove}
+use Rattle.pk_law_steps.specs.Under.{IsUnder}
+use Rattle.pk_law_steps.specs.Roots.{committed}
+use Rattle.pk_law_moves.specs.Moves.{entries_of, CanMove}
 
 -- the epoch is the newest one of the root
 pub record Journals (shape : Shape) (e : JournalEpoch) (flash : Flash) (top : ℕ × Root) : Type 0 where

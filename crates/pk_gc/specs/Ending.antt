@@ -6,7 +6,7 @@ use Rattle.pk_base.specs.Shape.{Shape, page_count}
 use Rattle.pk_base.specs.Page.{Flash}
 use Rattle.pk_base.specs.Entry.{Place}
 use Rattle.pk_live.specs.Values.{IsClosed}
-use Rattle.pk_moves.specs.Moves.{AreApart}
+use Rattle.pk_law_moves.specs.Moves.{AreApart}
 use Rattle.pk_gc.specs.declared.course.Course.{Course}
 use Rattle.pk_gc.specs.State.{JobState}
 use Rattle.pk_gc.specs.Copied.{IsCopied}

@@ -9,7 +9,7 @@ use Rattle.pk_base.specs.Entry.{Place}
 use Rattle.pk_base.specs.EntryChecks.{IsPlace}
 use Rattle.pk_segfmt.specs.Value.{value_at}
 use Rattle.pk_live.specs.Lives.{head_of}
-use Rattle.pk_moves.specs.Moves.{AreApart}
+use Rattle.pk_law_moves.specs.Moves.{AreApart}
 use Rattle.pk_gc.specs.declared.course.Course.{Course}
 use Rattle.pk_gc.specs.declared.moves.Move.{Move}
 use Rattle.pk_gc.specs.State.{source}

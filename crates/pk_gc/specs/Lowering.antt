@@ -1,6 +1,6 @@
 -- Each step of a reclaim lowers what remains of it: the statements.
 use Rattle.std.specs.Prelude.{◌≡◌, ◌≢◌, ℕ, ◌-◌, List, sum, take, drop, unwrap_or}
-use Rattle.pk_work.specs.Rest.{left_of, whole_reclaim, Lowers}
+use Rattle.pk_law_work.specs.Rest.{left_of, whole_reclaim, Lowers}
 use Rattle.pk_nand.specs.BoardState.{BoardState}
 use Rattle.pk_pool.specs.Unready.{unready}
 use Rattle.pk_gc.specs.declared.reclaimed.Reclaimed.{Reclaimed}

@@ -10,8 +10,8 @@ use Rattle.pk_base.specs.Entry.{Place}
 use Rattle.pk_base.specs.EntryChecks.{IsPlace}
 use Rattle.pk_seg.specs.Stored.{HasHead}
 use Rattle.pk_model.specs.Laws.{AnyByRecursion}
-use Rattle.pk_steps.specs.Under.{IsValuePage}
-use Rattle.pk_moves.specs.Moves.{AreApart}
+use Rattle.pk_law_steps.specs.Under.{IsValuePage}
+use Rattle.pk_law_moves.specs.Moves.{AreApart}
 use Rattle.pk_gc.specs.declared.course.Course.{Course}
 use Rattle.pk_gc.specs.declared.moves.Move.{Move}
 use Rattle.pk_gc.specs.State.{new_place, placed_at, source, target, unseen, live_unseen}

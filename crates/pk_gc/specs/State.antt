@@ -4,8 +4,8 @@ use Rattle.std.specs.FinMap.Entries.{put, find}
 use Rattle.pk_base.specs.Key.{Key, key_cmp}
 use Rattle.pk_base.specs.Shape.{Shape}
 use Rattle.pk_base.specs.Entry.{Entry, Place, put_entry}
-use Rattle.pk_work.specs.Rest.{steps_of}
-use Rattle.pk_work.specs.Jobs.{reclaim_rest}
+use Rattle.pk_law_work.specs.Rest.{steps_of}
+use Rattle.pk_law_work.specs.Jobs.{reclaim_rest}
 use Rattle.pk_gc.specs.declared.course.Course.{Course}
 use Rattle.pk_gc.specs.declared.course.Phase.{Phase}
 use Rattle.pk_gc.specs.declared.course.Phase.TheVariants.{Idle, Copies, Commits, GivesBack}

@@ -12,7 +12,7 @@ use Rattle.pk_base.specs.declared.entry.Entry.{Entry as RustEntry}
 use Rattle.pk_rootfmt.specs.Root.{Root}
 use Rattle.pk_run.specs.Search.{IsFound}
 use Rattle.pk_model.specs.Found.{Found, entries_in_order}
-use Rattle.pk_steps.proofs.Counting.{found_in}
+use Rattle.pk_law_steps.proofs.Counting.{found_in}
 use Rattle.pk_log.specs.State.{LogState, entry_of}
 use Rattle.pk_log.specs.Logs.{LogOnFlash}
 

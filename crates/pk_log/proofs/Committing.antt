@@ -28,18 +28,18 @@ use Rattle.pk_jrn.proofs.Puts.{firsts-reverse}
 use Rattle.pk_model.specs.Found.{Found, newest_epoch}
 use Rattle.pk_model.specs.Laws.{IsWholePage, IsCommit}
 use Rattle.pk_model.proofs.Commits.{Blocks, valid_blocks, pair_behind_roots, roots_stay, under, commit_start}
-use Rattle.pk_steps.specs.Under.{IsUnder}
-use Rattle.pk_steps.specs.Roots.{committed}
-use Rattle.pk_steps.proofs.Committing.{commits_pair, commit_done}
+use Rattle.pk_law_steps.specs.Under.{IsUnder}
+use Rattle.pk_law_steps.specs.Roots.{committed}
+use Rattle.pk_law_steps.proofs.Committing.{commits_pair, commit_done}
 use Rattle.pk_model.specs.Growth.{Grows, Reaches, Goes}
 use Rattle.pk_log.specs.State.{LogState, all_committed}
 use Rattle.pk_log.specs.Logs.{LogOnFlash}
 use Rattle.pk_log.specs.Commits.{CommitStands, CommitCut, CommitHolds, CommitReaches}
 use Rattle.pk_model.proofs.Growing.{at_end, Reaches-then, Goes-then}
 use Rattle.pk_model.proofs.Running.{Reaches-program, Goes-program}
-use Rattle.pk_steps.proofs.NewestBlocks.{valid_root}
+use Rattle.pk_law_steps.proofs.NewestBlocks.{valid_root}
 use Rattle.pk_log.proofs.Standing.{blocks_are}
-use Rattle.pk_steps.proofs.UnderRoot.{newest_found}
+use Rattle.pk_law_steps.proofs.UnderRoot.{newest_found}
 
 -- ---- the programs
 

@@ -8,7 +8,7 @@ use Rattle.pk_base.specs.Page.{Flash, page_at}
 use Rattle.pk_base.specs.Entry.{Entry}
 use Rattle.pk_base.specs.Firsts.{firsts}
 use Rattle.pk_base.specs.Map.{Map}
-use Rattle.pk_work.specs.Rest.{Lowers}
+use Rattle.pk_law_work.specs.Rest.{Lowers}
 use Rattle.pk_plan.specs.declared.owner.Owner.TheVariants.{Journal}
 use Rattle.pk_nand.specs.BoardState.{BoardState}
 use Rattle.pk_rootfmt.specs.Root.{Root, named}
@@ -28,10 +28,10 @@ use Rattle.pk_pool.specs.Blocks.{Blocks, PoolOnFlash, with_state, given_back, le
 use Rattle.pk_pool.specs.Unready.{unready}
 use Rattle.pk_pool.proofs.Leaving.{left_unready}
 use Rattle.pk_pool.proofs.States.{get-set_other}
-use Rattle.pk_steps.specs.Roots.{frozen, frozen_root}
-use Rattle.pk_steps.proofs.NewestBlocks.{valid_root}
-use Rattle.pk_steps.proofs.Places.{In}
-use Rattle.pk_steps.proofs.UnderRoot.{none_named}
+use Rattle.pk_law_steps.specs.Roots.{frozen, frozen_root}
+use Rattle.pk_law_steps.proofs.NewestBlocks.{valid_root}
+use Rattle.pk_law_steps.proofs.Places.{In}
+use Rattle.pk_law_steps.proofs.UnderRoot.{none_named}
 use Rattle.pk_compact.specs.Freezing.{IsApart}
 use Rattle.pk_compact.specs.FreezeSteps.{IsFreezing, IsTaken, AreOwned, FreezeGoesOn, FreezeInstalled, FreezeSteps, taken_by, freeze_left}
 use Rattle.pk_compact.specs.declared.freezing.FreezeJob.{FreezeJob}

@@ -14,7 +14,7 @@ use Rattle.pk_jrn.specs.Replays.{buffer_of}
 use Rattle.pk_jrn.proofs.Places.{EpochOnFlash-same}
 use Rattle.pk_model.specs.Found.{Found}
 use Rattle.pk_model.proofs.Commits.{blocks_of_root}
-use Rattle.pk_steps.proofs.NewestBlocks.{valid_root}
+use Rattle.pk_law_steps.proofs.NewestBlocks.{valid_root}
 use Rattle.pk_compact.specs.Installing.{CanPrepare, IsPrepared, CanRepeat, IsRepeated}
 use Rattle.pk_compact.specs.Merging.{CanMerge, HasMerged}
 use Rattle.pk_log.specs.State.{LogState}

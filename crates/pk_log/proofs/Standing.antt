@@ -16,7 +16,7 @@ use Rattle.pk_jrn.proofs.Places.{EpochOnFlash-same}
 use Rattle.pk_model.specs.Found.{Found, found_under}
 use Rattle.pk_model.specs.Laws.{AnyByRecursion}
 use Rattle.pk_model.proofs.SamePages.{newest_root_same, found_same, in_some_block, agree_runs, any_front, any_back, any_in_concat}
-use Rattle.pk_steps.proofs.NewestBlocks.{newest_exist, newest_differ, valid_root}
+use Rattle.pk_law_steps.proofs.NewestBlocks.{newest_exist, newest_differ, valid_root}
 use Rattle.pk_model.proofs.Commits.{blocks_of_root, member}
 use Rattle.pk_log.specs.State.{LogState, opened}
 use Rattle.pk_log.specs.Logs.{LogOnFlash, Opens}

@@ -9,8 +9,8 @@ use Rattle.pk_nand.specs.Calls.{after_programs, ProgramsFailed}
 use Rattle.pk_rootfmt.specs.Root.{Root}
 use Rattle.pk_jrn.specs.Appends.{programs_of_commit}
 use Rattle.pk_model.specs.Found.{Found}
-use Rattle.pk_steps.specs.Under.{IsUnder}
-use Rattle.pk_steps.specs.Roots.{committed}
+use Rattle.pk_law_steps.specs.Under.{IsUnder}
+use Rattle.pk_law_steps.specs.Roots.{committed}
 use Rattle.pk_model.specs.Growth.{Reaches, Goes}
 use Rattle.pk_log.specs.State.{LogState, all_committed}
 use Rattle.pk_log.specs.Logs.{LogOnFlash}

@@ -9,7 +9,7 @@ use Rattle.pk_model.specs.Found.{Found}
 use Rattle.pk_model.specs.Growth.{Reaches, Goes}
 use Rattle.pk_model.specs.Crashes.{CrashFinds, background}
 use Rattle.pk_model.specs.Wear.{root_number}
-use Rattle.pk_steps.specs.Under.{IsUnder}
+use Rattle.pk_law_steps.specs.Under.{IsUnder}
 use Rattle.pk_compact.specs.Installing.{IsHalf}
 use Rattle.pk_log.specs.State.{LogState}
 use Rattle.pk_log.specs.Logs.{LogOnFlash}

@@ -4,7 +4,7 @@ use Rattle.std.specs.List.{AllByRecursion}
 use Rattle.pk_base.specs.Page.{Flash, SameBehind}
 use Rattle.pk_base.specs.Map.{Map}
 use Rattle.pk_base.specs.declared.sizes.TheConstants.{EPOCH_BLOCKS}
-use Rattle.pk_work.specs.Rest.{Lowers}
+use Rattle.pk_law_work.specs.Rest.{Lowers}
 use Rattle.pk_plan.specs.declared.owner.Owner.TheVariants.{Journal}
 use Rattle.pk_nand.specs.BoardState.{BoardState}
 use Rattle.pk_rootfmt.specs.Root.{Root, differ, last_number}
@@ -19,8 +19,8 @@ use Rattle.pk_model.specs.Wear.{root_number}
 use Rattle.pk_pool.specs.declared.state.BlockState.TheVariants.{Owned}
 use Rattle.pk_pool.specs.Blocks.{Blocks, used_by, given_back, left_by, PoolOnFlash}
 use Rattle.pk_pool.specs.Unready.{unready}
-use Rattle.pk_steps.specs.Under.{IsUnder}
-use Rattle.pk_steps.specs.Roots.{frozen, frozen_root}
+use Rattle.pk_law_steps.specs.Under.{IsUnder}
+use Rattle.pk_law_steps.specs.Roots.{frozen, frozen_root}
 use Rattle.pk_compact.specs.Freezing.{IsApart}
 use Rattle.pk_compact.specs.Installing.{IsHalf}
 use Rattle.pk_compact.specs.FreezeSteps.{IsTaken, SameBut, TakesOne, taken_by, freeze_left}

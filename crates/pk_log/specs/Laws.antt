@@ -4,7 +4,7 @@ use Rattle.pk_base.specs.Shape.{Shape, root_pages}
 use Rattle.pk_base.specs.Page.{Flash, page_at}
 use Rattle.pk_rootfmt.specs.Root.{Root}
 use Rattle.pk_model.specs.Found.{Found}
-use Rattle.pk_steps.specs.Under.{IsNamed}
+use Rattle.pk_law_steps.specs.Under.{IsNamed}
 use Rattle.pk_log.specs.State.{LogState}
 use Rattle.pk_log.specs.Logs.{LogOnFlash}
 

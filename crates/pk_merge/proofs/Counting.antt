@@ -11,7 +11,7 @@ use Rattle.pk_pool.specs.Blocks.{Blocks, IsSpare, with_state}
 use Rattle.pk_pool.specs.Unready.{unready}
 use Rattle.pk_pool.proofs.Counting.{taken_ready, taken_free}
 use Rattle.pk_run.specs.Kept.{Kept, IsKept, most_pages, most_blocks}
-use Rattle.pk_work.specs.Rest.{Lowers}
+use Rattle.pk_law_work.specs.Rest.{Lowers}
 use Rattle.pk_merge.specs.declared.source.Source.{Source}
 use Rattle.pk_merge.specs.declared.source.Source.TheVariants.{Frozen, Run}
 use Rattle.pk_merge.specs.declared.next.Next.{Next}

@@ -16,7 +16,7 @@ use Rattle.pk_plan.specs.declared.owner.Owner.TheVariants.{Meta}
 use Rattle.pk_plan.specs.Quotas.{quota_of}
 use Rattle.pk_pool.specs.Blocks.{Blocks, used_by}
 use Rattle.pk_run.specs.Kept.{Kept, IsKept, most_pages, most_blocks}
-use Rattle.pk_work.proofs.Paging.{few_pages, few_blocks}
+use Rattle.pk_law_work.proofs.Paging.{few_pages, few_blocks}
 use Rattle.pk_merge.specs.declared.source.Source.{Source}
 use Rattle.pk_merge.specs.Merging.{Merger, left}
 use Rattle.pk_merge.specs.Outputs.{MayProgram}

@@ -4,7 +4,7 @@ use Rattle.pk_base.specs.Shape.{cap}
 use Rattle.pk_pool.specs.Blocks.{Blocks}
 use Rattle.pk_pool.specs.Unready.{unready}
 use Rattle.pk_run.specs.Kept.{Kept, most_pages, most_blocks}
-use Rattle.pk_work.specs.Rest.{Rest, Lowers, steps_of, whole_merge}
+use Rattle.pk_law_work.specs.Rest.{Rest, Lowers, steps_of, whole_merge}
 use Rattle.pk_merge.specs.declared.source.Source.{Source}
 use Rattle.pk_merge.specs.Sources.{pages_in}
 use Rattle.pk_merge.specs.Merging.{Merger, can_gather, IsDone}

@@ -9,7 +9,7 @@ use Rattle.pk_base.specs.Merge.{next_merge}
 use Rattle.pk_rootfmt.specs.Root.{Root}
 use Rattle.pk_nand.specs.BoardState.{BoardState}
 use Rattle.pk_nand.specs.Calls.{IsReady}
-use Rattle.pk_work.proofs.Targets.{next_told}
+use Rattle.pk_law_work.proofs.Targets.{next_told}
 use Rattle.pk_pool.specs.Blocks.{PoolOnFlash, IsShared, IsOwned}
 use Rattle.pk_pool.specs.Taking.{ErasesOne, ErasesNone, FailsToErase}
 use Rattle.pk_compact.specs.FreezeSteps.{taken_by}

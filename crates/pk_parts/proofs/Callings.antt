@@ -5,7 +5,7 @@ use Rattle.pk_nand.specs.Calls.{counted}
 use Rattle.pk_nand.specs.Counts.{counted_by}
 use Rattle.pk_nand.specs.Effects.{AtMostOneCall, OneProgram}
 use Rattle.pk_model.specs.Wear.{roots}
-use Rattle.pk_work.specs.Calls.{commit_calls}
+use Rattle.pk_law_work.specs.Calls.{commit_calls}
 use Rattle.pk_call.specs.Calling.{FewCalls}
 use Rattle.pk_call.specs.Commit.{ProgramsOfCommit}
 use Rattle.pk_parts.specs.Costs.{Spends}

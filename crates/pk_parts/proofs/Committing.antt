@@ -29,9 +29,9 @@ use Rattle.pk_model.specs.Values.{placed}
 use Rattle.pk_model.specs.Laws.{AnyByRecursion}
 use Rattle.pk_model.proofs.Commits.{valid_blocks, pair_among}
 use Rattle.pk_model.proofs.SamePages.{any_front}
-use Rattle.pk_steps.specs.Under.{IsUnder, IsValuePage, places}
-use Rattle.pk_steps.specs.Roots.{committed}
-use Rattle.pk_steps.proofs.Untouched.{under_reads}
+use Rattle.pk_law_steps.specs.Under.{IsUnder, IsValuePage, places}
+use Rattle.pk_law_steps.specs.Roots.{committed}
+use Rattle.pk_law_steps.proofs.Untouched.{under_reads}
 use Rattle.pk_data.specs.Placed.{ValuesOnFlash}
 use Rattle.pk_data.proofs.Unchanged.{flash_elsewhere}
 use Rattle.pk_model.specs.Growth.{Goes}

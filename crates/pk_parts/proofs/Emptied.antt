@@ -8,17 +8,17 @@ use Rattle.pk_buf.specs.Table.{Table}
 use Rattle.pk_jrn.specs.Epochs.{left_of}
 use Rattle.pk_log.specs.State.{LogState, needs_freeze}
 use Rattle.pk_log.specs.Logs.{LogOnFlash}
-use Rattle.pk_work.specs.Backlog.{is_tight}
+use Rattle.pk_law_work.specs.Backlog.{is_tight}
 use Rattle.pk_schedule.specs.Index.{Index}
 use Rattle.pk_nand.specs.declared.types.Fault.{Fault}
 use Rattle.pk_nand.specs.BoardState.{BoardState}
 use Rattle.pk_nand.specs.Calls.{IsReady}
 use Rattle.pk_model.specs.Wear.{roots}
 use Rattle.pk_model.proofs.Steps.{RootsUpTo-le, Step-broken}
-use Rattle.pk_work.specs.Rest.{whole_freeze}
-use Rattle.pk_work.specs.Work.{emptying, repeating}
-use Rattle.pk_work.specs.Calls.{room_calls, room_roots, commit_calls}
-use Rattle.pk_work.proofs.Within.{due_most, merging_most}
+use Rattle.pk_law_work.specs.Rest.{whole_freeze}
+use Rattle.pk_law_work.specs.Work.{emptying, repeating}
+use Rattle.pk_law_work.specs.Calls.{room_calls, room_roots, commit_calls}
+use Rattle.pk_law_work.proofs.Within.{due_most, merging_most}
 use Rattle.pk_schedule.specs.declared.phase.Stepped.{Stepped}
 use Rattle.pk_schedule.specs.declared.phase.Stepped.TheVariants.{Worked, Idle}
 use Rattle.pk_schedule.specs.Steps.{FreezeMoves, backlog_of, has_no_merge, is_between}

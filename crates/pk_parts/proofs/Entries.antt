@@ -23,11 +23,11 @@ use Rattle.pk_model.proofs.Stores.{placed-put, reads-put, entries_in_order-push}
 use Rattle.pk_model.proofs.Merges.{placed_sorted}
 use Rattle.pk_model.proofs.Live.{live-pages}
 use Rattle.pk_model.proofs.HeldMap.{nothing_fits}
-use Rattle.pk_steps.specs.Under.{IsUnder, counting, places}
-use Rattle.pk_steps.proofs.Untouched.{values_under}
-use Rattle.pk_steps.proofs.Places.{fits_more}
-use Rattle.pk_steps.proofs.Storing.{stores, deletes, placed-gone}
-use Rattle.pk_steps.proofs.Counting.{sorted_read, entries-rising}
+use Rattle.pk_law_steps.specs.Under.{IsUnder, counting, places}
+use Rattle.pk_law_steps.proofs.Untouched.{values_under}
+use Rattle.pk_law_steps.proofs.Places.{fits_more}
+use Rattle.pk_law_steps.proofs.Storing.{stores, deletes, placed-gone}
+use Rattle.pk_law_steps.proofs.Counting.{sorted_read, entries-rising}
 use Rattle.pk_log.specs.State.{LogState, pushed}
 use Rattle.pk_log.specs.Logs.{LogOnFlash}
 use Rattle.pk_data.specs.declared.span.Span.{Span}
@@ -48,7 +48,7 @@ use Rattle.pk_parts.proofs.Halves.{whole_like}
 use Rattle.pk_parts.proofs.Reclaiming.{reclaim_stored, reclaim_gone, zero_fewer, replaced_fewer}
 use Rattle.pk_parts.proofs.Writing.{named_owner, journal_or_values, meta_or_values}
 use Rattle.pk_base.proofs.KeyLemmas.{firsts_sorted}
-use Rattle.pk_steps.proofs.Outputs.{values_most}
+use Rattle.pk_law_steps.proofs.Outputs.{values_most}
 use Rattle.pk_scan.proofs.ValuesHeld.{limit_few}
 
 -- ---- numbers

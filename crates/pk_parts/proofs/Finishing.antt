@@ -20,8 +20,8 @@ use Rattle.pk_model.specs.Found.{Found}
 use Rattle.pk_model.specs.Growth.{Goes}
 use Rattle.pk_model.specs.Crashes.{CrashFinds, background}
 use Rattle.pk_model.specs.Wear.{root_number, roots}
-use Rattle.pk_steps.specs.Under.{IsUnder, places}
-use Rattle.pk_steps.proofs.Untouched.{under_reads}
+use Rattle.pk_law_steps.specs.Under.{IsUnder, places}
+use Rattle.pk_law_steps.proofs.Untouched.{under_reads}
 use Rattle.pk_data.specs.Placed.{ValuesOnFlash}
 use Rattle.pk_data.proofs.Unchanged.{ValuesOnFlash-kept}
 use Rattle.pk_gc.specs.Standing.{ReclaimOnFlash}

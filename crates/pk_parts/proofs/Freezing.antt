@@ -4,7 +4,7 @@ use Rattle.std.proofs.lemmas.Bool.Decides.{nat_tests}
 use Rattle.pk_base.specs.Key.{Key}
 use Rattle.pk_base.specs.Shape.{Shape, IsShape, buffer, epoch_commits}
 use Rattle.pk_base.proofs.ShapeLemmas.{block_pages_positive}
-use Rattle.pk_work.specs.Backlog.{is_tight}
+use Rattle.pk_law_work.specs.Backlog.{is_tight}
 use Rattle.pk_jrn.specs.Epochs.{left_of}
 use Rattle.pk_log.specs.State.{LogState, needs_freeze}
 use Rattle.pk_base.proofs.ZeroLemmas.{some_is_not_zero}

@@ -7,7 +7,7 @@ use Rattle.pk_rootfmt.specs.Root.{Root}
 use Rattle.pk_nand.specs.BoardState.{BoardState}
 use Rattle.pk_nand.specs.Calls.{IsReady}
 use Rattle.pk_model.specs.Found.{Found}
-use Rattle.pk_steps.specs.Under.{IsUnder, IsValuePage, places}
+use Rattle.pk_law_steps.specs.Under.{IsUnder, IsValuePage, places}
 use Rattle.pk_data.specs.Placed.{ValuesOnFlash}
 use Rattle.pk_data.proofs.Unchanged.{ValuesOnFlash-kept}
 use Rattle.pk_pool.specs.Blocks.{Blocks, freed}

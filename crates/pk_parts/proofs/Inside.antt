@@ -19,8 +19,8 @@ use Rattle.pk_model.specs.Growth.{Grows, Goes}
 use Rattle.pk_model.specs.Crashes.{CrashFinds, background, commit}
 use Rattle.pk_model.specs.Wear.{root_number, roots}
 use Rattle.pk_model.proofs.Growing.{weaken, weaken_went}
-use Rattle.pk_steps.specs.Under.{places}
-use Rattle.pk_steps.proofs.Untouched.{under_reads}
+use Rattle.pk_law_steps.specs.Under.{places}
+use Rattle.pk_law_steps.proofs.Untouched.{under_reads}
 use Rattle.pk_root.specs.declared.next.Next.{Next}
 use Rattle.pk_root.specs.declared.next.Next.TheVariants.{Erase, Program, Again}
 use Rattle.pk_root.specs.Installing.{repeats_next}
@@ -36,8 +36,8 @@ use Rattle.pk_schedule.specs.Steps.{MayWork, MayFreeze, IndexMoves, Moves, Unmov
 use Rattle.pk_schedule.specs.Steps.{has_no_merge, is_between}
 use Rattle.pk_log.specs.State.{LogState}
 use Rattle.pk_jrn.specs.Epochs.{JournalEpoch}
-use Rattle.pk_work.specs.Backlog.{due_level}
-use Rattle.pk_work.specs.Work.{merging_left, merging_from}
+use Rattle.pk_law_work.specs.Backlog.{due_level}
+use Rattle.pk_law_work.specs.Work.{merging_left, merging_from}
 use Rattle.pk_schedule.proofs.Backlogs.{some_due}
 use Rattle.pk_parts.specs.Parts.{Parts, frames_of, index_of, outputs_of}
 use Rattle.pk_parts.specs.Agreeing.{DriveOnFlashWith}

@@ -12,7 +12,7 @@ use Rattle.pk_model.specs.Growth.{Goes}
 use Rattle.pk_model.specs.Crashes.{CrashFinds, background, commit}
 use Rattle.pk_model.proofs.Growing.{Reaches-then, Goes-then, at_end}
 use Rattle.pk_model.specs.Found.{Found}
-use Rattle.pk_steps.specs.Under.{places}
+use Rattle.pk_law_steps.specs.Under.{places}
 use Rattle.pk_log.specs.State.{LogState}
 use Rattle.pk_parts.specs.Parts.{Parts, is_half}
 use Rattle.pk_parts.specs.Moves.{StandsFor, Keeps, KeepsAll, KeepsBetween, KeepsAllBetween, BreaksAll}

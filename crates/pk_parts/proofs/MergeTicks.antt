@@ -6,7 +6,7 @@ use Rattle.pk_nand.specs.declared.types.Fault.{Fault}
 use Rattle.pk_nand.specs.declared.types.Fault.TheVariants.{Reading, Stopped}
 use Rattle.pk_nand.specs.BoardState.{BoardState}
 use Rattle.pk_model.specs.Wear.{roots}
-use Rattle.pk_work.specs.Work.{work}
+use Rattle.pk_law_work.specs.Work.{work}
 use Rattle.pk_call.specs.declared.types.Ticked.TheVariants.{Worked as Goes, Fault as Fails}
 use Rattle.pk_schedule.specs.declared.phase.Stepped.{Stepped}
 use Rattle.pk_schedule.specs.declared.phase.Stepped.TheVariants.{Worked, Idle}

@@ -17,7 +17,7 @@ use Rattle.pk_compact.specs.declared.freezing.FreezeJob.TheVariants.{Idle as NoF
 use Rattle.pk_schedule.specs.declared.phase.Phase.TheVariants.{Idle}
 use Rattle.pk_schedule.specs.Index.{Schedule, IndexOnFlash, index}
 use Rattle.pk_model.specs.Found.{Found}
-use Rattle.pk_steps.specs.Under.{IsUnder, places}
+use Rattle.pk_law_steps.specs.Under.{IsUnder, places}
 use Rattle.pk_log.specs.State.{LogState, opened}
 use Rattle.pk_log.specs.Logs.{LogOnFlash, Opens}
 use Rattle.pk_data.specs.State.{DataState, with_none_open}

@@ -7,9 +7,9 @@ use Rattle.pk_base.specs.Entry.{Entry}
 use Rattle.pk_plan.specs.declared.owner.Owner.TheVariants.{Values}
 use Rattle.pk_pool.specs.Blocks.{Blocks, used_by}
 use Rattle.pk_pool.specs.Unready.{unready}
-use Rattle.pk_work.specs.Rest.{whole_reclaim, Lowers}
-use Rattle.pk_work.specs.Work.{reclaiming, reclaiming_from}
-use Rattle.pk_work.proofs.Lowering.{reclaims}
+use Rattle.pk_law_work.specs.Rest.{whole_reclaim, Lowers}
+use Rattle.pk_law_work.specs.Work.{reclaiming, reclaiming_from}
+use Rattle.pk_law_work.proofs.Lowering.{reclaims}
 use Rattle.pk_gc.specs.declared.course.Phase.{Phase}
 use Rattle.pk_gc.specs.declared.course.Phase.TheVariants.{Idle, Copies, Commits, GivesBack}
 use Rattle.pk_gc.specs.Standing.{held_blocks}

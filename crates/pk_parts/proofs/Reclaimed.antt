@@ -21,7 +21,7 @@ use Rattle.pk_model.specs.Laws.{AnyByRecursion}
 use Rattle.pk_model.specs.Growth.{Reaches, Goes}
 use Rattle.pk_model.specs.Crashes.{CrashFinds, background}
 use Rattle.pk_model.proofs.SamePages.{any_front}
-use Rattle.pk_steps.specs.Under.{IsUnder, places}
+use Rattle.pk_law_steps.specs.Under.{IsUnder, places}
 use Rattle.pk_gc.specs.Stepping.{runs_in}
 use Rattle.pk_gc.specs.Standing.{held_blocks, ReclaimOnFlash}
 use Rattle.pk_gc.specs.declared.course.Phase.{Phase}

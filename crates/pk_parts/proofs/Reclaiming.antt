@@ -20,8 +20,8 @@ use Rattle.pk_data.specs.Entries.{IsInOpen, heads_without}
 use Rattle.pk_gc.specs.declared.course.Course.{Course}
 use Rattle.pk_gc.specs.declared.course.Phase.{Phase}
 use Rattle.pk_gc.specs.declared.course.Phase.TheVariants.{Idle, Copies, Commits, GivesBack}
-use Rattle.pk_work.specs.Rest.{steps_of, whole_reclaim}
-use Rattle.pk_work.specs.Jobs.{reclaim_rest}
+use Rattle.pk_law_work.specs.Rest.{steps_of, whole_reclaim}
+use Rattle.pk_law_work.specs.Jobs.{reclaim_rest}
 use Rattle.pk_gc.specs.State.{JobState, live_from, live_unseen, unseen}
 use Rattle.pk_gc.specs.Running.{IsSparse}
 use Rattle.pk_gc.specs.Stepping.{runs_in}

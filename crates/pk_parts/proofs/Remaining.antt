@@ -7,10 +7,10 @@ use Rattle.pk_plan.specs.declared.owner.Owner.TheVariants.{Values as for_values}
 use Rattle.pk_pool.specs.Blocks.{used_by}
 use Rattle.pk_pool.specs.Unready.{unready}
 use Rattle.pk_jrn.specs.Epochs.{left_of as pages_left}
-use Rattle.pk_work.specs.Backlog.{Backlog, is_tight, due_level}
-use Rattle.pk_work.specs.Rest.{Lowers, left_of, whole_freeze}
-use Rattle.pk_work.specs.Work.{work, emptying, merging, merging_from, freezing_from, reclaiming, reclaiming_from}
-use Rattle.pk_work.proofs.Lowering.{freeze_moves, freeze_ends}
+use Rattle.pk_law_work.specs.Backlog.{Backlog, is_tight, due_level}
+use Rattle.pk_law_work.specs.Rest.{Lowers, left_of, whole_freeze}
+use Rattle.pk_law_work.specs.Work.{work, emptying, merging, merging_from, freezing_from, reclaiming, reclaiming_from}
+use Rattle.pk_law_work.proofs.Lowering.{freeze_moves, freeze_ends}
 use Rattle.pk_root.specs.declared.next.Next.{Next}
 use Rattle.pk_root.specs.declared.next.Next.TheVariants.{Erase, Program, Again}
 use Rattle.pk_root.specs.Installing.{repeats_next}

@@ -4,7 +4,7 @@ use Rattle.pk_base.specs.Map.{Map}
 use Rattle.pk_base.specs.Shape.{Shape}
 use Rattle.pk_nand.specs.BoardState.{BoardState}
 use Rattle.pk_model.specs.Wear.{roots}
-use Rattle.pk_work.specs.Calls.{room_calls}
+use Rattle.pk_law_work.specs.Calls.{room_calls}
 use Rattle.pk_parts.specs.Parts.{Parts}
 use Rattle.pk_parts.specs.Moves.{StandsFor, KeepsAll}
 

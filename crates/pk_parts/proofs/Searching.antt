@@ -17,9 +17,9 @@ use Rattle.pk_run.specs.Search.{IsFound}
 use Rattle.pk_level.specs.Levels.{RunsOnFlash}
 use Rattle.pk_model.specs.Found.{Found, entries_in_order}
 use Rattle.pk_model.proofs.Lookups.{flat, find-firsts, find-placed}
-use Rattle.pk_steps.specs.Under.{IsUnder, places}
-use Rattle.pk_steps.specs.Lookups.{IsValueOf}
-use Rattle.pk_steps.proofs.Counting.{finds}
+use Rattle.pk_law_steps.specs.Under.{IsUnder, places}
+use Rattle.pk_law_steps.specs.Lookups.{IsValueOf}
+use Rattle.pk_law_steps.proofs.Counting.{finds}
 use Rattle.pk_log.specs.Logs.{LogOnFlash}
 use Rattle.pk_parts.specs.Parts.{Parts}
 use Rattle.pk_parts.specs.Finding.{named_by, named_by_found, IsPlaceIn}

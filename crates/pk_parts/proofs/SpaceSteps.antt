@@ -10,9 +10,9 @@ use Rattle.pk_nand.specs.BoardState.{BoardState}
 use Rattle.pk_nand.specs.Calls.{IsReady, last_count}
 use Rattle.pk_nand.specs.Effects.{AtMostOneCall, NoFault, OnlyFlash}
 use Rattle.pk_model.specs.Wear.{roots}
-use Rattle.pk_work.specs.Rest.{whole_freeze, whole_reclaim}
-use Rattle.pk_work.specs.Work.{emptying}
-use Rattle.pk_work.specs.Calls.{room_calls, room_roots}
+use Rattle.pk_law_work.specs.Rest.{whole_freeze, whole_reclaim}
+use Rattle.pk_law_work.specs.Work.{emptying}
+use Rattle.pk_law_work.specs.Calls.{room_calls, room_roots}
 use Rattle.pk_gc.specs.declared.course.Phase.{Phase}
 use Rattle.pk_gc.specs.declared.course.Phase.TheVariants.{Idle, Copies, Commits, GivesBack}
 use Rattle.pk_gc.specs.declared.course.Course.{Course}

@@ -6,8 +6,8 @@ use Rattle.pk_base.specs.Shape.{Shape, data_blocks, most_pages}
 use Rattle.pk_plan.specs.declared.owner.Owner.TheVariants.{Values}
 use Rattle.pk_pool.specs.Blocks.{used_by}
 use Rattle.pk_pool.specs.Unready.{unready}
-use Rattle.pk_work.specs.Rest.{whole_reclaim, left_of, Lowers}
-use Rattle.pk_work.specs.Calls.{room_calls, room_roots}
+use Rattle.pk_law_work.specs.Rest.{whole_reclaim, left_of, Lowers}
+use Rattle.pk_law_work.specs.Calls.{room_calls, room_roots}
 use Rattle.std.specs.Prelude.{unwrap_or}
 use Rattle.pk_gc.specs.declared.course.Phase.{Phase}
 use Rattle.pk_gc.specs.declared.course.Phase.TheVariants.{Idle, Copies, Commits, GivesBack}

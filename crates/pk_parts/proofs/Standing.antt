@@ -7,7 +7,7 @@ use Rattle.pk_base.specs.Refusal.{Refusal}
 use Rattle.pk_rootfmt.specs.Root.{Root}
 use Rattle.pk_model.specs.Found.{Found, found_under}
 use Rattle.pk_model.specs.Reading.{reading}
-use Rattle.pk_steps.proofs.Untouched.{under_reads}
+use Rattle.pk_law_steps.proofs.Untouched.{under_reads}
 use Rattle.pk_parts.specs.Parts.{Parts, settled_parts}
 use Rattle.pk_parts.specs.Agreeing.{DriveOnFlashWith, DriveOnFlash}
 use Rattle.pk_parts.specs.Moves.{StandsFor, StandsBetween}

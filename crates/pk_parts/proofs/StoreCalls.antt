@@ -1,8 +1,8 @@
 -- How many flash operations a Store and a Delete make, and how many roots they install, by their parts.
 use Rattle.std.proofs.Common.{◌≡◌, ℕ, ◌+◌, ◌≤◌, arith, subst}
 use Rattle.pk_base.specs.Shape.{Shape, IsShape, charge, most_pages, most_calls}
-use Rattle.pk_work.specs.Calls.{commit_calls, lookup_calls, pair_calls, room_calls, room_roots, store_roots}
-use Rattle.pk_work.proofs.Emptying.{deep, emptying_most}
+use Rattle.pk_law_work.specs.Calls.{commit_calls, lookup_calls, pair_calls, room_calls, room_roots, store_roots}
+use Rattle.pk_law_work.proofs.Emptying.{deep, emptying_most}
 use Rattle.pk_nand.specs.BoardState.{BoardState}
 use Rattle.pk_parts.specs.Costs.{Spends, place_calls, reclaim_calls, put_calls, space_and_put_calls}
 use Rattle.pk_parts.proofs.Callings.{spends_then}

@@ -9,9 +9,9 @@ use Rattle.pk_base.specs.Shape.{Shape, data_blocks, most_pages}
 use Rattle.pk_nand.specs.declared.types.Fault.{Fault}
 use Rattle.pk_nand.specs.BoardState.{BoardState}
 use Rattle.pk_model.specs.Wear.{roots}
-use Rattle.pk_work.specs.Rest.{whole_reclaim}
-use Rattle.pk_work.specs.Calls.{commit_calls, room_calls, room_roots, space_calls}
-use Rattle.pk_steps.specs.Under.{places}
+use Rattle.pk_law_work.specs.Rest.{whole_reclaim}
+use Rattle.pk_law_work.specs.Calls.{commit_calls, room_calls, room_roots, space_calls}
+use Rattle.pk_law_steps.specs.Under.{places}
 use Rattle.pk_gc.specs.declared.course.Phase.{Phase}
 use Rattle.pk_gc.specs.declared.course.Phase.TheVariants.{Idle, Copies, Commits, GivesBack}
 use Rattle.pk_gc.specs.Standing.{held_blocks, ReclaimStands}

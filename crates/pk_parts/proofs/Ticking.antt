@@ -29,8 +29,8 @@ use Rattle.pk_pool.proofs.Leaving.{shared_freed, state_after}
 use Rattle.pk_schedule.proofs.Settled.{none_leaves_set}
 use Rattle.pk_run.specs.Kept.{Kept as KeptRun, empty}
 use Rattle.pk_jrn.specs.Epochs.{left_of as pages_left}
-use Rattle.pk_work.specs.Backlog.{Backlog, due_level, is_tight}
-use Rattle.pk_work.specs.Work.{work, merging as merging_left, merging_from}
+use Rattle.pk_law_work.specs.Backlog.{Backlog, due_level, is_tight}
+use Rattle.pk_law_work.specs.Work.{work, merging as merging_left, merging_from}
 use Rattle.pk_compact.specs.FreezeSteps.{taken_by}
 use Rattle.pk_model.specs.Found.{Found}
 use Rattle.pk_model.specs.Reading.{reading}
@@ -39,8 +39,8 @@ use Rattle.pk_schedule.specs.declared.phase.Phase.TheVariants.{Idle as NoMerge, 
 use Rattle.pk_schedule.specs.Index.{Index, MergeStands, merging, output}
 use Rattle.pk_schedule.specs.Steps.{merge_left, has_no_merge, is_between}
 use Rattle.pk_model.specs.Sight.{is_erased, has_open_room, IsIdle}
-use Rattle.pk_steps.specs.Under.{places}
-use Rattle.pk_steps.proofs.Untouched.{under_reads}
+use Rattle.pk_law_steps.specs.Under.{places}
+use Rattle.pk_law_steps.proofs.Untouched.{under_reads}
 use Rattle.pk_nand.proofs.Effects.{works_erase, stops_erase}
 use Rattle.pk_data.specs.State.{fits_open, has_left}
 use Rattle.pk_data.specs.Placed.{HoldsValues, ValuesOnFlash, IsOpenIn}

@@ -12,7 +12,7 @@ use Rattle.pk_nand.specs.Operations.{ReadFailed}
 use Rattle.pk_nand.specs.Counts.{counted_by, after_reads}
 use Rattle.pk_level.specs.Levels.{ReadsUpTo, ReadFailsWithin}
 use Rattle.pk_model.specs.Reading.{reading}
-use Rattle.pk_steps.proofs.Untouched.{under_reads}
+use Rattle.pk_law_steps.proofs.Untouched.{under_reads}
 use Rattle.pk_call.specs.Drive.{HoldsMap}
 use Rattle.pk_parts.specs.Parts.{Parts, sight_of, frames_of, settled_parts}
 use Rattle.pk_parts.specs.Agreeing.{DriveOnFlashWith, DriveOnFlash, IsWhole}

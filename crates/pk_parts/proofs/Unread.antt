@@ -14,8 +14,8 @@ use Rattle.pk_pool.specs.Blocks.{Blocks}
 use Rattle.pk_model.specs.Found.{Found, entries_in_order}
 use Rattle.pk_model.specs.Laws.{IsRead}
 use Rattle.pk_model.proofs.SamePages.{newest_root_same}
-use Rattle.pk_steps.specs.Under.{IsUnder, places}
-use Rattle.pk_steps.proofs.Untouched.{same as read_same}
+use Rattle.pk_law_steps.specs.Under.{IsUnder, places}
+use Rattle.pk_law_steps.proofs.Untouched.{same as read_same}
 use Rattle.pk_data.specs.State.{DataState}
 use Rattle.pk_data.specs.Placed.{ValuesOnFlash}
 use Rattle.pk_gc.specs.Standing.{ReclaimOnFlash}

@@ -9,8 +9,8 @@ use Rattle.pk_nand.specs.Effects.{NoFault, Stops}
 use Rattle.pk_nand.proofs.Effects.{works_then, stops_then, only_then}
 use Rattle.pk_model.specs.Wear.{roots}
 use Rattle.pk_root.specs.Installing.{repeats_next}
-use Rattle.pk_work.specs.Backlog.{due_level}
-use Rattle.pk_work.specs.Work.{merging_left, repeating}
+use Rattle.pk_law_work.specs.Backlog.{due_level}
+use Rattle.pk_law_work.specs.Work.{merging_left, repeating}
 use Rattle.pk_log.specs.State.{LogState}
 use Rattle.pk_schedule.specs.declared.phase.Stepped.{Stepped}
 use Rattle.pk_schedule.specs.declared.phase.Stepped.TheVariants.{Worked, Idle}

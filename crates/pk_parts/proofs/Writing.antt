@@ -29,8 +29,8 @@ use Rattle.pk_pool.proofs.Sharing.{count-set}
 use Rattle.pk_pool.proofs.Fitting.{block_of}
 use Rattle.pk_model.specs.Found.{Found}
 use Rattle.pk_model.specs.Laws.{AnyByRecursion}
-use Rattle.pk_steps.specs.Under.{IsNamed, IsValuePage, places}
-use Rattle.pk_steps.proofs.Untouched.{value_page_whole, not_erased, under_reads}
+use Rattle.pk_law_steps.specs.Under.{IsNamed, IsValuePage, places}
+use Rattle.pk_law_steps.proofs.Untouched.{value_page_whole, not_erased, under_reads}
 use Rattle.pk_model.specs.Growth.{Reaches, Goes}
 use Rattle.pk_model.specs.Crashes.{CrashFinds, commit}
 use Rattle.pk_model.specs.Wear.{number_of, root_number, roots}

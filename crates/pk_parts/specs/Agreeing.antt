@@ -5,7 +5,7 @@ use Rattle.pk_base.specs.Page.{Flash, IsFlash}
 use Rattle.pk_base.specs.Map.{Map}
 use Rattle.pk_rootfmt.specs.Root.{Root}
 use Rattle.pk_model.specs.Found.{Found}
-use Rattle.pk_steps.specs.Under.{IsUnder, IsValuePage, places}
+use Rattle.pk_law_steps.specs.Under.{IsUnder, IsValuePage, places}
 use Rattle.pk_data.specs.Placed.{HoldsValues, IsOutput, ValuesOnFlash}
 use Rattle.pk_gc.specs.declared.course.Phase.TheVariants.{Commits}
 use Rattle.pk_gc.specs.Standing.{ReclaimOnFlash}

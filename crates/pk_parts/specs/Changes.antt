@@ -12,7 +12,7 @@ use Rattle.pk_nand.specs.BoardState.{BoardState}
 use Rattle.pk_nand.specs.declared.types.Fault.{Fault}
 use Rattle.pk_nand.specs.Calls.{IsReady}
 use Rattle.pk_model.specs.Steps.{Step}
-use Rattle.pk_steps.specs.Under.{places}
+use Rattle.pk_law_steps.specs.Under.{places}
 use Rattle.pk_model.specs.Growth.{Reaches, Goes}
 use Rattle.pk_parts.specs.Parts.{Parts, frames_of}
 use Rattle.pk_model.specs.Crashes.{CrashFinds, change}

@@ -12,8 +12,8 @@ use Rattle.pk_model.specs.Steps.{Step}
 use Rattle.pk_root.specs.Installing.{repeats_next}
 use Rattle.pk_compact.specs.FreezeSteps.{freeze_left}
 use Rattle.pk_log.specs.State.{needs_freeze}
-use Rattle.pk_work.specs.Backlog.{due_level}
-use Rattle.pk_work.specs.Work.{merging_left}
+use Rattle.pk_law_work.specs.Backlog.{due_level}
+use Rattle.pk_law_work.specs.Work.{merging_left}
 use Rattle.pk_call.specs.Calling.{FewCalls}
 use Rattle.pk_schedule.specs.declared.phase.Stepped.{Stepped}
 use Rattle.pk_schedule.specs.declared.phase.Stepped.TheVariants.{Worked, Idle}

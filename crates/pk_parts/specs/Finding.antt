@@ -12,7 +12,7 @@ use Rattle.pk_base.specs.declared.entry.Entry.TheVariants.{Put, Gone}
 use Rattle.pk_segfmt.specs.Value.{value_at}
 use Rattle.pk_nand.specs.declared.types.Fault.{Fault}
 use Rattle.pk_model.specs.Found.{Found}
-use Rattle.pk_steps.specs.Under.{places}
+use Rattle.pk_law_steps.specs.Under.{places}
 
 -- the place that an entry names
 abbrev pub named_by : Option RustEntry → Option Place

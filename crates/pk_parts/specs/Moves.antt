@@ -14,7 +14,7 @@ use Rattle.pk_pool.specs.Blocks.{used_by}
 use Rattle.pk_model.specs.Found.{Found}
 use Rattle.pk_model.specs.Reading.{reading}
 use Rattle.pk_model.specs.Laws.{IsPageOf}
-use Rattle.pk_steps.specs.Under.{IsValuePage, places}
+use Rattle.pk_law_steps.specs.Under.{IsValuePage, places}
 use Rattle.pk_model.specs.Growth.{Reaches, Goes}
 use Rattle.pk_model.specs.Crashes.{CrashFinds, commit}
 use Rattle.pk_model.specs.Steps.{Step}

@@ -11,7 +11,7 @@ use Rattle.pk_base.specs.EntryChecks.{IsPlace}
 use Rattle.pk_base.specs.Map.{Map, live}
 use Rattle.pk_rootfmt.specs.Root.{Root}
 use Rattle.pk_model.specs.Found.{Found}
-use Rattle.pk_steps.specs.Under.{places}
+use Rattle.pk_law_steps.specs.Under.{places}
 use Rattle.pk_nand.specs.BoardState.{BoardState}
 use Rattle.pk_nand.specs.declared.types.Fault.{Fault}
 use Rattle.pk_model.specs.Steps.{Step}

@@ -10,9 +10,9 @@ use Rattle.pk_log.specs.State.{LogState}
 use Rattle.pk_data.specs.State.{DataState, fits_open}
 use Rattle.pk_live.specs.declared.open_block.OpenBlock.{OpenBlock}
 use Rattle.pk_jrn.specs.Epochs.{left_of as pages_left}
-use Rattle.pk_work.specs.Backlog.{Backlog, is_tight}
-use Rattle.pk_work.specs.Rest.{whole_reclaim}
-use Rattle.pk_work.specs.Work.{work}
+use Rattle.pk_law_work.specs.Backlog.{Backlog, is_tight}
+use Rattle.pk_law_work.specs.Rest.{whole_reclaim}
+use Rattle.pk_law_work.specs.Work.{work}
 use Rattle.pk_compact.specs.FreezeSteps.{taken_by}
 use Rattle.pk_schedule.specs.Index.{Index, Schedule, index, merging, output}
 use Rattle.pk_schedule.specs.Steps.{backlog_of as backlog_of_index}

@@ -9,7 +9,7 @@ use Rattle.pk_nand.specs.BoardState.{BoardState}
 use Rattle.pk_nand.specs.Calls.{Rose, last_count}
 use Rattle.pk_level.specs.Levels.{RunsOnFlash}
 use Rattle.pk_model.specs.Found.{Found}
-use Rattle.pk_steps.specs.Under.{IsUnder}
+use Rattle.pk_law_steps.specs.Under.{IsUnder}
 use Rattle.pk_log.specs.Logs.{LogOnFlash}
 use Rattle.pk_parts.specs.Parts.{Parts}
 use Rattle.pk_parts.specs.Finding.{IsPlaceIn}

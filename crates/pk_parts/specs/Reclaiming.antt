@@ -10,7 +10,7 @@ use Rattle.pk_nand.specs.declared.types.Fault.TheVariants.{Reading, Stopped}
 use Rattle.pk_nand.specs.BoardState.{BoardState}
 use Rattle.pk_nand.specs.Calls.{Rose}
 use Rattle.pk_nand.specs.Effects.{OnlyReading, Stops}
-use Rattle.pk_work.specs.Backlog.{is_tight}
+use Rattle.pk_law_work.specs.Backlog.{is_tight}
 use Rattle.pk_model.specs.Growth.{Reaches, Goes}
 use Rattle.pk_model.specs.Crashes.{CrashFinds, background}
 use Rattle.pk_gc.specs.declared.course.Course.{Course}

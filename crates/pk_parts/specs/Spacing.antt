@@ -5,8 +5,8 @@ use Rattle.pk_base.specs.Map.{Map}
 use Rattle.pk_nand.specs.declared.types.Fault.{Fault}
 use Rattle.pk_nand.specs.BoardState.{BoardState}
 use Rattle.pk_nand.specs.Calls.{last_count}
-use Rattle.pk_work.specs.Rest.{whole_reclaim}
-use Rattle.pk_work.specs.Calls.{room_calls, room_roots}
+use Rattle.pk_law_work.specs.Rest.{whole_reclaim}
+use Rattle.pk_law_work.specs.Calls.{room_calls, room_roots}
 use Rattle.pk_model.specs.Wear.{roots}
 use Rattle.pk_model.specs.Reading.{reading}
 use Rattle.pk_model.specs.Growth.{Reaches}

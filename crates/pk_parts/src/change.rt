@@ -3,7 +3,7 @@ ghost use Rattle.std.specs.Prelude.{◌≡◌, ◌+◌, false, OnOk};
 ghost use Rattle.pk_parts.specs.Parts.{pages_for, sight_of};
 ghost use Rattle.pk_parts.specs.Costs.{NumbersLast, Spends, place_calls, put_calls};
 ghost use Rattle.pk_log.specs.State.{needs_freeze as needs_freeze_for};
-ghost use Rattle.pk_work.specs.Calls.{commit_calls, room_calls, room_roots};
+ghost use Rattle.pk_law_work.specs.Calls.{commit_calls, room_calls, room_roots};
 ghost use Rattle.pk_call.specs.Calling.{FewCalls};
 ghost use Rattle.pk_parts.specs.Changes.{CanPut, CanTake, StepPuts, StepTakes, PutsOrReads, TakesOrReads, StaysBetween};
 ghost use Rattle.pk_parts.specs.Emptying.{OnRunning};

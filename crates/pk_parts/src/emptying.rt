@@ -3,9 +3,9 @@ ghost use Rattle.std.specs.Prelude.{◌≡◌, ◌+◌, [], true, OnOk, OnErr, I
 ghost use Rattle.pk_parts.specs.Merging.{DoesMerge, FailsMerge, FreezesOn};
 ghost use Rattle.pk_parts.specs.Reclaiming.{FailsAll};
 ghost use Rattle.pk_parts.specs.Costs.{NumbersLast, Spends};
-ghost use Rattle.pk_work.specs.Rest.{whole_freeze};
-ghost use Rattle.pk_work.specs.Work.{emptying};
-ghost use Rattle.pk_work.specs.Calls.{room_calls, room_roots};
+ghost use Rattle.pk_law_work.specs.Rest.{whole_freeze};
+ghost use Rattle.pk_law_work.specs.Work.{emptying};
+ghost use Rattle.pk_law_work.specs.Calls.{room_calls, room_roots};
 ghost use Rattle.pk_schedule.specs.Steps.{has_no_merge};
 ghost use Rattle.pk_parts.specs.Parts.{index_of};
 ghost use Rattle.pk_parts.specs.Moves.{MayStep, StepKeeps, LeavesValues};

@@ -4,7 +4,7 @@ ghost use Rattle.std.specs.Prelude.{◌≡◌, ◌≤◌, ◌<◌, length, false
 ghost use Rattle.pk_parts.specs.Costs.{NumbersLast, Spends};
 ghost use Rattle.pk_base.specs.Shape.{commit_programs, page_entries};
 ghost use Rattle.pk_log.specs.State.{needs_freeze as needs_freeze_for};
-ghost use Rattle.pk_work.specs.Calls.{commit_calls, room_calls, room_roots};
+ghost use Rattle.pk_law_work.specs.Calls.{commit_calls, room_calls, room_roots};
 ghost use Rattle.pk_call.specs.Calling.{FewCalls};
 ghost use Rattle.pk_parts.specs.Moves.{MayStep, StepKeeps, OnlyCommits, LeavesValues};
 ghost use Rattle.pk_parts.specs.Emptying.{KeepsOrReads, OnRunning};

@@ -2,7 +2,7 @@
 ghost use Rattle.std.specs.Prelude.{◌≡◌, ◌≤◌, ◌||◌, [], false, OnOk};
 ghost use Rattle.pk_parts.specs.Costs.{NumbersLast, Spends, reclaim_calls};
 ghost use Rattle.pk_base.specs.Shape as spec;
-ghost use Rattle.pk_work.specs.Calls.{space_calls, room_roots};
+ghost use Rattle.pk_law_work.specs.Calls.{space_calls, room_roots};
 ghost use Rattle.pk_gc.specs.Stepping.{runs_in};
 ghost use Rattle.pk_parts.specs.Moves.{MayStep};
 ghost use Rattle.pk_parts.specs.Emptying.{OnRunning};

@@ -24,10 +24,10 @@ use Rattle.pk_model.specs.Laws.{AnyByRecursion}
 use Rattle.pk_model.specs.Values.{placed as placed_of}
 use Rattle.pk_model.specs.Growth.{Goes}
 use Rattle.pk_model.specs.Crashes.{CrashFinds, background}
-use Rattle.pk_steps.specs.Under.{IsUnder, places}
-use Rattle.pk_moves.specs.Moves.{moved, CanMove}
-use Rattle.pk_moves.specs.Victims.{exchanged}
-use Rattle.pk_moves.proofs.Moving.{places_move}
+use Rattle.pk_law_steps.specs.Under.{IsUnder, places}
+use Rattle.pk_law_moves.specs.Moves.{moved, CanMove}
+use Rattle.pk_law_moves.specs.Victims.{exchanged}
+use Rattle.pk_law_moves.proofs.Moving.{places_move}
 use Rattle.pk_gc.specs.declared.course.Course.{Course}
 use Rattle.pk_gc.specs.declared.course.Phase.TheVariants.{Copies, Commits}
 use Rattle.pk_gc.specs.declared.moves.Move.{Move}

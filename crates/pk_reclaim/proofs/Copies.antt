@@ -13,7 +13,7 @@ use Rattle.pk_rootfmt.specs.Root.{Root}
 use Rattle.pk_pool.specs.Blocks.{Blocks}
 use Rattle.pk_pool.proofs.Fitting.{block_of}
 use Rattle.pk_model.specs.Found.{Found}
-use Rattle.pk_steps.specs.Under.{places}
+use Rattle.pk_law_steps.specs.Under.{places}
 use Rattle.pk_gc.specs.declared.course.Course.{Course}
 use Rattle.pk_gc.specs.declared.course.Phase.TheVariants.{Copies}
 use Rattle.pk_gc.specs.declared.moves.Move.{Move}

@@ -9,7 +9,7 @@ use Rattle.pk_pool.specs.declared.state.BlockState.TheVariants.{Free, Owned}
 use Rattle.pk_pool.specs.Blocks.{Blocks, PoolOnFlash, used_by, with_state}
 use Rattle.pk_jrn.specs.Epochs.{next_page}
 use Rattle.pk_jrn.specs.Appends.{next_bytes}
-use Rattle.pk_moves.specs.Moves.{moved, entries_of}
+use Rattle.pk_law_moves.specs.Moves.{moved, entries_of}
 use Rattle.pk_gc.specs.declared.course.Course.{Course}
 use Rattle.pk_gc.specs.declared.moves.Move.{Move}
 use Rattle.pk_gc.specs.State.{placed_at, left_of, heads_all}

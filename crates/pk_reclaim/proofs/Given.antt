@@ -13,8 +13,8 @@ use Rattle.pk_buf.specs.Table.{Table}
 use Rattle.pk_jrn.specs.Epochs.{JournalEpoch}
 use Rattle.pk_pool.specs.Blocks.{Blocks, used_by}
 use Rattle.pk_model.specs.Found.{Found}
-use Rattle.pk_steps.specs.Under.{places}
-use Rattle.pk_moves.proofs.Emptying.{leaves_room}
+use Rattle.pk_law_steps.specs.Under.{places}
+use Rattle.pk_law_moves.proofs.Emptying.{leaves_room}
 use Rattle.pk_gc.specs.declared.course.Course.{Course}
 use Rattle.pk_gc.specs.declared.course.Phase.TheVariants.{Idle, Copies, GivesBack}
 use Rattle.pk_gc.specs.declared.moves.Move.{Move}

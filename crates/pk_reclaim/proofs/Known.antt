@@ -21,15 +21,15 @@ use Rattle.pk_model.proofs.HeldMap.{nothing_fits}
 use Rattle.pk_model.proofs.Lookups.{same_key}
 use Rattle.pk_model.proofs.Merges.{placed_sorted}
 use Rattle.pk_model.proofs.ValueSets.{values_sound, fits_parts}
-use Rattle.pk_steps.specs.Under.{IsUnder, counting, places}
-use Rattle.pk_steps.proofs.Untouched.{values_under}
-use Rattle.pk_steps.proofs.Counting.{counts}
+use Rattle.pk_law_steps.specs.Under.{IsUnder, counting, places}
+use Rattle.pk_law_steps.proofs.Untouched.{values_under}
+use Rattle.pk_law_steps.proofs.Counting.{counts}
 use Rattle.pk_live.specs.Lives.{head_of}
 use Rattle.pk_live.proofs.Standing.{heads_read}
 use Rattle.pk_data.specs.State.{DataState}
 use Rattle.pk_data.specs.Placed.{ValuesOnFlash, AreApart as ApartInData}
 use Rattle.pk_data.proofs.Standing.{total_of}
-use Rattle.pk_moves.specs.Moves.{AreApart}
+use Rattle.pk_law_moves.specs.Moves.{AreApart}
 use Rattle.pk_base.proofs.KeyLemmas.{firsts_sorted}
 
 -- ---- keys

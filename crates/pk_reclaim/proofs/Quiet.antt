@@ -21,9 +21,9 @@ use Rattle.pk_model.specs.Laws.{AnyByRecursion}
 use Rattle.pk_model.specs.Growth.{Grows, Reaches, Goes}
 use Rattle.pk_model.specs.Crashes.{CrashFinds, background}
 use Rattle.pk_model.proofs.Running.{Reaches-none, Reaches-erase, Goes-erase, Reaches-program, Goes-program}
-use Rattle.pk_steps.specs.Under.{IsUnder, IsValuePage, places}
-use Rattle.pk_steps.proofs.Places.{in_append}
-use Rattle.pk_steps.proofs.Untouched.{under_reads, erases}
+use Rattle.pk_law_steps.specs.Under.{IsUnder, IsValuePage, places}
+use Rattle.pk_law_steps.proofs.Places.{in_append}
+use Rattle.pk_law_steps.proofs.Untouched.{under_reads, erases}
 use Rattle.pk_log.specs.State.{LogState}
 use Rattle.pk_log.specs.Logs.{LogOnFlash}
 use Rattle.pk_log.specs.Laws.{SameNamed}

@@ -13,7 +13,7 @@ use Rattle.pk_buf.specs.Table.{Table}
 use Rattle.pk_pool.specs.Blocks.{Blocks, used_by}
 use Rattle.pk_rootfmt.specs.Root.{Root}
 use Rattle.pk_model.specs.Found.{Found}
-use Rattle.pk_steps.specs.Under.{places}
+use Rattle.pk_law_steps.specs.Under.{places}
 use Rattle.pk_live.specs.Lives.{head_of}
 use Rattle.pk_gc.specs.declared.course.Course.{Course}
 use Rattle.pk_gc.specs.declared.course.Phase.{Phase}

@@ -16,8 +16,8 @@ use Rattle.pk_pool.proofs.Sharing.{used_given}
 use Rattle.pk_pool.proofs.Fitting.{PoolOnFlash-marked}
 use Rattle.pk_live.specs.Values.{IsClosed, count_of, block_sum}
 use Rattle.pk_model.specs.Values.{all_pages}
-use Rattle.pk_steps.specs.Under.{IsValuePage}
-use Rattle.pk_steps.proofs.Places.{value_in}
+use Rattle.pk_law_steps.specs.Under.{IsValuePage}
+use Rattle.pk_law_steps.proofs.Places.{value_in}
 use Rattle.pk_live.specs.Lives.{is_used}
 use Rattle.pk_live.proofs.Standing.{block_is}
 use Rattle.pk_live.specs.declared.open_block.OpenBlock.{OpenBlock}

@@ -17,13 +17,13 @@ use Rattle.pk_pool.proofs.States.{get-set_other, get-set_same, set_is}
 use Rattle.pk_pool.proofs.Fitting.{block_of}
 use Rattle.pk_model.proofs.MapLemmas.{key_total}
 use Rattle.pk_model.proofs.Lookups.{same_key}
-use Rattle.pk_steps.specs.Under.{IsValuePage}
+use Rattle.pk_law_steps.specs.Under.{IsValuePage}
 use Rattle.pk_live.specs.Values.{Values, IsClosed}
 use Rattle.pk_live.specs.Lives.{head_of}
-use Rattle.pk_moves.specs.Moves.{moved, AreApart as MovesApart}
-use Rattle.pk_moves.specs.Victims.{AreMoved}
-use Rattle.pk_moves.proofs.Moved.{page_moved}
-use Rattle.pk_moves.proofs.Emptying.{none_left}
+use Rattle.pk_law_moves.specs.Moves.{moved, AreApart as MovesApart}
+use Rattle.pk_law_moves.specs.Victims.{AreMoved}
+use Rattle.pk_law_moves.proofs.Moved.{page_moved}
+use Rattle.pk_law_moves.proofs.Emptying.{none_left}
 use Rattle.pk_gc.specs.declared.course.Course.{Course}
 use Rattle.pk_gc.specs.declared.moves.Move.{Move}
 use Rattle.pk_gc.specs.State.{JobState, new_place, placed_at, is_left, left_of, heads_behind, heads_all, target}

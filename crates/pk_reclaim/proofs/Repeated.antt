@@ -21,7 +21,7 @@ use Rattle.pk_model.specs.Found.{Found}
 use Rattle.pk_model.specs.Laws.{AnyByRecursion}
 use Rattle.pk_model.specs.Growth.{Goes}
 use Rattle.pk_model.specs.Crashes.{CrashFinds, background}
-use Rattle.pk_steps.specs.Under.{IsUnder, places}
+use Rattle.pk_law_steps.specs.Under.{IsUnder, places}
 use Rattle.pk_gc.specs.declared.course.Phase.{Phase}
 use Rattle.pk_gc.specs.declared.course.Phase.TheVariants.{Idle, Copies, Commits, GivesBack}
 use Rattle.pk_gc.specs.declared.moves.Move.{Move}

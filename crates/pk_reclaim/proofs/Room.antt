@@ -4,10 +4,10 @@ use Rattle.std.specs.Prelude.{nat_le, nat_lt, not, ◌&&◌, ◌||◌, ◌==◌}
 use Rattle.std.proofs.lemmas.Bool.{lt-leb, lt-ltb, le-ltb, ne_eqb, cases_lt}
 use Rattle.std.proofs.lemmas.List.Sums.{count_by-le-length}
 use Rattle.pk_base.specs.Shape.{Shape, buffer, dense, epoch_commits}
-use Rattle.pk_work.specs.Backlog.{is_tight}
+use Rattle.pk_law_work.specs.Backlog.{is_tight}
 use Rattle.pk_buf.specs.Table.{Table}
 use Rattle.pk_jrn.specs.Epochs.{JournalEpoch, left_of}
-use Rattle.pk_moves.specs.Moves.{entries_of}
+use Rattle.pk_law_moves.specs.Moves.{entries_of}
 use Rattle.pk_gc.specs.declared.moves.Move.{Move}
 use Rattle.pk_gc.specs.State.{is_left, is_new, placed_at, left_of as moves_left}
 use Rattle.pk_gc.specs.Committing.{HasRoom as MovesHaveRoom, entries_left, new_keys}

@@ -4,7 +4,7 @@ use Rattle.std.specs.Prelude.{unwrap_or}
 use Rattle.pk_base.specs.Shape.{Shape, dense}
 use Rattle.pk_base.specs.Map.{Map}
 use Rattle.pk_base.specs.Entry.{Entry}
-use Rattle.pk_work.specs.Rest.{Lowers}
+use Rattle.pk_law_work.specs.Rest.{Lowers}
 use Rattle.pk_buf.specs.Table.{Table}
 use Rattle.pk_nand.specs.BoardState.{BoardState}
 use Rattle.pk_nand.specs.Calls.{IsReady}

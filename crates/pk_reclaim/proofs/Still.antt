@@ -7,7 +7,7 @@ use Rattle.pk_nand.proofs.Reaching.{Reached-start}
 use Rattle.pk_rootfmt.specs.Root.{Root}
 use Rattle.pk_model.specs.Found.{Found}
 use Rattle.pk_model.specs.Crashes.{CrashFinds, background}
-use Rattle.pk_steps.proofs.Untouched.{under_reads}
+use Rattle.pk_law_steps.proofs.Untouched.{under_reads}
 use Rattle.pk_reclaim.specs.Space.{Space, SpaceOnFlash}
 use Rattle.pk_gc.specs.declared.course.Phase.{Phase}
 use Rattle.pk_gc.specs.declared.course.Phase.TheVariants.{Idle, Copies, Commits, GivesBack}

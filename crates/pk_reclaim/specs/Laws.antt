@@ -1,7 +1,7 @@
 -- What others do between the steps of a reclaim: the statements.
 use Rattle.std.specs.Prelude.{◌≡◌, [], length, true, false}
 use Rattle.pk_base.specs.Shape.{Shape, IsShape}
-use Rattle.pk_work.specs.Backlog.{is_tight}
+use Rattle.pk_law_work.specs.Backlog.{is_tight}
 use Rattle.pk_buf.specs.Table.{Table}
 use Rattle.pk_jrn.specs.Epochs.{JournalEpoch, left_of}
 

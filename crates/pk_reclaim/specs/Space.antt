@@ -6,7 +6,7 @@ use Rattle.pk_base.specs.Page.{Flash}
 use Rattle.pk_base.specs.Key.{Key}
 use Rattle.pk_base.specs.Entry.{Place}
 use Rattle.pk_base.specs.Map.{Map}
-use Rattle.pk_work.specs.Rest.{whole_reclaim, left_of, Lowers}
+use Rattle.pk_law_work.specs.Rest.{whole_reclaim, left_of, Lowers}
 use Rattle.pk_plan.specs.declared.owner.Owner.TheVariants.{Journal, Meta, Values}
 use Rattle.pk_pool.specs.declared.state.BlockState.TheVariants.{Owned}
 use Rattle.pk_pool.specs.Blocks.{Blocks, NoneLeaves, used_by}
@@ -14,9 +14,9 @@ use Rattle.pk_pool.specs.Unready.{unready}
 use Rattle.pk_rootfmt.specs.Root.{Root}
 use Rattle.pk_model.specs.Found.{Found}
 use Rattle.pk_model.specs.Laws.{AnyByRecursion}
-use Rattle.pk_steps.specs.Under.{IsUnder, places}
-use Rattle.pk_steps.specs.Roots.{committed}
-use Rattle.pk_moves.specs.Moves.{entries_of}
+use Rattle.pk_law_steps.specs.Under.{IsUnder, places}
+use Rattle.pk_law_steps.specs.Roots.{committed}
+use Rattle.pk_law_moves.specs.Moves.{entries_of}
 use Rattle.pk_gc.specs.declared.course.Phase.{Phase}
 use Rattle.pk_gc.specs.declared.course.Phase.TheVariants.{Idle, Copies, Commits, GivesBack}
 use Rattle.pk_gc.specs.Cuts.{IsHalfMoved}

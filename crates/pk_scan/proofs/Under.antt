@@ -18,7 +18,7 @@ use Rattle.pk_model.specs.Values.{placed, values_of}
 use Rattle.pk_model.specs.Reading.{reading, reading_of, map_under}
 use Rattle.pk_model.proofs.Lookups.{find-firsts, flat}
 use Rattle.pk_model.proofs.Merges.{first_some, first_some_assoc, find-append_lists, same_placed}
-use Rattle.pk_steps.specs.Under.{IsUnder, places}
+use Rattle.pk_law_steps.specs.Under.{IsUnder, places}
 use Rattle.pk_scan.proofs.RunsHeld.{le_true}
 
 -- ---- the entries that count

@@ -29,7 +29,7 @@ use Rattle.pk_scan.specs.declared.errors.PageError.{PageError}
 use Rattle.pk_scan.specs.declared.errors.PageError.TheVariants.{Damaged, Fault}
 use Rattle.pk_nand.specs.BoardState.{BoardState}
 use Rattle.pk_base.proofs.Logic.{of_true}
-use Rattle.pk_steps.proofs.Outputs.{values_most}
+use Rattle.pk_law_steps.proofs.Outputs.{values_most}
 
 -- a value of n bytes begins at this page
 abbrev pub place : ℕ → ℕ → Place

@@ -35,7 +35,7 @@ use Rattle.pk_model.specs.Reading.{reading}
 use Rattle.pk_model.specs.Values.{placed, fits, values_of, all_pages, blocks_with}
 use Rattle.pk_model.proofs.Entries.{counting_all, journal_are, meta_are}
 use Rattle.pk_model.proofs.StrangePages.{bind_ok}
-use Rattle.pk_steps.specs.Under.{IsValuePage, places}
+use Rattle.pk_law_steps.specs.Under.{IsValuePage, places}
 use Rattle.pk_scan.specs.Starting.{IsAtStart}
 use Rattle.pk_scan.specs.Opening.{OnlyReads, NotOpened}
 use Rattle.pk_scan.specs.OpeningParts.{PartNotOpened, HoldsFound, ReadsValues, wanted_behind}

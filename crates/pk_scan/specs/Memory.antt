@@ -13,7 +13,7 @@ use Rattle.pk_pin.specs.Frames.{free_frames}
 use Rattle.pk_pool.specs.Blocks.{PoolOnFlash, unused}
 use Rattle.pk_rootfmt.specs.Newest.{newest_root}
 use Rattle.pk_rootfmt.specs.Root.{is_root, named}
-use Rattle.pk_steps.specs.Under.{places}
+use Rattle.pk_law_steps.specs.Under.{places}
 use Rattle.pk_walk.specs.Walking.{most_read}
 use Rattle.pk_scan.specs.Starting.{IsAtStart}
 use Rattle.pk_scan.specs.OpeningParts.{HoldsFound, ReadsValues, wanted_behind}

@@ -12,7 +12,7 @@ use Rattle.pk_level.specs.Levels.{RunsOnFlash}
 use Rattle.pk_level.specs.Arenas.{HasArena}
 use Rattle.pk_model.specs.Found.{Found as FoundLists}
 use Rattle.pk_model.specs.Values.{all_pages, blocks_with}
-use Rattle.pk_steps.specs.Under.{IsUnder, IsValuePage, places}
+use Rattle.pk_law_steps.specs.Under.{IsUnder, IsValuePage, places}
 pub use Rattle.pk_scan.specs.OpeningParts.{HaveBlocks}
 use Rattle.pk_scan.specs.OpeningParts.{IsFoundEpoch}
 use Rattle.pk_live.specs.Lives.{Lives}

@@ -9,7 +9,7 @@ use Rattle.pk_rootfmt.specs.Root.{Root}
 use Rattle.pk_rootfmt.specs.Newest.{newest_root}
 use Rattle.pk_model.specs.Found.{Found, found_under}
 use Rattle.pk_jrn.specs.EpochReads.{epoch_reads}
-use Rattle.pk_steps.specs.Under.{places}
+use Rattle.pk_law_steps.specs.Under.{places}
 
 -- The runs from this level on are read once for the first keys of their pages, and if they have no frames once more for their
 -- entries.

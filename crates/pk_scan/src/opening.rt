@@ -7,7 +7,7 @@ ghost use Rattle.pk_model.specs.Values.{values_of};
 ghost use Rattle.pk_nand.specs.Calls.{IsReady};
 ghost use Rattle.pk_nand.specs.Counts.{after_reads};
 ghost use Rattle.pk_rootfmt.specs.Root.{named};
-ghost use Rattle.pk_steps.specs.Under.{places};
+ghost use Rattle.pk_law_steps.specs.Under.{places};
 ghost use Rattle.pk_scan.specs.Adopts.{RootOwned};
 ghost use Rattle.pk_scan.specs.Opened.{FoundOnFlash};
 ghost use Rattle.pk_nand.specs.Effects.{OnlyReading};

@@ -10,9 +10,9 @@ use Rattle.pk_base.specs.Entry.{Entry}
 use Rattle.pk_base.specs.Firsts.{firsts}
 use Rattle.pk_base.specs.Merge.{room, next_merge}
 use Rattle.pk_base.specs.Refusal.{ensure}
-use Rattle.pk_work.specs.Rest.{whole_merge, whole_freeze}
-use Rattle.pk_work.specs.Backlog.{IsBacklog, due_level}
-use Rattle.pk_work.proofs.Paging.{few_pages}
+use Rattle.pk_law_work.specs.Rest.{whole_merge, whole_freeze}
+use Rattle.pk_law_work.specs.Backlog.{IsBacklog, due_level}
+use Rattle.pk_law_work.proofs.Paging.{few_pages}
 use Rattle.pk_buf.specs.Table.{Table}
 use Rattle.pk_jrn.proofs.Puts.{firsts-reverse}
 use Rattle.pk_rootfmt.specs.Root.{Root, is_root}
@@ -24,9 +24,9 @@ use Rattle.pk_run.specs.Kept.{Kept, empty, most_pages, most_blocks}
 use Rattle.pk_level.specs.Levels.{RunsOnFlash, HaveBlocks, run_of}
 use Rattle.pk_model.specs.Found.{Found}
 use Rattle.pk_model.proofs.StrangePages.{bind_ok}
-use Rattle.pk_steps.proofs.NewestBlocks.{valid_root}
-use Rattle.pk_steps.proofs.FourRuns.{Runs, Pieces, IsLevel, four_of_root, four_runs, pieces_of, next_is_level}
-use Rattle.pk_steps.proofs.Amounts.{run_most, epoch_most, WithinCaps, within_caps, counted_of}
+use Rattle.pk_law_steps.proofs.NewestBlocks.{valid_root}
+use Rattle.pk_law_steps.proofs.FourRuns.{Runs, Pieces, IsLevel, four_of_root, four_runs, pieces_of, next_is_level}
+use Rattle.pk_law_steps.proofs.Amounts.{run_most, epoch_most, WithinCaps, within_caps, counted_of}
 use Rattle.pk_merge.specs.Sources.{pages_in}
 use Rattle.pk_merge.specs.Remaining.{steps_left}
 use Rattle.pk_merge.proofs.Counting.{within}

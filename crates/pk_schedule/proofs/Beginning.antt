@@ -19,10 +19,10 @@ use Rattle.pk_plan.specs.declared.owner.Owner.TheVariants.{Meta}
 use Rattle.pk_plan.specs.Quotas.{quota_of}
 use Rattle.pk_rootfmt.specs.Root.{Root, is_root}
 use Rattle.pk_pool.specs.Blocks.{Blocks, used_by}
-use Rattle.pk_work.specs.Rest.{left_of, whole_merge}
-use Rattle.pk_work.specs.Steps.{MovesMerge}
-use Rattle.pk_work.proofs.Paging.{few_pages}
-use Rattle.pk_work.proofs.Lowering.{moves as merge_moves}
+use Rattle.pk_law_work.specs.Rest.{left_of, whole_merge}
+use Rattle.pk_law_work.specs.Steps.{MovesMerge}
+use Rattle.pk_law_work.proofs.Paging.{few_pages}
+use Rattle.pk_law_work.proofs.Lowering.{moves as merge_moves}
 use Rattle.pk_run.specs.Kept.{Kept, RunOnFlash, IsKept, empty, most_pages, most_blocks}
 use Rattle.pk_level.specs.Levels.{IsLevels, run_of}
 use Rattle.pk_level.specs.Arenas.{HasArena}
@@ -32,10 +32,10 @@ use Rattle.pk_model.specs.Tree.{run_at}
 use Rattle.pk_model.proofs.Running.{Reaches-none}
 use Rattle.pk_model.proofs.Commits.{root_valid}
 use Rattle.pk_model.proofs.Roots.{newest_sound}
-use Rattle.pk_steps.proofs.Untouched.{under_reads}
-use Rattle.pk_steps.proofs.FourRuns.{IsLevel, next_is_level}
-use Rattle.pk_steps.proofs.Outputs.{output_fits}
-use Rattle.pk_steps.proofs.Amounts.{quota_fits}
+use Rattle.pk_law_steps.proofs.Untouched.{under_reads}
+use Rattle.pk_law_steps.proofs.FourRuns.{IsLevel, next_is_level}
+use Rattle.pk_law_steps.proofs.Outputs.{output_fits}
+use Rattle.pk_law_steps.proofs.Amounts.{quota_fits}
 use Rattle.pk_merge.specs.declared.source.Source.{Source}
 use Rattle.pk_merge.specs.declared.source.Source.TheVariants.{Frozen, Run}
 use Rattle.pk_merge.specs.Sources.{count_of, pages_in, blocks_in, Has, IsOf}

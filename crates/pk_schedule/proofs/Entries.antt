@@ -27,8 +27,8 @@ use Rattle.pk_model.proofs.Lookups.{find-firsts}
 use Rattle.pk_model.proofs.Merges.{first_some, find-append_lists}
 use Rattle.pk_model.proofs.Entries.{epoch_all, runs_all, all_put, all_append, journal_are, meta_are}
 use Rattle.pk_model.proofs.StrangePages.{bind_ok}
-use Rattle.pk_steps.specs.Merging.{output_of as whole_output}
-use Rattle.pk_steps.proofs.FourRuns.{pieces_of}
+use Rattle.pk_law_steps.specs.Merging.{output_of as whole_output}
+use Rattle.pk_law_steps.proofs.FourRuns.{pieces_of}
 use Rattle.pk_merge.specs.Running.{merged}
 use Rattle.pk_schedule.specs.Index.{Index, entries_at}
 use Rattle.pk_base.proofs.KeyLemmas.{firsts_sorted}

@@ -6,8 +6,8 @@ use Rattle.pk_base.specs.Shape.{Shape}
 use Rattle.pk_base.specs.Page.{Flash, page_at, SameBehind}
 use Rattle.pk_base.specs.Map.{Map}
 use Rattle.pk_base.proofs.ShapeLemmas.{block_pages_positive}
-use Rattle.pk_work.specs.Steps.{EndsPair}
-use Rattle.pk_work.proofs.Lowering.{pair_ends}
+use Rattle.pk_law_work.specs.Steps.{EndsPair}
+use Rattle.pk_law_work.proofs.Lowering.{pair_ends}
 use Rattle.pk_plan.specs.declared.owner.Owner.{Owner}
 use Rattle.pk_plan.specs.declared.owner.Owner.TheVariants.{Meta, Values}
 use Rattle.pk_nand.specs.BoardState.{BoardState}

@@ -26,13 +26,13 @@ use Rattle.pk_model.proofs.SamePages.{any_front}
 use Rattle.pk_pool.specs.declared.state.BlockState.TheVariants.{Free, Owned}
 use Rattle.pk_pool.specs.Blocks.{Blocks, IsShared, used_by, NoneLeaves, given_back, freed}
 use Rattle.pk_merge.specs.Jobs.{IsIdle}
-use Rattle.pk_steps.specs.Under.{IsUnder}
-use Rattle.pk_steps.specs.Next.{tree_of}
-use Rattle.pk_steps.specs.Roots.{frozen, frozen_root}
-use Rattle.pk_steps.specs.Under.{places}
-use Rattle.pk_steps.proofs.NewestBlocks.{valid_root}
-use Rattle.pk_steps.proofs.Places.{In}
-use Rattle.pk_steps.proofs.UnderRoot.{none_named}
+use Rattle.pk_law_steps.specs.Under.{IsUnder}
+use Rattle.pk_law_steps.specs.Next.{tree_of}
+use Rattle.pk_law_steps.specs.Roots.{frozen, frozen_root}
+use Rattle.pk_law_steps.specs.Under.{places}
+use Rattle.pk_law_steps.proofs.NewestBlocks.{valid_root}
+use Rattle.pk_law_steps.proofs.Places.{In}
+use Rattle.pk_law_steps.proofs.UnderRoot.{none_named}
 use Rattle.pk_compact.specs.Freezing.{IsApart}
 use Rattle.pk_compact.specs.FreezeSteps.{IsTaken, TakesOne, taken_by}
 use Rattle.pk_compact.specs.declared.freezing.FreezeJob.{FreezeJob}

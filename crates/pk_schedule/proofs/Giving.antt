@@ -15,7 +15,7 @@ use Rattle.pk_pool.proofs.Counting.{given_back as one_given}
 use Rattle.pk_pool.proofs.Leaving.{used_left}
 use Rattle.pk_pool.proofs.Sharing.{count-set, used_given, used_adopted}
 use Rattle.pk_pool.proofs.States.{get-set_other, set_is, owned_is_not_free, owned_is_not_ready}
-use Rattle.pk_steps.proofs.Places.{In}
+use Rattle.pk_law_steps.proofs.Places.{In}
 
 pub in_or_not : (b : ℕ) (xs : List ℕ) → In b xs ⊎ (In b xs → ⊥)
 in_or_not b [] = inr (λ is. is)

@@ -24,7 +24,7 @@ use Rattle.pk_run.specs.Kept.{Kept}
 use Rattle.pk_level.specs.Levels.{RunsOnFlash, HaveBlocks}
 use Rattle.pk_model.proofs.Growing.{at_end}
 use Rattle.pk_model.proofs.SamePages.{any_front, any_back}
-use Rattle.pk_steps.proofs.Places.{In, in_append, not_of}
+use Rattle.pk_law_steps.proofs.Places.{In, in_append, not_of}
 use Rattle.pk_merge.specs.declared.source.Source.{Source}
 use Rattle.pk_merge.specs.declared.next.Next.{Next}
 use Rattle.pk_merge.specs.declared.next.Next.TheVariants.{LoadSource, LoadTarget, Gather, TakeBlock, Program, End}
@@ -33,7 +33,7 @@ use Rattle.pk_merge.specs.Steps.{Acts}
 use Rattle.pk_merge.specs.Elsewhere.{IsForOutput, StepReaches, StepWent, LeavesRuns}
 use Rattle.pk_schedule.proofs.Settled.{none_leaves_set}
 use Rattle.pk_base.proofs.Logic.{both, or_cases}
-use Rattle.pk_steps.proofs.Untouched.{in_or_out}
+use Rattle.pk_law_steps.proofs.Untouched.{in_or_out}
 
 -- ---- lists
 

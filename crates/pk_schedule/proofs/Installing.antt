@@ -7,10 +7,10 @@ use Rattle.pk_base.specs.Shape.{Shape}
 use Rattle.pk_base.specs.Page.{Flash, page_at}
 use Rattle.pk_base.specs.Map.{Map}
 use Rattle.pk_buf.specs.Table.{Table}
-use Rattle.pk_work.specs.Rest.{Lowers, left_of, whole_merge}
-use Rattle.pk_work.specs.Backlog.{due_level}
-use Rattle.pk_work.specs.Steps.{EndsMerge}
-use Rattle.pk_work.proofs.Lowering.{ends}
+use Rattle.pk_law_work.specs.Rest.{Lowers, left_of, whole_merge}
+use Rattle.pk_law_work.specs.Backlog.{due_level}
+use Rattle.pk_law_work.specs.Steps.{EndsMerge}
+use Rattle.pk_law_work.proofs.Lowering.{ends}
 use Rattle.pk_plan.specs.declared.owner.Owner.{Owner}
 use Rattle.pk_plan.specs.declared.owner.Owner.TheVariants.{Journal, Meta, Values}
 use Rattle.pk_nand.specs.BoardState.{BoardState}
@@ -26,15 +26,15 @@ use Rattle.pk_pool.specs.Unready.{unready}
 use Rattle.pk_run.specs.Kept.{Kept, empty}
 use Rattle.pk_level.specs.Levels.{Levels, IsLevels, RunsOnFlash, HaveBlocks}
 use Rattle.pk_level.specs.Arenas.{HasArena}
-use Rattle.pk_steps.specs.Merging.{IsMerged, merged_root, merged_found, freed_by, blocks_at}
-use Rattle.pk_steps.specs.Under.{IsUnder}
-use Rattle.pk_steps.specs.Next.{IsNext}
-use Rattle.pk_steps.proofs.FreedCounts.{freed_counted}
-use Rattle.pk_steps.proofs.Following.{merged_next}
-use Rattle.pk_steps.proofs.Freeing.{freed as freed_unread}
-use Rattle.pk_steps.proofs.Merging.{in_after}
-use Rattle.pk_steps.proofs.Places.{In, in_append}
-use Rattle.pk_steps.proofs.Standing.{installed}
+use Rattle.pk_law_steps.specs.Merging.{IsMerged, merged_root, merged_found, freed_by, blocks_at}
+use Rattle.pk_law_steps.specs.Under.{IsUnder}
+use Rattle.pk_law_steps.specs.Next.{IsNext}
+use Rattle.pk_law_steps.proofs.FreedCounts.{freed_counted}
+use Rattle.pk_law_steps.proofs.Following.{merged_next}
+use Rattle.pk_law_steps.proofs.Freeing.{freed as freed_unread}
+use Rattle.pk_law_steps.proofs.Merging.{in_after}
+use Rattle.pk_law_steps.proofs.Places.{In, in_append}
+use Rattle.pk_law_steps.proofs.Standing.{installed}
 use Rattle.pk_merge.specs.Jobs.{Job, IsIdle}
 use Rattle.pk_compact.specs.FreezeSteps.{IsTaken, taken_by, install_steps}
 use Rattle.pk_log.specs.State.{LogState}
@@ -51,7 +51,7 @@ use Rattle.pk_schedule.proofs.Waiting as wait
 use Rattle.pk_root.specs.declared.next.Next.TheVariants.{Erase, Program, Again}
 use Rattle.pk_pool.proofs.Leaving.{freed_unready}
 use Rattle.pk_schedule.proofs.Settled.{none_there}
-use Rattle.pk_work.proofs.Targets.{next_told}
+use Rattle.pk_law_work.proofs.Targets.{next_told}
 use Rattle.std.proofs.lemmas.Bool.{cases_lt}
 use Rattle.pk_base.specs.Firsts.{firsts}
 use Rattle.pk_base.specs.Entry.{Entry}

@@ -25,8 +25,8 @@ use Rattle.pk_model.specs.Laws.{AnyByRecursion}
 use Rattle.pk_model.specs.Tree.{run_at}
 use Rattle.pk_model.proofs.Commits.{member}
 use Rattle.pk_model.proofs.SamePages.{any_front, any_back}
-use Rattle.pk_steps.specs.Roots.{committed}
-use Rattle.pk_steps.proofs.FourRuns.{IsLevel, next_is_level}
+use Rattle.pk_law_steps.specs.Roots.{committed}
+use Rattle.pk_law_steps.proofs.FourRuns.{IsLevel, next_is_level}
 use Rattle.pk_merge.specs.Elsewhere.{IsElsewhere}
 use Rattle.pk_merge.specs.Jobs.{Job, IsIdle, pins, output_of}
 use Rattle.pk_merge.proofs.Elsewhere.{runs_elsewhere}

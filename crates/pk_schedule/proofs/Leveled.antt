@@ -11,8 +11,8 @@ use Rattle.pk_pin.proofs.Leases.{leases_counted, frames_counted}
 use Rattle.pk_run.specs.Kept.{Kept, IsKept}
 use Rattle.pk_level.specs.Levels.{Levels, IsLevels, IsOfLevel, AreOfLevels, HaveBlocks, run_of}
 use Rattle.pk_level.specs.Arenas.{HasArena, ArePinnedTo, IsPinnedIf, leases_of}
-use Rattle.pk_steps.proofs.FourRuns.{four_of, IsLevel}
-use Rattle.pk_steps.proofs.Places.{In}
+use Rattle.pk_law_steps.proofs.FourRuns.{four_of, IsLevel}
+use Rattle.pk_law_steps.proofs.Places.{In}
 
 -- a run of a level, which keeps within it
 pub record Fit (shape : Shape) (level : ℕ) (r : Kept) : Type 0 where

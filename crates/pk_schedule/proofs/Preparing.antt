@@ -7,9 +7,9 @@ use Rattle.pk_base.specs.Merge.{next_merge}
 use Rattle.pk_base.specs.Page.{Flash, page_at, SameBehind}
 use Rattle.pk_base.specs.Map.{Map}
 use Rattle.pk_base.proofs.ShapeLemmas.{block_pages_positive}
-use Rattle.pk_work.specs.Rest.{Lowers, left_of, whole_merge}
-use Rattle.pk_work.specs.Steps.{MovesMerge}
-use Rattle.pk_work.proofs.Lowering.{moves}
+use Rattle.pk_law_work.specs.Rest.{Lowers, left_of, whole_merge}
+use Rattle.pk_law_work.specs.Steps.{MovesMerge}
+use Rattle.pk_law_work.proofs.Lowering.{moves}
 use Rattle.pk_plan.specs.declared.owner.Owner.{Owner}
 use Rattle.pk_plan.specs.declared.owner.Owner.TheVariants.{Meta, Values}
 use Rattle.pk_nand.specs.BoardState.{BoardState}
@@ -26,7 +26,7 @@ use Rattle.pk_pool.proofs.States.{ready_is_not_root}
 use Rattle.pk_pool.specs.Unready.{unready}
 use Rattle.pk_run.specs.Kept.{Kept, RunOnFlash}
 use Rattle.pk_level.specs.Levels.{IsLevels, RunsOnFlash}
-use Rattle.pk_steps.specs.Merging.{output_of as whole_output}
+use Rattle.pk_law_steps.specs.Merging.{output_of as whole_output}
 use Rattle.pk_compact.specs.FreezeSteps.{IsTaken, taken_by, install_steps}
 use Rattle.pk_compact.specs.declared.freezing.FreezeJob.{FreezeJob}
 use Rattle.pk_log.specs.MergeSteps.{LogPrepared}

@@ -24,10 +24,10 @@ use Rattle.pk_run.specs.Kept.{Kept, empty}
 use Rattle.pk_run.proofs.Standing.{RunOnFlash-empty}
 use Rattle.pk_level.specs.Levels.{Levels, IsLevels, RunsOnFlash, HaveBlocks, run_of, with_run}
 use Rattle.pk_level.specs.Arenas.{HasArena, ArePinnedTo, leases_of, IsPinnedIf}
-use Rattle.pk_steps.specs.Merging.{merged_root, output_of, freed_by, blocks_at}
-use Rattle.pk_steps.proofs.FourRuns.{IsLevel}
-use Rattle.pk_steps.proofs.FreedCounts.{freed_counted}
-use Rattle.pk_steps.proofs.Places.{In, in_append}
+use Rattle.pk_law_steps.specs.Merging.{merged_root, output_of, freed_by, blocks_at}
+use Rattle.pk_law_steps.proofs.FourRuns.{IsLevel}
+use Rattle.pk_law_steps.proofs.FreedCounts.{freed_counted}
+use Rattle.pk_law_steps.proofs.Places.{In, in_append}
 use Rattle.pk_merge.specs.Jobs.{Job, IsIdle, LeavesOthers, taken_from, given_to, ended}
 use Rattle.pk_merge.proofs.Ending.{idle_one}
 use Rattle.pk_merge.proofs.Leasing.{are_apart}

@@ -13,7 +13,7 @@ use Rattle.pk_run.specs.Kept.{Kept, RunOnFlash, empty}
 use Rattle.pk_level.specs.Levels.{RunsOnFlash, HaveBlocks, AreOfLevels, IsOfLevel}
 use Rattle.pk_level.specs.Arenas.{leases_of, IsPinnedIf, ArePinnedTo}
 use Rattle.pk_model.proofs.Commits.{apart, rest_differs}
-use Rattle.pk_steps.proofs.Places.{In}
+use Rattle.pk_law_steps.proofs.Places.{In}
 use Rattle.pk_merge.specs.Jobs.{LeavesOthers, given_all, all_spare, spare_of, without, with_spare}
 use Rattle.pk_schedule.proofs.Grown.{got_in}
 

@@ -30,9 +30,9 @@ use Rattle.pk_model.specs.Crashes.{CrashFinds, background}
 use Rattle.pk_model.specs.Tree.{run_at}
 use Rattle.pk_model.proofs.SamePages.{any_back, newest_root_same}
 use Rattle.pk_root.specs.Laws.{SameFront}
-use Rattle.pk_steps.specs.Under.{IsUnder, IsValuePage, places}
-use Rattle.pk_steps.proofs.Untouched.{under_reads}
-use Rattle.pk_steps.proofs.Places.{In, in_append}
+use Rattle.pk_law_steps.specs.Under.{IsUnder, IsValuePage, places}
+use Rattle.pk_law_steps.proofs.Untouched.{under_reads}
+use Rattle.pk_law_steps.proofs.Places.{In, in_append}
 use Rattle.pk_merge.specs.declared.source.Source.{Source}
 use Rattle.pk_merge.specs.declared.source.Source.TheVariants.{Frozen, Run}
 use Rattle.pk_merge.specs.declared.next.Next.{Next}

@@ -13,7 +13,7 @@ use Rattle.pk_model.proofs.StrangePages.{bind_ok}
 use Rattle.pk_schedule.specs.Index.{Index, IndexOnFlash, IsSettled, settled}
 use Rattle.pk_schedule.specs.Steps.{KeepsValues}
 use Rattle.pk_base.proofs.Logic.{ok_same}
-use Rattle.pk_steps.proofs.Freezing.{no_blocks}
+use Rattle.pk_law_steps.proofs.Freezing.{no_blocks}
 
 -- no block leaves, also if one has another owner or is erased
 pub none_leaves_set : (p : Blocks) (b : ℕ) (s : BlockState) → freed_state s ≡ s → NoneLeaves p → NoneLeaves (with_state p b s)

@@ -13,7 +13,7 @@ use Rattle.pk_pool.specs.declared.state.BlockState.TheVariants.{Owned}
 use Rattle.pk_pool.specs.Blocks.{IsShared}
 use Rattle.pk_pool.proofs.Sharing.{behind_roots}
 use Rattle.pk_pool.proofs.States.{owned_is_not_root}
-use Rattle.pk_steps.proofs.Places.{In, in_append}
+use Rattle.pk_law_steps.proofs.Places.{In, in_append}
 use Rattle.pk_merge.specs.Jobs.{IsIdle}
 use Rattle.pk_compact.specs.Freezing.{IsApart}
 use Rattle.pk_schedule.specs.declared.phase.Phase.{Phase}

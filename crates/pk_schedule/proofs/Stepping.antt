@@ -15,9 +15,9 @@ use Rattle.pk_pin.specs.Frames.{Frames}
 use Rattle.pk_rootfmt.specs.Root.{Root}
 use Rattle.pk_pool.specs.Blocks.{Blocks, IsShared}
 use Rattle.pk_pool.specs.Unready.{unready}
-use Rattle.pk_work.specs.Rest.{Lowers, left_of, whole_merge}
-use Rattle.pk_work.specs.Steps.{MovesMerge}
-use Rattle.pk_work.proofs.Lowering.{moves as merge_moves}
+use Rattle.pk_law_work.specs.Rest.{Lowers, left_of, whole_merge}
+use Rattle.pk_law_work.specs.Steps.{MovesMerge}
+use Rattle.pk_law_work.proofs.Lowering.{moves as merge_moves}
 use Rattle.pk_run.specs.Kept.{Kept, RunOnFlash, empty, most_pages, most_blocks}
 use Rattle.pk_level.specs.Levels.{run_of}
 use Rattle.pk_model.specs.Found.{Found}
@@ -25,8 +25,8 @@ use Rattle.pk_model.specs.Growth.{Goes}
 use Rattle.pk_model.specs.Crashes.{CrashFinds, background}
 use Rattle.pk_model.specs.Tree.{run_at}
 use Rattle.pk_model.specs.Wear.{roots}
-use Rattle.pk_steps.specs.Merging.{output_of as whole_output}
-use Rattle.pk_steps.proofs.FourRuns.{next_is_level}
+use Rattle.pk_law_steps.specs.Merging.{output_of as whole_output}
+use Rattle.pk_law_steps.proofs.FourRuns.{next_is_level}
 use Rattle.pk_merge.specs.declared.source.Source.{Source}
 use Rattle.pk_merge.specs.declared.source.Source.TheVariants.{Frozen, Run}
 use Rattle.pk_merge.specs.Cursors.{Cursor}

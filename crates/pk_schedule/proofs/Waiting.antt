@@ -26,13 +26,13 @@ use Rattle.pk_pool.proofs.States.{owned_is_not_root}
 use Rattle.pk_run.specs.Kept.{Kept, empty}
 use Rattle.pk_level.specs.Levels.{Levels, IsLevels, run_of, with_run}
 use Rattle.pk_level.specs.Arenas.{leases_of, IsPinnedIf}
-use Rattle.pk_steps.specs.Merging.{IsMerged, output_of, blocks_at}
-use Rattle.pk_steps.proofs.FourRuns.{IsLevel, next_is_level}
-use Rattle.pk_steps.proofs.Freeing.{in_one}
-use Rattle.pk_steps.proofs.NewestBlocks.{valid_root}
-use Rattle.pk_steps.proofs.Outputs.{output_fits}
-use Rattle.pk_steps.proofs.Places.{In, differ_back}
-use Rattle.pk_steps.proofs.Spelling.{merged_grammar}
+use Rattle.pk_law_steps.specs.Merging.{IsMerged, output_of, blocks_at}
+use Rattle.pk_law_steps.proofs.FourRuns.{IsLevel, next_is_level}
+use Rattle.pk_law_steps.proofs.Freeing.{in_one}
+use Rattle.pk_law_steps.proofs.NewestBlocks.{valid_root}
+use Rattle.pk_law_steps.proofs.Outputs.{output_fits}
+use Rattle.pk_law_steps.proofs.Places.{In, differ_back}
+use Rattle.pk_law_steps.proofs.Spelling.{merged_grammar}
 use Rattle.pk_merge.specs.Jobs.{Job, IsIdle, AreOwned, AreLeased, all_spare, held_at, taken_from, given_to, pins}
 use Rattle.pk_merge.specs.Laws.{IsFormer, done_with}
 use Rattle.pk_merge.proofs.Ending.{idle_one}

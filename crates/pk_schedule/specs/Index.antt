@@ -19,7 +19,7 @@ use Rattle.pk_level.specs.Arenas.{HasArena}
 use Rattle.pk_model.specs.Found.{Found}
 use Rattle.pk_model.specs.Laws.{AnyByRecursion}
 use Rattle.pk_model.specs.Tree.{run_at}
-use Rattle.pk_steps.specs.Merging.{output_of as whole_output}
+use Rattle.pk_law_steps.specs.Merging.{output_of as whole_output}
 use Rattle.pk_merge.specs.declared.source.Source.{Source}
 use Rattle.pk_merge.specs.declared.source.Source.TheVariants.{Frozen, Run}
 use Rattle.pk_merge.specs.Jobs.{Job, JobRuns, IsIdle, all_spare, without, pins, output_of}

@@ -3,9 +3,9 @@ use Rattle.std.specs.Prelude.{◌≡◌, ◌⊎◌, ℕ, ◌+◌, ◌/◌, ◌<�
 use Rattle.pk_base.specs.Shape.{Shape}
 use Rattle.pk_base.specs.Page.{Flash, page_at}
 use Rattle.pk_base.specs.Map.{Map}
-use Rattle.pk_work.specs.Backlog.{Backlog, due_level}
-use Rattle.pk_work.specs.Rest.{Lowers}
-use Rattle.pk_work.specs.Work.{work, merging_left}
+use Rattle.pk_law_work.specs.Backlog.{Backlog, due_level}
+use Rattle.pk_law_work.specs.Rest.{Lowers}
+use Rattle.pk_law_work.specs.Work.{work, merging_left}
 use Rattle.pk_nand.specs.BoardState.{BoardState}
 use Rattle.pk_nand.specs.Calls.{IsReady, Rose}
 use Rattle.pk_nand.specs.Effects.{AtMostOneCall, OnlyFlash, OnlyReading}
@@ -22,7 +22,7 @@ use Rattle.pk_model.specs.Found.{Found}
 use Rattle.pk_model.specs.Growth.{Grows, Reaches, Goes}
 use Rattle.pk_model.specs.Wear.{roots, root_number}
 use Rattle.pk_model.specs.Crashes.{CrashFinds, background}
-use Rattle.pk_steps.specs.Under.{IsUnder, IsValuePage, places}
+use Rattle.pk_law_steps.specs.Under.{IsUnder, IsValuePage, places}
 use Rattle.pk_merge.specs.Remaining.{steps_left}
 use Rattle.pk_compact.specs.declared.freezing.FreezeJob.{FreezeJob}
 use Rattle.pk_compact.specs.declared.freezing.FreezeJob.TheVariants.{Idle as NoFreeze}

@@ -1,7 +1,7 @@
 use Rattle.std.proofs.Common.{length, arith, sym, ap, ◌∙◌}
 use Rattle.pk_base.specs.Shape.{charge}
 use Rattle.pk_base.proofs.ShapeLemmas.{charge_most}
-use Rattle.pk_work.specs.Calls.{space_calls}
+use Rattle.pk_law_work.specs.Calls.{space_calls}
 use Rattle.pk_parts.specs.Spacing.{needs}
 use Rattle.pk_core.proofs.Stored.{can_behind, room_behind, numbers_behind, stores_behind, stores_failed, stays_behind, stays_failed, fresh_behind, fresh_failed, opens_behind, space_numbers}
 use Rattle.pk_core.proofs.Stored.{store_numbers}

@@ -1,7 +1,7 @@
 use Rattle.std.proofs.Common.{◌∙◌, sym, ap, length, arith}
 use Rattle.pk_base.proofs.ShapeLemmas.{charge_most}
 use Rattle.pk_parts.specs.Spacing.{needs}
-use Rattle.pk_work.specs.Calls.{room_calls}
+use Rattle.pk_law_work.specs.Calls.{room_calls}
 use Rattle.pk_base.specs.Shape.{charge}
 use Rattle.pk_core.proofs.Stored.{store_can, put_stores, put_numbers, reads_if_room}
 use Rattle.pk_parts.proofs.Callings.{spends_within}

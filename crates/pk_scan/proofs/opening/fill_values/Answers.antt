@@ -7,7 +7,7 @@ use Rattle.pk_base.specs.Shape.{Shape}
 use Rattle.pk_base.specs.Page.{page_at}
 use Rattle.pk_nand.specs.Counts.{after_reads}
 use Rattle.pk_model.specs.Values.{values_of}
-use Rattle.pk_steps.specs.Under.{places}
+use Rattle.pk_law_steps.specs.Under.{places}
 use Rattle.pk_walk.specs.Walking.{most_read}
 use Rattle.pk_scan.specs.OpeningParts.{PartNotOpened, ReadsValues}
 use Rattle.pk_scan.specs.Reads.{value_reads}

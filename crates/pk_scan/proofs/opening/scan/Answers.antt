@@ -3,7 +3,7 @@ use Rattle.pk_base.specs.Shape.{Shape, IsShape}
 use Rattle.pk_base.specs.Page.{Flash}
 use Rattle.pk_pool.specs.Blocks.{Blocks, PoolOnFlash, unused}
 use Rattle.pk_rootfmt.specs.Root.{named, is_root}
-use Rattle.pk_steps.specs.Under.{places}
+use Rattle.pk_law_steps.specs.Under.{places}
 use Rattle.pk_scan.specs.Opened.{FoundOnFlash}
 use Rattle.pk_scan.proofs.Boards.{reads_none, rest_both}
 use Rattle.pk_scan.proofs.Closing.{may_adopt_values, many_closed}

@@ -1,7 +1,7 @@
 use Rattle.std.proofs.Common.{ap, sym, ◌∙◌, ◌≡◌, ◌≤◌, arith, refl, false, length, List, []}
 use Rattle.pk_base.specs.Entry.{Entry}
 use Rattle.pk_log.specs.State.{needs_freeze}
-use Rattle.pk_work.specs.Calls.{commit_calls, room_calls, room_roots}
+use Rattle.pk_law_work.specs.Calls.{commit_calls, room_calls, room_roots}
 use Rattle.pk_parts.specs.Emptying.{HasRoom}
 use Rattle.pk_parts.specs.Moves.{LeavesValues}
 use Rattle.pk_parts.specs.Staying.{Stays}

@@ -1,5 +1,5 @@
 use Rattle.std.proofs.Common.{arith, Err}
-use Rattle.pk_work.specs.Calls.{commit_calls, room_roots}
+use Rattle.pk_law_work.specs.Calls.{commit_calls, room_roots}
 use Rattle.pk_parts.proofs.ReadSteps.{running_stopped}
 use Rattle.pk_parts.proofs.Stopping.{stopped_kept}
 use Rattle.pk_parts.proofs.Steps.{shape_committed, leaves_committed}

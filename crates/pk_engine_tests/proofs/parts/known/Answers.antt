@@ -1,5 +1,0 @@
-use Rattle.pk_engine_tests.proofs.Keys.{in_first_space}
-use Rattle.pk_engine_tests.proofs.parts.known.Goals as goal
-
-pub returns : goal.returns
-returns c = in_first_space c.args.bytes.now c.are_bytes.ensures

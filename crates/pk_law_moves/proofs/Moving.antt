@@ -1,0 +1,185 @@
+-- The entries that name copies do not change the map.
+use Rattle.std.proofs.Common.{◌≡◌, inl, inr, ℕ, zero, suc, ◌+◌, ◌-◌, ◌*◌, ◌/◌, ◌%◌, ◌<◌, ◌≤◌, mod-lt, div-add-mod', refl, sym, ap, subst, ◌∙◌, arith, Bool, true, not, T, List, [], ◌∷◌, ◌++◌, length}
+use Rattle.std.proofs.Common.{drop, nat_le, nat_eq, ◌==◌, Some, Ok, le→leb, le_trans, append_assoc, append-nil, add-zero}
+use Rattle.std.specs.List.{list_any, list_all, starts_with, AllByRecursion}
+use Rattle.std.specs.FinMap.Entries.{put, find, is_sorted}
+use Rattle.std.proofs.lemmas.Nat.{div-mul-add}
+use Rattle.pk_base.specs.Key.{Key, key_cmp}
+use Rattle.pk_base.specs.Shape.{Shape, IsShape, charge, buffer}
+use Rattle.pk_base.specs.Page.{Page, Flash, page_at, erased, whole, torn}
+use Rattle.pk_base.specs.Entry.{Entry, Place}
+use Rattle.pk_base.specs.Refusal.{ensure}
+use Rattle.pk_base.specs.Firsts.{firsts}
+use Rattle.pk_nand.specs.Pairs.{first_of_pair}
+use Rattle.pk_nand.proofs.Pairing.{outside_pair}
+use Rattle.pk_segfmt.specs.Value.{head_bytes, value_page, value_from, value_at}
+use Rattle.pk_rootfmt.specs.Root.{Root, named}
+use Rattle.pk_model.specs.Found.{Found, entries_in_order}
+use Rattle.pk_model.specs.Values.{placed, fits, values_of, all_pages}
+use Rattle.pk_model.specs.Reading.{map_under}
+use Rattle.pk_model.proofs.StrangePages.{bind_ok}
+use Rattle.pk_model.proofs.Lookups.{Has, find-values}
+use Rattle.pk_model.proofs.ValueSets.{values_sound, values_complete, Reads, fits_parts, parts_fit}
+use Rattle.pk_model.proofs.Stores.{placed-put, reads-put, entries_in_order-push}
+use Rattle.pk_model.proofs.Merges.{placed_sorted}
+use Rattle.pk_model.proofs.HeldMap.{nothing_fits}
+use Rattle.pk_law_steps.specs.Under.{counting, places}
+use Rattle.pk_law_steps.proofs.Untouched.{values_under, erases}
+use Rattle.pk_law_steps.proofs.Places.{In, in_value, value_in, not_of, any_in_back, all_of, few_blocks}
+use Rattle.pk_law_steps.proofs.Committing.{commits, commits_pair, commit_done}
+use Rattle.pk_law_moves.specs.Moves.{entries_of, moved, AreCopies, CanMove, MovesLeaveMap, PlacesMove, MovesCommit, MovesPair, MovesCommitted, Copies}
+use Rattle.pk_law_steps.proofs.Counting.{sorted_read}
+use Rattle.pk_law_moves.proofs.Moved.{put_same, page_moved, differ_moved, HaveLength, length_moved}
+use Rattle.pk_base.proofs.Logic.{is_true, left_part, right_part, passed}
+use Rattle.pk_base.proofs.KeyLemmas.{firsts_sorted}
+
+-- ---- a copy is read as the value
+
+module _ (shape : Shape) (at : ℕ → Page) where
+  copied_from : (old new : ℕ) (front : List ℕ) (left n : ℕ) (bytes : List ℕ) → ((i : ℕ) → i < n → at (new + i) ≡ at (old + i))
+      → value_from shape at old front left n ≡ Ok bytes → value_from shape at new front left n ≡ Ok bytes
+  copied_from old new front left zero bytes same ok = ok
+  copied_from old new front left (suc n) bytes same ok =
+      elim (at old) as (λ p. at old ≡ p → value_page old front left p (λ b. value_from shape at (old + 1) [] (left - shape.page_bytes) n) ≡ Ok bytes
+      → value_page new front left (at new) (λ b. value_from shape at (new + 1) [] (left - shape.page_bytes) n) ≡ Ok bytes) [
+        | erased ↦ λ e f. cc
+        | torn ↦ λ e f. cc
+        | whole b ↦ λ e f.
+            let first = bind_ok (ensure (starts_with nat_eq b front) old) _ bytes f in
+            let second = bind_ok (ensure (list_all (λ x. x == 0) (drop left b)) old) _ bytes first.2 in
+            let third = bind_ok (value_from shape at (old + 1) [] (left - shape.page_bytes) n) _ bytes second.2 in
+            let here : at new ≡ whole b = ap at (sym (add-zero new)) ∙ same 0 (omega arith) ∙ ap at (add-zero old) ∙ e in
+            let front_is : starts_with nat_eq b front ≡ true = is_true _ (passed _ old first.0 first.1) in
+            let zeros_are : list_all (λ x. x == 0) (drop left b) ≡ true = is_true _ (passed _ old second.0 second.1) in
+            let rest : value_from shape at (new + 1) [] (left - shape.page_bytes) n ≡ Ok third.0 =
+            copied_from (old + 1) (new + 1) [] (left - shape.page_bytes) n third.0 (λ i small. ap at (next new i) ∙ same (suc i) (omega (arith, small)) ∙ ap at (sym (next old i))) third.1 in
+            rw (here, front_is, zeros_are, rest) third.2
+      ] refl ok
+    where
+      next : (a i : ℕ) → a + 1 + i ≡ a + suc i
+      next a i = omega arith
+
+  -- the same value is read at the new place
+  pub copied : (key : Key) (old new : Place) (v : List ℕ) → new.len ≡ old.len
+      → ((i : ℕ) → i < charge shape old.len → at (new.page + i) ≡ at (old.page + i)) → value_at shape at key old ≡ Ok v → value_at shape at key new ≡ Ok v
+  unfolding value_at
+  copied key old new v len same ok =
+      let bytes = bind_ok (value_from shape at old.page (head_bytes key old.len) (32 + old.len) (charge shape old.len)) _ v ok in
+      let rest = copied_from old.page new.page (head_bytes key old.len) (32 + old.len) (charge shape old.len) bytes.0 same bytes.1 in
+      rw (len, rest) bytes.2
+
+  -- the values of these keys are read at these places
+  abbrev Stand : List (Key × Place) → List (Key × List ℕ) → Type 0
+  Stand moves vs = AllByRecursion (λ m. (v : List ℕ) × (find key_cmp m.0 vs ≡ Some v) × (value_at shape at m.0 m.1 ≡ Ok v)) moves
+
+  reads_moved : (named_blocks : List ℕ) (moves es : List (Key × Place)) (vs : List (Key × List ℕ)) → T (is_sorted key_cmp vs)
+      → Stand moves vs → Reads shape named_blocks at es vs → Reads shape named_blocks at (moved moves es) vs
+  reads_moved named_blocks [] es vs rises stand reads = reads
+  reads_moved named_blocks (m ∷ moves) es vs rises stand reads =
+      reads_moved named_blocks moves (put key_cmp m.0 m.1 es) vs rises stand.1
+      (subst (λ xs. Reads shape named_blocks at (put key_cmp m.0 m.1 es) xs) (put_same m.0 stand.0.0 vs rises stand.0.1)
+      (reads-put shape named_blocks at m.0 m.1 stand.0.0 es vs stand.0.2 reads))
+
+stand_copies : (shape : Shape) (flash : Flash) (blocks : List ℕ) (es : List (Key × Place)) (vs : List (Key × List ℕ)) (moves : List (Key × Place))
+    → values_of shape (page_at flash) blocks [] es ≡ Ok vs → AreCopies shape flash es moves → Stand shape (page_at flash) moves vs
+stand_copies shape flash blocks es vs [] ok copies = tt
+stand_copies shape flash blocks es vs (m ∷ moves) ok copies =
+    let copy = copies.0.2 in
+    let has : Has shape (page_at flash) m.0 (Some copies.0.0) (find key_cmp m.0 vs) = subst
+    (λ x. Has shape (page_at flash) m.0 x (find key_cmp m.0 vs)) copies.0.1 (find-values shape (page_at flash) blocks [] es vs ok m.0) in
+    ((has.0, has.2, copied shape (page_at flash) m.0 copies.0.0 m.1 has.0 copy.same_len copy.same_pages has.1), stand_copies shape flash blocks es vs moves ok copies.1)
+
+same_lengths : (shape : Shape) (flash : Flash) (es moves : List (Key × Place)) → AreCopies shape flash es moves → HaveLength shape es moves
+same_lengths shape flash es [] copies = tt
+same_lengths shape flash es (m ∷ moves) copies = ((copies.0.0, copies.0.1, copies.0.2.same_len), same_lengths shape flash es moves copies.1)
+
+-- ---- the places
+
+places_one : (found : Found) (extra : List Entry) (k : Key) (place : Place) → places found (extra ++ (k, Some place) ∷ []) ≡ put key_cmp k place (places found extra)
+places_one found extra k place = ap (λ es. placed (firsts es)) (entries_in_order-push found extra (k, Some place))
+    ∙ placed-put k place (counting found extra) (firsts_sorted (entries_in_order found extra))
+
+pub places_move : PlacesMove
+places_move found extra [] = ap (places found) (append-nil extra)
+places_move found extra (m ∷ moves) =
+    ap (places found) (sym (append_assoc extra ((m.0, Some m.1) ∷ []) (entries_of moves)))
+    ∙ places_move found (extra ++ (m.0, Some m.1) ∷ []) moves
+    ∙ ap (moved moves) (places_one found extra m.0 m.1)
+
+rising : (found : Found) (extra : List Entry) → T (is_sorted key_cmp (places found extra))
+rising found extra = placed_sorted (counting found extra) (firsts_sorted (entries_in_order found extra))
+
+-- ---- the map
+
+-- the values are well placed, with the copies in their stead
+fits_moved : (shape : Shape) (flash : Flash) (extra : List Entry) (root : Root) (found : Found) (moves : List (Key × Place)) (blocks : List ℕ) → CanMove shape flash extra root found moves blocks
+    → T (fits shape (named root) (all_pages shape (places found extra))) → T (fits shape (named root) (all_pages shape (moved moves (places found extra))))
+fits_moved shape flash extra root found moves blocks can is =
+    let es = places found extra in
+    let parts = fits_parts shape (named root) (all_pages shape es) is in
+    let pages = all_pages shape (moved moves es) in
+    parts_fit shape (named root) pages (record {
+      out = all_of (λ p. not (list_any (λ b. b == p / shape.block_pages) (named root))) pages (λ k here. elim (page_moved shape moves es k (in_value shape (moved moves es) k here)) [
+        | inl new ↦ not_of (list_any (λ b. b == k / shape.block_pages) (named root)) (λ t. can.unnamed k new (any_in_back (k / shape.block_pages) (named root) t))
+        | inr old ↦ all_at (λ p. not (list_any (λ b. b == p / shape.block_pages) (named root))) (all_pages shape es) k parts.out (value_in shape es k old)
+      ]);
+      different = differ_moved shape moves es parts.different can.free can.apart;
+      few = let size = length_moved shape moves es (rising found extra) (same_lengths shape flash es moves can.copies) in omega (arith, size, parts.few);
+      few_blocks = le_trans (few_blocks shape pages blocks (λ k here. can.among k (in_value shape (moved moves es) k here))) can.few;
+    })
+  where
+    all_at : (p : ℕ → Bool) (xs : List ℕ) (k : ℕ) → T (list_all p xs) → In k xs → T (p k)
+    all_at p [] k all is = absurd is
+    all_at p (x ∷ xs) k all (inl e) = subst (λ y. T (p y)) (sym e) (left_part (p x) (list_all p xs) all)
+    all_at p (x ∷ xs) k all (inr is) = all_at p xs k (right_part (p x) (list_all p xs) all) is
+
+pub moves_stay : MovesLeaveMap
+unfolding map_under
+moves_stay shape flash extra top found m moves blocks under can = record { is_top = under.is_top; is_found = under.is_found; is_map = is_map }
+  where
+    is_map : map_under shape (page_at flash) top.1 found (extra ++ entries_of moves) ≡ Ok m
+    is_map =
+        let at = page_at flash in
+        let es = places found extra in
+        let values = values_under shape flash extra top.1 found m under.is_map in
+        let before = values_sound shape (named top.1) at es values.values (nothing_fits shape (named top.1)) values.read in
+        let rises = sorted_read shape (named top.1) at es values.values before.read (rising found extra) in
+        let stand = stand_copies shape flash (named top.1) es values.values moves values.read can.copies in
+        let lies = fits_moved shape flash extra top.1 found moves blocks can (subst T (sym before.placed_well) tt) in
+        let after : values_of shape at (named top.1) [] (places found (extra ++ entries_of moves)) ≡ Ok values.values =
+        ap (values_of shape at (named top.1) []) (places_move found extra moves) ∙ values_complete shape (named top.1) at (moved moves es) values.values
+        (record { placed_well = is_true _ lies; read = reads_moved shape at (named top.1) moves es values.values rises stand before.read }) in
+        let enough : nat_le (length (firsts (found.newest ++ (extra ++ entries_of moves)))) (buffer shape) ≡ true = is_true _ (le→leb _ _ can.room) in
+        rw (enough, after) (λ i. Ok (values.whole_map i))
+
+pub moves_commit : MovesCommit
+moves_commit shape flash cut top found m moves blocks index bytes posted is_shape under can commit cut_off =
+    commits shape flash cut top found (entries_of moves) m m index bytes posted is_shape under (moves_stay shape flash [] top found m moves blocks under can) commit cut_off
+
+pub moves_pair : MovesPair
+moves_pair shape flash cut top found m moves blocks index bytes is_shape under can commit is_cut =
+    commits_pair shape flash cut top found (entries_of moves) m m index bytes is_shape under (moves_stay shape flash [] top found m moves blocks under can) commit is_cut
+
+pub moves_committed : MovesCommitted
+moves_committed shape flash now top found m moves blocks index bytes is_shape under can commit is_cut here =
+    commit_done shape flash now top found (entries_of moves) m m index bytes is_shape under (moves_stay shape flash [] top found m moves blocks under can) commit is_cut here
+
+-- ---- a page that is copied
+
+-- the pair of a page is in its block
+pair_in_block : (shape : Shape) (at k : ℕ) → IsShape shape → first_of_pair shape at ≤ k → k < first_of_pair shape at + 2 → k / shape.block_pages ≡ at / shape.block_pages
+pair_in_block shape at k is low high =
+    let n : ℕ = shape.block_pages in
+    let least : 8 ≤ n = is.block_least in
+    let eights : n % 8 ≡ 0 = is.eights in
+    let less : at % n < n = mod-lt at (omega (arith, least)) in
+    let whole : at / n * n + at % n ≡ at = div-add-mod' at n in
+    let d : ℕ = k - at / n * n in
+    let e : at / n * n + d ≡ k = omega (arith, low, whole) in
+    let small : d < n = omega (arith, low, high, whole, less, eights) in
+    ap (λ (q : ℕ). q / n) (sym e) ∙ div-mul-add (at / n) n d small
+
+pub copies : Copies
+copies shape flash cut extra top found m at is_shape under behind unnamed no_value outside =
+    erases shape flash cut extra top found m (at / shape.block_pages) is_shape under behind unnamed no_value
+    (λ k other. outside_pair (first_of_pair shape at) flash cut outside k (λ low high. other (pair_in_block shape at k is_shape low high)))

@@ -1,0 +1,101 @@
+-- The root after a merge is a valid successor.
+use Rattle.std.proofs.Common.{◌≡◌, inl, inr, ℕ, ◌-◌, ◌/◌, refl, T, Bool, true, false, List, [], ◌++◌, length, map, nat_le, ◌==◌, ◌||◌, if◌then◌else◌, Ok, leb→le}
+use Rattle.std.specs.List.{concat}
+use Rattle.pk_base.specs.Shape.{Shape, IsShape}
+use Rattle.pk_base.specs.Page.{Page, Flash, page_at, page_in}
+use Rattle.pk_base.specs.Entry.{Entry}
+use Rattle.pk_base.specs.Firsts.{firsts}
+use Rattle.pk_base.specs.Map.{Map}
+use Rattle.pk_base.specs.Refusal.{ensure, ◌>>=◌}
+use Rattle.pk_jrnfmt.specs.Epoch.{epoch}
+use Rattle.pk_rootfmt.specs.Root.{Root, is_root, named}
+use Rattle.pk_model.specs.Found.{Found, older_epoch, newest_epoch, found_under}
+use Rattle.pk_model.specs.Tree.{blocks_after}
+use Rattle.pk_model.proofs.SamePages.{any_front, any_back}
+use Rattle.pk_model.proofs.Roots.{newest_sound}
+use Rattle.pk_model.proofs.Commits.{root_valid, values_apart, is_any_back}
+use Rattle.pk_law_steps.specs.Under.{IsUnder, IsNamed, IsValuePage, places}
+use Rattle.pk_law_steps.proofs.Untouched.{Values, values_under}
+use Rattle.pk_law_steps.proofs.Places.{In, in_append}
+use Rattle.pk_law_steps.specs.Merging.{IsMerged, Merged, merged_root, merged_found}
+use Rattle.pk_law_steps.proofs.FourRuns.{Runs, IsLevel, FourOf, Pieces, four_of_root, four_runs, next_is_level, pieces_of}
+use Rattle.pk_law_steps.proofs.Merging.{runs_after, same_places, in_after}
+use Rattle.pk_law_steps.proofs.Freezing.{no_blocks}
+
+-- no older epoch is named, or the former one
+older_is : (shape : Shape) (at : ℕ → Page) (number : ℕ) (one : Bool) (blocks : List ℕ) (es : List Entry)
+    → (do
+      found ← epoch shape at (number - 1) blocks
+      _ ← ensure (length blocks == 0 || nat_le 1 (length found)) (page_in shape blocks 0)
+      Ok found) ≡ Ok es
+    → (do
+      found ← epoch shape at (number - 1) (if one then [] else blocks)
+      _ ← ensure (length (if one then [] else blocks) == 0 || nat_le 1 (length found)) (page_in shape (if one then [] else blocks) 0)
+      Ok found) ≡ Ok (if one then [] else es)
+older_is shape at number true blocks es was = let none = no_blocks shape at (number - 1) in rw none refl
+older_is shape at number false blocks es was = was
+
+module _ (shape : Shape) (flash : Flash) (extra : List Entry) (top : ℕ × Root) (found : Found) (m : Map) (level count : ℕ) (taken : List ℕ) (is_shape : IsShape shape)
+    (before : IsUnder shape flash extra top found m) (is : IsMerged shape flash extra top found level count taken) where
+  abbrev root : Root
+  root = top.1
+
+  valid : T (is_root shape root)
+  valid = root_valid shape (page_at flash top.0) root (newest_sound shape (page_at flash) top before.is_top).there
+
+  is_level : IsLevel level
+  is_level = next_is_level shape (length (firsts found.older)) (map (λ es. length es) found.runs) level is.next
+
+  four : FourOf root
+  four = four_of_root shape root valid
+
+  values : Values shape flash extra root found m
+  values = values_under shape flash extra root found m before.is_map
+
+  pieces : Pieces shape (page_at flash) root found
+  pieces = pieces_of shape (page_at flash) root found before.is_found
+
+  lists : Runs shape (page_at flash) root.counts root.runs found.runs
+  lists = four_runs shape (page_at flash) root.counts root.runs found.runs four.counts four.runs pieces.runs
+
+  is_found : found_under shape (page_at flash) (merged_root root level count taken) ≡ Ok (merged_found level found)
+  unfolding found_under
+  is_found =
+      let older : older_epoch shape (page_at flash) (merged_root root level count taken) ≡ Ok
+      (if level == 1 then [] else found.older) = older_is shape (page_at flash) root.epoch (level == 1) root.older found.older pieces.older in
+      let newest : newest_epoch shape (page_at flash) (merged_root root level count taken) ≡ Ok found.newest = pieces.newest in
+      let runs = runs_after shape (page_at flash) found.newest found.older root.counts root.runs found.runs lists count taken level is_level is.stands in
+      rw (older, newest, runs) refl
+
+  -- no value is in a block that the root names
+  outside : (k : ℕ) → IsValuePage shape (places found extra) k → IsNamed shape (merged_root root level count taken) k → ⊥
+  outside k value among =
+      let b = k / shape.block_pages in
+      let former : In b (named root) → ⊥ = λ there. values_apart shape (page_at flash) (named root) [] (places found extra) values.values values.read k value (is_any_back b (named root) there) in
+      elim (in_append b (root.newest ++ (if level == 1 then [] else root.older)) (concat (blocks_after level taken root.runs)) among) [
+        | inl front ↦ elim (in_append b root.newest (if level == 1 then [] else root.older) front) [
+          | inl newest ↦ former (any_front (λ c. b ≡ c) (root.newest ++ root.older) (concat root.runs) (any_front (λ c. b ≡ c) root.newest root.older newest))
+          | inr older ↦ former (any_front (λ c. b ≡ c) (root.newest ++ root.older) (concat root.runs) (any_back (λ c. b ≡ c) root.newest root.older (in_older (level == 1) root.older older)))
+        ]
+        | inr run ↦ elim (in_after b level taken root.runs run) [
+          | inl fresh ↦ is.outside k value fresh
+          | inr was ↦ former (any_back (λ c. b ≡ c) (root.newest ++ root.older) (concat root.runs) was)
+        ]
+      ]
+    where
+      in_older : (one : Bool) (blocks : List ℕ) → In (k / shape.block_pages) (if one then [] else blocks) → In (k / shape.block_pages) blocks
+      in_older true blocks there = absurd there
+      in_older false blocks there = there
+
+pub merged_next : Merged
+merged_next shape flash extra top found m level count taken is_shape before is =
+    let four = lists shape flash extra top found m level count taken is_shape before is in
+    let level_is = is_level shape flash extra top found m level count taken is_shape before is in
+    record {
+      grammar = is.grammar;
+      is_found = is_found shape flash extra top found m level count taken is_shape before is;
+      room = leb→le _ _ (values shape flash extra top found m level count taken is_shape before is).room;
+      same_places = same_places found.newest extra found.older found.runs four.r1 four.r2 four.r3 four.r4 four.lists_are level level_is;
+      outside = outside shape flash extra top found m level count taken is_shape before is;
+      step = inr (record { level = level; taken = taken; number = refl; next = is.next; epoch = refl; newest = (refl, refl); older = (refl, refl); blocks = refl; runs = refl });
+    }

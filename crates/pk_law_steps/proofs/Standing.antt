@@ -1,0 +1,107 @@
+-- A valid successor does not change the map, at any cut of its install.
+use Rattle.std.proofs.Common.{◌≡◌, inl, inr, ℕ, ◌/◌, ◌<◌, sym, ap, subst, ◌∙◌, T, true, List, [], ◌++◌, length, nat_le, ◌==◌, not, Some, Ok, le→leb}
+use Rattle.std.specs.List.{AllByRecursion, list_any}
+use Rattle.pk_base.specs.Shape.{Shape, IsShape, buffer}
+use Rattle.pk_base.specs.Page.{Flash, page_at, SameBehind}
+use Rattle.pk_base.specs.Entry.{Entry, Place}
+use Rattle.pk_base.specs.EntryChecks.{IsEntry}
+use Rattle.pk_base.specs.Firsts.{firsts}
+use Rattle.pk_base.specs.Key.{Key}
+use Rattle.pk_base.specs.Map.{Map}
+use Rattle.pk_rootfmt.specs.Root.{Root, named}
+use Rattle.pk_rootfmt.specs.Newest.{newest_root}
+use Rattle.pk_model.specs.Found.{Found, found_under, entries_in_order}
+use Rattle.pk_model.specs.Values.{placed, values_of, all_pages}
+use Rattle.pk_model.specs.Reading.{map_under}
+use Rattle.pk_model.specs.Laws.{AnyByRecursion, IsPageOf}
+use Rattle.pk_base.proofs.ShapeLemmas.{block_pages_positive}
+use Rattle.pk_model.proofs.SamePages.{values_same, map_under_same}
+use Rattle.pk_model.proofs.Roots.{newest_sound}
+use Rattle.pk_model.proofs.RootAlone.{found_alone, values_behind}
+use Rattle.pk_model.proofs.Commits.{root_valid}
+use Rattle.pk_model.proofs.Entries.{counting_all, journal_are, meta_are}
+use Rattle.pk_model.proofs.ValueSets.{values_sound, values_complete, fits_parts, parts_fit}
+use Rattle.pk_model.proofs.HeldMap.{nothing_fits}
+use Rattle.pk_law_steps.specs.Under.{IsUnder, places}
+use Rattle.pk_law_steps.proofs.Untouched.{Values, values_under}
+use Rattle.pk_law_steps.proofs.Places.{In, all_of, any_in_back, in_value, not_of}
+use Rattle.pk_law_steps.specs.Next.{IsNext, Installed, Installs, tree_of}
+use Rattle.pk_base.proofs.Logic.{is_true}
+
+module _ (shape : Shape) (flash new : Flash) (extra : List Entry) (top : ℕ × Root) (found : Found) (m : Map) (is_shape : IsShape shape) (entries : AllByRecursion (IsEntry shape) extra)
+    (before : IsUnder shape flash extra top found m) (behind : SameBehind shape flash new) where
+  positive : 0 < shape.block_pages
+  positive = block_pages_positive shape is_shape
+
+  -- the values of the map are not in the root blocks
+  values_stay : (k : ℕ) → AnyByRecursion (λ e. IsPageOf shape k e.1) (placed (firsts (entries_in_order found extra))) → page_at new k ≡ page_at flash k
+  values_stay k is = behind k (values_behind shape (firsts (entries_in_order found extra))
+      (counting_all (IsEntry shape) shape (page_at flash) (λ k number index bytes es stands read. journal_are shape number index bytes es read)
+      (λ k level index count bytes es stands read. meta_are shape level index count bytes es read) top.1 found extra before.is_found entries) k is)
+
+  -- if the newest root is the former
+  pub stays : newest_root shape (page_at new) ≡ Some top → IsUnder shape new extra top found m
+  stays is_top = record {
+    is_top = is_top;
+    is_found = found_alone shape is_shape (page_at flash) (page_at new) behind top.1 (root_valid shape (page_at flash top.0) top.1 (newest_sound shape (page_at flash) top before.is_top).there)
+        ∙ before.is_found;
+    is_map = map_under_same shape (page_at flash) (page_at new) top.1 found extra values_stay ∙ before.is_map;
+  }
+
+  -- and if it is one that may follow
+  module _ (page : ℕ) (root : Root) (then_found : Found) (next : IsNext shape flash extra top found root then_found) where
+    abbrev es : List (Key × Place)
+    es = places found extra
+
+    values : Values shape flash extra top.1 found m
+    values = values_under shape flash extra top.1 found m before.is_map
+
+    still : found_under shape (page_at new) root ≡ Ok then_found
+    still = found_alone shape is_shape (page_at flash) (page_at new) behind root (subst T (sym next.grammar) tt) ∙ next.is_found
+
+    -- no value is in a block that the root names
+    apart : (k : ℕ) → In k (all_pages shape es) → T (not (list_any (λ b. b == k / shape.block_pages) (named root)))
+    apart k is = not_of (list_any (λ b. b == k / shape.block_pages) (named root)) (λ t. next.outside k (in_value shape es k is) (any_in_back (k / shape.block_pages) (named root) t))
+
+    read : values_of shape (page_at new) (named root) [] es ≡ Ok values.values
+    read =
+        let moved : values_of shape (page_at new) (named top.1) [] es ≡ Ok values.values = values_same shape (page_at flash) (page_at new) (named top.1) [] es values_stay ∙ values.read in
+        let there = values_sound shape (named top.1) (page_at new) es values.values (nothing_fits shape (named top.1)) moved in
+        let parts = fits_parts shape (named top.1) (all_pages shape es) (subst T (sym there.placed_well) tt) in
+        let fit = parts_fit shape (named root) (all_pages shape es) (record {
+          out = all_of (λ p. not (list_any (λ b. b == p / shape.block_pages) (named root))) (all_pages shape es) apart;
+          different = parts.different;
+          few = parts.few;
+          few_blocks = parts.few_blocks;
+        }) in
+        values_complete shape (named root) (page_at new) es values.values (record { placed_well = is_true _ fit; read = there.read })
+
+    is_map : map_under shape (page_at new) root then_found extra ≡ Ok m
+    unfolding map_under
+    is_map =
+        let again : values_of shape (page_at new) (named root) [] (placed (firsts (entries_in_order then_found extra)))
+        ≡ Ok values.values = ap (values_of shape (page_at new) (named root) []) next.same_places ∙ read in
+        let room : nat_le (length (firsts (then_found.newest ++ extra))) (buffer shape) ≡ true = is_true _ (le→leb _ _ next.room) in
+        rw (room, again) (λ i. Ok (values.whole_map i))
+
+    pub follows : newest_root shape (page_at new) ≡ Some (page, root) → IsUnder shape new extra (page, root) then_found m
+    follows is_top = record { is_top = is_top; is_found = still; is_map = is_map }
+
+pub installed : Installed
+installed shape flash new extra top page found root then_found m is_shape entries before next is_top behind =
+    let there = follows shape flash new extra top found m is_shape entries before behind page root then_found next is_top in (
+      there,
+      record {
+        from = tree_of top.1 found;
+        to = tree_of root then_found;
+        was = record { page_of_root = top.0; is_newest = before.is_top; is_found = before.is_found };
+        is = record { page_of_root = page; is_newest = is_top; is_found = there.is_found };
+        step = next.step;
+      },
+    )
+
+pub installs : Installs
+installs shape flash cut extra top page found root then_found m is_shape entries before next either behind = elim either [
+  | inl former ↦ inl (stays shape flash cut extra top found m is_shape entries before behind (former ∙ before.is_top))
+  | inr new ↦ inr (follows shape flash cut extra top found m is_shape entries before behind page root then_found next new)
+]

@@ -1,0 +1,48 @@
+-- A bound of the background steps that remain, as a sum over the jobs that run or are due and the blocks that are not ready.
+use Rattle.std.specs.Prelude.{ℕ, zero, suc, ◌+◌, Bool, true, false, if◌then◌else◌, Option, Some, None}
+use Rattle.pk_base.specs.Shape.{Shape}
+use Rattle.pk_law_work.specs.Rest.{left_of, whole_merge, whole_freeze, whole_reclaim}
+use Rattle.pk_law_work.specs.Backlog.{Backlog, due_level}
+
+module _ (shape : Shape) where
+  -- whole merges into this level and all above it, which empty the frozen buffer
+  unfoldable pub emptying : ℕ → ℕ
+  emptying zero = 0
+  emptying (suc level) = emptying level + whole_merge shape (suc level)
+
+  -- what remains of the merge into this level, and those after it
+  abbrev pub merging_from : ℕ → Option ℕ → ℕ
+  merging_from zero merge = 0
+  merging_from (suc level) merge = left_of (whole_merge shape (suc level)) merge + emptying level
+
+  abbrev pub merging : Backlog → ℕ
+  merging b = merging_from (due_level shape b) b.merge
+
+  -- a freeze that runs, or that a reclaim may need, and the merges that are due after it
+  abbrev pub freezing_from : Option ℕ → Bool → ℕ
+  freezing_from None false = 0
+  freezing_from None true = whole_freeze + emptying 4
+  freezing_from (Some left) may = left + emptying 4
+
+  abbrev pub freezing : Backlog → ℕ
+  freezing b = freezing_from b.freeze b.may_freeze
+
+  -- the reclaim that runs, or is due
+  abbrev pub reclaiming_from : Option ℕ → Bool → ℕ
+  reclaiming_from None false = 0
+  reclaiming_from None true = whole_reclaim shape
+  reclaiming_from (Some left) due = left
+
+  abbrev pub reclaiming : Backlog → ℕ
+  reclaiming b = reclaiming_from b.reclaim b.is_due
+
+  -- the second program of a root
+  abbrev pub repeating : Backlog → ℕ
+  repeating b = if b.half then 1 else 0
+
+  -- what remains to empty the frozen buffer, with the second program of a root
+  abbrev pub merging_left : Backlog → ℕ
+  merging_left b = merging b + repeating b
+
+  unfoldable pub work : Backlog → ℕ
+  work b = merging b + freezing b + reclaiming b + b.unready + repeating b

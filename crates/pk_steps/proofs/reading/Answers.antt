@@ -1,8 +1,0 @@
-use Rattle.pk_steps.proofs.Untouched.{reads_under, under_reads}
-use Rattle.pk_steps.proofs.reading.Goals as goal
-
-pub returns-clause-under : goal.returns-clause-under
-returns-clause-under c = reads_under
-
-pub returns-clause-read : goal.returns-clause-read
-returns-clause-read c = under_reads

@@ -1,0 +1,388 @@
+//! Freezes and merges by commands from a made drive on; and merges into each level, on flashes made
+//! by hand, cut at every mark.
+
+use crate::layered::{FLASHES, Layered, Lists, Wanted, is_pair_there, key_of, roots_behind, ways};
+use crate::steps::{
+    MAKE_WORKED, add, at_least, cut, done, ended, ended_well, holds, last_program, made,
+    pages_left, same, serve, serve_with, worked,
+};
+use pk_base::{Shape, get_u32};
+use pk_flash::{Flash, Left, Room};
+use pk_nand::{Mark, PageState};
+use pk_nvme::opcode::{LIST, REPORT, RETRIEVE, STORE, TICK};
+use pk_test_scripts::Place;
+use pk_test_scripts::boards::{Session, board_in};
+use pk_test_scripts::cuts::bytes_out;
+use pk_test_scripts::exits::DONE;
+use pk_test_scripts::script::{Value, entry, push_found, push_value};
+use pk_test_scripts::ways::by_turns;
+use std::alloc::Global;
+use std::process::Abort;
+use std::test::*;
+
+// For sessions of some hundred commands.
+const LONG: Room = Room {
+    posted: 65536,
+    marks: 1500,
+};
+
+// A board with room for these.
+fn long_board(
+    rt: &impl Abort,
+    alloc: Global,
+    shape: Shape,
+    pages: Vec<PageState>,
+    input: Vec<u8>,
+) -> Flash {
+    done(rt, board_in(alloc, shape, pages, input, LONG))
+}
+
+// The number of four bytes that begins here.
+fn number_at(rt: &impl Abort, posted: &[u8], at: usize) -> u32 {
+    assert!(rt; at <= posted.len() && posted.len() - at >= 4, "a record");
+    get_u32(posted, at)
+}
+
+// The sixteen numbers of the Report whose record ends this many bytes before the end.
+fn numbers(rt: &impl Abort, posted: &[u8], behind: usize) -> [u32; 16] {
+    let start = posted
+        .len()
+        .checked_sub(behind.saturating_add(64))
+        .expect(rt, "a Report");
+    let mut numbers = [0u32; 16];
+    for i in 0..16usize {
+        numbers[i] = number_at(rt, posted, start.saturating_add(4 * i));
+    }
+    numbers
+}
+
+// ---- from a made drive on
+
+// A value of two pages, the second one of zeros.
+const ABC: Value = Value {
+    first: 0x61,
+    len: 3,
+};
+
+// What is asked of a made drive.
+#[derive(Clone, Copy)]
+enum Step {
+    // Stores of n keys of two bytes, of two pages each.
+    Stores(u16),
+    // With a buffer of 10 bytes.
+    Retrieve(u16),
+    Tick(u32),
+    List,
+    Report,
+}
+
+// Adds what is asked by a step.
+fn add_step(rt: &impl Abort, into: &mut Vec<u8>, step: &Step) {
+    match step {
+        Step::Stores(count) => add_stores(rt, into, *count),
+        Step::Retrieve(key) => add(rt, into, &entry(2, RETRIEVE, key_of(*key), 2, 10)),
+        Step::Tick(steps) => add(rt, into, &entry(1, TICK, [0, 0], 0, *steps)),
+        Step::List => add(rt, into, &entry(1, LIST, [0, 0], 0, 65536)),
+        Step::Report => add(rt, into, &entry(1, REPORT, [0, 0], 0, 0)),
+    }
+}
+
+fn add_stores(rt: &impl Abort, into: &mut Vec<u8>, count: u16) {
+    for i in 0..count {
+        add(rt, into, &entry(i, STORE, key_of(i), 2, ABC.len));
+        push_value(into, &ABC).expect(rt, "memory");
+    }
+}
+
+fn script_of(rt: &impl Abort, alloc: Global, steps: &[Step]) -> Vec<u8> {
+    let mut script = Vec::new(alloc);
+    for step in steps {
+        add_step(rt, &mut script, step);
+    }
+    script
+}
+
+// The bytes of a Report's record and of a Retrieve's.
+const REPORT_BYTES: usize = 24 + 64;
+
+const FOUND_BYTES: usize = 24 + 3;
+
+// How many pages the Retrieve read whose record ends this many bytes before the end.
+fn reads_of(rt: &impl Abort, posted: &[u8], behind: usize) -> u32 {
+    let start = posted
+        .len()
+        .checked_sub(behind.saturating_add(FOUND_BYTES))
+        .expect(rt, "a record");
+    number_at(rt, posted, start.saturating_add(16))
+}
+
+// That Retrieve read one page.
+fn check_one_read(rt: &impl Abort, posted: &[u8], behind: usize) {
+    same(rt, u64::from(reads_of(rt, posted, behind)), 1, "reads");
+}
+
+// These pages after a session with this many frames, which has to end well.
+fn behind_pages(
+    rt: &impl Abort,
+    alloc: Global,
+    pages: Vec<PageState>,
+    steps: &[Step],
+    frames: &str,
+) -> Flash {
+    let flash = long_board(rt, alloc, worked(rt), pages, script_of(rt, alloc, steps));
+    let session = serve_with(alloc, flash, frames);
+    ended_well(rt, session, Place::Named("from a made drive on"))
+}
+
+// A made drive after such a session.
+fn behind(rt: &impl Abort, alloc: Global, steps: &[Step]) -> Flash {
+    behind_pages(rt, alloc, made(rt, alloc, &MAKE_WORKED), steps, "36")
+}
+
+const FIRST_MERGE: [Step; 5] = [
+    Step::Stores(31),
+    Step::Retrieve(0),
+    Step::Tick(1000),
+    Step::Report,
+    Step::Retrieve(0),
+];
+
+// All numbers of a Report after the first merge.
+const MERGED: [u32; 16] = [62, 492, 31, 2, 36, 2, 1, 0, 30, 0, 0, 0, 1, 4, 55, 0];
+
+/// Thirty keys are frozen by the 31st Store, and a Tick merges them into run 1: all sixteen numbers
+/// of a Report, and the pages that a Retrieve of the first key reads before and after the merge.
+#[test]
+fn first_merge(rt: HostRuntime) {
+    let flash = behind(&rt, rt.alloc(), &FIRST_MERGE);
+    let posted = flash.posted();
+    check_one_read(&rt, posted, 0);
+    check_one_read(&rt, posted, FOUND_BYTES + REPORT_BYTES + 24);
+    let found = numbers(&rt, posted, FOUND_BYTES);
+    holds(
+        &rt,
+        found == MERGED,
+        "the numbers",
+        Place::Named("the first merge"),
+    );
+}
+
+const ONE_STEP: [Step; 6] = [
+    Step::Stores(31),
+    Step::Tick(1),
+    Step::Report,
+    Step::Retrieve(0),
+    Step::Tick(1000),
+    Step::Report,
+];
+
+// The Report this many bytes before the end says whether a merge has begun, and has this many
+// frozen entries and entries of run 1.
+fn check_merge(rt: &impl Abort, posted: &[u8], behind: usize, wanted: [u32; 3]) {
+    let found = numbers(rt, posted, behind);
+    let found = [found[15], found[7], found[8]];
+    holds(rt, found == wanted, "the numbers", Place::Named("one step"));
+}
+
+/// One step of the merge is made, and the lists are unchanged; the rest of the steps ends it.
+#[test]
+fn one_step(rt: HostRuntime) {
+    let flash = behind(&rt, rt.alloc(), &ONE_STEP);
+    let posted = flash.posted();
+    check_merge(&rt, posted, 0, [0, 0, 30]);
+    check_one_read(&rt, posted, REPORT_BYTES + 24);
+    check_merge(&rt, posted, REPORT_BYTES + 24 + FOUND_BYTES, [1, 30, 0]);
+}
+
+const TWO_RUNS: [Step; 3] = [Step::Stores(121), Step::Report, Step::Retrieve(0)];
+
+// Four freezes: the numbers of entries of the lists.
+const FOUR_FREEZES: [u32; 6] = [1, 30, 30, 60, 0, 0];
+
+/// Four freezes merge into runs 1 and 2. A Retrieve of the first key reads the value's page alone
+/// if both levels have frames; without frames it reads a page of each run besides, two to five in
+/// all, and gives the same.
+#[test]
+fn two_runs(rt: HostRuntime) {
+    let alloc = rt.alloc();
+    let place = Place::Named("two runs");
+    let flash = behind(&rt, alloc, &TWO_RUNS);
+    let found = numbers(&rt, flash.posted(), FOUND_BYTES);
+    holds(
+        &rt,
+        entries_of(&found) == FOUR_FREEZES,
+        "the entries",
+        place,
+    );
+    same(&rt, u64::from(found[12]), 1, "the epoch");
+    check_one_read(&rt, flash.posted(), 0);
+    let pages = pages_left(&rt, alloc, &flash);
+    let later = behind_pages(&rt, alloc, pages, &[Step::Retrieve(0)], "0");
+    let reads = reads_of(&rt, later.posted(), 0);
+    holds(
+        &rt,
+        2 <= reads && reads <= 5,
+        "the reads of a Retrieve",
+        place,
+    );
+    let mut want = Vec::new(alloc);
+    push_found(&mut want, 2, reads, &ABC).expect(&rt, "memory");
+    let is_so = later.posted().get(20..) == want.get(20..);
+    holds(&rt, is_so, "the data", place);
+}
+
+// The place of the erase of this block that comes last among the marks.
+fn last_erase(flash: &Flash, wanted: u32) -> Option<usize> {
+    let mut last = None;
+    for i in 0..flash.marks() {
+        if let Mark::Erase { block } = flash.mark(i) {
+            if *block == wanted {
+                last = Some(i);
+            }
+        }
+    }
+    last
+}
+
+/// Roots fill block 1, and block 0 is erased for the next install: cut there, with its pages
+/// unchanged, Erased and Torn by turns, the newest root is one of block 1, and every key whose
+/// record was posted exists.
+#[test]
+fn roots_fill_a_block(rt: HostRuntime) {
+    let alloc = rt.alloc();
+    let flash = behind(&rt, alloc, &[Step::Stores(240)]);
+    let k = last_erase(&flash, 0).expect(&rt, "an erase of block 0");
+    let left = by_turns(alloc).expect(&rt, "memory");
+    let pages = cut(&rt, alloc, &flash, k, &left);
+    let later = behind_pages(&rt, alloc, pages, &[Step::List, Step::Report], "36");
+    let keys = numbers(&rt, later.posted(), 0)[2];
+    let told = bytes_out(&flash, k).div_ceil(24).min(1000) as u32;
+    let is_so = told <= keys && keys <= 240 && keys > 0;
+    holds(&rt, is_so, "the keys", Place::Mark(k));
+}
+
+// ---- on flashes made by hand
+
+/// Serves this script on these pages.
+pub fn serve_layered(
+    rt: &impl Abort,
+    alloc: Global,
+    layered: &Layered,
+    pages: Vec<PageState>,
+    script: Vec<u8>,
+) -> Session {
+    serve(
+        alloc,
+        long_board(rt, alloc, layered.shape(rt), pages, script),
+    )
+}
+
+// The numbers of entries in a Report.
+fn entries_of(report: &[u32; 16]) -> [u32; 6] {
+    [
+        report[6], report[7], report[8], report[9], report[10], report[11],
+    ]
+}
+
+// The same of lists.
+fn entries_in(lists: &Lists) -> [u32; 6] {
+    [
+        u32::from(lists.active),
+        u32::from(lists.frozen),
+        u32::from(lists.runs[0]),
+        u32::from(lists.runs[1]),
+        u32::from(lists.runs[2]),
+        u32::from(lists.runs[3]),
+    ]
+}
+
+// The Report that ends the posted bytes has the entries of these lists.
+fn check_entries(rt: &impl Abort, posted: &[u8], lists: &Lists, place: Place) {
+    let found = entries_of(&numbers(rt, posted, 0));
+    holds(rt, found == entries_in(lists), "the entries", place);
+}
+
+// On these pages the keys are those of the flash that was made, and the one that was stored; and
+// the lists have these numbers of entries.
+fn check_lists(
+    rt: &impl Abort,
+    alloc: Global,
+    layered: &Layered,
+    pages: Vec<PageState>,
+    want: &Wanted,
+    place: Place,
+) {
+    let script = script_of(rt, alloc, &[Step::List, Step::Report]);
+    let session = serve_layered(rt, alloc, layered, pages, script);
+    ended(rt, &session, DONE, place);
+    let keys = layered.keys_listed(rt, alloc, want.stored);
+    let posted = session.flash.posted();
+    let found = posted.get(24..).unwrap_or(&[]);
+    holds(rt, found.starts_with(&keys), "the keys", place);
+    check_entries(rt, posted, &want.lists, place);
+}
+
+// The session that makes all merges: the lists are empty but for run 4 and the outputs of the last three, and no merge is begun.
+fn all_merges(rt: &impl Abort, alloc: Global, layered: &Layered) -> Flash {
+    let place = Place::Named("all merges");
+    let script = script_of(rt, alloc, &[Step::Tick(5000), Step::Report]);
+    let session = serve_layered(rt, alloc, layered, layered.pages(rt, alloc), script);
+    let flash = ended_well(rt, session, place);
+    check_entries(rt, flash.posted(), &layered.lists.behind(4), place);
+    let numbers = numbers(rt, flash.posted(), 0);
+    same(rt, u64::from(numbers[15]), 0, "a merge");
+    flash
+}
+
+// What exists if this mark is interrupted and leaves this: each merge and the freeze are made whose
+// root is there; and if a key is stored, it exists if the commit with its entry, whose pages are
+// programmed last, is there.
+fn wanted_behind(
+    layered: &Layered,
+    flash: &Flash,
+    stored: Option<u16>,
+    k: usize,
+    left: &Left,
+) -> Wanted {
+    let roots = roots_behind(flash, &layered.sizes, k, left);
+    let lists = layered.lists.behind(roots);
+    match last_program(flash) {
+        Some(second) if is_pair_there(second.saturating_sub(1), k, left) => {
+            lists.with_stored(stored)
+        }
+        _ => lists.with_stored(None),
+    }
+}
+
+/// Each mark of a session that makes merges, or stores this key after a freeze, is interrupted in
+/// some ways; and how many cuts these are.
+pub fn check_marks(
+    rt: &impl Abort,
+    alloc: Global,
+    layered: &Layered,
+    flash: &Flash,
+    stored: Option<u16>,
+) -> u32 {
+    let mut cuts = 0u32;
+    for k in 0..flash.marks().saturating_add(1) {
+        for left in &ways(rt, alloc, flash, k) {
+            let want = wanted_behind(layered, flash, stored, k, left);
+            let pages = cut(rt, alloc, flash, k, left);
+            check_lists(rt, alloc, layered, pages, &want, Place::Mark(k));
+            cuts = cuts.saturating_add(1);
+        }
+    }
+    cuts
+}
+
+/// Merges into levels 4, 3, 2 and 1 in one session, which is cut at every mark: the keys are the
+/// same after each cut, and the lists are those of the newest root.
+#[test]
+fn every_cut_of_merges(rt: HostRuntime) {
+    let mut cuts = 0u32;
+    for layered in &FLASHES {
+        let flash = all_merges(&rt, rt.alloc(), layered);
+        cuts = cuts.saturating_add(check_marks(&rt, rt.alloc(), layered, &flash, None));
+    }
+    at_least(&rt, cuts, 500, "cuts");
+}

@@ -1,0 +1,348 @@
+//! The words of the program: those that need no image, and those that ask the drive, each a session of its own.
+
+use crate::sessions::large_board;
+use crate::steps::{
+    MAKE_WORKED, Pink, add, blank, ended, holds, made, made_board, pages_left, posted, same, serve,
+    worked_board, wrote,
+};
+use pk_flash::{Flash, Left};
+use pk_gen::{MOST_VALUE_BYTES, Workload};
+use pk_nand::PageState;
+use pk_nvme::Bytes;
+use pk_test_scripts::boards::Session;
+use pk_test_scripts::exits::{BAD_LINE, DONE, FLASH, NO_DRIVE, OUTPUT, WORDS};
+use pk_test_scripts::program::{RECORDS, SCRIPT};
+use pk_test_scripts::{Place, Program};
+use std::alloc::Global;
+use std::process::Abort;
+use std::test::*;
+
+// The session of the words of a text, which single blanks divide.
+fn run_words(rt: &impl Abort, alloc: Global, text: &str, mut flash: Flash) -> Session {
+    let mut words = Vec::new(alloc);
+    for word in text.split(' ') {
+        words.push(word).expect(rt, "memory");
+    }
+    let status = Pink::run(alloc, &words, &mut flash);
+    Session { status, flash }
+}
+
+// ---- on a board without an image
+
+// Words that need no image.
+const WELL: [&str; 3] = ["make 512 16 64", "asm", "show"];
+
+// Words outside the table.
+const OUTSIDE: [&str; 20] = [
+    "make 512 32 64",
+    "make 512 16 4096",
+    "make 512 16 16",
+    "make 500 16 64",
+    "make 0512 16 64",
+    "make 512 16",
+    "serve",
+    "serve 16385",
+    "serve 36 36",
+    "hello",
+    "",
+    "put 61 61626",
+    "put 61",
+    "get 6",
+    "get 6162636465666768696a6b6c6d6e6f7071",
+    "list -",
+    "stat 1",
+    "asm 1",
+    "show -",
+    "gen 1",
+];
+
+// Words that need a drive.
+const ON_DRIVES: [&str; 12] = [
+    "serve 16384",
+    "serve 36",
+    "put 61 616263",
+    "put 61 -",
+    "get 6A",
+    "get 6162636465666768696a6b6c6d6e6f70",
+    "del 61",
+    "has 61",
+    "list",
+    "list 61",
+    "stat",
+    "gen 1 3",
+];
+
+// These words have this status on a board without an image and without input.
+fn check_words(rt: &impl Abort, alloc: Global, words: &[&'static str], status: u8) {
+    for text in words {
+        let session = run_words(rt, alloc, text, blank(rt, alloc, None, &[]));
+        ended(rt, &session, status, Place::Named(*text));
+    }
+}
+
+/// By the words: the status, on a board without an image and without input.
+#[test]
+fn words(rt: HostRuntime) {
+    check_words(&rt, rt.alloc(), &WELL, DONE);
+    check_words(&rt, rt.alloc(), &OUTSIDE, WORDS);
+    check_words(&rt, rt.alloc(), &ON_DRIVES, NO_DRIVE);
+}
+
+const TEXT: &[u8] = b"store 61 616263\nretrieve 61 3\n";
+
+const SHOWN: &[u8] = b"cid=1 status=00 result=0 reads=0 data=-\n\
+    cid=2 status=00 result=3 reads=1 data=616263\n";
+
+// These words turn the input into these bytes.
+fn check_text(rt: &impl Abort, alloc: Global, words: &'static str, input: &[u8], bytes: &[u8]) {
+    let session = run_words(rt, alloc, words, blank(rt, alloc, None, input));
+    posted(rt, &session, DONE, bytes, Place::Named(words));
+}
+
+/// The text of the worked script is assembled to its bytes, and its records are shown.
+#[test]
+fn texts(rt: HostRuntime) {
+    let alloc = rt.alloc();
+    check_text(&rt, alloc, "asm", TEXT, &SCRIPT);
+    check_text(&rt, alloc, "show", &RECORDS, SHOWN);
+    let bad = run_words(
+        &rt,
+        alloc,
+        "asm",
+        blank(&rt, alloc, None, b"flush\nstroe\n"),
+    );
+    ended(&rt, &bad, BAD_LINE, Place::Named("asm"));
+    same(&rt, bad.flash.posted().len() as u64, 64, "posted bytes");
+}
+
+// ---- on a drive
+
+// What `stat` prints after a Store of three bytes, one of no byte, and a Delete of the other key,
+// each in a session of its own.
+const NUMBERS: &[u8] =
+    b"live 2\nlimit 492\nkeys 1\npinned 2\nframes 36\nleased 1\nactive 1\nfrozen 1\n\
+    run1 1\nrun2 0\nrun3 0\nrun4 0\nepoch 1\nblocks 1\nready 0\nmerge 0\n";
+
+// Words, and the text that they are to post with status 0.
+#[derive(Clone, Copy)]
+struct Said {
+    words: &'static str,
+    text: &'static [u8],
+}
+
+// A session of words on these pages.
+fn session_of(rt: &impl Abort, alloc: Global, pages: Vec<PageState>, words: &str) -> Session {
+    let flash = worked_board(rt, alloc, pages, Vec::new(alloc));
+    run_words(rt, alloc, words, flash)
+}
+
+// The pages after a word.
+fn behind(rt: &impl Abort, alloc: Global, pages: Vec<PageState>, said: &Said) -> Vec<PageState> {
+    let session = session_of(rt, alloc, pages, said.words);
+    posted(rt, &session, DONE, said.text, Place::Named(said.words));
+    pages_left(rt, alloc, &session.flash)
+}
+
+const SAID: [Said; 15] = [
+    Said {
+        words: "put 61 616263",
+        text: b"ok\n",
+    },
+    Said {
+        words: "put 63 -",
+        text: b"ok\n",
+    },
+    Said {
+        words: "get 61",
+        text: b"ok 616263\n",
+    },
+    Said {
+        words: "get 63",
+        text: b"ok -\n",
+    },
+    Said {
+        words: "get 62",
+        text: b"refused 87\n",
+    },
+    Said {
+        words: "list",
+        text: b"61\n63\n",
+    },
+    Said {
+        words: "list 62",
+        text: b"63\n",
+    },
+    Said {
+        words: "list 63",
+        text: b"63\n",
+    },
+    Said {
+        words: "list 64",
+        text: b"",
+    },
+    Said {
+        words: "has 61",
+        text: b"ok\n",
+    },
+    Said {
+        words: "has 62",
+        text: b"refused 87\n",
+    },
+    Said {
+        words: "del 61",
+        text: b"ok\n",
+    },
+    Said {
+        words: "stat",
+        text: NUMBERS,
+    },
+    Said {
+        words: "del 61",
+        text: b"refused 87\n",
+    },
+    Said {
+        words: "list",
+        text: b"63\n",
+    },
+];
+
+/// Each word has its text, and leaves the map that the next one finds.
+#[test]
+fn words_that_ask(rt: HostRuntime) {
+    let mut pages = made(&rt, rt.alloc(), &MAKE_WORKED);
+    for said in &SAID {
+        pages = behind(&rt, rt.alloc(), pages, said);
+    }
+}
+
+// The pages of a drive with the key `a`, whose value is in page 32.
+fn with_one_key(rt: &impl Abort, alloc: Global) -> Vec<PageState> {
+    behind(rt, alloc, made(rt, alloc, &MAKE_WORKED), &SAID[0])
+}
+
+// Words, of which the first call after opening fails: their status and text.
+#[derive(Clone, Copy)]
+struct Failing {
+    words: &'static str,
+    status: u8,
+    text: &'static [u8],
+}
+
+const FAILING: [Failing; 5] = [
+    Failing {
+        words: "get 61",
+        status: DONE,
+        text: b"refused 88\n",
+    },
+    Failing {
+        words: "stat",
+        status: OUTPUT,
+        text: b"",
+    },
+    Failing {
+        words: "has 61",
+        status: OUTPUT,
+        text: b"",
+    },
+    Failing {
+        words: "list",
+        status: OUTPUT,
+        text: b"",
+    },
+    Failing {
+        words: "put 62 62",
+        status: FLASH,
+        text: b"",
+    },
+];
+
+/// A read that fails after opening is reported, and so is an output that fails. How many reads open
+/// the drive follows from a Report, which reads no page.
+#[test]
+fn words_that_fail(rt: HostRuntime) {
+    let alloc = rt.alloc();
+    let quiet = session_of(&rt, alloc, with_one_key(&rt, alloc), "stat");
+    ended(&rt, &quiet, DONE, Place::Named("stat"));
+    let opened = quiet.flash.read_count();
+    for failing in &FAILING {
+        let mut flash = worked_board(&rt, alloc, with_one_key(&rt, alloc), Vec::new(alloc));
+        flash
+            .fail(alloc, opened, Left::Untouched)
+            .expect(&rt, "memory");
+        let session = run_words(&rt, alloc, failing.words, flash);
+        posted(
+            &rt,
+            &session,
+            failing.status,
+            failing.text,
+            Place::Named(failing.words),
+        );
+    }
+}
+
+/// A drive whose value is torn is not opened by a word.
+#[test]
+fn words_on_a_torn_value(rt: HostRuntime) {
+    let mut pages = with_one_key(&rt, rt.alloc());
+    if let Some(page) = pages.get_mut(32) {
+        *page = PageState::Torn;
+    }
+    let session = session_of(&rt, rt.alloc(), pages, "get 61");
+    posted(&rt, &session, NO_DRIVE, b"", Place::Named("get 61"));
+    same(&rt, session.flash.marks() as u64, 0, "marks");
+}
+
+// What a workload of three commands posts on a new drive of 512 blocks of 64 pages of 4,096 bytes: an Exist and a Delete of missing
+// keys, and a Store.
+const SUMMARY: &[u8] =
+    b"commands 3\nok 1\nmissing 2\nlarge 0\nfull 0\nfailed 0\nkeys 1\nlive 2\nmost 0\n";
+
+/// A workload has its summary.
+#[test]
+fn workload(rt: HostRuntime) {
+    let flash = large_board(&rt, rt.alloc(), Vec::new(rt.alloc()));
+    let session = run_words(&rt, rt.alloc(), "gen 1 3", flash);
+    posted(&rt, &session, DONE, SUMMARY, Place::Named("gen 1 3"));
+}
+
+// The first commands of the workload with this start, as a script.
+fn generated(rt: &impl Abort, alloc: Global, start: u32, count: u32) -> Vec<u8> {
+    let mut workload = Workload::new(start);
+    let mut script = Vec::new(alloc);
+    for _ in 0..count {
+        let mut value = Bytes::with_room(alloc, MOST_VALUE_BYTES as usize).expect(rt, "memory");
+        add(rt, &mut script, &workload.next(&mut value));
+        add(rt, &mut script, value.bytes());
+    }
+    script
+}
+
+// Whether a page is in the same state as another.
+fn is_same(page: &PageState, other: &PageState) -> bool {
+    match (page, other) {
+        (PageState::Erased, PageState::Erased) | (PageState::Torn, PageState::Torn) => true,
+        (PageState::Whole(bytes), PageState::Whole(other)) => bytes.bytes() == other.bytes(),
+        _ => false,
+    }
+}
+
+/// A workload is committed in groups: it leaves the pages that `serve` leaves of the same commands, by as many programs and erases.
+#[test]
+fn grouped_workload(rt: HostRuntime) {
+    let alloc = rt.alloc();
+    let place = Place::Named("gen 2 60");
+    let script = generated(&rt, alloc, 2, 60);
+    let served = serve(alloc, made_board(&rt, alloc, script));
+    ended(&rt, &served, DONE, place);
+    let flash = made_board(&rt, alloc, Vec::new(alloc));
+    let session = run_words(&rt, alloc, "gen 2 60", flash);
+    ended(&rt, &session, DONE, place);
+    let programs = served.flash.program_count();
+    wrote(&rt, &session, programs, served.flash.erase_count());
+    let wanted = pages_left(&rt, alloc, &served.flash);
+    let left = pages_left(&rt, alloc, &session.flash);
+    same(&rt, left.len() as u64, wanted.len() as u64, "pages");
+    for (page, other) in left.iter().zip(wanted.iter()) {
+        holds(&rt, is_same(page, other), "a page", place);
+    }
+}

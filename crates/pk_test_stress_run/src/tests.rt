@@ -1,0 +1,135 @@
+//! The trials of hard cases, one test for each.
+
+use pk_core::{Drive, OpenError};
+use pk_drive::Engine;
+use pk_flash::Flash;
+use pk_test_stress::deep::SHAPES;
+use pk_test_stress::merged::MERGES;
+use pk_test_stress::{Opened, Opens};
+use pk_test_scripts::Program;
+use pk_top::run;
+use std::alloc::Global;
+use std::test::*;
+
+/// The program whose parts this repository proves.
+pub struct Pink;
+
+impl Program for Pink {
+    fn run(alloc: Global, words: &[&str], flash: &mut Flash) -> u8 {
+        run(alloc, words, flash).0
+    }
+}
+
+impl Opens for Pink {
+    fn opened(alloc: Global, flash: &mut Flash) -> Opened {
+        let Some(shape) = flash.shape() else {
+            return Opened::Failed;
+        };
+        match Drive::open(alloc, flash, shape, 36) {
+            Ok(drive) => Opened::Keys(drive.counts().keys),
+            Err(OpenError::NotFormatted) => Opened::NotFormatted,
+            Err(OpenError::Damaged { page }) => Opened::Damaged(page),
+            Err(_) => Opened::Failed,
+        }
+    }
+}
+
+#[test]
+fn calls_of_the_worked_session(rt: HostRuntime) -> Result<(), Fail> {
+    pk_test_stress::calls::calls_of_the_worked_session::<Pink>(rt.alloc())
+}
+
+#[test]
+fn reads_of_the_worked_opening(rt: HostRuntime) -> Result<(), Fail> {
+    pk_test_stress::calls::reads_of_the_worked_opening::<Pink>(rt.alloc())
+}
+
+#[test]
+fn journal_bytes(rt: HostRuntime) -> Result<(), Fail> {
+    pk_test_stress::spoiled::journal_bytes::<Pink>(rt.alloc())
+}
+
+#[test]
+fn journal_bytes_by_all(rt: HostRuntime) -> Result<(), Fail> {
+    pk_test_stress::spoiled::journal_bytes_by_all::<Pink>(rt.alloc())
+}
+
+#[test]
+fn every_byte(rt: HostRuntime) -> Result<(), Fail> {
+    pk_test_stress::spoiled::every_byte::<Pink>(rt.alloc())
+}
+
+#[test]
+fn every_page(rt: HostRuntime) -> Result<(), Fail> {
+    pk_test_stress::spoiled::every_page::<Pink>(rt.alloc())
+}
+
+#[test]
+fn every_pair(rt: HostRuntime) -> Result<(), Fail> {
+    pk_test_stress::spoiled::every_pair::<Pink>(rt.alloc())
+}
+
+#[test]
+fn exchanged(rt: HostRuntime) -> Result<(), Fail> {
+    pk_test_stress::spoiled::exchanged::<Pink>(rt.alloc())
+}
+
+#[test]
+fn others(rt: HostRuntime) -> Result<(), Fail> {
+    pk_test_stress::spoiled::others::<Pink>(rt.alloc())
+}
+
+#[test]
+fn three_deep(rt: HostRuntime) -> Result<(), Fail> {
+    pk_test_stress::deep::three_deep::<Pink>(rt.alloc(), &SHAPES[0])
+}
+
+#[test]
+fn three_deep_of_wide_pages(rt: HostRuntime) -> Result<(), Fail> {
+    pk_test_stress::deep::three_deep::<Pink>(rt.alloc(), &SHAPES[1])
+}
+
+#[test]
+fn three_deep_of_long_blocks(rt: HostRuntime) -> Result<(), Fail> {
+    pk_test_stress::deep::three_deep::<Pink>(rt.alloc(), &SHAPES[2])
+}
+
+#[test]
+fn freezes(rt: HostRuntime) -> Result<(), Fail> {
+    pk_test_stress::merged::freezes::<Pink>(rt.alloc())
+}
+
+#[test]
+fn merges(rt: HostRuntime) -> Result<(), Fail> {
+    pk_test_stress::merged::merges::<Pink>(rt.alloc(), &MERGES[0])
+}
+
+#[test]
+fn merges_of_wide_pages(rt: HostRuntime) -> Result<(), Fail> {
+    pk_test_stress::merged::merges::<Pink>(rt.alloc(), &MERGES[1])
+}
+
+#[test]
+fn merges_of_long_blocks(rt: HostRuntime) -> Result<(), Fail> {
+    pk_test_stress::merged::merges::<Pink>(rt.alloc(), &MERGES[2])
+}
+
+#[test]
+fn each_call_of_a_reclaim(rt: HostRuntime) -> Result<(), Fail> {
+    pk_test_stress::failing::each_call::<Pink>(rt.alloc(), &SHAPES[0])
+}
+
+#[test]
+fn each_call_with_wide_pages(rt: HostRuntime) -> Result<(), Fail> {
+    pk_test_stress::failing::each_call::<Pink>(rt.alloc(), &SHAPES[1])
+}
+
+#[test]
+fn each_call_with_long_blocks(rt: HostRuntime) -> Result<(), Fail> {
+    pk_test_stress::failing::each_call::<Pink>(rt.alloc(), &SHAPES[2])
+}
+
+#[test]
+fn list_that_fails(rt: HostRuntime) -> Result<(), Fail> {
+    pk_test_stress::listing::later_commands_fail::<Pink>(rt.alloc())
+}
