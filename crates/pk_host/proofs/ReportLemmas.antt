@@ -31,7 +31,7 @@ module _ (old new : PortState) (a : Reply) (x : Replies old new report a) where
       let served = success_served old.shape old.limit s.frames m report Report a s.left refl (λ e. let clash : None ≡ Some 0 = sym (report_by old.shape old.limit m) ∙ e in cc) zero s.stepped in
       let bytes = report_bytes old.shape old.limit s.frames m served.own in
       let all : length bytes ≡ 64 = omega (arith, length-numbers (live old.shape m ∷ old.limit ∷ len_of m ∷ pinned old.shape s.frames ∷ s.frames ∷ served.own), served.eleven) in
-      (s.frames, served.own, served.eleven, whole len into bytes sized fits (sym front ∙ ap (λ (r : Reply). r.data_bytes) served.replied) all)
+      (s.frames, s.frames_is, served.own, served.eleven, whole len into bytes sized fits (sym front ∙ ap (λ (r : Reply). r.data_bytes) served.replied) all)
 
   pub report_leaves : Leaves old new (λ m. m)
   report_leaves = leaves_map old new report Report a refl (λ m. refl) x

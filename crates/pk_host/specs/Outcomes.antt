@@ -1,6 +1,6 @@
 -- What a call of a host makes of the reply to its command.
 use Rattle.std.specs.Prelude.{◌≡◌, ◌⊎◌, ℕ, List, [], ◌∷◌, length, take, min, Bool, true, false, ◌==◌, if◌then◌else◌, Option, Some, None, Result, Ok, Err}
-use Rattle.std.specs.Option.{option_map}
+use Rattle.std.specs.Option.{option_map, IfSome}
 use Rattle.std.specs.FinMap.{get, contains_key, remove}
 use Rattle.std.specs.List.{AllByRecursion}
 use Rattle.pk_base.specs.Key.{Key}
@@ -86,10 +86,10 @@ Cuts p key most bytes whole = (m : Map) → p.map ≡ Some m → (bytes ≡ opti
 abbrev pub KeyHas : PortState → Key → ℕ → Option (List ℕ) → Type 0
 KeyHas p key most bytes = (m : Map) → p.map ≡ Some m → bytes ≡ option_map (take most) (get m key)
 
--- sixteen numbers: five of the map and of some frames, and eleven of the drive's own
+-- sixteen numbers: five of the map and of the drive's frames, if their number is known, and eleven of the drive's own
 abbrev pub Numbers : PortState → List ℕ → Type 0
 Numbers p bytes =
-    (m : Map) → p.map ≡ Some m → (frames : ℕ) × (own : List ℕ) × (length own ≡ 11) × (bytes ≡ report_bytes p.shape p.limit frames m own)
+    (m : Map) → p.map ≡ Some m → (frames : ℕ) × IfSome p.frames (λ f. frames ≡ f) × (own : List ℕ) × (length own ≡ 11) × (bytes ≡ report_bytes p.shape p.limit frames m own)
 
 abbrev pub AtMostOne : Command → List Command → Type 0
 AtMostOne c cs = (cs ≡ []) ⊎ (cs ≡ c ∷ [])

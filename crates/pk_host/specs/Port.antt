@@ -1,5 +1,6 @@
 -- Ports: what a host sees of a drive that it hands one command after another.
 use Rattle.std.specs.Prelude.{◌≡◌, ◌⊎◌, ℕ, ◌≤◌, ◌<◌, ◌^◌, List, [], ◌∷◌, length, take, Option, Some, None}
+use Rattle.std.specs.Option.{IfSome}
 use Rattle.pk_base.specs.Shape.{Shape}
 use Rattle.pk_base.specs.Map.{Map, IsMap, live}
 use Rattle.pk_nvme.specs.declared.sizes.TheConstants.{REPORT_BYTES}
@@ -14,11 +15,13 @@ use Rattle.pk_model.specs.Answer.{map_after}
 use Rattle.pk_model.specs.Run.{StepIn}
 use Rattle.pk_host.specs.declared.types.Completed.{Completed}
 
--- the map of the drive, if it is known; its shape and its limit of live pages; and the counts of failed calls and failed reads
+-- the map of the drive, if it is known; its shape, its limit of live pages and its page frames, if their number is known; and the counts of failed
+-- calls and failed reads
 pub record PortState : Type 0 where
   pub map : Option Map
   pub shape : Shape
   pub limit : ℕ
+  pub frames : Option ℕ
   pub port_faults : ℕ
   pub read_faults : ℕ
 
@@ -43,6 +46,7 @@ room_of c = room_for c.size (op_of c.opcode)
 pub record PortSteps (old new : PortState) (c : Command) (a : Reply) (m : Map) : Type 0 where
   pub within : IsWithin old m
   pub frames : ℕ
+  pub frames_is : IfSome old.frames (λ f. frames ≡ f)
   pub left : Map
   pub stepped : StepIn old.shape old.limit frames m c a left
   pub told : new.map ≡ Some left

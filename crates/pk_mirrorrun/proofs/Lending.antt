@@ -9,7 +9,7 @@ use Rattle.pk_nand.specs.Calls.{IsReady}
 use Rattle.pk_model.specs.Reading.{reading, Holds}
 use Rattle.pk_model.specs.Sight.{Sight}
 use Rattle.pk_call.specs.Drive.{HoldsMap}
-use Rattle.pk_port.specs.Steps.{Standing, seen}
+use Rattle.pk_port.specs.Steps.{Mounted, Standing, seen}
 use Rattle.pk_mirror.specs.Pair.{Mirrored}
 use Rattle.pk_mirrorwords.specs.PairTasks.{PairTask}
 use Rattle.pk_mirrorwords.specs.PairAnswers.{IsToldPair, PairSaid}
@@ -20,15 +20,15 @@ told_both : (shape : Shape) (a c : BoardState) (m n : Map) → Holds shape a.pag
 told_both shape a c m n h g = ap is_some (ap result_ok g) ∙ sym (ap is_some (ap result_ok h))
 
 -- two boards of one shape that hold maps, and a mirror that is split
-pub told_pair : (mirror : Mirrored) (shape : Shape) (a c : BoardState) (f g : ℕ)
-    → mirror ≡ record { shape = shape; split = true } → (m : Map) × Holds shape a.pages m → (n : Map) × Holds shape c.pages n
+pub told_pair : (mirror : Mirrored) (shape : Shape) (a c : Mounted) (f g : ℕ)
+    → mirror ≡ record { shape = shape; split = true } → (m : Map) × Holds shape a.board.pages m → (n : Map) × Holds shape c.board.pages n
     → IsToldPair mirror (seen shape a f) (seen shape c g)
 told_pair mirror shape a c f g is (m, h) (n, k) = record {
   pair = record {
     first_shape = sym (ap (λ (x : Mirrored). x.shape) is);
     second_shape = sym (ap (λ (x : Mirrored). x.shape) is);
     limit = refl;
-    both_tell = told_both shape a c m n h k;
+    both_tell = told_both shape a.board c.board m n h k;
     in_step = λ off. absurd (let clash : true ≡ false = sym (ap (λ (x : Mirrored). x.split) is) ∙ off in cc);
   };
   limit_is = refl;
@@ -48,18 +48,18 @@ serving shape b d ready runs none stands = record {
 -- what was said of two ports that keep their shape, of the drives and boards when they are given back
 pub said_lent : (asked : Type 0) (task : PairTask) (shape one two : Shape) (p p' last q q' last' : Standing) (m : Map) (text : List ℕ)
     → (asked → BothWalked shape p p' q q') → one ≡ shape → two ≡ shape → last ≡ p' → last' ≡ q'
-    → PairSaid asked task (seen shape p.on.board p.faults) (seen one p'.on.board p'.faults) (seen shape q.on.board q.faults) (seen two q'.on.board q'.faults) m text
-    → PairSaid (BothWalked shape p last q last') task (seen shape p.on.board p.faults)
-    (seen shape last.on.board last.faults) (seen shape q.on.board q.faults) (seen shape last'.on.board last'.faults) m text
+    → PairSaid asked task (seen shape p.on p.faults) (seen one p'.on p'.faults) (seen shape q.on q.faults) (seen two q'.on q'.faults) m text
+    → PairSaid (BothWalked shape p last q last') task (seen shape p.on p.faults)
+    (seen shape last.on last.faults) (seen shape q.on q.faults) (seen shape last'.on last'.faults) m text
 said_lent asked task shape one two p p' last q q' last' m text walked same same' back back' said =
-    let First : Shape → Type 0 = λ s. PairSaid asked task (seen shape p.on.board p.faults) (seen s p'.on.board p'.faults) (seen shape q.on.board q.faults) (seen two q'.on.board q'.faults) m text in
-    let Second : Shape → Type 0 = λ s. PairSaid asked task (seen shape p.on.board p.faults) (seen shape p'.on.board p'.faults) (seen shape q.on.board q.faults) (seen s q'.on.board q'.faults) m text in
-    let Last : Standing → Type 0 = λ x. PairSaid (BothWalked shape p x q q') task (seen shape p.on.board p.faults)
-    (seen shape x.on.board x.faults) (seen shape q.on.board q.faults) (seen shape q'.on.board q'.faults) m text in
-    let Last' : Standing → Type 0 = λ x. PairSaid (BothWalked shape p last q x) task (seen shape p.on.board p.faults)
-    (seen shape last.on.board last.faults) (seen shape q.on.board q.faults) (seen shape x.on.board x.faults) m text in
-    let walk : PairSaid (BothWalked shape p p' q q') task (seen shape p.on.board p.faults)
-    (seen shape p'.on.board p'.faults) (seen shape q.on.board q.faults) (seen shape q'.on.board q'.faults) m text =
+    let First : Shape → Type 0 = λ s. PairSaid asked task (seen shape p.on p.faults) (seen s p'.on p'.faults) (seen shape q.on q.faults) (seen two q'.on q'.faults) m text in
+    let Second : Shape → Type 0 = λ s. PairSaid asked task (seen shape p.on p.faults) (seen shape p'.on p'.faults) (seen shape q.on q.faults) (seen s q'.on q'.faults) m text in
+    let Last : Standing → Type 0 = λ x. PairSaid (BothWalked shape p x q q') task (seen shape p.on p.faults)
+    (seen shape x.on x.faults) (seen shape q.on q.faults) (seen shape q'.on q'.faults) m text in
+    let Last' : Standing → Type 0 = λ x. PairSaid (BothWalked shape p last q x) task (seen shape p.on p.faults)
+    (seen shape last.on last.faults) (seen shape q.on q.faults) (seen shape x.on x.faults) m text in
+    let walk : PairSaid (BothWalked shape p p' q q') task (seen shape p.on p.faults)
+    (seen shape p'.on p'.faults) (seen shape q.on q.faults) (seen shape q'.on q'.faults) m text =
     elim (subst Second same' (subst First same said)) [
       | inl (some, done) ↦ inl (walked some, done)
       | inr unread ↦ inr unread

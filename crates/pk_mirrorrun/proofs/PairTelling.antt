@@ -154,7 +154,7 @@ module _ (task : PairTask) (shape : Shape) (m other : Map) (cs ds : List Command
 
   -- if neither did, no port failed
   pub no_fault : p.halt ≡ None → q.halt ≡ None → p'.halt ≡ None → q'.halt ≡ None → p.faults ≡ 0 → q.faults ≡ 0
-      → PairFault (seen shape a p.faults) (seen shape b p'.faults) (seen shape c q.faults) (seen shape d q'.faults) → ⊥
+      → PairFault (seen shape p.on p.faults) (seen shape p'.on p'.faults) (seen shape q.on q.faults) (seen shape q'.on q'.faults) → ⊥
   no_fault first second none nor zero too_zero (inl rose) =
       let same = (all_served shape m cs p p' first none walk).same_faults in
       let now : Rose 0 0 = subst (λ (n : ℕ). Rose n n) zero (subst (λ (n : ℕ). Rose p.faults n) same rose) in absurd (omega (arith, now))
@@ -165,7 +165,7 @@ module _ (task : PairTask) (shape : Shape) (m other : Map) (cs ds : List Command
   -- ---- the text
 
   module _ (w : AllServed shape m cs p p') (v : AllServed shape other ds q q') (text : List ℕ)
-      (said : PairSaid (BothUnworn a c) task (seen shape a p.faults) (seen shape b p'.faults) (seen shape c q.faults) (seen shape d q'.faults) m text) where
+      (said : PairSaid (BothUnworn a c) task (seen shape p.on p.faults) (seen shape p'.on p'.faults) (seen shape q.on q.faults) (seen shape q'.on q'.faults) m text) where
     -- what the text says of the map that the first drive holds
     abbrev Says : List Exchange → List ℕ → Map → Type 0
     Says all t left = ((left ≡ map_left_by shape task m) × (t ≡ text_by shape task m)) ⊎ (EitherUnread a b c d × (t ≡ failed_line))
@@ -265,7 +265,7 @@ both_none (Some halt) two e = let clash : ◌≡◌ {A = Option WordEnd} (Some (
 
 module _ (task : PairTask) (shape : Shape) (m other : Map) (p p' q q' : Standing) (has : p.on.board.shape ≡ Some shape) (has' : q.on.board.shape ≡ Some shape) (holds : Holds shape p.on.board.pages m)
     (holds' : Holds shape q.on.board.pages other) (going : p.on.stopped ≡ false) (going' : q.on.stopped ≡ false) (walk : Walk shape (AreOfFirst task) p p')
-    (too : Walk shape (AreOfSecond (seen shape p.on.board p.faults) (seen shape q.on.board q.faults)) q q') (first : p.halt ≡ None) (second : q.halt ≡ None) where
+    (too : Walk shape (AreOfSecond (seen shape p.on p.faults) (seen shape q.on q.faults)) q q') (first : p.halt ≡ None) (second : q.halt ≡ None) where
   one : Chained shape m walk.0 p p'
   one = chained shape m p walk.0 p' has holds going walk.2
 
@@ -273,20 +273,20 @@ module _ (task : PairTask) (shape : Shape) (m other : Map) (p p' q q' : Standing
   two = chained shape other q too.0 q' has' holds' going' too.2
 
   few_roots : installs too.0 ≤ most_pair_roots m other
-  few_roots = second_installs (seen shape p.on.board p.faults) (seen shape q.on.board q.faults) m other too.0 (ap result_ok holds) (ap result_ok holds') too.1
+  few_roots = second_installs (seen shape p.on p.faults) (seen shape q.on q.faults) m other too.0 (ap result_ok holds) (ap result_ok holds') too.1
 
   pub tells-halted : (end : WordEnd) → Some end ≡ end_by p'.halt q'.halt → PairTold task shape m other p.on.board p'.on.board q.on.board q'.on.board end
   tells-halted end by = told-halted task shape m other walk.0 too.0 p p' q q' walk.1 few_roots one two p'.halt q'.halt end first second refl refl (sym by)
 
   -- what was said after commands was said of drives that were not worn
   unworn : p'.halt ≡ None → q'.halt ≡ None → (text : List ℕ)
-      → PairSaid (BothWalked shape p p' q q') task (seen shape p.on.board p.faults) (seen shape p'.on.board p'.faults) (seen shape q.on.board q.faults) (seen shape q'.on.board q'.faults) m text
-      → PairSaid (BothUnworn p.on.board q.on.board) task (seen shape p.on.board p.faults) (seen shape p'.on.board p'.faults) (seen shape q.on.board q.faults) (seen shape q'.on.board q'.faults) m text
+      → PairSaid (BothWalked shape p p' q q') task (seen shape p.on p.faults) (seen shape p'.on p'.faults) (seen shape q.on q.faults) (seen shape q'.on q'.faults) m text
+      → PairSaid (BothUnworn p.on.board q.on.board) task (seen shape p.on p.faults) (seen shape p'.on p'.faults) (seen shape q.on q.faults) (seen shape q'.on q'.faults) m text
   unworn none nor text (inl (asked, done)) = inl ((unworn_by shape m p p' has holds going first none asked.0, unworn_by shape other q q' has' holds' going' second nor asked.1), done)
   unworn none nor text (inr unread) = inr unread
 
   pub tells-posted : end_by p'.halt q'.halt ≡ None → (text : List ℕ)
-      → PairSaid (BothWalked shape p p' q q') task (seen shape p.on.board p.faults) (seen shape p'.on.board p'.faults) (seen shape q.on.board q.faults) (seen shape q'.on.board q'.faults) m text
+      → PairSaid (BothWalked shape p p' q q') task (seen shape p.on p.faults) (seen shape p'.on p'.faults) (seen shape q.on q.faults) (seen shape q'.on q'.faults) m text
       → (last : BoardState) → last ≡ after_post p'.on.board text → PairTold task shape m other p.on.board last q.on.board q'.on.board Done
   tells-posted by text said last is =
       let (none, nor) = both_none p'.halt q'.halt by in
@@ -294,7 +294,7 @@ module _ (task : PairTask) (shape : Shape) (m other : Map) (p p' q q' : Standing
       (all_served shape other too.0 q q' second nor two) text (unworn none nor text said) last is
 
   pub tells-unposted : end_by p'.halt q'.halt ≡ None → (text : List ℕ)
-      → PairSaid (BothWalked shape p p' q q') task (seen shape p.on.board p.faults) (seen shape p'.on.board p'.faults) (seen shape q.on.board q.faults) (seen shape q'.on.board q'.faults) m text
+      → PairSaid (BothWalked shape p p' q q') task (seen shape p.on p.faults) (seen shape p'.on p'.faults) (seen shape q.on q.faults) (seen shape q'.on q'.faults) m text
       → (last : BoardState) → PostFailed p'.on.board last text → PairTold task shape m other p.on.board last q.on.board q'.on.board Output
   tells-unposted by text said last failed =
       let (none, nor) = both_none p'.halt q'.halt by in
@@ -302,6 +302,6 @@ module _ (task : PairTask) (shape : Shape) (m other : Map) (p p' q q' : Standing
       (all_served shape other too.0 q q' second nor two) text (unworn none nor text said) last failed
 
   pub faults-never : end_by p'.halt q'.halt ≡ None → p.faults ≡ 0 → q.faults ≡ 0
-      → PairFault (seen shape p.on.board p.faults) (seen shape p'.on.board p'.faults) (seen shape q.on.board q.faults) (seen shape q'.on.board q'.faults) → ⊥
+      → PairFault (seen shape p.on p.faults) (seen shape p'.on p'.faults) (seen shape q.on q.faults) (seen shape q'.on q'.faults) → ⊥
   faults-never by zero zero' fault =
       let (none, nor) = both_none p'.halt q'.halt by in no_fault task shape m other walk.0 too.0 p p' q q' walk.1 few_roots one two first second none nor zero zero' fault

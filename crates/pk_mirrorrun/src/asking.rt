@@ -5,7 +5,7 @@ ghost use Rattle.pk_model.specs.Reading.{Holds};
 ghost use Rattle.pk_mirror.specs.Pair.{Mirrored};
 ghost use Rattle.pk_call.specs.Running.{HasRoomForData};
 ghost use Rattle.pk_port.specs.Ready.{Fits};
-ghost use Rattle.pk_port.specs.Steps.{standing, seen as seen_on};
+ghost use Rattle.pk_port.specs.Steps.{mount, standing, seen as seen_on};
 ghost use Rattle.pk_words.specs.Said.{Spoken};
 ghost use Rattle.pk_mirrorwords.specs.PairTasks.{seen, IsShort};
 ghost use Rattle.pk_mirrorwords.specs.PairAnswers.{PairSaid, PairFault, AreOfFirst, AreOfSecond};
@@ -56,8 +56,8 @@ pub fn ask<D: Engine, B: Nand, E: Engine, C: Nand>(
         (standing (B.state first.new) (D.sight first_drive.new) first_tally.new.faults
         first_tally.new.halt) }
     ensures second { Walk shape (AreOfSecond
-        (seen_on shape (B.state first.old) first_tally.old.faults)
-        (seen_on shape (C.state second.old) second_tally.old.faults))
+        (seen_on shape (mount (B.state first.old) (D.sight first_drive.old)) first_tally.old.faults)
+        (seen_on shape (mount (C.state second.old) (E.sight second_drive.old)) second_tally.old.faults))
         (standing (C.state second.old) (E.sight second_drive.old) second_tally.old.faults
         second_tally.old.halt)
         (standing (C.state second.new) (E.sight second_drive.new) second_tally.new.faults
@@ -74,15 +74,15 @@ pub fn ask<D: Engine, B: Nand, E: Engine, C: Nand>(
         second_tally.old.halt)
         (standing (C.state second.new) (E.sight second_drive.new) second_tally.new.faults
         second_tally.new.halt))
-        (seen task.now) (seen_on shape (B.state first.old) first_tally.old.faults)
-        (seen_on shape (B.state first.new) first_tally.new.faults)
-        (seen_on shape (C.state second.old) second_tally.old.faults)
-        (seen_on shape (C.state second.new) second_tally.new.faults) m room.new.text) }
+        (seen task.now) (seen_on shape (mount (B.state first.old) (D.sight first_drive.old)) first_tally.old.faults)
+        (seen_on shape (mount (B.state first.new) (D.sight first_drive.new)) first_tally.new.faults)
+        (seen_on shape (mount (C.state second.old) (E.sight second_drive.old)) second_tally.old.faults)
+        (seen_on shape (mount (C.state second.new) (E.sight second_drive.new)) second_tally.new.faults) m room.new.text) }
     ensures fault { OnErr result
-        (PairFault (seen_on shape (B.state first.old) first_tally.old.faults)
-        (seen_on shape (B.state first.new) first_tally.new.faults)
-        (seen_on shape (C.state second.old) second_tally.old.faults)
-        (seen_on shape (C.state second.new) second_tally.new.faults)) }
+        (PairFault (seen_on shape (mount (B.state first.old) (D.sight first_drive.old)) first_tally.old.faults)
+        (seen_on shape (mount (B.state first.new) (D.sight first_drive.new)) first_tally.new.faults)
+        (seen_on shape (mount (C.state second.old) (E.sight second_drive.old)) second_tally.old.faults)
+        (seen_on shape (mount (C.state second.new) (E.sight second_drive.new)) second_tally.new.faults)) }
 {
     let mut first_port = DrivePort {
         drive: first_drive,

@@ -98,16 +98,17 @@ module _ (agrees : Option Shape → Flash → Type 0) (shape : Shape) (old : Boa
       }
 
       pub replies_so : rep.status < 256 → rep.result < 2 ^ 32 → (rep.status ≡ 0x88 → Rose old.read_faults new.read_faults)
-          → (before behind : ℕ) → Replies (seen shape old before) (seen shape new behind) c rep
+          → (before behind : ℕ) → Replies (seen shape (mount old d) before) (seen shape (mount new e) behind) c rep
       replies_so small field unread before behind = record {
         status_size = small;
         result_size = field;
         answers = λ m told.
             let same : ready.map ≡ m = ok_same ready.map m (sym ready_holds ∙ ok_told _ m told) in
-            let T : Map → Type 0 = λ x. PortSteps (seen shape old before) (seen shape new behind) c rep x in
+            let T : Map → Type 0 = λ x. PortSteps (seen shape (mount old d) before) (seen shape (mount new e) behind) c rep x in
             subst T same (record {
               within = record { sized = ready.good.sized; few = ready.good.few };
               frames = d.counts.frames;
+              frames_is = refl;
               left = done.left;
               stepped = done.stepped;
               told = ap result_ok done.holds;

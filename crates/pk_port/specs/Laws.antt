@@ -19,7 +19,7 @@ joined shape p (c ∷ cs) q ds r (mid, s, h) k = (mid, s, joined shape mid cs q 
 
 -- what a host sees of a port of this shape
 abbrev pub seen_of : Shape → Standing → PortState
-seen_of shape p = seen shape p.on.board p.faults
+seen_of shape p = seen shape p.on p.faults
 
 -- ---- one step
 
@@ -84,9 +84,9 @@ took_chain shape p (c ∷ cs) q (mid, s, h) = took_both (seen_of shape p) (c ∷
 -- ---- ports that name their shape
 
 pub told_by : (shape shape' : Shape) (p : Standing) (cs : List Command) (q : Standing) → shape' ≡ shape → Chain shape p cs q
-    → Took (seen shape p.on.board p.faults) (seen shape' q.on.board q.faults) cs
+    → Took (seen shape p.on p.faults) (seen shape' q.on q.faults) cs
 told_by shape shape' p cs q e h =
-    let T : Shape → Type 0 = λ s. Took (seen_of shape p) (seen s q.on.board q.faults) cs in subst T (sym e) (took_chain shape p cs q h)
+    let T : Shape → Type 0 = λ s. Took (seen_of shape p) (seen s q.on q.faults) cs in subst T (sym e) (took_chain shape p cs q h)
 
 pub joined_by : (shape shape' : Shape) (p : Standing) (cs : List Command) (q : Standing) (ds : List Command) (r : Standing) → shape' ≡ shape → Chain shape p cs q → Chain shape' q ds r
     → Chain shape p (cs ++ ds) r

@@ -42,14 +42,15 @@ pub record Standing : Type 0 where
 abbrev pub standing : BoardState → Sight → ℕ → Option Halt → Standing
 standing board drive faults halt = record { on = mount board drive; faults = faults; halt = halt }
 
--- what a host sees of a board of this shape, after this many faults of the port
-abbrev pub seen : Shape → BoardState → ℕ → PortState
-seen shape board faults = record {
-  map = result_ok (reading shape board.pages []);
+-- what a host sees of a drive on a board of this shape, after this many faults of the port
+abbrev pub seen : Shape → Mounted → ℕ → PortState
+seen shape on faults = record {
+  map = result_ok (reading shape on.board.pages []);
   shape = shape;
   limit = limit shape;
+  frames = Some on.frames;
   port_faults = faults;
-  read_faults = board.read_faults;
+  read_faults = on.board.read_faults;
 }
 
 -- ---- one command

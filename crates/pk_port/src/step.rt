@@ -54,8 +54,8 @@ pub fn serve<D: Engine, B: Nand>(
 
     // The reply to a host.
     ensures replies { IfOk result (λ o. (before behind : ℕ)
-        → Replies (seen shape.now (B.state board.old) before)
-        (seen shape.now (B.state board.new) behind) (command_of request.now value.now)
+        → Replies (seen shape.now (mount (B.state board.old) (D.sight drive.old)) before)
+        (seen shape.now (mount (B.state board.new) (D.sight drive.new)) behind) (command_of request.now value.now)
         (reply_of o into.new)) }
     ensures data { IfOk result (λ o. o.data_len ≤ room_of (command_of request.now value.now)) }
     ensures fits_data { IfOk result (λ o. o.data_len ≤ length into.new) }
@@ -98,8 +98,8 @@ pub fn serve_lent<D: Engine, B: Nand>(
 
     // The reply to a host.
     ensures replies { IfOk result (λ o. (before behind : ℕ)
-        → Replies (seen shape.now (B.state board.old) before)
-        (seen shape.now (B.state board.new) behind) (command_of request.now value.now)
+        → Replies (seen shape.now (mount (B.state board.old) (D.sight drive.old)) before)
+        (seen shape.now (mount (B.state board.new) (D.sight drive.new)) behind) (command_of request.now value.now)
         (reply_of o into.new)) }
     ensures data { IfOk result (λ o. o.data_len ≤ room_of (command_of request.now value.now)) }
     ensures fits_data { IfOk result (λ o. o.data_len ≤ length into.new) }

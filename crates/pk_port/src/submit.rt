@@ -4,7 +4,7 @@ ghost use Rattle.std.proofs.Common.{refl, ◌∙◌};
 ghost use Rattle.pk_nvme.specs.Command.{Command};
 ghost use Rattle.pk_host.specs.Port.{PortState, Replies, Completes};
 ghost use Rattle.pk_call.specs.Seen.{reply_of};
-ghost use Rattle.pk_port.specs.Steps.{standing, seen, Chain};
+ghost use Rattle.pk_port.specs.Steps.{mount, standing, seen, Chain};
 ghost use Rattle.pk_port.specs.Laws.{joined_by, told_by};
 
 use crate::DrivePort;
@@ -47,7 +47,8 @@ fn completed(
 }
 
 impl<'d, 'b, 't, 'm, D: Engine, B: Nand> Port for DrivePort<'d, 'b, 't, 'm, D, B> {
-    ghost state = { λ p. seen p.shape (B.state p.board.now) p.tally.now.faults };
+    ghost state = { λ p. seen p.shape (mount (B.state p.board.now) (D.sight p.drive.now))
+        p.tally.now.faults };
 
     ghost took = { λ p cs q. (q.drive.ghost_name ≡ p.drive.ghost_name)
         × (q.board.ghost_name ≡ p.board.ghost_name)

@@ -39,6 +39,7 @@ module _ (old new : Machine) (faults : ℕ) (c : Command) (a : Answer) (h : Answ
     answers = λ m told. subst (λ (x : Map). PortSteps (seen old faults) (seen new faults) c (replied a) x) (some_map old.map m told) (record {
       within = record { sized = good.sized; few = good.few };
       frames = 0;
+      frames_is = tt;
       left = map_after old.shape (limit old.shape) old.map c;
       stepped = inl (record { own = no_numbers; eleven = refl; replied = h.reply_is; leaves = refl });
       told = ap (λ (x : Map). Some x) map_is;

@@ -28,6 +28,8 @@ module _ (shape : Shape) (old new : Mounted) (place : ListPosition) (x : Exchang
       let after : s.left ≡ m = cc in
       subst (λ (l : Map). StepWithin shape old.frames m x l) after (subst (λ (k : Map). StepWithin shape old.frames k x s.left) before s.step)
 
-  pub piece_asked : (next : Option ListPosition) (text : List ℕ) → Piece (seen shape old.board 0) (seen shape new.board 0) place next text
+  pub piece_asked : (next : Option ListPosition) (text : List ℕ) → Piece (seen shape old 0) (seen shape new 0) place next text
       → PieceAsked shape old.frames old.board new.board place next text
-  piece_asked next text piece = record { piece = piece; x = x; is = s.is; step = step_same; metered = s.metered; reads = s.looks (piece_looks place); up = s.up }
+  piece_asked next text piece =
+      let T : Mounted → Type 0 = λ m. Piece (seen shape old 0) (seen shape m 0) place next text in
+      record { piece = subst T s.new_is piece; x = x; is = s.is; step = step_same; metered = s.metered; reads = s.looks (piece_looks place); up = s.up }

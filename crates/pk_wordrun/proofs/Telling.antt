@@ -22,7 +22,7 @@ use Rattle.pk_port.specs.declared.halt.Halt.{Halt}
 use Rattle.pk_port.specs.declared.halt.Halt.TheVariants.{Stopped, Worn as UsedUp}
 use Rattle.pk_port.proofs.Growing.{asked-none, asked-next, asked-stops, asked-posts, asked-post_failed, went-silent}
 use Rattle.pk_words.specs.Question.{Question, command_of, QuestionAnswers}
-use Rattle.pk_words.specs.Said.{Said}
+use Rattle.pk_words.specs.Said.{Said, SaidOn}
 use Rattle.pk_wordrun.specs.Ends.{end_of}
 use Rattle.pk_wordrun.specs.Tasks.{answer, SaysTask, KeptTask}
 use Rattle.pk_wordrun.specs.Told.{Told, KeepsInput}
@@ -71,6 +71,15 @@ kept-none Says shape frames start cs from to a holds = (
   tt,
 )
 
+-- what was said over a port that keeps its shape, of the drive and the board when they are given back
+pub said_back : (q : Question) (shape one : Shape) (a b last : Mounted) (f g : ℕ) (text : List ℕ) → one ≡ shape → last ≡ b
+    → Said (QuestionAnswers q) (seen shape a f) (seen one b g) text → Said (QuestionAnswers q) (seen shape a 0) (seen shape last 0) text
+said_back q shape one a b last f g text same back said m told =
+    let F : Shape → Type 0 = λ s. Said (QuestionAnswers q) (seen shape a f) (seen s b g) text in
+    let T : Mounted → Type 0 = λ x. SaidOn (QuestionAnswers q) (seen shape a 0) (seen shape x 0) text m in
+    let s = (subst F same said) m told in
+    subst T (sym back) (record { frames = s.frames; frames_is = s.frames_is; left = s.left; says = s.says; told = s.told })
+
 module _ (q : Question) (shape : Shape) (start : Map) (old new : Mounted) (has : old.board.shape ≡ Some shape) (holds : Holds shape old.board.pages start) where
   abbrev Says : ℕ → ℕ → List Exchange → List ℕ → Map → Type 0
   Says before behind = SaysTask (answer q) before behind shape old.frames start
@@ -85,14 +94,15 @@ module _ (q : Question) (shape : Shape) (start : Map) (old new : Mounted) (has :
   asked x s = asked-next shape start old.board [] old new (command_of shape q) (asked-none shape old.frames start old.board has holds) x s
 
   says-left : (w : Asked shape old.frames start old.board new.board cs) (text : List ℕ)
-      → Said (QuestionAnswers q) (seen shape old.board 0) (seen shape new.board 0) text → says_now w.answered.all text w.left
+      → Said (QuestionAnswers q) (seen shape old 0) (seen shape new 0) text → says_now w.answered.all text w.left
   says-left w text said =
       let s = said start (ap result_ok holds) in
       let same : s.left ≡ w.left = some_same s.left w.left (sym s.told ∙ ap result_ok w.held) in
-      let T : Map → Type 0 = λ m. QuestionAnswers q (Rose old.board.read_faults new.board.read_faults) shape (limit shape) s.frames start text m in
-      (s.frames, subst T same s.says)
+      let F : ℕ → Type 0 = λ n. QuestionAnswers q (Rose old.board.read_faults new.board.read_faults) shape (limit shape) n start text s.left in
+      let T : Map → Type 0 = λ m. QuestionAnswers q (Rose old.board.read_faults new.board.read_faults) shape (limit shape) old.frames start text m in
+      subst T same (subst F s.frames_is s.says)
 
-  module _ (x : Exchange) (s : Serves shape old new (command_of shape q) x) (text : List ℕ) (said : Said (QuestionAnswers q) (seen shape old.board 0) (seen shape new.board 0) text) where
+  module _ (x : Exchange) (s : Serves shape old new (command_of shape q) x) (text : List ℕ) (said : Said (QuestionAnswers q) (seen shape old 0) (seen shape new 0) text) where
     -- the text went out
     told-posted : Told (answer q) shape old.frames start old.board (after_post new.board text) Done
     told-posted =

@@ -1,5 +1,5 @@
 -- A piece of a list: one command, and what it gives to the host.
-use Rattle.std.specs.Prelude.{◌≡◌, ℕ, ◌≤◌, List, Option, true}
+use Rattle.std.specs.Prelude.{◌≡◌, ℕ, ◌≤◌, List, Option, true, false}
 use Rattle.pk_base.specs.Shape.{Shape}
 use Rattle.pk_base.specs.Map.{Map}
 use Rattle.pk_nand.specs.BoardState.{BoardState}
@@ -11,15 +11,19 @@ use Rattle.pk_model.specs.Run.{Exchange}
 use Rattle.pk_model.specs.Wear.{is_worn}
 use Rattle.pk_call.specs.Meter.{meter, Metered}
 use Rattle.pk_serve.specs.Serving.{StepWithin}
-use Rattle.pk_port.specs.Steps.{seen}
+use Rattle.pk_port.specs.Steps.{Mounted, seen}
 use Rattle.pk_words.specs.Listing.{Piece, asked_at}
 use Rattle.pk_words.specs.declared.listing.ListPosition.{ListPosition}
 use Rattle.pk_wordrun.specs.declared.end.WordEnd.{WordEnd}
 use Rattle.pk_wordrun.specs.declared.end.WordEnd.TheVariants.{Done, Output, Flash, Worn}
 
+-- a drive with this many frames that is not stopped, on this board
+abbrev pub working_on : BoardState → ℕ → Mounted
+working_on board frames = record { board = board; stopped = false; frames = frames }
+
 -- The command only read, its number of reads is exact, and this text is the piece.
 pub record PieceAsked (shape : Shape) (frames : ℕ) (a b : BoardState) (place : ListPosition) (next : Option ListPosition) (text : List ℕ) : Type 0 where
-  pub piece : Piece (seen shape a 0) (seen shape b 0) place next text
+  pub piece : Piece (seen shape (working_on a frames) 0) (seen shape (working_on b frames) 0) place next text
   pub x : Exchange
   pub is : x.command ≡ asked_at place
   pub step : (m : Map) → Holds shape a.pages m → StepWithin shape frames m x m

@@ -34,14 +34,10 @@ only_asks (answer q) = only_asked q
 only_asks (list from) = true
 only_asks (generate begin count) = false
 
--- what the answer to a question says on some drive; that a read failed is said only if the count of failed reads rose
-abbrev pub SaysAnswer : Question → ℕ → ℕ → Shape → Map → List ℕ → Map → Type 0
-SaysAnswer q before behind shape m text m' = (frames : ℕ) × QuestionAnswers q (Rose before behind) shape (limit shape) frames m text m'
-
 -- What a word says, from map to map, on a drive with this many frames, if its commands were answered so and the count of failed reads went from
--- one number to another.
+-- one number to another: that a read failed is said only if it rose.
 abbrev pub SaysTask : Task → ℕ → ℕ → Shape → ℕ → Map → List Exchange → List ℕ → Map → Type 0
-SaysTask (answer q) before behind shape frames m all text m' = SaysAnswer q before behind shape m text m'
+SaysTask (answer q) before behind shape frames m all text m' = QuestionAnswers q (Rose before behind) shape (limit shape) frames m text m'
 SaysTask (list from) before behind shape frames m all text m' = SaysKeys from (Rose before behind) shape (limit shape) frames m text m'
 SaysTask (generate begin count) before behind shape frames m all text m' = SaysSummary shape all text m'
 

@@ -36,7 +36,8 @@ pub fn ask<D: Engine, B: Nand>(
 
     // The text.
     ensures said { OnOk result (Said (QuestionAnswers (seen question.now))
-        (seen_on shape (B.state board.old) 0) (seen_on shape (B.state board.new) 0)
+        (seen_on shape (mount (B.state board.old) (D.sight drive.old)) 0)
+        (seen_on shape (mount (B.state board.new) (D.sight drive.new)) 0)
         words.new.text) }
     ensures shape { words.new.shape ≡ shape }
     ensures room { length buffer.new ≡ length buffer.old }

@@ -35,8 +35,8 @@ fn ask_keys<D: Engine, B: Nand>(
         (mount (B.state board.new) (D.sight drive.new)) (asked_at place) result }
 
     // The text.
-    ensures piece { IfOk result (λ next. Piece (seen_on shape (B.state board.old) 0)
-        (seen_on shape (B.state board.new) 0) place next words.new.text) }
+    ensures piece { IfOk result (λ next. Piece (seen_on shape (mount (B.state board.old) (D.sight drive.old)) 0)
+        (seen_on shape (mount (B.state board.new) (D.sight drive.new)) 0) place next words.new.text) }
     ensures shape { words.new.shape ≡ words.old.shape }
     ensures room { length buffer.new ≡ length buffer.old }
 {

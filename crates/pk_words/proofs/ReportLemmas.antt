@@ -68,8 +68,9 @@ err_same e f h = cc
 module _ (old new : PortState) where
   pub said_numbers : (numbers text : List ℕ) → Numbers old numbers → Leaves old new (λ m. m) → text ≡ report_lines numbers → Said SaysNumbers old new text
   said_numbers numbers text read leaves spelled m told =
-      let (frames, own, eleven, bytes) = read m told in record {
+      let (frames, frames_is, own, eleven, bytes) = read m told in record {
         frames = frames;
+        frames_is = frames_is;
         left = m;
         says = record {
           same = refl;
@@ -88,6 +89,7 @@ module _ (old new : PortState) where
       let refusal : IsRefusal old new stored status = subst (λ (f : HostError). IsCause old new stored f) is cause in
       let read = refusal.told m told in record {
         frames = s.frames;
+        frames_is = s.frames_is;
         left = m;
         says = record {
           same = refl;

@@ -31,6 +31,7 @@ said_status of old new c outcome status text (inr fault) is spelled m told = abs
 said_status of old new c outcome status text (inl (a, x, e)) is spelled m told =
     let s = x.answers m told in record {
       frames = s.frames;
+      frames_is = s.frames_is;
       left = s.left;
       says = record {
         reply = a;
@@ -77,6 +78,7 @@ module _ (old new : PortState) (key : Key) (size : ℕ) where
   found_on text r (inl (a, x, e)) not_port found m told =
       let s = x.answers m told in record {
         frames = s.frames;
+        frames_is = s.frames_is;
         left = m;
         says = (refl, found m s.within.sized told);
         told = leaves_map old new (retrieve_of key size) Retrieve a refl (λ m. refl) x m told;

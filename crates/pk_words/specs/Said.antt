@@ -1,5 +1,6 @@
 -- What a word says over a port.
 use Rattle.std.specs.Prelude.{◌≡◌, ◌≢◌, ℕ, List, Some, Result, Ok, Err}
+use Rattle.std.specs.Option.{IfSome}
 use Rattle.pk_base.specs.Map.{Map}
 use Rattle.pk_base.specs.Shape.{Shape}
 use Rattle.pk_nand.specs.Calls.{Rose}
@@ -18,6 +19,7 @@ pub record Spoken : Type 0 where
 -- from this map on, the port's map afterwards is the one of the text; that a read failed is said only if one did
 pub record SaidOn (Says : Saying) (old new : PortState) (text : List ℕ) (m : Map) : Type 0 where
   pub frames : ℕ
+  pub frames_is : IfSome old.frames (λ f. frames ≡ f)
   pub left : Map
   pub says : Says (Rose old.read_faults new.read_faults) old.shape old.limit frames m text left
   pub told : new.map ≡ Some left

@@ -1,14 +1,16 @@
 use Rattle.std.proofs.Common.{rules, ap}
 use Rattle.std.specs.Result.{result_ok}
-use Rattle.pk_port.specs.Steps.{standing}
+use Rattle.pk_port.specs.Steps.{mount, standing}
 use Rattle.pk_mirror.proofs.PairLemmas.{on_ok_map}
 use Rattle.pk_mirrorwords.specs.PairTasks.{seen}
 use Rattle.pk_mirrorrun.proofs.Lending.{told_pair, said_lent}
 use Rattle.pk_mirrorrun.proofs.asking.ask.Goals as goal
 
 pub answer_pair-requires-clause-pair : goal.answer_pair-requires-clause-pair
-answer_pair-requires-clause-pair g c = told_pair c.args.mirror.now c.args.shape (g.B.Nand.state c.args.first.now)
-    (g.C.Nand.state c.args.second.now) c.args.first_tally.now.faults c.args.second_tally.now.faults c.requires.mirror c.requires.first_map c.requires.second_map
+answer_pair-requires-clause-pair g c = told_pair c.args.mirror.now c.args.shape
+    (mount (g.B.Nand.state c.args.first.now) (g.D.Engine.sight c.args.first_drive.now))
+    (mount (g.C.Nand.state c.args.second.now) (g.E.Engine.sight c.args.second_drive.now))
+    c.args.first_tally.now.faults c.args.second_tally.now.faults c.requires.mirror c.requires.first_map c.requires.second_map
 
 pub returns-clause-said : goal.returns-clause-said
 returns-clause-said g c = on_ok_map c.answer_pair.result _ _ (λ said m held.

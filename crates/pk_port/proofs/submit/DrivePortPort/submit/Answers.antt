@@ -20,8 +20,10 @@ completed-requires-clause-into g c =
 pub returns-in-Ok-clause-completes : goal.returns-in-Ok-clause-completes
 returns-in-Ok-clause-completes g c =
     let is = c.of-request.ensures c.args.value.now in
-    let T : Command → Type 0 = λ k. Replies (seen c.args.self.now.shape (g.B.Nand.state c.args.self.now.board.now) c.args.self.now.tally.now.faults)
-    (seen c.args.self.now.shape (g.B.Nand.state c.serve_lent.new.board) c.answer.new.self.faults) k (reply_of c.in-Ok.outcome c.serve_lent.new.into) in
+    let before = mount (g.B.Nand.state c.args.self.now.board.now) (g.D.Engine.sight c.args.self.now.drive.now) in
+    let after = mount (g.B.Nand.state c.serve_lent.new.board) (g.D.Engine.sight c.serve_lent.new.drive) in
+    let T : Command → Type 0 = λ k. Replies (seen c.args.self.now.shape before c.args.self.now.tally.now.faults)
+    (seen c.args.self.now.shape after c.answer.new.self.faults) k (reply_of c.in-Ok.outcome c.serve_lent.new.into) in
     c.completed.ensures _ _ _ (ap (λ (k : Command). k.cid) (sym is)) (subst T is (c.in-Ok.ensures.replies _ _))
 
 pub returns-in-Ok-clause-took : goal.returns-in-Ok-clause-took
