@@ -1,5 +1,6 @@
 -- The keys that a List gives are those of the map.
-use Rattle.std.proofs.Common.{◌≡◌, ◌==◌, ℕ, suc, Bool, true, false, refl, sym, ap, subst, ◌∙◌, not, List, [], ◌∷◌, ◌++◌, length, map, reverse, Option, if◌then◌else◌}
+use Rattle.std.proofs.Common.{◌≡◌, ◌==◌, ℕ, suc, Bool, true, false, refl, sym, ap, subst, ◌∙◌, not, List, [], ◌∷◌, ◌++◌, length, map, reverse, Option, if◌then◌else◌, arith}
+use Rattle.std.proofs.lemmas.Bool.Decides.{nat_tests}
 use Rattle.std.specs.List.{flat_map, AllByRecursion}
 use Rattle.std.specs.Ordering.{is_lt}
 use Rattle.std.specs.FinMap.{entries}
@@ -55,10 +56,7 @@ keys_listed d shape flash top found without all from with =
 
 pub least_of_none : (space : ℕ) (bytes : List ℕ) → true ≡ (length bytes == 0) → space ∷ 0 ∷ [] ≡ least_in space bytes
 least_of_none space [] e = refl
-least_of_none space (b ∷ bytes) e = absurd (not_empty (length bytes) e)
-  where
-    not_empty : (n : ℕ) → true ≡ (suc n == 0) → ⊥
-    not_empty n e = cc
+least_of_none space (b ∷ bytes) e = let some : (suc (length bytes) == 0) ≡ false = grind (arith, nat_tests) in cc
 
 pub least_of_some : (space : ℕ) (bytes : List ℕ) → false ≡ (length bytes == 0) → space ∷ bytes ≡ least_in space bytes
 least_of_some space [] e = absurd (let clash : false ≡ true = e in cc)

@@ -19,12 +19,14 @@ use Rattle.pk_remap.specs.Table.{table_bytes, table_page, is_table, is_served}
 use Rattle.pk_remap.specs.Places.{inner_shape, place, placed_page, through_by}
 use Rattle.pk_remap.specs.Newest.{first_table_page, IsTablePage, IsNewest, IsNewestBeside}
 use Rattle.pk_remap.specs.Through.{MayShow, IsMarkWithin}
-use Rattle.pk_remap.specs.Relocating.{Relocation, block_of, block, spare_block, spare_page, next_table, IsSpareFull, IsRelocating, IsTop, SameTables, IsTablePair}
+use Rattle.pk_remap.specs.Relocating.{Relocation, block_of, block, spare_block, spare_page, next_table, IsSpareFull, IsRelocating, IsTop, SameTables}
+use Rattle.pk_remap.specs.Relocating.{IsTablePair}
 use Rattle.pk_remap.proofs.TableLemmas.{table_parts, parts_table, page_again}
 use Rattle.pk_remap.proofs.Placing.{block_of as page_block, length-through, page-through, past-through, more_here, more_other}
 use Rattle.pk_remap.proofs.Finding.{beside-kept, pair-newest}
 use Rattle.pk_remap.proofs.Lifting.{times_le}
-use Rattle.pk_remap.proofs.Standing.{may_show, apart_through, table_page_kept, spare-newest, spare-through, turn-newest, turn-through, table_block, NoneOr, pair-none_or}
+use Rattle.pk_remap.proofs.Standing.{may_show, apart_through, table_page_kept, spare-newest, spare-through, turn-newest, turn-through, table_block, NoneOr}
+use Rattle.pk_remap.proofs.Standing.{pair-none_or}
 use Rattle.pk_remap.proofs.Standing.{pair-others}
 
 -- a page after the last is Torn

@@ -1,13 +1,15 @@
 -- Calls of the outer flash over a relocation at rest.
-use Rattle.std.proofs.Common.{◌≡◌, ◌≢◌, inl, inr, ℕ, zero, suc, ◌+◌, ◌-◌, ◌*◌, ◌/◌, ◌%◌, ◌<◌, ◌≤◌, Bool, true, false, List, [], length, take, refl, sym, ap, subst, ◌∙◌, arith, Some}
-use Rattle.std.specs.Prelude.{Result, Ok, Err, Vec, ◌==◌, ◌&&◌}
+use Rattle.std.proofs.Common.{◌≡◌, ◌≢◌, ◌⊎◌, inl, inr, ℕ, zero, suc, ◌+◌, ◌-◌, ◌*◌, ◌/◌, ◌%◌, ◌<◌, ◌≤◌, Bool, true, false, List, [], length, take, refl, sym}
+use Rattle.std.proofs.Common.{ap}
+use Rattle.std.proofs.Common.{subst, ◌∙◌, arith, Some, None}
+use Rattle.std.specs.Prelude.{max, Result, Ok, Err, Vec, ◌==◌, ◌&&◌}
 use Rattle.std.proofs.Math.Nat.{mod-lt}
 use Rattle.std.proofs.lemmas.Bool.Decides.{nat_tests}
 use Rattle.std.proofs.lemmas.Nat.{div-add-mod'}
 use Rattle.std.specs.declared.alloc.Global.{Global}
 use Rattle.pk_base.specs.declared.sizes.TheConstants.{MOST_PAGE_BYTES}
 use Rattle.pk_base.specs.Shape.{Shape, page_count}
-use Rattle.pk_base.specs.Page.{Flash, page_at, whole, IsPage, IsFlash}
+use Rattle.pk_base.specs.Page.{Page, Flash, page_at, erased, whole, torn, IsPage, IsFlash}
 use Rattle.pk_base.specs.Mark.{Mark, program, erase, after}
 use Rattle.pk_nand.specs.BoardState.{BoardState, shape_of}
 use Rattle.pk_nand.specs.Cut.{Interrupted}
@@ -15,11 +17,22 @@ use Rattle.pk_nand.proofs.Leaving.{interrupted_done, page_at-slice_set, IsFlash-
 use Rattle.pk_nand.proofs.Writing.{shape_is}
 use Rattle.pk_remap.proofs.Placing.{place-below, block_of as page_block, page-through, div-of, mod-of}
 use Rattle.pk_remap.proofs.Lifting.{times_le, placed_page-inside}
-use Rattle.pk_remap.proofs.Running.{went}
+use Rattle.pk_remap.proofs.Running.{went, none_pair}
+use Rattle.std.proofs.lemmas.List.{length-take-le}
+use Rattle.pk_nand.specs.Counts.{after_reads}
+use Rattle.pk_remap.specs.declared.layout.TheConstants.{MOST_SPARES}
+use Rattle.pk_remap.specs.declared.top.Top.{Top}
+use Rattle.pk_remap.specs.Table.{SpareTable, table_of, is_table}
+use Rattle.pk_remap.specs.Newest.{table_in, newest_table, IsNewest}
+use Rattle.pk_remap.specs.Searched.{table_found, UsesAtMost}
+use Rattle.pk_remap.proofs.TableLemmas.{page_spells}
+use Rattle.pk_remap.proofs.Finding.{found-newest}
 use Rattle.pk_nand.specs.Calls.{Rose, IsReady, after_program, ProgramFailed, LeftBy}
 use Rattle.pk_nand.specs.Operations.{InOrder, after_read, after_erase, ReadFailed, EraseFailed}
 use Rattle.pk_nand.specs.Crash.{Went}
-use Rattle.pk_nand.proofs.Reaching.{Went-reached}
+use Rattle.pk_nand.proofs.Reaching.{Reached-start, Went-reached}
+use Rattle.pk_nand.proofs.CutLemmas.{interrupted_none}
+use Rattle.pk_remap.proofs.Standing.{may_show}
 use Rattle.pk_nand.specs.declared.types.NandFault.{NandFault}
 use Rattle.pk_remap.specs.declared.phase.Phase.TheVariants.{EraseSpare}
 use Rattle.pk_remap.specs.declared.relocation.Call.{Call}
@@ -30,15 +43,15 @@ use Rattle.pk_remap.specs.Through.{through, MayShow, mark_below}
 use Rattle.pk_remap.specs.Relocating.{Relocation, block_of, copies_of, IsTop, SameTables}
 use Rattle.pk_remap.specs.Stepping.{RelocationGoesOn, IsSource}
 use Rattle.pk_remap.specs.Beginning.{CanRelocate, CallHasFailed}
-use Rattle.pk_remap.specs.Running.{relocation_of, mark_of, is_kept, HasTurn, RelocationRuns, IsAtRest, SameCall}
-use Rattle.pk_remap.specs.Serving.{PassesIn, Passes, ServingStops, ServingOutcome, read_failed, table_failed, spares_failed, page_is_torn, for_mark, outer_of, SameSpares, OuterCall, OuterOutcome}
-use Rattle.pk_remap.specs.Serving.{HasPartner, PartnerOutcome, RelocationServes}
+use Rattle.pk_remap.specs.Running.{relocation_of, mark_of, is_kept, HasPageBuffers, HasTurn, RelocationRuns, IsAtRest, SameCall}
+use Rattle.pk_remap.specs.Serving.{PassesCount, PassesCalls, ServingStops, ServingOutcome, read_failed, table_failed, spares_failed, page_is_torn, for_mark, outer_of}
+use Rattle.pk_remap.specs.Serving.{SameSpares, OuterCall, OuterOutcome, HasPartner, PartnerKept, PartnerOutcome, CanFind, found_top, RelocationServes}
 use Rattle.pk_remap.proofs.Calls.{erase_reached, erase_went, program_reached, program_went, left_interrupted, done_interrupted}
 use Rattle.pk_remap.proofs.Beginning.{table_kept, calls_below, done_below, fails_below}
 use Rattle.pk_remap.proofs.Turning.{next_kept}
 
 -- a call before others
-pub passes_before : (P : Flash → Type 0) (a b c : BoardState) (n : ℕ) → Went a b (λ flash _. P flash) → PassesIn P n b c → PassesIn P (suc n) a c
+pub passes_before : (P : Flash → Type 0) (a b c : BoardState) (n : ℕ) → Went a b (λ flash _. P flash) → PassesCount P n b c → PassesCount P (suc n) a c
 passes_before P a b c zero went same = let T : BoardState → Type 0 = λ s. Went a s (λ flash _. P flash) in (a, refl, subst T (sym same) went)
 passes_before P a b c (suc n) went more = (more.0, passes_before P a b more.0 n went more.1, more.2)
 
@@ -123,7 +136,8 @@ module _ (r : InMemory) (old : BoardState) (rest : IsAtRest r old) (mark : Mark)
 
   -- it failed, and a relocation begins to serve it
   module _ (new : BoardState) (same : new.shape ≡ old.shape) (left : LeftBy below old new) (call : Call) (kept : Bool) (bytes : Vec ℕ Global)
-      (mark_is : mark_of call (take r.shape.page_bytes bytes.items) ≡ mark) (room : r.taken < r.spares) (bytes_room : MOST_PAGE_BYTES ≤ length bytes.items) where
+      (mark_is : mark_of call (take r.shape.page_bytes bytes.items) ≡ mark)
+      (room : r.taken < r.spares) (bytes_room : MOST_PAGE_BYTES ≤ length bytes.items) where
     abbrev begun : InMemory
     begun = record r { call = call; kept = kept; bytes = bytes; phase = EraseSpare }
 
@@ -148,16 +162,21 @@ module _ (r : InMemory) (old : BoardState) (rest : IsAtRest r old) (mark : Mark)
     spares_of r' same = record { shape = same.shape; spares = same.spares; taken = same.taken; most = same.most; room = same.room }
 
     -- it was served, or the relocation stopped
-    pub served_outer : (result : Result Unit NandFault) (r' : InMemory) (end : BoardState) → Went old new (λ flash _. MayShow r.shape r.spares before mark flash)
+    pub served_outer : (result : Result Unit NandFault) (r' : InMemory) (end : BoardState)
+        → Went old new (λ flash _. MayShow r.shape r.spares before mark flash)
         → Rose old.stop_faults new.stop_faults → new.read_faults ≡ old.read_faults
         → ServingOutcome begun before new result r' end → OuterOutcome r mark old result r' end
     served_outer (Ok u) r' end went rose reads own =
-        let P : Mark → Type 0 = λ m. Passes (MayShow r.shape r.spares before m) new end in
+        let P : Mark → Type 0 = λ m. PassesCalls (MayShow r.shape r.spares before m) new end in
         let D : Mark → Type 0 = λ m. through r.shape r.spares end.pages ≡ Some (after r.shape m before) in
-        let passes = subst P mark_is own.0 in
-        ((suc passes.0, passes_before (MayShow r.shape r.spares before mark) old new end passes.0 went passes.1), own.1, subst D mark_is own.2, spares_of r' own.3)
+        let passes = subst P mark_is own.0 in (
+          (suc passes.0, passes_before (MayShow r.shape r.spares before mark) old new end passes.0 went passes.1),
+          own.1,
+          subst D mark_is own.2,
+          spares_of r' own.3,
+        )
     served_outer (Err e) r' end went rose reads own =
-        let P : Mark → Type 0 = λ m. Passes (MayShow r.shape r.spares before m) new end in
+        let P : Mark → Type 0 = λ m. PassesCalls (MayShow r.shape r.spares before m) new end in
         let D : Mark → Type 0 = λ m. ServingStops (for_mark r m) new r'.taken end in
         let passes = subst P mark_is own.0 in (
           (suc passes.0, passes_before (MayShow r.shape r.spares before mark) old new end passes.0 went passes.1),
@@ -190,22 +209,26 @@ module _ (r : InMemory) (old : BoardState) (rest : IsAtRest r old) (block : ℕ)
       let i = subst T (sym pages) (interrupted_done (inner_shape r.shape r.spares) (erase at) old.pages) in
       let ready : IsReady new (inner_shape r.shape r.spares) = record {
         shape_is = ap (λ s. s.shape) is ∙ rest.ready.shape_is;
-        flash = IsFlash-interrupted (inner_shape r.shape r.spares) (erase at) old.pages new.pages [] (full_erase (inner_shape r.shape r.spares) at) rest.ready.flash i;
+        flash = IsFlash-interrupted (inner_shape r.shape r.spares) (erase at) old.pages new.pages []
+            (full_erase (inner_shape r.shape r.spares) at) rest.ready.flash i;
       } in
       done_now r old rest (erase block) erase_call u new ready pages
       (went old new (λ flash _. MayShow r.shape r.spares (outer_of r old.pages) (erase block) flash)
-      (erase_reached old (inner_shape r.shape r.spares) rest.ready (λ f. MayShow r.shape r.spares (outer_of r old.pages) (erase block) f) at (safe_cut r old rest (erase block) erase_call) new is))
+      (erase_reached old (inner_shape r.shape r.spares) rest.ready
+      (λ f. MayShow r.shape r.spares (outer_of r old.pages) (erase block) f) at (safe_cut r old rest (erase block) erase_call) new is))
 
   pub erase_went' : (new : BoardState) → EraseFailed old new at → Went old new (λ flash _. MayShow r.shape r.spares (outer_of r old.pages) (erase block) flash)
   erase_went' new failed =
-      erase_went old (inner_shape r.shape r.spares) rest.ready (λ f. MayShow r.shape r.spares (outer_of r old.pages) (erase block) f) at (safe_cut r old rest (erase block) erase_call) new failed
+      erase_went old (inner_shape r.shape r.spares) rest.ready
+      (λ f. MayShow r.shape r.spares (outer_of r old.pages) (erase block) f) at (safe_cut r old rest (erase block) erase_call) new failed
 
   abbrev erase_begun : InMemory
   erase_begun = record r { call = Erase block; kept = false; phase = EraseSpare }
 
   pub erase_begins : (new : BoardState) → EraseFailed old new at → r.taken < r.spares → RelocationRuns erase_begun (outer_of r old.pages) new
   erase_begins new failed room =
-      begun_runs r old rest (erase block) erase_call new (ap (λ s. s.shape) failed.rest) failed.left (Erase block) false r.bytes refl room rest.room.new_page (λ k e. cc)
+      begun_runs r old rest (erase block) erase_call new (ap (λ s. s.shape) failed.rest) failed.left
+      (Erase block) false r.bytes refl room rest.room.new_page (λ k e. cc)
 
   pub erase_served : (new : BoardState) → EraseFailed old new at → r.taken < r.spares → (result : Result Unit NandFault) (r' : InMemory) (end : BoardState)
       → RelocationServes erase_begun new result r' end → OuterOutcome r (erase block) old result r' end
@@ -307,7 +330,8 @@ module _ (r : InMemory) (old : BoardState) (rest : IsAtRest r old) (page : ℕ) 
           flash = IsFlash-interrupted shape_in (program at_page bytes) old.pages new.pages [] (full_program shape_in at_page bytes full) rest.ready.flash i;
         } in
         done_now r old rest (program page bytes) program_call u new ready pages
-        (went old new (λ flash _. Q flash) (program_reached old shape_in rest.ready Q at_page bytes (safe_cut r old rest (program page bytes) program_call) new is))
+        (went old new (λ flash _. Q flash)
+        (program_reached old shape_in rest.ready Q at_page bytes (safe_cut r old rest (program page bytes) program_call) new is))
 
     program_went' : (new : BoardState) → ProgramFailed old new at_page bytes → Went old new (λ flash _. Q flash)
     program_went' new failed = program_went old shape_in rest.ready Q at_page bytes (safe_cut r old rest (program page bytes) program_call) new failed
@@ -352,7 +376,8 @@ module _ (r : InMemory) (old : BoardState) (rest : IsAtRest r old) (page : ℕ) 
 
 module _ (r : InMemory) (old : BoardState) (rest : IsAtRest r old) where
   -- over the same pages it rests still
-  rests_again : (kept : Bool) (partner : Vec ℕ Global) (new : BoardState) → MOST_PAGE_BYTES ≤ length partner.items → new.shape ≡ old.shape → new.pages ≡ old.pages
+  rests_again : (kept : Bool) (partner : Vec ℕ Global) (new : BoardState)
+      → MOST_PAGE_BYTES ≤ length partner.items → new.shape ≡ old.shape → new.pages ≡ old.pages
       → IsAtRest (record r { kept = kept; partner = partner }) new
   rests_again kept partner new large shape pages = record {
     ready = record { shape_is = shape ∙ rest.ready.shape_is; flash = subst (IsFlash (inner_shape r.shape r.spares)) (sym pages) rest.ready.flash };
@@ -416,7 +441,8 @@ module _ (r : InMemory) (old : BoardState) (rest : IsAtRest r old) where
     }
 
   pub kept_failed : (page : ℕ) (e : NandFault) (partner : Vec ℕ Global) (new : BoardState) → MOST_PAGE_BYTES ≤ length partner.items
-      → ReadFailed old new (placed_page r.shape (relocation_of r).table (page - 1)) → PartnerOutcome r page old (Err e) (record r { kept = false; partner = partner }) new
+      → ReadFailed old new (placed_page r.shape (relocation_of r).table (page - 1))
+      → PartnerOutcome r page old (Err e) (record r { kept = false; partner = partner }) new
   kept_failed page e partner new large failed = (
     failed,
     record {
@@ -427,3 +453,154 @@ module _ (r : InMemory) (old : BoardState) (rest : IsAtRest r old) where
       room = record { fits = rest.room.fits; all = rest.room.all; kept_page = large; new_page = rest.room.new_page; read_page = rest.room.read_page };
     },
   )
+
+-- ---- the search for the newest table
+
+grammar_of : (shape : Shape) (spares : ℕ) (table : SpareTable) (p : Page) → table_in shape spares p ≡ Some table → is_table shape spares table ≡ true
+grammar_of shape spares table (whole bytes) e = (page_spells shape spares bytes table e).is
+grammar_of shape spares table erased e = absurd (apart e)
+  where
+    apart : None ≡ Some table → ⊥
+    apart e = cc
+grammar_of shape spares table torn e = absurd (apart e)
+  where
+    apart : None ≡ Some table → ⊥
+    apart e = cc
+
+module _ (r : InMemory) (old : BoardState) (may : CanFind r old) (top : Top) (serves : List ℕ) (copy : Vec ℕ Global) where
+  abbrev table : SpareTable
+  table = table_of top.number top.used serves
+
+  pub found_rests : newest_table r.shape r.spares (page_at old.pages) ≡ table_found (Some top) serves
+      → UsesAtMost r.spares (Some top) → length serves ≡ MOST_SPARES
+      → MOST_PAGE_BYTES ≤ length copy.items → (new : BoardState) → new ≡ after_reads (2 * r.shape.block_pages) old
+      → IsAtRest (found_top (record r { serves = serves; copy = copy }) top) new × (new ≡ after_reads (2 * r.shape.block_pages) old)
+      × SameSpares r (found_top (record r { serves = serves; copy = copy }) top)
+  found_rests found few all large new is =
+      let newest : IsNewest r.shape r.spares (page_at old.pages) top.page table = found-newest r.shape r.spares (page_at old.pages) top.page table found in
+      let pages : new.pages ≡ old.pages = ap (λ s. s.pages) is in
+      let most = may.few in
+      let taken = may.taken in
+      let used : length (take top.used serves) ≡ top.used = length-take-le top.used serves (omega (arith, few, most, all)) in
+      let T : Flash → Type 0 = λ f. IsNewest r.shape r.spares (page_at f) top.page table in
+      let fits : HasPageBuffers (found_top (record r { serves = serves; copy = copy }) top) =
+      record { fits = omega (arith, few, most); all = all; kept_page = may.room.kept_page; new_page = may.room.new_page; read_page = large } in (
+        record {
+          ready = record {
+            shape_is = ap (λ s. s.shape) is ∙ may.ready.shape_is;
+            flash = subst (IsFlash (inner_shape r.shape r.spares)) (sym pages) may.ready.flash;
+          };
+          shape_is = may.shape_is;
+          few = may.few;
+          grammar = grammar_of r.shape r.spares table (page_at old.pages top.page) newest.is;
+          used = omega (arith, used);
+          taken = omega (arith, few, taken);
+          top = subst T (sym pages) newest;
+          turn = λ pair e. none_pair pair e;
+          room = fits;
+        },
+        is,
+        record { shape = refl; spares = refl; taken = omega arith; most = omega (arith, few, taken); room = fits },
+      )
+
+-- ---- a program with the first page of its pair in memory
+
+-- the same causes, seen from before a read
+stops_same : (q : Relocation) (old mid : BoardState) (taken : ℕ) (new : BoardState) → mid.stop_faults ≡ old.stop_faults → mid.read_faults ≡ old.read_faults
+    → ServingStops q mid taken new → ServingStops q old taken new
+stops_same q old mid taken new stops reads (read_failed r) = read_failed (let P : ℕ → Type 0 = λ x. Rose x new.read_faults in subst P reads r)
+stops_same q old mid taken new stops reads (table_failed r b is at) = table_failed (let P : ℕ → Type 0 = λ x. Rose x new.stop_faults in subst P stops r) b is at
+stops_same q old mid taken new stops reads (spares_failed r none) = spares_failed (let P : ℕ → Type 0 = λ x. Rose x new.stop_faults in subst P stops r) none
+stops_same q old mid taken new stops reads (page_is_torn k less found) = page_is_torn k less found
+
+-- the board after at most one read
+pub record OnlyRead (old mid : BoardState) : Type 0 where
+  pub shape : mid.shape ≡ old.shape
+  pub pages : mid.pages ≡ old.pages
+  pub trail : mid.trail ≡ old.trail
+  pub posted : mid.posted ≡ old.posted
+  pub stops : mid.stop_faults ≡ old.stop_faults
+
+only_read : (old mid : BoardState) → (mid ≡ old) ⊎ (mid ≡ after_read old) → OnlyRead old mid × (mid.read_faults ≡ old.read_faults)
+only_read old mid (inl is) = (
+  record {
+    shape = ap (λ s. s.shape) is;
+    pages = ap (λ s. s.pages) is;
+    trail = ap (λ s. s.trail) is;
+    posted = ap (λ s. s.posted) is;
+    stops = ap (λ s. s.stop_faults) is;
+  },
+  ap (λ s. s.read_faults) is,
+)
+only_read old mid (inr is) = (
+  record {
+    shape = ap (λ s. s.shape) is;
+    pages = ap (λ s. s.pages) is;
+    trail = ap (λ s. s.trail) is;
+    posted = ap (λ s. s.posted) is;
+    stops = ap (λ s. s.stop_faults) is;
+  },
+  ap (λ s. s.read_faults) is,
+)
+
+module _ (r : InMemory) (old : BoardState) (rest : IsAtRest r old) (mark : Mark) where
+  abbrev Safe : Flash → Type 0
+  Safe f = MayShow r.shape r.spares (outer_of r old.pages) mark f
+
+  read_went : (mid : BoardState) → OnlyRead old mid → Went old mid (λ flash _. Safe flash)
+  read_went mid is =
+      let here : Safe old.pages =
+      may_show r.shape r.spares (outer_of r old.pages) old.pages mark r.top
+      (relocation_of r).table rest.top (interrupted_none r.shape mark (outer_of r old.pages)) in
+      ([], Went-reached [] old mid (λ flash _. Safe flash) (Reached-start old mid (λ flash _. Safe flash) is.shape is.pages is.trail is.posted here))
+
+  pub read_stopped : (e : NandFault) (at : ℕ) (r' : InMemory) (new : BoardState)
+      → ReadFailed old new at → SameSpares r r' → OuterOutcome r mark old (Err e) r' new
+  read_stopped e at r' new failed same =
+      let is : OnlyRead old new = record {
+        shape = ap (λ s. s.shape) failed.rest;
+        pages = ap (λ s. s.pages) failed.rest;
+        trail = ap (λ s. s.trail) failed.rest;
+        posted = ap (λ s. s.posted) failed.rest;
+        stops = ap (λ s. s.stop_faults) failed.rest;
+      } in
+      ((1, (old, refl, read_went new is)), read_failed failed.read, same)
+
+  module _ (kept : Bool) (partner : Vec ℕ Global) (mid : BoardState) (board : (mid ≡ old) ⊎ (mid ≡ after_read old)) where
+    abbrev with_partner : InMemory
+    with_partner = record r { kept = kept; partner = partner }
+
+    pub after_partner : (result : Result Unit NandFault) (r' : InMemory) (new : BoardState)
+        → OuterOutcome with_partner mark mid result r' new → OuterOutcome r mark old result r' new
+    after_partner (Ok u) r' new own =
+        let is = only_read old mid board in
+        let P : Flash → Type 0 = λ f. PassesCalls (MayShow r.shape r.spares (outer_of r f) mark) mid new in
+        let D : Flash → Type 0 = λ f. through r.shape r.spares new.pages ≡ Some (after r.shape mark (outer_of r f)) in
+        let passes = subst P is.0.pages own.0 in (
+          (suc passes.0, passes_before Safe old mid new passes.0 (read_went mid is.0) passes.1),
+          own.1,
+          subst D is.0.pages own.2,
+          record { shape = own.3.shape; spares = own.3.spares; taken = own.3.taken; most = own.3.most; room = own.3.room },
+        )
+    after_partner (Err e) r' new own =
+        let is = only_read old mid board in
+        let P : Flash → Type 0 = λ f. PassesCalls (MayShow r.shape r.spares (outer_of r f) mark) mid new in
+        let passes = subst P is.0.pages own.0 in (
+          (suc passes.0, passes_before Safe old mid new passes.0 (read_went mid is.0) passes.1),
+          stops_same (for_mark r mark) old mid r'.taken new is.0.stops is.1 own.1,
+          record { shape = own.2.shape; spares = own.2.spares; taken = own.2.taken; most = own.2.most; room = own.2.room },
+        )
+
+-- after the first page of the pair was read the program is in order, and the page is in memory
+module _ (r : InMemory) (page : ℕ) (old : BoardState) (r1 : InMemory) (mid : BoardState) (kept : PartnerKept r page old r1 mid) where
+  pub same_shape : r1.shape ≡ r.shape
+  same_shape = ap (λ (x : InMemory). x.shape) kept.others
+
+  pub same_outer : outer_of r1 mid.pages ≡ outer_of r old.pages
+  same_outer = ap (λ (x : InMemory). outer_of x mid.pages) kept.others ∙ ap (outer_of r) (only_read old mid kept.board).0.pages
+
+  pub kept_outcome : IsAtRest r old → (mark : Mark) (result : Result Unit NandFault) (r' : InMemory) (new : BoardState)
+      → OuterOutcome r1 mark mid result r' new → OuterOutcome r mark old result r' new
+  kept_outcome rest mark result r' new own =
+      let T : InMemory → Type 0 = λ x. OuterOutcome x mark mid result r' new in
+      after_partner r old rest mark r1.kept r1.partner mid kept.board result r' new (subst T kept.others own)

@@ -32,11 +32,13 @@ use Rattle.pk_remap.proofs.Placing.{div-of, mod-of, place-below}
 use Rattle.pk_remap.proofs.Lifting.{placed_page-inside}
 use Rattle.pk_nand.specs.Seen.{answer}
 use Rattle.pk_nand.specs.declared.types.PageRead.TheVariants.{Whole, Erased as ReadErased, Torn as ReadTorn}
-use Rattle.pk_remap.specs.Relocating.{Relocation, block, copies_of, fill_of, spare_block, spare_page, next_table, IsSpareFilled, IsSpareFull, IsRelocating, IsTop, SameTables, IsNextPair}
+use Rattle.pk_remap.specs.Relocating.{Relocation, block, copies_of, fill_of, spare_block, spare_page, next_table, IsSpareFilled, IsSpareFull, IsRelocating}
+use Rattle.pk_remap.specs.Relocating.{IsTop, SameTables, IsNextPair}
 use Rattle.pk_remap.specs.Stepping.{WentSafely, RelocationGoesOn, IsSource, IsOtherTable, SpareFailed}
-use Rattle.pk_remap.specs.Running.{mark_of, is_program, relocation_of, copies, is_kept, bytes_for, next_after, with_table, table_phase, phase_after, phase_rank, relocation_steps_left}
-use Rattle.pk_remap.specs.Running.{IsTableHalf, AtPhase, HasRoomFor, HasRoom, HasTurn, RelocationRuns, IsAtRest, IsRelocated, SameCall, NoReadFailed, RelocationStops, StepOutcome, reading, in_table}
-use Rattle.pk_remap.specs.Running.{no_spare, torn}
+use Rattle.pk_remap.specs.Running.{mark_of, is_program, relocation_of, copies, is_kept, bytes_for, next_after, with_table, table_phase, phase_after, phase_rank}
+use Rattle.pk_remap.specs.Running.{relocation_steps_left}
+use Rattle.pk_remap.specs.Running.{IsTableHalf, AtPhase, HasPageBuffersFor, HasPageBuffers, HasTurn, RelocationRuns, IsAtRest, IsRelocated, SameCall, NoReadFailed}
+use Rattle.pk_remap.specs.Running.{RelocationStops, StepOutcome, reading, in_table, no_spare, torn}
 use Rattle.pk_remap.proofs.TableLemmas.{table_parts}
 use Rattle.pk_remap.proofs.Cutting.{none_cut, block_inside, next_grammar}
 use Rattle.pk_remap.proofs.Turning.{block_of_table, next_kept, next_pair, erased_pair, second_order, following_pair}
@@ -181,7 +183,7 @@ rests r before old new on top shape pages trail posted = (
       (Reached-start old new (λ flash _. MayShow r.shape r.spares before r.mark flash) shape pages trail posted (none_cut r before old.pages on.serving top)),
 )
 
-none_pair : {X : Type 0} (pair : ℕ) → None ≡ Some pair → X
+pub none_pair : {X : Type 0} (pair : ℕ) → None ≡ Some pair → X
 none_pair pair e = absurd (apart e)
   where
     apart : None ≡ Some pair → ⊥
@@ -198,7 +200,7 @@ module _ (r : InMemory) (before : Flash) (old : BoardState) (runs : RelocationRu
   abbrev pub Stopped : InMemory → BoardState → Type 0
   Stopped r' new = WentSafely (relocation_of r) before old new × RelocationStops r old r' new × SameCall r r'
 
-  with_copy : (copy : Vec ℕ Global) → MOST_PAGE_BYTES ≤ length copy.items → HasRoom (record r { copy = copy })
+  with_copy : (copy : Vec ℕ Global) → MOST_PAGE_BYTES ≤ length copy.items → HasPageBuffers (record r { copy = copy })
   with_copy copy room = record { fits = runs.room.fits; all = runs.room.all; kept_page = runs.room.kept_page; new_page = runs.room.new_page; read_page = room }
 
   -- the same call, whatever the step did to the phase, the copy and the next pair
@@ -301,7 +303,8 @@ module _ (r : InMemory) (before : Flash) (old : BoardState) (runs : RelocationRu
       let block_most = runs.goes_on.serving.shape_is.block_most in (
         went old new _ own.cuts,
         again (phase_after r (suc k)) new own.goes_on own.tables
-            (phase_after_fits r before new.pages own.goes_on.serving own.top (turn_kept new.pages own.tables) runs.partner (suc k) own.filled (omega (arith, few))),
+            (phase_after_fits r before new.pages own.goes_on.serving own.top
+            (turn_kept new.pages own.tables) runs.partner (suc k) own.filled (omega (arith, few))),
         lower (Write k) (phase_after r (suc k)) phase
             (let most = rank_after r (suc k) (omega (arith, less, block_most)) in omega (arith, most, less, block_most)),
         same_phase (phase_after r (suc k)) r.next,
@@ -427,7 +430,8 @@ module _ (r : InMemory) (before : Flash) (old : BoardState) (runs : RelocationRu
       turned n m = omega arith
 
   -- a failed program of a table page is one in a table block
-  table_stops : (r' : InMemory) (new : BoardState) (at : ℕ) (bytes : List ℕ) → IsTablePage r.shape r.spares at → ProgramFailed old new at bytes → RelocationStops r old r' new
+  table_stops : (r' : InMemory) (new : BoardState) (at : ℕ) (bytes : List ℕ)
+      → IsTablePage r.shape r.spares at → ProgramFailed old new at bytes → RelocationStops r old r' new
   table_stops r' new at bytes there failed =
       in_table failed.stop (at / n) (block_of_table r.shape r.spares r.top n_some at there)
       (ap (λ s. s.failed_at) failed.rest ∙ ap (λ (s : Shape). Some (at / s.block_pages)) (shape_is old (inner_shape r.shape r.spares) runs.goes_on.ready))
@@ -494,7 +498,8 @@ module _ (r : InMemory) (before : Flash) (old : BoardState) (runs : RelocationRu
   second_written pair phase new bytes page same is copy room serves front all =
       let half : IsTableHalf (relocation_of r) before old.pages pair = stands_in (Second pair) phase in
       let own = writes_second (relocation_of r) before pair old new runs.goes_on
-      (subst (IsPage r.shape) same page) half.pair half.full half.first (half_erased pair half) (is ∙ ap (λ (b : List ℕ). after_program old (suc pair) b) same) in
+      (subst (IsPage r.shape) same page) half.pair half.full half.first
+      (half_erased pair half) (is ∙ ap (λ (b : List ℕ). after_program old (suc pair) b) same) in
       let serving = runs.goes_on.serving in
       let left = serving.left in
       let few = serving.few in
@@ -504,7 +509,13 @@ module _ (r : InMemory) (before : Flash) (old : BoardState) (runs : RelocationRu
       let N : SpareTable → Type 0 = λ t. IsNewest r.shape r.spares (page_at new.pages) pair t in
       let pages : new.pages ≡ slice_set old.pages (suc pair) (whole bytes) = ap (λ s. s.pages) is in
       let used : length (take (r.taken + 1) serves) ≡ r.taken + 1 = length-take-le (r.taken + 1) serves (omega (arith, left, few, all)) in
-      let fits : HasRoom r' = record { fits = omega (arith, left, few); all = all; kept_page = runs.room.kept_page; new_page = runs.room.new_page; read_page = room } in (
+      let fits : HasPageBuffers r' = record {
+        fits = omega (arith, left, few);
+        all = all;
+        kept_page = runs.room.kept_page;
+        new_page = runs.room.new_page;
+        read_page = room;
+      } in (
         went old new _ own.cuts,
         record {
           rests = record {

@@ -14,8 +14,9 @@ use Rattle.pk_remap.specs.Places.{placed_page}
 use Rattle.pk_remap.specs.Through.{through, MayShow}
 use Rattle.pk_remap.specs.Relocating.{Relocation, block, copies_of}
 use Rattle.pk_remap.specs.Stepping.{IsTableBlock}
-use Rattle.pk_remap.specs.Running.{relocation_of, copies, AtPhase, RelocationRuns, IsAtRest, SameCall, NoReadFailed, RelocationStops, StepOutcome, reading, in_table, no_spare, torn}
-use Rattle.pk_remap.specs.Serving.{PassesIn, Passes, PassesSafely, ServingStops, ServingOutcome, read_failed, table_failed, spares_failed, page_is_torn}
+use Rattle.pk_remap.specs.Running.{relocation_of, copies, AtPhase, RelocationRuns, IsAtRest, SameCall, NoReadFailed, RelocationStops, StepOutcome, reading}
+use Rattle.pk_remap.specs.Running.{in_table, no_spare, torn}
+use Rattle.pk_remap.specs.Serving.{PassesCount, PassesCalls, PassesSafely, ServingStops, ServingOutcome, read_failed, table_failed, spares_failed, page_is_torn}
 
 -- after some steps that go on
 pub record SoFar (r : InMemory) (before : Flash) (old : BoardState) (r' : InMemory) (new : BoardState) : Type 0 where
@@ -95,9 +96,11 @@ module _ (r : InMemory) (before : Flash) (old : BoardState) (r1 : InMemory) (mid
       table_failed (rose_more new.stop_faults rose) b (subst P far.again is) at
   stopped_why r2 new (no_spare rose none) = spares_failed (rose_more new.stop_faults rose) (let same = far.same.spares in omega (arith, same, none))
   stopped_why r2 new (torn k phase found pages) =
-      let P : Relocation → Type 0 = λ q. (k < copies_of q.shape q.mark) × (page_at new.pages (placed_page q.shape q.table (block q * q.shape.block_pages + k)) ≡ torn_page) in
+      let P : Relocation → Type 0 = λ q. (k < copies_of q.shape q.mark)
+      × (page_at new.pages (placed_page q.shape q.table (block q * q.shape.block_pages + k)) ≡ torn_page) in
       let at_read = subst (AtPhase r1 before mid.pages) phase far.runs.phase_fits in
-      let here = ap (λ (f : Flash). page_at f (placed_page r1.shape (relocation_of r1).table (block (relocation_of r1) * r1.shape.block_pages + k))) pages ∙ found in
+      let here = ap (λ (f : Flash). page_at f (placed_page r1.shape (relocation_of r1).table (block (relocation_of r1) * r1.shape.block_pages + k))) pages
+      ∙ found in
       let own = subst P far.again (at_read.2, here) in
       page_is_torn k own.0 own.1
 

@@ -29,7 +29,8 @@ use Rattle.pk_remap.proofs.Placing.{page-through, div-of, mod-of}
 use Rattle.pk_remap.proofs.Finding.{pair-first}
 use Rattle.pk_remap.proofs.Lifting.{times_le}
 use Rattle.pk_remap.proofs.Standing.{shows, NoneOr}
-use Rattle.pk_remap.proofs.Cutting.{some, spare_before_tables, spare_top, spare_tables, spare_above, spare_cut, turn_top, turn_above, turn_cut, next_again, exchange}
+use Rattle.pk_remap.proofs.Cutting.{some, spare_before_tables, spare_top, spare_tables, spare_above, spare_cut, turn_top, turn_above, turn_cut, next_again}
+use Rattle.pk_remap.proofs.Cutting.{exchange}
 use Rattle.pk_remap.proofs.Cutting.{spare_page_before, pair_full, pair_above, pair_beside, pair_cut}
 use Rattle.pk_remap.proofs.Calls.{program_reached, program_went, erase_reached, erase_went, left_interrupted, done_interrupted}
 
@@ -142,7 +143,8 @@ module _ (r : Relocation) (before : Flash) (old : BoardState) (on : RelocationGo
     -- what a failed call on the spare leaves
     in_spare_failed : (mark : Mark) (new : BoardState) → touched_block inner mark ≡ Some (spare_block r)
         → ((at : ℕ) (bytes : List ℕ) → mark ≡ program at bytes → IsPage inner bytes) → new.shape ≡ old.shape
-        → LeftBy mark old new → WentSafely r before old new → new.read_faults ≡ old.read_faults → Rose old.stop_faults new.stop_faults → SpareFailed r before old new
+        → LeftBy mark old new → WentSafely r before old new → new.read_faults ≡ old.read_faults
+        → Rose old.stop_faults new.stop_faults → SpareFailed r before old new
     in_spare_failed mark new touched full same left cuts reads stop =
         let i : Interrupted inner mark old.pages new.pages [] = left_interrupted old new inner mark on.ready left in
         let ready : IsReady new inner = ready_again old new inner mark on.ready same full i in

@@ -44,7 +44,8 @@ module _ (shape : Shape) (spares top : ℕ) (some : 0 < shape.block_pages) where
       record { from = omega (arith, low, whole_at, from); to = omega (arith, high, whole_at, to, two_more tables n) }
 
   -- the pair can be programmed still if no page of the table blocks differs
-  pub next_kept : (old new : Flash) (pair : ℕ) → ((k : ℕ) → IsTablePage shape spares k → page_at new k ≡ page_at old k) → IsNextPair shape spares top old pair → IsNextPair shape spares top new pair
+  pub next_kept : (old new : Flash) (pair : ℕ) → ((k : ℕ) → IsTablePage shape spares k → page_at new k ≡ page_at old k)
+      → IsNextPair shape spares top old pair → IsNextPair shape spares top new pair
   next_kept old new pair same is = record {
     is_table = is.is_table;
     even = is.even;
@@ -108,7 +109,8 @@ module _ (shape : Shape) (spares top : ℕ) (some : 0 < shape.block_pages) where
           by false t = let past : n ≤ top % n + 2 = grind (arith, nat_tests) in absurd (full (omega (arith, past, room)))
 
 -- the newest table is the newest one of the other pages
-pub next_pair : (r : Relocation) (some : 0 < r.shape.block_pages) (flash : Flash) (pair : ℕ) → IsTop r flash → IsNextPair r.shape r.spares r.top flash pair → IsTablePair r flash pair
+pub next_pair : (r : Relocation) (some : 0 < r.shape.block_pages) (flash : Flash) (pair : ℕ)
+    → IsTop r flash → IsNextPair r.shape r.spares r.top flash pair → IsTablePair r flash pair
 next_pair r some flash pair top is = record {
   beside = newest-beside r.shape r.spares (page_at flash) (page_at flash) r.top r.table pair top is.not_first is.not_second;
   first = is.is_table;

@@ -91,15 +91,15 @@ AtPhase r before flash (First pair) = IsTop (relocation_of r) flash × IsNextPai
 AtPhase r before flash (Second pair) = IsTableHalf (relocation_of r) before flash pair
 
 -- the buffers have room for a page, and the list of blocks for all spares
-pub record HasRoomFor (used : ℕ) (serves partner bytes copy : List ℕ) : Type 0 where
+pub record HasPageBuffersFor (used : ℕ) (serves partner bytes copy : List ℕ) : Type 0 where
   pub fits : used ≤ MOST_SPARES
   pub all : length serves ≡ MOST_SPARES
   pub kept_page : MOST_PAGE_BYTES ≤ length partner
   pub new_page : MOST_PAGE_BYTES ≤ length bytes
   pub read_page : MOST_PAGE_BYTES ≤ length copy
 
-abbrev pub HasRoom : InMemory → Type 0
-HasRoom r = HasRoomFor r.used r.serves r.partner.items r.bytes.items r.copy.items
+abbrev pub HasPageBuffers : InMemory → Type 0
+HasPageBuffers r = HasPageBuffersFor r.used r.serves r.partner.items r.bytes.items r.copy.items
 
 -- the pair after the newest table, if it is known, can be programmed
 abbrev pub HasTurn : InMemory → Flash → Type 0
@@ -111,7 +111,7 @@ pub record RelocationRuns (r : InMemory) (before : Flash) (board : BoardState) :
   -- the first page of the call's pair has the bytes that were read before the call
   pub partner : (k : ℕ) → is_kept r k ≡ true → IsSource (relocation_of r) before k (take r.shape.page_bytes r.partner.items)
   pub turn : HasTurn r board.pages
-  pub room : HasRoom r
+  pub room : HasPageBuffers r
 
 -- The newest table is in memory, and the board is ready: a call of the outer flash can be made.
 pub record IsAtRest (r : InMemory) (board : BoardState) : Type 0 where
@@ -123,7 +123,7 @@ pub record IsAtRest (r : InMemory) (board : BoardState) : Type 0 where
   pub taken : r.taken ≤ r.spares
   pub top : IsTop (relocation_of r) board.pages
   pub turn : HasTurn r board.pages
-  pub room : HasRoom r
+  pub room : HasPageBuffers r
 
 -- The call of the outer flash is done: the next table is the newest, and is in memory.
 pub record IsRelocated (r : InMemory) (before : Flash) (r' : InMemory) (board : BoardState) : Type 0 where
@@ -139,7 +139,7 @@ pub record SameCall (r r' : InMemory) : Type 0 where
   pub bytes : r'.bytes ≡ r.bytes
   pub taken : r.taken ≤ r'.taken
   pub most : r'.taken ≤ r.spares
-  pub room : HasRoom r'
+  pub room : HasPageBuffers r'
 
 -- no read failed; programs and erases may have
 pub record NoReadFailed (old new : BoardState) : Type 0 where

@@ -1,5 +1,5 @@
 -- A search through table pages from the lowest on: the newest table so far.
-use Rattle.std.specs.Prelude.{ℕ, List, nat_lt, if◌then◌else◌, Option, Some, None}
+use Rattle.std.specs.Prelude.{ℕ, ◌≤◌, ⊤, List, nat_lt, if◌then◌else◌, Option, Some, None}
 use Rattle.pk_base.specs.Shape.{Shape}
 use Rattle.pk_nand.specs.declared.types.PageRead.{PageRead}
 use Rattle.pk_nand.specs.declared.types.PageRead.TheVariants.{Erased, Whole, Torn}
@@ -10,6 +10,11 @@ use Rattle.pk_remap.specs.Table.{SpareTable, table_of, table_page}
 abbrev pub table_found : Option Top → List ℕ → Option (ℕ × SpareTable)
 table_found None serves = None
 table_found (Some top) serves = Some (top.page, table_of top.number top.used serves)
+
+-- the table in memory uses at most this many spares
+abbrev pub UsesAtMost : ℕ → Option Top → Type 0
+UsesAtMost spares None = ⊤
+UsesAtMost spares (Some top) = top.used ≤ spares
 
 -- the one with the greater number, of equals the first
 abbrev pub newer_at : Option (ℕ × SpareTable) → ℕ → Option SpareTable → Option (ℕ × SpareTable)

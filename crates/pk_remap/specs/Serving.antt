@@ -1,30 +1,35 @@
 -- A call of the outer flash that a relocation serves, from its first step to its last.
-use Rattle.std.specs.Prelude.{◌≡◌, ◌⊎◌, ℕ, zero, suc, ◌+◌, ◌-◌, ◌*◌, ◌%◌, ◌<◌, ◌≤◌, true, take, Some, Result, Ok, Err}
+use Rattle.std.specs.Prelude.{◌≡◌, ◌⊎◌, ℕ, zero, suc, max, ◌+◌, ◌-◌, ◌*◌, ◌%◌, ◌<◌, ◌≤◌, Bool, true, false, take, Some, None, Result, Ok, Err}
 use Rattle.pk_base.specs.Page.{Flash, page_at, whole, torn as torn_page}
 use Rattle.pk_base.specs.Mark.{Mark, after}
 use Rattle.pk_nand.specs.BoardState.{BoardState}
-use Rattle.pk_nand.specs.Calls.{Rose}
+use Rattle.pk_nand.specs.Calls.{Rose, IsReady}
 use Rattle.pk_nand.specs.Operations.{after_read, ReadFailed}
+use Rattle.pk_nand.specs.Counts.{after_reads}
+use Rattle.pk_base.specs.Shape.{IsShape}
+use Rattle.pk_remap.specs.declared.layout.TheConstants.{MOST_SPARES}
+use Rattle.pk_remap.specs.Newest.{newest_table}
 use Rattle.pk_nand.specs.Crash.{Went}
 use Rattle.pk_nand.specs.declared.types.NandFault.{NandFault}
+use Rattle.pk_remap.specs.declared.top.Top.{Top}
 use Rattle.pk_remap.specs.declared.relocation.Relocation.{Relocation as InMemory}
-use Rattle.pk_remap.specs.Places.{placed_page, through_by}
+use Rattle.pk_remap.specs.Places.{inner_shape, placed_page, through_by}
 use Rattle.pk_remap.specs.Through.{through, MayShow, IsMarkWithin}
 use Rattle.pk_remap.specs.Relocating.{Relocation, block, copies_of, IsCall}
 use Rattle.pk_remap.specs.Stepping.{IsTableBlock}
-use Rattle.pk_remap.specs.Running.{relocation_of, RelocationRuns, HasRoom, IsAtRest, SameCall}
+use Rattle.pk_remap.specs.Running.{relocation_of, RelocationRuns, HasPageBuffers, IsAtRest, SameCall}
 
 -- n calls, of which each cut, and the flash after each, have P
-abbrev pub PassesIn : (Flash → Type 0) → ℕ → BoardState → BoardState → Type 0
-PassesIn P zero old new = new ≡ old
-PassesIn P (suc n) old new = (mid : BoardState) × PassesIn P n old mid × Went mid new (λ flash _. P flash)
+abbrev pub PassesCount : (Flash → Type 0) → ℕ → BoardState → BoardState → Type 0
+PassesCount P zero old new = new ≡ old
+PassesCount P (suc n) old new = (mid : BoardState) × PassesCount P n old mid × Went mid new (λ flash _. P flash)
 
-abbrev pub Passes : (Flash → Type 0) → BoardState → BoardState → Type 0
-Passes P old new = (n : ℕ) × PassesIn P n old new
+abbrev pub PassesCalls : (Flash → Type 0) → BoardState → BoardState → Type 0
+PassesCalls P old new = (n : ℕ) × PassesCount P n old new
 
 -- at each cut of its calls the outer flash is what the call that is served may leave
 abbrev pub PassesSafely : InMemory → Flash → BoardState → BoardState → Type 0
-PassesSafely r before old new = Passes (MayShow r.shape r.spares before (relocation_of r).mark) old new
+PassesSafely r before old new = PassesCalls (MayShow r.shape r.spares before (relocation_of r).mark) old new
 
 -- why a relocation may stop: a read failed; a program or an erase failed in a table block, or on the last spare; or a page to copy is Torn
 pub data ServingStops (r : Relocation) (old : BoardState) (taken : ℕ) (new : BoardState) : Type 0 where
@@ -59,7 +64,7 @@ pub record SameSpares (r r' : InMemory) : Type 0 where
   pub spares : r'.spares ≡ r.spares
   pub taken : r.taken ≤ r'.taken
   pub most : r'.taken ≤ r.spares
-  pub room : HasRoom r'
+  pub room : HasPageBuffers r'
 
 -- the call of the outer flash can be made
 pub record OuterCall (r : InMemory) (mark : Mark) (flash : Flash) : Type 0 where
@@ -84,7 +89,27 @@ PartnerOutcome r page old (Err e) r' new = ReadFailed old new (placed_page r.sha
 -- What a program or an erase of the outer flash does: it is done, with the newest table in memory; or it failed, and this is why.
 abbrev pub OuterOutcome : InMemory → Mark → BoardState → Result Unit NandFault → InMemory → BoardState → Type 0
 OuterOutcome r mark old (Ok u) r' new =
-    Passes (MayShow r.shape r.spares (outer_of r old.pages) mark) old new × IsAtRest r' new
+    PassesCalls (MayShow r.shape r.spares (outer_of r old.pages) mark) old new × IsAtRest r' new
     × (through r.shape r.spares new.pages ≡ Some (after r.shape mark (outer_of r old.pages))) × SameSpares r r'
 OuterOutcome r mark old (Err e) r' new =
-    Passes (MayShow r.shape r.spares (outer_of r old.pages) mark) old new × ServingStops (for_mark r mark) old r'.taken new × SameSpares r r'
+    PassesCalls (MayShow r.shape r.spares (outer_of r old.pages) mark) old new × ServingStops (for_mark r mark) old r'.taken new × SameSpares r r'
+
+-- ---- the search for the newest table
+
+-- the board is ready, and the relocation in memory fits it, whichever its table is
+pub record CanFind (r : InMemory) (board : BoardState) : Type 0 where
+  pub ready : IsReady board (inner_shape r.shape r.spares)
+  pub shape_is : IsShape r.shape
+  pub few : r.spares ≤ MOST_SPARES
+  pub taken : r.taken ≤ r.spares
+  pub room : HasPageBuffers r
+
+-- with the newest table that was found, whose spares are taken
+abbrev pub found_top : InMemory → Top → InMemory
+found_top r top = record r { number = top.number; used = top.used; top = top.page; next = None; taken = max r.taken top.used }
+
+-- What the search does: the newest table is in memory, or there is none, or a read failed.
+abbrev pub FindOutcome : InMemory → BoardState → Result Bool NandFault → InMemory → BoardState → Type 0
+FindOutcome r old (Ok true) r' new = IsAtRest r' new × (new ≡ after_reads (2 * r.shape.block_pages) old) × SameSpares r r'
+FindOutcome r old (Ok false) r' new = (newest_table r.shape r.spares (page_at old.pages) ≡ None) × (new ≡ after_reads (2 * r.shape.block_pages) old) × SameSpares r r'
+FindOutcome r old (Err e) r' new = Rose old.read_faults new.read_faults × SameSpares r r'

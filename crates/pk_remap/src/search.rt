@@ -1,12 +1,12 @@
 //! The newest table of a flash.
-ghost use Rattle.std.specs.Prelude.{◌≡◌, ◌*◌, ◌≤◌, length, Some, IfOk, OnOk, OnErr};
+ghost use Rattle.std.specs.Prelude.{◌≡◌, ℕ, ◌*◌, ◌≤◌, length, Some, IfOk, OnOk, OnErr};
 ghost use Rattle.pk_base.specs.Page.{page_at};
 ghost use Rattle.pk_nand.specs.Calls.{IsReady, Rose};
 ghost use Rattle.pk_nand.specs.Counts.{after_reads};
 ghost use Rattle.pk_remap.specs.Places.{inner_shape};
 ghost use Rattle.pk_remap.specs.Table.{table_of, table_page};
 ghost use Rattle.pk_remap.specs.Newest.{newest_table};
-ghost use Rattle.pk_remap.specs.Searched.{table_found, newer_at, table_read};
+ghost use Rattle.pk_remap.specs.Searched.{table_found, UsesAtMost, newer_at, table_read};
 ghost use Rattle.pk_remap.specs.declared.layout.TheConstants.{MOST_SPARES};
 
 use crate::places::page_in;
@@ -20,6 +20,7 @@ fn take(best: Option<Top>, table: Top, own: &[u16], serves: &mut [u16]) -> Optio
     requires { length own.now ≡ length serves.old }
     ensures newer { table_found result serves.new ≡ newer_at (table_found best serves.old) table.page
         (Some (table_of table.number table.used own.now)) }
+    ensures few { (most : ℕ) → UsesAtMost most best → table.used ≤ most → UsesAtMost most result }
     ensures len { length serves.new ≡ length serves.old }
 {
     match best {
@@ -52,6 +53,7 @@ fn take_page(
     requires room { length serves.old ≡ MOST_SPARES }
     ensures newer { table_found result serves.new ≡ newer_at (table_found best serves.old) page
         (table_page shape.now spares bytes.now) }
+    ensures few { UsesAtMost spares best → UsesAtMost spares result }
     ensures len { length serves.new ≡ length serves.old }
 {
     let mut own = [0u16; 64];
@@ -78,6 +80,7 @@ fn take_read(
     requires room { length serves.old ≡ MOST_SPARES }
     ensures newer { table_found result serves.new ≡ newer_at (table_found best serves.old) page
         (table_read shape.now spares found bytes.now) }
+    ensures few { UsesAtMost spares best → UsesAtMost spares result }
     ensures len { length serves.new ≡ length serves.old }
 {
     match found {
@@ -102,6 +105,7 @@ pub fn newest<N: Nand>(
     ensures found { IfOk result
         (λ r. newest_table shape.now spares (page_at (N.state inner.old).pages)
         ≡ table_found r serves.new) }
+    ensures few { IfOk result (λ r. UsesAtMost spares r) }
     ensures ok { OnOk result (N.state inner.new
         ≡ after_reads (2 * shape.now.block_pages) (N.state inner.old)) }
     ensures err { OnErr result

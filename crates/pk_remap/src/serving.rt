@@ -1,22 +1,64 @@
 //! Calls of the outer flash that a relocation serves, from its first step to its last.
 ghost use Rattle.pk_base.specs.Page.{Flash, page_at, IsPage};
-ghost use Rattle.std.specs.Prelude.{◌≡◌, ◌<◌, ◌≤◌, length, take, IfOk, OnOk, OnErr};
+ghost use Rattle.std.specs.Prelude.{◌≡◌, ◌*◌, ◌<◌, ◌≤◌, length, take, IfOk, OnOk, OnErr};
 ghost use Rattle.pk_base.specs.Mark.{program, erase};
 ghost use Rattle.pk_base.specs.Shape.{page_count};
+ghost use Rattle.pk_nand.specs.Calls.{IsReady, Rose};
 ghost use Rattle.pk_nand.specs.Operations.{InOrder, filled, after_read, ReadFailed};
+ghost use Rattle.pk_nand.specs.Counts.{after_reads};
+ghost use Rattle.pk_remap.specs.Newest.{newest_table};
+ghost use Rattle.pk_remap.specs.Searched.{table_found, UsesAtMost};
 ghost use Rattle.pk_nand.specs.Seen.{answer};
 ghost use Rattle.pk_remap.specs.declared.layout.TheConstants.{MOST_SPARES};
-ghost use Rattle.pk_remap.specs.Places.{placed_page};
+ghost use Rattle.pk_remap.specs.Places.{inner_shape, placed_page};
 ghost use Rattle.pk_remap.specs.Running.{relocation_of, RelocationRuns, IsAtRest};
-ghost use Rattle.pk_remap.specs.Serving.{outer_of, HasPartner, PartnerOutcome, RelocationServes, OuterOutcome};
+ghost use Rattle.pk_remap.specs.Serving.{outer_of, HasPartner, PartnerOutcome, CanFind, FindOutcome, found_top, RelocationServes, OuterOutcome};
 
 use crate::phase::Phase;
 use crate::places::{page_in, place};
 use crate::relocation::{Call, Relocation};
+use crate::search::newest;
 use crate::steps::read_into;
+use crate::top::Top;
+use pk_base::Shape;
 use pk_nand::{Nand, NandFault, PageRead};
 
 impl Relocation {
+    /// Searches for the newest table of the inner flash, and takes it into memory. The answer is whether there is one.
+    pub fn find<N: Nand>(&mut self, inner: &mut N) -> Result<bool, NandFault>
+        requires { CanFind self.old (N.state inner.old) }
+        ensures { FindOutcome self.old (N.state inner.old) result self.new (N.state inner.new) }
+    {
+        match newest_by(
+            inner,
+            &self.shape,
+            self.spares,
+            &mut self.serves,
+            &mut self.copy,
+        ) {
+            Ok(Some(top)) => {
+                self.take_found(top);
+                Ok(true)
+            }
+            Ok(None) => Ok(false),
+            Err(_) => Err(NandFault),
+        }
+    }
+
+    /// Takes the newest table that was found.
+    fn take_found(&mut self, top: Top)
+        requires { top.used ≤ MOST_SPARES }
+        ensures { self.new ≡ found_top self.old top }
+    {
+        self.number = top.number;
+        self.used = top.used;
+        self.top = top.page;
+        self.next = None;
+        if (self.taken as usize) < top.used {
+            self.taken = top.used as u16;
+        }
+    }
+
     /// The inner page of a page of the outer flash.
     fn inner_page(&self, page: u32) -> u32
         requires inside { page < page_count self.now.shape }
@@ -53,7 +95,7 @@ impl Relocation {
 
     /// Reads the first page of a pair into memory, if this page is the second one: a relocation needs its bytes if the program of this page
     /// fails, which may tear the first page.
-    pub fn keep_partner<N: Nand>(&mut self, inner: &mut N, page: u32) -> Result<(), NandFault>
+    fn keep_partner<N: Nand>(&mut self, inner: &mut N, page: u32) -> Result<(), NandFault>
         requires rests { IsAtRest self.old (N.state inner.old) }
         requires inside { page < page_count self.old.shape }
         ensures { PartnerOutcome self.old page (N.state inner.old) result self.new
@@ -77,8 +119,29 @@ impl Relocation {
         }
     }
 
-    /// Programs a page of the outer flash. If a spare is left, a relocation serves a call that failed.
+    /// Programs a page of the outer flash, with the first page of its pair in memory meanwhile. If a spare is left, a relocation serves a
+    /// call that failed.
     pub fn program_outer<N: Nand>(
+        &mut self,
+        inner: &mut N,
+        page: u32,
+        bytes: &[u8],
+    ) -> Result<(), NandFault>
+        requires rests { IsAtRest self.old (N.state inner.old) }
+        requires inside { page < page_count self.old.shape }
+        requires full { IsPage self.old.shape bytes.now }
+        requires order { InOrder self.old.shape (outer_of self.old (N.state inner.old).pages) page }
+        ensures { OuterOutcome self.old (program page bytes.now) (N.state inner.old) result self.new
+            (N.state inner.new) }
+    {
+        match self.keep_partner(inner, page) {
+            Ok(()) => self.program_with_partner(inner, page, bytes),
+            Err(_) => Err(NandFault),
+        }
+    }
+
+    /// Programs a page of the outer flash. If a spare is left, a relocation serves a call that failed.
+    fn program_with_partner<N: Nand>(
         &mut self,
         inner: &mut N,
         page: u32,
@@ -134,7 +197,7 @@ impl Relocation {
 
     /// Makes the steps of a relocation that was begun, to the last one. If one stops, the outer flash is what the call that is served may
     /// leave.
-    pub fn serve<N: Nand>(&mut self, inner: &mut N) -> Result<(), NandFault>
+    fn serve<N: Nand>(&mut self, inner: &mut N) -> Result<(), NandFault>
         requires { (before : Flash) × RelocationRuns self.old before (N.state inner.old) }
         ensures { RelocationServes self.old (N.state inner.old) result self.new (N.state inner.new) }
     {
@@ -146,6 +209,33 @@ impl Relocation {
             }
         }
     }
+}
+
+/// Finds the newest table of a flash, with the first bytes of a buffer for its pages.
+fn newest_by<N: Nand>(
+    inner: &mut N,
+    shape: &Shape,
+    spares: u16,
+    serves: &mut [u16],
+    buffer: &mut [u8],
+) -> Result<Option<Top>, NandFault>
+    requires ready { IsReady (N.state inner.old) (inner_shape shape.now spares) }
+    requires few { spares ≤ MOST_SPARES }
+    requires all { length serves.old ≡ MOST_SPARES }
+    requires room { shape.now.page_bytes ≤ length buffer.old }
+    ensures found { IfOk result
+        (λ r. newest_table shape.now spares (page_at (N.state inner.old).pages)
+        ≡ table_found r serves.new) }
+    ensures few { IfOk result (λ r. UsesAtMost spares r) }
+    ensures ok { OnOk result (N.state inner.new
+        ≡ after_reads (2 * shape.now.block_pages) (N.state inner.old)) }
+    ensures err { OnErr result
+        (Rose (N.state inner.old).read_faults (N.state inner.new).read_faults) }
+    ensures all { length serves.new ≡ length serves.old }
+    ensures len { length buffer.new ≡ length buffer.old }
+{
+    let size = shape.page_bytes() as usize;
+    newest(inner, shape, spares, serves, &mut buffer[..size])
 }
 
 /// Copies bytes to the first places of a buffer.

@@ -32,6 +32,7 @@ loop-i-preserved g c =
     record {
       found = subst P next (subst Q (sym c.take_read-best.ensures.newer) more);
       board = c.in-Ok.ensures.ok ∙ ap after_read board ∙ ap (λ (k : ℕ). after_reads k old) next;
+      few = c.take_read-best.ensures.few c.loop-i.invariant.few;
       room = c.take_read-best.ensures.len ∙ c.loop-i.invariant.room;
       sized = c.read.auto.into ∙ c.loop-i.invariant.sized;
     }

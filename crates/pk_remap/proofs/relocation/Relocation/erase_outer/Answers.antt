@@ -18,8 +18,11 @@ pub serve-requires : goal.serve-requires
 serve-requires g c =
     let r = c.args.self.now in
     let board : BoardState = g.N.Nand.state c.args.inner.now in
-    let at : c.place-at.result ≡ place r.shape (relocation_of r).table c.args.block = c.place-at.ensures in
-    (outer_of r board.pages, erase_begins r board c.requires.rests c.args.block c.requires.inside (g.N.Nand.state c.erase.new.self) (rw at at c.in-Err.ensures.err) c.if-self.true)
+    let at : c.place-at.result ≡ place r.shape (relocation_of r).table c.args.block = c.place-at.ensures in (
+      outer_of r board.pages,
+      erase_begins r board c.requires.rests c.args.block c.requires.inside
+          (g.N.Nand.state c.erase.new.self) (rw at at c.in-Err.ensures.err) c.if-self.true,
+    )
 
 pub returns-in-Ok : goal.returns-in-Ok
 returns-in-Ok g c =

@@ -21,11 +21,13 @@ returns-in-Ok g c before runs =
     let board : BoardState = g.N.Nand.state c.args.inner.now in
     let new : List ℕ = c.program_table.new.buffer in
     let same : take r.shape.page_bytes new ≡ table_bytes r.shape r.spares (next_table (relocation_of r)) =
-    c.program_table.ensures.bytes ∙ ap (λ (x : List ℕ). table_bytes r.shape r.spares (record { number = r.number + 1; serves = x })) c.next_serves-serves.ensures.front in
+    c.program_table.ensures.bytes ∙ ap
+    (λ (x : List ℕ). table_bytes r.shape r.spares (record { number = r.number + 1; serves = x })) c.next_serves-serves.ensures.front in
     let a = c.program_table.auto.buffer in
     let b = c.deref_mut.ensures in
     let size : r.copy.len ≡ length new = sym (a ∙ b.len) in
-    let items : take r.copy.len (new ++ drop (length new) r.copy.items) ≡ new = ap (λ (n : ℕ). take n (new ++ drop (length new) r.copy.items)) size ∙ take-append_seam _ _ in
+    let items : take r.copy.len (new ++ drop (length new) r.copy.items) ≡ new = ap (λ (n : ℕ). take n (new ++ drop (length new) r.copy.items)) size
+    ∙ take-append_seam _ _ in
     let room : MOST_PAGE_BYTES ≤ length new = let old = runs.room.read_page in omega (arith, old, c.program_table.ensures.len, ap length b.value) in
     first_written r before board runs c.args.page c.requires.phase (g.N.Nand.state c.program_table.new.inner) (take r.shape.page_bytes new)
     c.program_table.ensures.page same c.in-Ok.ensures.ok _ (rw items room)
@@ -36,11 +38,13 @@ returns-in-Err g c before runs =
     let board : BoardState = g.N.Nand.state c.args.inner.now in
     let new : List ℕ = c.program_table.new.buffer in
     let same : take r.shape.page_bytes new ≡ table_bytes r.shape r.spares (next_table (relocation_of r)) =
-    c.program_table.ensures.bytes ∙ ap (λ (x : List ℕ). table_bytes r.shape r.spares (record { number = r.number + 1; serves = x })) c.next_serves-serves.ensures.front in
+    c.program_table.ensures.bytes ∙ ap
+    (λ (x : List ℕ). table_bytes r.shape r.spares (record { number = r.number + 1; serves = x })) c.next_serves-serves.ensures.front in
     let a = c.program_table.auto.buffer in
     let b = c.deref_mut.ensures in
     let size : r.copy.len ≡ length new = sym (a ∙ b.len) in
-    let items : take r.copy.len (new ++ drop (length new) r.copy.items) ≡ new = ap (λ (n : ℕ). take n (new ++ drop (length new) r.copy.items)) size ∙ take-append_seam _ _ in
+    let items : take r.copy.len (new ++ drop (length new) r.copy.items) ≡ new = ap (λ (n : ℕ). take n (new ++ drop (length new) r.copy.items)) size
+    ∙ take-append_seam _ _ in
     let room : MOST_PAGE_BYTES ≤ length new = let old = runs.room.read_page in omega (arith, old, c.program_table.ensures.len, ap length b.value) in
     first_failed r before board runs c.args.page c.requires.phase (g.N.Nand.state c.program_table.new.inner) (take r.shape.page_bytes new)
     c.program_table.ensures.page same c.in-Err.ensures.err _ (rw items room)

@@ -1,72 +1,25 @@
-use Rattle.std.proofs.Common.{◌≡◌, ◌<◌, ◌≤◌, ◌++◌, ℕ, List, length, take, drop, sym, ap, subst, ◌∙◌, arith}
-use Rattle.std.proofs.Math.Seq.{take-append_seam}
-use Rattle.pk_base.specs.declared.sizes.TheConstants.{MOST_PAGE_BYTES}
+use Rattle.std.proofs.Common.{◌≡◌, subst}
+use Rattle.std.specs.Prelude.{Result}
+use Rattle.pk_base.specs.Mark.{program}
 use Rattle.pk_nand.specs.BoardState.{BoardState}
-use Rattle.pk_nand.specs.Calls.{after_program, ProgramFailed}
-use Rattle.pk_nand.proofs.Writing.{shape_is}
-use Rattle.pk_remap.specs.Places.{placed_page}
-use Rattle.pk_remap.specs.Running.{relocation_of}
-use Rattle.pk_remap.specs.Serving.{outer_of}
-use Rattle.pk_remap.proofs.Outer.{page_inside, inner_order, program_done, program_begins, program_served, program_none_left}
+use Rattle.pk_nand.specs.declared.types.NandFault.{NandFault}
+use Rattle.pk_remap.specs.Serving.{PartnerOutcome}
+use Rattle.pk_remap.proofs.Outer.{kept_outcome, read_stopped}
 use Rattle.pk_remap.proofs.relocation.Relocation.program_outer.Goals as goal
-
-pub program-requires-clause-exists : goal.program-requires-clause-exists
-program-requires-clause-exists g c =
-    rw c.inner_page-at.ensures (page_inside c.args.self.now (g.N.Nand.state c.args.inner.now) c.requires.rests c.args.page c.requires.inside)
-
-pub program-requires-clause-order : goal.program-requires-clause-order
-program-requires-clause-order g c =
-    let board : BoardState = g.N.Nand.state c.args.inner.now in
-    rw (c.inner_page-at.ensures, shape_is board _ c.requires.rests.ready)
-    (inner_order c.args.self.now board c.requires.rests c.args.page c.requires.inside c.requires.order)
 
 pub returns-in-Ok : goal.returns-in-Ok
 returns-in-Ok g c =
-    let r = c.args.self.now in
     let board : BoardState = g.N.Nand.state c.args.inner.now in
-    program_done r board c.requires.rests c.args.page c.requires.inside c.args.bytes.now c.requires.full c.requires.order _
-    (g.N.Nand.state c.program.new.self) (rw c.inner_page-at.ensures at c.in-Ok.ensures.ok)
+    let mid : BoardState = g.N.Nand.state c.keep_partner.new.inner in
+    let T : Result Unit NandFault → Type 0 = λ x. PartnerOutcome c.args.self.now c.args.page board x c.keep_partner.new.self mid in
+    kept_outcome c.args.self.now c.args.page board c.keep_partner.new.self mid (subst T c.in-Ok.is c.keep_partner.ensures)
+    c.requires.rests (program c.args.page c.args.bytes.now) c.program_with_partner.result c.program_with_partner.new.self
+    (g.N.Nand.state c.program_with_partner.new.inner) c.program_with_partner.ensures
 
-pub serve-requires : goal.serve-requires
-serve-requires g c =
-    let r = c.args.self.now in
+pub returns-in-Err : goal.returns-in-Err
+returns-in-Err g c =
     let board : BoardState = g.N.Nand.state c.args.inner.now in
-    let new : List ℕ = c.put_front.new.buffer in
-    let a = c.put_front.auto.buffer in
-    let b = c.deref_mut.ensures in
-    let size : r.bytes.len ≡ length new = sym (a ∙ b.len) in
-    let items : take r.bytes.len (new ++ drop (length new) r.bytes.items) ≡ new =
-    ap (λ (n : ℕ). take n (new ++ drop (length new) r.bytes.items)) size ∙ take-append_seam _ _ in
-    let large : MOST_PAGE_BYTES ≤ length new = let old = c.requires.rests.room.new_page in omega (arith, old, c.put_front.ensures.len, ap length b.value) in
-    let T : ℕ → Type 0 = λ n. take n new ≡ c.args.bytes.now in
-    let front : take r.shape.page_bytes new ≡ c.args.bytes.now = subst T c.requires.full.0 c.put_front.ensures.front in
-    let failed = rw c.inner_page-at.ensures at c.in-Err.ensures.err in (
-      outer_of r board.pages,
-      program_begins r board c.requires.rests c.args.page c.requires.inside c.args.bytes.now c.requires.full c.requires.order
-          (g.N.Nand.state c.program.new.self) failed c.if-self.true _ (rw items front) (rw items large) c.requires.partner,
-    )
-
-pub returns-then-self : goal.returns-then-self
-returns-then-self g c =
-    let r = c.args.self.now in
-    let board : BoardState = g.N.Nand.state c.args.inner.now in
-    let new : List ℕ = c.put_front.new.buffer in
-    let a = c.put_front.auto.buffer in
-    let b = c.deref_mut.ensures in
-    let size : r.bytes.len ≡ length new = sym (a ∙ b.len) in
-    let items : take r.bytes.len (new ++ drop (length new) r.bytes.items) ≡ new =
-    ap (λ (n : ℕ). take n (new ++ drop (length new) r.bytes.items)) size ∙ take-append_seam _ _ in
-    let large : MOST_PAGE_BYTES ≤ length new = let old = c.requires.rests.room.new_page in omega (arith, old, c.put_front.ensures.len, ap length b.value) in
-    let T : ℕ → Type 0 = λ n. take n new ≡ c.args.bytes.now in
-    let front : take r.shape.page_bytes new ≡ c.args.bytes.now = subst T c.requires.full.0 c.put_front.ensures.front in
-    let failed = rw c.inner_page-at.ensures at c.in-Err.ensures.err in
-    program_served r board c.requires.rests c.args.page c.requires.inside c.args.bytes.now c.requires.full c.requires.order
-    (g.N.Nand.state c.program.new.self) failed c.if-self.true _ (rw items front) (rw items large) c.requires.partner
-    c.serve.result c.serve.new.self (g.N.Nand.state c.serve.new.inner) c.serve.ensures
-
-pub returns-else-self : goal.returns-else-self
-returns-else-self g c =
-    let r = c.args.self.now in
-    let board : BoardState = g.N.Nand.state c.args.inner.now in
-    program_none_left r board c.requires.rests c.args.page c.requires.inside c.args.bytes.now c.requires.full c.requires.order _
-    (g.N.Nand.state c.program.new.self) (rw c.inner_page-at.ensures at c.in-Err.ensures.err) c.if-self.false
+    let mid : BoardState = g.N.Nand.state c.keep_partner.new.inner in
+    let T : Result Unit NandFault → Type 0 = λ x. PartnerOutcome c.args.self.now c.args.page board x c.keep_partner.new.self mid in
+    let failed = subst T c.in-Err.is c.keep_partner.ensures in
+    read_stopped c.args.self.now board c.requires.rests (program c.args.page c.args.bytes.now) _ _ c.keep_partner.new.self mid failed.0 failed.1

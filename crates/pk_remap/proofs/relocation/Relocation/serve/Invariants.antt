@@ -5,7 +5,8 @@ use Rattle.pk_remap.proofs.relocation.Relocation.serve.Given as goal
 
 abbrev pub invariant-loop : goal.invariant-loop
 invariant-loop g l = record {
-  far : (before : Flash) → RelocationRuns l.fn.self before (g.N.Nand.state l.fn.inner) → SoFar l.fn.self before (g.N.Nand.state l.fn.inner) l.self (g.N.Nand.state l.inner);
+  far : (before : Flash) → RelocationRuns l.fn.self before (g.N.Nand.state l.fn.inner)
+      → SoFar l.fn.self before (g.N.Nand.state l.fn.inner) l.self (g.N.Nand.state l.inner);
 }
 
 abbrev pub decreases-loop : goal.decreases-loop
