@@ -22,6 +22,7 @@ use Rattle.pk_port.specs.declared.halt.Halt.{Halt}
 use Rattle.pk_port.specs.declared.halt.Halt.TheVariants.{Stopped, Worn as UsedUp}
 use Rattle.pk_port.proofs.Growing.{asked-none, asked-next, asked-stops, asked-posts, asked-post_failed, went-silent}
 use Rattle.pk_words.specs.Question.{Question, command_of, QuestionAnswers}
+use Rattle.pk_host.specs.Port.{PortState}
 use Rattle.pk_words.specs.Said.{Said, SaidOn}
 use Rattle.pk_wordrun.specs.Ends.{end_of}
 use Rattle.pk_wordrun.specs.Tasks.{answer, SaysTask, KeptTask}
@@ -72,11 +73,11 @@ kept-none Says shape frames start cs from to a holds = (
 )
 
 -- what was said over a port that keeps its shape, of the drive and the board when they are given back
-pub said_back : (q : Question) (shape one : Shape) (a b last : Mounted) (f g : ℕ) (text : List ℕ) → one ≡ shape → last ≡ b
-    → Said (QuestionAnswers q) (seen shape a f) (seen one b g) text → Said (QuestionAnswers q) (seen shape a 0) (seen shape last 0) text
+pub said_back : (q : Question) (shape one : Shape) (a b : Mounted) (last : PortState) (f g : ℕ) (text : List ℕ) → one ≡ shape → last ≡ seen shape b 0
+    → Said (QuestionAnswers q) (seen shape a f) (seen one b g) text → Said (QuestionAnswers q) (seen shape a 0) last text
 said_back q shape one a b last f g text same back said m told =
     let F : Shape → Type 0 = λ s. Said (QuestionAnswers q) (seen shape a f) (seen s b g) text in
-    let T : Mounted → Type 0 = λ x. SaidOn (QuestionAnswers q) (seen shape a 0) (seen shape x 0) text m in
+    let T : PortState → Type 0 = λ x. SaidOn (QuestionAnswers q) (seen shape a 0) x text m in
     let s = (subst F same said) m told in
     subst T (sym back) (record { frames = s.frames; frames_is = s.frames_is; left = s.left; says = s.says; told = s.told })
 
