@@ -1,5 +1,6 @@
 use Rattle.std.proofs.Common.{◌≡◌, ◌+◌, ◌-◌, ◌≤◌, [], min, arith, sym, subst, ℕ, List}
 use Rattle.pk_base.specs.Entry.{Entry}
+use Rattle.pk_level.specs.Levels.{RunsOnFlash}
 use Rattle.pk_walk.specs.Walking.{Reads, ReadsFail, most_read}
 use Rattle.pk_core.proofs.Doing.{list_executes, list_only}
 use Rattle.pk_nvme.specs.Seen.{command_of}
