@@ -1,5 +1,6 @@
 -- The pieces of a list, one after another: what they are together.
-use Rattle.std.proofs.Common.{inl, inr, ℕ, ◌≤◌, List, [], ◌++◌, Option, Some, None, refl, sym, ap, ◌∙◌, arith, append_assoc}
+use Rattle.std.proofs.Common.{◌≡◌, inl, inr, ℕ, ◌≤◌, List, [], ◌++◌, Option, Some, None, refl, sym, ap, ◌∙◌, arith, append_assoc}
+use Rattle.std.specs.Option.{IfSome}
 use Rattle.std.proofs.lemmas.List.{append-nil}
 use Rattle.std.proofs.lemmas.Grind.{flat_map-append}
 use Rattle.pk_base.specs.Key.{Key}
@@ -30,13 +31,23 @@ listed_goes from start now next place place' text piece h c stays = record {
       );
 }
 
+-- the text of a list does not speak of frames: any number will do, and the port's if it is known
+frames_of : Option ℕ → ℕ
+frames_of None = 0
+frames_of (Some f) = f
+
+frames_are : (o : Option ℕ) → IfSome o (λ f. frames_of o ≡ f)
+frames_are None = tt
+frames_are (Some f) = refl
+
 pub listed_ends : (from : Option Key) (start now new : PortState) (place : ListPosition) (text piece : List ℕ)
     → Listed from start now place text → ListEnds now new place piece → Leaves now new (λ m. m)
     → start.read_faults ≤ now.read_faults → Said (SaysKeys from) start new (text ++ piece)
 listed_ends from start now new place text piece h ends stays up m told =
     let (front, is, split) = h.lines m told in
     let here = h.leaves m told in record {
-      frames = 0;
+      frames = frames_of start.frames;
+      frames_is = frames_are start.frames;
       left = m;
       says = (
         refl,
