@@ -37,6 +37,7 @@ frames_of None = 0
 frames_of (Some f) = f
 
 frames_are : (o : Option ℕ) → IfSome o (λ f. frames_of o ≡ f)
+unfolding frames_of
 frames_are None = tt
 frames_are (Some f) = refl
 
