@@ -266,6 +266,9 @@ def installed(folder, image):
     check('nothing remains', not [names for _, _, names in os.walk(root) if names])
 
 
+# nohup, or a shell that runs this in the background, has signals ignored, and a launcher cannot catch what was ignored before it began
+for number in (signal.SIGHUP, signal.SIGINT, signal.SIGQUIT):
+    signal.signal(number, signal.SIG_DFL)
 with tempfile.TemporaryDirectory() as folder:
     image = folder + '/drive.img'
     check('make', run(PINK, image, 'make', '512', '16', '64') == (0, '', ''))

@@ -2,7 +2,7 @@
 # Checks the documents beside the sources, in a second or two. It is run by hand, before a landing. Each fault is a line.
 #
 # The index of lemma files, the lists of definitions and the map of the crates are those that docs/lemmas.sh, docs/definitions.py and
-# docs/crates.py write; README keeps to its size; every link leads to a file; every crate,
+# docs/crates.py write; README keeps to its size; README and TESTS have the right counts; every link leads to a file; every crate,
 # every path of a function, every file of definitions, every clause of GUARANTEES and every wrong body that a document names exists;
 # every wrong body is named; the crates above each one that WORKING counts are those of crates.txt.
 set -u
@@ -60,6 +60,18 @@ docs/crates.py --check 2>>"$faults"
 
 [ "$(wc -l <README.md)" -le 100 ] || fault "README.md: more than 100 lines"
 LC_ALL=C.UTF-8 awk '{ gsub(/[\200-\277]/, "") } length($0) > 100 { print "README.md:" FNR ": wider than 100 columns" }' README.md >>"$faults"
+
+# Numbers that README and TESTS repeat: the lines of the definitions, the wrong bodies, the tests of the gate.
+lines=$(sed -n 's/^\([0-9]*\) lines in .*/\1/p' docs/DEFINITIONS.md | head -n 1)
+grep -q " $lines lines for the claim" README.md || fault "README.md: the claim has $lines lines of definitions"
+edits=$(find crates -path '*/must-fail/*.edit' | wc -l)
+for document in README.md docs/TESTS.md; do
+    grep -q "$edits wrong bodies" "$document" || fault "$document: there are $edits wrong bodies"
+done
+sed -n 's/^| tests .* | \([0-9]*\) | `\(pk_test_[a-z_]*\)` .*/\1 \2/p' docs/TESTS.md | while read -r count crate; do
+    found=$(grep -r '^#\[test\]' "crates/$crate/src" | wc -l)
+    [ "$found" -eq "$count" ] || fault "docs/TESTS.md: $crate has $found tests"
+done
 
 for document in README.md docs/*.md clients/python/README.md; do
     folder=$(dirname "$document")
