@@ -21,7 +21,7 @@ use Rattle.pk_model.specs.Run.{Step}
 use Rattle.pk_law_steps.specs.Under.{places}
 use Rattle.pk_law_steps.proofs.Untouched.{under_reads}
 use Rattle.pk_law_steps.proofs.Counting.{counts}
-use Rattle.pk_data.proofs.Standing.{total_of}
+use Rattle.pk_values.proofs.Standing.{total_of}
 use Rattle.pk_model.specs.Wear.{root_number, number_of}
 use Rattle.pk_call.specs.Drive.{CountsMap}
 use Rattle.pk_call.specs.Exec.{report_of}
@@ -49,7 +49,7 @@ counts_map : (d : Parts) (shape : Shape) (flash : Flash) (top : ℕ × Root) (fo
 counts_map d shape flash top found without all a =
     let c = counts shape flash d.log.pending top found all a.placed.is_shape a.is_flash a.pending in
     record {
-      live_is = total_of shape d.space d.pool (outputs_of d) flash (places found d.log.pending) a.placed ∙ sym c.live_is;
+      live_is = total_of shape d.values d.pool (outputs_of d) flash (places found d.log.pending) a.placed ∙ sym c.live_is;
       limit_is = ap (λ s. limit s) a.shape_is;
       keys_is = a.keys_are ∙ sym c.len_is;
       pinned_is = a.index.levels_pinned ∙ ap (λ s. pinned s (frames_of d)) a.shape_is;

@@ -18,8 +18,8 @@ use Rattle.pk_pool.specs.Blocks.{Blocks, freed}
 use Rattle.pk_model.specs.Found.{Found, entries_in_order}
 use Rattle.pk_model.specs.Sight.{free_pages}
 use Rattle.pk_model.proofs.Lookups.{find-firsts}
-use Rattle.pk_data.specs.State.{OpenBlock, fits_open, has_left}
-use Rattle.pk_data.specs.Placed.{IsOpenIn}
+use Rattle.pk_values.specs.State.{OpenBlock, fits_open, has_left}
+use Rattle.pk_values.specs.Placed.{IsOpenIn}
 use Rattle.pk_call.specs.Moving.{HasOpenRoom, StoresIn, Stores}
 use Rattle.pk_parts.specs.Parts.{Parts, sight_of, block_if_open}
 use Rattle.pk_parts.specs.Agreeing.{DriveOnFlash}
@@ -62,14 +62,14 @@ found_first found pending k place is =
 
 module _ (d e : Parts) (old new : BoardState) (c : Command) (a : DriveOnFlash d old.shape old.pages) (b : DriveOnFlash e new.shape new.pages)
     (n : IsNoted e (key c)) (blocks : SameUse d e ⊎ (OpensOne d e (charge d.log.shape c.size) ⊎ MakesRoom d e (charge d.log.shape c.size))) where
-  has_room : HasOpenRoom a.shape old.pages (sight_of d) (charge a.shape c.size) → fits_open d.log.shape d.space (charge d.log.shape c.size) ≡ false → ⊥
+  has_room : HasOpenRoom a.shape old.pages (sight_of d) (charge a.shape c.size) → fits_open d.log.shape d.values (charge d.log.shape c.size) ≡ false → ⊥
   has_room room none =
-      let left : fits_open a.shape d.space (charge a.shape c.size) ≡ true = left_is a.shape
-      (freed d.pool) old.pages d.space.open_block room.0 (charge a.shape c.size) a.with.placed.open_is room.1 room.2 in
-      not_both (fits_open a.shape d.space (charge a.shape c.size)) left (subst (λ s. fits_open s d.space (charge s c.size) ≡ false) a.with.shape_is none)
+      let left : fits_open a.shape d.values (charge a.shape c.size) ≡ true = left_is a.shape
+      (freed d.pool) old.pages d.values.open_block room.0 (charge a.shape c.size) a.with.placed.open_is room.1 room.2 in
+      not_both (fits_open a.shape d.values (charge a.shape c.size)) left (subst (λ s. fits_open s d.values (charge s c.size) ≡ false) a.with.shape_is none)
 
   -- if its value has room, the open block is unchanged
-  open_stays : HasOpenRoom a.shape old.pages (sight_of d) (charge a.shape c.size) → block_if_open e.space.open_block ≡ block_if_open d.space.open_block
+  open_stays : HasOpenRoom a.shape old.pages (sight_of d) (charge a.shape c.size) → block_if_open e.values.open_block ≡ block_if_open d.values.open_block
   open_stays room = elim blocks [
     | inl same ↦ same.open_same
     | inr (inl one) ↦ absurd (has_room room one.no_room)
@@ -81,8 +81,8 @@ module _ (d e : Parts) (old new : BoardState) (c : Command) (a : DriveOnFlash d 
       let T : Shape → Type 0 = λ s. StoresIn s old.pages new.pages (sight_of d) (sight_of e) c in
       let active : find key_cmp (key c) (firsts (reverse (b.found.newest ++ e.log.pending))) ≡ Some
       (Some n.place) = ap (λ (t : Table). find key_cmp (key c) t.entries) (sym b.with.index.logs.active_is) ∙ n.found in
-      let room : HasOpenRoom b.shape old.pages (sight_of d) (charge b.shape c.size) → block_if_open e.space.open_block ≡ block_if_open d.space.open_block =
-      subst (λ s. HasOpenRoom s old.pages (sight_of d) (charge s c.size) → block_if_open e.space.open_block ≡ block_if_open d.space.open_block) (sym same) open_stays in
+      let room : HasOpenRoom b.shape old.pages (sight_of d) (charge b.shape c.size) → block_if_open e.values.open_block ≡ block_if_open d.values.open_block =
+      subst (λ s. HasOpenRoom s old.pages (sight_of d) (charge s c.size) → block_if_open e.values.open_block ≡ block_if_open d.values.open_block) (sym same) open_stays in
       subst T same (record {
         tree = record { root = b.top.1; found = b.found };
         is_tree = record { page_of_root = b.top.0; is_newest = b.with.committed.is_top; is_found = b.with.committed.is_found };

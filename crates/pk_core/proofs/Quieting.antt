@@ -6,7 +6,7 @@ use Rattle.pk_nvme.specs.Seen.{command_of}
 use Rattle.pk_nvme.specs.declared.request.Request.{Request}
 use Rattle.pk_nand.specs.BoardState.{BoardState, shape_or_none}
 use Rattle.pk_pool.specs.Blocks.{freed}
-use Rattle.pk_data.specs.State.{fits_open}
+use Rattle.pk_values.specs.State.{fits_open}
 use Rattle.pk_call.specs.Moving.{IsQuiet, HasOpenRoom, Quietly, commits_for}
 use Rattle.pk_call.specs.declared.types.Outcome.{Outcome}
 use Rattle.pk_parts.specs.Parts.{Parts, sight_of, frames_of}
@@ -34,9 +34,9 @@ module _ (d : Parts) (old new : BoardState) (a : DriveOnFlash d old.shape old.pa
       let its_quiet = subst (λ s. IsQuiet s old.pages (sight_of d) (key (command_of r v))) told quiet in
       let its_room = subst (λ s. HasOpenRoom s old.pages (sight_of d) (charge s r.size)) told room in
       let none = quiet_needs_none d a.shape old.pages a.top a.found a.without a.all a.with (key (command_of r v)) its_quiet in
-      let left : fits_open a.shape d.space (charge a.shape r.size) ≡ true = left_is a.shape
-      (freed d.pool) old.pages d.space.open_block its_room.0 (charge a.shape r.size) a.with.placed.open_is its_room.1 its_room.2 in
-      let made = does zero its_quiet.whole none (subst (λ s. fits_open s d.space (charge s r.size) ≡ true) (sym a.with.shape_is) left) in
+      let left : fits_open a.shape d.values (charge a.shape r.size) ≡ true = left_is a.shape
+      (freed d.pool) old.pages d.values.open_block its_room.0 (charge a.shape r.size) a.with.placed.open_is its_room.1 its_room.2 in
+      let made = does zero its_quiet.whole none (subst (λ s. fits_open s d.values (charge s r.size) ≡ true) (sym a.with.shape_is) left) in
       subst (λ s. Quietly s old new (frames_of d) o.reads (charge s r.size + commits_for s (sight_of d))) (sym told)
       (quietly (charge a.shape r.size + commits_for a.shape (sight_of d)) (subst (λ s. Programs (charge s r.size + commits_for s (sight_of d)) old new) a.with.shape_is made.0) made.1)
 

@@ -54,24 +54,24 @@ keys_listed d shape flash top found without all from with =
 
 -- ---- the keys from the least of a namespace on
 
-pub least_of_none : (space : ℕ) (bytes : List ℕ) → true ≡ (length bytes == 0) → space ∷ 0 ∷ [] ≡ least_in space bytes
-least_of_none space [] e = refl
-least_of_none space (b ∷ bytes) e = let some : (suc (length bytes) == 0) ≡ false = grind (arith, nat_tests) in cc
+pub least_of_none : (values : ℕ) (bytes : List ℕ) → true ≡ (length bytes == 0) → values ∷ 0 ∷ [] ≡ least_in values bytes
+least_of_none values [] e = refl
+least_of_none values (b ∷ bytes) e = let some : (suc (length bytes) == 0) ≡ false = grind (arith, nat_tests) in cc
 
-pub least_of_some : (space : ℕ) (bytes : List ℕ) → false ≡ (length bytes == 0) → space ∷ bytes ≡ least_in space bytes
-least_of_some space [] e = absurd (let clash : false ≡ true = e in cc)
-least_of_some space (b ∷ bytes) e = refl
+pub least_of_some : (values : ℕ) (bytes : List ℕ) → false ≡ (length bytes == 0) → values ∷ bytes ≡ least_in values bytes
+least_of_some values [] e = absurd (let clash : false ≡ true = e in cc)
+least_of_some values (b ∷ bytes) e = refl
 
-not_lower : (space : ℕ) (bytes : List ℕ) (key : Key) → IsKey key → is_lt (key_cmp key (least_in space bytes)) ≡ is_lt (key_cmp key (space ∷ bytes))
-not_lower space [] key is = least_key space key is
-not_lower space (b ∷ bytes) key is = refl
+not_lower : (values : ℕ) (bytes : List ℕ) (key : Key) → IsKey key → is_lt (key_cmp key (least_in values bytes)) ≡ is_lt (key_cmp key (values ∷ bytes))
+not_lower values [] key is = least_key values key is
+not_lower values (b ∷ bytes) key is = refl
 
-kept_from : (space : ℕ) (bytes : List ℕ) (es : List (Key × List ℕ)) → AllByRecursion (λ (e : Key × List ℕ). IsKey e.0 × AreBytes e.0) es
-    → not_below (least_in space bytes) (map (λ e. e.0) es) ≡ not_below (space ∷ bytes) (map (λ e. e.0) es)
-kept_from space bytes [] all = refl
-kept_from space bytes (e ∷ es) all =
-    ap (λ b. if not b then e.0 ∷ not_below (least_in space bytes) (map (λ e. e.0) es) else not_below (least_in space bytes) (map (λ e. e.0) es)) (not_lower space bytes e.0 all.0.0)
-    ∙ ap (λ (ks : List Key). if not (is_lt (key_cmp e.0 (space ∷ bytes))) then e.0 ∷ ks else ks) (kept_from space bytes es all.1)
+kept_from : (values : ℕ) (bytes : List ℕ) (es : List (Key × List ℕ)) → AllByRecursion (λ (e : Key × List ℕ). IsKey e.0 × AreBytes e.0) es
+    → not_below (least_in values bytes) (map (λ e. e.0) es) ≡ not_below (values ∷ bytes) (map (λ e. e.0) es)
+kept_from values bytes [] all = refl
+kept_from values bytes (e ∷ es) all =
+    ap (λ b. if not b then e.0 ∷ not_below (least_in values bytes) (map (λ e. e.0) es) else not_below (least_in values bytes) (map (λ e. e.0) es)) (not_lower values bytes e.0 all.0.0)
+    ∙ ap (λ (ks : List Key). if not (is_lt (key_cmp e.0 (values ∷ bytes))) then e.0 ∷ ks else ks) (kept_from values bytes es all.1)
 
-pub keys_begun : (shape : Shape) (m : Map) (space : ℕ) (bytes : List ℕ) → IsMap shape m → keys_from (least_in space bytes) m ≡ keys_from (space ∷ bytes) m
-keys_begun shape m space bytes is = kept_from space bytes (entries m) is.keys
+pub keys_begun : (shape : Shape) (m : Map) (values : ℕ) (bytes : List ℕ) → IsMap shape m → keys_from (least_in values bytes) m ≡ keys_from (values ∷ bytes) m
+keys_begun shape m values bytes is = kept_from values bytes (entries m) is.keys

@@ -10,7 +10,7 @@ use Rattle.pk_model.specs.Sight.{Sight}
 use Rattle.pk_law_work.specs.Backlog.{Backlog, is_tight}
 use Rattle.pk_law_work.specs.Work.{work}
 use Rattle.pk_jrn.specs.Epochs.{left_of}
-use Rattle.pk_data.specs.State.{fits_open}
+use Rattle.pk_values.specs.State.{fits_open}
 use Rattle.pk_schedule.specs.declared.phase.Phase.{Phase}
 use Rattle.pk_schedule.specs.declared.phase.Phase.TheVariants.{Idle, Running, Ready}
 use Rattle.pk_schedule.specs.Steps.{backlog_of as backlog_of_index, merge_left}
@@ -21,12 +21,12 @@ use Rattle.pk_parts.proofs.Ticking.{ready_freed}
 
 -- by the numbers of blocks for values, of those that are ready and of those that are not, and what remains of the merge
 due_by : Parts → ℕ → Bool
-due_by d used = (used - length (outputs_of d) == data_blocks d.log.shape - 1) && not (fits_open d.log.shape d.space (most_pages d.log.shape))
+due_by d used = (used - length (outputs_of d) == data_blocks d.log.shape - 1) && not (fits_open d.log.shape d.values (most_pages d.log.shape))
 
 backlog_by : Parts → ℕ → ℕ → Option ℕ → Backlog
 backlog_by d used left merge = record (backlog_of_index (index_of d)) {
   merge = merge;
-  reclaim = reclaim_left d.log.shape d.space.live.heads (due_by d used) d.reclaim.phase;
+  reclaim = reclaim_left d.log.shape d.values.live.heads (due_by d used) d.reclaim.phase;
   may_freeze = has_moves (due_by d used) d.reclaim.phase && is_tight d.log.shape (length d.log.active.entries) (left_of d.log.epoch);
   unready = left;
 }

@@ -292,16 +292,16 @@ module _ (d : Parts) (old : BoardState) (r : Request) (value : List ℕ) (k : Ke
   shape = d.log.shape
 
   abbrev after_pages : ℕ
-  after_pages = sum d.space.live.heads - pages_at d.log.shape o + charge d.log.shape r.size
+  after_pages = sum d.values.live.heads - pages_at d.log.shape o + charge d.log.shape r.size
 
   passes : early d.log.shape c ≡ None
   passes = same_early d.log.shape r value ∙ s.passed
 
-  live_is : sum d.space.live.heads ≡ live d.log.shape all
+  live_is : sum d.values.live.heads ≡ live d.log.shape all
   live_is = (counts_own d old s.agrees).live_is
 
   late_is : store_check r.options (is_some o) after_pages (limit d.log.shape) ≡ late_of d.log.shape (limit d.log.shape) all c (Some Store)
-  late_is = store_late d.log.shape all r value (is_some o) (sum d.space.live.heads) (pages_at d.log.shape o) (charge d.log.shape r.size) (limit d.log.shape)
+  late_is = store_late d.log.shape all r value (is_some o) (sum d.values.live.heads) (pages_at d.log.shape o) (charge d.log.shape r.size) (limit d.log.shape)
       (is_there_same d old s.agrees k o is_key looks ∙ ap (contains_key all) named) live_is
       (pages_same d old s.agrees k o is_key looks ∙ ap (λ q. pages_if_some d.log.shape (get all q)) named) refl refl
 
@@ -322,7 +322,7 @@ module _ (d : Parts) (old : BoardState) (r : Request) (value : List ℕ) (k : Ke
     unfolding its_drive
     may_put =
         let few = within r.options after_pages (limit d.log.shape) (is_some o) passed in
-        let same = live_stored d.log.shape all k value (sum d.space.live.heads) (pages_at d.log.shape o)
+        let same = live_stored d.log.shape all k value (sum d.values.live.heads) (pages_at d.log.shape o)
         (charge d.log.shape r.size) live_is (pages_same d old s.agrees k o is_key looks) (ap (charge d.log.shape) (sym whole)) in
         record {
           stands = its_drive d old s.agrees k o is_key looks;

@@ -31,13 +31,13 @@ use Rattle.pk_model.specs.Sight.{Sight, most_work}
 use Rattle.pk_law_steps.specs.Under.{IsValuePage, places}
 use Rattle.pk_law_steps.proofs.Places.{In, in_append, few_blocks, in_value}
 use Rattle.pk_live.proofs.Ranges.{has}
-use Rattle.pk_data.specs.Placed.{HoldsValues, IsOpenIn}
-use Rattle.pk_data.specs.Laws.{is_for_values}
-use Rattle.pk_data.proofs.Outputs.{no_member, freed, freed_is, used_freed}
+use Rattle.pk_values.specs.Placed.{HoldsValues, IsOpenIn}
+use Rattle.pk_values.specs.Laws.{is_for_values}
+use Rattle.pk_values.proofs.Outputs.{no_member, freed, freed_is, used_freed}
 use Rattle.pk_law_work.specs.Rest.{whole_merge, whole_reclaim}
 use Rattle.pk_schedule.specs.Steps.{backlog_of as backlog_of_index}
 use Rattle.pk_parts.proofs.Reclaiming.{reclaim_within}
-use Rattle.pk_data.specs.State.{OpenBlock}
+use Rattle.pk_values.specs.State.{OpenBlock}
 use Rattle.pk_nand.specs.BoardState.{BoardState}
 use Rattle.pk_nand.specs.Effects.{OnlyFlash}
 use Rattle.pk_call.specs.Steady.{Steadies, IsSteady, IsReadyBlock, HasReady, entries_of_runs, live_blocks, pages_of_runs}
@@ -128,8 +128,8 @@ module _ (d : Parts) (shape : Shape) (flash : Flash) (top : ℕ × Root) (found 
         runs_most = index.runs_most;
         merge_most = subst (λ l. IfSome (backlog_of d).merge (λ left. left ≤ whole_merge d.log.shape l)) (sym (due_of d.log.shape d)) index.merge_most;
         freeze_most = index.freeze_most;
-        reclaim_most = subst (λ (s : Shape). IfSome (reclaim_left s d.space.live.heads (is_reclaim_due d) d.reclaim.phase) (λ left. left ≤ whole_reclaim s))
-            (sym a.shape_is) (reclaim_within d.reclaim.phase shape (is_reclaim_due d) d.reclaim d.space.live flash (places found d.log.pending) a.reclaim.stands);
+        reclaim_most = subst (λ (s : Shape). IfSome (reclaim_left s d.values.live.heads (is_reclaim_due d) d.reclaim.phase) (λ left. left ≤ whole_reclaim s))
+            (sym a.shape_is) (reclaim_within d.reclaim.phase shape (is_reclaim_due d) d.reclaim d.values.live flash (places found d.log.pending) a.reclaim.stands);
         unready_most = index.unready_most;
       }
 
@@ -142,7 +142,7 @@ module _ (d : Parts) (shape : Shape) (flash : Flash) (top : ℕ × Root) (found 
 
 module _ (d : Parts) (shape : Shape) (flash : Flash) (top : ℕ × Root) (found : Found) (without all : Map)
     (a : DriveOnFlashWith d shape flash top found without all) (shared : IsShared d.pool.shape d.pool.states) where
-  ready_block : (b : ℕ) → slice_get d.pool.states b ≡ Some Ready → IsReadyBlock shape flash top.1 (block_if_open d.space.open_block) b
+  ready_block : (b : ℕ) → slice_get d.pool.states b ≡ Some Ready → IsReadyBlock shape flash top.1 (block_if_open d.values.open_block) b
   ready_block b ready = record {
     behind_roots = behind_roots d.pool.shape d.pool.states b Ready ready_is_not_root ready shared;
     exists = (let within = slice_get_within d.pool.states b Ready ready in let size = a.placed.size in omega (arith, within, size));
@@ -150,19 +150,19 @@ module _ (d : Parts) (shape : Shape) (flash : Flash) (top : ℕ × Root) (found 
       | inl journal ↦ ready_or_owned d.pool b Journal ready (a.index.journal b journal)
       | inr meta ↦ ready_or_owned d.pool b Meta ready (a.index.runs b meta)
     ];
-    not_open = λ e. ready_or_owned d.pool b Values ready (open_is_owned shape d.pool flash d.space.open_block b a.placed.open_is e);
+    not_open = λ e. ready_or_owned d.pool b Values ready (open_is_owned shape d.pool flash d.values.open_block b a.placed.open_is e);
     all_erased = λ k is.
         let here = block_has shape k b (block_pages_positive shape a.placed.is_shape) is in
         let within : IsErasedBlock shape flash b = subst (λ s. IsErasedBlock s flash b) a.placed.shape_is (a.placed.fits.erased b ready) in
         within k here.0 here.1;
   }
 
-  has_ready : HasReady shape flash top.1 (block_if_open d.space.open_block) (count_by is_ready d.pool.states)
+  has_ready : HasReady shape flash top.1 (block_if_open d.values.open_block) (count_by is_ready d.pool.states)
   has_ready = record {
     blocks = blocks_from is_ready 0 d.pool.states;
     many = (let e = many_blocks is_ready 0 d.pool.states in omega (arith, e));
     different = is_true (differ (blocks_from is_ready 0 d.pool.states)) (blocks_differ is_ready 0 d.pool.states);
-    each = all_in (IsReadyBlock shape flash top.1 (block_if_open d.space.open_block)) (blocks_from is_ready 0 d.pool.states) (λ b is.
+    each = all_in (IsReadyBlock shape flash top.1 (block_if_open d.values.open_block)) (blocks_from is_ready 0 d.pool.states) (λ b is.
         let has = has_state is_ready 0 d.pool.states b is in
         let told = has.2 in
         let same : b ≡ has.0 = omega (arith, told) in

@@ -22,7 +22,7 @@ use Rattle.pk_model.specs.Wear.{roots, is_worn}
 use Rattle.pk_law_work.specs.Calls.{room_calls, space_calls}
 use Rattle.pk_law_steps.specs.Under.{places}
 use Rattle.pk_log.specs.State.{needs_freeze}
-use Rattle.pk_data.specs.State.{fits_open}
+use Rattle.pk_values.specs.State.{fits_open}
 use Rattle.pk_parts.specs.Parts.{Parts, counts_of}
 use Rattle.pk_parts.specs.Agreeing.{DriveOnFlash}
 use Rattle.pk_parts.specs.Moves.{StandsFor, KeepsAll, BreaksAll}
@@ -263,8 +263,8 @@ not_left : (x y : Bool) → (not x && y) ≡ true → x ≡ false
 not_left true y e = absurd (true_false (sym e))
 not_left false y e = refl
 
-pub no_fit : (d : Parts) (count : ℕ) → needs count d ≡ true → fits_open d.log.shape d.space count ≡ false
-no_fit d count wanted = not_left (fits_open d.log.shape d.space count) (nat_le (data_blocks d.log.shape - 1) (used_by Values d.pool.states)) wanted
+pub no_fit : (d : Parts) (count : ℕ) → needs count d ≡ true → fits_open d.log.shape d.values count ≡ false
+no_fit d count wanted = not_left (fits_open d.log.shape d.values count) (nat_le (data_blocks d.log.shape - 1) (used_by Values d.pool.states)) wanted
 
 module _ (a : Parts) (s0 : BoardState) (key : Key) (value : List ℕ) (count : ℕ) (can : CanStore a s0 key value) (wanted : needs count a ≡ true) where
   makes_room : (c : Parts) (s2 : BoardState) (m : Map) → StandsFor c a.log.shape s2.pages m → StaysFresh a c → StaysOrOpens a c count
@@ -346,5 +346,5 @@ put_numbers d board key value p can unworn = let few = room_most d board key val
 
 -- ---- by the size that a request has
 
-pub room_looked : (d e : Parts) (size : ℕ) → e ≡ d → fits_open d.log.shape d.space (charge d.log.shape size) ≡ true → fits_open e.log.shape e.space (charge e.log.shape size) ≡ true
-room_looked d e size same room = subst (λ (x : Parts). fits_open x.log.shape x.space (charge x.log.shape size) ≡ true) (sym same) room
+pub room_looked : (d e : Parts) (size : ℕ) → e ≡ d → fits_open d.log.shape d.values (charge d.log.shape size) ≡ true → fits_open e.log.shape e.values (charge e.log.shape size) ≡ true
+room_looked d e size same room = subst (λ (x : Parts). fits_open x.log.shape x.values (charge x.log.shape size) ≡ true) (sym same) room

@@ -60,7 +60,7 @@ pub record Wholes (a b : Parts) (s0 s1 : BoardState) : Type 0 where
   pub same_pending : b.log.pending ≡ a.log.pending
   pub frames : frames_of b ≡ frames_of a
   pub stopped : b.stopped ≡ a.stopped
-  pub space : b.space ≡ a.space
+  pub values : b.values ≡ a.values
   pub stays : Stays a b
   pub no_fault : NoFault s0 s1
   pub rest : OnlyFlash s0 s1
@@ -89,7 +89,7 @@ wholes_half a b s0 s1 f = record {
   same_pending = ap (λ (l : LogState). l.pending) f.log;
   frames = ap (λ (x : Parts). frames_of x) f.rest;
   stopped = ap (λ (x : Parts). x.stopped) f.rest;
-  space = ap (λ (x : Parts). x.space) f.rest;
+  values = ap (λ (x : Parts). x.values) f.rest;
   stays = f.stays;
   no_fault = f.works.no_fault;
   rest = f.works.rest;
@@ -121,7 +121,7 @@ wholes_none a b s0 s1 whole ready same_parts same =
       same_pending = refl;
       frames = refl;
       stopped = refl;
-      space = refl;
+      values = refl;
       stays = stays_same a a refl;
       no_fault = (refl, refl, refl, refl);
       rest = refl;
@@ -291,7 +291,7 @@ module _ (a b : Parts) (s0 s1 : BoardState) (ready : IsReady s0 a.log.shape) (w 
 
   pub opens_whole : (r : Result Unit Fault) (c : Parts) (len : ℕ) → OnRunning (StaysOrOpens b c (charge b.log.shape len)) r → OnRunning (StaysOrOpens a c (charge a.log.shape len)) r
   opens_whole r c len second =
-      running_says (StaysOrOpens b c (charge a.log.shape len)) (StaysOrOpens a c (charge a.log.shape len)) r (opens_behind a b c (charge a.log.shape len) w.stays w.same_shape w.space)
+      running_says (StaysOrOpens b c (charge a.log.shape len)) (StaysOrOpens a c (charge a.log.shape len)) r (opens_behind a b c (charge a.log.shape len) w.stays w.same_shape w.values)
       (subst (λ (s : Shape). OnRunning (StaysOrOpens b c (charge s len)) r) w.same_shape second)
 
   first_spends : Spends pair_calls 0 s0 s1

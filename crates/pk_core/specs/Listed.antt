@@ -19,8 +19,8 @@ use Rattle.pk_core.specs.declared.filled.Filled.{Filled}
 
 -- the least key of a namespace that is not below these bytes: each key has a byte
 abbrev pub least_in : ℕ → List ℕ → Key
-least_in space [] = space ∷ 0 ∷ []
-least_in space (b ∷ bytes) = space ∷ b ∷ bytes
+least_in values [] = values ∷ 0 ∷ []
+least_in values (b ∷ bytes) = values ∷ b ∷ bytes
 
 -- the key at which a List begins
 abbrev pub first_listed : Command → Key

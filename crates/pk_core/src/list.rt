@@ -109,15 +109,15 @@ fn put_left<B: Nand, A: Region>(
 // The key at which a List begins: the least of its namespace if it names none.
 fn first_key(request: &Request) -> Key
     requires len { request.now.key_len ≤ KEY_BYTES }
-    requires space { 1 ≤ request.now.namespace × request.now.namespace ≤ MOST_SPACES }
+    requires values { 1 ≤ request.now.namespace × request.now.namespace ≤ MOST_SPACES }
     ensures { result ≡ first_listed (command_of request.now []) }
 {
-    let space = request.namespace as u8;
+    let values = request.namespace as u8;
     let from = &request.key[..request.key_len as usize];
     if from.is_empty() {
-        Key::of(space, &[0])
+        Key::of(values, &[0])
     } else {
-        Key::of(space, from)
+        Key::of(values, from)
     }
 }
 

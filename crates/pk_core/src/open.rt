@@ -50,7 +50,7 @@ impl<A: Region> Drive<A> {
         ensures runs { IfOk result (λ d. d.stopped ≡ false) }
         ensures none { IfOk result (λ d. d.log.pending ≡ []) }
         ensures fresh { IfOk result (λ d. d.log.epoch.takes_more ≡ false) }
-        ensures closed { IfOk result (λ d. d.space.open_block ≡ None) }
+        ensures closed { IfOk result (λ d. d.values.open_block ≡ None) }
 
         // The board.
         ensures reads { OnOk result (B.state board.new ≡ after_reads (opening_reads shape

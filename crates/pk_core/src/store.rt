@@ -99,7 +99,7 @@ fn fault_of_store<A: Region>(
         (λ p. p.len ≤ spec.greatest parts.now.log.shape) }
     requires counted { count ≡ spec.charge parts.now.log.shape request.now.size }
     ensures { result ≡ store_fault_of (command_of request.now []) (is_some old.now)
-        (sum parts.now.space.live.heads - pages_at_by parts.now.log.shape old.now
+        (sum parts.now.values.live.heads - pages_at_by parts.now.log.shape old.now
         + spec.charge parts.now.log.shape request.now.size) (spec.limit parts.now.log.shape) }
 {
     let shape = parts.shape();

@@ -32,8 +32,8 @@ use Rattle.pk_model.proofs.SamePages.{any_front}
 use Rattle.pk_law_steps.specs.Under.{IsUnder, IsValuePage, places}
 use Rattle.pk_law_steps.specs.Roots.{committed}
 use Rattle.pk_law_steps.proofs.Untouched.{under_reads}
-use Rattle.pk_data.specs.Placed.{ValuesOnFlash}
-use Rattle.pk_data.proofs.Unchanged.{flash_elsewhere}
+use Rattle.pk_values.specs.Placed.{ValuesOnFlash}
+use Rattle.pk_values.proofs.Unchanged.{flash_elsewhere}
 use Rattle.pk_model.specs.Growth.{Goes}
 use Rattle.pk_model.specs.Crashes.{CrashFinds, commit}
 use Rattle.pk_nand.specs.Effects.{Works, Stops}
@@ -111,8 +111,8 @@ module _ (d : Parts) (old new : BoardState) (top : ℕ × Root) (found : Found) 
       let under = holds top found without m maps in
       let same = sym (places_committed found d.log.pending) in
       let fits : PoolOnFlash d.pool new.pages = still_fits its d.pool old.pages new.pages block owned others agrees.placed.shape_is agrees.placed.fits in
-      let values : ValuesOnFlash its d.space d.pool (outputs_of d) new.pages (places found d.log.pending) =
-      flash_elsewhere its d.space d.pool (outputs_of d) old.pages new.pages (places found d.log.pending) agrees.placed
+      let values : ValuesOnFlash its d.values d.pool (outputs_of d) new.pages (places found d.log.pending) =
+      flash_elsewhere its d.values d.pool (outputs_of d) old.pages new.pages (places found d.log.pending) agrees.placed
       (values_same its d.pool old.pages new.pages block owned others (outputs_of d)) fits in
       record {
         shape_is = refl;
@@ -120,12 +120,12 @@ module _ (d : Parts) (old new : BoardState) (top : ℕ × Root) (found : Found) 
         index = index_committed (index_of d) (frames_of d) old.pages new.pages top found agrees.index block among others fits (logs_after top found agrees.index.logs);
         committed = under;
         pending = under;
-        placed = subst (λ (es : List (Key × Place)). ValuesOnFlash its d.space d.pool (outputs_of d) new.pages es) same values;
+        placed = subst (λ (es : List (Key × Place)). ValuesOnFlash its d.values d.pool (outputs_of d) new.pages es) same values;
         former = λ k is. agrees.placed.owned k (subst (λ (es : List (Key × Place)). IsValuePage its es k) (sym same) is);
         former_read = λ k is. agrees.placed.outputs_are.unread k (subst (λ (es : List (Key × Place)). IsValuePage its es k) (sym same) is);
         reclaim =
-            subst (λ (es : List (Key × Place)). ReclaimOnFlash its d.reclaim d.space.live d.pool new.pages es) same
-            (reclaim_elsewhere its d.reclaim d.space d.pool d.pool old.pages new.pages (places found d.log.pending) agrees.reclaim agrees.placed refl
+            subst (λ (es : List (Key × Place)). ReclaimOnFlash its d.reclaim d.values.live d.pool new.pages es) same
+            (reclaim_elsewhere its d.reclaim d.values d.pool d.pool old.pages new.pages (places found d.log.pending) agrees.reclaim agrees.placed refl
             (λ k held not_open. values_same its d.pool old.pages new.pages block owned others [] k held (λ none. none)));
         keys_are = agrees.keys_are ∙ ap length same;
       }

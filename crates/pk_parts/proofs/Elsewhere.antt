@@ -8,7 +8,7 @@ use Rattle.pk_pool.specs.declared.state.BlockState.{BlockState}
 use Rattle.pk_pool.specs.declared.state.BlockState.TheVariants.{Ready, Owned}
 use Rattle.pk_pool.specs.Blocks.{Blocks, PoolOnFlash}
 use Rattle.pk_pool.proofs.Fitting.{block_of, PoolOnFlash-same}
-use Rattle.pk_data.specs.Laws.{SameValues}
+use Rattle.pk_values.specs.Laws.{SameValues}
 
 -- ---- states of blocks
 

@@ -22,9 +22,9 @@ use Rattle.pk_gc.specs.declared.reclaimed.Reclaimed.{Reclaimed}
 use Rattle.pk_gc.specs.declared.reclaimed.Reclaimed.TheVariants.{Worked, NeedsFreeze, Ended}
 use Rattle.pk_gc.specs.Standing.{held_blocks}
 use Rattle.pk_gc.specs.Stepping.{runs_in}
-use Rattle.pk_data.specs.State.{DataState}
+use Rattle.pk_values.specs.State.{ValuesState}
 use Rattle.pk_log.specs.State.{LogState}
-use Rattle.pk_reclaim.specs.Space.{Space, HalfIn, HasRoom as HasSpace, MayReclaim}
+use Rattle.pk_reclaim.specs.Space.{ReclaimParts, HalfIn, HasRoom as HasSpace, MayReclaim}
 use Rattle.pk_reclaim.specs.Steps as steps
 use Rattle.pk_reclaim.specs.Steps.{MakesWhole, PairIn, RoomIn, RoomBehind, RepeatsIn, StillIn, KeepsLog, with_newest}
 use Rattle.pk_parts.specs.Parts.{Parts, commits_in, settled_parts, block_if_open, sight_of}
@@ -77,7 +77,7 @@ some_end d board may commits =
 copies_commits : {X : Type 0} (p : Phase) (c : Course) (victim : ℕ) → p ≡ Copies c → p ≡ Commits victim → X
 copies_commits p c victim one other = absurd (let clash : Copies c ≡ Commits victim = sym one ∙ other in let z : ⊥ = cc in z)
 
-module _ (d : Parts) (x' : Space) (old new : BoardState) (keeps : KeepsLog (space_of d) x') (ready : IsReady new d.log.shape) (grows : Grows d.log.shape old.pages new.pages) where
+module _ (d : Parts) (x' : ReclaimParts) (old new : BoardState) (keeps : KeepsLog (space_of d) x') (ready : IsReady new d.log.shape) (grows : Grows d.log.shape old.pages new.pages) where
   abbrev then_drive : Parts
   then_drive = over_space d x'
 
@@ -131,7 +131,7 @@ module _ (d : Parts) (x' : Space) (old new : BoardState) (keeps : KeepsLog (spac
       fresh = record { stays = λ more. ap (λ (l : LogState). l.epoch.takes_more) whole.log ∙ more; begun = inl (ap (λ (l : LogState). l.root.epoch) whole.log) };
       blocks = record {
         used = λ i. counted i - one_held i;
-        open_same = ap (λ (v : DataState). block_if_open v.open_block) whole.values;
+        open_same = ap (λ (v : ValuesState). block_if_open v.open_block) whole.values;
       };
     }
 
@@ -156,7 +156,7 @@ module _ (d : Parts) (x' : Space) (old new : BoardState) (keeps : KeepsLog (spac
         finishes = record {
           finished = finished_all w commits;
           log = log_is w m h;
-          rest = ap (λ (v : DataState). record d { log = x'.log; space = v; reclaim = x'.job; pool = x'.pool }) is.values;
+          rest = ap (λ (v : ValuesState). record d { log = x'.log; values = v; reclaim = x'.job; pool = x'.pool }) is.values;
           counted = counted w m h;
           stays = stays_then w m h;
           lowers = lowers w m h;
@@ -185,7 +185,7 @@ fails_commit d old new breaks commits shape m s =
 
 -- ---- by the answer
 
-module _ (d : Parts) (x' : Space) (old new : BoardState) (may : MayCommit d old) (commits : commits_in d.reclaim.phase ≡ true) (keeps : KeepsLog (space_of d) x') (ready : IsReady new d.log.shape)
+module _ (d : Parts) (x' : ReclaimParts) (old new : BoardState) (may : MayCommit d old) (commits : commits_in d.reclaim.phase ≡ true) (keeps : KeepsLog (space_of d) x') (ready : IsReady new d.log.shape)
     (grows : Grows d.log.shape old.pages new.pages) (same_roots : roots new ≡ roots old) (rest : OnlyFlash old new) where
   its_phase : (victim : ℕ) × (d.reclaim.phase ≡ Commits victim)
   its_phase = let h = commit_here d old.pages may.stands.0 may.stands.1 commits in (h.half.victim, h.half.phase)

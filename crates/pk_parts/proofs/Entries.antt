@@ -30,15 +30,15 @@ use Rattle.pk_law_steps.proofs.Storing.{stores, deletes, placed-gone}
 use Rattle.pk_law_steps.proofs.Counting.{sorted_read, entries-rising}
 use Rattle.pk_log.specs.State.{LogState, pushed}
 use Rattle.pk_log.specs.Logs.{LogOnFlash}
-use Rattle.pk_data.specs.declared.span.Span.{Span}
+use Rattle.pk_values.specs.declared.span.Span.{Span}
 use Rattle.pk_live.specs.Values.{Values}
-use Rattle.pk_data.specs.State.{DataState, with_head, with_heads}
-use Rattle.pk_data.specs.Placed.{HoldsValues, ValuesOnFlash, without}
-use Rattle.pk_data.specs.Entries.{span_of, span_if_some, heads_without, ValueHeld, ValueMoves}
+use Rattle.pk_values.specs.State.{ValuesState, with_head, with_heads}
+use Rattle.pk_values.specs.Placed.{HoldsValues, ValuesOnFlash, without}
+use Rattle.pk_values.specs.Entries.{span_of, span_if_some, heads_without, ValueHeld, ValueMoves}
 use Rattle.pk_gc.specs.Standing.{ReclaimOnFlash}
-use Rattle.pk_data.specs.Laws.{value_blocks}
-use Rattle.pk_data.proofs.Lists.{found_page, found_place}
-use Rattle.pk_data.proofs.Unchanged.{lie_in_few}
+use Rattle.pk_values.specs.Laws.{value_blocks}
+use Rattle.pk_values.proofs.Lists.{found_page, found_place}
+use Rattle.pk_values.proofs.Unchanged.{lie_in_few}
 use Rattle.pk_parts.specs.Parts.{Parts, frames_of, index_of, outputs_of}
 use Rattle.pk_parts.specs.Agreeing.{DriveOnFlashWith}
 use Rattle.pk_parts.specs.Moves.{StandsFor}
@@ -117,7 +117,7 @@ module _ (d : Parts) (flash : Flash) (m : Map) (key : Key) (value : List ℕ) (p
   abbrev es : List (Key × Place)
   es = places p.found d.log.pending
 
-  pub puts_moves : (o : Option Span) (n : Span) → o ≡ span_if_some d.log.shape old → n ≡ span_of d.log.shape place → ValueMoves d.space o n
+  pub puts_moves : (o : Option Span) (n : Span) → o ≡ span_if_some d.log.shape old → n ≡ span_of d.log.shape place → ValueMoves d.values o n
   puts_moves o n o_is n_is = record {
     shape = d.log.shape;
     pool = d.pool;
@@ -140,8 +140,8 @@ module _ (d : Parts) (flash : Flash) (m : Map) (key : Key) (value : List ℕ) (p
   places_are = ap (λ xs. placed (firsts xs)) (entries_in_order-push p.found d.log.pending e)
       ∙ placed-put key place (counting p.found d.log.pending) (firsts_sorted (entries_in_order p.found d.log.pending))
 
-  module _ (space : DataState) (placed_now : ValuesOnFlash d.log.shape space d.pool (outputs_of d) flash (put key_cmp key place es)) (o : Option Span)
-      (space_is : space ≡ with_head (with_heads d.space (heads_without o d.space.live.heads)) page (charge d.log.shape (length value))) where
+  module _ (values : ValuesState) (placed_now : ValuesOnFlash d.log.shape values d.pool (outputs_of d) flash (put key_cmp key place es)) (o : Option Span)
+      (space_is : values ≡ with_head (with_heads d.values (heads_without o d.values.live.heads)) page (charge d.log.shape (length value))) where
     -- no page of the value is in a block that the root names
     unnamed : (k : ℕ) → IsPageOf d.log.shape k place → AnyByRecursion (λ b. k / d.log.shape.block_pages ≡ b) (named p.top.1) → ⊥
     unnamed k is in_named =
@@ -153,7 +153,7 @@ module _ (d : Parts) (flash : Flash) (m : Map) (key : Key) (value : List ℕ) (p
 
     fit_now : fits d.log.shape (named p.top.1) (all_pages d.log.shape (put key_cmp key place es)) ≡ true
     fit_now =
-        let few = lie_in_few d.log.shape space d.pool (outputs_of d) flash (put key_cmp key place es) placed_now in
+        let few = lie_in_few d.log.shape values d.pool (outputs_of d) flash (put key_cmp key place es) placed_now in
         let most = p.room in
         let same = live_put d d.log.shape flash p.top p.found p.without m p.with key place value p.written.there in
         fits_more d.log.shape (named p.top.1) (value_blocks d.pool (outputs_of d)) es key place (fit d d.log.shape flash p.top p.found p.without m p.with)
@@ -164,26 +164,26 @@ module _ (d : Parts) (flash : Flash) (m : Map) (key : Key) (value : List ℕ) (p
     under_now room = stores d.log.shape flash d.log.pending p.top p.found m key place value p.with.pending p.written.there room fit_now
 
     -- a reclaim that runs copies other values than that one
-    reclaims_now : ReclaimOnFlash d.log.shape d.reclaim space.live d.pool flash (put key_cmp key place es)
+    reclaims_now : ReclaimOnFlash d.log.shape d.reclaim values.live d.pool flash (put key_cmp key place es)
     reclaims_now =
-        let heads : List ℕ = slice_set (heads_without o d.space.live.heads) page (charge d.log.shape (length value)) in
-        let now = reclaim_stored d.log.shape d.reclaim d.space d.pool flash es key place heads p.with.reclaim p.with.placed p.in_open
+        let heads : List ℕ = slice_set (heads_without o d.values.live.heads) page (charge d.log.shape (length value)) in
+        let now = reclaim_stored d.log.shape d.reclaim d.values d.pool flash es key place heads p.with.reclaim p.with.placed p.in_open
         (charge_some d.log.shape (shape_is d d.log.shape flash p.top p.found p.without m p.with) (length value))
-        (λ k other. replaced_fewer o d.space.live.heads page (charge d.log.shape (length value)) k other) in
-        subst (λ (l : Values). ReclaimOnFlash d.log.shape d.reclaim l d.pool flash (put key_cmp key place es)) (sym (ap (λ (x : DataState). x.live) space_is)) now
+        (λ k other. replaced_fewer o d.values.live.heads page (charge d.log.shape (length value)) k other) in
+        subst (λ (l : Values). ReclaimOnFlash d.log.shape d.reclaim l d.pool flash (put key_cmp key place es)) (sym (ap (λ (x : ValuesState). x.live) space_is)) now
 
     pub put_agrees : LogOnFlash (pushed d.log e) flash p.top p.found → length (firsts (p.found.newest ++ (d.log.pending ++ e ∷ []))) ≤ buffer d.log.shape
-        → DriveOnFlashWith (record d { log = pushed d.log e; space = space; keys = more_keys d.keys old }) d.log.shape flash p.top p.found p.without (insert m key value)
+        → DriveOnFlashWith (record d { log = pushed d.log e; values = values; keys = more_keys d.keys old }) d.log.shape flash p.top p.found p.without (insert m key value)
     put_agrees logs room = record {
       shape_is = refl;
       is_flash = p.with.is_flash;
       index = index_pushed (index_of d) (frames_of d) flash p.top p.found e p.with.index logs;
       committed = p.with.committed;
       pending = under_now room;
-      placed = subst (λ (xs : List (Key × Place)). ValuesOnFlash d.log.shape space d.pool (outputs_of d) flash xs) (sym places_are) placed_now;
+      placed = subst (λ (xs : List (Key × Place)). ValuesOnFlash d.log.shape values d.pool (outputs_of d) flash xs) (sym places_are) placed_now;
       former = p.with.former;
       former_read = p.with.former_read;
-      reclaim = subst (λ (xs : List (Key × Place)). ReclaimOnFlash d.log.shape d.reclaim space.live d.pool flash xs) (sym places_are) reclaims_now;
+      reclaim = subst (λ (xs : List (Key × Place)). ReclaimOnFlash d.log.shape d.reclaim values.live d.pool flash xs) (sym places_are) reclaims_now;
       keys_are = keys_put key place es old d.keys (rising d d.log.shape flash p.top p.found p.without m p.with) p.old_is p.with.keys_are ∙ ap length (sym places_are);
     }
 
@@ -198,46 +198,46 @@ abbrev placed_at : ℕ → ℕ → Place
 placed_at page len = record { page = page; len = len }
 
 put_stands_at : (d : Parts) (flash : Flash) (m : Map) (key : Key) (value : List ℕ) (page : ℕ) (old : Option Place) → Puts d d.log.shape flash m key value page old
-    → (log : LogState) (space : DataState) (keys : ℕ) (o : Option Span) (n : Span) → Noted d (key, Some (placed_at page (length value))) log
+    → (log : LogState) (values : ValuesState) (keys : ℕ) (o : Option Span) (n : Span) → Noted d (key, Some (placed_at page (length value))) log
     → o ≡ span_if_some d.log.shape old → n ≡ span_of d.log.shape (placed_at page (length value))
-    → space ≡ with_head (with_heads d.space (heads_without o d.space.live.heads)) n.page n.count
-    → ((mv : ValueMoves d.space o n) → ValuesOnFlash mv.shape space mv.pool mv.outputs mv.flash (put key_cmp mv.key mv.place mv.es))
+    → values ≡ with_head (with_heads d.values (heads_without o d.values.live.heads)) n.page n.count
+    → ((mv : ValueMoves d.values o n) → ValuesOnFlash mv.shape values mv.pool mv.outputs mv.flash (put key_cmp mv.key mv.place mv.es))
     → keys ≡ more_keys d.keys old
-    → StandsFor (record d { log = log; space = space; keys = keys }) d.log.shape flash (insert m key value)
+    → StandsFor (record d { log = log; values = values; keys = keys }) d.log.shape flash (insert m key value)
 unfolding puts_moves
-put_stands_at d flash m key value page old p log space keys o n noted o_is n_is space_is moved keys_are =
+put_stands_at d flash m key value page old p log values keys o n noted o_is n_is space_is moved keys_are =
     let e : Entry = (key, Some (placed_at page (length value))) in
     let placed_now = moved (puts_moves d flash m key value page old p o n o_is n_is) in
-    let space_now = subst (λ (x : Span). space ≡ with_head (with_heads d.space (heads_without o d.space.live.heads)) x.page x.count) n_is space_is in
-    let P : LogState → ℕ → Type 0 = λ l k. StandsFor (record d { log = l; space = space; keys = k }) d.log.shape flash (insert m key value) in
+    let space_now = subst (λ (x : Span). values ≡ with_head (with_heads d.values (heads_without o d.values.live.heads)) x.page x.count) n_is space_is in
+    let P : LogState → ℕ → Type 0 = λ l k. StandsFor (record d { log = l; values = values; keys = k }) d.log.shape flash (insert m key value) in
     let logs : LogOnFlash (pushed d.log e) flash p.top p.found = subst (λ (l : LogState). LogOnFlash l flash p.top p.found) noted.pushed_is (noted.stands flash p.top p.found p.with.index.logs) in
     let there : P (pushed d.log e) (more_keys d.keys old) = record {
       top = p.top;
       found = p.found;
       without = p.without;
-      with = put_agrees d flash m key value page old p space placed_now o space_now logs (noted.fits_in flash p.top p.found p.with.index.logs);
-      whole = whole_like d (record d { log = pushed d.log e; space = space; keys = more_keys d.keys old }) refl (λ none. none) refl refl p.whole;
+      with = put_agrees d flash m key value page old p values placed_now o space_now logs (noted.fits_in flash p.top p.found p.with.index.logs);
+      whole = whole_like d (record d { log = pushed d.log e; values = values; keys = more_keys d.keys old }) refl (λ none. none) refl refl p.whole;
     } in
     subst (λ (l : LogState). P l keys) (sym noted.pushed_is) (subst (λ (k : ℕ). P (pushed d.log e) k) (sym keys_are) there)
 
 pub put_stands : (d : Parts) (shape : Shape) (flash : Flash) (m : Map) (key : Key) (value : List ℕ) (page len : ℕ) (old : Option Place) → length value ≡ len → Puts d shape flash m key value page old
-    → (log : LogState) (space : DataState) (keys : ℕ) (o : Option Span) (n : Span) → Noted d (key, Some (placed_at page len)) log
+    → (log : LogState) (values : ValuesState) (keys : ℕ) (o : Option Span) (n : Span) → Noted d (key, Some (placed_at page len)) log
     → o ≡ span_if_some d.log.shape old → n ≡ span_of d.log.shape (placed_at page len)
-    → space ≡ with_head (with_heads d.space (heads_without o d.space.live.heads)) n.page n.count
-    → ((mv : ValueMoves d.space o n) → ValuesOnFlash mv.shape space mv.pool mv.outputs mv.flash (put key_cmp mv.key mv.place mv.es))
+    → values ≡ with_head (with_heads d.values (heads_without o d.values.live.heads)) n.page n.count
+    → ((mv : ValueMoves d.values o n) → ValuesOnFlash mv.shape values mv.pool mv.outputs mv.flash (put key_cmp mv.key mv.place mv.es))
     → keys ≡ more_keys d.keys old
-    → StandsFor (record d { log = log; space = space; keys = keys }) shape flash (insert m key value)
-put_stands d shape flash m key value page len old is_len p log space keys o n noted o_is n_is space_is moved keys_are =
+    → StandsFor (record d { log = log; values = values; keys = keys }) shape flash (insert m key value)
+put_stands d shape flash m key value page len old is_len p log values keys o n noted o_is n_is space_is moved keys_are =
     let is : d.log.shape ≡ shape = p.with.shape_is in
     let own : Puts d d.log.shape flash m key value page old = subst (λ (s : Shape). Puts d s flash m key value page old) (sym is) p in
     let noted' : Noted d (key, Some (placed_at page (length value))) log = subst (λ (l : ℕ). Noted d (key, Some (placed_at page l)) log) (sym is_len) noted in
     let n_is' : n ≡ span_of d.log.shape (placed_at page (length value)) = subst (λ (l : ℕ). n ≡ span_of d.log.shape (placed_at page l)) (sym is_len) n_is in
-    subst (λ (s : Shape). StandsFor (record d { log = log; space = space; keys = keys }) s flash (insert m key value)) is
-    (put_stands_at d flash m key value page old own log space keys o n noted' o_is n_is' space_is moved keys_are)
+    subst (λ (s : Shape). StandsFor (record d { log = log; values = values; keys = keys }) s flash (insert m key value)) is
+    (put_stands_at d flash m key value page old own log values keys o n noted' o_is n_is' space_is moved keys_are)
 
 -- what the calls need
 pub put_moves : (d : Parts) (flash : Flash) (m : Map) (key : Key) (value : List ℕ) (page len : ℕ) (old : Option Place) → length value ≡ len → Puts d d.log.shape flash m key value page old
-    → (o : Option Span) (n : Span) → o ≡ span_if_some d.log.shape old → n ≡ span_of d.log.shape (placed_at page len) → ValueMoves d.space o n
+    → (o : Option Span) (n : Span) → o ≡ span_if_some d.log.shape old → n ≡ span_of d.log.shape (placed_at page len) → ValueMoves d.values o n
 put_moves d flash m key value page len old is_len p o n o_is n_is =
     puts_moves d flash m key value page old p o n o_is (subst (λ (l : ℕ). n ≡ span_of d.log.shape (placed_at page l)) (sym is_len) n_is)
 
@@ -263,7 +263,7 @@ module _ (d : Parts) (flash : Flash) (m : Map) (key : Key) (old : Place) (p : Dr
   abbrev values_before : List (Key × Place)
   values_before = places p.found d.log.pending
 
-  pub drops_held : (n : Span) → n ≡ span_of d.log.shape old → ValueHeld d.space n
+  pub drops_held : (n : Span) → n ≡ span_of d.log.shape old → ValueHeld d.values n
   drops_held n n_is = record {
     shape = d.log.shape;
     pool = d.pool;
@@ -288,51 +288,51 @@ module _ (d : Parts) (flash : Flash) (m : Map) (key : Key) (old : Place) (p : Dr
   places_gone = ap (λ xs. placed (firsts xs)) (entries_in_order-push p.found d.log.pending gone)
       ∙ placed-gone key (counting p.found d.log.pending) (firsts_sorted (entries_in_order p.found d.log.pending))
 
-  pub gone_agrees : (space : DataState) → ValuesOnFlash d.log.shape space d.pool (outputs_of d) flash (without key values_before)
-      → (at : ℕ) → space ≡ with_head d.space at 0 → LogOnFlash (pushed d.log gone) flash p.top p.found
+  pub gone_agrees : (values : ValuesState) → ValuesOnFlash d.log.shape values d.pool (outputs_of d) flash (without key values_before)
+      → (at : ℕ) → values ≡ with_head d.values at 0 → LogOnFlash (pushed d.log gone) flash p.top p.found
       → length (firsts (p.found.newest ++ (d.log.pending ++ gone ∷ []))) ≤ buffer d.log.shape
-      → DriveOnFlashWith (record d { log = pushed d.log gone; space = space; keys = d.keys - 1 }) d.log.shape flash p.top p.found p.without (remove m key)
-  gone_agrees space placed_now at space_is logs room = record {
+      → DriveOnFlashWith (record d { log = pushed d.log gone; values = values; keys = d.keys - 1 }) d.log.shape flash p.top p.found p.without (remove m key)
+  gone_agrees values placed_now at space_is logs room = record {
     shape_is = refl;
     is_flash = p.with.is_flash;
     index = index_pushed (index_of d) (frames_of d) flash p.top p.found gone p.with.index logs;
     committed = p.with.committed;
     pending = deletes d.log.shape flash d.log.pending p.top p.found m key p.with.pending room;
-    placed = subst (λ (xs : List (Key × Place)). ValuesOnFlash d.log.shape space d.pool (outputs_of d) flash xs) (sym places_gone) placed_now;
+    placed = subst (λ (xs : List (Key × Place)). ValuesOnFlash d.log.shape values d.pool (outputs_of d) flash xs) (sym places_gone) placed_now;
     former = p.with.former;
     former_read = p.with.former_read;
     reclaim =
         let R : Values → List (Key × Place) → Type 0 = λ l es. ReclaimOnFlash d.log.shape d.reclaim l d.pool flash es in
-        let now = reclaim_gone d.log.shape d.reclaim d.space.live d.pool flash values_before key (slice_set d.space.live.heads at 0) p.with.reclaim (λ k. zero_fewer d.space.live.heads at k) in
-        subst (λ (es : List (Key × Place)). R space.live es) (sym places_gone) (subst (λ (l : Values). R l (without key values_before)) (sym (ap (λ (x : DataState). x.live) space_is)) now);
+        let now = reclaim_gone d.log.shape d.reclaim d.values.live d.pool flash values_before key (slice_set d.values.live.heads at 0) p.with.reclaim (λ k. zero_fewer d.values.live.heads at k) in
+        subst (λ (es : List (Key × Place)). R values.live es) (sym places_gone) (subst (λ (l : Values). R l (without key values_before)) (sym (ap (λ (x : ValuesState). x.live) space_is)) now);
     keys_are = gone_keys.0 ∙ ap length (sym places_gone);
   }
 
 gone_stands_at : (d : Parts) (flash : Flash) (m : Map) (key : Key) (old : Place) → Drops d d.log.shape flash m key old
-    → (log : LogState) (space : DataState) (n : Span) → Noted d (key, None) log → n ≡ span_of d.log.shape old
-    → space ≡ with_head d.space n.page 0
-    → ((h : ValueHeld d.space n) → ValuesOnFlash h.shape space h.pool h.outputs h.flash (without h.key h.es))
-    → StandsFor (record d { log = log; space = space; keys = d.keys - 1 }) d.log.shape flash (remove m key)
+    → (log : LogState) (values : ValuesState) (n : Span) → Noted d (key, None) log → n ≡ span_of d.log.shape old
+    → values ≡ with_head d.values n.page 0
+    → ((h : ValueHeld d.values n) → ValuesOnFlash h.shape values h.pool h.outputs h.flash (without h.key h.es))
+    → StandsFor (record d { log = log; values = values; keys = d.keys - 1 }) d.log.shape flash (remove m key)
 unfolding drops_held
-gone_stands_at d flash m key old p log space n noted n_is space_is removed =
+gone_stands_at d flash m key old p log values n noted n_is space_is removed =
     let e : Entry = (key, None) in
     let placed_now = removed (drops_held d flash m key old p n n_is) in
     let logs : LogOnFlash (pushed d.log e) flash p.top p.found = subst (λ (l : LogState). LogOnFlash l flash p.top p.found) noted.pushed_is (noted.stands flash p.top p.found p.with.index.logs) in
-    let there : StandsFor (record d { log = pushed d.log e; space = space; keys = d.keys - 1 }) d.log.shape flash (remove m key) = record {
+    let there : StandsFor (record d { log = pushed d.log e; values = values; keys = d.keys - 1 }) d.log.shape flash (remove m key) = record {
       top = p.top;
       found = p.found;
       without = p.without;
-      with = gone_agrees d flash m key old p space placed_now n.page space_is logs (noted.fits_in flash p.top p.found p.with.index.logs);
-      whole = whole_like d (record d { log = pushed d.log e; space = space; keys = d.keys - 1 }) refl (λ none. none) refl refl p.whole;
+      with = gone_agrees d flash m key old p values placed_now n.page space_is logs (noted.fits_in flash p.top p.found p.with.index.logs);
+      whole = whole_like d (record d { log = pushed d.log e; values = values; keys = d.keys - 1 }) refl (λ none. none) refl refl p.whole;
     } in
-    subst (λ (l : LogState). StandsFor (record d { log = l; space = space; keys = d.keys - 1 }) d.log.shape flash (remove m key)) (sym noted.pushed_is) there
+    subst (λ (l : LogState). StandsFor (record d { log = l; values = values; keys = d.keys - 1 }) d.log.shape flash (remove m key)) (sym noted.pushed_is) there
 
 pub gone_stands : (d : Parts) (shape : Shape) (flash : Flash) (m : Map) (key : Key) (old : Place) → Drops d shape flash m key old
-    → (log : LogState) (space : DataState) (n : Span) → Noted d (key, None) log → n ≡ span_of d.log.shape old
-    → space ≡ with_head d.space n.page 0
-    → ((h : ValueHeld d.space n) → ValuesOnFlash h.shape space h.pool h.outputs h.flash (without h.key h.es))
-    → StandsFor (record d { log = log; space = space; keys = d.keys - 1 }) shape flash (remove m key)
-gone_stands d shape flash m key old p log space n noted n_is space_is removed =
+    → (log : LogState) (values : ValuesState) (n : Span) → Noted d (key, None) log → n ≡ span_of d.log.shape old
+    → values ≡ with_head d.values n.page 0
+    → ((h : ValueHeld d.values n) → ValuesOnFlash h.shape values h.pool h.outputs h.flash (without h.key h.es))
+    → StandsFor (record d { log = log; values = values; keys = d.keys - 1 }) shape flash (remove m key)
+gone_stands d shape flash m key old p log values n noted n_is space_is removed =
     let is : d.log.shape ≡ shape = p.with.shape_is in
-    subst (λ (s : Shape). StandsFor (record d { log = log; space = space; keys = d.keys - 1 }) s flash (remove m key)) is
-    (gone_stands_at d flash m key old (subst (λ (s : Shape). Drops d s flash m key old) (sym is) p) log space n noted n_is space_is removed)
+    subst (λ (s : Shape). StandsFor (record d { log = log; values = values; keys = d.keys - 1 }) s flash (remove m key)) is
+    (gone_stands_at d flash m key old (subst (λ (s : Shape). Drops d s flash m key old) (sym is) p) log values n noted n_is space_is removed)

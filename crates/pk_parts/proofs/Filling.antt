@@ -14,10 +14,10 @@ use Rattle.pk_model.proofs.Growing.{at_end}
 use Rattle.pk_pool.specs.Blocks.{Blocks}
 use Rattle.pk_pool.specs.Taking.{TakesReady, ErasesFree, FailsToErase}
 use Rattle.pk_seg.specs.Stored.{written}
-use Rattle.pk_data.specs.State.{DataState, with_written, next_page}
-use Rattle.pk_data.specs.Placed.{StayPlaced}
-use Rattle.pk_data.specs.Reserving.{TakesNextOrOpens, WritesNext}
-use Rattle.pk_data.specs.Entries.{IsInOpen}
+use Rattle.pk_values.specs.State.{ValuesState, with_written, next_page}
+use Rattle.pk_values.specs.Placed.{StayPlaced}
+use Rattle.pk_values.specs.Reserving.{TakesNextOrOpens, WritesNext}
+use Rattle.pk_values.specs.Entries.{IsInOpen}
 use Rattle.pk_call.specs.Calling.{FewCalls}
 use Rattle.pk_parts.specs.Costs.{place_calls}
 use Rattle.pk_parts.specs.Placing.{Reserves, PlacesValue, FailsToWrite, FailsToPlace}
@@ -35,12 +35,12 @@ stored_page shape flash key page value stored k low high is =
     let here = subst (λ (j : ℕ). page_at flash j ≡ whole (page_of shape key value (k - page))) whole_sum (stored (k - page) (omega (arith, low, high))) in
     not_whole (page_of shape key value (k - page)) (sym here ∙ is)
 
-pub writes_next : (shape : Shape) (key : Key) (value : List ℕ) (page : ℕ) (space : DataState) (between new : BoardState)
-    → page ≡ next_page shape space
+pub writes_next : (shape : Shape) (key : Key) (value : List ℕ) (page : ℕ) (values : ValuesState) (between new : BoardState)
+    → page ≡ next_page shape values
     → Reached between new (λ flash _. SameOutside page (charge shape (length value)) between.pages flash)
     → IsStored shape (page_at new.pages) key page value
-    → WritesNext shape space (charge shape (length value)) between.pages new.pages
-writes_next shape key value page space between new next run stored =
+    → WritesNext shape values (charge shape (length value)) between.pages new.pages
+writes_next shape key value page values between new next run stored =
     let count : ℕ = charge shape (length value) in
     let outside : SameOutside page count between.pages new.pages = at_end run.0 between new (λ flash _. SameOutside page count between.pages flash) run.1 in
     record {
@@ -49,28 +49,28 @@ writes_next shape key value page space between new next run stored =
       written = λ k low high. stored_page shape new.pages key page value stored k (omega (arith, low, next)) (omega (arith, high, next));
     }
 
-pub places_value : (shape : Shape) (key : Key) (value : List ℕ) (d : DataState) (p : Blocks) (old : BoardState) (page count : ℕ) (space d' : DataState) (q : Blocks) (between new : BoardState)
+pub places_value : (shape : Shape) (key : Key) (value : List ℕ) (d : ValuesState) (p : Blocks) (old : BoardState) (page count : ℕ) (values d' : ValuesState) (q : Blocks) (between new : BoardState)
     → count ≡ charge shape (length value)
-    → Reserves shape d p old page count space q between
-    → d' ≡ with_written space count → IsInOpen shape d' (next_page shape space) count
-    → ((pool : Blocks) (f g : Flash) → WritesNext shape space count f g → StayPlaced shape space pool f d' pool g)
+    → Reserves shape d p old page count values q between
+    → d' ≡ with_written values count → IsInOpen shape d' (next_page shape values) count
+    → ((pool : Blocks) (f g : Flash) → WritesNext shape values count f g → StayPlaced shape values pool f d' pool g)
     → IsStored shape (page_at new.pages) key page value
     → new ≡ written shape key page value (charge shape (length value)) between
     → Reached between new (λ flash _. SameOutside page (charge shape (length value)) between.pages flash)
     → PlacesValue shape key value d p old page d' q new
-places_value shape key value d p old page count space d' q between new is_count reserved counted in_open after stored writes run =
-    let next : page ≡ next_page shape space = reserved.pages.next in
+places_value shape key value d p old page count values d' q between new is_count reserved counted in_open after stored writes run =
+    let next : page ≡ next_page shape values = reserved.pages.next in
     let n : ℕ = charge shape (length value) in
     record {
-      space = space;
+      values = values;
       between = between;
-      reserved = subst (λ (c : ℕ). Reserves shape d p old page c space q between) is_count reserved;
-      counted = subst (λ (c : ℕ). d' ≡ with_written space c) is_count counted;
-      in_open = subst (λ (a : ℕ). IsInOpen shape d' a n) (sym next) (subst (λ (c : ℕ). IsInOpen shape d' (next_page shape space) c) is_count in_open);
+      reserved = subst (λ (c : ℕ). Reserves shape d p old page c values q between) is_count reserved;
+      counted = subst (λ (c : ℕ). d' ≡ with_written values c) is_count counted;
+      in_open = subst (λ (a : ℕ). IsInOpen shape d' a n) (sym next) (subst (λ (c : ℕ). IsInOpen shape d' (next_page shape values) c) is_count in_open);
       writes = writes;
       stored = stored;
       placed = λ outputs es placed.
-          after q between.pages new.pages (subst (λ (c : ℕ). WritesNext shape space c between.pages new.pages) (sym is_count) (writes_next shape key value page space between new next run stored))
+          after q between.pages new.pages (subst (λ (c : ℕ). WritesNext shape values c between.pages new.pages) (sym is_count) (writes_next shape key value page values between new next run stored))
           outputs es (reserved.placed outputs es placed);
     }
 
@@ -121,18 +121,18 @@ few_not_erased p old new fails = record {
   erases = ap (λ (b : BoardState). b.erases) fails.failed.rest;
 }
 
-few_taken : (shape : Shape) (d : DataState) (p : Blocks) (old : BoardState) (count : ℕ) (d' : DataState) (q : Blocks) (new : BoardState)
+few_taken : (shape : Shape) (d : ValuesState) (p : Blocks) (old : BoardState) (count : ℕ) (d' : ValuesState) (q : Blocks) (new : BoardState)
     → TakesNextOrOpens shape d p old count d' q new → FewCalls 1 old new
 few_taken shape d p old count d' q new (inl next) = few_same 1 old new next.same_board
 few_taken shape d p old count d' q new (inr opens) = few_chosen p old opens.block new opens.choice
 
-module _ (shape : Shape) (key : Key) (value : List ℕ) (d : DataState) (p : Blocks) (old : BoardState) (new : BoardState) where
+module _ (shape : Shape) (key : Key) (value : List ℕ) (d : ValuesState) (p : Blocks) (old : BoardState) (new : BoardState) where
   abbrev count : ℕ
   count = charge shape (length value)
 
-  few_places : (page : ℕ) (d' : DataState) (q : Blocks) → PlacesValue shape key value d p old page d' q new → FewCalls (1 + count) old new
+  few_places : (page : ℕ) (d' : ValuesState) (q : Blocks) → PlacesValue shape key value d p old page d' q new → FewCalls (1 + count) old new
   few_places page d' q is =
-      few_then 1 count old is.between new (few_taken shape d p old count is.space q is.between is.reserved.taken)
+      few_then 1 count old is.between new (few_taken shape d p old count is.values q is.between is.reserved.taken)
       (subst (λ (b : BoardState). FewCalls count is.between b) (sym is.writes) (few_written shape key page value count is.between))
 
   few_not_written : FailsToWrite shape key value d p old new → FewCalls (1 + count) old new
@@ -143,13 +143,13 @@ module _ (shape : Shape) (key : Key) (value : List ℕ) (d : DataState) (p : Blo
       let pages = few_then f.made 1 fails.between mid new (few_written shape key fails.page value f.made fails.between)
       (few_failed_program mid new (fails.page + f.made) (page_of shape key value f.made) f.failed) in
       few_within (1 + (f.made + 1)) (1 + count) old new (omega (arith, within))
-      (few_then 1 (f.made + 1) old fails.between new (few_taken shape d p old count fails.space fails.pool fails.between fails.reserved.taken) pages)
+      (few_then 1 (f.made + 1) old fails.between new (few_taken shape d p old count fails.values fails.pool fails.between fails.reserved.taken) pages)
 
   few_fails : FailsToPlace shape key value d p old new → FewCalls (1 + count) old new
   few_fails (inl erase) = few_within 1 (1 + count) old new (omega arith) (few_not_erased p old new erase)
   few_fails (inr write) = few_not_written write
 
-  pub few_placed : (r : Result ℕ Fault) (d' : DataState) (q : Blocks) → IfOk r (λ page. PlacesValue shape key value d p old page d' q new)
+  pub few_placed : (r : Result ℕ Fault) (d' : ValuesState) (q : Blocks) → IfOk r (λ page. PlacesValue shape key value d p old page d' q new)
       → OnErr r (FailsToPlace shape key value d p old new) → FewCalls (place_calls count) old new
   few_placed (Ok page) d' q places fails = few_places page d' q places
   few_placed (Err e) d' q places fails = few_fails fails

@@ -22,8 +22,8 @@ use Rattle.pk_model.specs.Crashes.{CrashFinds, background}
 use Rattle.pk_model.specs.Wear.{root_number, roots}
 use Rattle.pk_law_steps.specs.Under.{IsUnder, places}
 use Rattle.pk_law_steps.proofs.Untouched.{under_reads}
-use Rattle.pk_data.specs.Placed.{ValuesOnFlash}
-use Rattle.pk_data.proofs.Unchanged.{ValuesOnFlash-kept}
+use Rattle.pk_values.specs.Placed.{ValuesOnFlash}
+use Rattle.pk_values.proofs.Unchanged.{ValuesOnFlash-kept}
 use Rattle.pk_gc.specs.Standing.{ReclaimOnFlash}
 use Rattle.pk_log.specs.State.{LogState}
 use Rattle.pk_level.specs.Levels.{Levels}
@@ -108,22 +108,22 @@ module _ (d : Parts) (log' : LogState) (pool' : Blocks) (old new : BoardState) (
     counted : used_by Values pool'.states ≡ used_by Values d.pool.states
     counted = ap (λ (p : Blocks). used_by Values p.states) pool_is ∙ sym h.half.index.counted
 
-    placed_before : ValuesOnFlash d.log.shape d.space (freed d.pool) (outputs_of d) old.pages (places h.found [])
-    placed_before = subst (λ (es : List Entry). ValuesOnFlash d.log.shape d.space (freed d.pool) (outputs_of d) old.pages (places h.found es)) h.half.none_pending h.with.placed
+    placed_before : ValuesOnFlash d.log.shape d.values (freed d.pool) (outputs_of d) old.pages (places h.found [])
+    placed_before = subst (λ (es : List Entry). ValuesOnFlash d.log.shape d.values (freed d.pool) (outputs_of d) old.pages (places h.found es)) h.half.none_pending h.with.placed
 
-    reclaim_before : ReclaimOnFlash d.log.shape d.reclaim d.space.live (freed d.pool) old.pages (places h.found [])
-    reclaim_before = subst (λ (es : List Entry). ReclaimOnFlash d.log.shape d.reclaim d.space.live (freed d.pool) old.pages (places h.found es)) h.half.none_pending h.with.reclaim
+    reclaim_before : ReclaimOnFlash d.log.shape d.reclaim d.values.live (freed d.pool) old.pages (places h.found [])
+    reclaim_before = subst (λ (es : List Entry). ReclaimOnFlash d.log.shape d.reclaim d.values.live (freed d.pool) old.pages (places h.found es)) h.half.none_pending h.with.reclaim
 
-    placed_then : ValuesOnFlash d.log.shape d.space pool' (outputs_of d) new.pages (places h.found [])
+    placed_then : ValuesOnFlash d.log.shape d.values pool' (outputs_of d) new.pages (places h.found [])
     placed_then =
         let shapes = its.stands.pool_shape ∙ (same_shape ∙ sym h.with.index.pool_shape) in
-        ValuesOnFlash-kept d.log.shape d.space (freed d.pool) pool' (outputs_of d) old.pages new.pages
+        ValuesOnFlash-kept d.log.shape d.values (freed d.pool) pool' (outputs_of d) old.pages new.pages
         (places h.found []) placed_before shapes its.values.size its.values.as_many its.values.owned its.values.no_more
         (λ k held no_output. its.values.pages k held) its.stands.pool_fits
 
-    reclaim_then : ReclaimOnFlash d.log.shape d.reclaim d.space.live pool' new.pages (places h.found [])
+    reclaim_then : ReclaimOnFlash d.log.shape d.reclaim d.values.live pool' new.pages (places h.found [])
     reclaim_then =
-        reclaim_elsewhere d.log.shape d.reclaim d.space (freed d.pool) pool' old.pages new.pages
+        reclaim_elsewhere d.log.shape d.reclaim d.values (freed d.pool) pool' old.pages new.pages
         (places h.found []) reclaim_before placed_before its.values.as_many (λ k held not_open. its.values.pages k held)
 
     with_then : DriveOnFlashWith then_drive d.log.shape new.pages h.top h.found m m
@@ -133,10 +133,10 @@ module _ (d : Parts) (log' : LogState) (pool' : Blocks) (old new : BoardState) (
       index = its.stands;
       committed = its.under;
       pending = subst (λ (es : List Entry). IsUnder d.log.shape new.pages es h.top h.found m) (sym none) its.under;
-      placed = subst (λ (es : List Entry). ValuesOnFlash d.log.shape d.space pool' (outputs_of d) new.pages (places h.found es)) (sym none) placed_then;
+      placed = subst (λ (es : List Entry). ValuesOnFlash d.log.shape d.values pool' (outputs_of d) new.pages (places h.found es)) (sym none) placed_then;
       former = λ k is. its.values.owned (k / d.log.shape.block_pages) (h.with.former k is);
       former_read = h.with.former_read;
-      reclaim = subst (λ (es : List Entry). ReclaimOnFlash d.log.shape d.reclaim d.space.live pool' new.pages (places h.found es)) (sym none) reclaim_then;
+      reclaim = subst (λ (es : List Entry). ReclaimOnFlash d.log.shape d.reclaim d.values.live pool' new.pages (places h.found es)) (sym none) reclaim_then;
       keys_are = h.with.keys_are ∙ ap (λ (es : List Entry). length (places h.found es)) (sym same_pending);
     }
 

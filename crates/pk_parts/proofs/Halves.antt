@@ -14,7 +14,7 @@ use Rattle.pk_nand.specs.BoardState.{BoardState}
 use Rattle.pk_model.specs.Found.{Found}
 use Rattle.pk_gc.specs.declared.course.Phase.{Phase}
 use Rattle.pk_gc.specs.declared.course.Phase.TheVariants.{Idle, Copies, Commits, GivesBack}
-use Rattle.pk_reclaim.specs.Space.{Space, HalfIn}
+use Rattle.pk_reclaim.specs.Space.{ReclaimParts, HalfIn}
 use Rattle.pk_schedule.specs.Index.{Index, IsSettled, HalfStands}
 use Rattle.pk_parts.specs.Parts.{Parts, index_of, settled_parts, commits_in, is_half}
 use Rattle.pk_parts.specs.Agreeing.{DriveOnFlashWith, IsWhole, IsHalfRoot, IsHalfCommit, IsHalfAtMost}
@@ -149,13 +149,13 @@ may_commit d board may = record { ready = may.ready; stands = (may.stands.0, bet
 
 -- ---- the reclaim of a drive that is whole
 
-pub half_in : (p : Phase) (x : Space) (flash : Flash) (top : ℕ × Root) (found : Found) (m : Map) → commits_in p ≡ false → x.log.epoch.half ≡ false → HalfIn p x flash top found m
+pub half_in : (p : Phase) (x : ReclaimParts) (flash : Flash) (top : ℕ × Root) (found : Found) (m : Map) → commits_in p ≡ false → x.log.epoch.half ≡ false → HalfIn p x flash top found m
 half_in Idle x flash top found m moves epoch = epoch
 half_in (Copies c) x flash top found m moves epoch = epoch
 half_in (Commits victim) x flash top found m moves epoch = absurd (true_false moves)
 half_in (GivesBack victim) x flash top found m moves epoch = epoch
 
-pub half_out : (p : Phase) (x : Space) (flash : Flash) (top : ℕ × Root) (found : Found) (m : Map) → commits_in p ≡ false → HalfIn p x flash top found m → x.log.epoch.half ≡ false
+pub half_out : (p : Phase) (x : ReclaimParts) (flash : Flash) (top : ℕ × Root) (found : Found) (m : Map) → commits_in p ≡ false → HalfIn p x flash top found m → x.log.epoch.half ≡ false
 half_out Idle x flash top found m moves is = is
 half_out (Copies c) x flash top found m moves is = is
 half_out (Commits victim) x flash top found m moves is = absurd (true_false moves)

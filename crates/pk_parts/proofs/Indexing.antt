@@ -8,8 +8,8 @@ use Rattle.pk_nand.specs.BoardState.{BoardState}
 use Rattle.pk_nand.specs.Calls.{IsReady}
 use Rattle.pk_model.specs.Found.{Found}
 use Rattle.pk_law_steps.specs.Under.{IsUnder, IsValuePage, places}
-use Rattle.pk_data.specs.Placed.{ValuesOnFlash}
-use Rattle.pk_data.proofs.Unchanged.{ValuesOnFlash-kept}
+use Rattle.pk_values.specs.Placed.{ValuesOnFlash}
+use Rattle.pk_values.proofs.Unchanged.{ValuesOnFlash-kept}
 use Rattle.pk_pool.specs.Blocks.{Blocks, freed}
 use Rattle.pk_schedule.specs.Index.{Index, IndexOnFlash, IsSettled, settled}
 use Rattle.pk_schedule.specs.Steps.{MayWork, IndexMoves}
@@ -35,11 +35,11 @@ module _ (d : Parts) (flash : Flash) (top : ℕ × Root) (found : Found) (withou
   }
 
   -- with nothing pending the values are where the flash has them, and the reclaim matches them
-  pub committed_placed : ValuesOnFlash d.log.shape d.space d.pool (outputs_of d) flash (places found [])
-  committed_placed = subst (λ (es : List Entry). ValuesOnFlash d.log.shape d.space d.pool (outputs_of d) flash (places found es)) none a.placed
+  pub committed_placed : ValuesOnFlash d.log.shape d.values d.pool (outputs_of d) flash (places found [])
+  committed_placed = subst (λ (es : List Entry). ValuesOnFlash d.log.shape d.values d.pool (outputs_of d) flash (places found es)) none a.placed
 
-  pub committed_reclaim : ReclaimOnFlash d.log.shape d.reclaim d.space.live d.pool flash (places found [])
-  committed_reclaim = subst (λ (es : List Entry). ReclaimOnFlash d.log.shape d.reclaim d.space.live d.pool flash (places found es)) none a.reclaim
+  pub committed_reclaim : ReclaimOnFlash d.log.shape d.reclaim d.values.live d.pool flash (places found [])
+  committed_reclaim = subst (λ (es : List Entry). ReclaimOnFlash d.log.shape d.reclaim d.values.live d.pool flash (places found es)) none a.reclaim
 
 module _ (d : Parts) (old new : BoardState) (top : ℕ × Root) (found : Found) (without all : Map) (a : DriveOnFlashWith d d.log.shape old.pages top found without all) (none : d.log.pending ≡ [])
     (x' : Index) (ready : IsReady new d.log.shape) (moved : IndexMoves (index_of d) (frames_of d) old found all x' new) where
@@ -50,19 +50,19 @@ module _ (d : Parts) (old new : BoardState) (top : ℕ × Root) (found : Found) 
   abbrev free : Blocks
   free = freed x'.pool
 
-  still_placed : ValuesOnFlash d.log.shape d.space free (outputs_of d) new.pages (places moved.then_found [])
+  still_placed : ValuesOnFlash d.log.shape d.values free (outputs_of d) new.pages (places moved.then_found [])
   still_placed =
       let same_shape = moved.stands.pool_shape ∙ (moved.same_shape ∙ sym a.index.pool_shape) in
-      let now = ValuesOnFlash-kept d.log.shape d.space d.pool free (outputs_of d) old.pages new.pages (places found [])
+      let now = ValuesOnFlash-kept d.log.shape d.values d.pool free (outputs_of d) old.pages new.pages (places found [])
       (committed_placed d old.pages top found without all a none) same_shape moved.values.size moved.values.as_many moved.values.owned moved.values.no_more
       (λ k held no_output. moved.values.pages k held) moved.stands.pool_fits in
-      subst (ValuesOnFlash d.log.shape d.space free (outputs_of d) new.pages) (sym moved.same_places) now
+      subst (ValuesOnFlash d.log.shape d.values free (outputs_of d) new.pages) (sym moved.same_places) now
 
-  still_reclaims : ReclaimOnFlash d.log.shape d.reclaim d.space.live free new.pages (places moved.then_found [])
+  still_reclaims : ReclaimOnFlash d.log.shape d.reclaim d.values.live free new.pages (places moved.then_found [])
   still_reclaims =
-      let now = reclaim_elsewhere d.log.shape d.reclaim d.space d.pool free old.pages new.pages (places found []) (committed_reclaim d old.pages top found without all a none)
+      let now = reclaim_elsewhere d.log.shape d.reclaim d.values d.pool free old.pages new.pages (places found []) (committed_reclaim d old.pages top found without all a none)
       (committed_placed d old.pages top found without all a none) moved.values.as_many (λ k held not_open. moved.values.pages k held) in
-      subst (ReclaimOnFlash d.log.shape d.reclaim d.space.live free new.pages) (sym moved.same_places) now
+      subst (ReclaimOnFlash d.log.shape d.reclaim d.values.live free new.pages) (sym moved.same_places) now
 
   -- the drive agrees with the flash after the step, for the same map, as if the blocks that leave were free
   pub moved_with : DriveOnFlashWith (settled_parts (with_index d x')) d.log.shape new.pages moved.then_top moved.then_found all all
@@ -72,10 +72,10 @@ module _ (d : Parts) (old new : BoardState) (top : ℕ × Root) (found : Found) 
     index = subst (λ (n : ℕ). IndexOnFlash (settled x') n new.pages moved.then_top moved.then_found) (sym frames_stay) moved.stands;
     committed = moved.under;
     pending = subst (λ (es : List Entry). IsUnder d.log.shape new.pages es moved.then_top moved.then_found all) (sym moved.none_pending) moved.under;
-    placed = subst (λ (es : List Entry). ValuesOnFlash d.log.shape d.space free (outputs_of d) new.pages (places moved.then_found es)) (sym moved.none_pending) still_placed;
+    placed = subst (λ (es : List Entry). ValuesOnFlash d.log.shape d.values free (outputs_of d) new.pages (places moved.then_found es)) (sym moved.none_pending) still_placed;
     former = λ k is. moved.values.owned (k / d.log.shape.block_pages) (a.former k (subst (λ es. IsValuePage d.log.shape es k) moved.same_places is));
     former_read = λ k is. a.former_read k (subst (λ es. IsValuePage d.log.shape es k) moved.same_places is);
-    reclaim = subst (λ (es : List Entry). ReclaimOnFlash d.log.shape d.reclaim d.space.live free new.pages (places moved.then_found es)) (sym moved.none_pending) still_reclaims;
+    reclaim = subst (λ (es : List Entry). ReclaimOnFlash d.log.shape d.reclaim d.values.live free new.pages (places moved.then_found es)) (sym moved.none_pending) still_reclaims;
     keys_are =
         a.keys_are ∙ (ap (λ (es : List Entry). length (places found es)) none
         ∙ (ap length (sym moved.same_places) ∙ ap (λ (es : List Entry). length (places moved.then_found es)) (sym moved.none_pending)));

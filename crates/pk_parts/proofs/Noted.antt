@@ -16,8 +16,8 @@ use Rattle.pk_pool.specs.Blocks.{Blocks}
 use Rattle.pk_pool.proofs.Fitting.{block_of}
 use Rattle.pk_log.specs.State.{LogState, pushed}
 use Rattle.pk_model.proofs.MapLemmas.{key_total}
-use Rattle.pk_data.specs.State.{DataState}
-use Rattle.pk_data.specs.Placed.{IsOpenIn}
+use Rattle.pk_values.specs.State.{ValuesState}
+use Rattle.pk_values.specs.Placed.{IsOpenIn}
 use Rattle.pk_live.specs.declared.open_block.OpenBlock.{OpenBlock}
 use Rattle.pk_parts.specs.Parts.{Parts, block_if_open}
 use Rattle.pk_parts.specs.Noting.{Puts}
@@ -36,30 +36,30 @@ open_is shape pool flash (Some o) page count is inside some =
     let high = inside.1 in
     ap Some (sym (block_of shape.block_pages page o.block (omega (arith, low)) (omega (arith, high, within, some))))
 
-pub put_noted : (d : Parts) (flash : Flash) (m : Map) (k : Key) (value : List ℕ) (page len : ℕ) (old : Option Place) (log' : LogState) (space' : DataState) (keys' : ℕ)
+pub put_noted : (d : Parts) (flash : Flash) (m : Map) (k : Key) (value : List ℕ) (page len : ℕ) (old : Option Place) (log' : LogState) (space' : ValuesState) (keys' : ℕ)
     → length value ≡ len → Puts d d.log.shape flash m k value page old
-    → log' ≡ pushed d.log (k, Some (record { page = page; len = len })) → space'.open_block ≡ d.space.open_block → IsNoted (record d { log = log'; space = space'; keys = keys' }) k
+    → log' ≡ pushed d.log (k, Some (record { page = page; len = len })) → space'.open_block ≡ d.values.open_block → IsNoted (record d { log = log'; values = space'; keys = keys' }) k
 put_noted d flash m k value page len old log' space' keys' is_len p is same =
-    let T : LogState → Type 0 = λ l. IsNoted (record d { log = l; space = space'; keys = keys' }) k in
+    let T : LogState → Type 0 = λ l. IsNoted (record d { log = l; values = space'; keys = keys' }) k in
     let some = charge_some d.log.shape p.with.placed.is_shape (length value) in
     subst T (sym is) (record {
       place = record { page = page; len = len };
       found = found_in k (record { page = page; len = len }) d.log.active.entries;
-      in_open = ap block_if_open same ∙ open_is d.log.shape d.pool flash d.space.open_block page (charge d.log.shape (length value)) p.with.placed.open_is p.in_open some;
+      in_open = ap block_if_open same ∙ open_is d.log.shape d.pool flash d.values.open_block page (charge d.log.shape (length value)) p.with.placed.open_is p.in_open some;
     })
   where
     found_in : (k : Key) (place : Place) (es : List Entry) → find key_cmp k (put key_cmp k (Some place) es) ≡ Some (Some place)
     found_in k place es = find-put key_cmp key_total k k (Some place) es ∙ ap (λ b. cond b (Some (Some place)) (find key_cmp k es)) (ap is_eq (tied_itself key_total k))
 
 -- it is unchanged if buffer and open block are
-pub noted_after : (a b : Parts) (k : Key) → IsNoted a k → b.log.active ≡ a.log.active → b.space ≡ a.space → b.log.shape ≡ a.log.shape → IsNoted b k
-noted_after a b k n active space shape = record {
+pub noted_after : (a b : Parts) (k : Key) → IsNoted a k → b.log.active ≡ a.log.active → b.values ≡ a.values → b.log.shape ≡ a.log.shape → IsNoted b k
+noted_after a b k n active values shape = record {
   place = n.place;
   found = ap (λ (t : Table). find key_cmp k t.entries) active ∙ n.found;
-  in_open = ap (λ (s : DataState). block_if_open s.open_block) space ∙ (n.in_open ∙ ap (λ (s : Shape). Some (n.place.page / s.block_pages)) (sym shape));
+  in_open = ap (λ (s : ValuesState). block_if_open s.open_block) values ∙ (n.in_open ∙ ap (λ (s : Shape). Some (n.place.page / s.block_pages)) (sym shape));
 }
 
 pub noted_after_ok : (r : Result Unit Fault) (a b : Parts) (k : Key) → IsNoted a k → OnOk r (OnlyCommits a b) → OnOk r (IsNoted b k)
 noted_after_ok (Ok x) a b k n rest =
-    noted_after a b k n (ap (λ (d : Parts). d.log.active) rest) (ap (λ (d : Parts). d.space) rest) (ap (λ (d : Parts). d.log.shape) rest)
+    noted_after a b k n (ap (λ (d : Parts). d.log.active) rest) (ap (λ (d : Parts). d.values) rest) (ap (λ (d : Parts). d.log.shape) rest)
 noted_after_ok (Err e) a b k n rest = tt

@@ -20,8 +20,8 @@ use Rattle.pk_model.specs.Found.{Found}
 use Rattle.pk_law_steps.specs.Under.{IsUnder, places}
 use Rattle.pk_log.specs.State.{LogState, opened}
 use Rattle.pk_log.specs.Logs.{LogOnFlash, Opens}
-use Rattle.pk_data.specs.State.{DataState, with_none_open}
-use Rattle.pk_data.specs.Placed.{IsOutput, ValuesOnFlash, FoundAtOpening}
+use Rattle.pk_values.specs.State.{ValuesState, with_none_open}
+use Rattle.pk_values.specs.Placed.{IsOutput, ValuesOnFlash, FoundAtOpening}
 use Rattle.pk_gc.specs.declared.course.Phase.{Phase}
 use Rattle.pk_gc.specs.declared.course.Phase.TheVariants.{Idle as NoReclaim}
 use Rattle.pk_gc.specs.State.{JobState}
@@ -68,9 +68,9 @@ values_found shape flash f found is has = record {
 }
 
 -- the parts of a drive made of what was found
-module _ {A : Type 0} (shape : Shape) (flash : Flash) (frames : ℕ) (f : Opened A) (log : LogState) (space : DataState) (s : Schedule) (job : JobState) (walk : Walk) where
+module _ {A : Type 0} (shape : Shape) (flash : Flash) (frames : ℕ) (f : Opened A) (log : LogState) (values : ValuesState) (s : Schedule) (job : JobState) (walk : Walk) where
   abbrev parts : Parts
-  parts = record { log = log; levels = f.levels; arena = f.arena; schedule = s; space = space; reclaim = job; pool = f.pool; keys = f.keys; stopped = false; walk = walk }
+  parts = record { log = log; levels = f.levels; arena = f.arena; schedule = s; values = values; reclaim = job; pool = f.pool; keys = f.keys; stopped = false; walk = walk }
 
   -- the index of what was found, in which nothing runs
   index_found : IsShape f.root.shape → (was : FoundOnFlash shape flash frames f) → log ≡ opened f.root f.root_page f.epoch f.active f.frozen
@@ -101,14 +101,14 @@ module _ {A : Type 0} (shape : Shape) (flash : Flash) (frames : ℕ) (f : Opened
   pub opens_on : IsShape f.root.shape → IsFlash shape flash → FoundOnFlash shape flash frames f
       → log ≡ opened f.root f.root_page f.epoch f.active f.frozen
       → ((x : Flash) (found : Found) → Opens f.root f.root_page f.epoch f.active f.frozen x found → LogOnFlash log x (f.root_page, f.root.root) found)
-      → space ≡ with_none_open f.live → ((s : Shape) (named : List ℕ) (p : Blocks) (x : Flash) (es : List (Key × Place)) → FoundAtOpening s named f.live p x es → ValuesOnFlash s space p [] x es)
+      → values ≡ with_none_open f.live → ((s : Shape) (named : List ℕ) (p : Blocks) (x : Flash) (es : List (Key × Place)) → FoundAtOpening s named f.live p x es → ValuesOnFlash s values p [] x es)
       → (s.phase ≡ Idle) × (s.freeze ≡ NoFreeze) × IsIdle f.root.shape s.job → s.job.pinned ≡ pinned f.root.shape (length f.arena.used)
       → (job.shape ≡ f.root.shape) × (job.phase ≡ NoReclaim) × (job.moves ≡ [])
       → OpenedOn shape flash frames parts
   opens_on held is_flash was log_is stands space_is places_so idle pins rests =
       let is : IsShape shape = subst IsShape was.lists.shape_is held in
       let none : log.pending ≡ [] = ap (λ (l : LogState). l.pending) log_is in
-      let placed : ValuesOnFlash shape space f.pool [] flash (places was.found []) = places_so shape
+      let placed : ValuesOnFlash shape values f.pool [] flash (places was.found []) = places_so shape
       (named f.root.root) f.pool flash (places was.found []) (values_found shape flash f was.found is was.blocks) in
       record {
         top = (f.root_page, f.root.root);
@@ -121,11 +121,11 @@ module _ {A : Type 0} (shape : Shape) (flash : Flash) (frames : ℕ) (f : Opened
           committed = was.lists.under;
           pending = subst (λ (es : List Entry). IsUnder shape flash es (f.root_page, f.root.root) was.found was.map) (sym none) was.lists.under;
           placed =
-              subst (λ (es : List Entry). ValuesOnFlash shape space f.pool (held_blocks job.phase) flash (places was.found es)) (sym none)
-              (subst (λ (p : Phase). ValuesOnFlash shape space f.pool (held_blocks p) flash (places was.found [])) (sym rests.1) placed);
+              subst (λ (es : List Entry). ValuesOnFlash shape values f.pool (held_blocks job.phase) flash (places was.found es)) (sym none)
+              (subst (λ (p : Phase). ValuesOnFlash shape values f.pool (held_blocks p) flash (places was.found [])) (sym rests.1) placed);
           former = placed.owned;
           former_read = λ k is. subst (λ (p : Phase). IsOutput (held_blocks p) (k / shape.block_pages) → ⊥) (sym rests.1) (λ none_held. none_held);
-          reclaim = reclaim_rests shape job space.live f.pool flash (places was.found log.pending) (rests.0 ∙ was.lists.shape_is) (ap runs_in rests.1);
+          reclaim = reclaim_rests shape job values.live f.pool flash (places was.found log.pending) (rests.0 ∙ was.lists.shape_is) (ap runs_in rests.1);
           keys_are = was.keys_are ∙ sym (ap (λ (es : List Entry). length (places was.found es)) none);
         };
         whole = record {
@@ -140,7 +140,7 @@ module _ {A : Type 0} (shape : Shape) (flash : Flash) (frames : ℕ) (f : Opened
         runs = refl;
         none_pending = none;
         takes_none = ap (λ (l : LogState). l.epoch.takes_more) log_is ∙ ap (λ (e : JournalEpoch). e.takes_more) was.lists.epoch_is.1;
-        none_open = ap (λ (s : DataState). s.open_block) space_is;
+        none_open = ap (λ (s : ValuesState). s.open_block) space_is;
         blocks_are = ap (λ (p : Phase). used_by for_values f.pool.states - length (held_blocks p)) rests.1 ∙ (omega arith ∙ was.blocks.values_are);
         rests = ap runs_in rests.1;
       }

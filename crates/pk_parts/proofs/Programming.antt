@@ -14,7 +14,7 @@ use Rattle.pk_nand.specs.Counts.{counted_by}
 use Rattle.pk_seg.specs.Stored.{written}
 use Rattle.pk_pool.specs.Blocks.{Blocks}
 use Rattle.pk_log.specs.State.{LogState, needs_freeze, pushed}
-use Rattle.pk_data.specs.State.{DataState, fits_open}
+use Rattle.pk_values.specs.State.{ValuesState, fits_open}
 use Rattle.pk_call.specs.Commit.{ProgramsOfCommit}
 use Rattle.pk_call.specs.Moving.{commits_for}
 use Rattle.pk_parts.specs.Parts.{Parts, sight_of}
@@ -47,7 +47,7 @@ written_programs shape key page value (suc k) board =
     let rest = written_programs shape key page value k board in
     record { programs = ap counted rest.programs; erases = rest.erases }
 
-pub place_programs : (shape : Shape) (key : Key) (value : List ℕ) (d : DataState) (p : Blocks) (old : BoardState) (page : ℕ) (d' : DataState) (q : Blocks) (new : BoardState)
+pub place_programs : (shape : Shape) (key : Key) (value : List ℕ) (d : ValuesState) (p : Blocks) (old : BoardState) (page : ℕ) (d' : ValuesState) (q : Blocks) (new : BoardState)
     → PlacesValue shape key value d p old page d' q new
     → fits_open shape d (charge shape (length value)) ≡ true → Programs (charge shape (length value)) old new
 place_programs shape key value d p old page d' q new is room = elim is.reserved.taken [
@@ -103,12 +103,12 @@ then_ok (Ok x) a b c n m P first second = λ p. programs_then a b c n m (first p
 then_ok (Err e) a b c n m P first second = tt
 
 module _ (r : Result Unit Fault) (a b n c : Parts) (s0 s1 s2 : BoardState) (size : ℕ) where
-  pub put_programs : length a.log.pending < page_entries a.log.shape → (fits_open a.log.shape a.space (charge a.log.shape size) ≡ true → Programs (charge a.log.shape size) s0 s1) → b.log ≡ a.log
+  pub put_programs : length a.log.pending < page_entries a.log.shape → (fits_open a.log.shape a.values (charge a.log.shape size) ≡ true → Programs (charge a.log.shape size) s0 s1) → b.log ≡ a.log
       → length n.log.pending ≡ length b.log.pending + 1 → n.log.shape ≡ b.log.shape
       → OnOk r (length n.log.pending < page_entries n.log.shape → (c ≡ n) × (s2 ≡ s1)) → OnOk r (page_entries n.log.shape ≤ length n.log.pending → Programs commit_programs s1 s2)
-      → OnOk r (fits_open a.log.shape a.space (charge a.log.shape size) ≡ true → Programs (charge a.log.shape size + commits_for a.log.shape (sight_of a)) s0 s2)
+      → OnOk r (fits_open a.log.shape a.values (charge a.log.shape size) ≡ true → Programs (charge a.log.shape size + commits_for a.log.shape (sight_of a)) s0 s2)
   put_programs few first same more shapes idle full =
-      then_ok r s0 s1 s2 (charge a.log.shape size) (commits_for a.log.shape (sight_of a)) (fits_open a.log.shape a.space (charge a.log.shape size) ≡ true) first
+      then_ok r s0 s1 s2 (charge a.log.shape size) (commits_for a.log.shape (sight_of a)) (fits_open a.log.shape a.values (charge a.log.shape size) ≡ true) first
       (commit_part r a n c s1 s2 few (more ∙ ap (λ (l : LogState). length l.pending + 1) same) (shapes ∙ ap (λ (l : LogState). l.shape) same) idle full)
 
 pub take_programs : (r : Result Unit Fault) (a n c : Parts) (s1 s2 : BoardState)
@@ -119,12 +119,12 @@ take_programs r a n c s1 s2 few more shapes idle full = commit_part r a n c s1 s
 
 -- if no freeze is needed, what makes room does nothing
 pub put_idle : (r : Result Unit Fault) (a b : Parts) (s0 s1 s2 : BoardState) (k : Key) (size : ℕ) → (needs_freeze a.log k ≡ false → (b ≡ a) × (s1 ≡ s0))
-    → OnOk r (fits_open b.log.shape b.space (charge b.log.shape size) ≡ true → Programs (charge b.log.shape size + commits_for b.log.shape (sight_of b)) s1 s2)
-    → OnOk r (needs_freeze a.log k ≡ false → fits_open a.log.shape a.space (charge a.log.shape size) ≡ true → Programs (charge a.log.shape size + commits_for a.log.shape (sight_of a)) s0 s2)
+    → OnOk r (fits_open b.log.shape b.values (charge b.log.shape size) ≡ true → Programs (charge b.log.shape size + commits_for b.log.shape (sight_of b)) s1 s2)
+    → OnOk r (needs_freeze a.log k ≡ false → fits_open a.log.shape a.values (charge a.log.shape size) ≡ true → Programs (charge a.log.shape size + commits_for a.log.shape (sight_of a)) s0 s2)
 put_idle (Err e) a b s0 s1 s2 k size idle made = tt
 put_idle (Ok x) a b s0 s1 s2 k size idle made = λ none.
     let same = idle none in
-    let T : Parts → BoardState → Type 0 = λ d s. fits_open d.log.shape d.space (charge d.log.shape size) ≡ true → Programs (charge d.log.shape size + commits_for d.log.shape (sight_of d)) s s2 in
+    let T : Parts → BoardState → Type 0 = λ d s. fits_open d.log.shape d.values (charge d.log.shape size) ≡ true → Programs (charge d.log.shape size + commits_for d.log.shape (sight_of d)) s s2 in
     subst (λ d. T d s0) same.0 (subst (λ s. T b s) same.1 made)
 
 pub take_idle : (r : Result Unit Fault) (a b : Parts) (s0 s1 s2 : BoardState) (k : Key)

@@ -19,8 +19,8 @@ use Rattle.pk_pool.specs.Blocks.{used_by}
 use Rattle.pk_model.specs.Growth.{Reaches, Goes}
 use Rattle.pk_model.specs.Crashes.{CrashFinds, commit, change}
 use Rattle.pk_model.proofs.Growing.{at_end, weaken, weaken_went, Reaches-then, Goes-then}
-use Rattle.pk_data.specs.State.{needs_reclaim}
-use Rattle.pk_data.specs.Entries.{IsInOpen}
+use Rattle.pk_values.specs.State.{needs_reclaim}
+use Rattle.pk_values.specs.Entries.{IsInOpen}
 use Rattle.pk_parts.specs.Parts.{Parts}
 use Rattle.pk_parts.specs.Moves.{StandsFor, Keeps, KeepsAll, BreaksAll, IsWritten}
 use Rattle.pk_parts.specs.Noting.{Puts, Drops}
@@ -48,8 +48,8 @@ may_take_after a b shape m old new key place may keeps = record {
   bytes = may.bytes;
 }
 
-pub reclaim_same : (a b : Parts) (count : ℕ) (is : Bool) → b.log.shape ≡ a.log.shape → b.space ≡ a.space → used_by for_values b.pool.states ≡ used_by for_values a.pool.states
-    → needs_reclaim a.log.shape a.space a.pool (charge a.log.shape count) ≡ is → needs_reclaim b.log.shape b.space b.pool (charge b.log.shape count) ≡ is
+pub reclaim_same : (a b : Parts) (count : ℕ) (is : Bool) → b.log.shape ≡ a.log.shape → b.values ≡ a.values → used_by for_values b.pool.states ≡ used_by for_values a.pool.states
+    → needs_reclaim a.log.shape a.values a.pool (charge a.log.shape count) ≡ is → needs_reclaim b.log.shape b.values b.pool (charge b.log.shape count) ≡ is
 reclaim_same a b count is shapes spaces used needs = rw (shapes, spaces, used) needs
 
 -- ---- a step that keeps the map, and a change after it
@@ -117,7 +117,7 @@ take_broken a s0 s1 key place ready breaks shape m may = kept_goes shape s0 s1 (
 -- ---- a value was written, its entry noted, and a commit made if the page is full
 
 pub puts_of : (b : Parts) (its shape : Shape) (flash : Flash) (m : Map) (key : Key) (value : List ℕ) (page : ℕ) (old : Option Place) → its ≡ shape → MayPut b shape flash m key value old
-    → IsWritten b its flash key value page → IsPlace its (record { page = page; len = length value }) → IsInOpen its b.space page (charge its (length value)) → Puts b shape flash m key value page old
+    → IsWritten b its flash key value page → IsPlace its (record { page = page; len = length value }) → IsInOpen its b.values page (charge its (length value)) → Puts b shape flash m key value page old
 puts_of b its shape flash m key value page old same may written place in_open = record {
   top = may.stands.top;
   found = may.stands.found;
@@ -127,7 +127,7 @@ puts_of b its shape flash m key value page old same may written place in_open = 
   old_is = may.old_is;
   written = subst (λ (s : Shape). IsWritten b s flash key value page) same written;
   place = subst (λ (s : Shape). IsPlace s (record { page = page; len = length value })) same place;
-  in_open = subst (λ (s : Shape). IsInOpen s b.space page (charge s (length value))) same in_open;
+  in_open = subst (λ (s : Shape). IsInOpen s b.values page (charge s (length value))) same in_open;
   bytes = may.bytes;
   room = may.room;
 }
@@ -146,7 +146,7 @@ drops_of d shape flash m key old may = record {
 -- for some map
 pub some_puts : (a b : Parts) (s0 s1 : BoardState) (key : Key) (value : List ℕ) (page : ℕ) (old : Option Place)
     → (m : Map) × MayPut a a.log.shape s0.pages m key value old → KeepsAll a b s0 s1 → b.log.shape ≡ a.log.shape
-    → IsWritten b a.log.shape s1.pages key value page → IsPlace a.log.shape (record { page = page; len = length value }) → IsInOpen a.log.shape b.space page (charge a.log.shape (length value))
+    → IsWritten b a.log.shape s1.pages key value page → IsPlace a.log.shape (record { page = page; len = length value }) → IsInOpen a.log.shape b.values page (charge a.log.shape (length value))
     → (flash : Flash) × (m : Map) × (x : List ℕ) × (length x ≡ length value) × Puts b b.log.shape flash m key x page old
 some_puts a b s0 s1 key value page old may keeps same written place in_open =
     let mid = may_put_after a b a.log.shape may.0 s0 s1 key value old may.1 (keeps a.log.shape may.0 may.1.stands) in (
@@ -176,7 +176,7 @@ some_drops a s0 key old may = (s0.pages, may.0, drops_of a a.log.shape s0.pages 
 -- a drive represents some map after the entry
 pub some_put : (a b c : Parts) (s0 s1 : BoardState) (key : Key) (value : List ℕ) (page : ℕ) (old : Option Place)
     → (m : Map) × MayPut a a.log.shape s0.pages m key value old → KeepsAll a b s0 s1 → b.log.shape ≡ a.log.shape → c.log.shape ≡ b.log.shape
-    → IsWritten b a.log.shape s1.pages key value page → IsPlace a.log.shape (record { page = page; len = length value }) → IsInOpen a.log.shape b.space page (charge a.log.shape (length value))
+    → IsWritten b a.log.shape s1.pages key value page → IsPlace a.log.shape (record { page = page; len = length value }) → IsInOpen a.log.shape b.values page (charge a.log.shape (length value))
     → ((shape : Shape) (flash : Flash) (m : Map) → Puts b shape flash m key value page old → StandsFor c shape flash (insert m key value))
     → (m : Map) × StandsFor c c.log.shape s1.pages m
 some_put a b c s0 s1 key value page old may keeps same same' written place in_open noted =
@@ -189,7 +189,7 @@ some_put a b c s0 s1 key value page old may keeps same same' written place in_op
 
 module _ (a b c : Parts) (s0 s1 : BoardState) (key : Key) (value : List ℕ) (page : ℕ) (old : Option Place) (ready : IsReady s0 a.log.shape) (keeps : KeepsAll a b s0 s1)
     (written : IsWritten b a.log.shape s1.pages key value page) (place : IsPlace a.log.shape (record { page = page; len = length value }))
-    (in_open : IsInOpen a.log.shape b.space page (charge a.log.shape (length value)))
+    (in_open : IsInOpen a.log.shape b.values page (charge a.log.shape (length value)))
     (noted : (shape : Shape) (flash : Flash) (m : Map) → Puts b shape flash m key value page old → StandsFor c shape flash (insert m key value)) where
   there : (shape : Shape) (m : Map) → MayPut a shape s0.pages m key value old → StandsFor c shape s1.pages (insert m key value)
   there shape m may =

@@ -15,7 +15,7 @@ use Rattle.pk_gc.specs.declared.course.Phase.TheVariants.{Idle, Copies, Commits,
 use Rattle.pk_gc.specs.Standing.{held_blocks}
 use Rattle.pk_gc.specs.Stepping.{runs_in}
 use Rattle.pk_log.specs.State.{LogState}
-use Rattle.pk_data.specs.State.{fits_open}
+use Rattle.pk_values.specs.State.{fits_open}
 use Rattle.pk_schedule.specs.declared.phase.Phase.{Phase as MergePhase}
 use Rattle.pk_schedule.specs.declared.phase.Phase.TheVariants.{Idle as NoMerge, Running, Ready}
 use Rattle.pk_schedule.specs.Index.{Index}
@@ -36,30 +36,30 @@ both true = refl
 both false = refl
 
 -- if every value has room, none is
-not_due_at : (d : Parts) (b : Bool) → ((counts_of d).blocks == data_blocks d.log.shape - 1) ≡ b → HasSpace (space_of d) → (b && not (fits_open d.log.shape d.space (most_pages d.log.shape))) ≡ false
-not_due_at d false e space = refl
-not_due_at d true e space =
+not_due_at : (d : Parts) (b : Bool) → ((counts_of d).blocks == data_blocks d.log.shape - 1) ≡ b → HasSpace (space_of d) → (b && not (fits_open d.log.shape d.values (most_pages d.log.shape))) ≡ false
+not_due_at d false e values = refl
+not_due_at d true e values =
     let all = eqb-true (counts_of d).blocks (data_blocks d.log.shape - 1) e in
     let full : nat_le (data_blocks d.log.shape - 1) (used_by Values d.pool.states) ≡ true = le-leb (data_blocks d.log.shape - 1) (used_by Values d.pool.states) (omega (arith, all)) in
-    sym (both (not (fits_open d.log.shape d.space (most_pages d.log.shape))))
-    ∙ (ap (λ x. not (fits_open d.log.shape d.space (most_pages d.log.shape)) && x) (sym full) ∙ space (most_pages d.log.shape) (omega arith))
+    sym (both (not (fits_open d.log.shape d.values (most_pages d.log.shape))))
+    ∙ (ap (λ x. not (fits_open d.log.shape d.values (most_pages d.log.shape)) && x) (sym full) ∙ values (most_pages d.log.shape) (omega arith))
 
 space_not_due : (d : Parts) → HasSpace (space_of d) → is_reclaim_due d ≡ false
-space_not_due d space = not_due_at d ((counts_of d).blocks == data_blocks d.log.shape - 1) refl space
+space_not_due d values = not_due_at d ((counts_of d).blocks == data_blocks d.log.shape - 1) refl values
 
 -- after one whose moves were committed before, one is due as before
-due_same : (b c : Parts) (p : Phase) → (runs_in p ≡ true) → length (held_blocks b.reclaim.phase) ≡ 1 → c.reclaim.phase ≡ Idle → c.log ≡ b.log → c.space ≡ b.space
+due_same : (b c : Parts) (p : Phase) → (runs_in p ≡ true) → length (held_blocks b.reclaim.phase) ≡ 1 → c.reclaim.phase ≡ Idle → c.log ≡ b.log → c.values ≡ b.values
     → used_by Values c.pool.states + 1 ≡ used_by Values b.pool.states → is_reclaim_due c ≡ is_reclaim_due b
-due_same b c p runs one idle log space given =
+due_same b c p runs one idle log values given =
     let none : length (held_blocks c.reclaim.phase) ≡ 0 = ap (λ q. length (held_blocks q)) idle in
     let blocks : (counts_of c).blocks ≡ (counts_of b).blocks = omega (arith, one, none, given) in
-    λ i. (blocks i == data_blocks (log i).shape - 1) && not (fits_open (log i).shape (space i) (most_pages (log i).shape))
+    λ i. (blocks i == data_blocks (log i).shape - 1) && not (fits_open (log i).shape (values i) (most_pages (log i).shape))
 
 -- ---- what remains of the reclaim
 
 -- in the backlog
 abbrev rest_at : Phase → Bool → Parts → ℕ
-rest_at p due d = reclaiming_from d.log.shape (reclaim_left d.log.shape d.space.live.heads due p) false
+rest_at p due d = reclaiming_from d.log.shape (reclaim_left d.log.shape d.values.live.heads due p) false
 
 abbrev Less : Phase → Bool → Parts → Phase → Bool → Parts → Type 0
 Less p due b q due' c = Lowers (rest_at p due b) (unready b.pool.states) (rest_at q due' c) (unready c.pool.states)
@@ -113,7 +113,7 @@ module _ (b c : Parts) (due due' : Bool) where
   works_may p (GivesBack other) wants falls on none may = absurd (false_true (sym (ap (λ x. x && is_tight_for c) (none on)) ∙ may))
 
   ends_lower : (p : Phase) → Wants p → FallsTo p b Idle c → RoomBehind p (space_of b) (space_of c) → (HasSpace (space_of c) → due' ≡ false)
-      → ((runs_in p ≡ true) → c.log ≡ b.log → c.space ≡ b.space → due' ≡ due) → Less p due b Idle due' c
+      → ((runs_in p ≡ true) → c.log ≡ b.log → c.values ≡ b.values → due' ≡ due) → Less p due b Idle due' c
   ends_lower Idle (inl runs) falls from none same = absurd (false_true runs)
   ends_lower Idle (inr is) falls from none same =
       subst (λ x. Less Idle x b Idle due' c) (sym is) (subst (λ y. Less Idle true b Idle y c) (sym (none from)) (record { none_ready = falls.none_ready; less = falls.less }))
@@ -132,7 +132,7 @@ module _ (b c : Parts) (due due' : Bool) where
       by false shapes = record { none_ready = falls.none_ready; less = falls.less }
 
   ends_may : (p : Phase) → RoomBehind p (space_of b) (space_of c) → (HasSpace (space_of c) → due' ≡ false)
-      → ((runs_in p ≡ true) → c.log ≡ b.log → c.space ≡ b.space → due' ≡ due) → may_at Idle due' c ≡ true → may_at p due b ≡ true
+      → ((runs_in p ≡ true) → c.log ≡ b.log → c.values ≡ b.values → due' ≡ due) → may_at Idle due' c ≡ true → may_at p due b ≡ true
   ends_may Idle from none same may = absurd (false_true (sym (ap (λ x. x && is_tight_for c) (none from)) ∙ may))
   ends_may (Copies e) from none same may = absurd (false_true (sym (ap (λ x. x && is_tight_for c) (none from)) ∙ may))
   ends_may (Commits victim) from none same may = absurd from
@@ -151,7 +151,7 @@ module _ (b c : Parts) (leaves : LeavesIndex b c) where
   abbrev later : Parts
   later = record b {
     log = record b.log { active = record b.log.active { entries = c.log.active.entries }; epoch = record b.log.epoch { used = c.log.epoch.used; half = c.log.epoch.half } };
-    space = c.space;
+    values = c.values;
     reclaim = c.reclaim;
     pool = c.pool;
   }
@@ -191,8 +191,8 @@ module _ (b c : Parts) (leaves : LeavesIndex b c) where
       → RoomBehind b.reclaim.phase (space_of b) (space_of c) → (sight_of c).work < (sight_of b).work
   ended_less wants falls idle given from =
       let falls' : FallsTo b.reclaim.phase b Idle c = subst (λ q. FallsTo b.reclaim.phase b q c) idle falls in
-      let same : (runs_in b.reclaim.phase ≡ true) → c.log ≡ b.log → c.space ≡ b.space → is_reclaim_due c ≡ is_reclaim_due b =
-      λ runs log space. due_same b c b.reclaim.phase runs (held_one b.reclaim.phase runs) idle log space given in
+      let same : (runs_in b.reclaim.phase ≡ true) → c.log ≡ b.log → c.values ≡ b.values → is_reclaim_due c ≡ is_reclaim_due b =
+      λ runs log values. due_same b c b.reclaim.phase runs (held_one b.reclaim.phase runs) idle log values given in
       let less = ends_lower b c (is_reclaim_due b) (is_reclaim_due c) b.reclaim.phase wants falls' from (space_not_due c) same in
       let may = ends_may b c (is_reclaim_due b) (is_reclaim_due c) b.reclaim.phase from (space_not_due c) same in
       work_less (λ m. may (ap (λ q. may_at q (is_reclaim_due c) c) (sym idle) ∙ m))

@@ -28,7 +28,7 @@ use Rattle.pk_gc.specs.declared.course.Phase.{Phase}
 use Rattle.pk_gc.specs.declared.course.Phase.TheVariants.{Idle, Copies, Commits, GivesBack}
 use Rattle.pk_gc.specs.declared.reclaimed.Reclaimed.{Reclaimed}
 use Rattle.pk_gc.specs.declared.reclaimed.Reclaimed.TheVariants.{Worked, NeedsFreeze, Ended}
-use Rattle.pk_data.specs.Placed.{ValuesOnFlash}
+use Rattle.pk_values.specs.Placed.{ValuesOnFlash}
 use Rattle.pk_merge.specs.Elsewhere.{IsElsewhere}
 use Rattle.pk_compact.specs.FreezeSteps.{IsTaken, taken_by}
 use Rattle.pk_log.specs.State.{LogState}
@@ -36,7 +36,7 @@ use Rattle.pk_log.specs.Logs.{LogOnFlash}
 use Rattle.pk_schedule.specs.Index.{Index, IndexOnFlash, IsSettled}
 use Rattle.pk_schedule.proofs.Keeping.{KeepsTaken, index_then, member_all}
 use Rattle.pk_reclaim.specs.Space as spaces
-use Rattle.pk_reclaim.specs.Space.{Space, SpaceOnFlash, HalfIn}
+use Rattle.pk_reclaim.specs.Space.{ReclaimParts, SpaceOnFlash, HalfIn}
 use Rattle.pk_reclaim.specs.Steps as steps
 use Rattle.pk_reclaim.specs.Steps.{SpaceMoves, KeepsLog, KeepsOthers, with_newest}
 use Rattle.pk_parts.specs.Parts.{Parts, frames_of, index_of, outputs_of, commits_in}
@@ -48,16 +48,16 @@ use Rattle.pk_parts.specs.Reclaiming.{MayReclaim, HoldsAll, FailsAll, LeavesInde
 -- ---- the space of a drive
 
 -- the drive with another space
-abbrev pub over_space : Parts → Space → Parts
-over_space d x = record d { log = x.log; space = x.values; reclaim = x.job; pool = x.pool }
+abbrev pub over_space : Parts → ReclaimParts → Parts
+over_space d x = record d { log = x.log; values = x.values; reclaim = x.job; pool = x.pool }
 
 module _ (d : Parts) (shape : Shape) (flash : Flash) (top : ℕ × Root) (found : Found) (without m : Map) (none : d.log.pending ≡ []) (with : DriveOnFlashWith d shape flash top found without m)
     (half : HalfIn d.reclaim.phase (space_of d) flash top found m) (none_leaves : NoneLeaves d.pool) where
   pub space_stands : SpaceOnFlash (space_of d) flash top found m
   space_stands =
       let U : Shape → List Entry → Type 0 = λ s p. IsUnder s flash p top found m in
-      let V : Shape → List Entry → Type 0 = λ s p. ValuesOnFlash s d.space d.pool (outputs_of d) flash (places found p) in
-      let R : Shape → List Entry → Type 0 = λ s p. ReclaimOnFlash s d.reclaim d.space.live d.pool flash (places found p) in
+      let V : Shape → List Entry → Type 0 = λ s p. ValuesOnFlash s d.values d.pool (outputs_of d) flash (places found p) in
+      let R : Shape → List Entry → Type 0 = λ s p. ReclaimOnFlash s d.reclaim d.values.live d.pool flash (places found p) in
       record {
         logs = with.index.logs;
         none_pending = none;
@@ -135,7 +135,7 @@ module _ (x : Index) (frames : ℕ) (old new : Flash) (top : ℕ × Root) (found
 
 -- ---- the drive after a step
 
-module _ (d : Parts) (x' : Space) (keeps : KeepsLog (space_of d) x') where
+module _ (d : Parts) (x' : ReclaimParts) (keeps : KeepsLog (space_of d) x') where
   same_shape : x'.log.shape ≡ d.log.shape
   same_shape = ap (λ (l : LogState). l.shape) keeps
 
@@ -144,7 +144,7 @@ module _ (d : Parts) (x' : Space) (keeps : KeepsLog (space_of d) x') where
 
   -- nothing else differs
   pub leaves_index : LeavesIndex d (over_space d x')
-  leaves_index = ap (λ (l : LogState). record d { log = l; space = x'.values; reclaim = x'.job; pool = x'.pool }) keeps
+  leaves_index = ap (λ (l : LogState). record d { log = l; values = x'.values; reclaim = x'.job; pool = x'.pool }) keeps
 
   module _ (shape : Shape) (old new : BoardState) (top : ℕ × Root) (found : Found) (without m : Map) (none : d.log.pending ≡ [])
       (ready : IsReady new d.log.shape) (with : DriveOnFlashWith d shape old.pages top found without m) where
@@ -174,7 +174,7 @@ module _ (d : Parts) (x' : Space) (keeps : KeepsLog (space_of d) x') where
 
 -- ---- which pair is half made then
 
-module _ (d : Parts) (x' : Space) (keeps : KeepsLog (space_of d) x') (flash : Flash) (top : ℕ × Root)
+module _ (d : Parts) (x' : ReclaimParts) (keeps : KeepsLog (space_of d) x') (flash : Flash) (top : ℕ × Root)
     (found : Found) (m : Map) (was : repeats_next d.log.next ≡ false) (stands : SpaceOnFlash x' flash top found m) where
   pub settles_then : IsSettled (index_of (over_space d x'))
   settles_then = record { whole = ap (λ (l : LogState). repeats_next l.next) keeps ∙ was; none_leaves = stands.none_leaves }
@@ -189,7 +189,7 @@ module _ (d : Parts) (x' : Space) (keeps : KeepsLog (space_of d) x') (flash : Fl
   course_then = course_at x'.job.phase refl stands.half
 
 -- every map that it represented
-pub holds_all : (d : Parts) (x' : Space) (old new : BoardState) → MayReclaim d old → KeepsLog (space_of d) x'
+pub holds_all : (d : Parts) (x' : ReclaimParts) (old new : BoardState) → MayReclaim d old → KeepsLog (space_of d) x'
     → IsReady new d.log.shape → steps.ReclaimMoves (space_of d) old x' new → HoldsAll d (over_space d x') old new
 holds_all d x' old new may keeps ready moves shape m was =
     let now = moves was.top was.found m (may_for d old shape m may was) in
@@ -216,7 +216,7 @@ fails_all d old new may breaks shape m was =
 false_true : false ≡ true → ⊥
 false_true e = cc
 
-module _ (d : Parts) (x' : Space) (old new : BoardState) (may : MayReclaim d old) (keeps : KeepsLog (space_of d) x') (ready : IsReady new d.log.shape) where
+module _ (d : Parts) (x' : ReclaimParts) (old new : BoardState) (may : MayReclaim d old) (keeps : KeepsLog (space_of d) x') (ready : IsReady new d.log.shape) where
   lessens : steps.ReclaimMoves (space_of d) old x' new → spaces.Falls (space_of d) x' → Lessens d (over_space d x') old new
   lessens moves falls = record { holds = holds_all d x' old new may keeps ready moves; leaves = leaves_index d x' keeps; falls = falls }
 
@@ -249,7 +249,7 @@ module _ (d : Parts) (page : List ℕ) (flash : Flash) where
   with_page = record d { reclaim = record d.reclaim { page = page } }
 
   with_again : (shape : Shape) (top : ℕ × Root) (found : Found) (without m : Map) → DriveOnFlashWith d shape flash top found without m
-      → ReclaimOnFlash shape (record d.reclaim { page = page }) d.space.live d.pool flash (places found d.log.pending) → DriveOnFlashWith with_page shape flash top found without m
+      → ReclaimOnFlash shape (record d.reclaim { page = page }) d.values.live d.pool flash (places found d.log.pending) → DriveOnFlashWith with_page shape flash top found without m
   with_again shape top found without m with reclaim = record {
     shape_is = with.shape_is;
     is_flash = with.is_flash;
@@ -263,7 +263,7 @@ module _ (d : Parts) (page : List ℕ) (flash : Flash) where
     keys_are = with.keys_are;
   }
 
-pub cannot_read : (d : Parts) (x' : Space) (old new : BoardState) → MayReclaim d old → steps.Unread (space_of d) old x' new → CannotRead d (over_space d x') old new
+pub cannot_read : (d : Parts) (x' : ReclaimParts) (old new : BoardState) → MayReclaim d old → steps.Unread (space_of d) old x' new → CannotRead d (over_space d x') old new
 cannot_read d x' old new may u =
     let page : List ℕ = x'.job.page in
     let pages : new.pages ≡ old.pages = ap (λ (b : BoardState). b.pages) u.only in
@@ -272,10 +272,10 @@ cannot_read d x' old new may u =
       rest = is;
       stands = λ shape m was.
           let again = u.again was.top was.found m (may_for d old shape m may was) in
-          let X : Space → Flash → Type 0 = λ x f. spaces.MayReclaim x f was.top was.found m in
+          let X : ReclaimParts → Flash → Type 0 = λ x f. spaces.MayReclaim x f was.top was.found m in
           let here : X (record (space_of d) { job = record d.reclaim { page = page } }) old.pages = subst
           (λ f. X (record (space_of d) { job = record d.reclaim { page = page } }) f) pages (subst (λ x. X x new.pages) u.rest again) in
-          let R : Shape → List Entry → Type 0 = λ t p. ReclaimOnFlash t (record d.reclaim { page = page }) d.space.live d.pool old.pages (places was.found p) in
+          let R : Shape → List Entry → Type 0 = λ t p. ReclaimOnFlash t (record d.reclaim { page = page }) d.values.live d.pool old.pages (places was.found p) in
           let reclaim : R shape d.log.pending = subst (λ p. R shape p) (sym may.none_pending) (subst (λ t. R t []) was.with.shape_is here.stands.reclaim) in
           subst (λ e. StandsFor e shape old.pages m) (sym is)
           (record {
@@ -292,7 +292,7 @@ cannot_read d x' old new may u =
 
 -- ---- by the fault
 
-pub fails_if : (d : Parts) (x' : Space) (old new : BoardState) → MayReclaim d old → (result : Result Reclaimed Fault) → (result ≡ Err Reading → steps.Unread (space_of d) old x' new)
+pub fails_if : (d : Parts) (x' : ReclaimParts) (old new : BoardState) → MayReclaim d old → (result : Result Reclaimed Fault) → (result ≡ Err Reading → steps.Unread (space_of d) old x' new)
     → (result ≡ Err Stopped → steps.ReclaimBroken (space_of d) old new × Stops old new) → IfErr result (λ e. FailsReclaim d (over_space d x') old new e)
 fails_if d x' old new may (Ok r) unread broken = tt
 fails_if d x' old new may (Err Reading) unread broken = cannot_read d x' old new may (unread refl)

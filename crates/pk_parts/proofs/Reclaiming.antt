@@ -13,10 +13,10 @@ use Rattle.pk_pool.proofs.Fitting.{block_of}
 use Rattle.pk_live.specs.Values.{Values, IsClosed}
 use Rattle.pk_model.specs.Laws.{IsPageOf}
 use Rattle.pk_live.specs.declared.open_block.OpenBlock.{OpenBlock}
-use Rattle.pk_data.specs.declared.span.Span.{Span}
-use Rattle.pk_data.specs.State.{DataState}
-use Rattle.pk_data.specs.Placed.{HoldsValues, IsNotOpen, IsOpenIn, ValuesOnFlash, without}
-use Rattle.pk_data.specs.Entries.{IsInOpen, heads_without}
+use Rattle.pk_values.specs.declared.span.Span.{Span}
+use Rattle.pk_values.specs.State.{ValuesState}
+use Rattle.pk_values.specs.Placed.{HoldsValues, IsNotOpen, IsOpenIn, ValuesOnFlash, without}
+use Rattle.pk_values.specs.Entries.{IsInOpen, heads_without}
 use Rattle.pk_gc.specs.declared.course.Course.{Course}
 use Rattle.pk_gc.specs.declared.course.Phase.{Phase}
 use Rattle.pk_gc.specs.declared.course.Phase.TheVariants.{Idle, Copies, Commits, GivesBack}
@@ -67,7 +67,7 @@ abbrev pub SameButOpen : Shape → Blocks → Option OpenBlock → Flash → Fla
 SameButOpen shape pool taking old new = (k : ℕ) → HoldsValues pool (k / shape.block_pages) → IsNotOpen taking (k / shape.block_pages) → page_at new k ≡ page_at old k
 
 -- the victim and the output are such blocks
-of_copy : (shape : Shape) (c : Course) (d : DataState) (pool : Blocks) (flash : Flash) (es : List (Key × Place)) (b : ℕ)
+of_copy : (shape : Shape) (c : Course) (d : ValuesState) (pool : Blocks) (flash : Flash) (es : List (Key × Place)) (b : ℕ)
     → IsClosed d.live c.victim → ValuesOnFlash shape d pool (c.output ∷ []) flash es
     → (b ≡ c.victim) ⊎ (b ≡ c.output) → HoldsValues pool b × IsNotOpen d.open_block b
 of_copy shape c d pool flash es b closed placed (inl is) =
@@ -76,7 +76,7 @@ of_copy shape c d pool flash es b closed placed (inl is) =
 of_copy shape c d pool flash es b closed placed (inr is) =
     subst (λ x. HoldsValues pool x × IsNotOpen d.open_block x) (sym is) (placed.outputs_are.owned c.output (inl refl), placed.outputs_are.not_open c.output (inl refl))
 
-stands_elsewhere : (p : Phase) (shape : Shape) (job : JobState) (d : DataState) (pool : Blocks) (old new : Flash) (es : List (Key × Place)) → ReclaimStands p shape job d.live old es
+stands_elsewhere : (p : Phase) (shape : Shape) (job : JobState) (d : ValuesState) (pool : Blocks) (old new : Flash) (es : List (Key × Place)) → ReclaimStands p shape job d.live old es
     → ValuesOnFlash shape d pool (held_blocks p) old es → SameButOpen shape pool d.open_block old new → ReclaimStands p shape job d.live new es
 stands_elsewhere Idle shape job d pool old new es was placed same = tt
 stands_elsewhere (Copies c) shape job d pool old new es was placed same = record {
@@ -87,7 +87,7 @@ stands_elsewhere (Copies c) shape job d pool old new es was placed same = record
 stands_elsewhere (Commits victim) shape job d pool old new es was placed same = tt
 stands_elsewhere (GivesBack victim) shape job d pool old new es was placed same = tt
 
-pub reclaim_elsewhere : (shape : Shape) (job : JobState) (d : DataState) (pool pool' : Blocks) (old new : Flash) (es : List (Key × Place)) → ReclaimOnFlash shape job d.live pool old es
+pub reclaim_elsewhere : (shape : Shape) (job : JobState) (d : ValuesState) (pool pool' : Blocks) (old new : Flash) (es : List (Key × Place)) → ReclaimOnFlash shape job d.live pool old es
     → ValuesOnFlash shape d pool (held_blocks job.phase) old es → used_by for_values pool'.states ≡ used_by for_values pool.states → SameButOpen shape pool d.open_block old new
     → ReclaimOnFlash shape job d.live pool' new es
 reclaim_elsewhere shape job d pool pool' old new es was placed as_many same = record {
@@ -118,7 +118,7 @@ page_in_open : (shape : Shape) (pool : Blocks) (flash : Flash) (o : OpenBlock) (
     → (o.block * shape.block_pages ≤ page) × (page + count ≤ o.block * shape.block_pages + o.used) → page ≤ k → k < page + count → k / shape.block_pages ≡ o.block
 page_in_open shape pool flash o page count k is inside low high = let most = is.within in block_of shape.block_pages k o.block (omega (arith, inside.0, low)) (omega (arith, inside.1, high, most))
 
-pub not_of_open : (shape : Shape) (d : DataState) (pool : Blocks) (outputs : List ℕ) (flash : Flash) (es : List (Key × Place)) (page count k : ℕ)
+pub not_of_open : (shape : Shape) (d : ValuesState) (pool : Blocks) (outputs : List ℕ) (flash : Flash) (es : List (Key × Place)) (page count k : ℕ)
     → ValuesOnFlash shape d pool outputs flash es → IsInOpen shape d page count
     → page ≤ k → k < page + count → IsNotOpen d.open_block (k / shape.block_pages) → ⊥
 not_of_open shape d pool outputs flash es page count k placed = by d.open_block placed.open_is
@@ -129,7 +129,7 @@ not_of_open shape d pool outputs flash es page count k placed = by d.open_block 
     by None is inside low high other = inside
     by (Some o) is inside low high other = other (page_in_open shape pool flash o page count k is inside low high)
 
-stands_stored : (p : Phase) (shape : Shape) (job : JobState) (d : DataState) (pool : Blocks) (flash : Flash) (es : List (Key × Place)) (key : Key) (place : Place) (heads : List ℕ)
+stands_stored : (p : Phase) (shape : Shape) (job : JobState) (d : ValuesState) (pool : Blocks) (flash : Flash) (es : List (Key × Place)) (key : Key) (place : Place) (heads : List ℕ)
     → ReclaimStands p shape job d.live flash es
     → ValuesOnFlash shape d pool (held_blocks p) flash es → IsInOpen shape d place.page (charge shape place.len) → 0 < charge shape place.len
     → ((k : ℕ) → (k ≡ place.page → ⊥) → slice_index heads k ≤ slice_index d.live.heads k)
@@ -147,7 +147,7 @@ stands_stored (Copies c) shape job d pool flash es key place heads was placed in
 stands_stored (Commits victim) shape job d pool flash es key place heads was placed inside some fewer = tt
 stands_stored (GivesBack victim) shape job d pool flash es key place heads was placed inside some fewer = tt
 
-pub reclaim_stored : (shape : Shape) (job : JobState) (d : DataState) (pool : Blocks) (flash : Flash) (es : List (Key × Place)) (key : Key) (place : Place) (heads : List ℕ)
+pub reclaim_stored : (shape : Shape) (job : JobState) (d : ValuesState) (pool : Blocks) (flash : Flash) (es : List (Key × Place)) (key : Key) (place : Place) (heads : List ℕ)
     → ReclaimOnFlash shape job d.live pool flash es
     → ValuesOnFlash shape d pool (held_blocks job.phase) flash es → IsInOpen shape d place.page (charge shape place.len) → 0 < charge shape place.len
     → ((k : ℕ) → (k ≡ place.page → ⊥) → slice_index heads k ≤ slice_index d.live.heads k)

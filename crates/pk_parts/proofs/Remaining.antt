@@ -87,8 +87,8 @@ module _ (d : Parts) (x' : Index) (many : used_by for_values x'.pool.states ≡ 
   may_same active left = λ i. has_moves (due_same i) d.reclaim.phase && is_tight (shape i) (active i) (left i)
 
   -- the same amount of the reclaim remains
-  left_same : reclaim_left x'.log.shape d.space.live.heads (is_reclaim_due (with_index d x')) d.reclaim.phase ≡ reclaim_left d.log.shape d.space.live.heads (is_reclaim_due d) d.reclaim.phase
-  left_same = λ i. reclaim_left (shape i) d.space.live.heads (due_same i) d.reclaim.phase
+  left_same : reclaim_left x'.log.shape d.values.live.heads (is_reclaim_due (with_index d x')) d.reclaim.phase ≡ reclaim_left d.log.shape d.values.live.heads (is_reclaim_due d) d.reclaim.phase
+  left_same = λ i. reclaim_left (shape i) d.values.live.heads (due_same i) d.reclaim.phase
 
   pub merge_less : x'.schedule.freeze ≡ d.schedule.freeze → KeepsActive d.log x'.log → work d.log.shape (backlog_of_index x') < work d.log.shape (backlog_of_index (index_of d))
       → (sight_of (with_index d x')).work < (sight_of d).work

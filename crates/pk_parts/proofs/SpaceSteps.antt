@@ -297,8 +297,8 @@ module _ (count : ℕ) (b : Parts) (s0 : BoardState) (may : MaySpace count b s0)
 
   -- ---- the moves find no room
 
-  calls_left : (c : Course) → is_tight_for b ≡ true → left_at (Copies c) count b ≡ steps_left b.log.shape b.space.live.heads c + room_calls b.log.shape
-  calls_left c tight = ap (λ x. steps_left b.log.shape b.space.live.heads c + where_so x (room_calls b.log.shape)) tight
+  calls_left : (c : Course) → is_tight_for b ≡ true → left_at (Copies c) count b ≡ steps_left b.log.shape b.values.live.heads c + room_calls b.log.shape
+  calls_left c tight = ap (λ x. steps_left b.log.shape b.values.live.heads c + where_so x (room_calls b.log.shape)) tight
 
   pub waits_number : (c : Parts) (s1 : BoardState) → Waits b c s0 s1 → roots s1 + room_calls c.log.shape < 18446744073709551615
   waits_number c s1 waits =
@@ -318,8 +318,8 @@ module _ (count : ℕ) (b : Parts) (s0 : BoardState) (may : MaySpace count b s0)
         let there : d.reclaim.phase ≡ Copies course = ap (λ (x : Parts). x.reclaim.phase) leaves.rest ∙ copies in
         let before : space_left count b ≡ left_at (Copies course) count b = ap (λ p. left_at p count b) copies in
         let after : space_left count d ≡ left_at (Copies course) count d = ap (λ p. left_at p count d) there in
-        let steps : steps_left d.log.shape d.space.live.heads course ≡ steps_left b.log.shape b.space.live.heads course = λ i. steps_left
-        (leaves.same_shape i) (ap (λ (x : Parts). x.space.live.heads) leaves.rest i) course in
+        let steps : steps_left d.log.shape d.values.live.heads course ≡ steps_left b.log.shape b.values.live.heads course = λ i. steps_left
+        (leaves.same_shape i) (ap (λ (x : Parts). x.values.live.heads) leaves.rest i) course in
         let none : where_so (true && is_tight_for d) (room_calls d.log.shape) ≡ 0 = ap (λ x. where_so x (room_calls d.log.shape)) wide in
         let calls = calls_left course tight in
         omega (arith, before, after, steps, none, calls)

@@ -14,7 +14,7 @@ use Rattle.pk_gc.specs.declared.course.Phase.TheVariants.{Idle, Copies, Commits,
 use Rattle.pk_gc.specs.State.{left_in}
 use Rattle.pk_gc.specs.Stepping.{runs_in}
 use Rattle.pk_log.specs.State.{LogState}
-use Rattle.pk_data.specs.State.{fits_open, needs_reclaim}
+use Rattle.pk_values.specs.State.{fits_open, needs_reclaim}
 use Rattle.pk_parts.specs.Parts.{Parts}
 use Rattle.pk_reclaim.specs.Space.{HasRoom as HasSpace}
 use Rattle.pk_reclaim.specs.Steps.{RoomBehind}
@@ -35,7 +35,7 @@ roots_at p count d = where_so (has_moves p count d && is_tight_for d) room_roots
 -- from one point to a later one less remains
 abbrev pub FallsTo : Phase → Parts → Phase → Parts → Type 0
 FallsTo p b q c =
-    Lowers (left_of (whole_reclaim b.log.shape - 2) (left_in b.log.shape b.space.live.heads p)) (unready b.pool.states) (unwrap_or (left_in c.log.shape c.space.live.heads q) 0) (unready c.pool.states)
+    Lowers (left_of (whole_reclaim b.log.shape - 2) (left_in b.log.shape b.values.live.heads p)) (unready b.pool.states) (unwrap_or (left_in c.log.shape c.values.live.heads q) 0) (unready c.pool.states)
 
 -- a reclaim runs, or is to run
 abbrev pub AwaitsAt : Phase → ℕ → Parts → Type 0
@@ -46,7 +46,7 @@ tight_same b c same = ap (λ (l : LogState). is_tight_for (record b { log = l })
 
 module _ (count : ℕ) (b c : Parts) (same_shape : c.log.shape ≡ b.log.shape) (most : count ≤ most_pages b.log.shape) where
   has_room : HasSpace (space_of c) → needs count c ≡ false
-  has_room space = space count (subst (λ (s : Shape). count ≤ most_pages s) (sym same_shape) most)
+  has_room values = values count (subst (λ (s : Shape). count ≤ most_pages s) (sym same_shape) most)
 
   -- ---- a step of a reclaim that runs on
 
@@ -144,9 +144,9 @@ module _ (count : ℕ) (b c : Parts) (same_shape : c.log.shape ≡ b.log.shape) 
       → used_by Values c.pool.states + 1 ≡ used_by Values b.pool.states → RoomBehind (GivesBack victim) (space_of b) (space_of c) → needs count c ≡ needs count b
   needs_same victim full given from =
       let all = full refl in
-      let before : needs count b ≡ not (fits_open b.log.shape b.space count) = full_needs (used_by Values b.pool.states) (fits_open b.log.shape b.space count) (omega (arith, all)) in
-      let after : needs_reclaim b.log.shape b.space c.pool count ≡ not (fits_open b.log.shape b.space count) = full_needs
-      (used_by Values c.pool.states) (fits_open b.log.shape b.space count) (omega (arith, all, given)) in
+      let before : needs count b ≡ not (fits_open b.log.shape b.values count) = full_needs (used_by Values b.pool.states) (fits_open b.log.shape b.values count) (omega (arith, all)) in
+      let after : needs_reclaim b.log.shape b.values c.pool count ≡ not (fits_open b.log.shape b.values count) = full_needs
+      (used_by Values c.pool.states) (fits_open b.log.shape b.values count) (omega (arith, all, given)) in
       (λ i. needs_reclaim (same_shape i) (from.1 i) c.pool count) ∙ (after ∙ sym before)
 
   pub ends_less : (p : Phase) → AwaitsAt p count b → (runs_in p ≡ true → used_by Values b.pool.states ≡ data_blocks b.log.shape) → used_by Values c.pool.states + 1 ≡ used_by Values b.pool.states

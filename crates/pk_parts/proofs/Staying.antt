@@ -15,8 +15,8 @@ use Rattle.pk_pool.specs.Taking.{ErasesOne, ErasesNone}
 use Rattle.pk_pool.proofs.Sharing.{count-set, used_adopted}
 use Rattle.pk_log.specs.State.{LogState, pushed}
 use Rattle.pk_log.specs.Commits.{CommitsNone, CommitsAll}
-use Rattle.pk_data.specs.State.{DataState, fits_open, more_used, with_written}
-use Rattle.pk_data.specs.Placed.{HoldsValues, IsOpenIn}
+use Rattle.pk_values.specs.State.{ValuesState, fits_open, more_used, with_written}
+use Rattle.pk_values.specs.Placed.{HoldsValues, IsOpenIn}
 use Rattle.pk_live.specs.declared.open_block.OpenBlock.{OpenBlock}
 use Rattle.pk_gc.specs.declared.course.Phase.{Phase}
 use Rattle.pk_gc.specs.declared.course.Phase.TheVariants.{Idle, Copies, Commits, GivesBack}
@@ -57,7 +57,7 @@ pub stays_then : (a b c : Parts) → Stays a b → Stays b c → Stays a c
 stays_then a b c first second = record { fresh = fresh_then a b c first.fresh second.fresh; blocks = blocks_then a b c first.blocks second.blocks }
 
 -- the open block has room in both, or in neither
-pub opens_behind : (a b c : Parts) (count : ℕ) → Stays a b → b.log.shape ≡ a.log.shape → b.space ≡ a.space → StaysOrOpens b c count → StaysOrOpens a c count
+pub opens_behind : (a b c : Parts) (count : ℕ) → Stays a b → b.log.shape ≡ a.log.shape → b.values ≡ a.values → StaysOrOpens b c count → StaysOrOpens a c count
 opens_behind a b c count first shapes spaces second = record {
   fresh = fresh_then a b c first.fresh second.fresh;
   blocks = elim second.blocks [
@@ -96,7 +96,7 @@ stays_then_ok (Ok x) a b c first second = stays_then a b c first second
 stays_then_ok (Err e) a b c first second = tt
 
 pub opens_behind_ok : {X E : Type 0} (r : Result X E) (a b c : Parts) (count : ℕ) → Stays a b
-    → b.log.shape ≡ a.log.shape → b.space ≡ a.space → OnOk r (StaysOrOpens b c count) → OnOk r (StaysOrOpens a c count)
+    → b.log.shape ≡ a.log.shape → b.values ≡ a.values → OnOk r (StaysOrOpens b c count) → OnOk r (StaysOrOpens a c count)
 opens_behind_ok (Ok x) a b c count first shapes spaces second = opens_behind a b c count first shapes spaces second
 opens_behind_ok (Err e) a b c count first shapes spaces second = tt
 
@@ -118,10 +118,10 @@ commit_stays_ok (Ok x) d log' old new made = commit_stays d log' old new made
 commit_stays_ok (Err e) d log' old new made = tt
 
 -- an entry is noted
-pub note_stays : (d : Parts) (e : Entry) (log' : LogState) (space' : DataState) (keys' : ℕ) → log' ≡ pushed d.log e
-    → space'.open_block ≡ d.space.open_block → Stays d (record d { log = log'; space = space'; keys = keys' })
+pub note_stays : (d : Parts) (e : Entry) (log' : LogState) (space' : ValuesState) (keys' : ℕ) → log' ≡ pushed d.log e
+    → space'.open_block ≡ d.values.open_block → Stays d (record d { log = log'; values = space'; keys = keys' })
 note_stays d e log' space' keys' is same =
-    let T : LogState → Type 0 = λ l. Stays d (record d { log = l; space = space'; keys = keys' }) in
+    let T : LogState → Type 0 = λ l. Stays d (record d { log = l; values = space'; keys = keys' }) in
     subst T (sym is) (record { fresh = record { stays = λ x. x; begun = inl refl }; blocks = record { used = refl; open_same = ap block_if_open same } })
 
 -- a step erases a spare block, or none
@@ -134,8 +134,8 @@ erase_stays d q old new (inr none) = stays_same d (record d { pool = q }) (ap (�
 
 -- ---- a value is placed
 
-written_block : (space : DataState) (count : ℕ) → block_if_open (with_written space count).open_block ≡ block_if_open space.open_block
-written_block space count = by space.open_block
+written_block : (values : ValuesState) (count : ℕ) → block_if_open (with_written values count).open_block ≡ block_if_open values.open_block
+written_block values count = by values.open_block
   where
     by : (o : Option OpenBlock) → block_if_open (more_used o count) ≡ block_if_open o
     by None = refl
@@ -161,15 +161,15 @@ held_few (Copies c) used all full some = let same = full refl in omega (arith, s
 held_few (Commits victim) used all full some = let same = full refl in omega (arith, same, some)
 held_few (GivesBack victim) used all full some = let same = full refl in omega (arith, same, some)
 
-pub place_stays : (d : Parts) (key : Key) (value : List ℕ) (old : BoardState) (page : ℕ) (space : DataState) (q : Blocks) (new : BoardState)
-    → PlacesValue d.log.shape key value d.space d.pool old page space q new
-    → (m : Map) × StandsFor d d.log.shape old.pages m → StaysOrOpens d (record d { space = space; pool = q }) (charge d.log.shape (length value))
-place_stays d key value old page space q new is stands = record {
+pub place_stays : (d : Parts) (key : Key) (value : List ℕ) (old : BoardState) (page : ℕ) (values : ValuesState) (q : Blocks) (new : BoardState)
+    → PlacesValue d.log.shape key value d.values d.pool old page values q new
+    → (m : Map) × StandsFor d d.log.shape old.pages m → StaysOrOpens d (record d { values = values; pool = q }) (charge d.log.shape (length value))
+place_stays d key value old page values q new is stands = record {
   fresh = record { stays = λ e. e; begun = inl refl };
   blocks = elim is.reserved.taken [
     | inl next ↦ inl (record {
       used = ap (λ (p : Blocks). used_by Values p.states - length (outputs_of d)) next.same_pool;
-      open_same = counted ∙ ap (λ (s : DataState). block_if_open s.open_block) next.kept;
+      open_same = counted ∙ ap (λ (s : ValuesState). block_if_open s.open_block) next.kept;
     })
     | inr opens ↦ inr (inl (record {
       no_room = opens.no_room;
@@ -178,19 +178,19 @@ place_stays d key value old page space q new is stands = record {
           ∙ used_adopted d.pool.shape d.pool.states opens.block Values opens.spare in
           let few = held_few d.reclaim.phase (used_by Values d.pool.states) (data_blocks d.log.shape) stands.1.with.reclaim.full (some_data d.log.shape stands.1.with.placed.is_shape) in
           omega (arith, more, few);
-      other = λ e. not_the_open d.log.shape d.pool old.pages d.space.open_block opens.block stands.1.with.placed.open_is opens.spare
-          (sym (counted ∙ ap (λ (s : DataState). block_if_open s.open_block) opens.opens) ∙ e);
+      other = λ e. not_the_open d.log.shape d.pool old.pages d.values.open_block opens.block stands.1.with.placed.open_is opens.spare
+          (sym (counted ∙ ap (λ (s : ValuesState). block_if_open s.open_block) opens.opens) ∙ e);
     }))
   ];
 }
   where
-    counted : block_if_open space.open_block ≡ block_if_open is.space.open_block
-    counted = ap (λ (s : DataState). block_if_open s.open_block) is.counted ∙ written_block is.space (charge d.log.shape (length value))
+    counted : block_if_open values.open_block ≡ block_if_open is.values.open_block
+    counted = ap (λ (s : ValuesState). block_if_open s.open_block) is.counted ∙ written_block is.values (charge d.log.shape (length value))
 
 -- ---- the same of a drive that is another name for it, or of a count
 
 pub opens_put : {X E : Type 0} (r : Result X E) (a b c : Parts) (size : ℕ) → Stays a b → b.log.shape ≡ a.log.shape
-    → b.space ≡ a.space → OnOk r (StaysOrOpens b c (charge b.log.shape size)) → OnOk r (StaysOrOpens a c (charge a.log.shape size))
+    → b.values ≡ a.values → OnOk r (StaysOrOpens b c (charge b.log.shape size)) → OnOk r (StaysOrOpens a c (charge a.log.shape size))
 opens_put r a b c size first shapes spaces second = opens_behind_ok r a b c (charge a.log.shape size) first shapes spaces (subst (λ s. OnOk r (StaysOrOpens b c (charge s size))) shapes second)
 
 pub step_stays : (d d' : Parts) (old new : BoardState) → ErasesOne d.pool old d'.pool new ⊎ ErasesNone d.pool old d'.pool new → d' ≡ record d { pool = d'.pool } → Stays d d'

@@ -123,7 +123,7 @@ module _ (a b : Parts) (n : ℕ) (s0 s1 : BoardState) (u : Unit {0}) (leaves : L
 
   -- a value that had room has it still
   pub still_room : (size : ℕ) → needs (charge a.log.shape size) a ≡ false → needs (charge b.log.shape size) b ≡ false
-  still_room size room = reclaim_same a b size false leaves.same_shape (ap (λ (d : Parts). d.space) leaves.rest) leaves.as_many room
+  still_room size room = reclaim_same a b size false leaves.same_shape (ap (λ (d : Parts). d.values) leaves.rest) leaves.as_many room
 
   pub can_take_after : (key : Key) (place : Place) → CanTake a s0 key place → CanTake b s1 key place
   can_take_after key place can =

@@ -39,9 +39,9 @@ where_few true n = omega arith
 where_few false n = omega arith
 
 steps_most : (p : Phase) (count : ℕ) (d : Parts) (flash : Flash) (es : List (Key × Place))
-    → ReclaimStands p d.log.shape d.reclaim d.space.live flash es → steps_for p count d ≤ whole_reclaim d.log.shape
+    → ReclaimStands p d.log.shape d.reclaim d.values.live flash es → steps_for p count d ≤ whole_reclaim d.log.shape
 steps_most Idle count d flash es stands = let few = where_few (needs count d) (whole_reclaim d.log.shape - 1) in omega (arith, few)
-steps_most (Copies c) count d flash es stands = let few = reclaim_within (Copies c) d.log.shape true d.reclaim d.space.live flash es stands in omega (arith, few)
+steps_most (Copies c) count d flash es stands = let few = reclaim_within (Copies c) d.log.shape true d.reclaim d.values.live flash es stands in omega (arith, few)
 steps_most (Commits victim) count d flash es stands = omega arith
 steps_most (GivesBack victim) count d flash es stands = let few = where_few (needs count d) (whole_reclaim d.log.shape - 1) in omega (arith, few)
 

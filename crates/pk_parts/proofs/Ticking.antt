@@ -42,10 +42,10 @@ use Rattle.pk_model.specs.Sight.{is_erased, has_open_room, IsIdle}
 use Rattle.pk_law_steps.specs.Under.{places}
 use Rattle.pk_law_steps.proofs.Untouched.{under_reads}
 use Rattle.pk_nand.proofs.Effects.{works_erase, stops_erase}
-use Rattle.pk_data.specs.State.{fits_open, has_left}
-use Rattle.pk_data.specs.Placed.{HoldsValues, ValuesOnFlash, IsOpenIn}
+use Rattle.pk_values.specs.State.{fits_open, has_left}
+use Rattle.pk_values.specs.Placed.{HoldsValues, ValuesOnFlash, IsOpenIn}
 use Rattle.pk_live.specs.declared.open_block.OpenBlock.{OpenBlock}
-use Rattle.pk_data.proofs.Unchanged.{block_elsewhere}
+use Rattle.pk_values.proofs.Unchanged.{block_elsewhere}
 use Rattle.pk_model.specs.Growth.{Grows, Reaches, Goes}
 use Rattle.pk_model.specs.Wear.{roots}
 use Rattle.pk_call.specs.Drive.{HoldsMap}
@@ -55,7 +55,7 @@ use Rattle.pk_model.specs.Crashes.{CrashFinds, background}
 use Rattle.pk_call.specs.declared.types.Ticked.{Ticked}
 use Rattle.pk_call.specs.declared.types.Ticked.TheVariants.{Worked, Idle, Fault}
 use Rattle.pk_model.proofs.Growing.{weaken, weaken_went}
-use Rattle.pk_data.specs.Laws.{SameValues}
+use Rattle.pk_values.specs.Laws.{SameValues}
 use Rattle.pk_gc.specs.Stepping.{runs_in}
 use Rattle.pk_parts.specs.Parts.{Parts, sight_of, counts_of, index_of, block_if_open, outputs_of, backlog_of, is_reclaim_due, reclaim_left, has_moves, may_freeze, is_half, settled_parts}
 use Rattle.pk_parts.specs.Agreeing.{DriveOnFlashWith, DriveOnFlash, IsWhole}
@@ -86,8 +86,8 @@ erase_lowers shape b left less =
 
 -- whether a reclaim is due follows from the shape and from the number of blocks with values
 pub due_so : (d : Parts) (shape : Shape) (used : ℕ) → shape ≡ d.log.shape → used ≡ used_by Values d.pool.states
-    → (used - length (outputs_of d) == data_blocks shape - 1) && not (fits_open shape d.space (most_pages shape)) ≡ is_reclaim_due d
-due_so d shape used same many = λ i. (many i - length (outputs_of d) == data_blocks (same i) - 1) && not (fits_open (same i) d.space (most_pages (same i)))
+    → (used - length (outputs_of d) == data_blocks shape - 1) && not (fits_open shape d.values (most_pages shape)) ≡ is_reclaim_due d
+due_so d shape used same many = λ i. (many i - length (outputs_of d) == data_blocks (same i) - 1) && not (fits_open (same i) d.values (most_pages (same i)))
 
 -- what remains of a merge does not depend on the pool
 merge_beside : (p : Phase) (x : Index) (q : Blocks) → merge_left p (record x { pool = q }) ≡ merge_left p x
@@ -169,7 +169,7 @@ module _ (d : Parts) (old new : BoardState) (a : DriveOnFlash d old.shape old.pa
       let w = own_whole d old a whole in
       let s = d.log.shape in
       let held = under_reads s f [] a.top a.found a.without
-      (still_without d d.space d.pool s old.pages f a.top a.found a.without a.all w (read_still s a.top.1 a.found d.log.pending Kept old.pages f is.1)) in
+      (still_without d d.values d.pool s old.pages f a.top a.found a.without a.all w (read_still s a.top.1 a.found d.log.pending Kept old.pages f is.1)) in
       let first = under_reads s old.pages [] a.top a.found a.without w.committed in
       let second = subst (λ p. reading s old.pages p ≡ Ok a.all) none (under_reads s old.pages d.log.pending a.top a.found a.all w.pending) in
       (is.0, held ∙ (sym first ∙ second))
@@ -199,10 +199,10 @@ module _ (d : Parts) (old new : BoardState) (a : DriveOnFlash d old.shape old.pa
     values_same : SameValues d.log.shape d.pool (outputs_of d) old.pages new.pages
     values_same k held no_output = all_same k held
 
-    placed : ValuesOnFlash d.log.shape d.space q (outputs_of d) new.pages (places a.found d.log.pending)
+    placed : ValuesOnFlash d.log.shape d.values q (outputs_of d) new.pages (places a.found d.log.pending)
     placed =
-        subst (λ p. ValuesOnFlash d.log.shape d.space p (outputs_of d) new.pages (places a.found d.log.pending)) (sym marked)
-        (block_elsewhere d.log.shape d.space d.pool (outputs_of d) block Free Ready old.pages new.pages (places a.found d.log.pending)
+        subst (λ p. ValuesOnFlash d.log.shape d.values p (outputs_of d) new.pages (places a.found d.log.pending)) (sym marked)
+        (block_elsewhere d.log.shape d.values d.pool (outputs_of d) block Free Ready old.pages new.pages (places a.found d.log.pending)
         (own_whole d old a whole).placed free refl refl values_same (subst (λ p. PoolOnFlash p new.pages) marked fits))
 
     journal_same : used_by Journal q.states ≡ used_by Journal d.pool.states
@@ -224,9 +224,9 @@ module _ (d : Parts) (old new : BoardState) (a : DriveOnFlash d old.shape old.pa
     agrees_now =
         let owners : KeepsOwners d.pool q = λ b o is. owned b (o, is) ∙ is in
         let its : q.shape ≡ d.log.shape = ap (λ p. p.shape) marked ∙ (own_whole d old a whole).placed.shape_is in
-        agrees_elsewhere d d.space q d.log.shape old.pages new.pages a.top a.found a.without a.all (own_whole d old a whole) same ready.flash owners
+        agrees_elsewhere d d.values q d.log.shape old.pages new.pages a.top a.found a.without a.all (own_whole d old a whole) same ready.flash owners
         (beside_still d d.log.shape old.pages a.top a.found a.without a.all (own_whole d old a whole) q new.pages owners its fits journal_same meta_same kept_same) placed
-        (reclaim_elsewhere d.log.shape d.reclaim d.space d.pool q old.pages new.pages (places a.found d.log.pending)
+        (reclaim_elsewhere d.log.shape d.reclaim d.values d.pool q old.pages new.pages (places a.found d.log.pending)
         (own_whole d old a whole).reclaim (own_whole d old a whole).placed values_many (λ k held not_open. all_same k held))
 
     less_left : unready q.states + 1 ≡ unready d.pool.states
@@ -240,7 +240,7 @@ module _ (d : Parts) (old new : BoardState) (a : DriveOnFlash d old.shape old.pa
         let due : is_reclaim_due (record d { pool = q }) ≡ is_reclaim_due d = due_so d d.log.shape (used_by Values q.states) refl values_many in
         let may : may_freeze (record d { pool = q }) ≡ may_freeze d = ap (λ b. has_moves b d.reclaim.phase && is_tight d.log.shape (length d.log.active.entries) (pages_left d.log.epoch)) due in
         let backlog : backlog_of (record d { pool = q }) ≡ record (backlog_of d) { unready = unready q.states } = λ i.
-        record (backlog_of d) { merge = merge i; reclaim = reclaim_left d.log.shape d.space.live.heads (due i) d.reclaim.phase; may_freeze = may i; unready = unready q.states } in
+        record (backlog_of d) { merge = merge i; reclaim = reclaim_left d.log.shape d.values.live.heads (due i) d.reclaim.phase; may_freeze = may i; unready = unready q.states } in
         let same = ap (work d.log.shape) backlog in
         let less = erase_lowers d.log.shape (backlog_of d) (unready q.states) (omega (arith, less_left)) in
         omega (arith, same, less)
@@ -268,7 +268,7 @@ module _ (d : Parts) (old new : BoardState) (a : DriveOnFlash d old.shape old.pa
                 shape_is = ready.shape_is;
                 frames_is = refl;
                 map_is = under_reads d.log.shape new.pages d.log.pending a.top a.found a.all
-                    (still_all d d.space d.pool d.log.shape old.pages new.pages a.top a.found a.without a.all (own_whole d old a whole) same);
+                    (still_all d d.values d.pool d.log.shape old.pages new.pages a.top a.found a.without a.all (own_whole d old a whole) same);
               });
           cuts = λ _. for_its_map d old a (λ s f m. Reaches s old new (CrashFinds s background old.pages m))
               (reached.0, weaken reached.0 old new Still (CrashFinds d.log.shape background old.pages a.all) (cut_is none) reached.1, reached.2);
@@ -415,8 +415,8 @@ module _ (d : Parts) (old : BoardState) (a : DriveOnFlash d old.shape old.pages)
       let two = (shared_freed d.pool.shape d.pool.states shared).roots in
       omega (arith, all, split, journal, meta, size, two)
 
-  open_room : has_open_room d.log.shape old.pages (block_if_open d.space.open_block) ≡ fits_open d.log.shape d.space (most_pages d.log.shape)
-  open_room = room_is d.log.shape (freed d.pool) old.pages d.space.open_block with.placed.open_is
+  open_room : has_open_room d.log.shape old.pages (block_if_open d.values.open_block) ≡ fits_open d.log.shape d.values (most_pages d.log.shape)
+  open_room = room_is d.log.shape (freed d.pool) old.pages d.values.open_block with.placed.open_is
 
   -- every block without an owner is erased if no step remains
   none_unready : HasNoStep d → 2 + length (named a.top.1) + used_by Values d.pool.states + count_by is_ready d.pool.states ≡ d.log.shape.blocks
@@ -435,7 +435,7 @@ module _ (d : Parts) (old : BoardState) (a : DriveOnFlash d old.shape old.pages)
   blocks_are rests = ap (λ (os : List ℕ). used_by Values d.pool.states - length os) (holds_none d.reclaim.phase rests) ∙ omega arith
 
   -- one is due by what is seen of the drive
-  due_is : ((counts_of d).blocks == data_blocks d.log.shape - 1) && not (has_open_room d.log.shape old.pages (block_if_open d.space.open_block)) ≡ is_reclaim_due d
+  due_is : ((counts_of d).blocks == data_blocks d.log.shape - 1) && not (has_open_room d.log.shape old.pages (block_if_open d.values.open_block)) ≡ is_reclaim_due d
   due_is = ap (λ b. ((counts_of d).blocks == data_blocks d.log.shape - 1) && not b) open_room
 
   all_unready : HasNoStep d → runs_in d.reclaim.phase ≡ false → 2 + length (named a.top.1) + (counts_of d).blocks + count_by is_ready d.pool.states ≡ d.log.shape.blocks

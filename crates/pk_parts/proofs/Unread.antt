@@ -16,8 +16,8 @@ use Rattle.pk_model.specs.Laws.{IsRead}
 use Rattle.pk_model.proofs.SamePages.{newest_root_same}
 use Rattle.pk_law_steps.specs.Under.{IsUnder, places}
 use Rattle.pk_law_steps.proofs.Untouched.{same as read_same}
-use Rattle.pk_data.specs.State.{DataState}
-use Rattle.pk_data.specs.Placed.{ValuesOnFlash}
+use Rattle.pk_values.specs.State.{ValuesState}
+use Rattle.pk_values.specs.Placed.{ValuesOnFlash}
 use Rattle.pk_gc.specs.Standing.{ReclaimOnFlash}
 use Rattle.pk_parts.specs.Parts.{Parts, frames_of, index_of, outputs_of}
 use Rattle.pk_schedule.proofs.Keeping.{IsBeside, index_elsewhere}
@@ -42,7 +42,7 @@ KeepsOwners p q = (b : ℕ) (o : Owner) → slice_get p.states b ≡ Some (Owned
 
 -- ---- the whole
 
-module _ (d : Parts) (space : DataState) (pool : Blocks) (shape : Shape) (old new : Flash) (top : ℕ × Root) (found : Found) (without all : Map)
+module _ (d : Parts) (values : ValuesState) (pool : Blocks) (shape : Shape) (old new : Flash) (top : ℕ × Root) (found : Found) (without all : Map)
     (with : DriveOnFlashWith d shape old top found without all) (same : SameRead shape top.1 found d.log.pending old new) where
   is_shape : IsShape shape
   is_shape = subst IsShape with.shape_is with.index.logs.is_shape
@@ -53,9 +53,9 @@ module _ (d : Parts) (space : DataState) (pool : Blocks) (shape : Shape) (old ne
   pub still_all : IsUnder shape new d.log.pending top found all
   still_all = read_same shape old new d.log.pending top found all is_shape with.pending (λ k is. same k (inr is))
 
-  pub agrees_elsewhere : IsFlash shape new → KeepsOwners d.pool pool → IsBeside d.pool old pool new → ValuesOnFlash shape space pool (outputs_of d) new (places found d.log.pending)
-      → ReclaimOnFlash shape d.reclaim space.live pool new (places found d.log.pending)
-      → DriveOnFlashWith (record d { space = space; pool = pool }) shape new top found without all
+  pub agrees_elsewhere : IsFlash shape new → KeepsOwners d.pool pool → IsBeside d.pool old pool new → ValuesOnFlash shape values pool (outputs_of d) new (places found d.log.pending)
+      → ReclaimOnFlash shape d.reclaim values.live pool new (places found d.log.pending)
+      → DriveOnFlashWith (record d { values = values; pool = pool }) shape new top found without all
   agrees_elsewhere is_flash owners beside placed reclaim = record {
     shape_is = with.shape_is;
     is_flash = is_flash;

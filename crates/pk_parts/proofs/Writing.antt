@@ -42,9 +42,9 @@ use Rattle.pk_nand.proofs.Leaving.{page_at-slice_set}
 use Rattle.pk_seg.specs.Stored.{written}
 use Rattle.pk_live.specs.Values.{Values as LiveValues}
 use Rattle.pk_live.specs.declared.open_block.OpenBlock.{OpenBlock}
-use Rattle.pk_data.specs.State.{DataState, fits_open, needs_reclaim, more_used}
-use Rattle.pk_data.specs.Placed.{HoldsValues, IsNotOpen}
-use Rattle.pk_data.specs.Reserving.{TakesNext}
+use Rattle.pk_values.specs.State.{ValuesState, fits_open, needs_reclaim, more_used}
+use Rattle.pk_values.specs.Placed.{HoldsValues, IsNotOpen}
+use Rattle.pk_values.specs.Reserving.{TakesNext}
 use Rattle.pk_gc.specs.Standing.{ReclaimOnFlash}
 use Rattle.pk_parts.specs.Parts.{Parts, outputs_of}
 use Rattle.pk_parts.specs.Agreeing.{DriveOnFlashWith, IsWhole}
@@ -208,7 +208,7 @@ module _ (d : Parts) (shape : Shape) (old : Flash) (top : ℕ × Root) (found : 
 
 -- ---- a block is taken, or none
 
-module _ (d : Parts) (page count : ℕ) (space : DataState) (q : Blocks) (old new : BoardState) (reserved : Reserves d.log.shape d.space d.pool old page count space q new) where
+module _ (d : Parts) (page count : ℕ) (values : ValuesState) (q : Blocks) (old new : BoardState) (reserved : Reserves d.log.shape d.values d.pool old page count values q new) where
   pub owners_reserved : KeepsOwners d.pool q
   owners_reserved = elim reserved.taken [
     | inl next ↦ subst (λ (r : Blocks). KeepsOwners d.pool r) (sym next.same_pool) (λ b o is. is)
@@ -298,16 +298,16 @@ pub still_commits : (d : Parts) (shape : Shape) (old : Flash) (top : ℕ × Root
     → (f : Flash) (q : List ℕ) → StillCut shape top.1 found d.log.pending (IsIndexed d.pool shape) old f q → CrashFinds shape commit old all f q
 still_commits d shape old top found without all with f q is = (
   is.0,
-  inl (under_reads shape f [] top found without (still_without d d.space d.pool shape old f top found without all with (λ k is_read. is.1 k (inl is_read)))
+  inl (under_reads shape f [] top found without (still_without d d.values d.pool shape old f top found without all with (λ k is_read. is.1 k (inl is_read)))
       ∙ sym (under_reads shape old [] top found without with.committed)),
 )
 
 -- ---- the value is written
 
 -- no block is opened if all of them are in use
-never_opens : (shape : Shape) (space : DataState) (pool : Blocks) (count : ℕ) → fits_open shape space count ≡ false
-    → needs_reclaim shape space pool count ≡ false → used_by Values pool.states ≡ data_blocks shape → ⊥
-never_opens shape space pool count none room full =
+never_opens : (shape : Shape) (values : ValuesState) (pool : Blocks) (count : ℕ) → fits_open shape values count ≡ false
+    → needs_reclaim shape values pool count ≡ false → used_by Values pool.states ≡ data_blocks shape → ⊥
+never_opens shape values pool count none room full =
     let few : nat_le (data_blocks shape - 1) (used_by Values pool.states) ≡ false = ap (λ b. not b && nat_le (data_blocks shape - 1) (used_by Values pool.states)) (sym none) ∙ room in
     true_false (sym (le-leb (data_blocks shape - 1) (used_by Values pool.states) (omega (arith, full))) ∙ few)
   where
@@ -327,28 +327,28 @@ written_outside shape key page value (suc n) old k out =
     page_at-slice_set (written shape key page value n old).pages (page + n) k (whole (page_of shape key value n)) (λ e. out (omega (arith, e)) (omega (arith, e)))
     ∙ written_outside shape key page value n old k (λ low high. out low (omega (arith, high)))
 
-module _ (d : Parts) (key : Key) (value : List ℕ) (old : BoardState) (page : ℕ) (space : DataState) (q : Blocks) (new : BoardState)
-    (is : PlacesValue d.log.shape key value d.space d.pool old page space q new) (ready : IsReady old d.log.shape) (ready_new : IsReady new d.log.shape)
-    (room : needs_reclaim d.log.shape d.space d.pool (charge d.log.shape (length value)) ≡ false) where
+module _ (d : Parts) (key : Key) (value : List ℕ) (old : BoardState) (page : ℕ) (values : ValuesState) (q : Blocks) (new : BoardState)
+    (is : PlacesValue d.log.shape key value d.values d.pool old page values q new) (ready : IsReady old d.log.shape) (ready_new : IsReady new d.log.shape)
+    (room : needs_reclaim d.log.shape d.values d.pool (charge d.log.shape (length value)) ≡ false) where
   abbrev pub shape : Shape
   shape = d.log.shape
 
   abbrev pub after : Parts
-  after = record d { space = space; pool = q }
+  after = record d { values = values; pool = q }
 
   pub works_placed : Works old new
-  works_placed = works_then old is.between new (works_reserved d page (charge shape (length value)) is.space q old is.between is.reserved)
+  works_placed = works_then old is.between new (works_reserved d page (charge shape (length value)) is.values q old is.between is.reserved)
       (subst (λ (b : BoardState). Works is.between b) (sym is.writes) (works_written shape key page value (charge shape (length value)) is.between))
 
   module _ (top : ℕ × Root) (found : Found) (without all : Map) (with : DriveOnFlashWith d shape old.pages top found without all) where
     pub placed_reaches : Reaches shape old new (StillCut shape top.1 found d.log.pending (IsIndexed d.pool shape) old.pages)
     placed_reaches =
         let count : ℕ = charge shape (length value) in
-        let before = reserve_reaches d page count is.space q old is.between is.reserved ready top found without all with in
+        let before = reserve_reaches d page count is.values q old is.between is.reserved ready top found without all with in
         let so_far = still_end shape top.1 found d.log.pending (IsIndexed d.pool shape) old.pages old is.between before in
-        let unread = pages_unread d page count is.space q old is.between is.reserved ready top found without all with in
+        let unread = pages_unread d page count is.values q old is.between is.reserved ready top found without all with in
         let more = still_written shape top.1 found d.log.pending (IsIndexed d.pool shape) old.pages is.between is.reserved.ready.shape_is so_far key page value
-        (even_page d page count is.space q old is.between is.reserved with.index.logs.is_shape) unread count (omega arith) in
+        (even_page d page count is.values q old is.between is.reserved with.index.logs.is_shape) unread count (omega arith) in
         still_then shape top.1 found d.log.pending (IsIndexed d.pool shape) old.pages old is.between new ready.shape_is before
         (subst (λ (b : BoardState). Reaches shape is.between b (StillCut shape top.1 found d.log.pending (IsIndexed d.pool shape) old.pages)) (sym is.writes) more)
 
@@ -356,40 +356,40 @@ module _ (d : Parts) (key : Key) (value : List ℕ) (old : BoardState) (page : �
     same_placed = still_end shape top.1 found d.log.pending (IsIndexed d.pool shape) old.pages old new placed_reaches
 
     -- a reclaim that runs leaves no room but that of the open block, where the value goes; the same values are live
-    placed_reclaims : ReclaimOnFlash shape d.reclaim space.live q new.pages (places found d.log.pending)
+    placed_reclaims : ReclaimOnFlash shape d.reclaim values.live q new.pages (places found d.log.pending)
     placed_reclaims = elim (runs_or_rests d.reclaim.phase) [
-      | inr rests ↦ reclaim_rests shape d.reclaim space.live q new.pages (places found d.log.pending) with.reclaim.shape_is rests
+      | inr rests ↦ reclaim_rests shape d.reclaim values.live q new.pages (places found d.log.pending) with.reclaim.shape_is rests
       | inl runs ↦ elim is.reserved.taken [
-        | inr opens ↦ absurd (never_opens shape d.space d.pool (charge shape (length value)) opens.no_room room (with.reclaim.full runs))
+        | inr opens ↦ absurd (never_opens shape d.values d.pool (charge shape (length value)) opens.no_room room (with.reclaim.full runs))
         | inl next ↦
             let T : LiveValues → Blocks → Type 0 = λ l p. ReclaimOnFlash shape d.reclaim l p new.pages (places found d.log.pending) in
-            let live : space.live ≡ d.space.live = ap (λ (x : DataState). x.live) is.counted ∙ ap (λ (x : DataState). x.live) next.kept in
-            let now : T d.space.live d.pool =
-            reclaim_elsewhere shape d.reclaim d.space d.pool d.pool old.pages new.pages (places found d.log.pending) with.reclaim with.placed refl (written_in_open next) in
-            subst (λ (l : LiveValues). T l q) (sym live) (subst (λ (p : Blocks). T d.space.live p) (sym next.same_pool) now)
+            let live : values.live ≡ d.values.live = ap (λ (x : ValuesState). x.live) is.counted ∙ ap (λ (x : ValuesState). x.live) next.kept in
+            let now : T d.values.live d.pool =
+            reclaim_elsewhere shape d.reclaim d.values d.pool d.pool old.pages new.pages (places found d.log.pending) with.reclaim with.placed refl (written_in_open next) in
+            subst (λ (l : LiveValues). T l q) (sym live) (subst (λ (p : Blocks). T d.values.live p) (sym next.same_pool) now)
       ]
     ]
       where
-        written_in_open : TakesNext shape d.space d.pool old (charge shape (length value)) is.space q is.between → SameButOpen shape d.pool d.space.open_block old.pages new.pages
+        written_in_open : TakesNext shape d.values d.pool old (charge shape (length value)) is.values q is.between → SameButOpen shape d.pool d.values.open_block old.pages new.pages
         written_in_open next k held not_open =
             let count : ℕ = charge shape (length value) in
-            let values = is.placed (outputs_of d) (places found d.log.pending) with.placed in
-            let opens : space.open_block ≡ more_used d.space.open_block count = ap (λ (x : DataState). x.open_block) is.counted ∙ ap (λ (x : DataState). more_used x.open_block count) next.kept in
-            let other : IsNotOpen space.open_block (k / shape.block_pages) = subst (λ (o : Option OpenBlock). IsNotOpen o (k / shape.block_pages))
-            (sym opens) (still_open d.space.open_block count (k / shape.block_pages) not_open) in
+            let placed_still = is.placed (outputs_of d) (places found d.log.pending) with.placed in
+            let opens : values.open_block ≡ more_used d.values.open_block count = ap (λ (x : ValuesState). x.open_block) is.counted ∙ ap (λ (x : ValuesState). more_used x.open_block count) next.kept in
+            let other : IsNotOpen values.open_block (k / shape.block_pages) = subst (λ (o : Option OpenBlock). IsNotOpen o (k / shape.block_pages))
+            (sym opens) (still_open d.values.open_block count (k / shape.block_pages) not_open) in
             ap (λ (b : BoardState). page_at b.pages k) is.writes
             ∙ written_outside shape key page value count is.between k
-            (λ low high. not_of_open shape space q (outputs_of d) new.pages (places found d.log.pending) page count k values is.in_open low high other)
+            (λ low high. not_of_open shape values q (outputs_of d) new.pages (places found d.log.pending) page count k placed_still is.in_open low high other)
             ∙ ap (λ (b : BoardState). page_at b.pages k) next.same_board
 
     pub placed_agrees : DriveOnFlashWith after shape new.pages top found without all
     placed_agrees =
-        let values = is.placed (outputs_of d) (places found d.log.pending) with.placed in
-        let owners = owners_reserved d page (charge shape (length value)) is.space q old is.between is.reserved in
-        let beside = beside_still d shape old.pages top found without all with q new.pages owners values.shape_is values.fits
-        (journal_reserved d page (charge shape (length value)) is.space q old is.between is.reserved)
-        (meta_reserved d page (charge shape (length value)) is.space q old is.between is.reserved) same_placed in
-        agrees_elsewhere d space q shape old.pages new.pages top found without all with (λ k is. same_placed k (inl is)) ready_new.flash owners beside values placed_reclaims
+        let placed_still = is.placed (outputs_of d) (places found d.log.pending) with.placed in
+        let owners = owners_reserved d page (charge shape (length value)) is.values q old is.between is.reserved in
+        let beside = beside_still d shape old.pages top found without all with q new.pages owners placed_still.shape_is placed_still.fits
+        (journal_reserved d page (charge shape (length value)) is.values q old is.between is.reserved)
+        (meta_reserved d page (charge shape (length value)) is.values q old is.between is.reserved) same_placed in
+        agrees_elsewhere d values q shape old.pages new.pages top found without all with (λ k is. same_placed k (inl is)) ready_new.flash owners beside placed_still placed_reclaims
 
     pub placed_keeps : IsWhole d → Keeps d after shape all old new
     placed_keeps w = record {
@@ -398,7 +398,7 @@ module _ (d : Parts) (key : Key) (value : List ℕ) (old : BoardState) (page : �
         found = found;
         without = without;
         with = placed_agrees;
-        whole = whole_like d after refl (leaves_reserved d page (charge shape (length value)) is.space q old is.between is.reserved) refl refl w;
+        whole = whole_like d after refl (leaves_reserved d page (charge shape (length value)) is.values q old is.between is.reserved) refl refl w;
       };
       same_places = λ was. ap (λ (f : Found). places f d.log.pending) (found_once d d shape old.pages was.top top was.found found was.without all without all was.with with);
       still = (still_commits d shape old.pages top found without all with new.pages [] (refl, same_placed)).1;
@@ -416,28 +416,28 @@ module _ (d : Parts) (key : Key) (value : List ℕ) (old : BoardState) (page : �
 -- ---- a call that failed
 
 module _ (d : Parts) (key : Key) (value : List ℕ) (old new : BoardState) (shared : IsShared d.pool.shape d.pool.states) (ready : IsReady old d.log.shape) where
-  pub stops_placing : FailsToPlace d.log.shape key value d.space d.pool old new → Stops old new
+  pub stops_placing : FailsToPlace d.log.shape key value d.values d.pool old new → Stops old new
   stops_placing (inl erase) = stops_erase old new erase.block erase.failed
   stops_placing (inr write) =
-      stops_then old write.between new (works_reserved d write.page (charge d.log.shape (length value)) write.space write.pool old write.between write.reserved)
+      stops_then old write.between new (works_reserved d write.page (charge d.log.shape (length value)) write.values write.pool old write.between write.reserved)
       (stops_written d.log.shape key write.page value write.between new write.failed)
 
   module _ (top : ℕ × Root) (found : Found) (without all : Map) (with : DriveOnFlashWith d d.log.shape old.pages top found without all) where
-    pub placing_goes : FailsToPlace d.log.shape key value d.space d.pool old new → Goes d.log.shape old new (StillCut d.log.shape top.1 found d.log.pending (IsIndexed d.pool d.log.shape) old.pages)
+    pub placing_goes : FailsToPlace d.log.shape key value d.values d.pool old new → Goes d.log.shape old new (StillCut d.log.shape top.1 found d.log.pending (IsIndexed d.pool d.log.shape) old.pages)
     placing_goes (inl erase) =
         let spare : IsSpare d.pool erase.block = inl erase.lowest.here in
         still_erase_failed d.log.shape top.1 found d.log.pending (IsIndexed d.pool d.log.shape) old.pages old ready.shape_is (λ k is. refl) erase.block
         (spare_still d d.log.shape old.pages top found without all with erase.block spare (behind_roots d.pool.shape d.pool.states erase.block shared erase.lowest.here)) new erase.failed
     placing_goes (inr write) =
         let count : ℕ = charge d.log.shape (length value) in
-        let before = reserve_reaches d write.page count write.space write.pool old write.between write.reserved ready top found without all with in
+        let before = reserve_reaches d write.page count write.values write.pool old write.between write.reserved ready top found without all with in
         let so_far = still_end d.log.shape top.1 found d.log.pending (IsIndexed d.pool d.log.shape) old.pages old write.between before in
-        let unread = pages_unread d write.page count write.space write.pool old write.between write.reserved ready top found without all with in
+        let unread = pages_unread d write.page count write.values write.pool old write.between write.reserved ready top found without all with in
         still_goes d.log.shape top.1 found d.log.pending (IsIndexed d.pool d.log.shape) old.pages old write.between new ready.shape_is before
         (still_write_failed d.log.shape top.1 found d.log.pending (IsIndexed d.pool d.log.shape) old.pages write.between write.reserved.ready.shape_is so_far key write.page value
-        (even_page d write.page count write.space write.pool old write.between write.reserved with.index.logs.is_shape) unread new write.failed)
+        (even_page d write.page count write.values write.pool old write.between write.reserved with.index.logs.is_shape) unread new write.failed)
 
-  pub breaks_placing : FailsToPlace d.log.shape key value d.space d.pool old new → BreaksAll d old new
+  pub breaks_placing : FailsToPlace d.log.shape key value d.values d.pool old new → BreaksAll d old new
   breaks_placing failed = breaks_for d old new (λ m stands.
       let with = stands.with in
       let went = placing_goes stands.top stands.found stands.without m with failed in (
@@ -458,28 +458,28 @@ same_roots has_shape old new has has_new same =
 
 -- ---- where the value is
 
-pub value_written : (d : Parts) (key : Key) (value : List ℕ) (old : BoardState) (page : ℕ) (space : DataState) (q : Blocks) (new : BoardState)
-    → PlacesValue d.log.shape key value d.space d.pool old page space q new → IsReady old d.log.shape → IsReady new d.log.shape
-    → needs_reclaim d.log.shape d.space d.pool (charge d.log.shape (length value)) ≡ false
+pub value_written : (d : Parts) (key : Key) (value : List ℕ) (old : BoardState) (page : ℕ) (values : ValuesState) (q : Blocks) (new : BoardState)
+    → PlacesValue d.log.shape key value d.values d.pool old page values q new → IsReady old d.log.shape → IsReady new d.log.shape
+    → needs_reclaim d.log.shape d.values d.pool (charge d.log.shape (length value)) ≡ false
     → IsKey key → length value ≤ greatest d.log.shape → (m : Map) × StandsFor d d.log.shape old.pages m
-    → Step (λ (p : ℕ). IsPlaced d (record d { space = space; pool = q }) old new key value p) (BreaksAll d old new) d.log.shape 0 old new (Ok page)
-value_written d key value old page space q new is ready ready_new room is_key short stands =
+    → Step (λ (p : ℕ). IsPlaced d (record d { values = values; pool = q }) old new key value p) (BreaksAll d old new) d.log.shape 0 old new (Ok page)
+value_written d key value old page values q new is ready ready_new room is_key short stands =
     let shape : Shape = d.log.shape in
     let with = stands.1.with in
     let top = stands.1.top in
     let found = stands.1.found in
     let without = stands.1.without in
-    let after : Parts = record d { space = space; pool = q } in
-    let run = placed_reaches d key value old page space q new is ready ready_new room top found without stands.0 with in
+    let after : Parts = record d { values = values; pool = q } in
+    let run = placed_reaches d key value old page values q new is ready ready_new room top found without stands.0 with in
     let same = still_end shape top.1 found d.log.pending (IsIndexed d.pool shape) old.pages old new run in
-    let agrees = placed_agrees d key value old page space q new is ready ready_new room top found without stands.0 with in
+    let agrees = placed_agrees d key value old page values q new is ready ready_new room top found without stands.0 with in
     let count : ℕ = charge shape (length value) in
     let placed : IsPlaced d after old new key value page = record {
-      keeps = placed_keeps_all d key value old page space q new is ready ready_new room;
+      keeps = placed_keeps_all d key value old page values q new is ready ready_new room;
       found = λ shape' top' found' without' all' other.
           let same : d.log.shape ≡ shape' = other.shape_is in
           subst (λ (s : Shape). DriveOnFlashWith after s new.pages top' found' without' all') same
-          (placed_agrees d key value old page space q new is ready ready_new room top' found' without' all'
+          (placed_agrees d key value old page values q new is ready ready_new room top' found' without' all'
           (subst (λ (s : Shape). DriveOnFlashWith d s old.pages top' found' without' all') (sym same) other));
       written = record {
         there = value_again shape with.index.logs.is_shape key value is_key (page_at new.pages) page is.stored;
@@ -500,14 +500,14 @@ value_written d key value old page space q new is ready ready_new room is_key sh
     record {
       ended = placed;
       broken = tt;
-      works = works_placed d key value old page space q new is ready ready_new room;
+      works = works_placed d key value old page values q new is ready ready_new room;
       stops = tt;
       stopped = tt;
       ready = ready_new;
       roots_few = same_roots shape old new ready.shape_is ready_new.shape_is (same_top shape top.1 found d.log.pending old.pages new.pages (λ k is_read. same k (inl is_read)));
     }
 
-pub value_broken : (d behind : Parts) (key : Key) (value : List ℕ) (old new : BoardState) (e : Fault) → FailsToPlace d.log.shape key value d.space d.pool old new → e ≡ Stopped
+pub value_broken : (d behind : Parts) (key : Key) (value : List ℕ) (old new : BoardState) (e : Fault) → FailsToPlace d.log.shape key value d.values d.pool old new → e ≡ Stopped
     → IsShared d.pool.shape d.pool.states → IsReady old d.log.shape → IsReady new d.log.shape → (m : Map) × StandsFor d d.log.shape old.pages m
     → StepPlaces d behind old new key value (Err e)
 value_broken d behind key value old new e failed is_stopped shared ready ready_new stands =
@@ -526,12 +526,12 @@ value_broken d behind key value old new e failed is_stopped shared ready ready_n
     }
 
 -- by what the call answered
-pub place_step : (r : Result ℕ Fault) (d : Parts) (key : Key) (value : List ℕ) (old : BoardState) (space : DataState) (q : Blocks) (new : BoardState)
-    → IfOk r (λ page. PlacesValue d.log.shape key value d.space d.pool old page space q new) → OnErr r (FailsToPlace d.log.shape key value d.space d.pool old new) → IfErr r (λ e. e ≡ Stopped)
+pub place_step : (r : Result ℕ Fault) (d : Parts) (key : Key) (value : List ℕ) (old : BoardState) (values : ValuesState) (q : Blocks) (new : BoardState)
+    → IfOk r (λ page. PlacesValue d.log.shape key value d.values d.pool old page values q new) → OnErr r (FailsToPlace d.log.shape key value d.values d.pool old new) → IfErr r (λ e. e ≡ Stopped)
     → IsShared d.pool.shape d.pool.states → MayStep d old → IsReady new d.log.shape
-    → needs_reclaim d.log.shape d.space d.pool (charge d.log.shape (length value)) ≡ false → IsKey key → length value ≤ greatest d.log.shape
-    → StepPlaces d (record d { space = space; pool = q }) old new key value r
-place_step (Ok page) d key value old space q new places fails stopped shared may after room is_key short =
-    value_written d key value old page space q new places may.ready after room is_key short may.stands
-place_step (Err e) d key value old space q new places fails stopped shared may after room is_key short =
-    value_broken d (record d { space = space; pool = q }) key value old new e fails stopped shared may.ready after may.stands
+    → needs_reclaim d.log.shape d.values d.pool (charge d.log.shape (length value)) ≡ false → IsKey key → length value ≤ greatest d.log.shape
+    → StepPlaces d (record d { values = values; pool = q }) old new key value r
+place_step (Ok page) d key value old values q new places fails stopped shared may after room is_key short =
+    value_written d key value old page values q new places may.ready after room is_key short may.stands
+place_step (Err e) d key value old values q new places fails stopped shared may after room is_key short =
+    value_broken d (record d { values = values; pool = q }) key value old new e fails stopped shared may.ready after may.stands

@@ -6,11 +6,11 @@ use Rattle.pk_base.specs.Map.{Map}
 use Rattle.pk_rootfmt.specs.Root.{Root}
 use Rattle.pk_model.specs.Found.{Found}
 use Rattle.pk_law_steps.specs.Under.{IsUnder, IsValuePage, places}
-use Rattle.pk_data.specs.Placed.{HoldsValues, IsOutput, ValuesOnFlash}
+use Rattle.pk_values.specs.Placed.{HoldsValues, IsOutput, ValuesOnFlash}
 use Rattle.pk_gc.specs.declared.course.Phase.TheVariants.{Commits}
 use Rattle.pk_gc.specs.Standing.{ReclaimOnFlash}
 use Rattle.pk_schedule.specs.Index.{IndexOnFlash, IsSettled, HalfStands}
-use Rattle.pk_reclaim.specs.Space.{HalfMoves, space}
+use Rattle.pk_reclaim.specs.Space.{HalfMoves, reclaim_parts}
 use Rattle.pk_parts.specs.Parts.{Parts, frames_of, index_of, outputs_of, settled_parts, commits_in}
 
 -- The parts are those of what is under the newest root, next to a reclaim that holds these blocks for values: `without` is the map of the
@@ -22,11 +22,11 @@ pub record DriveOnFlashBeside (d : Parts) (outputs : List ℕ) (shape : Shape) (
   pub committed : IsUnder shape flash [] top found without
   pub pending : IsUnder shape flash d.log.pending top found all
   -- the values of the map with the pending entries, and where those without them are
-  pub placed : ValuesOnFlash shape d.space d.pool outputs flash (places found d.log.pending)
+  pub placed : ValuesOnFlash shape d.values d.pool outputs flash (places found d.log.pending)
   pub former : (k : ℕ) → IsValuePage shape (places found []) k → HoldsValues d.pool (k / shape.block_pages)
   pub former_read : (k : ℕ) → IsValuePage shape (places found []) k → IsOutput outputs (k / shape.block_pages) → ⊥
   -- the reclaim matches them
-  pub reclaim : ReclaimOnFlash shape d.reclaim d.space.live d.pool flash (places found d.log.pending)
+  pub reclaim : ReclaimOnFlash shape d.reclaim d.values.live d.pool flash (places found d.log.pending)
   pub keys_are : d.keys ≡ length (places found d.log.pending)
 
 -- the same next to what runs in the drive
@@ -53,7 +53,7 @@ pub record IsHalfCommit (d : Parts) (flash : Flash) (top : ℕ × Root) (found :
   pub settles : IsSettled (index_of d)
   pub victim : ℕ
   pub phase : d.reclaim.phase ≡ Commits victim
-  pub half : HalfMoves (space d.log d.space d.pool d.reclaim) flash top found m
+  pub half : HalfMoves (reclaim_parts d.log d.values d.pool d.reclaim) flash top found m
   pub none_pending : d.log.pending ≡ []
 
 -- at most one pair is half made

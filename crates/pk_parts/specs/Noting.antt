@@ -15,8 +15,8 @@ use Rattle.pk_law_steps.specs.Under.{places}
 use Rattle.pk_nand.specs.BoardState.{BoardState}
 use Rattle.pk_nand.specs.declared.types.Fault.{Fault}
 use Rattle.pk_model.specs.Steps.{Step}
-use Rattle.pk_data.specs.Placed.{HoldsValues}
-use Rattle.pk_data.specs.Entries.{IsInOpen}
+use Rattle.pk_values.specs.Placed.{HoldsValues}
+use Rattle.pk_values.specs.Entries.{IsInOpen}
 use Rattle.pk_parts.specs.Parts.{Parts}
 use Rattle.pk_parts.specs.Agreeing.{DriveOnFlashWith, IsWhole}
 use Rattle.pk_parts.specs.Moves.{KeepsAll, BreaksAll, IsWritten}
@@ -31,7 +31,7 @@ pub record Puts (d : Parts) (shape : Shape) (flash : Flash) (m : Map) (key : Key
   pub old_is : find key_cmp key (places found d.log.pending) ≡ old
   pub written : IsWritten d shape flash key value page
   pub place : IsPlace shape (record { page = page; len = length value })
-  pub in_open : IsInOpen shape d.space page (charge shape (length value))
+  pub in_open : IsInOpen shape d.values page (charge shape (length value))
   pub bytes : AreBytes key
   pub room : live shape (insert m key value) ≤ limit shape
 
@@ -62,7 +62,7 @@ pub record IsPlaced (before after : Parts) (old new : BoardState) (key : Key) (v
   pub written : IsWritten after before.log.shape new.pages key value page
   pub place : IsPlace before.log.shape (record { page = page; len = length value })
   pub owned : HoldsValues after.pool (page / before.log.shape.block_pages)
-  pub in_open : IsInOpen before.log.shape after.space page (charge before.log.shape (length value))
+  pub in_open : IsInOpen before.log.shape after.values page (charge before.log.shape (length value))
 
 -- a step that writes it
 abbrev pub StepPlaces : Parts → Parts → BoardState → BoardState → Key → List ℕ → Result ℕ Fault → Type 0

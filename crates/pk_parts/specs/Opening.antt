@@ -22,6 +22,6 @@ pub record OpenedOn (shape : Shape) (flash : Flash) (frames : ℕ) (d : Parts) :
   pub runs : d.stopped ≡ false
   pub none_pending : d.log.pending ≡ []
   pub takes_none : d.log.epoch.takes_more ≡ false
-  pub none_open : d.space.open_block ≡ None
+  pub none_open : d.values.open_block ≡ None
   pub blocks_are : (counts_of d).blocks ≡ live_blocks shape found []
   pub rests : runs_in d.reclaim.phase ≡ false

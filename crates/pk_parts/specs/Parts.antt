@@ -7,7 +7,7 @@ use Rattle.pk_pool.specs.Blocks.{Blocks, is_ready, used_by, freed}
 use Rattle.pk_level.specs.Levels.{Levels, run_of}
 use Rattle.pk_model.specs.Sight.{Sight, Counts}
 use Rattle.pk_log.specs.State.{LogState}
-use Rattle.pk_data.specs.State.{DataState, fits_open}
+use Rattle.pk_values.specs.State.{ValuesState, fits_open}
 use Rattle.pk_live.specs.declared.open_block.OpenBlock.{OpenBlock}
 use Rattle.pk_jrn.specs.Epochs.{left_of as pages_left}
 use Rattle.pk_law_work.specs.Backlog.{Backlog, is_tight}
@@ -31,7 +31,7 @@ pub record Parts : Type 0 where
   pub levels : Levels
   pub arena : Frames
   pub schedule : Schedule
-  pub space : DataState
+  pub values : ValuesState
   pub reclaim : JobState
   pub pool : Blocks
   pub keys : ℕ
@@ -82,7 +82,7 @@ outputs_of d = (held_of d).values
 -- the sixteen numbers of a Report
 abbrev pub counts_of : Parts → Counts
 counts_of d = record {
-  live = sum d.space.live.heads;
+  live = sum d.values.live.heads;
   limit = limit d.log.shape;
   keys = d.keys;
   pinned = d.levels.pinned;
@@ -114,7 +114,7 @@ block_if_open (Some o) = Some o.block
 -- As many blocks are in use as may be, in addition to the one that a reclaim holds, and the open one does not take every value: a reclaim
 -- is due, or will be.
 abbrev pub is_reclaim_due : Parts → Bool
-is_reclaim_due d = ((counts_of d).blocks == data_blocks d.log.shape - 1) && not (fits_open d.log.shape d.space (most_pages d.log.shape))
+is_reclaim_due d = ((counts_of d).blocks == data_blocks d.log.shape - 1) && not (fits_open d.log.shape d.values (most_pages d.log.shape))
 
 -- What remains of the reclaim that runs or is due. After the commit of its moves Stores may fill the open block, so that another one is
 -- due after it.
@@ -138,7 +138,7 @@ may_freeze d = has_moves (is_reclaim_due d) d.reclaim.phase && is_tight d.log.sh
 -- What remains of the index, with the reclaim. One that is due is known by what remains of it.
 abbrev pub backlog_of : Parts → Backlog
 backlog_of d = record (backlog_of_index (index_of d)) {
-  reclaim = reclaim_left d.log.shape d.space.live.heads (is_reclaim_due d) d.reclaim.phase;
+  reclaim = reclaim_left d.log.shape d.values.live.heads (is_reclaim_due d) d.reclaim.phase;
   may_freeze = may_freeze d;
 }
 
@@ -149,7 +149,7 @@ sight_of d = record {
   pending = d.log.pending;
   stopped = d.stopped;
   counts = counts_of d;
-  open_block = block_if_open d.space.open_block;
+  open_block = block_if_open d.values.open_block;
   reclaims = runs_in d.reclaim.phase;
   fresh = d.log.epoch.takes_more;
   half = is_half d;

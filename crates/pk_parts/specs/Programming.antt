@@ -4,7 +4,7 @@ use Rattle.pk_base.specs.Key.{Key}
 use Rattle.pk_nand.specs.BoardState.{BoardState}
 use Rattle.pk_nand.specs.Counts.{counted_by}
 use Rattle.pk_log.specs.State.{needs_freeze}
-use Rattle.pk_data.specs.State.{fits_open}
+use Rattle.pk_values.specs.State.{fits_open}
 use Rattle.pk_call.specs.Moving.{commits_for}
 use Rattle.pk_parts.specs.Parts.{Parts, sight_of}
 
@@ -15,7 +15,7 @@ pub record Programs (count : ℕ) (old new : BoardState) : Type 0 where
 
 -- If a value of n pages has room in the open block, it was written there, and a commit was made if the journal page is full.
 abbrev pub FillsQuietly : Parts → ℕ → BoardState → BoardState → Type 0
-FillsQuietly d count old new = fits_open d.log.shape d.space count ≡ true → Programs (count + commits_for d.log.shape (sight_of d)) old new
+FillsQuietly d count old new = fits_open d.log.shape d.values count ≡ true → Programs (count + commits_for d.log.shape (sight_of d)) old new
 
 -- so it was if the key needs no freeze
 abbrev pub PutsQuietly : Parts → Key → ℕ → BoardState → BoardState → Type 0

@@ -18,14 +18,14 @@ use Rattle.pk_gc.specs.declared.course.Phase.{Phase}
 use Rattle.pk_gc.specs.declared.course.Phase.TheVariants.{Idle, Copies, Commits, GivesBack}
 use Rattle.pk_gc.specs.declared.reclaimed.Reclaimed.{Reclaimed}
 use Rattle.pk_gc.specs.declared.reclaimed.Reclaimed.TheVariants.{Worked, NeedsFreeze, Ended}
-use Rattle.pk_reclaim.specs.Space.{Space, space, IsTurn, Falls, HasRoom as HasSpace}
+use Rattle.pk_reclaim.specs.Space.{ReclaimParts, reclaim_parts, IsTurn, Falls, HasRoom as HasSpace}
 use Rattle.pk_reclaim.specs.Steps.{RoomBehind}
 use Rattle.pk_parts.specs.Parts.{Parts}
 use Rattle.pk_parts.specs.Moves.{StandsFor, StandsBetween, MayStep}
 
 -- its log, its values, its blocks and its reclaim
-abbrev pub space_of : Parts → Space
-space_of d = space d.log d.space d.pool d.reclaim
+abbrev pub space_of : Parts → ReclaimParts
+space_of d = reclaim_parts d.log d.values d.pool d.reclaim
 
 -- What a step of a reclaim asks: nothing is pending, and a reclaim runs, or may begin.
 pub record MayReclaim (d : Parts) (board : BoardState) : Type 0 where
@@ -56,7 +56,7 @@ LeavesIndex before after =
     after
     ≡ record before {
       log = record before.log { active = record before.log.active { entries = after.log.active.entries }; epoch = record before.log.epoch { used = after.log.epoch.used; half = after.log.epoch.half } };
-      space = after.space;
+      values = after.values;
       reclaim = after.reclaim;
       pool = after.pool;
     }

@@ -15,7 +15,7 @@ use Rattle.pk_gc.specs.declared.course.Phase.{Phase}
 use Rattle.pk_gc.specs.declared.course.Phase.TheVariants.{Idle, Copies, Commits, GivesBack}
 use Rattle.pk_gc.specs.State.{steps_left}
 use Rattle.pk_gc.specs.Stepping.{runs_in}
-use Rattle.pk_data.specs.State.{needs_reclaim}
+use Rattle.pk_values.specs.State.{needs_reclaim}
 use Rattle.pk_parts.specs.Costs.{Spends}
 use Rattle.pk_parts.specs.Parts.{Parts, frames_of}
 use Rattle.pk_parts.specs.Moves.{StandsFor, MayStep, BreaksAll}
@@ -57,12 +57,12 @@ where_so false n = 0
 
 -- a value of n pages has no room without a reclaim
 abbrev pub needs : ℕ → Parts → Bool
-needs count d = needs_reclaim d.log.shape d.space d.pool count
+needs count d = needs_reclaim d.log.shape d.values d.pool count
 
 -- how many steps of reclaims remain at most until none runs and such a value has room; one that is to begin takes fewer than the whole
 abbrev pub steps_for : Phase → ℕ → Parts → ℕ
 steps_for Idle count d = where_so (needs count d) (whole_reclaim d.log.shape - 1)
-steps_for (Copies c) count d = steps_left d.log.shape d.space.live.heads c
+steps_for (Copies c) count d = steps_left d.log.shape d.values.live.heads c
 steps_for (Commits victim) count d = 2
 steps_for (GivesBack victim) count d = 1 + where_so (needs count d) (whole_reclaim d.log.shape - 1)
 

@@ -3,7 +3,7 @@ use Rattle.std.specs.Prelude.{◌≡◌, ◌≢◌, ◌⊎◌, ℕ, ◌+◌, ◌
 use Rattle.std.specs.FinMap.Entries.{find}
 use Rattle.pk_base.specs.Key.{Key, key_cmp}
 use Rattle.pk_base.specs.Entry.{Place}
-use Rattle.pk_data.specs.State.{fits_open}
+use Rattle.pk_values.specs.State.{fits_open}
 use Rattle.pk_parts.specs.Parts.{Parts, counts_of, block_if_open}
 
 -- An epoch that the drive began stays one that it began, and so is one that follows another.
@@ -14,13 +14,13 @@ pub record StaysFresh (before after : Parts) : Type 0 where
 -- As many blocks are in use, and the same one takes the next value.
 pub record SameUse (before after : Parts) : Type 0 where
   pub used : (counts_of after).blocks ≡ (counts_of before).blocks
-  pub open_same : block_if_open after.space.open_block ≡ block_if_open before.space.open_block
+  pub open_same : block_if_open after.values.open_block ≡ block_if_open before.values.open_block
 
 -- The open block had no room for n pages, and another one takes the next values.
 pub record OpensOne (before after : Parts) (count : ℕ) : Type 0 where
-  pub no_room : fits_open before.log.shape before.space count ≡ false
+  pub no_room : fits_open before.log.shape before.values count ≡ false
   pub used : (counts_of after).blocks ≡ (counts_of before).blocks + 1
-  pub other : block_if_open after.space.open_block ≢ block_if_open before.space.open_block
+  pub other : block_if_open after.values.open_block ≢ block_if_open before.values.open_block
 
 -- a step that places no value
 pub record Stays (before after : Parts) : Type 0 where
@@ -29,7 +29,7 @@ pub record Stays (before after : Parts) : Type 0 where
 
 -- The open block had no room for n pages, and reclaims made it: no more blocks are in use.
 pub record MakesRoom (before after : Parts) (count : ℕ) : Type 0 where
-  pub no_room : fits_open before.log.shape before.space count ≡ false
+  pub no_room : fits_open before.log.shape before.values count ≡ false
   pub no_more : (counts_of after).blocks ≤ (counts_of before).blocks
 
 -- a step that may place a value of n pages
@@ -46,4 +46,4 @@ pub record StaysOrFrees (before after : Parts) : Type 0 where
 pub record IsNoted (d : Parts) (key : Key) : Type 0 where
   pub place : Place
   pub found : find key_cmp key d.log.active.entries ≡ Some (Some place)
-  pub in_open : block_if_open d.space.open_block ≡ Some (place.page / d.log.shape.block_pages)
+  pub in_open : block_if_open d.values.open_block ≡ Some (place.page / d.log.shape.block_pages)

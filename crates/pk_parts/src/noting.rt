@@ -5,15 +5,15 @@ ghost use Rattle.pk_base.specs.Shape as spec;
 ghost use Rattle.pk_base.specs.Page.{Flash};
 ghost use Rattle.pk_base.specs.Map.{Map};
 ghost use Rattle.pk_log.specs.State.{needs_freeze as needs_freeze_for, pushed};
-ghost use Rattle.pk_data.specs.Entries.{span_of, span_if_some};
+ghost use Rattle.pk_values.specs.Entries.{span_of, span_if_some};
 ghost use Rattle.pk_parts.specs.Moves.{StandsFor};
 ghost use Rattle.pk_parts.specs.Noting.{Puts, Drops, more_keys as more_keys_by};
 ghost use Rattle.pk_parts.specs.Staying.{Stays, IsNoted};
 
 use crate::parts::Parts;
 use pk_base::{Entry, Key, Place, Shape};
-use pk_data::Span;
 use pk_region::Region;
+use pk_values::Span;
 
 // The pages of the value at a place.
 fn span_at(shape: &Shape, place: &Place) -> Span
@@ -61,7 +61,7 @@ impl<A: Region> Parts<A> {
         // The parts, and the map that they represent.
         ensures rest { self.new ≡ record self.old {
           log = pushed self.old.log (key, Some (record { page = page; len = len }));
-          space = self.new.space;
+          values = self.new.values;
           keys = more_keys_by self.old.keys old;
         } }
         ensures stands { (shape : spec.Shape) (flash : Flash) (m : Map) (value : List ℕ)
@@ -76,7 +76,7 @@ impl<A: Region> Parts<A> {
         let before = span_if_there(&shape, &old);
         let now = Span { page, count };
         self.log.push(Entry::Put { key, page, len });
-        self.space.replace(before, now);
+        self.values.replace(before, now);
         self.keys = more_keys(self.keys, &old);
     }
 
@@ -90,7 +90,7 @@ impl<A: Region> Parts<A> {
         // The parts, and the map that they represent.
         ensures rest { self.new ≡ record self.old {
           log = pushed self.old.log (key, None);
-          space = self.new.space;
+          values = self.new.values;
           keys = self.old.keys - 1;
         } }
         ensures stands { (shape : spec.Shape) (flash : Flash) (m : Map)
@@ -102,7 +102,7 @@ impl<A: Region> Parts<A> {
         let _ = key.bytes();
         let before = span_at(&shape, &old);
         self.log.push(Entry::Gone { key });
-        self.space.remove(before);
+        self.values.remove(before);
         self.keys -= 1;
     }
 }

@@ -37,7 +37,7 @@ impl<A: Region> Parts<A> {
         ensures { counts_of result ≡ spec.counts_of self.now }
     {
         Counts {
-            live: self.space.total(),
+            live: self.values.total(),
             limit: self.shape().limit(),
             keys: self.keys,
             pinned: self.levels.pinned() as u32,

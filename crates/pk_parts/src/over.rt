@@ -8,10 +8,10 @@ ghost use Rattle.pk_parts.specs.Opening.{OpenedOn};
 use crate::jobs::no_jobs;
 use crate::parts::Parts;
 use pk_base::Shape;
-use pk_data::Data;
 use pk_log::Log;
 use pk_region::Region;
 use pk_scan::Found;
+use pk_values::Values;
 use pk_walk::Walk;
 use std::alloc::AllocError;
 
@@ -40,7 +40,7 @@ impl<A: Region> Parts<A> {
             levels: found.levels,
             arena: found.arena,
             schedule: jobs.schedule,
-            space: Data::new(found.live),
+            values: Values::new(found.live),
             reclaim: jobs.reclaim,
             pool: found.pool,
             keys: found.keys,

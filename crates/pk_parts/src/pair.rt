@@ -68,7 +68,7 @@ impl<A: Region> Parts<A> {
         match reclaim_step(
             board,
             &mut self.reclaim,
-            &mut self.space,
+            &mut self.values,
             &mut self.log,
             &mut self.pool,
         ) {

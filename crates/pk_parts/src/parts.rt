@@ -4,7 +4,6 @@ ghost use Rattle.pk_pool.specs.Blocks.{IsShared};
 ghost use Rattle.pk_parts.specs.Stopping.{failed_by};
 
 use pk_base::Shape;
-use pk_data::Data;
 use pk_gc::ReclaimJob;
 use pk_level::Levels;
 use pk_log::Log;
@@ -13,6 +12,7 @@ use pk_pin::PinArena;
 use pk_pool::Pool;
 use pk_region::Region;
 use pk_schedule::Schedule;
+use pk_values::Values;
 use pk_walk::Walk;
 use std::marker::Model;
 
@@ -23,7 +23,7 @@ pub struct Parts<A: Region> {
     pub(crate) levels: Levels<A>,
     pub(crate) arena: PinArena<A>,
     pub(crate) schedule: Schedule<A>,
-    pub(crate) space: Data<A>,
+    pub(crate) values: Values<A>,
     pub(crate) reclaim: ReclaimJob<A>,
     pub(crate) pool: Pool<A>,
     pub(crate) keys: u32,
@@ -43,7 +43,7 @@ impl<A: Region> Drop for Parts<A> {
             levels: _,
             arena: _,
             schedule: _,
-            space: _,
+            values: _,
             reclaim: _,
             pool: _,
             keys: _,
@@ -65,7 +65,7 @@ impl<A: Region> Model for Parts<A> {
       levels = d.levels;
       arena = d.arena;
       schedule = d.schedule;
-      space = d.space;
+      values = d.values;
       reclaim = d.reclaim;
       pool = d.pool;
       keys = d.keys;
@@ -108,9 +108,9 @@ impl<A: Region> Parts<A> {
 
     /// How many pages the values of the map have.
     pub fn total(&self) -> u32
-        ensures { result ≡ sum self.now.space.live.heads }
+        ensures { result ≡ sum self.now.values.live.heads }
     {
-        self.space.total()
+        self.values.total()
     }
 
     /// Whether a call failed that stops the drive.

@@ -4,8 +4,8 @@ ghost use Rattle.pk_parts.specs.Parts.{pages_for};
 ghost use Rattle.pk_base.specs.Shape as spec;
 ghost use Rattle.pk_nand.specs.Calls.{IsReady};
 ghost use Rattle.pk_nand.specs.declared.types.Fault.TheVariants.{Stopped};
-ghost use Rattle.pk_data.specs.State.{needs_reclaim as needs_reclaim_for, fits_open};
-ghost use Rattle.pk_data.specs.Placed.{HasPlaced};
+ghost use Rattle.pk_values.specs.State.{needs_reclaim as needs_reclaim_for, fits_open};
+ghost use Rattle.pk_values.specs.Placed.{HasPlaced};
 ghost use Rattle.pk_parts.specs.Moves.{MayStep};
 ghost use Rattle.pk_parts.specs.Noting.{StepPlaces};
 ghost use Rattle.pk_parts.specs.Placing.{PlacesValue, FailsToPlace};
@@ -16,17 +16,17 @@ ghost use Rattle.pk_call.specs.Calling.{FewCalls};
 
 use crate::parts::Parts;
 use pk_base::{Key, Shape};
-use pk_data::Data;
 use pk_nand::{Fault, Nand};
 use pk_pool::Pool;
 use pk_region::Region;
 use pk_seg::write_value;
+use pk_values::Values;
 
 /// Writes a value into the next pages of the open block, and returns the first one; if it has no
 /// room, the block is closed and another one opened first. `Stopped` if a flash operation fails.
 /// `buf` has the size of a page and is overwritten.
 pub fn write_next<B: Nand, A: Region>(
-    space: &mut Data<A>,
+    values: &mut Values<A>,
     pool: &mut Pool<A>,
     board: &mut B,
     shape: &Shape,
@@ -37,17 +37,17 @@ pub fn write_next<B: Nand, A: Region>(
     // The board, the value and the parts.
     requires ready { IsReady (B.state board.old) shape.now }
     requires short { length value.now ≤ spec.greatest shape.now }
-    requires placed { HasPlaced shape.now space.old pool.old (B.state board.old).pages }
-    requires room { needs_reclaim_for shape.now space.old pool.old
+    requires placed { HasPlaced shape.now values.old pool.old (B.state board.old).pages }
+    requires room { needs_reclaim_for shape.now values.old pool.old
         (spec.charge shape.now (length value.now)) ≡ false }
     requires page { length buf.old ≡ shape.now.page_bytes }
 
     // The pages that were written.
     ensures places { IfOk result (λ page. PlacesValue shape.now key.now value.now
-        space.old pool.old (B.state board.old) page space.new pool.new (B.state board.new)) }
+        values.old pool.old (B.state board.old) page values.new pool.new (B.state board.new)) }
     ensures stopped { IfErr result (λ e. e ≡ Stopped) }
     ensures fails { OnErr result (FailsToPlace shape.now key.now value.now
-        space.old pool.old (B.state board.old) (B.state board.new)) }
+        values.old pool.old (B.state board.old) (B.state board.new)) }
 
     // What is unchanged.
     ensures ready { IsReady (B.state board.new) shape.now }
@@ -56,10 +56,10 @@ pub fn write_next<B: Nand, A: Region>(
     shape.known();
     let _ = shape.greatest();
     let count = shape.charge(value.len() as u32);
-    match space.reserve(board, shape, pool, count) {
+    match values.reserve(board, shape, pool, count) {
         Ok(page) => match write_value(board, shape, page, key, value, buf) {
             Ok(()) => {
-                space.wrote(shape, count);
+                values.wrote(shape, count);
                 Ok(page)
             }
             Err(fault) => Err(fault),
@@ -79,16 +79,16 @@ impl<A: Region> Parts<A> {
     ) -> Result<u32, Fault>
         requires may { MayStep self.old (B.state board.old) }
         requires short { length value.now ≤ spec.greatest self.old.log.shape }
-        requires room { needs_reclaim_for self.old.log.shape self.old.space self.old.pool
+        requires room { needs_reclaim_for self.old.log.shape self.old.values self.old.pool
             (pages_for self.old value.now) ≡ false }
 
         // The pages that were written.
         ensures step { StepPlaces self.old self.new (B.state board.old) (B.state board.new)
             key.now value.now result }
-        ensures rest { self.new ≡ record self.old { space = self.new.space; pool = self.new.pool } }
+        ensures rest { self.new ≡ record self.old { values = self.new.values; pool = self.new.pool } }
         ensures opens { OnOk result (StaysOrOpens self.old self.new
             (pages_for self.old value.now)) }
-        ensures programs { OnOk result (fits_open self.old.log.shape self.old.space
+        ensures programs { OnOk result (fits_open self.old.log.shape self.old.values
             (pages_for self.old value.now) ≡ true
             → Programs (pages_for self.old value.now) (B.state board.old)
             (B.state board.new)) }
@@ -99,7 +99,7 @@ impl<A: Region> Parts<A> {
         let _ = key.bytes();
         self.pool.known();
         write_next(
-            &mut self.space,
+            &mut self.values,
             &mut self.pool,
             board,
             &shape,

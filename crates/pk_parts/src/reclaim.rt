@@ -42,7 +42,7 @@ impl<A: Region> Parts<A> {
         reclaim_step(
             board,
             &mut self.reclaim,
-            &mut self.space,
+            &mut self.values,
             &mut self.log,
             &mut self.pool,
         )

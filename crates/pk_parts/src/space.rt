@@ -21,7 +21,7 @@ impl<A: Region> Parts<A> {
         ensures { result ≡ needs count self.now }
     {
         let shape = self.shape();
-        self.space.needs_reclaim(&shape, &self.pool, count)
+        self.values.needs_reclaim(&shape, &self.pool, count)
     }
 
     // Whether a reclaim runs, or has to before a value of `count` pages.

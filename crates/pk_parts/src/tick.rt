@@ -141,7 +141,7 @@ impl<A: Region> Parts<A> {
     {
         let shape = self.shape();
         self.used_blocks() == shape.data_blocks() - 1
-            && !self.space.fits_open(&shape, shape.most_pages())
+            && !self.values.fits_open(&shape, shape.most_pages())
     }
 
     // A reclaim runs, or one is due.

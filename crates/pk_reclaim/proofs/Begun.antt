@@ -25,12 +25,12 @@ use Rattle.pk_gc.specs.Beginning.{Starts, GivesBack}
 use Rattle.pk_gc.proofs.Copying.{start_runs}
 use Rattle.pk_gc.proofs.Lowering.{live_of_block}
 use Rattle.pk_gc.proofs.Victims.{below_quota}
-use Rattle.pk_data.specs.State.{DataState, fits_open}
-use Rattle.pk_data.specs.Placed.{ValuesOnFlash, HoldsValues}
-use Rattle.pk_data.proofs.Unchanged.{none_in_spare}
+use Rattle.pk_values.specs.State.{ValuesState, fits_open}
+use Rattle.pk_values.specs.Placed.{ValuesOnFlash, HoldsValues}
+use Rattle.pk_values.proofs.Unchanged.{none_in_spare}
 use Rattle.pk_reclaim.proofs.Holding.{chosen, output_taken, dead_given_back}
 use Rattle.pk_log.specs.State.{LogState}
-use Rattle.pk_reclaim.specs.Space.{Space, SpaceOnFlash, MayReclaim, HasRoom, space}
+use Rattle.pk_reclaim.specs.Space.{ReclaimParts, SpaceOnFlash, MayReclaim, HasRoom, reclaim_parts}
 use Rattle.pk_reclaim.specs.Steps.{SpaceMoves}
 use Rattle.pk_reclaim.proofs.Owners.{SameOwners, owners_taken, owners_given, spare_aside, names_stay, others_kept}
 use Rattle.pk_reclaim.proofs.Quiet.{NamesOwned, IsQuiet, SameBut, Finds, under_quiet, low_quiet, log_quiet, meta_quiet, journal_quiet, none_reaches, erase_quiet, erase_reaches}
@@ -50,7 +50,7 @@ sparse_started shape live victim output same few =
     let counted : count_of live victim ≡ sum (take n (drop (victim * n) live.heads)) = λ i. sum (take (same i) (drop (victim * same i) live.heads)) in
     omega (arith, few, all, counted)
 
-module _ (log : LogState) (values values' : DataState) (pool pool' : Blocks) (moves : List Move)
+module _ (log : LogState) (values values' : ValuesState) (pool pool' : Blocks) (moves : List Move)
     (entries : List Entry) (page : List ℕ) (old new : BoardState) (top : ℕ × Root) (found : Found) (m : Map)
     (ready : IsReady old log.shape) (may : MayReclaim (space_in log values pool moves entries page Idle) old.pages top found m) (job' : JobState) where
   abbrev shape : Shape
@@ -59,7 +59,7 @@ module _ (log : LogState) (values values' : DataState) (pool pool' : Blocks) (mo
   abbrev es : List (Key × Place)
   es = places found []
 
-  abbrev before : Space
+  abbrev before : ReclaimParts
   before = space_in log values pool moves entries page Idle
 
   placed : ValuesOnFlash shape values pool [] old.pages es
@@ -132,8 +132,8 @@ module _ (log : LogState) (values values' : DataState) (pool pool' : Blocks) (mo
           none_leaves = owners.none_leaves may.stands.none_leaves;
         }
 
-    pub starts_moves : SpaceMoves before old top found m (space log values' pool' job') new
-    starts_moves = subst (λ (j : JobState). SpaceMoves before old top found m (space log values' pool' j) new) (sym s.job_is) (record {
+    pub starts_moves : SpaceMoves before old top found m (reclaim_parts log values' pool' job') new
+    starts_moves = subst (λ (j : JobState). SpaceMoves before old top found m (reclaim_parts log values' pool' j) new) (sym s.job_is) (record {
       moves = [];
       newest = found.newest;
       newest_is = sym (append-nil found.newest);
@@ -152,7 +152,7 @@ module _ (log : LogState) (values values' : DataState) (pool pool' : Blocks) (mo
     given : ValuesOnFlash shape values' pool' [] new.pages es × (used_by for_values pool'.states + 1 ≡ used_by for_values pool.states)
     given = dead_given_back shape (job_in log moves entries page Idle) job' values values' pool pool' old new es placed g
 
-    abbrev with_chosen : DataState
+    abbrev with_chosen : ValuesState
     with_chosen = record { live = g.chosen; open_block = values'.open_block }
 
     held : HoldsValues pool g.victim
@@ -180,15 +180,15 @@ module _ (log : LogState) (values values' : DataState) (pool pool' : Blocks) (mo
         no_run : false ≡ true → ⊥
         no_run e = cc
 
-    pub dead_moves : SpaceMoves before old top found m (space log values' pool' job') new
-    dead_moves = subst (λ (j : JobState). SpaceMoves before old top found m (space log values' pool' j) new) (sym g.kept)
+    pub dead_moves : SpaceMoves before old top found m (reclaim_parts log values' pool' job') new
+    dead_moves = subst (λ (j : JobState). SpaceMoves before old top found m (reclaim_parts log values' pool' j) new) (sym g.kept)
         (still_moves before (space_in log values' pool' moves entries page Idle) old new top found m (still_same old new g.same) may.stands owners_behind stands_behind)
 
     pub dead_given : used_by for_values pool'.states + 1 ≡ used_by for_values pool.states
     dead_given = given.1
 
     -- then no value needs a reclaim
-    pub dead_room : HasRoom (space log values' pool' job')
+    pub dead_room : HasRoom (reclaim_parts log values' pool' job')
     dead_room count most =
         let less = given.1 in
         let is = used in

@@ -28,8 +28,8 @@ use Rattle.pk_gc.specs.declared.moves.Move.{Move}
 use Rattle.pk_gc.specs.State.{target}
 use Rattle.pk_gc.specs.Running.{IsRunning}
 use Rattle.pk_gc.specs.Breaking.{FailsToCopy}
-use Rattle.pk_data.specs.State.{DataState}
-use Rattle.pk_data.proofs.Unchanged.{none_in_spare}
+use Rattle.pk_values.specs.State.{ValuesState}
+use Rattle.pk_values.proofs.Unchanged.{none_in_spare}
 use Rattle.pk_log.specs.State.{LogState}
 use Rattle.pk_reclaim.specs.Space.{SpaceOnFlash, MayReclaim}
 use Rattle.pk_reclaim.proofs.Owners.{spare_aside}
@@ -67,7 +67,7 @@ other_page shape c moves page other flash es free runs = record {
     not_both : false ≡ true → ⊥
     not_both e = cc
 
-module _ (log : LogState) (values : DataState) (pool : Blocks) (moves : List Move) (entries : List Entry)
+module _ (log : LogState) (values : ValuesState) (pool : Blocks) (moves : List Move) (entries : List Entry)
     (page : List ℕ) (old new : BoardState) (top : ℕ × Root) (found : Found) (m : Map) (ready : IsReady old log.shape) where
   abbrev shape : Shape
   shape = log.shape

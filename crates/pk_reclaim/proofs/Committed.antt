@@ -40,15 +40,15 @@ use Rattle.pk_gc.specs.Stepping.{Hands, CommitsMoves}
 use Rattle.pk_gc.proofs.Finishing.{may_move, entries_are as left_are}
 use Rattle.pk_gc.proofs.Buffering.{moves_buffered, moves_fit}
 use Rattle.pk_gc.proofs.Cutting.{commit_begins, commit_begin_fails}
-use Rattle.pk_data.specs.State.{DataState, fits_open}
-use Rattle.pk_data.specs.Placed.{ValuesOnFlash, HoldsValues, IsOutput}
-use Rattle.pk_data.specs.Laws.{value_blocks}
+use Rattle.pk_values.specs.State.{ValuesState, fits_open}
+use Rattle.pk_values.specs.Placed.{ValuesOnFlash, HoldsValues, IsOutput}
+use Rattle.pk_values.specs.Laws.{value_blocks}
 use Rattle.pk_reclaim.specs.Hands.{hands_of}
-use Rattle.pk_data.proofs.Unchanged.{lie_in_few, among_values}
+use Rattle.pk_values.proofs.Unchanged.{lie_in_few, among_values}
 use Rattle.pk_reclaim.proofs.Ends.{moves_placed}
 use Rattle.pk_log.specs.State.{LogState}
 use Rattle.pk_log.specs.Logs.{LogOnFlash}
-use Rattle.pk_reclaim.specs.Space.{Space, SpaceOnFlash, HalfMoves, HasRoom, space}
+use Rattle.pk_reclaim.specs.Space.{ReclaimParts, SpaceOnFlash, HalfMoves, HasRoom, reclaim_parts}
 use Rattle.pk_reclaim.specs.Steps.{SpaceMoves, with_newest}
 use Rattle.pk_reclaim.proofs.Known.{as_many_known}
 use Rattle.pk_reclaim.proofs.Owners.{owners_same, held_aside, others_kept}
@@ -59,7 +59,7 @@ use Rattle.pk_reclaim.proofs.Places.{high, in_newest, for_journal}
 use Rattle.pk_reclaim.proofs.Given.{output_fits}
 use Rattle.pk_reclaim.proofs.Ready.{job_in, space_in, is_copied, can_give}
 
-module _ (log : LogState) (values : DataState) (pool : Blocks) (c : Course) (moves : List Move) (entries : List Entry) (page : List ℕ) (old : BoardState) (top : ℕ × Root) (found : Found) (m : Map)
+module _ (log : LogState) (values : ValuesState) (pool : Blocks) (c : Course) (moves : List Move) (entries : List Entry) (page : List ℕ) (old : BoardState) (top : ℕ × Root) (found : Found) (m : Map)
     (ready : IsReady old log.shape) (stands : SpaceOnFlash (space_in log values pool moves entries page (Copies c)) old.pages top found m)
     (whole : c.left ≡ 0) (dead : AreDead values.live.heads (source log.shape c) (c.victim * log.shape.block_pages + log.shape.block_pages)) where
   abbrev shape : Shape
@@ -68,7 +68,7 @@ module _ (log : LogState) (values : DataState) (pool : Blocks) (c : Course) (mov
   abbrev es : List (Key × Place)
   es = places found []
 
-  abbrev before : Space
+  abbrev before : ReclaimParts
   before = space_in log values pool moves entries page (Copies c)
 
   abbrev job : JobState
@@ -149,7 +149,7 @@ module _ (log : LogState) (values : DataState) (pool : Blocks) (c : Course) (mov
 
   -- ---- it was made
 
-  module _ (log' : LogState) (values' : DataState) (pool' : Blocks) (job' : JobState) (new : BoardState)
+  module _ (log' : LogState) (values' : ValuesState) (pool' : Blocks) (job' : JobState) (new : BoardState)
       (ready' : IsReady new log.shape) (log_is : log' ≡ record log { active = log'.active; epoch = log'.epoch })
       (commits : CommitsMoves c job hands old job' (hands_of values' pool' log'.active log'.epoch) new) where
     abbrev then_found : Found
@@ -161,7 +161,7 @@ module _ (log : LogState) (values : DataState) (pool : Blocks) (c : Course) (mov
       epoch = record log.epoch { used = log.epoch.used + 1; half = true };
     }
 
-    abbrev there : Space
+    abbrev there : ReclaimParts
     there = space_in then_log values' pool moves left_entries job'.page (Commits c.victim)
 
     log_then : log' ≡ then_log
@@ -282,8 +282,8 @@ module _ (log : LogState) (values : DataState) (pool : Blocks) (c : Course) (mov
         (subst (λ (p : Blocks). P then_log p job') (sym pool_same)
         (subst (λ (j : JobState). P then_log pool j) (sym commits.job_is) is))
 
-    commit_moves : SpaceMoves before old top found m (space log' values' pool' job') new
-    commit_moves = as_made (λ l p j. SpaceMoves before old top found m (space l values' p j) new) (record {
+    commit_moves : SpaceMoves before old top found m (reclaim_parts log' values' pool' job') new
+    commit_moves = as_made (λ l p j. SpaceMoves before old top found m (reclaim_parts l values' p j) new) (record {
       moves = left_moves;
       newest = found.newest ++ left_entries;
       newest_is = refl;
@@ -301,12 +301,12 @@ module _ (log : LogState) (values : DataState) (pool : Blocks) (c : Course) (mov
         no_meta k same owned =
             let clash : Some (Owned Meta) ≡ Some (Owned Journal) = sym owned ∙ (ap (λ (x : ℕ). slice_get pool.states (x / shape.block_pages)) same ∙ next_journal room.1) in cc
 
-    commit_room : HasRoom (space log' values' pool' job')
-    commit_room = as_made (λ l p j. HasRoom (space l values' p j)) room_there
+    commit_room : HasRoom (reclaim_parts log' values' pool' job')
+    commit_room = as_made (λ l p j. HasRoom (reclaim_parts l values' p j)) room_there
 
 -- ---- the same, for all that is before and after
 
-module _ (log log' : LogState) (values values' : DataState) (pool pool' : Blocks) (c : Course) (moves : List Move)
+module _ (log log' : LogState) (values values' : ValuesState) (pool pool' : Blocks) (c : Course) (moves : List Move)
     (entries : List Entry) (page : List ℕ) (old new : BoardState) (top : ℕ × Root) (found : Found) (m : Map)
     (ready : IsReady old log.shape) (ready' : IsReady new log.shape) (stands : SpaceOnFlash (space_in log values pool moves entries page (Copies c)) old.pages top found m)
     (whole : c.left ≡ 0) (dead : AreDead values.live.heads (source log.shape c) (c.victim * log.shape.block_pages + log.shape.block_pages)) (job' : JobState) where
@@ -314,10 +314,10 @@ module _ (log log' : LogState) (values values' : DataState) (pool pool' : Blocks
   IsCommit = CommitsMoves c (job_in log moves entries page (Copies c)) (hands_of values pool log.active log.epoch) old job' (hands_of values' pool' log'.active log'.epoch) new
 
   pub committed_moves : log' ≡ record log { active = log'.active; epoch = log'.epoch } → IsCommit
-      → SpaceMoves (space_in log values pool moves entries page (Copies c)) old top found m (space log' values' pool' job') new
+      → SpaceMoves (space_in log values pool moves entries page (Copies c)) old top found m (reclaim_parts log' values' pool' job') new
   committed_moves log_is is = commit_moves log values pool c moves entries page old top found m ready stands whole dead log' values' pool' job' new ready' log_is is
 
-  pub committed_room : log' ≡ record log { active = log'.active; epoch = log'.epoch } → IsCommit → HasRoom (space log' values' pool' job')
+  pub committed_room : log' ≡ record log { active = log'.active; epoch = log'.epoch } → IsCommit → HasRoom (reclaim_parts log' values' pool' job')
   committed_room log_is is = commit_room log values pool c moves entries page old top found m ready stands whole dead log' values' pool' job' new ready' log_is is
 
   pub commit_breaks : FailsToAdd (entries_left values.live.heads moves) log.active log.epoch old new → Goes log.shape old new (CrashFinds log.shape background old.pages m)

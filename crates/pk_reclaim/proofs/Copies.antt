@@ -24,11 +24,11 @@ use Rattle.pk_gc.specs.Stepping.{ProgramsHeld, ReadsNext, BeginsValue}
 use Rattle.pk_gc.proofs.Copying.{program_runs, target_exists}
 use Rattle.pk_gc.proofs.Counting.{program_sparse, begin_sparse}
 use Rattle.pk_gc.proofs.Going.{next_is_value}
-use Rattle.pk_data.specs.State.{DataState}
-use Rattle.pk_data.specs.Placed.{ValuesOnFlash}
+use Rattle.pk_values.specs.State.{ValuesState}
+use Rattle.pk_values.specs.Placed.{ValuesOnFlash}
 use Rattle.pk_reclaim.proofs.Holding.{programmed_output}
 use Rattle.pk_log.specs.State.{LogState}
-use Rattle.pk_reclaim.specs.Space.{Space, SpaceOnFlash, space}
+use Rattle.pk_reclaim.specs.Space.{ReclaimParts, SpaceOnFlash, reclaim_parts}
 use Rattle.pk_reclaim.specs.Steps.{SpaceMoves}
 use Rattle.pk_reclaim.proofs.Owners.{owners_same, held_aside, others_kept}
 use Rattle.pk_reclaim.proofs.Quiet.{IsQuiet, SameBut, under_quiet, low_quiet, log_quiet, meta_quiet, journal_quiet, program_quiet, program_reaches}
@@ -44,7 +44,7 @@ still_read old new is = record {
   posted = ap (λ (s : BoardState). s.posted) is;
 }
 
-module _ (log : LogState) (values : DataState) (pool : Blocks) (c : Course) (moves : List Move) (entries : List Entry) (page : List ℕ) (old new : BoardState) (top : ℕ × Root) (found : Found) (m : Map)
+module _ (log : LogState) (values : ValuesState) (pool : Blocks) (c : Course) (moves : List Move) (entries : List Entry) (page : List ℕ) (old new : BoardState) (top : ℕ × Root) (found : Found) (m : Map)
     (ready : IsReady old log.shape) (stands : SpaceOnFlash (space_in log values pool moves entries page (Copies c)) old.pages top found m) where
   abbrev shape : Shape
   shape = log.shape
@@ -52,7 +52,7 @@ module _ (log : LogState) (values : DataState) (pool : Blocks) (c : Course) (mov
   abbrev es : List (Key × Place)
   es = places found []
 
-  abbrev before : Space
+  abbrev before : ReclaimParts
   before = space_in log values pool moves entries page (Copies c)
 
   copying : IsCopying shape c (job_in log moves entries page (Copies c)) values.live old.pages es
@@ -78,18 +78,18 @@ module _ (log : LogState) (values : DataState) (pool : Blocks) (c : Course) (mov
   module _ (job' : JobState) where
     -- ---- the next page of a value was read
 
-    pub read_moves : ReadsNext c (job_in log moves entries page (Copies c)) old job' new → SpaceMoves before old top found m (space log values pool job') new
+    pub read_moves : ReadsNext c (job_in log moves entries page (Copies c)) old job' new → SpaceMoves before old top found m (reclaim_parts log values pool job') new
     read_moves r =
         let still = still_read old new r.board in
         let there = space_in log values pool moves [] job'.page (Copies (read_next c)) in
-        subst (λ (j : JobState). SpaceMoves before old top found m (space log values pool j) new) (sym r.job_is)
+        subst (λ (j : JobState). SpaceMoves before old top found m (reclaim_parts log values pool j) new) (sym r.job_is)
         (still_moves before there old new top found m still stands (owners_same pool)
         (goes_on (read_next c) moves job'.page new.pages still.pages refl (record { runs = r.runs es copying.runs; sparse = copying.sparse; closed = copying.closed })))
 
     -- ---- the first page of the next one was
 
     pub begin_moves : BeginsValue c (job_in log moves entries page (Copies c)) (hands log values pool moves entries page old.pages top found m) old job' new
-        → SpaceMoves before old top found m (space log values pool job') new
+        → SpaceMoves before old top found m (reclaim_parts log values pool job') new
     begin_moves r =
         let still = still_read old new r.board in
         let next = next_is_value shape c moves page values.live.heads old.pages es r.page copying.runs
@@ -101,7 +101,7 @@ module _ (log : LogState) (values : DataState) (pool : Blocks) (c : Course) (mov
         let ms = moves ++ begun_move shape c r.page key place.len ∷ [] in
         let there = space_in log values pool ms [] job'.page (Copies c') in
         let sparse = begin_sparse shape values.live.heads c r.page (charge shape place.len) r.whole (charge_some shape stands.placed.is_shape place.len) r.inside.0 is.inside next.1.3 copying.sparse in
-        subst (λ (j : JobState). SpaceMoves before old top found m (space log values pool j) new) (sym (r.job_is es key place is))
+        subst (λ (j : JobState). SpaceMoves before old top found m (reclaim_parts log values pool j) new) (sym (r.job_is es key place is))
         (still_moves before there old new top found m still stands (owners_same pool)
         (goes_on c' ms job'.page new.pages still.pages refl (record { runs = r.runs es key place copying.runs is; sparse = sparse; closed = copying.closed })))
 
@@ -162,8 +162,8 @@ module _ (log : LogState) (values : DataState) (pool : Blocks) (c : Course) (mov
       none_leaves = stands.none_leaves;
     }
 
-    pub program_moves : SpaceMoves before old top found m (space log values pool job') new
-    program_moves = subst (λ (j : JobState). SpaceMoves before old top found m (space log values pool j) new) (sym p.job_is) (record {
+    pub program_moves : SpaceMoves before old top found m (reclaim_parts log values pool job') new
+    program_moves = subst (λ (j : JobState). SpaceMoves before old top found m (reclaim_parts log values pool j) new) (sym p.job_is) (record {
       moves = [];
       newest = found.newest;
       newest_is = sym (append-nil found.newest);

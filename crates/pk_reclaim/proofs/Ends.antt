@@ -17,16 +17,16 @@ use Rattle.pk_gc.specs.Committing.{entries_left}
 use Rattle.pk_gc.specs.Stepping.{Hands}
 use Rattle.pk_live.specs.OpenBlocks.{closed_with}
 use Rattle.pk_gc.proofs.Ending.{none_changes}
-use Rattle.pk_data.specs.State.{DataState}
-use Rattle.pk_data.specs.Placed.{ValuesOnFlash}
-use Rattle.pk_data.specs.Laws.{SameValues}
+use Rattle.pk_values.specs.State.{ValuesState}
+use Rattle.pk_values.specs.Placed.{ValuesOnFlash}
+use Rattle.pk_values.specs.Laws.{SameValues}
 use Rattle.pk_reclaim.specs.Hands.{hands_of}
 use Rattle.pk_reclaim.specs.Values.{MovesPlaced, EndPlaced}
 use Rattle.pk_reclaim.proofs.Holding.{programmed_pool, ValuesOnFlash-given, one_less}
 use Rattle.pk_reclaim.proofs.Relocating.{relocated, ValuesOnFlash-relocated}
 
 -- the values after the commit
-relocated_is : (c : Course) (moves : List Move) (d d' : DataState) (heads : List ℕ) → heads ≡ heads_all d.live.heads moves
+relocated_is : (c : Course) (moves : List Move) (d d' : ValuesState) (heads : List ℕ) → heads ≡ heads_all d.live.heads moves
     → d'.live ≡ record { block_pages = d.live.block_pages; heads = heads; closed = closed_with d.open_block (slice_set d.live.closed c.victim false) }
     → d'.open_block ≡ Some (record { block = c.output; used = c.used }) → d' ≡ relocated c moves d
 relocated_is c moves d d' heads heads_are live open_is =
@@ -36,7 +36,7 @@ relocated_is c moves d d' heads heads_are live open_is =
 
 pub moves_placed : MovesPlaced
 moves_placed shape c job job' d d' p q active active' epoch epoch' old new es placed give commits journal =
-    subst (λ (v : DataState). ValuesOnFlash shape v q (c.victim ∷ []) new.pages (moved (placed_at (left_of d.live.heads job.moves)) es)) (sym data_is)
+    subst (λ (v : ValuesState). ValuesOnFlash shape v q (c.victim ∷ []) new.pages (moved (placed_at (left_of d.live.heads job.moves)) es)) (sym data_is)
     (subst (λ (x : Blocks). ValuesOnFlash shape (relocated c job.moves d) x (c.victim ∷ []) new.pages (moved (placed_at (left_of d.live.heads job.moves)) es)) (sym pool_is)
     (ValuesOnFlash-relocated shape c job d (hands_of d p active epoch) p old.pages new.pages es placed give refl same fits))
   where
@@ -69,7 +69,7 @@ none_left (m ∷ ms) none = cc
 pub end_placed : EndPlaced
 end_placed shape c job job' d d' p q active active' epoch epoch' old new es placed give ends = (
   subst (λ (f : Flash). ValuesOnFlash shape d' q [] f es) (ap (λ (b : BoardState). b.pages) (sym ends.board))
-      (subst (λ (v : DataState). ValuesOnFlash shape v q [] old.pages es) (sym data_is)
+      (subst (λ (v : ValuesState). ValuesOnFlash shape v q [] old.pages es) (sym data_is)
       (subst (λ (x : Blocks). ValuesOnFlash shape (relocated c job.moves d) x [] old.pages es) (sym pool_is)
       (ValuesOnFlash-given shape (relocated c job.moves d) p c.victim old.pages es there))),
   ap (λ (x : Blocks). used_by for_values x.states + 1) pool_is ∙ one_less shape (relocated c job.moves d) p c.victim old.pages es there,

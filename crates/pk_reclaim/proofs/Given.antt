@@ -22,13 +22,13 @@ use Rattle.pk_gc.specs.declared.reclaimed.Reclaimed.{Reclaimed}
 use Rattle.pk_gc.specs.State.{JobState, source}
 use Rattle.pk_gc.specs.Victims.{AreDead}
 use Rattle.pk_gc.specs.Stepping.{Hands, EndsWithout, GivesVictim, victim_given}
-use Rattle.pk_data.specs.State.{DataState, OpenBlock, fits_open, has_left}
-use Rattle.pk_data.specs.Placed.{ValuesOnFlash}
+use Rattle.pk_values.specs.State.{ValuesState, OpenBlock, fits_open, has_left}
+use Rattle.pk_values.specs.Placed.{ValuesOnFlash}
 use Rattle.pk_reclaim.specs.Hands.{hands_of}
 use Rattle.pk_reclaim.proofs.Holding.{victim_given_back}
 use Rattle.pk_reclaim.proofs.Ends.{end_placed}
 use Rattle.pk_log.specs.State.{LogState}
-use Rattle.pk_reclaim.specs.Space.{Space, SpaceOnFlash, HasRoom, space}
+use Rattle.pk_reclaim.specs.Space.{ReclaimParts, SpaceOnFlash, HasRoom, reclaim_parts}
 use Rattle.pk_reclaim.specs.Steps.{SpaceMoves}
 use Rattle.pk_reclaim.proofs.Owners.{SameOwners, owners_given, names_stay}
 use Rattle.pk_reclaim.proofs.Still.{still_same, still_moves, names_of}
@@ -37,13 +37,13 @@ use Rattle.pk_reclaim.proofs.Ready.{job_in, space_in, can_give}
 
 -- ---- the parts of hands
 
-pub record SameParts (d d' : DataState) (p q : Blocks) (t t' : Table) (e e' : JournalEpoch) : Type 0 where
+pub record SameParts (d d' : ValuesState) (p q : Blocks) (t t' : Table) (e e' : JournalEpoch) : Type 0 where
   pub values : d' ≡ d
   pub pool : q ≡ p
   pub active : t' ≡ t
   pub epoch : e' ≡ e
 
-pub same_parts : (d d' : DataState) (p q : Blocks) (active active' : Table) (epoch epoch' : JournalEpoch)
+pub same_parts : (d d' : ValuesState) (p q : Blocks) (active active' : Table) (epoch epoch' : JournalEpoch)
     → hands_of d' q active' epoch' ≡ hands_of d p active epoch → SameParts d d' p q active active' epoch epoch'
 same_parts d d' p q active active' epoch epoch' same = record {
   values = λ i. record { live = (ap (λ (h : Hands). h.live) same) i; open_block = (ap (λ (h : Hands). h.front) same) i };
@@ -54,7 +54,7 @@ same_parts d d' p q active active' epoch epoch' same = record {
 
 -- ---- a block that was filled no more than a victim may be takes every value
 
-pub output_fits : (shape : Shape) (d : DataState) (output used count : ℕ) → IsShape shape
+pub output_fits : (shape : Shape) (d : ValuesState) (output used count : ℕ) → IsShape shape
     → d.open_block ≡ Some (record { block = output; used = used }) → used ≤ dense shape → count ≤ most_pages shape → fits_open shape d count ≡ true
 output_fits shape d output used count is_shape is few most =
     let room = leaves_room shape is_shape in
@@ -62,7 +62,7 @@ output_fits shape d output used count is_shape is few most =
 
 -- ---- the end without moves
 
-module _ (log log' : LogState) (values values' : DataState) (pool pool' : Blocks) (c : Course) (moves : List Move)
+module _ (log log' : LogState) (values values' : ValuesState) (pool pool' : Blocks) (c : Course) (moves : List Move)
     (entries : List Entry) (page : List ℕ) (old new : BoardState) (top : ℕ × Root) (found : Found) (m : Map)
     (stands : SpaceOnFlash (space_in log values pool moves entries page (Copies c)) old.pages top found m) (log_is : log' ≡ record log { active = log'.active; epoch = log'.epoch })
     (whole : c.left ≡ 0) (dead : AreDead values.live.heads (source log.shape c) (c.victim * log.shape.block_pages + log.shape.block_pages)) (job' : JobState)
@@ -73,7 +73,7 @@ module _ (log log' : LogState) (values values' : DataState) (pool pool' : Blocks
   abbrev es : List (Key × Place)
   es = places found []
 
-  abbrev before : Space
+  abbrev before : ReclaimParts
   before = space_in log values pool moves entries page (Copies c)
 
   same_log : log' ≡ log
@@ -106,10 +106,10 @@ module _ (log log' : LogState) (values values' : DataState) (pool pool' : Blocks
         none_leaves = owners.none_leaves stands.none_leaves;
       })
 
-  pub end_moves : SpaceMoves before old top found m (space log' values' pool' job') new
+  pub end_moves : SpaceMoves before old top found m (reclaim_parts log' values' pool' job') new
   end_moves =
-      subst (λ (l : LogState). SpaceMoves before old top found m (space l values' pool' job') new) (sym same_log)
-      (subst (λ (j : JobState). SpaceMoves before old top found m (space log values' pool' j) new) (sym e.job_is)
+      subst (λ (l : LogState). SpaceMoves before old top found m (reclaim_parts l values' pool' job') new) (sym same_log)
+      (subst (λ (j : JobState). SpaceMoves before old top found m (reclaim_parts log values' pool' j) new) (sym e.job_is)
       (still_moves before (space_in log values' pool' moves [] page Idle) old new top found m (still_same old new e.board) stands owners stands_behind))
 
   pub end_given : used_by for_values pool'.states + 1 ≡ used_by for_values pool.states
@@ -118,19 +118,19 @@ module _ (log log' : LogState) (values values' : DataState) (pool pool' : Blocks
   used_few : c.used ≤ dense shape
   used_few = let sparse = stands.reclaim.stands.sparse in omega (arith, sparse)
 
-  pub end_room : HasRoom (space log' values' pool' job')
-  end_room = subst (λ (l : LogState). HasRoom (space l values' pool' job')) (sym same_log) (λ count most.
+  pub end_room : HasRoom (reclaim_parts log' values' pool' job')
+  end_room = subst (λ (l : LogState). HasRoom (reclaim_parts l values' pool' job')) (sym same_log) (λ count most.
       fits_need (fits_open shape values' count) (data_blocks shape - 1) (used_by for_values pool'.states)
       (output_fits shape values' c.output c.used count stands.placed.is_shape (ap (λ (h : Hands). h.front) e.hands) used_few most))
 
 -- ---- the giving back after the commit
 
-module _ (log log' : LogState) (values values' : DataState) (pool pool' : Blocks) (victim : ℕ) (moves : List Move)
+module _ (log log' : LogState) (values values' : ValuesState) (pool pool' : Blocks) (victim : ℕ) (moves : List Move)
     (entries : List Entry) (page : List ℕ) (old new : BoardState) (top : ℕ × Root) (found : Found) (m : Map)
     (stands : SpaceOnFlash (space_in log values pool moves entries page (GivesBack victim)) old.pages top found m)
     (log_is : log' ≡ record log { active = log'.active; epoch = log'.epoch }) (job' : JobState) (r : Reclaimed)
     (g : GivesVictim victim (job_in log moves entries page (GivesBack victim)) (hands_of values pool log.active log.epoch) old job' (hands_of values' pool' log'.active log'.epoch) new r) where
-  abbrev start : Space
+  abbrev start : ReclaimParts
   start = space_in log values pool moves entries page (GivesBack victim)
 
   parts : SameParts values values' (victim_given victim (hands_of values pool log.active log.epoch)).pool pool' log.active log'.active log.epoch log'.epoch
@@ -166,10 +166,10 @@ module _ (log log' : LogState) (values values' : DataState) (pool pool' : Blocks
         none_leaves = owners_behind.none_leaves stands.none_leaves;
       })
 
-  pub given_moves : SpaceMoves start old top found m (space log' values' pool' job') new
+  pub given_moves : SpaceMoves start old top found m (reclaim_parts log' values' pool' job') new
   given_moves =
-      subst (λ (l : LogState). SpaceMoves start old top found m (space l values' pool' job') new) (sym log_same)
-      (subst (λ (j : JobState). SpaceMoves start old top found m (space log values' pool' j) new) (sym g.job_is)
+      subst (λ (l : LogState). SpaceMoves start old top found m (reclaim_parts l values' pool' job') new) (sym log_same)
+      (subst (λ (j : JobState). SpaceMoves start old top found m (reclaim_parts log values' pool' j) new) (sym g.job_is)
       (still_moves start (space_in log values' pool' moves [] page Idle) old new top found m (still_same old new g.board) stands owners_behind stands_then))
 
   pub given_one : used_by for_values pool'.states + 1 ≡ used_by for_values pool.states

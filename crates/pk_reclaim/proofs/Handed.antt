@@ -20,16 +20,16 @@ use Rattle.pk_gc.specs.State.{JobState}
 use Rattle.pk_gc.specs.Victims.{Chooses}
 use Rattle.pk_gc.specs.Stepping.{Hands, Steps}
 use Rattle.pk_gc.specs.Breaking.{BreaksIn, JobBroken}
-use Rattle.pk_data.specs.State.{DataState, IsSmall}
-use Rattle.pk_data.specs.Placed.{IsOpenIn}
+use Rattle.pk_values.specs.State.{ValuesState, IsSmall}
+use Rattle.pk_values.specs.Placed.{IsOpenIn}
 use Rattle.pk_log.specs.State.{LogState}
 use Rattle.pk_reclaim.specs.Hands.{hands_of}
-use Rattle.pk_reclaim.specs.Space.{Space, space}
+use Rattle.pk_reclaim.specs.Space.{ReclaimParts, reclaim_parts}
 use Rattle.pk_reclaim.specs.Steps.{ReclaimMoves, Does}
 use Rattle.pk_reclaim.proofs.Stepping.{Somewhere}
 use Rattle.pk_reclaim.proofs.Whole.{Below, Whole, whole}
 
-module _ (log : LogState) (values : DataState) (pool pool' : Blocks) (job job' : JobState) (live' : Values)
+module _ (log : LogState) (values : ValuesState) (pool pool' : Blocks) (job job' : JobState) (live' : Values)
     (front' : Option OpenBlock) (active' : Table) (epoch' : JournalEpoch) (old new : BoardState) where
   abbrev hands : Hands
   hands = hands_of values pool log.active log.epoch
@@ -37,7 +37,7 @@ module _ (log : LogState) (values : DataState) (pool pool' : Blocks) (job job' :
   abbrev log' : LogState
   log' = record log { active = active'; epoch = epoch' }
 
-  abbrev values' : DataState
+  abbrev values' : ValuesState
   values' = record { live = live'; open_block = front' }
 
   -- what the job's step said
@@ -45,7 +45,7 @@ module _ (log : LogState) (values : DataState) (pool pool' : Blocks) (job job' :
     pub ready : IsReady old log.shape
     pub then_ready : IsReady new job.shape
     pub shared : IsShared pool.shape pool.states
-    pub where_is : Somewhere (space log values pool job) old
+    pub where_is : Somewhere (reclaim_parts log values pool job) old
     pub shape : job'.shape ≡ job.shape
     pub steps : IfOk result (λ r. Steps job hands old job' (hands_of values' pool' active' epoch') new r)
     pub breaks : IfErr result (λ e. JobBroken job hands old new e)
@@ -106,14 +106,14 @@ module _ (log : LogState) (values : DataState) (pool pool' : Blocks) (job job' :
   small_open shape (Some o) p flash is_shape open_is =
       (omega (arith, open_is.exists, is_shape.blocks_most), omega (arith, open_is.within, is_shape.block_most))
 
-  small_moved : Somewhere (space log values pool job) old → ReclaimMoves (space log values pool job) old (space log' values' pool' job') new → IsSmall front'
+  small_moved : Somewhere (reclaim_parts log values pool job) old → ReclaimMoves (reclaim_parts log values pool job) old (reclaim_parts log' values' pool' job') new → IsSmall front'
   small_moved s moves =
       let stands = (moves s.top s.found s.m s.may).stands in
       small_open log.shape front' pool' new.pages stands.placed.is_shape stands.placed.open_is
 
-  small_done : (r : Reclaimed) → IsSmall values.open_block → Somewhere (space log values pool job) old → Does (space log values pool job) old (space log' values' pool' job') new r → IsSmall front'
+  small_done : (r : Reclaimed) → IsSmall values.open_block → Somewhere (reclaim_parts log values pool job) old → Does (reclaim_parts log values pool job) old (reclaim_parts log' values' pool' job') new r → IsSmall front'
   small_done Worked small s d = small_moved s d.moves
-  small_done NeedsFreeze small s d = subst (λ (o : Option OpenBlock). IsSmall o) (sym (ap (λ (x : Space). x.values.open_block) d.same)) small
+  small_done NeedsFreeze small s d = subst (λ (o : Option OpenBlock). IsSmall o) (sym (ap (λ (x : ReclaimParts). x.values.open_block) d.same)) small
   small_done Ended small s d = small_moved s d.moves
 
   small_kept : IsSmall values.open_block → (front' ≡ values.open_block) × (live' ≡ values.live)

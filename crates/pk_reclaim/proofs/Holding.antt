@@ -23,21 +23,21 @@ use Rattle.pk_gc.specs.Stepping.{Hands}
 use Rattle.pk_live.specs.OpenBlocks.{closed_with}
 use Rattle.pk_gc.specs.Victims.{Chooses}
 use Rattle.pk_live.specs.declared.open_block.OpenBlock.{OpenBlock}
-use Rattle.pk_data.specs.State.{DataState}
-use Rattle.pk_data.specs.Placed.{ValuesOnFlash, IsOpenIn, IsNotOpen, HoldsValues}
-use Rattle.pk_data.specs.Laws.{SameValues}
+use Rattle.pk_values.specs.State.{ValuesState}
+use Rattle.pk_values.specs.Placed.{ValuesOnFlash, IsOpenIn, IsNotOpen, HoldsValues}
+use Rattle.pk_values.specs.Laws.{SameValues}
 use Rattle.pk_reclaim.specs.Values.{OutputTaken, DeadGivenBack, CopyProgrammed, VictimGivenBack}
-use Rattle.pk_data.proofs.Unchanged.{some_pages, open_same, flash_elsewhere}
-use Rattle.pk_data.proofs.Filling.{another, kept, was, taken, same_values, reached_in}
+use Rattle.pk_values.proofs.Unchanged.{some_pages, open_same, flash_elsewhere}
+use Rattle.pk_values.proofs.Filling.{another, kept, was, taken, same_values, reached_in}
 use Rattle.pk_reclaim.proofs.Releasing.{released_as}
 
-abbrev state_of : Values → Option OpenBlock → DataState
+abbrev state_of : Values → Option OpenBlock → ValuesState
 state_of live open_block = record { live = live; open_block = open_block }
 
 -- ---- the open block is closed
 
 -- the values if the open block is closed, if there is one
-abbrev pub closing : DataState → DataState
+abbrev pub closing : ValuesState → ValuesState
 closing d = record { live = record d.live { closed = closed_with d.open_block d.live.closed }; open_block = None }
 
 closed : (shape : Shape) (live : Values) (open_block : Option OpenBlock) (p : Blocks) (outputs : List ℕ) (flash : Flash) (es : List (Key × Place))
@@ -82,21 +82,21 @@ closed shape live (Some o) p outputs flash es placed = record {
     set_true : (cs : List Bool) (i : ℕ) (x : Bool) → slice_get cs i ≡ Some x → slice_get (set cs i true) i ≡ Some true
     set_true cs i x is = set_is cs i x true is
 
-pub ValuesOnFlash-closed : (shape : Shape) (d : DataState) (p : Blocks) (outputs : List ℕ) (flash : Flash) (es : List (Key × Place))
+pub ValuesOnFlash-closed : (shape : Shape) (d : ValuesState) (p : Blocks) (outputs : List ℕ) (flash : Flash) (es : List (Key × Place))
     → ValuesOnFlash shape d p outputs flash es → ValuesOnFlash shape (closing d) p outputs flash es
 ValuesOnFlash-closed shape d = closed shape d.live d.open_block
 
 -- a victim was chosen
-pub chosen : (shape of_job : Shape) (d d' : DataState) (victim : ℕ) (p : Blocks) (outputs : List ℕ) (flash : Flash) (es : List (Key × Place))
+pub chosen : (shape of_job : Shape) (d d' : ValuesState) (victim : ℕ) (p : Blocks) (outputs : List ℕ) (flash : Flash) (es : List (Key × Place))
     → Chooses of_job d.live d.open_block d'.live d'.open_block victim
     → ValuesOnFlash shape d p outputs flash es → ValuesOnFlash shape d' p outputs flash es
 chosen shape of_job d d' victim p outputs flash es chooses placed = elim chooses.1 [
   | inl kept ↦ (
       let same : d' ≡ d = λ i. record { live = kept.0 i; open_block = kept.1 i } in
-      subst (λ (v : DataState). ValuesOnFlash shape v p outputs flash es) (sym same) placed)
+      subst (λ (v : ValuesState). ValuesOnFlash shape v p outputs flash es) (sym same) placed)
   | inr closes ↦ (
       let same : d' ≡ closing d = λ i. record { live = closes.0 i; open_block = closes.1 i } in
-      subst (λ (v : DataState). ValuesOnFlash shape v p outputs flash es) (sym same) (ValuesOnFlash-closed shape d p outputs flash es placed))
+      subst (λ (v : ValuesState). ValuesOnFlash shape v p outputs flash es) (sym same) (ValuesOnFlash-closed shape d p outputs flash es placed))
 ]
 
 -- ---- a block is taken
@@ -115,7 +115,7 @@ module _ (shape : Shape) (p : Blocks) (flash flash' : Flash) (b : ℕ) (spare : 
   not_open None open_is c e = tt
   not_open (Some o) open_is c e = λ same. other o.block open_is.owned (sym same ∙ e)
 
-  pub ValuesOnFlash-held : (d : DataState) (es : List (Key × Place)) → ValuesOnFlash shape d p [] flash es → 2 ≤ b → PoolOnFlash with_output flash' → SameButBlock shape b flash flash'
+  pub ValuesOnFlash-held : (d : ValuesState) (es : List (Key × Place)) → ValuesOnFlash shape d p [] flash es → 2 ≤ b → PoolOnFlash with_output flash' → SameButBlock shape b flash flash'
       → used_by for_values with_output.states ≡ used_by for_values p.states + 1 → ValuesOnFlash shape d with_output (b ∷ []) flash' es
   ValuesOnFlash-held d es placed low fits same counted =
       let pages : SameValues shape p [] flash flash' = same_values shape p [] flash flash' b spare placed.is_shape same in
@@ -161,7 +161,7 @@ programmed_output shape d p output page bytes flash es placed here =
 
 -- ---- it is freed
 
-module _ (shape : Shape) (d : DataState) (p : Blocks) (b : ℕ) (flash : Flash) (es : List (Key × Place)) (placed : ValuesOnFlash shape d p (b ∷ []) flash es) where
+module _ (shape : Shape) (d : ValuesState) (p : Blocks) (b : ℕ) (flash : Flash) (es : List (Key × Place)) (placed : ValuesOnFlash shape d p (b ∷ []) flash es) where
   abbrev without_it : Blocks
   without_it = with_state p b Free
 
@@ -248,7 +248,7 @@ dead_given_back shape job job' d d' p q old new es placed g = (
   ap (λ (r : Blocks). used_by for_values r.states + 1) g.given ∙ used_given p.states g.victim for_values (placed'.closed_owned g.victim g.chooses.0.least.closed).0,
 )
   where
-    middle : DataState
+    middle : ValuesState
     middle = record { live = g.chosen; open_block = d'.open_block }
 
     placed' : ValuesOnFlash shape middle p [] old.pages es
@@ -259,7 +259,7 @@ victim_given_back shape victim job job' d d' p q active active' epoch epoch' old
     let same : d' ≡ d = λ i. record { live = (ap (λ (h : Hands). h.live) g.hands) i; open_block = (ap (λ (h : Hands). h.front) g.hands) i } in
     let pool_is : q ≡ with_state p victim Free = ap (λ (h : Hands). h.pool) g.hands in (
       subst (λ (f : Flash). ValuesOnFlash shape d' q [] f es) (ap (λ (b : BoardState). b.pages) (sym g.board))
-          (subst (λ (v : DataState). ValuesOnFlash shape v q [] old.pages es) (sym same)
+          (subst (λ (v : ValuesState). ValuesOnFlash shape v q [] old.pages es) (sym same)
           (subst (λ (x : Blocks). ValuesOnFlash shape d x [] old.pages es) (sym pool_is) (ValuesOnFlash-given shape d p victim old.pages es placed))),
       ap (λ (x : Blocks). used_by for_values x.states + 1) pool_is ∙ one_less shape d p victim old.pages es placed,
     )

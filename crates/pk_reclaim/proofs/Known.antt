@@ -26,9 +26,9 @@ use Rattle.pk_law_steps.proofs.Untouched.{values_under}
 use Rattle.pk_law_steps.proofs.Counting.{counts}
 use Rattle.pk_live.specs.Lives.{head_of}
 use Rattle.pk_live.proofs.Standing.{heads_read}
-use Rattle.pk_data.specs.State.{DataState}
-use Rattle.pk_data.specs.Placed.{ValuesOnFlash, AreApart as ApartInData}
-use Rattle.pk_data.proofs.Standing.{total_of}
+use Rattle.pk_values.specs.State.{ValuesState}
+use Rattle.pk_values.specs.Placed.{ValuesOnFlash, AreApart as ApartInData}
+use Rattle.pk_values.proofs.Standing.{total_of}
 use Rattle.pk_law_moves.specs.Moves.{AreApart}
 use Rattle.pk_base.proofs.KeyLemmas.{firsts_sorted}
 
@@ -76,7 +76,7 @@ module _ (shape : Shape) (flash : Flash) (top : ℕ × Root) (found : Found) (m 
       (fits_parts shape (named top.1) (all_pages shape (places found []))
       (subst T (sym (values_sound shape (named top.1) (page_at flash) (places found []) values.values (nothing_fits shape (named top.1)) values.read).placed_well) tt)).few
 
-  pub live_few : (d : DataState) (pool : Blocks) (outputs : List ℕ) → ValuesOnFlash shape d pool outputs flash (places found []) → sum d.live.heads ≤ limit shape
+  pub live_few : (d : ValuesState) (pool : Blocks) (outputs : List ℕ) → ValuesOnFlash shape d pool outputs flash (places found []) → sum d.live.heads ≤ limit shape
   live_few d pool outputs placed = subst (λ (n : ℕ). n ≤ limit shape) (sym (total_of shape d pool outputs flash (places found []) placed)) pages_few
 
 -- one map has as many keys, wherever its values are
@@ -88,7 +88,7 @@ as_many_known shape old new top found then_found m is_shape is_old is_new was no
 
 -- ---- the live map
 
-pub heads_known : (shape : Shape) (d : DataState) (pool : Blocks) (outputs : List ℕ) (flash : Flash) (es : List (Key × Place))
+pub heads_known : (shape : Shape) (d : ValuesState) (pool : Blocks) (outputs : List ℕ) (flash : Flash) (es : List (Key × Place))
     → ValuesOnFlash shape d pool outputs flash es → (k : ℕ) → slice_index d.live.heads k ≡ head_of shape es k
 heads_known shape d pool outputs flash es placed k = ap (λ (hs : List ℕ). slice_index hs k) placed.heads_are ∙ heads_read shape placed.is_shape es k placed.places
 

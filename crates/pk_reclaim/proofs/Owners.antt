@@ -15,7 +15,7 @@ use Rattle.pk_pool.proofs.Leaving.{freed_same, freed_set, none_leaves}
 use Rattle.pk_pool.proofs.Sharing.{count-set}
 use Rattle.pk_pool.proofs.States.{get-set_other}
 use Rattle.pk_model.specs.Laws.{AnyByRecursion}
-use Rattle.pk_data.specs.Placed.{HoldsValues}
+use Rattle.pk_values.specs.Placed.{HoldsValues}
 use Rattle.pk_reclaim.specs.Steps.{KeepsOthers}
 use Rattle.pk_reclaim.proofs.Quiet.{NamesOwned, IsAside}
 

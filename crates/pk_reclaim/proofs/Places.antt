@@ -14,9 +14,9 @@ use Rattle.pk_model.specs.Found.{Found}
 use Rattle.pk_model.specs.Laws.{AnyByRecursion}
 use Rattle.pk_model.proofs.Commits.{Blocks as RootBlocks, valid_blocks, behind_roots, among_newest}
 use Rattle.pk_model.proofs.SamePages.{any_front}
-use Rattle.pk_reclaim.specs.Space.{Space, SpaceOnFlash}
+use Rattle.pk_reclaim.specs.Space.{ReclaimParts, SpaceOnFlash}
 
-module _ (x : Space) (flash : Flash) (top : ℕ × Root) (found : Found) (m : Map) (stands : SpaceOnFlash x flash top found m) (index : ℕ) (inside : index < epoch_commits x.log.shape) where
+module _ (x : ReclaimParts) (flash : Flash) (top : ℕ × Root) (found : Found) (m : Map) (stands : SpaceOnFlash x flash top found m) (index : ℕ) (inside : index < epoch_commits x.log.shape) where
   abbrev shape : Shape
   shape = x.log.shape
 

@@ -28,11 +28,11 @@ use Rattle.pk_gc.specs.Ending.{CanGive}
 use Rattle.pk_gc.specs.Stepping.{Hands, CanStep, CanGoOn}
 use Rattle.pk_gc.proofs.Going.{next_is_value}
 use Rattle.pk_gc.proofs.Ending.{gives_up}
-use Rattle.pk_data.specs.State.{DataState}
-use Rattle.pk_data.specs.Placed.{IsOpenIn}
+use Rattle.pk_values.specs.State.{ValuesState}
+use Rattle.pk_values.specs.Placed.{IsOpenIn}
 use Rattle.pk_reclaim.specs.Hands.{hands_of}
 use Rattle.pk_log.specs.State.{LogState}
-use Rattle.pk_reclaim.specs.Space.{Space, SpaceOnFlash, MayReclaim, IsTurn, space}
+use Rattle.pk_reclaim.specs.Space.{ReclaimParts, SpaceOnFlash, MayReclaim, IsTurn, reclaim_parts}
 use Rattle.pk_reclaim.proofs.Known.{keys_known, rising_known, values_known, live_few, heads_known, apart_known}
 use Rattle.pk_base.proofs.KeyLemmas.{firsts_sorted}
 
@@ -53,14 +53,14 @@ open_below shape pool flash n (Some o) size is = let exists = is.exists in omega
 abbrev pub job_in : LogState → List Move → List Entry → List ℕ → Phase → JobState
 job_in log moves entries page phase = record { shape = log.shape; phase = phase; moves = moves; entries = entries; page = page }
 
-abbrev pub space_in : LogState → DataState → Blocks → List Move → List Entry → List ℕ → Phase → Space
-space_in log values pool moves entries page phase = space log values pool (job_in log moves entries page phase)
+abbrev pub space_in : LogState → ValuesState → Blocks → List Move → List Entry → List ℕ → Phase → ReclaimParts
+space_in log values pool moves entries page phase = reclaim_parts log values pool (job_in log moves entries page phase)
 
-module _ (log : LogState) (values : DataState) (pool : Blocks) (moves : List Move) (entries : List Entry) (page : List ℕ) (flash : Flash) (top : ℕ × Root) (found : Found) (m : Map) where
+module _ (log : LogState) (values : ValuesState) (pool : Blocks) (moves : List Move) (entries : List Entry) (page : List ℕ) (flash : Flash) (top : ℕ × Root) (found : Found) (m : Map) where
   abbrev job : Phase → JobState
   job phase = job_in log moves entries page phase
 
-  abbrev there : Phase → Space
+  abbrev there : Phase → ReclaimParts
   there phase = space_in log values pool moves entries page phase
 
   abbrev pub hands : Hands

@@ -21,15 +21,15 @@ use Rattle.pk_law_steps.proofs.Places.{value_in}
 use Rattle.pk_live.specs.Lives.{is_used}
 use Rattle.pk_live.proofs.Standing.{block_is}
 use Rattle.pk_live.specs.declared.open_block.OpenBlock.{OpenBlock}
-use Rattle.pk_data.specs.State.{DataState}
-use Rattle.pk_data.specs.Placed.{ValuesOnFlash, IsOpenIn, IsNotOpen, IsOutput, HoldsValues}
-use Rattle.pk_data.proofs.Opening.{any_block}
+use Rattle.pk_values.specs.State.{ValuesState}
+use Rattle.pk_values.specs.Placed.{ValuesOnFlash, IsOpenIn, IsNotOpen, IsOutput, HoldsValues}
+use Rattle.pk_values.proofs.Opening.{any_block}
 
 -- the values with these blocks closed
-abbrev with_closed : DataState → List Bool → DataState
+abbrev with_closed : ValuesState → List Bool → ValuesState
 with_closed d closed = record d { live = record d.live { closed = closed } }
 
-module _ (shape : Shape) (d : DataState) (p : Blocks) (outputs : List ℕ) (flash : Flash) (es : List (Key × Place))
+module _ (shape : Shape) (d : ValuesState) (p : Blocks) (outputs : List ℕ) (flash : Flash) (es : List (Key × Place))
     (b : ℕ) (placed : ValuesOnFlash shape d p outputs flash es) (closed : IsClosed d.live b) where
   abbrev then_pool : Blocks
   then_pool = with_state p b Free
@@ -99,8 +99,8 @@ module _ (shape : Shape) (d : DataState) (p : Blocks) (outputs : List ℕ) (flas
     };
   }
 
-pub released_as : (shape : Shape) (d : DataState) (p q : Blocks) (outputs : List ℕ) (flash : Flash) (es : List (Key × Place)) (b : ℕ) (d' : DataState) → IsClosed d.live b → count_of d.live b ≡ 0
+pub released_as : (shape : Shape) (d : ValuesState) (p q : Blocks) (outputs : List ℕ) (flash : Flash) (es : List (Key × Place)) (b : ℕ) (d' : ValuesState) → IsClosed d.live b → count_of d.live b ≡ 0
     → d' ≡ with_closed d (set d.live.closed b false) → q ≡ with_state p b Free → ValuesOnFlash shape d p outputs flash es → ValuesOnFlash shape d' q outputs flash es
 released_as shape d p q outputs flash es b d' closed empty is is_pool placed =
-    subst (λ (v : DataState). ValuesOnFlash shape v q outputs flash es) (sym is)
+    subst (λ (v : ValuesState). ValuesOnFlash shape v q outputs flash es) (sym is)
     (subst (λ (r : Blocks). ValuesOnFlash shape (with_closed d (set d.live.closed b false)) r outputs flash es) (sym is_pool) (ValuesOnFlash-released shape d p outputs flash es b placed closed empty))

@@ -34,11 +34,11 @@ use Rattle.pk_gc.proofs.Finishing.{begins, page_left, empties}
 use Rattle.pk_gc.proofs.Ending.{InBlocks, left_same, lefts_same, in_blocks}
 use Rattle.pk_live.specs.declared.open_block.OpenBlock.{OpenBlock}
 use Rattle.pk_live.specs.OpenBlocks.{closed_with}
-use Rattle.pk_data.specs.State.{DataState}
-use Rattle.pk_data.specs.Placed.{ValuesOnFlash, IsOpenIn, IsNotOpen, IsOutput, HoldsValues}
-use Rattle.pk_data.specs.Laws.{SameValues}
-use Rattle.pk_data.proofs.Lists.{page_put}
-use Rattle.pk_data.proofs.Heads.{AreLive, live_moved}
+use Rattle.pk_values.specs.State.{ValuesState}
+use Rattle.pk_values.specs.Placed.{ValuesOnFlash, IsOpenIn, IsNotOpen, IsOutput, HoldsValues}
+use Rattle.pk_values.specs.Laws.{SameValues}
+use Rattle.pk_values.proofs.Lists.{page_put}
+use Rattle.pk_values.proofs.Heads.{AreLive, live_moved}
 
 -- ---- the heads
 
@@ -145,13 +145,13 @@ not_again : (closed : List Bool) (b : ℕ) → slice_get (set closed b false) b 
 not_again closed b is = let clash : true ≡ false = get-set_same closed b false true is in cc
 
 -- the values if the moves are made, the victim is closed no more, and the output is the open block
-abbrev pub relocated : Course → List Move → DataState → DataState
+abbrev pub relocated : Course → List Move → ValuesState → ValuesState
 relocated c moves d = record {
   live = record { block_pages = d.live.block_pages; heads = heads_all d.live.heads moves; closed = closed_with d.open_block (set d.live.closed c.victim false) };
   open_block = Some (record { block = c.output; used = c.used });
 }
 
-module _ (shape : Shape) (c : Course) (job : JobState) (d : DataState) (h : Hands) (p : Blocks)
+module _ (shape : Shape) (c : Course) (job : JobState) (d : ValuesState) (h : Hands) (p : Blocks)
     (flash new : Flash) (es : List (Key × Place)) (placed : ValuesOnFlash shape d p (c.output ∷ []) flash es)
     (give : CanGive shape c job h flash es) (live_is : h.live ≡ d.live) where
   runs : IsRunning shape c job.moves job.page flash es

@@ -31,14 +31,14 @@ use Rattle.pk_gc.specs.Cuts.{MovesStand}
 use Rattle.pk_gc.specs.Breaking.{BreaksIn}
 use Rattle.pk_gc.specs.Stepping.{Hands, EndsMoves, StepsIn}
 use Rattle.pk_gc.proofs.Cutting.{commit_ends, commit_end_fails}
-use Rattle.pk_data.specs.State.{DataState}
-use Rattle.pk_data.specs.Placed.{ValuesOnFlash}
-use Rattle.pk_data.specs.Laws.{SameValues}
-use Rattle.pk_data.proofs.Unchanged.{flash_elsewhere}
+use Rattle.pk_values.specs.State.{ValuesState}
+use Rattle.pk_values.specs.Placed.{ValuesOnFlash}
+use Rattle.pk_values.specs.Laws.{SameValues}
+use Rattle.pk_values.proofs.Unchanged.{flash_elsewhere}
 use Rattle.pk_log.specs.State.{LogState}
 use Rattle.pk_log.specs.Logs.{LogOnFlash}
 use Rattle.pk_reclaim.specs.Hands.{hands_of}
-use Rattle.pk_reclaim.specs.Space.{Space, SpaceOnFlash, HalfMoves, HasRoom, space}
+use Rattle.pk_reclaim.specs.Space.{ReclaimParts, SpaceOnFlash, HalfMoves, HasRoom, reclaim_parts}
 use Rattle.pk_reclaim.specs.Steps.{SpaceMoves, MakesWhole, RepeatsIn}
 use Rattle.pk_reclaim.proofs.Holding.{programmed_pool}
 use Rattle.pk_reclaim.proofs.Owners.{owners_same, others_kept}
@@ -46,12 +46,12 @@ use Rattle.pk_reclaim.proofs.Places.{high, in_newest, for_journal}
 use Rattle.pk_reclaim.proofs.Given.{SameParts, same_parts}
 use Rattle.pk_reclaim.proofs.Ready.{job_in, space_in}
 
-module _ (log : LogState) (values : DataState) (pool : Blocks) (victim : ℕ) (moves : List Move) (entries : List Entry) (page : List ℕ) (old : BoardState) (top : ℕ × Root) (found : Found) (m : Map)
+module _ (log : LogState) (values : ValuesState) (pool : Blocks) (victim : ℕ) (moves : List Move) (entries : List Entry) (page : List ℕ) (old : BoardState) (top : ℕ × Root) (found : Found) (m : Map)
     (ready : IsReady old log.shape) (stands : SpaceOnFlash (space_in log values pool moves entries page (Commits victim)) old.pages top found m) where
   abbrev shape : Shape
   shape = log.shape
 
-  abbrev before : Space
+  abbrev before : ReclaimParts
   before = space_in log values pool moves entries page (Commits victim)
 
   half : HalfMoves before old.pages top found m
@@ -95,12 +95,12 @@ module _ (log : LogState) (values : DataState) (pool : Blocks) (victim : ℕ) (m
 
   -- ---- it was made
 
-  module _ (log' : LogState) (values' : DataState) (pool' : Blocks) (job' : JobState) (new : BoardState) (r : Reclaimed) (log_is : log' ≡ record log { active = log'.active; epoch = log'.epoch })
+  module _ (log' : LogState) (values' : ValuesState) (pool' : Blocks) (job' : JobState) (new : BoardState) (r : Reclaimed) (log_is : log' ≡ record log { active = log'.active; epoch = log'.epoch })
       (g : EndsMoves victim (job_in log moves entries page (Commits victim)) (hands_of values pool log.active log.epoch) old job' (hands_of values' pool' log'.active log'.epoch) new r) where
     abbrev then_log : LogState
     then_log = record log { epoch = record log.epoch { half = false } }
 
-    abbrev there : Space
+    abbrev there : ReclaimParts
     there = space_in then_log values pool moves [] job'.page (GivesBack victim)
 
     log_then : log' ≡ then_log
@@ -187,20 +187,20 @@ module _ (log : LogState) (values : DataState) (pool : Blocks) (victim : ℕ) (m
       cuts = made.cuts;
     }
 
-    pub repeat_moves : SpaceMoves before old top found m (space log' values' pool' job') new
+    pub repeat_moves : SpaceMoves before old top found m (reclaim_parts log' values' pool' job') new
     repeat_moves =
-        subst (λ (l : LogState). SpaceMoves before old top found m (space l values' pool' job') new) (sym log_then)
-        (subst (λ (d : DataState). SpaceMoves before old top found m (space then_log d pool' job') new) (sym parts.values)
-        (subst (λ (q : Blocks). SpaceMoves before old top found m (space then_log values q job') new) (sym parts.pool)
-        (subst (λ (j : JobState). SpaceMoves before old top found m (space then_log values pool j) new) (sym g.job_is) moves_there)))
+        subst (λ (l : LogState). SpaceMoves before old top found m (reclaim_parts l values' pool' job') new) (sym log_then)
+        (subst (λ (d : ValuesState). SpaceMoves before old top found m (reclaim_parts then_log d pool' job') new) (sym parts.values)
+        (subst (λ (q : Blocks). SpaceMoves before old top found m (reclaim_parts then_log values q job') new) (sym parts.pool)
+        (subst (λ (j : JobState). SpaceMoves before old top found m (reclaim_parts then_log values pool j) new) (sym g.job_is) moves_there)))
 
     -- there is room for every value still
-    pub repeat_room : HasRoom (space log' values' pool' job')
+    pub repeat_room : HasRoom (reclaim_parts log' values' pool' job')
     repeat_room =
-        subst (λ (l : LogState). HasRoom (space l values' pool' job')) (sym log_then)
-        (subst (λ (d : DataState). HasRoom (space then_log d pool' job')) (sym parts.values) (subst (λ (q : Blocks). HasRoom (space then_log values q job')) (sym parts.pool) half.room))
+        subst (λ (l : LogState). HasRoom (reclaim_parts l values' pool' job')) (sym log_then)
+        (subst (λ (d : ValuesState). HasRoom (reclaim_parts then_log d pool' job')) (sym parts.values) (subst (λ (q : Blocks). HasRoom (reclaim_parts then_log values q job')) (sym parts.pool) half.room))
 
-    pub repeat_whole : MakesWhole victim before (space log' values' pool' job')
+    pub repeat_whole : MakesWhole victim before (reclaim_parts log' values' pool' job')
     repeat_whole = record {
       phase = ap (λ (j : JobState). j.phase) g.job_is;
       log = log_then;

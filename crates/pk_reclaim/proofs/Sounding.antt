@@ -22,10 +22,10 @@ use Rattle.pk_gc.specs.State.{JobState, target}
 use Rattle.pk_gc.specs.Committing.{entries_left}
 use Rattle.pk_gc.specs.Stepping.{Hands, StepsIn, ReclaimGoesOn}
 use Rattle.pk_gc.specs.Breaking.{BreaksIn, FailsToRead}
-use Rattle.pk_data.specs.State.{DataState}
+use Rattle.pk_values.specs.State.{ValuesState}
 use Rattle.pk_reclaim.specs.Hands.{hands_of}
 use Rattle.pk_log.specs.State.{LogState}
-use Rattle.pk_reclaim.specs.Space.{Space, space}
+use Rattle.pk_reclaim.specs.Space.{ReclaimParts, reclaim_parts}
 use Rattle.pk_reclaim.specs.Steps.{KeepsLog, Unread, ReclaimBroken}
 use Rattle.pk_reclaim.proofs.Ready.{job_in, space_in}
 use Rattle.pk_reclaim.proofs.Boards.{Sound, Failed, SameRoots, sound_none, sound_read, sound_program, sound_erase, failed_read, failed_program, failed_erase, only_read, roots_low, program_low}
@@ -41,12 +41,12 @@ keeps_entries t t' es is = subst (λ (x : Table). x ≡ record t { entries = x.e
 keeps_used : (e e' : JournalEpoch) (n : ℕ) (h : Bool) → e' ≡ record e { used = n; half = h } → e' ≡ record e { used = e'.used; half = e'.half }
 keeps_used e e' n h is = subst (λ (x : JournalEpoch). x ≡ record e { used = x.used; half = x.half }) (sym is) refl
 
-module _ (log log' : LogState) (values values' : DataState) (pool pool' : Blocks) (moves : List Move) (entries : List Entry) (page : List ℕ) (old new : BoardState) (job' : JobState) where
-  abbrev before : Phase → Space
+module _ (log log' : LogState) (values values' : ValuesState) (pool pool' : Blocks) (moves : List Move) (entries : List Entry) (page : List ℕ) (old new : BoardState) (job' : JobState) where
+  abbrev before : Phase → ReclaimParts
   before phase = space_in log values pool moves entries page phase
 
-  abbrev after : Space
-  after = space log' values' pool' job'
+  abbrev after : ReclaimParts
+  after = reclaim_parts log' values' pool' job'
 
   abbrev hands : Hands
   hands = hands_of values pool log.active log.epoch
@@ -161,8 +161,8 @@ module _ (log log' : LogState) (values values' : DataState) (pool pool' : Blocks
         → job' ≡ job_in log moves entries job'.page (Copies c) → Unread (before (Copies c)) old after new
     unread_copy c read l v q j =
         let then = space_in log values pool moves entries job'.page (Copies c) in
-        let same : after ≡ then = λ i. space (l i) (v i) (q i) (j i) in
-        subst (λ (x : Space). Unread (before (Copies c)) old x new) (sym same) (record {
+        let same : after ≡ then = λ i. reclaim_parts (l i) (v i) (q i) (j i) in
+        subst (λ (x : ReclaimParts). Unread (before (Copies c)) old x new) (sym same) (record {
           rest = refl;
           again = λ top found m may. read_again log values pool moves entries page old new top found m ready c job'.page may read.free (ap (λ (b : BoardState). b.pages) read.failed.rest);
           only = only_read old new read.page read.failed;

@@ -21,10 +21,10 @@ use Rattle.pk_gc.specs.declared.reclaimed.Reclaimed.TheVariants.{Worked, NeedsFr
 use Rattle.pk_gc.specs.State.{JobState, left_in}
 use Rattle.pk_gc.specs.Stepping.{Hands, CanStep, StepsIn, Tries, ReclaimGoesOn, ProgramsHeld, ReadsNext, BeginsValue, runs_in}
 use Rattle.pk_gc.proofs.Lowering.{step_lowers}
-use Rattle.pk_data.specs.State.{DataState}
+use Rattle.pk_values.specs.State.{ValuesState}
 use Rattle.pk_reclaim.specs.Hands.{hands_of}
 use Rattle.pk_log.specs.State.{LogState}
-use Rattle.pk_reclaim.specs.Space.{Space, MayReclaim, Falls, left_before, space}
+use Rattle.pk_reclaim.specs.Space.{ReclaimParts, MayReclaim, Falls, left_before, reclaim_parts}
 use Rattle.pk_reclaim.specs.Steps.{SpaceMoves, Works, Does, LogIn, RoomIn, RoomBehind}
 use Rattle.pk_reclaim.proofs.Ready.{job_in, space_in, can_step_in}
 use Rattle.pk_reclaim.proofs.Begun.{starts_moves, dead_moves, dead_given, dead_room}
@@ -35,7 +35,7 @@ use Rattle.pk_reclaim.proofs.Given.{same_parts, end_moves, end_given, end_room, 
 use Rattle.pk_reclaim.proofs.Room.{tight_known}
 
 -- a space that may reclaim, for some root and map
-pub record Somewhere (x : Space) (board : BoardState) : Type 0 where
+pub record Somewhere (x : ReclaimParts) (board : BoardState) : Type 0 where
   pub top : ℕ × Root
   pub found : Found
   pub m : Map
@@ -47,13 +47,13 @@ worked_needs e = cc
 ended_needs : Ended ≡ NeedsFreeze → ⊥
 ended_needs e = cc
 
-module _ (log log' : LogState) (values values' : DataState) (pool pool' : Blocks) (moves : List Move) (entries : List Entry) (page : List ℕ) (old new : BoardState) (job' : JobState)
+module _ (log log' : LogState) (values values' : ValuesState) (pool pool' : Blocks) (moves : List Move) (entries : List Entry) (page : List ℕ) (old new : BoardState) (job' : JobState)
     (ready : IsReady old log.shape) (ready' : IsReady new log.shape) (log_is : log' ≡ record log { active = log'.active; epoch = log'.epoch }) (job_shape : job'.shape ≡ log.shape) where
-  abbrev pub before : Phase → Space
+  abbrev pub before : Phase → ReclaimParts
   before phase = space_in log values pool moves entries page phase
 
-  abbrev pub after : Space
-  after = space log' values' pool' job'
+  abbrev pub after : ReclaimParts
+  after = reclaim_parts log' values' pool' job'
 
   abbrev pub hands : Hands
   hands = hands_of values pool log.active log.epoch
@@ -82,7 +82,7 @@ module _ (log log' : LogState) (values values' : DataState) (pool pool' : Blocks
       let same = same_log steps.1 steps.2 in
       let phase = ap (λ (j : JobState). j.phase) steps.0.job_is in
       record {
-        moves = λ top found m may. subst (λ (l : LogState). SpaceMoves (before Idle) old top found m (space l values' pool' job') new) (sym same)
+        moves = λ top found m may. subst (λ (l : LogState). SpaceMoves (before Idle) old top found m (reclaim_parts l values' pool' job') new) (sym same)
             (starts_moves log values values' pool pool' moves entries page old new top found m ready may job' steps.0);
         falls = falls Idle Worked s steps worked_needs;
         runs = ap runs_in phase;
@@ -94,12 +94,12 @@ module _ (log log' : LogState) (values values' : DataState) (pool pool' : Blocks
   idle_does Ended s steps =
       let same = same_log steps.1 steps.2 in
       record {
-        moves = λ top found m may. subst (λ (l : LogState). SpaceMoves (before Idle) old top found m (space l values' pool' job') new) (sym same)
+        moves = λ top found m may. subst (λ (l : LogState). SpaceMoves (before Idle) old top found m (reclaim_parts l values' pool' job') new) (sym same)
             (dead_moves log values values' pool pool' moves entries page old new top found m ready may job' steps.0);
         falls = falls Idle Ended s steps ended_needs;
         idle = ap (λ (j : JobState). j.phase) steps.0.kept;
         given = dead_given log values values' pool pool' moves entries page old new s.top s.found s.m ready s.may job' steps.0;
-        room = subst (λ (l : LogState). RoomBehind Idle (before Idle) (space l values' pool' job')) (sym same)
+        room = subst (λ (l : LogState). RoomBehind Idle (before Idle) (reclaim_parts l values' pool' job')) (sym same)
             (dead_room log values values' pool pool' moves entries page old new s.top s.found s.m ready s.may job' steps.0);
       }
 
@@ -111,7 +111,7 @@ module _ (log log' : LogState) (values values' : DataState) (pool pool' : Blocks
 
   module _ (c : Course) (s : Somewhere (before (Copies c)) old) where
     copy_moves : Copied c → (top : ℕ × Root) (found : Found) (m : Map) → MayReclaim (before (Copies c)) old.pages top found m
-        → SpaceMoves (before (Copies c)) old top found m (space log values pool job') new
+        → SpaceMoves (before (Copies c)) old top found m (reclaim_parts log values pool job') new
     copy_moves (inl p) top found m may = program_moves log values pool c moves entries page old new top found m ready may.stands job' p
     copy_moves (inr (inl r)) top found m may = read_moves log values pool c moves entries page old new top found m ready may.stands job' r
     copy_moves (inr (inr b)) top found m may = begin_moves log values pool c moves entries page old new top found m ready may.stands job' b
@@ -129,9 +129,9 @@ module _ (log log' : LogState) (values values' : DataState) (pool pool' : Blocks
         let phase = (copy_phase copied).1 in
         record {
           moves = λ top found m may.
-              subst (λ (l : LogState). SpaceMoves (before (Copies c)) old top found m (space l values' pool' job') new) (sym same)
-              (subst (λ (d : DataState). SpaceMoves (before (Copies c)) old top found m (space log d pool' job') new) (sym parts.values)
-              (subst (λ (q : Blocks). SpaceMoves (before (Copies c)) old top found m (space log values q job') new) (sym parts.pool) (copy_moves copied top found m may)));
+              subst (λ (l : LogState). SpaceMoves (before (Copies c)) old top found m (reclaim_parts l values' pool' job') new) (sym same)
+              (subst (λ (d : ValuesState). SpaceMoves (before (Copies c)) old top found m (reclaim_parts log d pool' job') new) (sym parts.values)
+              (subst (λ (q : Blocks). SpaceMoves (before (Copies c)) old top found m (reclaim_parts log values q job') new) (sym parts.pool) (copy_moves copied top found m may)));
           falls = falls (Copies c) Worked s steps worked_needs;
           runs = ap runs_in phase;
           log = subst (λ (p : Phase). LogIn p (before (Copies c)) after) (sym phase) same;
@@ -162,7 +162,7 @@ module _ (log log' : LogState) (values values' : DataState) (pool pool' : Blocks
         let refuses = t.finishes.2 in
         let parts = same_parts values values' pool pool' log.active log'.active log.epoch log'.epoch t.finishes.1 in
         record {
-          same = λ i. space (same_log parts.active parts.epoch i) (parts.values i) (parts.pool i) (t.finishes.0 i);
+          same = λ i. reclaim_parts (same_log parts.active parts.epoch i) (parts.values i) (parts.pool i) (t.finishes.0 i);
           board = refuses.rests.same;
           course = c;
           copies = refl;

@@ -8,7 +8,7 @@ use Rattle.pk_rootfmt.specs.Root.{Root}
 use Rattle.pk_model.specs.Found.{Found}
 use Rattle.pk_model.specs.Crashes.{CrashFinds, background}
 use Rattle.pk_law_steps.proofs.Untouched.{under_reads}
-use Rattle.pk_reclaim.specs.Space.{Space, SpaceOnFlash}
+use Rattle.pk_reclaim.specs.Space.{ReclaimParts, SpaceOnFlash}
 use Rattle.pk_gc.specs.declared.course.Phase.{Phase}
 use Rattle.pk_gc.specs.declared.course.Phase.TheVariants.{Idle, Copies, Commits, GivesBack}
 use Rattle.pk_reclaim.specs.Steps.{SpaceMoves, StillIn}
@@ -37,7 +37,7 @@ still_in (Commits victim) found = refl
 still_in (GivesBack victim) found = tt
 
 -- no value moves, and no entry is written
-pub still_moves : (x x' : Space) (old new : BoardState) (top : ℕ × Root) (found : Found) (m : Map) → IsStill old new → SpaceOnFlash x old.pages top found m → SameOwners x.pool x'.pool
+pub still_moves : (x x' : ReclaimParts) (old new : BoardState) (top : ℕ × Root) (found : Found) (m : Map) → IsStill old new → SpaceOnFlash x old.pages top found m → SameOwners x.pool x'.pool
     → SpaceOnFlash x' new.pages top found m → SpaceMoves x old top found m x' new
 still_moves x x' old new top found m still was owners stands = record {
   moves = [];
@@ -60,5 +60,5 @@ still_moves x x' old new top found m still was owners stands = record {
     same k = ap (λ (f : Flash). page_at f k) still.pages
 
 -- the blocks that the root names
-pub names_of : (x : Space) (flash : Flash) (top : ℕ × Root) (found : Found) (m : Map) → SpaceOnFlash x flash top found m → NamesOwned x.pool top.1
+pub names_of : (x : ReclaimParts) (flash : Flash) (top : ℕ × Root) (found : Found) (m : Map) → SpaceOnFlash x flash top found m → NamesOwned x.pool top.1
 names_of x flash top found m stands = record { journal = stands.journal; runs = stands.runs }

@@ -15,10 +15,10 @@ use Rattle.pk_gc.specs.declared.reclaimed.Reclaimed.TheVariants.{Worked, NeedsFr
 use Rattle.pk_gc.specs.State.{JobState}
 use Rattle.pk_gc.specs.Stepping.{Hands, CanStep, Steps}
 use Rattle.pk_gc.specs.Breaking.{JobBroken}
-use Rattle.pk_data.specs.State.{DataState}
+use Rattle.pk_values.specs.State.{ValuesState}
 use Rattle.pk_reclaim.specs.Hands.{hands_of}
 use Rattle.pk_log.specs.State.{LogState}
-use Rattle.pk_reclaim.specs.Space.{Space, space}
+use Rattle.pk_reclaim.specs.Space.{ReclaimParts, reclaim_parts}
 use Rattle.pk_reclaim.specs.Steps.{ReclaimMoves, Does, Unread, ReclaimBroken, KeepsLog}
 use Rattle.pk_reclaim.proofs.Boards.{SameRoots, roots_stay}
 use Rattle.pk_reclaim.proofs.Ready.{job_in, can_step_in}
@@ -35,18 +35,18 @@ same_answer a b e = cc
 other_answer : {X : Type 0} (r : Reclaimed) (e : Fault) → ◌≡◌ {A = Result Reclaimed Fault} (Ok r) (Err e) → X
 other_answer r e is = cc
 
-pub can_step : (log : LogState) (values : DataState) (pool : Blocks) (job : JobState) (old : BoardState) → IsReady old log.shape
-    → Somewhere (space log values pool job) old → CanStep job (hands_of values pool log.active log.epoch) old.pages
+pub can_step : (log : LogState) (values : ValuesState) (pool : Blocks) (job : JobState) (old : BoardState) → IsReady old log.shape
+    → Somewhere (reclaim_parts log values pool job) old → CanStep job (hands_of values pool log.active log.epoch) old.pages
 can_step log values pool job old ready s =
-    let P : JobState → Type 0 = λ j. Somewhere (space log values pool j) old → CanStep j (hands_of values pool log.active log.epoch) old.pages in
+    let P : JobState → Type 0 = λ j. Somewhere (reclaim_parts log values pool j) old → CanStep j (hands_of values pool log.active log.epoch) old.pages in
     subst P (sym (job_is log job s.may.stands.reclaim.shape_is)) (λ t. can_step_in log values pool job.moves job.entries job.page old.pages t.top t.found t.m job.phase ready.flash t.may) s
 
 -- what the step of the parts below said
-pub record Below (log log' : LogState) (values values' : DataState) (pool pool' : Blocks) (job job' : JobState) (old new : BoardState) (result : Result Reclaimed Fault) : Type 0 where
+pub record Below (log log' : LogState) (values values' : ValuesState) (pool pool' : Blocks) (job job' : JobState) (old new : BoardState) (result : Result Reclaimed Fault) : Type 0 where
   pub ready : IsReady old log.shape
   pub then_ready : IsReady new log.shape
   pub shared : IsShared pool.shape pool.states
-  pub where_is : Somewhere (space log values pool job) old
+  pub where_is : Somewhere (reclaim_parts log values pool job) old
   pub rest : log' ≡ record log { active = log'.active; epoch = log'.epoch }
   pub shape : job'.shape ≡ job.shape
   pub steps : IfOk result (λ r. Steps job (hands_of values pool log.active log.epoch) old job' (hands_of values' pool' log'.active log'.epoch) new r)
@@ -57,22 +57,22 @@ pub record Below (log log' : LogState) (values values' : DataState) (pool pool' 
   pub kept_values : IfErr result (λ e. e ≡ Reading → values' ≡ values)
 
 -- what the whole step says
-pub record Whole (log log' : LogState) (values values' : DataState) (pool pool' : Blocks) (job job' : JobState) (old new : BoardState) (result : Result Reclaimed Fault) : Type 0 where
-  pub does : IfOk result (λ r. Does (space log values pool job) old (space log' values' pool' job') new r)
-  pub same_log : KeepsLog (space log values pool job) (space log' values' pool' job')
+pub record Whole (log log' : LogState) (values values' : ValuesState) (pool pool' : Blocks) (job job' : JobState) (old new : BoardState) (result : Result Reclaimed Fault) : Type 0 where
+  pub does : IfOk result (λ r. Does (reclaim_parts log values pool job) old (reclaim_parts log' values' pool' job') new r)
+  pub same_log : KeepsLog (reclaim_parts log values pool job) (reclaim_parts log' values' pool' job')
   pub same_roots : SameRoots log.shape old new
-  pub unread : result ≡ Err Reading → Unread (space log values pool job) old (space log' values' pool' job') new
-  pub broken : result ≡ Err Stopped → ReclaimBroken (space log values pool job) old new × Stops old new
+  pub unread : result ≡ Err Reading → Unread (reclaim_parts log values pool job) old (reclaim_parts log' values' pool' job') new
+  pub broken : result ≡ Err Stopped → ReclaimBroken (reclaim_parts log values pool job) old new × Stops old new
   pub sound : OnOk result (NoFault old new)
   pub calls : AtMostOneCall old new
   pub only : OnlyFlash old new
 
-module _ (log log' : LogState) (values values' : DataState) (pool pool' : Blocks) (job job' : JobState) (old new : BoardState) where
-  abbrev x : Space
-  x = space log values pool job
+module _ (log log' : LogState) (values values' : ValuesState) (pool pool' : Blocks) (job job' : JobState) (old new : BoardState) where
+  abbrev x : ReclaimParts
+  x = reclaim_parts log values pool job
 
-  abbrev x' : Space
-  x' = space log' values' pool' job'
+  abbrev x' : ReclaimParts
+  x' = reclaim_parts log' values' pool' job'
 
   abbrev hands : Hands
   hands = hands_of values pool log.active log.epoch
@@ -98,10 +98,10 @@ module _ (log log' : LogState) (values values' : DataState) (pool pool' : Blocks
   of_step : (r : Reclaimed) → Below log log' values values' pool pool' job job' old new (Ok r) → Whole log log' values values' pool pool' job job' old new (Ok r)
   of_step r b =
       let is = job_is log job b.where_is.may.stands.reclaim.shape_is in
-      let there = subst (λ (j : JobState). Somewhere (space log values pool j) old) is b.where_is in
+      let there = subst (λ (j : JobState). Somewhere (reclaim_parts log values pool j) old) is b.where_is in
       let steps = subst (λ (j : JobState). Steps j hands old job' hands' new r) is b.steps in
       let shape = b.shape ∙ b.where_is.may.stands.reclaim.shape_is in
-      let does = subst (λ (j : JobState). Does (space log values pool j) old x' new r) (sym is)
+      let does = subst (λ (j : JobState). Does (reclaim_parts log values pool j) old x' new r) (sym is)
       (does_in log log' values values' pool pool' job.moves job.entries job.page old new job' b.ready b.then_ready b.rest shape job.phase r there steps) in
       let sound = sound_in log log' values values' pool pool' job.moves job.entries job.page old new job' job.phase r steps in
       record {
@@ -118,21 +118,21 @@ module _ (log log' : LogState) (values values' : DataState) (pool pool' : Blocks
   of_failure : (e : Fault) → Below log log' values values' pool pool' job job' old new (Err e) → Whole log log' values values' pool pool' job job' old new (Err e)
   of_failure e b =
       let is = job_is log job b.where_is.may.stands.reclaim.shape_is in
-      let there = subst (λ (j : JobState). Somewhere (space log values pool j) old) is b.where_is in
+      let there = subst (λ (j : JobState). Somewhere (reclaim_parts log values pool j) old) is b.where_is in
       let breaks = subst (λ (j : JobState). JobBroken j hands old new e) is b.breaks in
       let failed = failed_in log log' values values' pool pool' job.moves job.entries job.page old new job' job.phase e breaks in
       let job_kept : job' ≡ job_in log job.moves job.entries job'.page job.phase = b.kept_job ∙ (λ i. record (is i) { page = job'.page }) in
       record {
         does = tt;
-        same_log = subst (λ (l : LogState). KeepsLog x (space l values' pool' job')) (sym b.kept) refl;
+        same_log = subst (λ (l : LogState). KeepsLog x (reclaim_parts l values' pool' job')) (sym b.kept) refl;
         same_roots = roots_in log log' values values' pool pool' job.moves job.entries job.page old new job' b.ready b.then_ready b.shared job.phase e there breaks;
         unread = λ same.
             let reading = same_answer e Reading same in
-            subst (λ (j : JobState). Unread (space log values pool j) old x' new) (sym is)
+            subst (λ (j : JobState). Unread (reclaim_parts log values pool j) old x' new) (sym is)
             (unread_in log log' values values' pool pool' job.moves job.entries job.page old new job' b.ready b.then_ready b.shared job.phase
             (subst (λ (f : Fault). JobBroken (job_in log job.moves job.entries job.page job.phase) hands old new f) reading breaks) b.kept (b.kept_values reading) b.kept_pool job_kept);
         broken = λ same.
-            subst (λ (j : JobState). ReclaimBroken (space log values pool j) old new × Stops old new) (sym is)
+            subst (λ (j : JobState). ReclaimBroken (reclaim_parts log values pool j) old new × Stops old new) (sym is)
             (broken_in log log' values values' pool pool' job.moves job.entries job.page old new job' b.ready b.then_ready b.shared job.phase
             (subst (λ (f : Fault). JobBroken (job_in log job.moves job.entries job.page job.phase) hands old new f) (same_answer e Stopped same) breaks));
         sound = tt;

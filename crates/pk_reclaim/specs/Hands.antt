@@ -3,8 +3,8 @@ use Rattle.pk_pool.specs.Blocks.{Blocks}
 use Rattle.pk_buf.specs.Table.{Table}
 use Rattle.pk_jrn.specs.Epochs.{JournalEpoch}
 use Rattle.pk_gc.specs.Stepping.{Hands}
-use Rattle.pk_data.specs.State.{DataState}
+use Rattle.pk_values.specs.State.{ValuesState}
 
 -- the live values and the open block, with the parts next to them
-abbrev pub hands_of : DataState → Blocks → Table → JournalEpoch → Hands
+abbrev pub hands_of : ValuesState → Blocks → Table → JournalEpoch → Hands
 hands_of d pool active epoch = record { live = d.live; front = d.open_block; pool = pool; active = active; epoch = epoch }

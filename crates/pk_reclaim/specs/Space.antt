@@ -23,28 +23,28 @@ use Rattle.pk_gc.specs.Cuts.{IsHalfMoved}
 use Rattle.pk_gc.specs.State.{JobState, left_in}
 use Rattle.pk_gc.specs.Stepping.{runs_in, IsHalfCommitted}
 use Rattle.pk_gc.specs.Standing.{held_blocks, ReclaimOnFlash}
-use Rattle.pk_data.specs.State.{DataState, needs_reclaim}
-use Rattle.pk_data.specs.Placed.{ValuesOnFlash}
+use Rattle.pk_values.specs.State.{ValuesState, needs_reclaim}
+use Rattle.pk_values.specs.Placed.{ValuesOnFlash}
 use Rattle.pk_log.specs.State.{LogState}
 use Rattle.pk_log.specs.Logs.{LogOnFlash}
 
 -- the log, where values lie, the blocks, and the reclaim
-pub record Space : Type 0 where
+pub record ReclaimParts : Type 0 where
   pub log : LogState
-  pub values : DataState
+  pub values : ValuesState
   pub pool : Blocks
   pub job : JobState
 
-abbrev pub space : LogState → DataState → Blocks → JobState → Space
-space log values pool job = record { log = log; values = values; pool = pool; job = job }
+abbrev pub reclaim_parts : LogState → ValuesState → Blocks → JobState → ReclaimParts
+reclaim_parts log values pool job = record { log = log; values = values; pool = pool; job = job }
 
 -- no value needs a reclaim before it
-abbrev pub HasRoom : Space → Type 0
+abbrev pub HasRoom : ReclaimParts → Type 0
 HasRoom x = (count : ℕ) → count ≤ most_pages x.log.shape → needs_reclaim x.log.shape x.values x.pool count ≡ false
 
 -- The commit of a reclaim's moves is half made: before its first program the map was on a former flash, without the moves, and the second
 -- program can be made. There is room for every value.
-pub record HalfMoves (x : Space) (flash : Flash) (top : ℕ × Root) (found : Found) (m : Map) : Type 0 where
+pub record HalfMoves (x : ReclaimParts) (flash : Flash) (top : ℕ × Root) (found : Found) (m : Map) : Type 0 where
   pub former : Flash
   pub was : Found
   pub moves : List (Key × Place)
@@ -56,7 +56,7 @@ pub record HalfMoves (x : Space) (flash : Flash) (top : ℕ × Root) (found : Fo
   pub room : HasRoom x
 
 -- in all other phases of a reclaim no commit is half made
-abbrev pub HalfIn : Phase → Space → Flash → ℕ × Root → Found → Map → Type 0
+abbrev pub HalfIn : Phase → ReclaimParts → Flash → ℕ × Root → Found → Map → Type 0
 HalfIn Idle x flash top found m = x.log.epoch.half ≡ false
 HalfIn (Copies c) x flash top found m = x.log.epoch.half ≡ false
 HalfIn (Commits victim) x flash top found m = HalfMoves x flash top found m
@@ -64,7 +64,7 @@ HalfIn (GivesBack victim) x flash top found m = x.log.epoch.half ≡ false
 
 -- The log matches the flash, whose map this is, with nothing pending. The values are in blocks of their own, next to them a reclaim as far
 -- as it has come, and the root names blocks of the journal and of runs alone. No block leaves.
-pub record SpaceOnFlash (x : Space) (flash : Flash) (top : ℕ × Root) (found : Found) (m : Map) : Type 0 where
+pub record SpaceOnFlash (x : ReclaimParts) (flash : Flash) (top : ℕ × Root) (found : Found) (m : Map) : Type 0 where
   pub logs : LogOnFlash x.log flash top found
   pub none_pending : x.log.pending ≡ []
   pub under : IsUnder x.log.shape flash [] top found m
@@ -76,24 +76,24 @@ pub record SpaceOnFlash (x : Space) (flash : Flash) (top : ℕ × Root) (found :
   pub none_leaves : NoneLeaves x.pool
 
 -- a reclaim runs, or may begin: all data blocks are in use but the one that is kept for it
-abbrev pub IsTurn : Space → Type 0
+abbrev pub IsTurn : ReclaimParts → Type 0
 IsTurn x = (runs_in x.job.phase ≡ true) ⊎ (used_by Values x.pool.states ≡ data_blocks x.log.shape - 1)
 
 -- what a step of a reclaim asks
-pub record MayReclaim (x : Space) (flash : Flash) (top : ℕ × Root) (found : Found) (m : Map) : Type 0 where
+pub record MayReclaim (x : ReclaimParts) (flash : Flash) (top : ℕ × Root) (found : Found) (m : Map) : Type 0 where
   pub stands : SpaceOnFlash x flash top found m
   pub turn : IsTurn x
 
 -- ---- what remains of it
 
 -- what remains before a step: a whole reclaim if none runs, but for two steps, which a block that is taken counts
-abbrev pub left_before : Space → ℕ
+abbrev pub left_before : ReclaimParts → ℕ
 left_before x = left_of (whole_reclaim x.log.shape - 2) (left_in x.log.shape x.values.live.heads x.job.phase)
 
 -- and after it: nothing if none runs
-abbrev pub left_behind : Space → ℕ
+abbrev pub left_behind : ReclaimParts → ℕ
 left_behind x = unwrap_or (left_in x.log.shape x.values.live.heads x.job.phase) 0
 
 -- less remains; a block that is taken counts twice
-abbrev pub Falls : Space → Space → Type 0
+abbrev pub Falls : ReclaimParts → ReclaimParts → Type 0
 Falls x x' = Lowers (left_before x) (unready x.pool.states) (left_behind x') (unready x'.pool.states)

@@ -29,7 +29,7 @@ use Rattle.pk_gc.specs.declared.reclaimed.Reclaimed.{Reclaimed}
 use Rattle.pk_gc.specs.declared.reclaimed.Reclaimed.TheVariants.{Worked, NeedsFreeze, Ended}
 use Rattle.pk_gc.specs.Stepping.{runs_in}
 use Rattle.pk_gc.specs.Committing.{HasRoom as MovesHaveRoom, entries_left}
-use Rattle.pk_reclaim.specs.Space.{Space, SpaceOnFlash, MayReclaim, Falls, HasRoom}
+use Rattle.pk_reclaim.specs.Space.{ReclaimParts, SpaceOnFlash, MayReclaim, Falls, HasRoom}
 
 -- these entries in the newest epoch
 abbrev pub with_newest : Found → List Entry → Found
@@ -56,7 +56,7 @@ StillIn (Commits victim) found newest = newest ≡ found.newest
 StillIn (GivesBack victim) found newest = Unit {0}
 
 -- The map is the same, wherever the step is cut. Some values have moved, all in one commit of the newest epoch; no other entry was written.
-pub record SpaceMoves (x : Space) (old : BoardState) (top : ℕ × Root) (found : Found) (m : Map) (x' : Space) (new : BoardState) : Type 0 where
+pub record SpaceMoves (x : ReclaimParts) (old : BoardState) (top : ℕ × Root) (found : Found) (m : Map) (x' : ReclaimParts) (new : BoardState) : Type 0 where
   pub moves : List (Key × Place)
   pub newest : List Entry
   pub newest_is : newest ≡ found.newest ++ entries_of moves
@@ -68,11 +68,11 @@ pub record SpaceMoves (x : Space) (old : BoardState) (top : ℕ × Root) (found 
   pub cuts : Reaches x.log.shape old new (CrashFinds x.log.shape background old.pages m)
 
 -- for whatever is there
-abbrev pub ReclaimMoves : Space → BoardState → Space → BoardState → Type 0
+abbrev pub ReclaimMoves : ReclaimParts → BoardState → ReclaimParts → BoardState → Type 0
 ReclaimMoves x old x' new = (top : ℕ × Root) (found : Found) (m : Map) → MayReclaim x old.pages top found m → SpaceMoves x old top found m x' new
 
 -- of the log only the entries of the active buffer and the commits of the newest epoch may differ
-abbrev pub KeepsLog : Space → Space → Type 0
+abbrev pub KeepsLog : ReclaimParts → ReclaimParts → Type 0
 KeepsLog x x' = x'.log ≡ record x.log {
   active = record x.log.active { entries = x'.log.active.entries };
   epoch = record x.log.epoch { used = x'.log.epoch.used; half = x'.log.epoch.half };
@@ -81,20 +81,20 @@ KeepsLog x x' = x'.log ≡ record x.log {
 -- ---- by its answer
 
 -- from the first program of the moves' commit on there is room for every value
-abbrev pub RoomIn : Phase → Space → Type 0
+abbrev pub RoomIn : Phase → ReclaimParts → Type 0
 RoomIn Idle x = Unit {0}
 RoomIn (Copies c) x = Unit {0}
 RoomIn (Commits victim) x = HasRoom x
 RoomIn (GivesBack victim) x = HasRoom x
 
 -- The second program leaves all but the epoch, which is whole then, and the phase and the page of the reclaim.
-pub record MakesWhole (victim : ℕ) (x x' : Space) : Type 0 where
+pub record MakesWhole (victim : ℕ) (x x' : ReclaimParts) : Type 0 where
   pub phase : x'.job.phase ≡ GivesBack victim
   pub log : x'.log ≡ record x.log { epoch = record x.log.epoch { half = false } }
   pub values : x'.values ≡ x.values
   pub pool : x'.pool ≡ x.pool
 
-abbrev pub PairIn : Phase → Space → Space → Type 0
+abbrev pub PairIn : Phase → ReclaimParts → ReclaimParts → Type 0
 PairIn Idle x x' = Unit {0}
 PairIn (Copies c) x x' = Unit {0}
 PairIn (Commits victim) x x' = MakesWhole victim x x'
@@ -108,14 +108,14 @@ RepeatsIn (Commits victim) old new result = OneProgram old new × (result ≢ Er
 RepeatsIn (GivesBack victim) old new result = Unit {0}
 
 -- while values are copied the log is the same
-abbrev pub LogIn : Phase → Space → Space → Type 0
+abbrev pub LogIn : Phase → ReclaimParts → ReclaimParts → Type 0
 LogIn Idle x x' = Unit {0}
 LogIn (Copies c) x x' = x'.log ≡ x.log
 LogIn (Commits victim) x x' = Unit {0}
 LogIn (GivesBack victim) x x' = Unit {0}
 
 -- A step was made of a reclaim that runs now.
-pub record Works (x : Space) (old : BoardState) (x' : Space) (new : BoardState) : Type 0 where
+pub record Works (x : ReclaimParts) (old : BoardState) (x' : ReclaimParts) (new : BoardState) : Type 0 where
   pub moves : ReclaimMoves x old x' new
   pub falls : Falls x x'
   pub runs : runs_in x'.job.phase ≡ true
@@ -124,14 +124,14 @@ pub record Works (x : Space) (old : BoardState) (x' : Space) (new : BoardState) 
   pub pair : PairIn x.job.phase x x'
 
 -- if the moves were committed before, the log is the same, and values are where they were; otherwise there is room for every value
-abbrev pub RoomBehind : Phase → Space → Space → Type 0
+abbrev pub RoomBehind : Phase → ReclaimParts → ReclaimParts → Type 0
 RoomBehind Idle x x' = HasRoom x'
 RoomBehind (Copies c) x x' = HasRoom x'
 RoomBehind (Commits victim) x x' = ⊥
 RoomBehind (GivesBack victim) x x' = (x'.log ≡ x.log) × (x'.values ≡ x.values)
 
 -- A block was freed, and no reclaim runs now.
-pub record SpaceReclaimEnded (x : Space) (old : BoardState) (x' : Space) (new : BoardState) : Type 0 where
+pub record SpaceReclaimEnded (x : ReclaimParts) (old : BoardState) (x' : ReclaimParts) (new : BoardState) : Type 0 where
   pub moves : ReclaimMoves x old x' new
   pub falls : Falls x x'
   pub idle : x'.job.phase ≡ Idle
@@ -139,7 +139,7 @@ pub record SpaceReclaimEnded (x : Space) (old : BoardState) (x' : Space) (new : 
   pub room : RoomBehind x.job.phase x x'
 
 -- The moves of a reclaim find no room, in the active buffer or in the newest epoch, and nothing was done.
-pub record WantsFreeze (x : Space) (old : BoardState) (x' : Space) (new : BoardState) : Type 0 where
+pub record WantsFreeze (x : ReclaimParts) (old : BoardState) (x' : ReclaimParts) (new : BoardState) : Type 0 where
   pub same : x' ≡ x
   pub board : new ≡ old
   pub course : Course
@@ -147,7 +147,7 @@ pub record WantsFreeze (x : Space) (old : BoardState) (x' : Space) (new : BoardS
   pub no_room : MovesHaveRoom x.log.active x.log.epoch (entries_left x.values.live.heads x.job.moves) → ⊥
   pub tight : is_tight x.log.shape (length x.log.active.entries) (left_of x.log.epoch) ≡ true
 
-abbrev pub Does : Space → BoardState → Space → BoardState → Reclaimed → Type 0
+abbrev pub Does : ReclaimParts → BoardState → ReclaimParts → BoardState → Reclaimed → Type 0
 Does x old x' new Worked = Works x old x' new
 Does x old x' new NeedsFreeze = WantsFreeze x old x' new
 Does x old x' new Ended = SpaceReclaimEnded x old x' new
@@ -155,7 +155,7 @@ Does x old x' new Ended = SpaceReclaimEnded x old x' new
 -- ---- a call failed
 
 -- A read failed: no more differs than the bytes of a page that is to be read again, and the step can be made again.
-pub record Unread (x : Space) (old : BoardState) (x' : Space) (new : BoardState) : Type 0 where
+pub record Unread (x : ReclaimParts) (old : BoardState) (x' : ReclaimParts) (new : BoardState) : Type 0 where
   pub rest : x' ≡ record x { job = record x.job { page = x'.job.page } }
   pub again : (top : ℕ × Root) (found : Found) (m : Map) → MayReclaim x old.pages top found m → MayReclaim x' new.pages top found m
   pub only : OnlyReading old new
@@ -163,7 +163,7 @@ pub record Unread (x : Space) (old : BoardState) (x' : Space) (new : BoardState)
   pub flash : Rose old.flash_faults new.flash_faults
 
 -- a program or an erase failed: the map is the same, wherever it was cut
-abbrev pub ReclaimBroken : Space → BoardState → BoardState → Type 0
+abbrev pub ReclaimBroken : ReclaimParts → BoardState → BoardState → Type 0
 ReclaimBroken x old new =
     (top : ℕ × Root) (found : Found) (m : Map) → MayReclaim x old.pages top found m
     → Goes x.log.shape old new (CrashFinds x.log.shape background old.pages m)

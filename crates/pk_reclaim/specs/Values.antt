@@ -18,35 +18,35 @@ use Rattle.pk_gc.specs.State.{JobState, placed_at, left_of}
 use Rattle.pk_gc.specs.Beginning.{Starts, GivesBack}
 use Rattle.pk_gc.specs.Ending.{CanGive}
 use Rattle.pk_gc.specs.Stepping.{CommitsMoves, EndsWithout, GivesVictim}
-use Rattle.pk_data.specs.State.{DataState}
-use Rattle.pk_data.specs.Placed.{ValuesOnFlash}
+use Rattle.pk_values.specs.State.{ValuesState}
+use Rattle.pk_values.specs.Placed.{ValuesOnFlash}
 use Rattle.pk_reclaim.specs.Hands.{hands_of}
 
 -- An Erased block was taken for the copies, and the open one may have been closed.
 abbrev pub OutputTaken : Type 0
 OutputTaken =
-    (shape : Shape) (job job' : JobState) (d d' : DataState) (p q : Blocks) (old new : BoardState) (es : List (Key × Place)) → ValuesOnFlash shape d p [] old.pages es
+    (shape : Shape) (job job' : JobState) (d d' : ValuesState) (p q : Blocks) (old new : BoardState) (es : List (Key × Place)) → ValuesOnFlash shape d p [] old.pages es
     → (s : Starts job d.live d.open_block p old job' d'.live d'.open_block q new)
     → ValuesOnFlash shape d' q (s.output ∷ []) new.pages es × (used_by for_values q.states ≡ used_by for_values p.states + 1)
 
 -- A victim without live pages was freed.
 abbrev pub DeadGivenBack : Type 0
 DeadGivenBack =
-    (shape : Shape) (job job' : JobState) (d d' : DataState) (p q : Blocks) (old new : BoardState) (es : List (Key × Place)) → ValuesOnFlash shape d p [] old.pages es
+    (shape : Shape) (job job' : JobState) (d d' : ValuesState) (p q : Blocks) (old new : BoardState) (es : List (Key × Place)) → ValuesOnFlash shape d p [] old.pages es
     → GivesBack job d.live d.open_block p old job' d'.live d'.open_block q new
     → ValuesOnFlash shape d' q [] new.pages es × (used_by for_values q.states + 1 ≡ used_by for_values p.states)
 
 -- A page of the output was programmed.
 abbrev pub CopyProgrammed : Type 0
 CopyProgrammed =
-    (shape : Shape) (d : DataState) (p : Blocks) (output page : ℕ) (bytes : List ℕ) (flash : Flash) (es : List (Key × Place)) → ValuesOnFlash shape d p (output ∷ []) flash es
+    (shape : Shape) (d : ValuesState) (p : Blocks) (output page : ℕ) (bytes : List ℕ) (flash : Flash) (es : List (Key × Place)) → ValuesOnFlash shape d p (output ∷ []) flash es
     → page / shape.block_pages ≡ output → ValuesOnFlash shape d p (output ∷ []) (after shape (program page bytes) flash) es
 
 -- The first program of the commit of the remaining moves was made: the values are at their new places, the output is the open block, and the
 -- victim is held in its stead.
 abbrev pub MovesPlaced : Type 0
 MovesPlaced =
-    (shape : Shape) (c : Course) (job job' : JobState) (d d' : DataState) (p q : Blocks) (active active' : Table) (epoch epoch' : JournalEpoch) (old new : BoardState) (es : List (Key × Place))
+    (shape : Shape) (c : Course) (job job' : JobState) (d d' : ValuesState) (p q : Blocks) (active active' : Table) (epoch epoch' : JournalEpoch) (old new : BoardState) (es : List (Key × Place))
     → ValuesOnFlash shape d p (c.output ∷ []) old.pages es → CanGive shape c job (hands_of d p active epoch) old.pages es
     → CommitsMoves c job (hands_of d p active epoch) old job' (hands_of d' q active' epoch') new
     → slice_get p.states (next_page epoch / shape.block_pages) ≡ Some (Owned Journal)
@@ -55,7 +55,7 @@ MovesPlaced =
 -- No move remained: the output is the open block, and the victim was freed.
 abbrev pub EndPlaced : Type 0
 EndPlaced =
-    (shape : Shape) (c : Course) (job job' : JobState) (d d' : DataState) (p q : Blocks) (active active' : Table) (epoch epoch' : JournalEpoch) (old new : BoardState) (es : List (Key × Place))
+    (shape : Shape) (c : Course) (job job' : JobState) (d d' : ValuesState) (p q : Blocks) (active active' : Table) (epoch epoch' : JournalEpoch) (old new : BoardState) (es : List (Key × Place))
     → ValuesOnFlash shape d p (c.output ∷ []) old.pages es → CanGive shape c job (hands_of d p active epoch) old.pages es
     → EndsWithout c job (hands_of d p active epoch) old job' (hands_of d' q active' epoch') new
     → ValuesOnFlash shape d' q [] new.pages es × (used_by for_values q.states + 1 ≡ used_by for_values p.states)
@@ -63,6 +63,6 @@ EndPlaced =
 -- The victim was freed.
 abbrev pub VictimGivenBack : Type 0
 VictimGivenBack =
-    (shape : Shape) (victim : ℕ) (job job' : JobState) (d d' : DataState) (p q : Blocks) (active active' : Table) (epoch epoch' : JournalEpoch) (old new : BoardState) (r : Reclaimed) (es : List (Key × Place))
+    (shape : Shape) (victim : ℕ) (job job' : JobState) (d d' : ValuesState) (p q : Blocks) (active active' : Table) (epoch epoch' : JournalEpoch) (old new : BoardState) (r : Reclaimed) (es : List (Key × Place))
     → ValuesOnFlash shape d p (victim ∷ []) old.pages es → GivesVictim victim job (hands_of d p active epoch) old job' (hands_of d' q active' epoch') new r
     → ValuesOnFlash shape d' q [] new.pages es × (used_by for_values q.states + 1 ≡ used_by for_values p.states)

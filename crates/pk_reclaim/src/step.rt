@@ -8,15 +8,15 @@ ghost use Rattle.pk_rootfmt.specs.Root.{Root as RootValue};
 ghost use Rattle.pk_model.specs.Found.{Found};
 ghost use Rattle.pk_model.specs.Growth.{Grows};
 ghost use Rattle.pk_model.specs.Wear.{roots};
-ghost use Rattle.pk_reclaim.specs.Space.{MayReclaim, space};
+ghost use Rattle.pk_reclaim.specs.Space.{MayReclaim, reclaim_parts};
 ghost use Rattle.pk_reclaim.specs.Steps.{Does, Unread, ReclaimBroken, KeepsLog, RepeatsIn};
 
-use pk_data::Data;
 use pk_gc::{ReclaimJob, Reclaimed};
 use pk_log::Log;
 use pk_nand::{Fault, Nand};
 use pk_pool::Pool;
 use pk_region::Region;
+use pk_values::Values;
 
 /// One step of a reclaim, by at most one flash operation: it begins if none runs, a page of the
 /// victim is read, or programmed into the output, the first or the second program of the moves'
@@ -28,33 +28,33 @@ use pk_region::Region;
 pub fn reclaim_step<B: Nand, A: Region>(
     board: &mut B,
     job: &mut ReclaimJob<A>,
-    values: &mut Data<A>,
+    values: &mut Values<A>,
     log: &mut Log<A>,
     pool: &mut Pool<A>,
 ) -> Result<Reclaimed, Fault>
     // They are the space of the drive on this board.
     requires ready { IsReady (B.state board.old) log.old.shape }
     requires may { (top : ℕ × RootValue) × (found : Found) × (m : Map)
-        × MayReclaim (space log.old values.old pool.old job.old) (B.state board.old).pages top
+        × MayReclaim (reclaim_parts log.old values.old pool.old job.old) (B.state board.old).pages top
         found m }
 
     // A step was made, or needs a freeze before it.
-    ensures does { IfOk result (λ r. Does (space log.old values.old pool.old job.old)
-        (B.state board.old) (space log.new values.new pool.new job.new) (B.state board.new) r) }
+    ensures does { IfOk result (λ r. Does (reclaim_parts log.old values.old pool.old job.old)
+        (B.state board.old) (reclaim_parts log.new values.new pool.new job.new) (B.state board.new) r) }
 
     // Out of a commit that is half made it is its second program.
     ensures repeats { RepeatsIn job.old.phase (B.state board.old) (B.state board.new) result }
 
     // Whatever came of it, of the log only the newest epoch differs, and the roots are the same.
-    ensures same_log { KeepsLog (space log.old values.old pool.old job.old)
-        (space log.new values.new pool.new job.new) }
+    ensures same_log { KeepsLog (reclaim_parts log.old values.old pool.old job.old)
+        (reclaim_parts log.new values.new pool.new job.new) }
     ensures grows { Grows log.old.shape (B.state board.old).pages (B.state board.new).pages }
     ensures same_roots { roots (B.state board.new) ≡ roots (B.state board.old) }
 
     // A call failed.
-    ensures unread { result ≡ Err Reading → Unread (space log.old values.old pool.old job.old)
-        (B.state board.old) (space log.new values.new pool.new job.new) (B.state board.new) }
-    ensures broken { result ≡ Err Stopped → ReclaimBroken (space log.old values.old pool.old job.old)
+    ensures unread { result ≡ Err Reading → Unread (reclaim_parts log.old values.old pool.old job.old)
+        (B.state board.old) (reclaim_parts log.new values.new pool.new job.new) (B.state board.new) }
+    ensures broken { result ≡ Err Stopped → ReclaimBroken (reclaim_parts log.old values.old pool.old job.old)
         (B.state board.old) (B.state board.new) × Stops (B.state board.old) (B.state board.new) }
 
     // The board.

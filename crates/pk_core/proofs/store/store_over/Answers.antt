@@ -49,7 +49,7 @@ pub returns-in-Some-clause-stores : goal.returns-in-Some-clause-stores
 returns-in-Some-clause-stores g c =
     stores_none c.args.parts.now (g.B.Nand.state c.args.board.now) c.args.key c.refusal.result
     (told_refused c.refusal.result c.in-Some.status 0 0 _ false c.refusal.ensures
-    (store_refuses c.args.request.now.options (sum c.args.parts.now.space.live.heads - pages_at c.args.parts.now.log.shape c.args.old + charge c.args.parts.now.log.shape c.args.request.now.size)
+    (store_refuses c.args.request.now.options (sum c.args.parts.now.values.live.heads - pages_at c.args.parts.now.log.shape c.args.old + charge c.args.parts.now.log.shape c.args.request.now.size)
     (limit c.args.parts.now.log.shape) c.in-Some.status (is_some c.args.old) (sym c.fault_of_store.ensures ∙ c.in-Some.is))) _
 
 pub returns-in-None-clause-executes : goal.returns-in-None-clause-executes

@@ -1,4 +1,4 @@
-use Rattle.pk_reclaim.specs.Space.{space}
+use Rattle.pk_reclaim.specs.Space.{reclaim_parts}
 use Rattle.pk_parts.proofs.Ending.{some_end, commit_ended, commit_failed}
 use Rattle.pk_parts.proofs.parts.Parts.finish_commit.Goals as goal
 use Rattle.pk_parts.proofs.parts.Parts.finish_commit.Goals.{in-Ok, in-Err}
@@ -13,7 +13,7 @@ returns g c = elim c.match-reclaim_step.branch [
   | in-Ok w ↦ (
       let e = c.reclaim_step.ensures in
       let r = rw (← c.self.view_is) at c.requires in
-      let x = space c.reclaim_step.new.log c.reclaim_step.new.values c.reclaim_step.new.pool c.reclaim_step.new.job in
+      let x = reclaim_parts c.reclaim_step.new.log c.reclaim_step.new.values c.reclaim_step.new.pool c.reclaim_step.new.job in
       rw w.result-is (rw (← c.self.view_is)
       (commit_ended _ x (g.B.Nand.state c.args.board.now)
       (g.B.Nand.state c.reclaim_step.new.board) r.may r.half e.same_log e.ready e.grows e.same_roots
@@ -21,7 +21,7 @@ returns g c = elim c.match-reclaim_step.branch [
   | in-Err w ↦ (
       let e = c.reclaim_step.ensures in
       let r = rw (← c.self.view_is) at c.requires in
-      let x = space c.reclaim_step.new.log c.reclaim_step.new.values c.reclaim_step.new.pool c.reclaim_step.new.job in
+      let x = reclaim_parts c.reclaim_step.new.log c.reclaim_step.new.values c.reclaim_step.new.pool c.reclaim_step.new.job in
       rw w.result-is (rw (← c.self.view_is)
       (commit_failed _ x (g.B.Nand.state c.args.board.now)
       (g.B.Nand.state c.reclaim_step.new.board) r.may r.half e.same_log e.ready e.grows e.same_roots e.rest w.in-Err.fault c.reclaim_step.result w.in-Err.is e.broken e.repeats)))

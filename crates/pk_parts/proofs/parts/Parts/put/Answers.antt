@@ -49,7 +49,7 @@ returns-in-Ok-clause-opens g c =
     let opens = StaysOrOpens c.args.self.now c.put_with_room.new.self (charge c.args.self.now.log.shape (length c.args.value.now)) in
     running_ok opens opens c.put_with_room.result (λ is. is) c.put_with_room.ensures.step.stopped
     (opens_put c.put_with_room.result c.args.self.now c.make_room.new.self c.put_with_room.new.self
-    (length c.args.value.now) e.moves e.leaves.same_shape (ap (λ (d : Parts). d.space) e.leaves.rest) c.put_with_room.ensures.opens)
+    (length c.args.value.now) e.moves e.leaves.same_shape (ap (λ (d : Parts). d.values) e.leaves.rest) c.put_with_room.ensures.opens)
 
 pub returns-in-Ok-clause-programs : goal.returns-in-Ok-clause-programs
 returns-in-Ok-clause-programs g c =

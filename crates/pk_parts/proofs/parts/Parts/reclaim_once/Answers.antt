@@ -1,4 +1,4 @@
-use Rattle.pk_reclaim.specs.Space.{space}
+use Rattle.pk_reclaim.specs.Space.{reclaim_parts}
 use Rattle.pk_parts.proofs.Reclaimed.{may_reclaim, does_if, fails_if}
 use Rattle.pk_parts.proofs.parts.Parts.reclaim_once.Goals as goal
 
@@ -11,12 +11,12 @@ pub returns-clause-does : goal.returns-clause-does
 returns-clause-does g c =
     let e = c.reclaim_step.ensures in
     let r = rw (← c.self.view_is) at c.requires in
-    let x = space c.reclaim_step.new.log c.reclaim_step.new.values c.reclaim_step.new.pool c.reclaim_step.new.job in
+    let x = reclaim_parts c.reclaim_step.new.log c.reclaim_step.new.values c.reclaim_step.new.pool c.reclaim_step.new.job in
     rw (← c.self.view_is) (does_if _ x (g.B.Nand.state c.args.board.now) (g.B.Nand.state c.reclaim_step.new.board) r.may e.same_log e.ready c.reclaim_step.result e.does)
 
 pub returns-clause-fails : goal.returns-clause-fails
 returns-clause-fails g c =
     let e = c.reclaim_step.ensures in
     let r = rw (← c.self.view_is) at c.requires in
-    let x = space c.reclaim_step.new.log c.reclaim_step.new.values c.reclaim_step.new.pool c.reclaim_step.new.job in
+    let x = reclaim_parts c.reclaim_step.new.log c.reclaim_step.new.values c.reclaim_step.new.pool c.reclaim_step.new.job in
     rw (← c.self.view_is) (fails_if _ x (g.B.Nand.state c.args.board.now) (g.B.Nand.state c.reclaim_step.new.board) r.may c.reclaim_step.result e.unread e.broken)

@@ -1,9 +1,0 @@
-use Rattle.pk_data.proofs.Standing.{held_head, removed_as}
-use Rattle.pk_data.proofs.data_space.Data.remove.Goals as goal
-
-pub clear-requires : goal.clear-requires
-clear-requires g c = let h = held_head c.args.self.now c.args.span c.requires in rw (← c.self.view_is) at h
-
-pub returns-clause-placed : goal.returns-clause-placed
-returns-clause-placed g c =
-    removed_as c.args.self.now c.args.span (record { live = c.clear.new.self; open_block = c.self.inside.open_block }) (rw (c.clear.ensures, ← c.self.view_is))
