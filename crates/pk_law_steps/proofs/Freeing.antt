@@ -113,6 +113,6 @@ freed shape flash extra top found m level count taken b is_shape before is was =
     let former : In b (named root) = was_named root.newest root.older taken root.runs d b level was in
     let values = values_under shape flash extra root found m before.is_map in (
       λ among. is.fresh b (only root.newest root.older taken root.runs d b level (next_is_level shape (length (firsts found.older)) (map (λ es. length es) found.runs) level is.next) was among) former,
-      λ k here value. values_apart shape (page_at flash) (named root) [] (places found extra) values.values values.read k (subst (λ es. IsValuePage shape es k) next.same_places value)
+      λ k here value. values_apart shape (page_at flash) (root_limits shape root) (named root) [] (places found extra) values.values values.read k (subst (λ es. IsValuePage shape es k) next.same_places value)
           (is_any_back (k / shape.block_pages) (named root) (subst (λ x. In x (named root)) (sym here) former)),
     )
