@@ -44,6 +44,10 @@ take_next (x ∷ es) (suc i) e h = ap (λ ys. x ∷ ys) (take_next es i e h)
 abbrev pub InSpacesTo : Shape → List ℕ → ℕ → ℕ → ℕ → Type 0
 InSpacesTo shape page spaces count i = (epoch index : ℕ) (es : List Entry) → IsJournalPage shape page epoch index es → length es ≡ count → in_spaces spaces (take i es) ≡ true
 
+no_more : (b : Bool) → (b && false) ≡ false
+no_more true = refl
+no_more false = refl
+
 module _ (shape : Shape) (page : List ℕ) (spaces count i : ℕ) (e : Entry) (here : (epoch index : ℕ) (es : List Entry) → IsJournalPage shape page epoch index es → slice_get es i ≡ Some e) where
   in_next : (es : List Entry) → slice_get es i ≡ Some e → in_spaces spaces (take (suc i) es) ≡ (in_spaces spaces (take i es) && nat_le (space_of e.0) spaces)
   in_next es at = ap (in_spaces spaces) (take_next es i e at) ∙ list_all-append (λ x. nat_le (space_of x.0) spaces) (take i es) (e ∷ []) ∙ ap (λ b. in_spaces spaces (take i es) && b) (last_one (nat_le (space_of e.0) spaces))
@@ -61,13 +65,10 @@ module _ (shape : Shape) (page : List ℕ) (spaces count i : ℕ) (e : Entry) (h
   pub InSpacesTo-none : nat_le (space_of e.0) spaces ≡ false
       → (epoch index : ℕ) (es : List Entry) → IsJournalPage shape page epoch index es → length es ≡ count → in_spaces spaces es ≡ false
   InSpacesTo-none own epoch index es is many =
+      let none : in_spaces spaces (take (suc i) es) ≡ false = in_next es (here epoch index es is) ∙ rw own (no_more (in_spaces spaces (take i es))) in
       subst (λ (xs : List Entry). in_spaces spaces xs ≡ false) (take-append-drop (suc i) es)
       (list_all-append (λ x. nat_le (space_of x.0) spaces) (take (suc i) es) (drop (suc i) es)
-      ∙ ap (λ b. b && in_spaces spaces (drop (suc i) es)) (in_next es (here epoch index es is) ∙ rw own (no_more (in_spaces spaces (take i es)))))
-    where
-      no_more : (b : Bool) → (b && false) ≡ false
-      no_more true = refl
-      no_more false = refl
+      ∙ ap (λ b. b && in_spaces spaces (drop (suc i) es)) none)
 
 pub InSpacesTo-end : (shape : Shape) (page : List ℕ) (spaces count i : ℕ) → count ≤ i → InSpacesTo shape page spaces count i
     → (epoch index : ℕ) (es : List Entry) → IsJournalPage shape page epoch index es → length es ≡ count → in_spaces spaces es ≡ true
@@ -273,7 +274,7 @@ module _ (shape : Shape) (spaces number : ℕ) (blocks : List ℕ) (old : BoardS
         ∙ ap (λ k. after_reads (reads_before shape at blocks k) old) one
 
     pub Replaying-next : (bytes : List ℕ) (new : BoardState) (into' : Table) → number < 2 ^ 64 → i < epoch_commits shape → next.1 ≡ whole bytes
-        → new ≡ after_reads (reads_of_pair (at (commit_page shape blocks i))) now → TakesPage shape number i bytes into true into' → Replaying new (i + 1) into'
+        → new ≡ after_reads (reads_of_pair (at (commit_page shape blocks i))) now → TakesPage shape spaces number i bytes into true into' → Replaying new (i + 1) into'
     Replaying-next bytes new into' fits inside here read takes =
         let es = takes.0 in
         let size : length into'.entries ≡ length (firsts (r.entries ++ es)) = ap (λ (t : Table). length t.entries) takes.3.0 ∙ keys es in
@@ -300,7 +301,7 @@ module _ (shape : Shape) (spaces number : ℕ) (blocks : List ℕ) (old : BoardS
         }
 
     pub Replaying-refused : (bytes : List ℕ) (new : BoardState) (into' : Table) (page : ℕ) → i < epoch_commits shape → next.1 ≡ whole bytes
-        → new ≡ after_reads (reads_of_pair (at (commit_page shape blocks i))) now → page ≡ next.0 → TakesPage shape number i bytes into false into' → ReplayRefused shape spaces number blocks old new page
+        → new ≡ after_reads (reads_of_pair (at (commit_page shape blocks i))) now → page ≡ next.0 → TakesPage shape spaces number i bytes into false into' → ReplayRefused shape spaces number blocks old new page
     Replaying-refused bytes new into' page inside here read page_is takes =
         let step : epoch_commits shape - i ≡ suc (epoch_commits shape - (i + 1)) = omega (arith, inside) in
         record {
@@ -314,16 +315,12 @@ module _ (shape : Shape) (spaces number : ℕ) (blocks : List ℕ) (old : BoardS
         }
       where
         not_followed : (es : List Entry) → (in_spaces spaces es ≡ false) ⊎ (into.capacity < length (puts es into.entries)) → may_follow shape spaces r.entries es ≡ false
-        not_followed es (inl other) = rw other (and_false (nat_le (length (firsts (r.entries ++ es))) (buffer shape)))
+        not_followed es (inl other) = rw other (no_more (nat_le (length (firsts (r.entries ++ es))) (buffer shape)))
         not_followed es (inr many) =
             let k = keys es in
             let c = room in
             let full : nat_le (length (firsts (r.entries ++ es))) (buffer shape) ≡ false = grind (arith, nat_tests) in
             rw full refl
-
-        and_false : (b : Bool) → (b && false) ≡ false
-        and_false true = refl
-        and_false false = refl
 
     -- the commit has no page that is whole
     pub Replayed-ends : i < epoch_commits shape → IsNotWhole next.1 → Replayed shape spaces number blocks old.pages i into

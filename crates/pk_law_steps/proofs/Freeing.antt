@@ -15,6 +15,7 @@ use Rattle.pk_law_steps.specs.Merging.{Freed, blocks_at}
 use Rattle.pk_law_steps.proofs.FourRuns.{IsLevel, next_is_level}
 use Rattle.pk_law_steps.proofs.Merging.{in_set}
 use Rattle.pk_law_steps.proofs.Following.{merged_next}
+use Rattle.pk_model.specs.RootLimits.{root_limits}
 
 -- a block of one run is a block of the runs
 pub in_one : (b i : ℕ) (runs : List (List ℕ)) → In b (slice_index_or runs i []) → In b (concat runs)
