@@ -17,7 +17,7 @@ use pk_region::Region;
 /// Makes room for a further entry of the key: if that needs a freeze, the pending entries are
 /// committed, merges empty the frozen buffer, and the active one is frozen. `Reading` if a read
 /// of a merge fails: the map is unchanged.
-pub(crate) fn make_room<B: Nand, A: Region>(
+pub fn make_room<B: Nand, A: Region>(
     parts: &mut Parts<A>,
     board: &mut B,
     key: &Key,
