@@ -2,9 +2,10 @@
 use Rattle.std.specs.Prelude.{ℕ}
 use Rattle.pk_base.specs.Shape.{Shape}
 use Rattle.pk_base.specs.Map.{Map}
-use Rattle.pk_nand.specs.BoardState.{BoardState}
-use Rattle.pk_model.specs.Spaces.{Terms}
-use Rattle.pk_model.specs.Crashes.{Moment, CrashFinds}
+use Rattle.pk_nand.specs.BoardState.{BoardState, shape_of}
+use Rattle.pk_model.specs.Spaces.{Terms, limits_at}
+use Rattle.pk_nvme.specs.Command.{Command}
+use Rattle.pk_model.specs.Crashes.{Moment, CrashFinds, command}
 use Rattle.pk_model.specs.Growth.{Reaches, Goes}
 use Rattle.pk_model.specs.Sight.{Sight}
 use Rattle.pk_call.specs.Drive.{HoldsMap}
@@ -13,6 +14,10 @@ use Rattle.pk_call.specs.Drive.{HoldsMap}
 abbrev pub KeepsMap : BoardState → BoardState → Sight → Sight → Type 0
 KeepsMap old new before after =
     (shape : Shape) (terms : Terms) (m : Map) → HoldsMap shape terms old before m → HoldsMap shape terms new after m
+
+-- the moment of a command on this board: the map becomes the one after it, within the limits that the flash has
+abbrev pub command_on : BoardState → Command → Moment
+command_on board c = command (limits_at (shape_of board) board.pages) c
 
 -- Every crash within the call finds what its moment allows, and the tree goes from root to root by freezes and merges.
 abbrev pub CallReaches : BoardState → BoardState → Sight → Moment → Type 0
