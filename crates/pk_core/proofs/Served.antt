@@ -298,7 +298,7 @@ module _ (d : Parts) (old : BoardState) (r : Request) (value : List ℕ) (k : Ke
   after_pages = sum d.values.live.heads - pages_at d.log.shape o + charge d.log.shape r.size
 
   passes : early 1 d.log.shape c ≡ None
-  passes = same_early 1 d.log.shape r value ∙ s.passed
+  passes = same_early d.log.shape r value ∙ s.passed
 
   live_is : sum d.values.live.heads ≡ live d.log.shape all
   live_is = (counts_own d old s.agrees).live_is
@@ -403,7 +403,7 @@ module _ (d : Parts) (old : BoardState) (r : Request) (v : List ℕ) (k : Key) (
   its_map = s.agrees.all
 
   delete_passed : early 1 d.log.shape dc ≡ None
-  delete_passed = same_early 1 d.log.shape r v ∙ s.passed
+  delete_passed = same_early d.log.shape r v ∙ s.passed
 
   pub delete_missing : (e : Parts) (into : List ℕ) (outcome : Outcome) (reads : ℕ) → Looks d old.pages k None → e ≡ d
       → outcome ≡ record { status = 0x87; result = 0; data_len = 0; reads = reads; stopped = false }

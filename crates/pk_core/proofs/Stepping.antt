@@ -184,7 +184,7 @@ ok_sound e = cc
 
 module _ (old new : BoardState) (d d' : Parts) (r : Request) (v : List ℕ) (a : DriveOnFlash d old.shape old.pages) (passed : early 1 d.log.shape (command_of r []) ≡ None) (op : r.opcode ≡ 0xC0) where
   passes : early 1 d.log.shape (command_of r v) ≡ None
-  passes = same_early 1 d.log.shape r v ∙ passed
+  passes = same_early d.log.shape r v ∙ passed
 
   -- the clauses that every answer has alike
   does_steps : (answer : Ticked) (reply : Reply) (reads : ℕ) → BackgroundSteps old new (sight_of d) (sight_of d') answer r.size → reads ≡ new.reads - old.reads
