@@ -205,11 +205,19 @@ module _ (old new : BoardState) (d d' : Parts) (r : Request) (v : List ℕ) (a :
         };
         found = record {
           cuts = λ runs shape frames m st.
-              let run = w.found.cuts runs shape frames m st in
-              (run.0, weaken run.0 old new (CrashFinds shape background old.pages m) (CrashFinds shape (command_on old (command_of r v)) old.pages m) (λ f q cut. (cut.0, inr (inl cut.1))) run.1, run.2);
+              let run = w.found.cuts runs shape frames m st in (
+                run.0,
+                weaken run.0 old new (CrashFinds shape background old.pages m)
+                    (CrashFinds shape (command_on old (command_of r v)) old.pages m) (λ f q cut. (cut.0, inr (inl cut.1))) run.1,
+                run.2,
+              );
           cuts_stopped = λ stops shape frames m st.
-              let run = w.found.cuts_stopped stops shape frames m st in
-              (run.0, weaken_went run.0 old new (CrashFinds shape background old.pages m) (CrashFinds shape (command_on old (command_of r v)) old.pages m) (λ f q cut. (cut.0, inr (inl cut.1))) run.1, run.2);
+              let run = w.found.cuts_stopped stops shape frames m st in (
+                run.0,
+                weaken_went run.0 old new (CrashFinds shape background old.pages m)
+                    (CrashFinds shape (command_on old (command_of r v)) old.pages m) (λ f q cut. (cut.0, inr (inl cut.1))) run.1,
+                run.2,
+              );
         };
         rest = w.rest;
         reads_are = omega (arith, is, few, more);
