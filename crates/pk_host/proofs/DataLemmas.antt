@@ -70,7 +70,7 @@ module _ (shape : Shape) (most frames : ℕ) (m : Map) (own : List ℕ) (eleven 
       (subst (λ (o : Option Opcode). length (reply_of shape most frames m own c (Some k)).data_bytes ≤ room_for c.size o) (sym is) (served_fits k is passed))
 
   pub data_fit : length answer.data_bytes ≤ room_of c
-  data_fit = elim (refused shape most m c) as (λ r. refused shape most m c ≡ r → length answer.data_bytes ≤ room_of c) [
+  data_fit = elim (refused shape (most ∷ []) m c) as (λ r. refused shape (most ∷ []) m c ≡ r → length answer.data_bytes ≤ room_of c) [
     | Some status ↦ λ e. subst (λ (a : Reply). length a.data_bytes ≤ room_of c) (sym (refuses_with shape most frames m own c status e).replied) (omega arith)
     | None ↦ λ e. let both = first_none (early shape c) (late_of shape most m c (op_of c.opcode)) e in fits_by (op_of c.opcode) refl both.0 both.1
   ] refl
@@ -128,7 +128,7 @@ module _ (shape : Shape) (most : ℕ) (m : Map) (c : Command) where
   other_late (Some Tick) = tt
   other_late (Some Report) = tt
 
-  other_refused : IsOther (refused shape most m c)
+  other_refused : IsOther (refused shape (most ∷ []) m c)
   other_refused = other_first (early shape c) _ (other_early shape c (op_of c.opcode)) (other_late (op_of c.opcode))
 
   success_of : (k : Opcode) → (reply_of shape most 0 m no_numbers c (Some k)).status ≡ SUCCESSFUL_COMPLETION
@@ -148,7 +148,7 @@ module _ (shape : Shape) (most : ℕ) (m : Map) (c : Command) where
 
   -- the machine never answers so
   pub no_read_error : (reply shape most 0 m no_numbers c).status ≢ UNRECOVERED_ERROR
-  no_read_error = elim (refused shape most m c) as (λ r. refused shape most m c ≡ r → (reply shape most 0 m no_numbers c).status ≢ UNRECOVERED_ERROR) [
+  no_read_error = elim (refused shape (most ∷ []) m c) as (λ r. refused shape (most ∷ []) m c ≡ r → (reply shape most 0 m no_numbers c).status ≢ UNRECOVERED_ERROR) [
     | Some status ↦ λ e f. subst IsOther e other_refused (sym (ap (λ (a : Reply). a.status) (refuses_with shape most 0 m no_numbers c status e).replied) ∙ f)
     | None ↦ λ e. let both = first_none (early shape c) (late_of shape most m c (op_of c.opcode)) e in served_well (op_of c.opcode) refl both.0 both.1
   ] refl

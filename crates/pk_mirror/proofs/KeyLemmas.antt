@@ -191,13 +191,13 @@ exist_unread k is old new a e r err m told =
 key_length : (k : Key) → IsKey k → (nat_le 1 (length (bytes_of k)) && nat_le (length (bytes_of k)) 16) ≡ true
 key_length k h = rw (le-leb 1 (length (bytes_of k)) h.some, le-leb (length (bytes_of k)) 16 h.most) refl
 
-store_fits : (shape : Shape) (most : ℕ) (m : Map) (k : Key) (v : List ℕ) → IsKey k → length v ≤ greatest shape → live shape (insert m k v) ≤ most → refused shape most m (store_of k v Any) ≡ None
+store_fits : (shape : Shape) (most : ℕ) (m : Map) (k : Key) (v : List ℕ) → IsKey k → length v ≤ greatest shape → live shape (insert m k v) ≤ most → refused shape (most ∷ []) m (store_of k v Any) ≡ None
 store_fits shape most m k v is small fits =
     let c : Command = store_of k v Any in
     let named : key c ≡ k = key-of_key STORE k (length v) 0 v is in
     let pages : live_after shape m c ≡ live shape (insert m k v) =
     live_stored shape m k v (live shape m) (pages_if_some shape (get m (key c))) (charge shape (length v)) refl (ap (λ (q : Key). pages_if_some shape (get m q)) named) refl in
-    let first : refused shape most m c ≡ or_else (check (nat_le (length v) (greatest shape)) INVALID_VALUE_SIZE) (late_of shape most m c (Some Store)) =
+    let first : refused shape (most ∷ []) m c ≡ or_else (check (nat_le (length v) (greatest shape)) INVALID_VALUE_SIZE) (late_of shape most m c (Some Store)) =
     ap (λ b. or_else (or_else (check b INVALID_KEY_SIZE) (check (nat_le (length v) (greatest shape)) INVALID_VALUE_SIZE)) (late_of shape most m c (Some Store))) (key_length k is) in
     first
     ∙ ap (λ b. or_else (check b INVALID_VALUE_SIZE) (late_of shape most m c (Some Store))) (le-leb (length v) (greatest shape) small)
@@ -233,7 +233,7 @@ store_unread p p1 q q' k into value len size x error e is alike found wide f fro
         let here : live p.shape (insert b k value) ≤ q.limit = omega (arith, most, less, alike.limit) in
         subst (λ (z : Shape). live z (insert b k value) ≤ q.limit) (sym alike.shape) here
 
-    fits : refused q.shape q.limit b (store_of k value Any) ≡ None
+    fits : refused q.shape (q.limit ∷ []) b (store_of k value Any) ≡ None
     fits = store_fits q.shape q.limit b k value is small few
 
 -- ---- the same from states that have the same map

@@ -28,7 +28,7 @@ use Rattle.pk_mirror.proofs.PairLemmas.{by_map, still_pair, one_leaves, ok_by, o
 -- ---- one drive
 
 module _ {X : Type 0} (of : Reply → Result X HostError) (tells : Tells of) (old new : PortState) (c : Command) where
-  pub done_leaves : (x : X) → Gives old new c of (Ok x) → (m : Map) → old.map ≡ Some m → new.map ≡ Some (map_after old.shape old.limit m c)
+  pub done_leaves : (x : X) → Gives old new c of (Ok x) → (m : Map) → old.map ≡ Some m → new.map ≡ Some (map_after old.shape (old.limit ∷ []) m c)
   done_leaves x (inr fault) m told = absurd (let clash : ◌≡◌ {A = Result X HostError} (Ok x) (Err HostPort) = fault.0 in cc)
   done_leaves x (inl (a, r, e)) m told =
       let s = r.answers m told in s.told ∙ ap (λ (n : Map). Some n) (answer_leaves of old.shape old.limit s.frames m c a s.left x tells (sym e) s.stepped)
@@ -72,13 +72,13 @@ module _ {X : Type 0} (old new : Mirrored) (p p' q q' : PortState) (c : Command)
     (tells : Tells of) (is : op_of c.opcode ≡ Some k) (plain : (shape : Shape) (most frames : ℕ) (m : Map) (own : List ℕ) → reply_of shape most frames m own c (Some k) ≡ success 0 [])
     (pair : IsPair old p q) (cs ds : List Command) (one : AtMostOne c cs) (two : AtMostOne c ds) (t : Took p p' cs) (u : Took q q' ds) (w : Writes old new p p' q q' c of result) where
   after : Map → Map
-  after m = map_after p.shape p.limit m c
+  after m = map_after p.shape (p.limit ∷ []) m c
 
   same_shape : q.shape ≡ p.shape
   same_shape = pair.second_shape ∙ sym pair.first_shape
 
-  same_after : (m : Map) → map_after q.shape q.limit m c ≡ map_after p.shape p.limit m c
-  same_after m = ap (λ (s : Shape). map_after s q.limit m c) same_shape ∙ ap (λ (n : ℕ). map_after p.shape n m c) pair.limit
+  same_after : (m : Map) → map_after q.shape (q.limit ∷ []) m c ≡ map_after p.shape (p.limit ∷ []) m c
+  same_after m = ap (λ (s : Shape). map_after s (q.limit ∷ []) m c) same_shape ∙ ap (λ (n : ℕ). map_after p.shape n m c) pair.limit
 
   second_told : old.split ≡ false → (m : Map) → p.map ≡ Some m → q.map ≡ Some m
   second_told step m told = pair.in_step step ∙ told
@@ -94,7 +94,7 @@ module _ {X : Type 0} (old new : Mirrored) (p p' q q' : PortState) (c : Command)
       (λ same rose. true_false (is_port error) (port_is error same) off)
 
   both_done : (x y : X) → old.split ≡ false → Gives p p' c of (Ok x) → Gives q q' c of (Ok y) → (m : Map) → p.map ≡ Some m
-      → (p'.map ≡ Some (map_after p.shape p.limit m c)) × (q'.map ≡ Some (map_after p.shape p.limit m c))
+      → (p'.map ≡ Some (map_after p.shape (p.limit ∷ []) m c)) × (q'.map ≡ Some (map_after p.shape (p.limit ∷ []) m c))
   both_done x y step g h m told = (
     done_leaves of tells p p' c x g m told,
     done_leaves of tells q q' c y h m (second_told step m told) ∙ ap (λ (n : Map). Some n) (same_after m),
@@ -162,7 +162,7 @@ module _ {X : Type 0} (old new : Mirrored) (p p' q q' : PortState) (c : Command)
     second_done = both.1;
   }
     where
-      both : OnOk result (p'.map ≡ Some (map_after p.shape p.limit m c)) × OnOk result (q'.map ≡ Some (map_after p.shape p.limit m c))
+      both : OnOk result (p'.map ≡ Some (map_after p.shape (p.limit ∷ []) m c)) × OnOk result (q'.map ≡ Some (map_after p.shape (p.limit ∷ []) m c))
       both = elim w [
         | inl s ↦ (ok_never result Split _ s.answer, ok_never result Split _ s.answer)
         | inr (inl f) ↦ (ok_never result f.decides.0 _ f.decides.1, ok_never result f.decides.0 _ f.decides.1)

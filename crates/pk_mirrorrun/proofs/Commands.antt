@@ -37,7 +37,7 @@ none_left : (shape : Shape) (most : ℕ) (m : Map) (cs : List Command) → LeftB
 none_left shape most m [] = refl
 none_left shape most m (c ∷ cs) = inl (none_left shape most m cs)
 
-asks_keep : (shape : Shape) (most : ℕ) (m : Map) (c : Command) → OnlyAsks c → map_after shape most m c ≡ m
+asks_keep : (shape : Shape) (most : ℕ) (m : Map) (c : Command) → OnlyAsks c → map_after shape (most ∷ []) m c ≡ m
 asks_keep shape most m c (inl (from, e)) = map_after_same shape most m c ListKeys (ap (λ (d : Command). op_of d.opcode) e) refl
 asks_keep shape most m c (inr (key, size, e)) = map_after_same shape most m c Retrieve (ap (λ (d : Command). op_of d.opcode) e) refl
 

@@ -38,9 +38,9 @@ refused_same s t n k e = cc
 
 module _ (shape : Shape) (most : ℕ) (m : Map) (c : Command) (k : Opcode) (is : op_of c.opcode ≡ Some k)
     (zero : (frames : ℕ) (own : List ℕ) → (reply_of shape most frames m own c (Some k)).status ≡ 0) where
-  answer_status : (frames : ℕ) (a : Reply) (left : Map) → Answer shape most frames m c a left → a.status ≡ status_by (refused shape most m c)
+  answer_status : (frames : ℕ) (a : Reply) (left : Map) → Answer shape most frames m c a left → a.status ≡ status_by (refused shape (most ∷ []) m c)
   unfolding reply
-  answer_status frames a left x = elim (refused shape most m c) as (λ r. refused shape most m c ≡ r → a.status ≡ status_by r) [
+  answer_status frames a left x = elim (refused shape (most ∷ []) m c) as (λ r. refused shape (most ∷ []) m c ≡ r → a.status ≡ status_by r) [
     | Some s ↦ λ e. (let replied : a ≡ refusal s = x.replied ∙ rw e refl in ap (λ (b : Reply). b.status) replied)
     | None ↦ λ e. (let replied : a ≡ reply_of shape most frames m x.own c (Some k) = x.replied ∙ rw (e, is) refl in ap (λ (b : Reply). b.status) replied ∙ zero frames x.own)
   ] refl
@@ -76,20 +76,20 @@ existed_line a there e =
 module _ {X : Type 0} (old new : Mirrored) (p p' q q' : PortState) (c : Command) (k : Opcode) (of : Reply → Result X HostError) (tells : Tells of) (is : op_of c.opcode ≡ Some k)
     (plain : (shape : Shape) (most frames : ℕ) (m : Map) (own : List ℕ) → (reply_of shape most frames m own c (Some k)).status ≡ 0)
     (step : old.split ≡ false) (pair : IsPair old p q) (m : Map) (told : p.map ≡ Some m)
-    (task : PairTask) (text_is : text_of p.shape p.limit task m ≡ answered_line p.shape p.limit m c) (left_is : map_left p.shape p.limit task m ≡ map_after p.shape p.limit m c) where
+    (task : PairTask) (text_is : text_of p.shape p.limit task m ≡ answered_line p.shape p.limit m c) (left_is : map_left p.shape p.limit task m ≡ map_after p.shape (p.limit ∷ []) m c) where
   -- the first's answer, if both did it
-  done_reply : (x : X) → Writes old new p p' q q' c of (Ok x) → (a : Reply) × (of a ≡ Ok x) × (a.status ≡ status_by (refused p.shape p.limit m c))
+  done_reply : (x : X) → Writes old new p p' q q' c of (Ok x) → (a : Reply) × (of a ≡ Ok x) × (a.status ≡ status_by (refused p.shape (p.limit ∷ []) m c))
   done_reply x w = elim w [
     | inl s ↦ true_false old.split s.split step
     | inr (inl f) ↦ absurd (let clash : ◌≡◌ {A = Result X MirrorError} (Ok x) (Err f.decides.0) = f.decides.1 in cc)
     | inr (inr (inl f)) ↦ absurd (let clash : ◌≡◌ {A = Result X MirrorError} (Ok x) (Err f.decides.0) = f.decides.1 in cc)
     | inr (inr (inr b)) ↦
         let same : b.done ≡ x = (let h = b.answer in cc) in
-        elim b.gives_first as (λ g. (a : Reply) × (of a ≡ Ok x) × (a.status ≡ status_by (refused p.shape p.limit m c))) [
+        elim b.gives_first as (λ g. (a : Reply) × (of a ≡ Ok x) × (a.status ≡ status_by (refused p.shape (p.limit ∷ []) m c))) [
           | inl (a, r, e) ↦
               let ok : of a ≡ Ok x = sym e ∙ ap (λ (y : X). Ok y) same in
               let s = r.answers m told in
-              elim s.stepped as (λ t. (a : Reply) × (of a ≡ Ok x) × (a.status ≡ status_by (refused p.shape p.limit m c))) [
+              elim s.stepped as (λ t. (a : Reply) × (of a ≡ Ok x) × (a.status ≡ status_by (refused p.shape (p.limit ∷ []) m c))) [
                 | inl t ↦ (a, ok, answer_status p.shape p.limit m c k is (λ frames own. plain p.shape p.limit frames m own) s.frames a s.left t)
                 | inr u ↦ absurd (tells.answer a x ok (ap (λ (b : Reply). b.status) u.replied))
               ]
@@ -117,7 +117,7 @@ module _ {X : Type 0} (old new : Mirrored) (p p' q q' : PortState) (c : Command)
         let s = r.answers m told in
         elim s.stepped as (λ t. PairFails task p p' q q' m (Refused First status)) [
           | inl t ↦
-              let after : p'.map ≡ Some (map_after p.shape p.limit m c) = s.told ∙ ap (λ (x : Map). Some x) t.leaves in inl (record {
+              let after : p'.map ≡ Some (map_after p.shape (p.limit ∷ []) m c) = s.told ∙ ap (λ (x : Map). Some x) t.leaves in inl (record {
                 spelled = ap status_line (n ∙ answer_status p.shape p.limit m c k is (λ frames own. plain p.shape p.limit frames m own) s.frames a s.left t) ∙ sym text_is;
                 first_left = after ∙ ap (λ (x : Map). Some x) (sym left_is);
                 second_left = ap (λ (x : PortState). x.map) same ∙ pair.in_step step ∙ sym kept ∙ after ∙ ap (λ (x : Map). Some x) (sym left_is);
