@@ -55,7 +55,7 @@ module _ (shape : Shape) (most frames : ℕ) (m : Map) (c : Command) (k : Opcode
   same_map a left is stays (inr u) = u.leaves
 
   -- in the namespace, of which the map is
-  module _ (first : c.namespace ≡ 1) (home : in_space 1 m ≡ m) where
+  module _ (first : c.namespace ≡ 1) (alone : in_space 1 m ≡ m) where
     served : (a : Reply) (left : Map) → op_of c.opcode ≡ Some k → refused shape (most ∷ []) m c ≡ None → Answer shape (one_space frames most) m c a left → ServedAs a left
     unfolding reply
     served a left is none x = record {
@@ -64,7 +64,7 @@ module _ (shape : Shape) (most frames : ℕ) (m : Map) (c : Command) (k : Opcode
       replied =
           x.replied ∙ rw (none, is) refl
           ∙ ap (λ (n : ℕ). reply_of shape (limit_of (most ∷ []) n) frames (in_space n m) x.own c (Some k)) first
-          ∙ ap (λ (n : Map). reply_of shape most frames n x.own c (Some k)) home;
+          ∙ ap (λ (n : Map). reply_of shape most frames n x.own c (Some k)) alone;
       leaves = stores_effect a left is none x;
     }
 
@@ -133,21 +133,21 @@ key-of_key opcode k size options value h = key_named opcode k size options value
 key_length : (k : Key) → IsKey k → (nat_le 1 (length (bytes_of k)) && nat_le (length (bytes_of k)) 16) ≡ true
 key_length k h = rw (le-leb 1 (length (bytes_of k)) h.some, le-leb (length (bytes_of k)) 16 h.most) refl
 
-module _ (shape : Shape) (most : ℕ) (m : Map) (k : Key) (h : IsKey k) (home : in_space 1 m ≡ m) where
+module _ (shape : Shape) (most : ℕ) (m : Map) (k : Key) (h : IsKey k) (alone : in_space 1 m ≡ m) where
   pub delete_by : refused shape (most ∷ []) m (of_key DELETE k 0 0 []) ≡ check (contains_key m (key (of_key DELETE k 0 0 []))) KEY_DOES_NOT_EXIST
   delete_by =
       ap (λ b. or_else (or_else (check b INVALID_KEY_SIZE) None) (check (contains_key (in_space 1 m) (key (of_key DELETE k 0 0 []))) KEY_DOES_NOT_EXIST)) (key_length k h)
-      ∙ ap (λ (n : Map). check (contains_key n (key (of_key DELETE k 0 0 []))) KEY_DOES_NOT_EXIST) home
+      ∙ ap (λ (n : Map). check (contains_key n (key (of_key DELETE k 0 0 []))) KEY_DOES_NOT_EXIST) alone
 
   pub exist_by : refused shape (most ∷ []) m (of_key EXIST k 0 0 []) ≡ check (contains_key m (key (of_key EXIST k 0 0 []))) KEY_DOES_NOT_EXIST
   exist_by =
       ap (λ b. or_else (or_else (check b INVALID_KEY_SIZE) None) (check (contains_key (in_space 1 m) (key (of_key EXIST k 0 0 []))) KEY_DOES_NOT_EXIST)) (key_length k h)
-      ∙ ap (λ (n : Map). check (contains_key n (key (of_key EXIST k 0 0 []))) KEY_DOES_NOT_EXIST) home
+      ∙ ap (λ (n : Map). check (contains_key n (key (of_key EXIST k 0 0 []))) KEY_DOES_NOT_EXIST) alone
 
   pub retrieve_by : (size : ℕ) → refused shape (most ∷ []) m (of_key RETRIEVE k size 0 []) ≡ check (contains_key m (key (of_key RETRIEVE k size 0 []))) KEY_DOES_NOT_EXIST
   retrieve_by size =
       ap (λ b. or_else (or_else (check b INVALID_KEY_SIZE) None) (check (contains_key (in_space 1 m) (key (of_key RETRIEVE k size 0 []))) KEY_DOES_NOT_EXIST)) (key_length k h)
-      ∙ ap (λ (n : Map). check (contains_key n (key (of_key RETRIEVE k size 0 []))) KEY_DOES_NOT_EXIST) home
+      ∙ ap (λ (n : Map). check (contains_key n (key (of_key RETRIEVE k size 0 []))) KEY_DOES_NOT_EXIST) alone
 
   not_zero : (fits is_there is_new room : Bool)
       → or_else (check fits INVALID_VALUE_SIZE) (or_else (check is_there KEY_DOES_NOT_EXIST) (or_else (check is_new KEY_EXISTS) (check room CAPACITY_EXCEEDED))) ≡ Some 0 → ⊥
@@ -162,7 +162,7 @@ module _ (shape : Shape) (most : ℕ) (m : Map) (k : Key) (h : IsKey k) (home : 
       let c : Command = of_key STORE k (length value) options value in
       let checks : refused shape (most ∷ []) m c ≡ or_else (check (nat_le (length value) (greatest shape)) INVALID_VALUE_SIZE) (late_of shape most m c (Some Store)) =
       ap (λ b. or_else (or_else (check b INVALID_KEY_SIZE) (check (nat_le (length value) (greatest shape)) INVALID_VALUE_SIZE)) (late_of shape most (in_space 1 m) c (Some Store))) (key_length k h)
-      ∙ ap (λ (n : Map). or_else (check (nat_le (length value) (greatest shape)) INVALID_VALUE_SIZE) (late_of shape most n c (Some Store))) home in
+      ∙ ap (λ (n : Map). or_else (check (nat_le (length value) (greatest shape)) INVALID_VALUE_SIZE) (late_of shape most n c (Some Store))) alone in
       not_zero (nat_le (length value) (greatest shape)) (not (must_exist c) || contains_key m (key c))
       (not (must_be_new c && contains_key m (key c))) (nat_le (live_after shape m c) most) (sym checks ∙ e)
 

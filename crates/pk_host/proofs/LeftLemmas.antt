@@ -1,5 +1,5 @@
 -- The map that a command leaves: keys and values of their sizes, within the limit of live pages.
-use Rattle.std.proofs.Common.{◌≡◌, ℕ, refl, sym, ap, subst, ◌∙◌, arith, Bool, true, false, not, ◌&&◌, ◌||◌, ◌==◌, nat_le, if◌then◌else◌, [], length, Option, Some, None}
+use Rattle.std.proofs.Common.{◌≡◌, ℕ, refl, sym, ap, subst, ◌∙◌, arith, Bool, true, false, not, ◌&&◌, ◌||◌, ◌==◌, nat_le, if◌then◌else◌, [], ◌∷◌, length, Option, Some, None}
 use Rattle.std.proofs.lemmas.Bool.{leb-true}
 use Rattle.std.proofs.lemmas.List.{length-take-le}
 use Rattle.std.specs.FinMap.{get, contains_key, insert, remove, empty}
@@ -18,6 +18,8 @@ use Rattle.pk_model.proofs.Answering.{refuses_with, serves, key_sized, key_space
 use Rattle.pk_model.proofs.HeldMap.{key_is_bytes}
 use Rattle.pk_model.proofs.Machines.{live-empty, live-remove, live_stored}
 use Rattle.pk_host.specs.Good.{IsGood, IsHanded, holding}
+use Rattle.pk_model.specs.Spaces.{limit_of, in_space, one_space}
+use Rattle.pk_host.proofs.PartLemmas.{first_whole}
 use Rattle.pk_host.proofs.EntryLemmas.{map_empty, map_insert, map_remove}
 
 -- ---- checks that passed
@@ -70,14 +72,24 @@ pub good_empty : (shape : Shape) → IsGood (holding shape empty)
 good_empty shape = let none = live-empty shape in record { sized = map_empty shape; few = omega (arith, none) }
 
 module _ (shape : Shape) (m : Map) (c : Command) (good : IsGood (holding shape m)) (handed : IsHanded c) where
+  -- the checks on the namespace, which is the only one, are those on the map
+  own_late : op_of c.opcode ≡ Some Store → early 1 shape c ≡ None
+      → late_of shape (limit_of (limit shape ∷ []) c.namespace) (in_space c.namespace m) c (Some Store) ≡ late_of shape (limit shape) m c (Some Store)
+  own_late is passed =
+      let spaced = key_spaced 1 shape c Store (λ n. refl) is passed in
+      let one : c.namespace ≡ 1 = omega (arith, spaced.some, spaced.most) in
+      ap (λ (n : ℕ). late_of shape (limit_of (limit shape ∷ []) n) (in_space n m) c (Some Store)) one
+      ∙ ap (λ (n : Map). late_of shape (limit shape) n c (Some Store)) (first_whole shape m good.sized)
+
   -- a Store that passed all checks
-  good_store : op_of c.opcode ≡ Some Store → early shape c ≡ None → late_of shape (limit shape) m c (Some Store) ≡ None → IsGood (holding shape (insert m (key c) c.value))
-  good_store is passed late =
-      let sized = key_sized shape c Store (λ n. refl) is passed in
-      let spaced = key_spaced shape c Store (λ n. refl) is passed in
+  good_store : op_of c.opcode ≡ Some Store → early 1 shape c ≡ None → late_of shape (limit_of (limit shape ∷ []) c.namespace) (in_space c.namespace m) c (Some Store) ≡ None → IsGood (holding shape (insert m (key c) c.value))
+  good_store is passed there =
+      let late : late_of shape (limit shape) m c (Some Store) ≡ None = sym (own_late is passed) ∙ there in
+      let sized = key_sized 1 shape c Store (λ n. refl) is passed in
+      let spaced = key_spaced 1 shape c Store (λ n. refl) is passed in
       let key_length : length (bytes_of (key c)) ≡ c.key_len = length-take-le c.key_len c.key_bytes (omega (arith, sized.most, handed.place_size)) in
       let whole : length c.value ≡ c.size = handed.whole.whole ∙ ap (λ b. if b then c.size else 0) (store_alone c.opcode is) in
-      let small = store_sized shape c is passed in
+      let small = store_sized 1 shape c is passed in
       let behind = first_none (check (not (must_be_new c && contains_key m (key c))) KEY_EXISTS) (check (nat_le (live_after shape m c) (limit shape)) CAPACITY_EXCEEDED)
       (first_none (check (not (must_exist c) || contains_key m (key c)) KEY_DOES_NOT_EXIST)
       (or_else (check (not (must_be_new c && contains_key m (key c))) KEY_EXISTS) (check (nat_le (live_after shape m c) (limit shape)) CAPACITY_EXCEEDED)) late).1 in
@@ -98,7 +110,7 @@ module _ (shape : Shape) (m : Map) (c : Command) (good : IsGood (holding shape m
       let few = good.few in
       record { sized = map_remove shape m (key c) good.sized; few = omega (arith, whole, few) }
 
-  good_effect : (k : Opcode) → op_of c.opcode ≡ Some k → early shape c ≡ None → late_of shape (limit shape) m c (Some k) ≡ None → IsGood (holding shape (effect m c (Some k)))
+  good_effect : (k : Opcode) → op_of c.opcode ≡ Some k → early 1 shape c ≡ None → late_of shape (limit_of (limit shape ∷ []) c.namespace) (in_space c.namespace m) c (Some k) ≡ None → IsGood (holding shape (effect m c (Some k)))
   good_effect Store is passed late = good_store is passed late
   good_effect Delete is passed late = good_delete
   good_effect Flush is passed late = good
@@ -108,12 +120,12 @@ module _ (shape : Shape) (m : Map) (c : Command) (good : IsGood (holding shape m
   good_effect Tick is passed late = good
   good_effect Report is passed late = good
 
-  good_served : (o : Option Opcode) → op_of c.opcode ≡ o → early shape c ≡ None → late_of shape (limit shape) m c o ≡ None → IsGood (holding shape (map_after shape (limit shape) m c))
-  good_served None is passed late = absurd (let clash : ◌≡◌ {A = Option ℕ} (Some 1) None = sym (ap (λ (o : Option Opcode). fault_of shape c o) is) ∙ passed in cc)
-  good_served (Some k) is passed late = subst (λ (x : Map). IsGood (holding shape x)) (sym (serves shape (limit shape) 0 m [] c k is passed late).leaves) (good_effect k is passed late)
+  good_served : (o : Option Opcode) → op_of c.opcode ≡ o → early 1 shape c ≡ None → late_of shape (limit_of (limit shape ∷ []) c.namespace) (in_space c.namespace m) c o ≡ None → IsGood (holding shape (map_after shape (limit shape ∷ []) m c))
+  good_served None is passed late = absurd (let clash : ◌≡◌ {A = Option ℕ} (Some 1) None = sym (ap (λ (o : Option Opcode). fault_of 1 shape c o) is) ∙ passed in cc)
+  good_served (Some k) is passed late = subst (λ (x : Map). IsGood (holding shape x)) (sym (serves shape (one_space 0 (limit shape)) m [] c k is passed late).leaves) (good_effect k is passed late)
 
-  pub good_left : IsGood (holding shape (map_after shape (limit shape) m c))
-  good_left = elim (refused shape (limit shape) m c) as (λ r. refused shape (limit shape) m c ≡ r → IsGood (holding shape (map_after shape (limit shape) m c))) [
-    | Some status ↦ λ e. subst (λ (x : Map). IsGood (holding shape x)) (sym (refuses_with shape (limit shape) 0 m [] c status e).leaves) good
-    | None ↦ λ e. let both = first_none (early shape c) (late_of shape (limit shape) m c (op_of c.opcode)) e in good_served (op_of c.opcode) refl both.0 both.1
+  pub good_left : IsGood (holding shape (map_after shape (limit shape ∷ []) m c))
+  good_left = elim (refused shape (limit shape ∷ []) m c) as (λ r. refused shape (limit shape ∷ []) m c ≡ r → IsGood (holding shape (map_after shape (limit shape ∷ []) m c))) [
+    | Some status ↦ λ e. subst (λ (x : Map). IsGood (holding shape x)) (sym (refuses_with shape (one_space 0 (limit shape)) m [] c status e).leaves) good
+    | None ↦ λ e. let both = first_none (early 1 shape c) (late_of shape (limit_of (limit shape ∷ []) c.namespace) (in_space c.namespace m) c (op_of c.opcode)) e in good_served (op_of c.opcode) refl both.0 both.1
   ] refl

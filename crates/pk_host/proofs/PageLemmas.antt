@@ -93,7 +93,7 @@ pub page_read : (old new : PortState) (from : Key) (a : Reply) (each : List Key)
 page_read old new from a each short start x zero read m told =
     let s = x.answers m told in
     let none = not_refused (refused old.shape (old.limit ∷ []) m (list_of from)) (list_by old.shape old.limit m from short) in
-    let served = success_served old.shape old.limit s.frames m (list_of from) ListKeys a s.left refl none zero s.stepped in
+    let served = success_served old.shape old.limit s.frames m (list_of from) ListKeys refl s.within.alone a s.left refl none zero s.stepped in
     let bytes : a.data_bytes ≡ list_bytes (fitting list_room (keys_from (key (list_of from)) m)) = ap (λ (r : Reply). r.data_bytes) served.replied in
     read ∙ ap (λ (xs : List ℕ). above from (keys_of xs)) (bytes ∙ ap (λ (q : Key). list_bytes (fitting list_room (keys_from q m))) (key_named LIST from MOST_LIST_BYTES 0 [])
     ∙ ap (λ (ks : List Key). list_bytes (fitting list_room ks)) (keys_started old.shape m from start s.within.sized))

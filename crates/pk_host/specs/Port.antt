@@ -30,7 +30,7 @@ pub record PortState : Type 0 where
 -- a map of the drive's shape, of this namespace alone, and its values are within the limit
 pub record IsWithin (p : PortState) (m : Map) : Type 0 where
   pub sized : IsMap p.shape m
-  pub home : in_space NAMESPACE m ≡ m
+  pub alone : in_space NAMESPACE m ≡ m
   pub few : live p.shape m ≤ p.limit
 
 -- ---- one command

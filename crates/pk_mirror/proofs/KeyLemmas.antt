@@ -178,13 +178,13 @@ pub delete_unread : (k : Key) → IsKey k → OnlyUnread (delete_of k) existed
 delete_unread k is old new a e r err m told =
     let s = r.answers m told in
     let neither = no_there (a.status == 0) (a.status == KEY_DOES_NOT_EXIST) a.status e err in
-    keyed_fault old.shape old.limit s.frames m (delete_of k) Delete a s.left refl (delete_by old.shape old.limit m k is) (λ own. refl) neither.0 neither.1 s.stepped
+    keyed_fault old.shape old.limit s.frames m (delete_of k) Delete refl s.within.alone a s.left refl (delete_by old.shape old.limit m k is s.within.alone) (λ own. refl) neither.0 neither.1 s.stepped
 
 pub exist_unread : (k : Key) → IsKey k → OnlyUnread (exist_of k) existed
 exist_unread k is old new a e r err m told =
     let s = r.answers m told in
     let neither = no_there (a.status == 0) (a.status == KEY_DOES_NOT_EXIST) a.status e err in
-    keyed_fault old.shape old.limit s.frames m (exist_of k) Exist a s.left refl (exist_by old.shape old.limit m k is) (λ own. refl) neither.0 neither.1 s.stepped
+    keyed_fault old.shape old.limit s.frames m (exist_of k) Exist refl s.within.alone a s.left refl (exist_by old.shape old.limit m k is s.within.alone) (λ own. refl) neither.0 neither.1 s.stepped
 
 -- ---- a Store that fits is not refused
 
