@@ -94,7 +94,7 @@ module _ (agrees : Option Shape → Flash → Type 0) (shape : Shape) (old : Boa
         no_stop = no_stop;
         looks = looks;
         rest = rest;
-        new_is = λ k. record { board = new; stopped = (goes_on ∙ sym going) k; frames = done.stands.frames_is k };
+        new_is = λ k. record { board = new; stopped = (goes_on ∙ sym going) k; terms = done.stands.frames_is k };
       }
 
       pub replies_so : rep.status < 256 → rep.result < 2 ^ 32 → (rep.status ≡ 0x88 → Rose old.read_faults new.read_faults)
@@ -107,7 +107,7 @@ module _ (agrees : Option Shape → Flash → Type 0) (shape : Shape) (old : Boa
             let T : Map → Type 0 = λ x. PortSteps (seen shape (mount old d) before) (seen shape (mount new e) behind) c rep x in
             subst T same (record {
               within = record { sized = ready.good.sized; few = ready.good.few };
-              frames = d.counts.frames;
+              terms = d.counts.frames;
               frames_is = refl;
               left = done.left;
               stepped = done.stepped;

@@ -41,8 +41,8 @@ module _ (shape : Shape) (p q : Standing) (c : Command) where
   served_left : (x : Exchange) → Serves shape p.on q.on c x → (m : Map) → Holds shape p.on.board.pages m → OneOf m
   served_left x s m h =
       let same : s.map ≡ m = ok_same s.map m (sym s.held ∙ h) in
-      let after : (d : Command) → d ≡ c → (left : Map) → left ≡ map_after shape (limit shape) s.map d → left ≡ map_after shape (limit shape) m c =
-      λ d e left is. is ∙ (ap (λ (k : Command). map_after shape (limit shape) s.map k) e ∙ ap (λ (n : Map). map_after shape (limit shape) n c) same) in
+      let after : (d : Command) → d ≡ c → (left : Map) → left ≡ map_after shape terms.limits s.map d → left ≡ map_after shape terms.limits m c =
+      λ d e left is. is ∙ (ap (λ (k : Command). map_after shape terms.limits s.map k) e ∙ ap (λ (n : Map). map_after shape terms.limits n c) same) in
       (s.left, ap result_ok s.holds, elim s.step.0 [ inl answer ↦ inr (after x.command s.is s.left answer.leaves) | inr fault ↦ inl (fault.leaves ∙ same) ])
 
   stopped_left : Stops shape p.on q.on c → (m : Map) → Holds shape p.on.board.pages m → OneOf m
@@ -50,7 +50,7 @@ module _ (shape : Shape) (p q : Standing) (c : Command) where
       let same : s.map ≡ m = ok_same s.map m (sym s.held ∙ h) in
       elim (s.went.1.cuts _ _ s.went.1.stands).1 [
         | inl before ↦ (s.map, ap result_ok before, inl same)
-        | inr behind ↦ (map_after shape (limit shape) s.map c, ap result_ok behind, inr (ap (λ (n : Map). map_after shape (limit shape) n c) same))
+        | inr behind ↦ (map_after shape terms.limits s.map c, ap result_ok behind, inr (ap (λ (n : Map). map_after shape terms.limits n c) same))
       ]
 
   same_left : q.on ≡ p.on → (m : Map) → Holds shape p.on.board.pages m → OneOf m

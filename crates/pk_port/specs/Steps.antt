@@ -26,11 +26,11 @@ use Rattle.pk_port.specs.declared.halt.Halt.TheVariants.{Stopped, Worn}
 pub record Mounted : Type 0 where
   pub board : BoardState
   pub stopped : Bool
-  pub frames : ℕ
+  pub terms : ℕ
 
 -- what is known of a drive that is seen so, on this board
 abbrev pub mount : BoardState → Sight → Mounted
-mount board drive = record { board = board; stopped = drive.stopped; frames = drive.counts.frames }
+mount board drive = record { board = board; stopped = drive.stopped; terms = drive.counts.frames }
 
 -- What is known of a port: the drive on its board, the count of the port's faults, and why the last of them came.
 pub record Standing : Type 0 where
@@ -48,7 +48,7 @@ seen shape on faults = record {
   map = result_ok (reading shape on.board.pages []);
   shape = shape;
   limit = limit shape;
-  frames = Some on.frames;
+  terms = Some on.terms;
   port_faults = faults;
   read_faults = on.board.read_faults;
 }
@@ -67,7 +67,7 @@ pub record Serves (shape : Shape) (old new : Mounted) (c : Command) (x : Exchang
   pub map : Map
   pub held : Holds shape old.board.pages map
   pub left : Map
-  pub step : StepWithin shape old.frames map x left
+  pub step : StepWithin shape old.terms map x left
   pub holds : Holds shape new.board.pages left
   pub reached : Reaches shape old.board new.board (StepCut shape map c)
   pub metered : Metered (meter old.board) x (meter new.board)
