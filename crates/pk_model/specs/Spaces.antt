@@ -1,6 +1,7 @@
 -- Namespaces of a drive: their limits of live pages, and the part of a map that each of them is.
-use Rattle.std.specs.Prelude.{ℕ, ◌-◌, List, [], ◌∷◌, Bool, ◌&&◌, ◌==◌, nat_le, slice_index, filter}
+use Rattle.std.specs.Prelude.{ℕ, ◌-◌, ◌≤◌, List, [], ◌∷◌, Bool, ◌&&◌, ◌==◌, nat_le, slice_index, filter}
 use Rattle.std.specs.FinMap.{entries, from_sorted}
+use Rattle.std.specs.List.{AllByRecursion}
 use Rattle.pk_base.specs.Key.{space_of}
 use Rattle.pk_base.specs.Map.{Map}
 use Rattle.pk_base.specs.Page.{Flash}
@@ -26,6 +27,10 @@ is_space spaces space = nat_le 1 space && nat_le space spaces
 -- the keys of a namespace with their values
 unfoldable pub in_space : ℕ → Map → Map
 in_space space m = from_sorted (filter (λ e. space_of e.0 == space) (entries m))
+
+-- each key is of one of so many namespaces
+abbrev pub AreInSpaces : ℕ → Map → Type 0
+AreInSpaces spaces m = AllByRecursion (λ e. (1 ≤ space_of e.0) × (space_of e.0 ≤ spaces)) (entries m)
 
 -- the limits on a flash: of its only namespace, that of the shape
 unfoldable pub limits_at : Shape → Flash → List ℕ

@@ -4,13 +4,14 @@ ghost use Rattle.std.specs.FinMap.{empty, get, contains_key};
 ghost use Rattle.pk_base.specs.Fields.{u32 as u32_bytes};
 ghost use Rattle.pk_base.specs.Key.{space_of};
 ghost use Rattle.pk_base.specs.Shape.{charge, limit};
-ghost use Rattle.pk_base.specs.declared.sizes.TheConstants.{KEY_BYTES, MOST_SPACES};
+ghost use Rattle.pk_base.specs.declared.sizes.TheConstants.{KEY_BYTES};
 ghost use Rattle.pk_base.specs.Map.{pages_of, pages_if_some, live as live_of};
 ghost use Rattle.std.specs.FinMap as map;
 ghost use Rattle.pk_nvme.specs.Command.{command, key, IsWhole};
 ghost use Rattle.pk_nvme.specs.Seen.{command_of};
 ghost use Rattle.pk_model.specs.declared.machine.TheConstants.{SPACES};
 ghost use Rattle.pk_model.specs.Answer.{early, success};
+ghost use Rattle.pk_model.specs.Spaces.{in_space};
 ghost use Rattle.pk_model.specs.Listing.{offered_all};
 ghost use Rattle.pk_model.specs.Machine.{Machine, Answers, replied};
 
@@ -279,9 +280,9 @@ impl MapMachine {
     /// Lists the keys from the one that a request names on, from the first of its namespace if it names none.
     fn list_into(&self, request: &Request, page: &mut Page)
         requires len { request.now.key_len ≤ KEY_BYTES }
-        requires space { request.now.namespace ≤ MOST_SPACES }
+        requires space { request.now.namespace ≡ 1 }
         ensures { page.new ≡ offered_all (key (command_of request.now [])) page.old
-            (map.keys self.now.map) }
+            (map.keys (in_space request.now.namespace self.now.map)) }
     {
         let from = &request.key[..request.key_len as usize];
         self.map.list(request.namespace as u8, from, page);
