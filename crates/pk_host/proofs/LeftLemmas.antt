@@ -19,7 +19,7 @@ use Rattle.pk_model.proofs.HeldMap.{key_is_bytes}
 use Rattle.pk_model.proofs.Machines.{live-empty, live-remove, live_stored}
 use Rattle.pk_host.specs.Good.{IsGood, IsHanded, holding}
 use Rattle.pk_model.specs.Spaces.{limit_of, in_space, one_space}
-use Rattle.pk_host.proofs.PartLemmas.{first_whole}
+use Rattle.pk_model.proofs.SpaceLemmas.{is_whole}
 use Rattle.pk_host.proofs.EntryLemmas.{map_empty, map_insert, map_remove}
 
 -- ---- checks that passed
@@ -76,17 +76,17 @@ module _ (shape : Shape) (m : Map) (c : Command) (good : IsGood (holding shape m
   own_late : op_of c.opcode ≡ Some Store → early 1 shape c ≡ None
       → late_of shape (limit_of (limit shape ∷ []) c.namespace) (in_space c.namespace m) c (Some Store) ≡ late_of shape (limit shape) m c (Some Store)
   own_late is passed =
-      let spaced = key_spaced 1 shape c Store (λ n. refl) is passed in
+      let spaced = key_spaced 1 shape c Store (λ n k. refl) is passed in
       let one : c.namespace ≡ 1 = omega (arith, spaced.some, spaced.most) in
       ap (λ (n : ℕ). late_of shape (limit_of (limit shape ∷ []) n) (in_space n m) c (Some Store)) one
-      ∙ ap (λ (n : Map). late_of shape (limit shape) n c (Some Store)) (first_whole shape m good.sized)
+      ∙ ap (λ (n : Map). late_of shape (limit shape) n c (Some Store)) (is_whole shape m good.sized)
 
   -- a Store that passed all checks
   good_store : op_of c.opcode ≡ Some Store → early 1 shape c ≡ None → late_of shape (limit_of (limit shape ∷ []) c.namespace) (in_space c.namespace m) c (Some Store) ≡ None → IsGood (holding shape (insert m (key c) c.value))
   good_store is passed there =
       let late : late_of shape (limit shape) m c (Some Store) ≡ None = sym (own_late is passed) ∙ there in
       let sized = key_sized 1 shape c Store (λ n. refl) is passed in
-      let spaced = key_spaced 1 shape c Store (λ n. refl) is passed in
+      let spaced = key_spaced 1 shape c Store (λ n k. refl) is passed in
       let key_length : length (bytes_of (key c)) ≡ c.key_len = length-take-le c.key_len c.key_bytes (omega (arith, sized.most, handed.place_size)) in
       let whole : length c.value ≡ c.size = handed.whole.whole ∙ ap (λ b. if b then c.size else 0) (store_alone c.opcode is) in
       let small = store_sized 1 shape c is passed in

@@ -9,7 +9,6 @@ pub mod FetchLemmas
 pub mod CauseLemmas
 pub mod ReportLemmas
 pub mod EntryLemmas
-pub mod PartLemmas
 pub mod LeftLemmas
 pub mod DataLemmas
 pub mod HandedLemmas

@@ -13,6 +13,7 @@ use Rattle.pk_model.specs.Wear.{roots}
 use Rattle.pk_model.proofs.Growing.{weaken_went, Goes-reaches}
 use Rattle.pk_call.specs.Calling.{only_looks}
 use Rattle.pk_call.specs.Exec.{most_installs}
+use Rattle.pk_model.specs.Spaces.{Terms, limits_at}
 use Rattle.pk_port.specs.Asking.{KeptSilently, Asked}
 use Rattle.pk_port.specs.Steps.{Mounted, Standing, Runs, Serves, Stops, HasCause, Chain}
 use Rattle.pk_port.specs.Chained.{installs_of, installs, AllServed, HaltedAt, Chained}
@@ -63,7 +64,7 @@ stays shape p (c ∷ cs) q (h, is, cause) (mid, s, more) = elim s.ended [
 module _ (shape : Shape) (start : Map) (p : Standing) where
   -- the same frames all the time
   asked_at : (mid : Standing) (done : List Command) → AllServed shape start done p mid → Asked shape mid.on.terms start p.on.board mid.on.board done
-  asked_at mid done w = subst (λ (n : ℕ). Asked shape n start p.on.board mid.on.board done) (sym w.same_terms) w.asked
+  asked_at mid done w = subst (λ (n : Terms). Asked shape n start p.on.board mid.on.board done) (sym w.same_terms) w.asked
 
   -- one more was served
   served_next : (mid next : Standing) (done : List Command) (c : Command) (x : Exchange) → AllServed shape start done p mid
@@ -74,7 +75,7 @@ module _ (shape : Shape) (start : Map) (p : Standing) where
       let few = w.few in
       let sum = installs_both done (c ∷ []) in
       record {
-        asked = subst (λ (n : ℕ). Asked shape n start p.on.board next.on.board (done ++ c ∷ [])) w.same_terms more;
+        asked = subst (λ (n : Terms). Asked shape n start p.on.board next.on.board (done ++ c ∷ [])) w.same_terms more;
         going = ap (λ (on : Mounted). on.stopped) s.new_is ∙ w.going;
         same_terms = ap (λ (on : Mounted). on.terms) s.new_is ∙ w.same_terms;
         same_faults = faults ∙ w.same_faults;
@@ -127,7 +128,7 @@ module _ (shape : Shape) (start : Map) (p : Standing) where
         halt = Stopped;
         is = is;
         cause = s.stopped;
-        kept = subst (λ (n : ℕ). Goes shape p.on.board next.on.board (KeptSilently shape n start (done ++ c ∷ []) (rise p.on.board.read_faults next.on.board.read_faults))) w.same_terms
+        kept = subst (λ (n : Terms). Goes shape p.on.board next.on.board (KeptSilently shape n start (done ++ c ∷ []) (rise p.on.board.read_faults next.on.board.read_faults))) w.same_terms
             (asked-stops shape start p.on.board done mid.on next.on c (asked_at mid done w) s);
         rose = omega (arith, up, before);
         why = inl (subst (λ (n : ℕ). Rose n next.on.board.stop_faults) w.asked.no_stop s.stop);
@@ -166,9 +167,9 @@ module _ (shape : Shape) (start : Map) (p : Standing) where
 
 -- What a chain of commands did, from a drive that runs on a board that holds a map.
 pub chained : (shape : Shape) (start : Map) (p : Standing) (cs : List Command) (q : Standing) → p.on.board.shape ≡ Some shape
-    → Holds shape p.on.board.pages start → p.on.stopped ≡ false → Chain shape p cs q → Chained shape start cs p q
-chained shape start p cs q has holds going chain = chained_from shape start p p [] (record {
-  asked = asked-none shape p.on.terms start p.on.board has holds;
+    → Holds shape p.on.board.pages start → limits_at shape p.on.board.pages ≡ p.on.terms.limits → p.on.stopped ≡ false → Chain shape p cs q → Chained shape start cs p q
+chained shape start p cs q has holds within going chain = chained_from shape start p p [] (record {
+  asked = asked-none shape p.on.terms start p.on.board has holds within;
   going = going;
   same_terms = refl;
   same_faults = refl;

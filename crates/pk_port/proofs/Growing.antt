@@ -1,7 +1,7 @@
 -- Commands one after another through a port, and a text after them.
 use Rattle.std.proofs.Common.{◌≡◌, inl, inr, ℕ, ◌+◌, ◌≤◌, List, [], ◌∷◌, ◌++◌, Option, Some, refl, sym, ap, subst, ◌∙◌, arith, append-nil, append_assoc, replicate}
 use Rattle.std.proofs.lemmas.Fn.{FoldsTo-push}
-use Rattle.pk_base.specs.Shape.{Shape, limit}
+use Rattle.pk_base.specs.Shape.{Shape}
 use Rattle.pk_base.specs.Page.{Flash}
 use Rattle.pk_base.specs.Mark.{all_posted, post}
 use Rattle.pk_base.specs.Map.{Map}
@@ -24,7 +24,8 @@ use Rattle.pk_port.specs.Asking.{KeptSilently, KeptWord, Asked, Ran}
 use Rattle.pk_port.specs.Steps.{Mounted, Serves, Stops}
 use Rattle.pk_base.proofs.Logic.{ok_same}
 use Rattle.pk_nand.proofs.Effects.{only_then}
-use Rattle.pk_model.specs.Spaces.{Terms}
+use Rattle.pk_model.specs.Spaces.{Terms, limits_at}
+use Rattle.pk_serve.proofs.Limiting.{limits_same}
 
 -- more commands, and more faults
 pub silent-more : (shape : Shape) (terms : Terms) (start : Map) (cs more : List Command) (n later : Option ℕ) → ((k : ℕ) → AtMost n k → AtMost later k)
@@ -38,6 +39,7 @@ silent-more shape terms start cs more n later up f q (none, k) = (
     map_left = k.map_left;
     ran = k.ran;
     held = k.held;
+    same_limits = k.same_limits;
     unposted = k.unposted;
     begins = k.begins;
     few_faults = up (faults k.served) k.few_faults;
@@ -45,11 +47,12 @@ silent-more shape terms start cs more n later up f q (none, k) = (
 )
 
 -- nothing was asked
-pub asked-none : (shape : Shape) (terms : Terms) (start : Map) (a : BoardState) → a.shape ≡ Some shape → Holds shape a.pages start → Asked shape terms start a a []
-asked-none shape terms start a has holds = record {
+pub asked-none : (shape : Shape) (terms : Terms) (start : Map) (a : BoardState) → a.shape ≡ Some shape → Holds shape a.pages start → limits_at shape a.pages ≡ terms.limits → Asked shape terms start a a []
+asked-none shape terms start a has holds within = record {
   left = start;
   answered = record { all = []; are = refl; ran = refl; few = at_most-zero (rise a.read_faults a.read_faults); metered = refl };
   held = holds;
+  same_limits = within;
   shape_is = has;
   reached = (
     [],
@@ -62,6 +65,7 @@ asked-none shape terms start a has holds = record {
         map_left = start;
         ran = refl;
         held = holds;
+        same_limits = within;
         unposted = [];
         begins = refl;
         few_faults = at_most-zero (rise a.read_faults a.read_faults);
@@ -110,7 +114,7 @@ module _ (shape : Shape) (terms : Terms) (start : Map) (a b : BoardState) (cs : 
     few_now = at_most-more a.read_faults b.read_faults later (faults w.answered.all) up w.answered.few
 
     -- a cut of one more command
-    cut_more : (f : Flash) (q : List ℕ) → StepCut shape w.left c f q → KeptSilently shape terms start (cs ++ c ∷ []) now f (all_posted w.reached.0 ++ q)
+    cut_more : (f : Flash) (q : List ℕ) → StepCut shape terms.limits w.left c f q → KeptSilently shape terms start (cs ++ c ∷ []) now f (all_posted w.reached.0 ++ q)
     cut_more f q cut =
         let quiet : all_posted w.reached.0 ≡ [] = (at_end w.reached.0 a b (KeptSilently shape terms start cs (rise a.read_faults b.read_faults)) w.reached.1).0 in
         let x : Exchange = record { command = c; reply = reply shape terms w.left (replicate 11 0) c; reads = 0 } in
@@ -124,6 +128,7 @@ module _ (shape : Shape) (terms : Terms) (start : Map) (a b : BoardState) (cs : 
               map_left = w.left;
               ran = w.answered.ran;
               held = before;
+              same_limits = limits_same shape f b.pages ∙ w.same_limits;
               unposted = records 0 w.answered.all;
               begins = refl;
               few_faults = few_now;
@@ -136,6 +141,7 @@ module _ (shape : Shape) (terms : Terms) (start : Map) (a b : BoardState) (cs : 
               ran = FoldsTo-push (StepWithin shape terms) start w.answered.all w.left x
                   (map_after shape terms.limits w.left c) w.answered.ran (inl (answers shape terms w.left c), λ _. omega arith);
               held = behind;
+              same_limits = limits_same shape f b.pages ∙ w.same_limits;
               unposted = records 0 (w.answered.all ++ x ∷ []);
               begins = refl;
               few_faults = few_more now w.answered.all x 0 other (few_same now w.answered.all few_now);
@@ -156,10 +162,10 @@ module _ (shape : Shape) (start : Map) (a : BoardState) (cs : List Command) (old
   same_map : (map : Map) → Holds shape old.board.pages map → map ≡ w.left
   same_map map h = ok_same map w.left (sym h ∙ w.held)
 
-  seen_cut : (map : Map) → map ≡ w.left → old.board.read_faults ≤ new.board.read_faults → (f : Flash) (q : List ℕ) → StepCut shape map c f q
+  seen_cut : (map : Map) → map ≡ w.left → old.board.read_faults ≤ new.board.read_faults → (f : Flash) (q : List ℕ) → StepCut shape old.terms.limits map c f q
       → KeptSilently shape old.terms start (cs ++ c ∷ []) (rise a.read_faults new.board.read_faults) f (all_posted w.reached.0 ++ q)
   seen_cut map same up f q cut =
-      let T : Map → Type 0 = λ m. StepCut shape m c f q in cut_more shape old.terms start a old.board cs w c new.board.read_faults up f q (subst T same cut)
+      let T : Map → Type 0 = λ m. StepCut shape old.terms.limits m c f q in cut_more shape old.terms start a old.board cs w c new.board.read_faults up f q (subst T same cut)
 
   -- one more command was served
   pub asked-next : (x : Exchange) → Serves shape old new c x → Asked shape old.terms start a new.board (cs ++ c ∷ [])
@@ -172,9 +178,10 @@ module _ (shape : Shape) (start : Map) (a : BoardState) (cs : List Command) (old
         left = s.left;
         answered = ran-next shape old.terms start cs (meter a) (meter old.board) w.left w.answered (meter new.board) c x s.left w.rose s.up s.is (subst W same s.step) s.metered;
         held = s.holds;
+        same_limits = limits_same shape new.board.pages old.board.pages ∙ w.same_limits;
         shape_is = w.shape_is;
         reached = Reaches-then shape more.0 a old.board (KeptSilently shape old.terms start (cs ++ c ∷ []) n) w.shape_is more.1 more.2 new.board
-            (StepCut shape s.map c) (seen_cut s.map same s.up) s.reached;
+            (StepCut shape old.terms.limits s.map c) (seen_cut s.map same s.up) s.reached;
         rose = (let up = s.up in let rose = w.rose in omega (arith, up, rose));
         no_stop = s.no_stop ∙ w.no_stop;
         rest = only_then a old.board new.board w.rest s.rest;
@@ -184,7 +191,7 @@ module _ (shape : Shape) (start : Map) (a : BoardState) (cs : List Command) (old
   pub asked-stops : Stops shape old new c → Goes shape a new.board (KeptSilently shape old.terms start (cs ++ c ∷ []) (rise a.read_faults new.board.read_faults))
   asked-stops s =
       let more = before_more shape old.terms start a old.board cs w c new.board.read_faults s.up in
-      Goes-then shape more.0 a old.board (KeptSilently shape old.terms start (cs ++ c ∷ []) (rise a.read_faults new.board.read_faults)) w.shape_is more.1 more.2 new.board (StepCut shape s.map c)
+      Goes-then shape more.0 a old.board (KeptSilently shape old.terms start (cs ++ c ∷ []) (rise a.read_faults new.board.read_faults)) w.shape_is more.1 more.2 new.board (StepCut shape old.terms.limits s.map c)
       (seen_cut s.map (same_map s.map s.held) s.up) s.went
 
 -- ---- what is said after the commands

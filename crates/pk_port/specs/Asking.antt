@@ -11,7 +11,7 @@ use Rattle.pk_model.specs.Kept.{Kept, AtMost, rise}
 use Rattle.pk_model.specs.Reading.{Holds}
 use Rattle.pk_model.specs.Run.{Exchange, commands, RunWithin, faults}
 use Rattle.pk_call.specs.Meter.{Meter, meter, MeteredAll}
-use Rattle.pk_model.specs.Spaces.{Terms}
+use Rattle.pk_model.specs.Spaces.{Terms, limits_at}
 
 -- the flash holds the map after a prefix of the commands, and no byte was posted
 abbrev pub KeptSilently : Shape → Terms → Map → List Command → Option ℕ → Flash → List ℕ → Type 0
@@ -26,11 +26,12 @@ pub record Ran (shape : Shape) (terms : Terms) (start : Map) (cs : List Command)
   pub few : AtMost (rise from.read_faults to.read_faults) (faults all)
   pub metered : MeteredAll from all to
 
--- These commands were served from one state of a board to a later one, and the flash holds the map after them. Wherever it was cut, it was kept.
+-- These commands were served from one state of a board to a later one, and the flash holds the map after them, within the same limits. Wherever it was cut, it was kept.
 pub record Asked (shape : Shape) (terms : Terms) (start : Map) (a b : BoardState) (cs : List Command) : Type 0 where
   pub left : Map
   pub answered : Ran shape terms start cs (meter a) (meter b) left
   pub held : Holds shape b.pages left
+  pub same_limits : limits_at shape b.pages ≡ terms.limits
   pub shape_is : a.shape ≡ Some shape
   pub reached : Reaches shape a b (KeptSilently shape terms start cs (rise a.read_faults b.read_faults))
   pub rose : a.read_faults ≤ b.read_faults

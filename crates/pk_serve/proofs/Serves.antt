@@ -36,6 +36,7 @@ use Rattle.pk_serve.proofs.Calling.{owed_most, most_calls-append}
 use Rattle.pk_serve.proofs.Counting.{at_most-zero, at_most-more, at_most-one, commands-push, records-push, faults-push, faults-one}
 use Rattle.pk_serve.proofs.Answering.{reply_other, answers}
 use Rattle.pk_model.specs.Spaces.{Terms}
+use Rattle.pk_serve.proofs.Limiting.{limits_same}
 
 -- more commands and more faults
 pub kept-more : (shape : Shape) (terms : Terms) (start : Map) (cs more : List Command) (n later : Option ℕ) → ((k : ℕ) → AtMost n k → AtMost later k)
