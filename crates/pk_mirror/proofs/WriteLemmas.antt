@@ -1,5 +1,5 @@
 -- What comes of a Store or a Delete on both drives, from how each of them answered it.
-use Rattle.std.proofs.Common.{◌≡◌, inl, inr, ◌==◌, ℕ, List, [], Bool, true, false, Some, Result, Ok, Err, IfOk, IfErr, OnOk, refl, sym, ap, subst, ◌∙◌}
+use Rattle.std.proofs.Common.{◌≡◌, inl, inr, ◌==◌, ℕ, List, [], Bool, true, false, Some, Result, Ok, Err, IfOk, IfErr, OnOk, refl, sym, ap, subst, ◌∙◌, ◌∷◌}
 use Rattle.pk_base.specs.Shape.{Shape}
 use Rattle.pk_base.specs.Map.{Map}
 use Rattle.pk_nvme.specs.Command.{Command}
@@ -9,7 +9,8 @@ use Rattle.pk_nvme.specs.declared.opcode.Opcode.{Opcode}
 use Rattle.pk_nvme.specs.declared.status.TheConstants.{UNRECOVERED_ERROR}
 use Rattle.pk_nand.specs.Calls.{Rose}
 use Rattle.pk_model.specs.Answer.{reply_of, success, map_after}
-use Rattle.pk_model.specs.Run.{StepIn}
+use Rattle.pk_model.specs.Run.{Step}
+use Rattle.pk_model.specs.Spaces.{one_space}
 use Rattle.pk_host.specs.declared.types.HostError.{HostError}
 use Rattle.pk_host.specs.declared.types.HostError.TheVariants.{Refused as HostRefused, Port as HostPort, Memory}
 use Rattle.pk_host.specs.Port.{PortState, Replies, Took}
@@ -78,7 +79,7 @@ module _ {X : Type 0} (old new : Mirrored) (p p' q q' : PortState) (c : Command)
   same_shape = pair.second_shape ∙ sym pair.first_shape
 
   same_after : (m : Map) → map_after q.shape (q.limit ∷ []) m c ≡ map_after p.shape (p.limit ∷ []) m c
-  same_after m = ap (λ (s : Shape). map_after s (q.limit ∷ []) m c) same_shape ∙ ap (λ (n : ℕ). map_after p.shape n m c) pair.limit
+  same_after m = ap (λ (s : Shape). map_after s (q.limit ∷ []) m c) same_shape ∙ ap (λ (n : ℕ). map_after p.shape (n ∷ []) m c) pair.limit
 
   second_told : old.split ≡ false → (m : Map) → p.map ≡ Some m → q.map ≡ Some m
   second_told step m told = pair.in_step step ∙ told
@@ -89,7 +90,7 @@ module _ {X : Type 0} (old new : Mirrored) (p p' q q' : PortState) (c : Command)
       (λ a r e same fails. by_map p.map (p'.map ≡ p.map)
       (λ none. t.untold none ∙ sym none)
       (λ m told. let s = r.answers m told in
-      s.told ∙ ap (λ (n : Map). Some n) (refusal_leaves p.shape p.limit m c k is s.frames a s.left (λ frames own. ap (λ (b : Reply). b.status) (plain p.shape p.limit frames m own)) fails s.stepped)
+      s.told ∙ ap (λ (n : Map). Some n) (refusal_leaves p.shape p.limit m c k is s.frames a s.left (λ most frames m own. ap (λ (b : Reply). b.status) (plain p.shape most frames m own)) fails s.stepped)
       ∙ sym told))
       (λ same rose. true_false (is_port error) (port_is error same) off)
 
@@ -210,9 +211,9 @@ module _ {X : Type 0} (old new : Mirrored) (p p' q q' : PortState) (c : Command)
   unread_second x a b error step r ok s err m told =
       let f = r.answers m told in
       let g = s.answers m (second_told step m told) in
-      let moved : StepIn p.shape p.limit g.frames m c b g.left =
-      subst (λ (n : ℕ). StepIn p.shape n g.frames m c b g.left) pair.limit (subst (λ (x : Shape). StepIn x q.limit g.frames m c b g.left) same_shape g.stepped) in
-      second_unread p.shape p.limit m c k is of (λ frames other own others. plain p.shape p.limit frames m own ∙ sym (plain p.shape p.limit other m others))
+      let moved : Step p.shape (one_space g.frames p.limit) m c b g.left =
+      subst (λ (n : ℕ). Step p.shape (one_space g.frames n) m c b g.left) pair.limit (subst (λ (x : Shape). Step x (one_space g.frames q.limit) m c b g.left) same_shape g.stepped) in
+      second_unread p.shape p.limit m c k is of (λ most frames other m own others. plain p.shape most frames m own ∙ sym (plain p.shape most other m others))
       f.frames g.frames a b f.left g.left x error tells ok err f.stepped moved
 
   pub write_second_unread : (m : Map) → p.map ≡ Some m → IfErr result SecondReadFailed

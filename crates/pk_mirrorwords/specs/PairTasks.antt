@@ -1,5 +1,5 @@
 -- The words of a pair of drives: what each says of the first drive's map, and which map it leaves.
-use Rattle.std.specs.Prelude.{ℕ, ◌<◌, ◌^◌, List, length, codes, Option, Some, None}
+use Rattle.std.specs.Prelude.{ℕ, ◌<◌, ◌^◌, List, length, codes, Option, Some, None, [], ◌∷◌}
 use Rattle.std.specs.FinMap.{get as value_at, keys}
 use Rattle.pk_base.specs.Key.{Key}
 use Rattle.pk_base.specs.Shape.{Shape}
