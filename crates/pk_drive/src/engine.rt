@@ -7,6 +7,7 @@ ghost use Rattle.pk_nvme.specs.Seen.{command_of};
 ghost use Rattle.pk_nand.specs.BoardState.{shape_of};
 ghost use Rattle.pk_model.specs.Crashes.{background, commit, command};
 ghost use Rattle.pk_model.specs.Sight.{Sight, map_of};
+ghost use Rattle.pk_model.specs.Spaces.{limits_at};
 ghost use Rattle.pk_model.specs.Wear.{root_number};
 ghost use Rattle.pk_model.specs.declared.wear.TheConstants.{WORN_FROM};
 ghost use Rattle.pk_call.specs.Answering.{AnswersCommand, CountsCalls, SettlesBackground, ShowsItself, WaitsForNothing};
@@ -51,7 +52,8 @@ pub trait Engine {
         ensures answers { AnswersCommand (B.state board.old) (B.state board.new) (sight self.old)
             (sight self.new) request.now value.now result into.old into.new }
         ensures found { FoundAfterCrash (B.state board.old) (B.state board.new) (sight self.old)
-            (command (command_of request.now value.now)) result.stopped }
+            (command (limits_at (shape_of (B.state board.old)) (B.state board.old).pages)
+            (command_of request.now value.now)) result.stopped }
 
         // What is counted, how the background settles, what is seen of the drive, and what waits
         // for nothing.
