@@ -11,7 +11,8 @@ use Rattle.pk_model.specs.Sight.{Sight}
 use Rattle.pk_nand.specs.Effects.{OnlyFlash}
 use Rattle.pk_model.specs.Wear.{roots}
 use Rattle.pk_call.specs.Meter.{reads_after}
-use Rattle.pk_model.specs.Crashes.{command}
+use Rattle.pk_model.specs.Crashes.{CrashFinds, command}
+use Rattle.pk_model.specs.Growth.{Reaches, Goes}
 use Rattle.pk_call.specs.Call.{CallReaches, CallGoes}
 use Rattle.pk_call.specs.Exec.{ExecStands, most_installs}
 use Rattle.pk_model.proofs.Growing.{weaken_went}
@@ -27,6 +28,7 @@ use Rattle.pk_serve.proofs.Counting.{commands-push}
 use Rattle.pk_serve.proofs.Calling.{command_calls, most_calls-more}
 use Rattle.pk_nand.proofs.Effects.{rose_from}
 use Rattle.pk_model.specs.Spaces.{Terms}
+use Rattle.pk_serve.proofs.Limiting.{limits_on, limits_held}
 
 append-some : (xs ys : List Command) → xs ≢ [] → xs ++ ys ≢ []
 append-some [] ys some e = some refl
@@ -75,16 +77,17 @@ stops_before b c d held taken end cmd h shape terms start a all m size w =
 
 module _ (b c f : BoardState) (d e : Sight) (held now_held : List ℕ) (taken : ℕ) (cmd : Command) (keeps : Keeps b c d e held now_held) where
   -- the command stops the drive
-  pub stops_in : CallGoes c f e (command cmd) → c.read_faults ≤ f.read_faults → (reads : ℕ) → f.reads ≡ reads_after c.reads reads → Rose c.stop_faults f.stop_faults
+  pub stops_in : CallGoes c f e (command (limits_on c) cmd) → c.read_faults ≤ f.read_faults → (reads : ℕ) → f.reads ≡ reads_after c.reads reads → Rose c.stop_faults f.stop_faults
       → FewCalls (most_calls_of (shape_of c) cmd.opcode cmd.size) c f → CommandStops b f d held taken FlashFailed cmd
   stops_in went up reads read rose calls shape terms start a all m size w =
       let v = keeps shape terms start a all m w in (
-        Cutoff-exec shape terms start a c e now_held all m v f cmd (went shape terms m v.stands) up reads read
+        Cutoff-exec shape terms start a c e now_held all m v f cmd
+            (subst (λ (limits : List ℕ). Goes shape c f (CrashFinds shape (command limits cmd) c.pages m)) (limits_held shape terms c e m v.stands) (went shape terms m v.stands)) up reads read
             (command_calls shape c f cmd.opcode cmd.size v.stands.shape_is calls),
         rose_from v.no_faults.stop rose,
       )
 
-  module _ (g : Sight) (rep : Reply) (reads count : ℕ) (one : count ≡ taken + 1) (reaches : CallReaches c f e (command cmd)) (stands : ExecStands c f e g cmd rep reads) (rest : OnlyFlash c f)
+  module _ (g : Sight) (rep : Reply) (reads count : ℕ) (one : count ≡ taken + 1) (reaches : CallReaches c f e (command (limits_on c) cmd)) (stands : ExecStands c f e g cmd rep reads) (rest : OnlyFlash c f)
       (up : c.read_faults ≤ f.read_faults) (unread : rep.status ≡ 0x88 → Rose c.read_faults f.read_faults) (sound : rep.status ≢ 0x88 → f.read_faults ≡ c.read_faults)
       (no_stop : f.stop_faults ≡ c.stop_faults) (read : f.reads ≡ reads_after c.reads reads)
       (unworn : roots c < 9223372036854775808) (few_roots : roots f ≤ roots c + most_installs cmd.opcode cmd.size)
@@ -95,7 +98,8 @@ module _ (b c f : BoardState) (d e : Sight) (held now_held : List ℕ) (taken : 
         let v = keeps shape terms start a all m w in
         let T : ℕ → Type 0 = λ n. Next shape terms start a f g (now_held ++ reply_record n cmd.cid rep reads) all m cmd in
         let e' : suc taken ≡ count = omega arith in
-        subst T e' (Serving-exec shape terms start a c e now_held all m v f g cmd rep reads taken size (reaches shape terms m v.stands)
+        subst T e' (Serving-exec shape terms start a c e now_held all m v f g cmd rep reads taken size
+        (subst (λ (limits : List ℕ). Reaches shape c f (CrashFinds shape (command limits cmd) c.pages m)) (limits_held shape terms c e m v.stands) (reaches shape terms m v.stands))
         (stands shape terms m v.stands) rest up unread sound no_stop read unworn few_roots (command_calls shape c f cmd.opcode cmd.size v.stands.shape_is calls))
 
     pub serves_all : (h : BoardState) (i : Sight) (last : List ℕ) → Keeps f h g i (now_held ++ reply_record count cmd.cid rep reads) last → CommandServed b h d i held last taken cmd

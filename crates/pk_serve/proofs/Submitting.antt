@@ -20,18 +20,19 @@ use Rattle.pk_call.specs.Exec.{ExecStands}
 use Rattle.pk_model.proofs.Growing.{weaken, weaken_went, at_end, Reaches-then, Goes-then}
 use Rattle.pk_serve.specs.Port.{StepCut, Submits, SubmitStops}
 use Rattle.pk_model.specs.Spaces.{Terms}
+use Rattle.pk_serve.proofs.Limiting.{limits_on, limits_held}
 
 module _ (a b : BoardState) (d : Sight) (c : Command) (shape : Shape) (terms : Terms) (m : Map) (s : HoldsMap shape terms a d m) (none : d.pending ≡ []) where
   held : Holds shape a.pages m
   held = let M : List Entry → Type 0 = λ p. reading shape a.pages p ≡ Ok m in subst M none s.map_is
 
   -- cuts of the command
-  exec_step : (f : Flash) (q : List ℕ) → CrashFinds shape (command c) a.pages m f q → StepCut shape terms.limits m c f q
+  exec_step : (f : Flash) (q : List ℕ) → CrashFinds shape (command (limits_on a) c) a.pages m f q → StepCut shape terms.limits m c f q
   exec_step f q cut = (
     cut.0,
     elim cut.1 [
       | inl same ↦ inl (same ∙ held)
-      | inr more ↦ elim more [ inl all ↦ inl all | inr next ↦ inr next ]
+      | inr more ↦ elim more [ inl all ↦ inl all | inr next ↦ inr (next ∙ ap (λ (limits : List ℕ). Ok (map_after shape limits m c)) (limits_held shape terms a d m s)) ]
     ],
   )
 
@@ -51,14 +52,14 @@ module _ (a b : BoardState) (d : Sight) (c : Command) (shape : Shape) (terms : T
     ],
   )
 
-pub stops_exec : (a b : BoardState) (d : Sight) (c : Command) → CallGoes a b d (command c) → SubmitStops a b d c
+pub stops_exec : (a b : BoardState) (d : Sight) (c : Command) → CallGoes a b d (command (limits_on a) c) → SubmitStops a b d c
 stops_exec a b d c went shape terms m s none = let w = went shape terms m s in
-    (w.0, weaken_went w.0 a b (CrashFinds shape (command c) a.pages m) (StepCut shape terms.limits m c) (exec_step a b d c shape terms m s none) w.1, w.2)
+    (w.0, weaken_went w.0 a b (CrashFinds shape (command (limits_on a) c) a.pages m) (StepCut shape terms.limits m c) (exec_step a b d c shape terms m s none) w.1, w.2)
 
-module _ (a b f : BoardState) (d e : Sight) (c : Command) (r : Reply) (reads : ℕ) (reaches : CallReaches a b d (command c)) (stands : ExecStands a b d e c r reads) where
+module _ (a b f : BoardState) (d e : Sight) (c : Command) (r : Reply) (reads : ℕ) (reaches : CallReaches a b d (command (limits_on a) c)) (stands : ExecStands a b d e c r reads) where
   module _ (shape : Shape) (terms : Terms) (m : Map) (s : HoldsMap shape terms a d m) (none : d.pending ≡ []) where
     first : Reaches shape a b (StepCut shape terms.limits m c)
-    first = let w = reaches shape terms m s in (w.0, weaken w.0 a b (CrashFinds shape (command c) a.pages m) (StepCut shape terms.limits m c) (exec_step a b d c shape terms m s none) w.1, w.2)
+    first = let w = reaches shape terms m s in (w.0, weaken w.0 a b (CrashFinds shape (command (limits_on a) c) a.pages m) (StepCut shape terms.limits m c) (exec_step a b d c shape terms m s none) w.1, w.2)
 
     quiet : all_posted first.0 ≡ []
     quiet = (at_end first.0 a b (StepCut shape terms.limits m c) first.1).0
