@@ -45,6 +45,10 @@ unworn_on agrees shape board worn has agreed says not_worn =
     let T : Option Shape → Type 0 = λ o. agrees o board.pages in
     ap (λ o. nat_le 9223372036854775808 (root_number (shape_or_none o) board.pages)) has ∙ (sym (says shape board.pages (subst T has agreed)) ∙ not_worn)
 
+-- the limits of a drive on a board of this shape
+pub mounted_limits : (shape : Shape) (board : BoardState) (drive : Sight) → board.shape ≡ Some shape → limits_at shape board.pages ≡ (mount board drive).terms.limits
+mounted_limits shape board drive has = sym (ap (λ s. limits_at (shape_or_none s) board.pages) has)
+
 module _ (agrees : Option Shape → Flash → Type 0) (shape : Shape) (old : BoardState) (d : Sight) (ready : Ready agrees shape old d) where
   -- the flash holds the map
   pub ready_holds : Holds shape old.pages ready.map
