@@ -49,6 +49,10 @@ unworn_on agrees shape board worn has agreed says not_worn =
 pub mounted_limits : (shape : Shape) (board : BoardState) (drive : Sight) → board.shape ≡ Some shape → limits_at shape board.pages ≡ (mount board drive).terms.limits
 mounted_limits shape board drive has = sym (ap (λ s. limits_at (shape_or_none s) board.pages) has)
 
+-- they are one
+pub mounted_one : (shape : Shape) (board : BoardState) (drive : Sight) → board.shape ≡ Some shape → (mount board drive).terms.limits ≡ limit shape ∷ []
+mounted_one shape board drive has = sym (mounted_limits shape board drive has) ∙ limits_one shape board.pages
+
 module _ (agrees : Option Shape → Flash → Type 0) (shape : Shape) (old : BoardState) (d : Sight) (ready : Ready agrees shape old d) where
   -- the flash holds the map
   pub ready_holds : Holds shape old.pages ready.map
