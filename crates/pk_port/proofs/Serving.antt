@@ -31,7 +31,7 @@ use Rattle.pk_port.specs.Steps.{mount, seen, Serves, Fails}
 use Rattle.pk_port.specs.declared.halt.Halt.TheVariants.{Stopped}
 use Rattle.pk_port.proofs.Isolating.{first_step}
 use Rattle.pk_port.proofs.Stepping.{part_of, part_held}
-use Rattle.pk_serve.proofs.Limiting.{limits_same, limits_one}
+use Rattle.pk_serve.proofs.Limiting.{limits_same, limits_one, limits_held}
 
 -- what is passed, of a board of this shape
 pub value_on : (shape : Shape) (board : BoardState) (opcode size : ℕ) (handed value : List ℕ)
@@ -52,6 +52,10 @@ mounted_limits shape board drive has = sym (ap (λ s. limits_at (shape_or_none s
 -- they are one
 pub mounted_one : (shape : Shape) (board : BoardState) (drive : Sight) → board.shape ≡ Some shape → (mount board drive).terms.limits ≡ limit shape ∷ []
 mounted_one shape board drive has = sym (mounted_limits shape board drive has) ∙ limits_one shape board.pages
+
+-- the frames and the limits of a drive on its board
+pub mounted_terms : (shape : Shape) (terms : Terms) (board : BoardState) (drive : Sight) (m : Map) → HoldsMap shape terms board drive m → (mount board drive).terms ≡ terms
+mounted_terms shape terms board drive m stands = λ k. record { frames = stands.frames_is k; limits = limits_held shape terms board drive m stands k }
 
 module _ (agrees : Option Shape → Flash → Type 0) (shape : Shape) (old : BoardState) (d : Sight) (ready : Ready agrees shape old d) where
   -- the flash holds the map
@@ -74,7 +78,7 @@ module _ (agrees : Option Shape → Flash → Type 0) (shape : Shape) (old : Boa
 
       -- the frames and the limits are the same
       same_terms : (mount new e).terms ≡ (mount old d).terms
-      same_terms = λ k. record { frames = done.stands.frames_is k; limits = (ap (λ s. limits_at (shape_or_none s) new.pages) done.stands.shape_is ∙ done.stands.limits_is) k }
+      same_terms = mounted_terms shape (mount old d).terms new e done.left done.stands
 
       good_now : IsHanded c → IsGood (holding shape done.left)
       good_now handed = elim done.stepped [
