@@ -55,7 +55,7 @@ module _ (shape : Shape) (terms : Terms) where
       ((ran.0, one, more.0), more.1 ∙ ap (λ n. map_after_all shape terms.limits n (commands xs)) one.leaves)
 
 -- no fault was counted
-none_counted : (before now k : ℕ) → (Rose before now → ⊥) → AtMost (rise before now) k → k ≡ 0
+pub none_counted : (before now k : ℕ) → (Rose before now → ⊥) → AtMost (rise before now) k → k ≡ 0
 none_counted before now k none h = by (nat_le last_count now) refl h
   where
     by : (b : Bool) → nat_le last_count now ≡ b → AtMost (if b then None else Some (now - before)) k → k ≡ 0

@@ -27,6 +27,7 @@ use Rattle.pk_scan.specs.declared.errors.OpenError.{OpenError}
 use Rattle.pk_top.specs.Ends.{end_status, open_status}
 use Rattle.pk_top.specs.Serves.{KeptFrom, RunServes, ServesAll, behind_opening}
 use Rattle.pk_top.proofs.Completing.{all_not, servable_behind, complete_before}
+use Rattle.pk_top.proofs.Isolating.{isolates_end, isolates_not}
 
 -- ---- a drive that was not opened
 
@@ -60,6 +61,7 @@ RunServes-not shape frames loaded new status error tells reason only = record {
   kept = λ input told. goes-none shape frames loaded new (script input).0 only;
   kept_untold = ([], goes-none shape frames loaded new [] only);
   complete = all_not shape frames loaded new status error tells reason;
+  isolated = isolates_not shape frames loaded new status error tells;
   outcome = inl (record { error = error; tells = tells; reason = reason; only_reads = only });
 }
 
@@ -111,6 +113,7 @@ module _ (shape : Shape) (frames : ℕ) (loaded new : BoardState) (drive : Sight
         kept = λ input told. goes-from (script input).0 (kept shape (terms_at shape loaded.pages frames) start stands none input told);
         kept_untold = (some.0, goes-from some.0 some.1);
         complete = all-opened status end tells complete;
+        isolated = isolates_end shape frames loaded new start status end tells start-held (served shape (terms_at shape loaded.pages frames) start stands none);
         outcome = inr (
           end,
           tells,

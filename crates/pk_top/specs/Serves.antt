@@ -23,6 +23,7 @@ use Rattle.pk_nand.specs.Effects.{OnlyReading}
 use Rattle.pk_scan.specs.declared.errors.OpenError.{OpenError}
 use Rattle.pk_top.specs.declared.status.TheConstants.Status.{DONE, MEMORY}
 use Rattle.pk_top.specs.Ends.{end_status, open_status}
+use Rattle.pk_top.specs.Isolates.{IsolatesAll}
 use Rattle.pk_top.specs.Loads.{NoImage, WordRun}
 use Rattle.pk_top.specs.Statuses.{Untouched}
 
@@ -85,6 +86,7 @@ pub record RunServes (shape : Shape) (frames : ℕ) (loaded new : BoardState) (s
   pub kept : KeepsScript shape frames loaded new
   pub kept_untold : KeepsSome shape frames loaded new
   pub complete : ServesAll shape frames loaded new status
+  pub isolated : IsolatesAll shape frames loaded new status
   pub outcome : NotServed shape loaded new status ⊎ ((end : End) × (status ≡ end_status end) × ServedTo shape frames loaded new end)
 
 -- an image of this shape was found
