@@ -26,3 +26,4 @@ pub mod Owned
 pub mod Owners
 pub mod Room
 pub mod Whole
+pub mod Using

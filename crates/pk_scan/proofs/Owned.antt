@@ -62,12 +62,12 @@ module _ (shape : Shape) (xs ys : List ℕ) (same : (b : ℕ) → list_any (λ c
   fits_same : (pages : List ℕ) → fits shape xs pages ≡ fits shape ys pages
   fits_same pages = λ i. outside_same pages i && differ pages && nat_le (length pages) (limit shape) && nat_le (length (blocks_with shape pages)) (data_blocks shape - 1)
 
-  pub values_same : (at : ℕ → Page) (taken : List ℕ) (es : List (Key × Place)) → values_of shape at xs taken es ≡ values_of shape at ys taken es
+  pub values_same : (at : ℕ → Page) (limits : List ℕ) (taken es : List (Key × Place)) → values_of shape at limits xs taken es ≡ values_of shape at limits ys taken es
   unfolding values_of
-  values_same at taken [] = refl
-  values_same at taken (e ∷ es) =
-      λ i. ensure (fits_same (taken ++ value_pages shape e.1) i) e.1.page >>=
-      (λ u. value_at shape at e.0 e.1 >>= (λ value. values_same at (taken ++ value_pages shape e.1) es i >>= (λ others. Ok ((e.0, value) ∷ others))))
+  values_same at limits taken [] = refl
+  values_same at limits taken (e ∷ es) =
+      λ i. ensure (fits_same (all_pages shape taken ++ value_pages shape e.1) i && nat_le (pages_of_space shape (space_of e.0) (taken ++ e ∷ [])) (limit_of limits (space_of e.0))) e.1.page >>=
+      (λ u. value_at shape at e.0 e.1 >>= (λ value. values_same at limits (taken ++ e ∷ []) es i >>= (λ others. Ok ((e.0, value) ∷ others))))
 
   pub Lives-same : (live : Values) (taken : List (Key × Place)) → Lives shape xs live taken → Lives shape ys live taken
   Lives-same live taken lives = record {

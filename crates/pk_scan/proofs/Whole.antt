@@ -109,16 +109,16 @@ module _ (shape : Shape) (at : ℕ → Page) where
       let bytes = bind_ok (value_from shape at place.page (head_bytes key place.len) (32 + place.len) (charge shape place.len)) _ v ok in
       from_written place.page (head_bytes key place.len) (32 + place.len) (charge shape place.len) bytes.0 bytes.1 k is.0 is.1
 
-  pub values_written : (named taken : List ℕ) (es : List (Key × Place)) (vs : List (Key × List ℕ)) → values_of shape at named taken es ≡ Ok vs → (k : ℕ) → IsValuePage shape es k → at k ≢ erased
+  pub values_written : (limits named : List ℕ) (taken es : List (Key × Place)) (vs : List (Key × List ℕ)) → values_of shape at limits named taken es ≡ Ok vs → (k : ℕ) → IsValuePage shape es k → at k ≢ erased
   unfolding values_of
-  values_written named taken [] vs ok k is = absurd is
-  values_written named taken (e ∷ es) vs ok k is =
-      let room = bind_ok (ensure (fits shape named (taken ++ value_pages shape e.1)) e.1.page) _ vs ok in
+  values_written limits named taken [] vs ok k is = absurd is
+  values_written limits named taken (e ∷ es) vs ok k is =
+      let room = bind_ok (ensure (fits_after shape limits named taken e) e.1.page) _ vs ok in
       let value = bind_ok (value_at shape at e.0 e.1) _ vs room.2 in
-      let others = bind_ok (values_of shape at named (taken ++ value_pages shape e.1) es) _ vs value.2 in
+      let others = bind_ok (values_of shape at limits named (taken ++ e ∷ []) es) _ vs value.2 in
       elim is [
         | inl here ↦ value_written e.0 e.1 value.0 value.1 k here
-        | inr there ↦ values_written named (taken ++ value_pages shape e.1) es others.0 others.1 k there
+        | inr there ↦ values_written limits named (taken ++ e ∷ []) es others.0 others.1 k there
       ]
 
 -- ---- refusals
@@ -140,22 +140,22 @@ module _ (shape : Shape) (page : ℕ) (root : Root) (old : BoardState) (top : ne
       (behind_reads part old now new e reads same (subst (λ (f : Flash). PartNotOpened (found_under shape (page_at f) root) now new e) same why))
 
   pub values_refused : (found : Found) → found_under shape (page_at old.pages) root ≡ Ok found → length (firsts found.newest) ≤ buffer shape → (new : BoardState) (e : OpenError)
-      → PartNotOpened (values_of shape (page_at now.pages) (named root) [] (places found [])) now new e → NotOpened shape old new e
+      → PartNotOpened (values_of shape (page_at now.pages) (root_limits shape root) (named root) [] (places found [])) now new e → NotOpened shape old new e
   values_refused found is room new e why =
-      let part = values_of shape (page_at old.pages) (named root) [] (places found []) in
+      let part = values_of shape (page_at old.pages) (root_limits shape root) (named root) [] (places found []) in
       as_whole part shape old new e (values_refuse shape old.pages page root top found is room)
-      (behind_reads part old now new e reads same (subst (λ (f : Flash). PartNotOpened (values_of shape (page_at f) (named root) [] (places found [])) now new e) same why))
+      (behind_reads part old now new e reads same (subst (λ (f : Flash). PartNotOpened (values_of shape (page_at f) (root_limits shape root) (named root) [] (places found [])) now new e) same why))
 
 -- ---- all that is on the flash
 
 module _ {A : Type 0} (shape : Shape) (flash : Flash) (frames : ℕ) (f : Opened A) (found : Found) (held : HoldsFound shape flash f.root.root f.active f.frozen f.epoch f.arena f.levels found)
     (top : newest_root shape (page_at flash) ≡ Some (f.root_page, f.root.root)) (pinned_is : f.levels.pinned ≡ pinned shape frames)
-    (live : Values) (values : ReadsValues shape flash (named f.root.root) live (places found [])) where
+    (live : Values) (values : ReadsValues shape flash (root_limits shape f.root.root) (named f.root.root) live (places found [])) where
   pub is_opened : f.root.shape ≡ shape → is_root shape f.root.root ≡ true → f.root_page < root_pages shape → f.levels.shape ≡ shape → length f.active.entries ≤ f.active.capacity
       → HasArena shape frames f.levels f.arena [] → (pool : Blocks) → HasOwners shape f.root.root live pool
       → used_by for_values pool.states ≡ length (blocks_with shape (all_pages shape (places found [])))
-      → (keys : ℕ) → keys ≡ length (places found []) → FoundOnFlash shape flash frames (record f { live = live; pool = pool; keys = keys })
-  is_opened shape_is grammar place levels_shape room arena_is pool owners values_are keys keys_are =
+      → (u : Use) → IsUseOf shape u (places found []) → FoundOnFlash shape flash frames (record f { live = live; pool = pool; spaces = u })
+  is_opened shape_is grammar place levels_shape room arena_is pool owners values_are u uses =
       let under = stands_under shape flash f.root_page f.root.root top found held.finds
       (few_newest shape flash f.root.root f.active f.frozen f.epoch f.arena f.levels found held room) values.values values.read in
       record {
@@ -178,11 +178,12 @@ module _ {A : Type 0} (shape : Shape) (flash : Flash) (frames : ℕ) (f : Opened
         };
         blocks = record {
           lives = values.lives;
-          written = values_written shape (page_at flash) (named f.root.root) [] (places found []) values.values values.read;
+          written = values_written shape (page_at flash) (root_limits shape f.root.root) (named f.root.root) [] (places found []) values.values values.read;
           owners = owners;
           values_are = values_are;
         };
-        keys_are = keys_are;
+        uses = uses;
+        keys_are = uses.keys 1 (omega arith, omega arith) ∙ all_in_one (places found []) (keys_are shape (page_at flash) f.root.root found held.finds);
       }
 
   opened_is : opening_reads shape flash frames ≡ root_pages shape + epoch_reads shape (page_at flash) f.root.root.older + epoch_reads shape
@@ -264,34 +265,34 @@ module _ {A : Type 0} (shape a : Shape) (f : Opened A) (is : a ≡ shape) (root_
   from_before : before.root.shape ≡ shape
   from_before = before_is ∙ is
 
-  values_here : (live : Values) → ReadsValues f.root.shape now.pages (named f.root.root) live (places found []) → ReadsValues shape old.pages (named f.root.root) live (places found [])
+  values_here : (live : Values) → ReadsValues f.root.shape now.pages (root_limits f.root.shape f.root.root) (named f.root.root) live (places found []) → ReadsValues shape old.pages (root_limits shape f.root.root) (named f.root.root) live (places found [])
   values_here live values =
-      subst (λ (s : Shape). ReadsValues s old.pages (named f.root.root) live (places found [])) shape_is
-      (subst (λ (x : Flash). ReadsValues f.root.shape x (named f.root.root) live (places found [])) same values)
+      subst (λ (s : Shape). ReadsValues s old.pages (root_limits s f.root.root) (named f.root.root) live (places found [])) shape_is
+      (subst (λ (x : Flash). ReadsValues f.root.shape x (root_limits f.root.shape f.root.root) (named f.root.root) live (places found [])) same values)
 
   top_here : newest_root shape (page_at old.pages) ≡ Some (f.root_page, f.root.root)
   top_here = subst (λ (s : Shape). newest_root s (page_at old.pages) ≡ Some (f.root_page, f.root.root)) from_before finds.top
 
   pub scan_refuses : OnlyReads old now → (new : BoardState) (e : OpenError)
-      → PartNotOpened (values_of f.root.shape (page_at now.pages) (named f.root.root) [] (places found [])) now new e → NotOpened shape old new e
+      → PartNotOpened (values_of f.root.shape (page_at now.pages) (root_limits f.root.shape f.root.root) (named f.root.root) [] (places found [])) now new e → NotOpened shape old new e
   scan_refuses reads new e why =
       values_refused shape f.root_page f.root.root old top_here now reads same found held_here.finds
       (few_newest shape old.pages f.root.root f.active f.frozen f.epoch f.arena f.levels found held_here finds.few) new e
-      (subst (λ (s : Shape). PartNotOpened (values_of s (page_at now.pages) (named f.root.root) [] (places found [])) now new e) shape_is why)
+      (subst (λ (s : Shape). PartNotOpened (values_of s (page_at now.pages) (root_limits s f.root.root) (named f.root.root) [] (places found [])) now new e) shape_is why)
 
-  module _ (unread : FoundNothing shape frames before) (live : Values) (values : ReadsValues f.root.shape now.pages (named f.root.root) live (places found [])) where
+  module _ (unread : FoundNothing shape frames before) (live : Values) (values : ReadsValues f.root.shape now.pages (root_limits f.root.shape f.root.root) (named f.root.root) live (places found [])) where
     pinned_here : f.levels.pinned ≡ pinned shape frames
     pinned_here = finds.pinned_is ∙ ap (λ (l : Levels). l.pinned) unread.no_run
 
     pub scan_opened : (pool : Blocks) → HasOwners f.root.shape f.root.root live pool → used_by for_values pool.states ≡ length (blocks_with f.root.shape (all_pages f.root.shape (places found [])))
-        → (keys : ℕ) → keys ≡ length (places found []) → FoundOnFlash shape old.pages frames (record f { live = live; pool = pool; keys = keys })
-    scan_opened pool owners values_are keys keys_are =
+        → (u : Use) → IsUseOf f.root.shape u (places found []) → FoundOnFlash shape old.pages frames (record f { live = live; pool = pool; spaces = u })
+    scan_opened pool owners values_are u uses =
         is_opened shape old.pages frames f found held_here top_here pinned_here live (values_here live values) shape_is
         (subst (λ (s : Shape). is_root s f.root.root ≡ true) from_before finds.grammar)
         (subst (λ (s : Shape). f.root_page < root_pages s) from_before finds.place) (finds.levels_shape ∙ from_before) finds.few
         (arena_opened shape frames before.arena f.arena f.levels f.root.root.counts finds.held.run_frames unread.page_bytes unread.all_free finds.more)
         pool (subst (λ (s : Shape). HasOwners s f.root.root live pool) shape_is owners)
-        (subst (λ (s : Shape). used_by for_values pool.states ≡ length (blocks_with s (all_pages s (places found [])))) shape_is values_are) keys keys_are
+        (subst (λ (s : Shape). used_by for_values pool.states ≡ length (blocks_with s (all_pages s (places found [])))) shape_is values_are) u (subst (λ (s : Shape). IsUseOf s u (places found [])) shape_is uses)
 
     pub scan_reads : (new : BoardState) → now ≡ after_reads (root_pages before.root.shape + list_reads before.root.shape (page_at old.pages) f.root.root) old
         → new ≡ after_reads (most_read f.levels.runs + value_reads f.root.shape (places found [])) now → new ≡ after_reads (opening_reads shape old.pages frames) old
