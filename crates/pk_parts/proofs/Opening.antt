@@ -34,6 +34,7 @@ use Rattle.pk_parts.specs.Parts.{Parts, commits_in}
 use Rattle.pk_parts.specs.Opening.{OpenedOn}
 use Rattle.pk_parts.proofs.Reclaiming.{reclaim_rests}
 use Rattle.pk_schedule.proofs.Keeping.{IsFound, index_opens}
+use Rattle.pk_space.specs.Uses.{space_keys}
 
 -- the lists are what a log is opened with
 log_opens : {A : Type 0} (shape : Shape) (flash : Flash) (frames : ℕ) (f : Opened A) (found : Found) (m : Map)
@@ -70,7 +71,7 @@ values_found shape flash f found is has = record {
 -- the parts of a drive made of what was found
 module _ {A : Type 0} (shape : Shape) (flash : Flash) (frames : ℕ) (f : Opened A) (log : LogState) (values : ValuesState) (s : Schedule) (job : JobState) (walk : Walk) where
   abbrev parts : Parts
-  parts = record { log = log; levels = f.levels; arena = f.arena; schedule = s; values = values; reclaim = job; pool = f.pool; keys = f.keys; stopped = false; walk = walk }
+  parts = record { log = log; levels = f.levels; arena = f.arena; schedule = s; values = values; reclaim = job; pool = f.pool; keys = space_keys f.spaces 1; stopped = false; walk = walk }
 
   -- the index of what was found, in which nothing runs
   index_found : IsShape f.root.shape → (was : FoundOnFlash shape flash frames f) → log ≡ opened f.root f.root_page f.epoch f.active f.frozen

@@ -27,3 +27,4 @@ pub mod Owners
 pub mod Room
 pub mod Whole
 pub mod Using
+pub mod UseRoom

@@ -1,5 +1,5 @@
 -- A run whose pages are read one after another.
-use Rattle.std.proofs.Common.{◌≡◌, ℕ, zero, suc, ◌+◌, ◌-◌, ◌*◌, ◌/◌, ◌^◌, ◌<◌, ◌≤◌, min, Bool, true, false, is_some, List, [], ◌∷◌, ◌++◌, length, take, refl, ap, sym, subst, ◌∙◌, arith, Option, Some}
+use Rattle.std.proofs.Common.{◌≡◌, ℕ, zero, suc, ◌+◌, ◌-◌, ◌*◌, ◌/◌, ◌^◌, ◌<◌, ◌≤◌, min, Bool, true, false, is_some, List, [], ◌∷◌, ◌++◌, length, take, refl, ap, sym, subst, ◌∙◌, arith, Option, Some, not, ◌||◌, ◌==◌}
 use Rattle.std.proofs.Common.{None, option_map, Err, append_assoc, append-nil, length-append, suc-mul, mul-le-mul_right, mul_comm, zero-mul, div-lt_iff_lt-mul}
 use Rattle.std.specs.Prelude.{slice_get, slice_index}
 use Rattle.std.specs.List.{AllByRecursion}
@@ -27,13 +27,15 @@ use Rattle.pk_run.proofs.Pieces.{share, meta_next}
 use Rattle.pk_scan.specs.declared.errors.PageError.{PageError}
 use Rattle.pk_scan.specs.declared.errors.PageError.TheVariants.{Damaged, Fault}
 use Rattle.pk_level.specs.Arenas.{IsPinnedIf}
-use Rattle.pk_scan.specs.Runs.{RunBlocksExist, HasRun, ComesTo, NotRead, LeasedMore, LoadsPages, AwaitsPages, AwaitsPage, IsLast, RunGoesOn, listed, PageAdded, PageTaken, PageRefused}
+use Rattle.pk_scan.specs.Runs.{RunBlocksExist, HasRun, ComesTo, NotRead, LeasedMore, LoadsPages, AwaitsPages, AwaitsPage, IsLast, RunGoesOn, listed, PageAdded, PageTaken, PageRefused, are_put}
 use Rattle.pk_scan.specs.Board.{StaysReady}
 use Rattle.pk_scan.proofs.Boards.{rest_reads, rest_not_read, stays_ready_behind}
 use Rattle.std.proofs.lemmas.Grind.{div_ceil_times}
 use Rattle.pk_scan.proofs.Leasing.{kept_more, leased_none, leased_more, runs_stand}
 use Rattle.pk_scan.proofs.Rereading.{meta_refused, last_of, pages_most, blocks_most, more_left, all_counted}
 use Rattle.pk_base.proofs.ShapeLemmas.{entries_some}
+use Rattle.pk_base.proofs.Logic.{left_part, right_part}
+use Rattle.pk_space.specs.Entries.{in_spaces}
 
 -- ---- one page
 

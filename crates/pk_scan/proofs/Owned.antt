@@ -1,5 +1,5 @@
 -- The blocks that have an owner, and what depends on which these are alone.
-use Rattle.std.proofs.Common.{◌≡◌, inl, inr, ℕ, zero, suc, ◌+◌, ◌-◌, ◌/◌, ◌<◌, ◌≤◌, Bool, true, false, not, ◌&&◌, ◌||◌, ◌==◌, List, [], ◌∷◌, ◌++◌, length, refl, sym, ap, subst, ◌∙◌, arith, Option}
+use Rattle.std.proofs.Common.{◌≡◌, inl, inr, ℕ, zero, suc, ◌+◌, ◌-◌, ◌/◌, ◌<◌, ◌≤◌, Bool, true, false, not, ◌&&◌, ◌||◌, ◌==◌, List, [], ◌∷◌, ◌++◌, length, refl, sym, ap, subst, ◌∙◌, arith, Option, slice_index}
 use Rattle.std.proofs.Common.{Some, None, Ok, option_map, eq-or-lt_of_le}
 use Rattle.std.specs.Prelude.{slice_get, nat_le}
 use Rattle.std.specs.List.{list_any, list_all, concat, range_with_len, AllByRecursion}
@@ -7,7 +7,7 @@ use Rattle.std.proofs.lemmas.Bool.{false≢true, or_left, or_right, or_cases, eq
 use Rattle.std.proofs.lemmas.List.Folds.{list_any-append}
 use Rattle.std.proofs.lemmas.Map.Views.{any-filter_same}
 use Rattle.std.proofs.lemmas.Option.{slice_get_within}
-use Rattle.pk_base.specs.Key.{Key}
+use Rattle.pk_base.specs.Key.{Key, space_of}
 use Rattle.pk_base.specs.Shape.{Shape, IsShape, limit, data_blocks}
 use Rattle.pk_base.specs.Entry.{Place}
 use Rattle.pk_base.specs.Page.{Page}
@@ -22,9 +22,10 @@ use Rattle.pk_rootfmt.specs.Root.{Root, named, is_root, differ}
 use Rattle.pk_segfmt.specs.Value.{value_pages, value_at}
 use Rattle.pk_live.specs.Values.{Values}
 use Rattle.pk_live.specs.Lives.{Lives}
-use Rattle.pk_model.specs.Values.{fits, all_pages, blocks_with, values_of}
+use Rattle.pk_model.specs.Values.{fits, all_pages, blocks_with, values_of, pages_of_space}
 use Rattle.pk_scan.specs.Adopts.{is_among, has_owner, owned_blocks, owned_if, NamesOwned}
 use Rattle.pk_scan.proofs.Naming.{names_spare, unused_none}
+use Rattle.pk_model.specs.Spaces.{limit_of}
 
 -- ---- one block
 

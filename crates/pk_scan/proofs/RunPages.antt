@@ -16,6 +16,8 @@ use Rattle.pk_meta.proofs.Reading.{meta_held, sorted_true}
 use Rattle.pk_scan.specs.Runs.{IsLast, is_behind, are_put, GoesOnOr}
 use Rattle.pk_scan.proofs.Rises.{rises_behind, lies_behind}
 use Rattle.pk_base.proofs.Logic.{of_true}
+use Rattle.std.specs.List.{list_all}
+use Rattle.pk_meta.specs.Run.{may_hold}
 
 -- ---- each entry passes a test
 

@@ -32,6 +32,7 @@ use Rattle.pk_scan.specs.declared.errors.PageError.{PageError}
 use Rattle.pk_scan.specs.declared.errors.PageError.TheVariants.{Damaged as PageDamaged, Fault as PageFault}
 use Rattle.pk_scan.specs.declared.errors.OpenError.{OpenError}
 use Rattle.pk_scan.specs.declared.errors.OpenError.TheVariants.{NotFormatted, Damaged, Fault, Memory}
+use Rattle.pk_model.specs.RootLimits.{root_spaces}
 
 -- ---- lists
 

@@ -1,5 +1,5 @@
 -- What is used of each namespace, as values are taken.
-use Rattle.std.proofs.Common.{◌≡◌, ℕ, zero, suc, ◌+◌, ◌-◌, ◌<◌, ◌≤◌, Bool, true, false, List, [], ◌∷◌, ◌++◌, length, slice_index, replicate, ◌==◌, if◌then◌else◌, refl, sym, ap, subst, ◌∙◌, arith, eqb→eq, eq-eqb, length-append}
+use Rattle.std.proofs.Common.{◌≡◌, ℕ, zero, suc, ◌+◌, ◌-◌, ◌<◌, ◌≤◌, Bool, true, false, List, [], ◌∷◌, ◌++◌, length, slice_index, replicate, ◌==◌, if◌then◌else◌, refl, sym, ap, subst, ◌∙◌, arith, eqb→eq, eq-eqb, length-append, nat_le, ◌&&◌}
 use Rattle.std.specs.Prelude.{slice_set}
 use Rattle.std.specs.List.{AllByRecursion}
 use Rattle.pk_base.specs.declared.sizes.TheConstants.{MOST_SPACES}
@@ -8,9 +8,11 @@ use Rattle.pk_base.specs.Shape.{Shape, charge}
 use Rattle.pk_base.specs.Entry.{Place}
 use Rattle.pk_base.proofs.Logic.{of_true}
 use Rattle.pk_space.specs.Uses.{Use, nothing_used, IsSpace, space_live, space_keys, value_count, used_after}
-use Rattle.pk_model.specs.Values.{pages_of_space}
+use Rattle.pk_model.specs.Values.{pages_of_space, fits, all_pages, fits_after}
 use Rattle.pk_model.proofs.ValueSets.{pages_of_space-append}
 use Rattle.pk_scan.specs.Used.{keys_of_space, IsUseOf}
+use Rattle.pk_segfmt.specs.Value.{value_pages}
+use Rattle.pk_model.specs.Spaces.{limit_of}
 
 zeros_at : (n i : ℕ) → slice_index (replicate n 0) i ≡ 0
 zeros_at zero i = refl
@@ -114,3 +116,31 @@ module _ (shape : Shape) (u : Use) (es : List (Key × Place)) (key : Key) (place
         (rises u.keys 1 (λ space. keys_of_space space es) (λ space. keys_of_space space (es ++ e ∷ [])) uses.keys_room uses.keys
         (λ space. let sum = keys_append space es (e ∷ []) in omega (arith, sum)) space in_range);
   })
+
+-- ---- whether the next value may be taken
+
+module _ (shape : Shape) (limits named : List ℕ) (taken : List (Key × Place)) (key : Key) (place : Place) where
+  abbrev more : List (Key × Place)
+  more = taken ++ (key, place) ∷ []
+
+  pub not_fitting : fits shape named (all_pages shape taken ++ value_pages shape place) ≡ false → false ≡ fits_after shape limits named taken (key, place)
+  not_fitting fit = sym (ap (λ b. b && nat_le (pages_of_space shape (space_of key) more) (limit_of limits (space_of key))) fit)
+
+  pages_more : pages_of_space shape (space_of key) more ≡ pages_of_space shape (space_of key) taken + charge shape place.len
+  pages_more =
+      let sum = pages_of_space-append shape (space_of key) taken ((key, place) ∷ []) in
+      let own : pages_of_space shape (space_of key) ((key, place) ∷ []) ≡ charge shape place.len + 0 = rw (eq-eqb (space_of key) (space_of key) refl) refl in
+      omega (arith, sum, own)
+
+  pub fitting : fits shape named (all_pages shape taken ++ value_pages shape place) ≡ true → (u : Use) → IsSpace (space_of key) → IsUseOf shape u taken
+      → (within : Bool) → within ≡ nat_le (space_live u (space_of key) + charge shape place.len) (limit_of limits (space_of key)) → within ≡ fits_after shape limits named taken (key, place)
+  fitting fit u own uses within told =
+      let live = uses.live (space_of key) own in
+      let sum = pages_more in
+      let same : space_live u (space_of key) + charge shape place.len ≡ pages_of_space shape (space_of key) more = omega (arith, live, sum) in
+      told ∙ ap (λ n. nat_le n (limit_of limits (space_of key))) same
+      ∙ sym (ap (λ b. b && nat_le (pages_of_space shape (space_of key) more) (limit_of limits (space_of key))) fit)
+
+pub value_count_most : (count : ℕ) → value_count count ≤ 1
+value_count_most zero = omega arith
+value_count_most (suc n) = omega arith

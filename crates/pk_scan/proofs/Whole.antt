@@ -2,7 +2,7 @@
 use Rattle.std.proofs.Common.{◌≡◌, ◌≢◌, inl, inr, ℕ, zero, suc, ◌+◌, ◌-◌, ◌<◌, ◌≤◌, true, List, [], ◌∷◌, length, drop, refl, sym, ap, subst, ◌∙◌, arith, Some, None, Result, Ok, Err}
 use Rattle.std.specs.Prelude.{nat_eq, ◌==◌, ◌++◌}
 use Rattle.std.specs.List.{AllByRecursion, list_all, starts_with}
-use Rattle.pk_base.specs.Key.{Key}
+use Rattle.pk_base.specs.Key.{Key, IsKey}
 use Rattle.pk_base.specs.Shape.{Shape, charge, buffer, root_pages, pinned}
 use Rattle.pk_base.specs.Entry.{Entry, Place}
 use Rattle.pk_base.specs.EntryChecks.{IsEntry, IsPlace}
@@ -32,7 +32,7 @@ use Rattle.pk_nand.specs.Counts.{after_reads}
 use Rattle.pk_model.specs.Found.{Found, found_under, entries_in_order}
 use Rattle.pk_model.specs.Laws.{IsPageOf}
 use Rattle.pk_model.specs.Reading.{reading}
-use Rattle.pk_model.specs.Values.{placed, fits, values_of, all_pages, blocks_with}
+use Rattle.pk_model.specs.Values.{placed, fits, values_of, all_pages, blocks_with, fits_after}
 use Rattle.pk_model.proofs.Entries.{counting_all, journal_are, meta_are}
 use Rattle.pk_model.proofs.StrangePages.{bind_ok}
 use Rattle.pk_law_steps.specs.Under.{IsValuePage, places}
@@ -55,6 +55,10 @@ use Rattle.pk_scan.proofs.Leasing.{arena_opened}
 use Rattle.pk_scan.proofs.Room.{frames_enough}
 use Rattle.pk_scan.proofs.Opened.{behind_reads}
 use Rattle.pk_scan.proofs.Under.{visible_places, found_refuses, values_refuse, stands_under}
+use Rattle.pk_model.specs.RootLimits.{root_limits}
+use Rattle.pk_scan.specs.Used.{IsUseOf}
+use Rattle.pk_scan.proofs.Using.{all_in_one}
+use Rattle.pk_space.specs.Uses.{Use}
 
 -- ---- the keys that exist
 
@@ -63,11 +67,21 @@ placed_all shape [] all = tt
 placed_all shape ((key, None) ∷ es) all = placed_all shape es all.1
 placed_all shape ((key, Some place) ∷ es) all = (all.0.1, placed_all shape es all.1)
 
+placed_keys : (shape : Shape) (es : List Entry) → AllByRecursion (IsEntry shape) es → AllByRecursion (λ e. IsKey e.0) (placed es)
+placed_keys shape [] all = tt
+placed_keys shape ((key, None) ∷ es) all = placed_keys shape es all.1
+placed_keys shape ((key, Some place) ∷ es) all = (all.0.0, placed_keys shape es all.1)
+
+entries_are : (shape : Shape) (flash : Flash) (root : Root) (found : Found) → found_under shape (page_at flash) root ≡ Ok found → AllByRecursion (IsEntry shape) (firsts (entries_in_order found []))
+entries_are shape flash root found is =
+    counting_all (IsEntry shape) shape (page_at flash) (λ k number index bytes es stands read. journal_are shape number index bytes es read)
+    (λ k level index count bytes es stands read. meta_are shape level index count bytes es read) root found [] is tt
+
+pub keys_found : (shape : Shape) (flash : Flash) (root : Root) (found : Found) → found_under shape (page_at flash) root ≡ Ok found → AllByRecursion (λ e. IsKey e.0) (places found [])
+keys_found shape flash root found is = placed_keys shape (firsts (entries_in_order found [])) (entries_are shape flash root found is)
+
 pub places_are : (shape : Shape) (flash : Flash) (root : Root) (found : Found) → found_under shape (page_at flash) root ≡ Ok found → AllByRecursion (λ e. IsPlace shape e.1) (places found [])
-places_are shape flash root found is =
-    placed_all shape (firsts (entries_in_order found []))
-    (counting_all (IsEntry shape) shape (page_at flash) (λ k number index bytes es stands read. journal_are shape number index bytes es read)
-    (λ k level index count bytes es stands read. meta_are shape level index count bytes es read) root found [] is tt)
+places_are shape flash root found is = placed_all shape (firsts (entries_in_order found [])) (entries_are shape flash root found is)
 
 module _ (shape : Shape) (flash : Flash) (root : Root) (active frozen : Table) (epoch : JournalEpoch) (arena : Frames)
     (levels : Levels) (found : Found) (held : HoldsFound shape flash root active frozen epoch arena levels found) where
@@ -183,7 +197,7 @@ module _ {A : Type 0} (shape : Shape) (flash : Flash) (frames : ℕ) (f : Opened
           values_are = values_are;
         };
         uses = uses;
-        keys_are = uses.keys 1 (omega arith, omega arith) ∙ all_in_one (places found []) (keys_are shape (page_at flash) f.root.root found held.finds);
+        keys_are = uses.keys 1 (omega arith, omega arith) ∙ all_in_one (places found []) (keys_found shape flash f.root.root found held.finds);
       }
 
   opened_is : opening_reads shape flash frames ≡ root_pages shape + epoch_reads shape (page_at flash) f.root.root.older + epoch_reads shape
@@ -314,8 +328,8 @@ awaits_lists shape frames f none = record {
 -- after the lists the values may be read
 pub awaits_values : {A : Type 0} (shape : Shape) (frames : ℕ) (flash : Flash) (was now : Working A) (found : Found) → IsUnread shape frames was → FindsLists flash was.found now.found found
     → now.found.root.shape ≡ was.found.root.shape → now.found.live ≡ was.found.live → now.walk ≡ was.walk
-    → now.found.pool ≡ was.found.pool → length now.page.items ≡ was.found.root.shape.page_bytes → AwaitsValues now
-awaits_values shape frames flash was now found unread finds root_is live walk pool room =
+    → now.found.pool ≡ was.found.pool → now.found.spaces ≡ was.found.spaces → length now.page.items ≡ was.found.root.shape.page_bytes → AwaitsValues now
+awaits_values shape frames flash was now found unread finds root_is live walk pool spaces room =
     let is : now.found.root.shape ≡ shape = root_is ∙ unread.nothing.root_shape in
     record {
       grammar = rw root_is finds.grammar;
@@ -324,5 +338,6 @@ awaits_values shape frames flash was now found unread finds root_is live walk po
       starts = subst (λ w. IsAtStart w) (sym walk) unread.starts;
       none_live = live ∙ unread.nothing.none_live ∙ ap (λ (s : Shape). no_values s) (sym is);
       pool_unused = pool ∙ unread.nothing.pool_unused ∙ ap (λ (s : Shape). unused s) (sym is);
+      none_used = spaces ∙ unread.nothing.none_used;
       page_room = room ∙ ap (λ (s : Shape). s.page_bytes) (sym root_is);
     }

@@ -155,13 +155,14 @@ pub fn take_value<A: Allocator>(
     if !has_room(shape, pool, live, place) {
         return false;
     }
+    let block = place.page / shape.block_pages();
     let count = shape.charge(place.len);
     let space = key.space();
     if !is_within(limits, spaces, space, count) {
         return false;
     }
     live.set(place.page, count);
-    live.close(place.page / shape.block_pages());
+    live.close(block);
     spaces.change(space, 0, count);
     true
 }
