@@ -79,14 +79,14 @@ module _ (shape : Shape) (spaces level index count : ℕ) (page : List ℕ) (es 
   pub has_gone : (before : List Entry) → may_hold spaces level es ≡ false → GoesOnOr shape spaces level index count before page false
   has_gone before gone more goes =
       let same = same_entries more goes.holds in
-      subst T gone (subst (λ (xs : List Entry). T (may_hold spaces level xs)) same goes.deepest)
+      subst T gone (subst (λ (xs : List Entry). T (may_hold spaces level xs)) same goes.stands)
 
   pub told : (before : List Entry) (last : Option Key) (first : Key) → T (is_sorted key_cmp es) → option_map key_of (slice_get es 0) ≡ Some first
       → T (may_hold spaces level es) → T (is_sorted key_cmp before) → IsLast last before → (b : Bool) → b ≡ is_behind last first → GoesOnOr shape spaces level index count before page b
   told before last first up begins deep up' ends b is = by_first es refl
     where
       goes : T (is_sorted key_cmp (before ++ es)) → GoesOnOr shape spaces level index count before page true
-      goes rising = (es, record { holds = holds; rising = rising; deepest = deep })
+      goes rising = (es, record { holds = holds; rising = rising; stands = deep })
 
       -- after none, or after the last one
       with_last : (next : Entry) (rest : List Entry) → es ≡ next ∷ rest → key_of next ≡ first → (last : Option Key)
