@@ -13,9 +13,10 @@ use Rattle.pk_run.specs.Kept.{Kept}
 use Rattle.pk_level.specs.Levels.{IsLevels, AreOfLevels, RunsOnFlash}
 use Rattle.pk_level.specs.Arenas.{AreBareAbove, last_level, leases_of, pages_of}
 use Rattle.pk_model.specs.Found.{Found}
+use Rattle.pk_law_steps.specs.Under.{IsUnder}
 use Rattle.pk_scan.specs.Opened.{HaveBlocks}
 use Rattle.pk_schedule.specs.Index.{merging, output}
-use Rattle.pk_schedule.proofs.Keeping.{idle_leases}
+use Rattle.pk_schedule.proofs.OutputFrames.{most_output, output_most}
 use Rattle.pk_parts.specs.Parts.{Parts, frames_of, index_of}
 use Rattle.pk_parts.specs.Agreeing.{DriveOnFlashWith}
 
@@ -83,18 +84,20 @@ module _ (d : Parts) (shape : Shape) (flash : Flash) (top : ℕ × Root) (found 
       let here : P d.log.shape d.levels.pinned = omega (arith, own, both, all) in
       subst (λ (s : Shape). P s (pinned s (frames_of d))) agrees.shape_is (subst (P d.log.shape) x.levels_pinned here)
 
-  -- if no merge runs, only pages of the levels that may have frames have some
-  pub leased_most : merging d.schedule.phase ≡ 0
-      → leased_frames d.arena ≤ sum (map (run_pages shape) (take (adapted shape (frames_of d) (map (run_pages shape) (entries_of d.levels.runs))) (entries_of d.levels.runs)))
-  leased_most idle =
+  -- besides, only pages of other levels that may have frames have some, and pages of a merge's output
+  pub leased_most :
+      leased_frames d.arena
+      ≤ sum (map (run_pages shape) (take (adapted shape (frames_of d) (map (run_pages shape) (entries_of d.levels.runs))) (entries_of d.levels.runs)))
+      + most_output shape (frames_of d) (merging d.schedule.phase)
+  leased_most =
       let x = agrees.index in
-      let P : Shape → ℕ → Type 0 = λ s n. leased_frames d.arena ≤ sum (map (run_pages s) (take n (entries_of d.levels.runs))) in
+      let P : Shape → ℕ → Type 0 = λ s n. leased_frames d.arena ≤ sum (map (run_pages s) (take n (entries_of d.levels.runs))) + most_output s (frames_of d) (merging d.schedule.phase) in
       let last : ℕ = last_level d.levels (frames_of d) in
-      let none : length (output d.schedule).leases ≡ 0 = ap (λ (ls : List ℕ). length ls) (idle_leases (index_of d) (frames_of d) flash top found x idle) in
+      let few = output_most (index_of d) (frames_of d) flash top found without x (subst (λ (s : Shape). IsUnder s flash [] top found without) (sym agrees.shape_is) agrees.committed) in
       let own = most d.log.shape flash d.arena last 1 last d.levels.runs top.1.runs found.runs (omega arith) x.arena_is.bare x.run_blocks x.stand in
       let both = length-append (leases_of d.levels.runs) (output d.schedule).leases in
       let all = counted in
-      let here : P d.log.shape last = omega (arith, own, both, all, none) in
+      let here : P d.log.shape last = omega (arith, own, both, all, few) in
       let lasts : last ≡ adapted d.log.shape (frames_of d) (map (run_pages d.log.shape) (entries_of d.levels.runs)) = λ i.
       adapted (x.levels_shape i) (frames_of d) (pages_are d.log.shape flash d.arena d.levels.runs top.1.runs found.runs x.run_blocks x.stand i) in
       subst (λ (s : Shape). P s (adapted s (frames_of d) (map (run_pages s) (entries_of d.levels.runs)))) agrees.shape_is (subst (P d.log.shape) lasts here)

@@ -41,7 +41,7 @@ use Rattle.pk_parts.proofs.Reclaiming.{reclaim_within}
 use Rattle.pk_values.specs.State.{OpenBlock}
 use Rattle.pk_nand.specs.BoardState.{BoardState}
 use Rattle.pk_nand.specs.Effects.{OnlyFlash}
-use Rattle.pk_call.specs.Steady.{Steadies, IsSteady, IsReadyBlock, HasReady, entries_of_runs, live_blocks, pages_of_each, pages_of_runs}
+use Rattle.pk_call.specs.Steady.{Steadies, IsSteady, IsReadyBlock, HasReady, entries_of_runs, live_blocks, output_frames, pages_of_each, pages_of_runs}
 use Rattle.pk_law_work.specs.Backlog.{IsBacklog, due_level}
 use Rattle.pk_law_work.specs.Work.{work}
 use Rattle.pk_law_work.proofs.Within.{work_most}
@@ -218,10 +218,10 @@ module _ (d : Parts) (shape : Shape) (flash : Flash) (top : ℕ × Root) (found 
   least_leased =
       subst (λ (ns : List ℕ). pages_of_runs shape (pinned shape (frames_of d)) ns ≤ leased_frames d.arena) (sym four_are) (leased_least d shape flash top found without all a keeps.levels)
 
-  most_leased : merging d.schedule.phase ≡ 0 → leased_frames d.arena ≤ pages_of_runs shape (adapted shape (frames_of d) (pages_of_each shape (counts_of d))) (entries_of_runs (counts_of d))
-  most_leased idle =
-      subst (λ (ns : List ℕ). leased_frames d.arena ≤ pages_of_runs shape (adapted shape (frames_of d) (map (run_pages shape) ns)) ns) (sym four_are)
-      (leased_most d shape flash top found without all a idle)
+  most_leased : leased_frames d.arena ≤ pages_of_runs shape (adapted shape (frames_of d) (pages_of_each shape (counts_of d))) (entries_of_runs (counts_of d)) + output_frames shape (counts_of d)
+  most_leased =
+      subst (λ (ns : List ℕ). leased_frames d.arena ≤ pages_of_runs shape (adapted shape (frames_of d) (map (run_pages shape) ns)) ns + output_frames shape (counts_of d)) (sym four_are)
+      (leased_most d shape flash top found without all a)
 
   -- ---- all of it
 
