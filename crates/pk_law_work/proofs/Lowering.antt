@@ -7,7 +7,7 @@ use Rattle.pk_law_work.specs.Rest.{left_of, whole_merge, whole_freeze}
 use Rattle.pk_law_work.specs.Backlog.{Backlog, IsBacklog, due_level}
 use Rattle.pk_law_work.specs.Work.{emptying, merging_from, merging, freezing_from, freezing, reclaiming, filling_from, filling, most_filling, after_freeze, repeating, work}
 use Rattle.pk_law_work.specs.Steps.{EndsMerge}
-use Rattle.pk_law_work.specs.Laws.{MergeMoves, MergeEnds, FreezeMoves, FreezeEnds, PairEnds, Reclaims, Fills}
+use Rattle.pk_law_work.specs.Laws.{MergeMoves, MergeEnds, FreezeMoves, FreezeEnds, PairEnds, Reclaims, FrameFills}
 use Rattle.pk_law_work.proofs.Emptying.{emptying-suc, emptying-zero, emptying_rises}
 use Rattle.pk_law_work.proofs.Within.{due_most, filling_within}
 use Rattle.pk_law_work.proofs.Targets.{next_told, first_next, second_next, third_next}
@@ -208,7 +208,7 @@ reclaims shape b b' step =
     let fills : filling shape b' ≤ filling shape b = subst (λ (u : ℕ). filling_from shape (merging shape b') u ≤ filling shape b) (sym same_unfilled) falls in
     omega arith
 
-pub fills : Fills
+pub fills : FrameFills
 unfolding work
 fills shape b b' step =
     let same : due_level shape b' ≡ due_level shape b = due-same shape b b' (ap (λ x. x.frozen) step.filled) (ap (λ x. x.runs) step.filled) in

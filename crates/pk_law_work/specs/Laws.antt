@@ -46,8 +46,8 @@ abbrev pub Reclaims : Type 0
 Reclaims = (shape : Shape) (b b' : Backlog) → StepsReclaim shape b b' → work shape b' < work shape b
 
 -- so does a page that is read into a frame
-abbrev pub Fills : Type 0
-Fills = (shape : Shape) (b b' : Backlog) → FillsFrame shape b b' → work shape b' < work shape b
+abbrev pub FrameFills : Type 0
+FrameFills = (shape : Shape) (b b' : Backlog) → FillsFrame shape b b' → work shape b' < work shape b
 
 -- so does an erase of a free block
 abbrev pub Erases : Type 0
