@@ -11,7 +11,7 @@ use Rattle.pk_pin.specs.Frames.{Frames, leased_frames}
 use Rattle.pk_pin.proofs.Leases.{leases_counted}
 use Rattle.pk_run.specs.Kept.{Kept}
 use Rattle.pk_level.specs.Levels.{IsLevels, AreOfLevels, RunsOnFlash}
-use Rattle.pk_level.specs.Arenas.{AreBareAbove, last_level, leases_of, pages_of}
+use Rattle.pk_level.specs.Arenas.{AreBareAbove, last_level, leases_of, page_counts}
 use Rattle.pk_model.specs.Found.{Found}
 use Rattle.pk_law_steps.specs.Under.{IsUnder}
 use Rattle.pk_scan.specs.Opened.{HaveBlocks}
@@ -26,7 +26,7 @@ entries_of rs = map (λ (r : Kept). r.count) rs
 
 module _ (shape : Shape) (flash : Flash) (arena : Frames) where
   -- a run has the pages of its entries
-  pages_are : (rs : List Kept) (bss : List (List ℕ)) (ess : List (List Entry)) → HaveBlocks shape rs bss → RunsOnFlash flash arena rs ess → pages_of rs ≡ map (run_pages shape) (entries_of rs)
+  pages_are : (rs : List Kept) (bss : List (List ℕ)) (ess : List (List Entry)) → HaveBlocks shape rs bss → RunsOnFlash flash arena rs ess → page_counts rs ≡ map (run_pages shape) (entries_of rs)
   pages_are [] bss ess have stand = refl
   pages_are (r ∷ rs) [] ess have stand = absurd have
   pages_are (r ∷ rs) (bs ∷ bss) [] have stand = absurd stand

@@ -16,7 +16,7 @@ use Rattle.pk_adapt.proofs.Fitting.{need_most, is_adapted}
 use Rattle.pk_run.specs.Kept.{Kept, IsKept, IsPinned, RunOnFlash, FillsPage, empty, is_pinned}
 use Rattle.pk_run.proofs.Others.{RunOnFlash-taken, RunOnFlash-filled}
 use Rattle.pk_level.specs.Levels.{Levels, IsOfLevel, AreOfLevels, IsLevels, RunsOnFlash, HaveBlocks, run_of, with_run}
-use Rattle.pk_level.specs.Arenas.{HasLeases, HasArena, AreBareAbove, FillsRun, IsUnfilled, leases_of, pages_of, last_level, unfilled_from, unfilled, lacks}
+use Rattle.pk_level.specs.Arenas.{HasLeases, HasArena, AreBareAbove, FillsRun, IsUnfilled, leases_of, page_counts, last_level, unfilled_from, unfilled, lacks}
 use Rattle.pk_level.proofs.Looking.{stands_at, of_level_at}
 
 le_true : (x y : ℕ) → x ≤ y → nat_le x y ≡ true
@@ -112,13 +112,13 @@ spare_sum_is last k (p ∷ ps) =
     ]
 
 abbrev Bounds : Shape → ℕ → ℕ → List Kept → Type 0
-Bounds shape k last rs = bound_from shape k last 1 rs ≤ sum (take k (caps shape)) + pages_of_first (last - k) (drop k (pages_of rs))
+Bounds shape k last rs = bound_from shape k last 1 rs ≤ sum (take k (caps shape)) + pages_of_first (last - k) (drop k (page_counts rs))
 
 bound_four : (shape : Shape) (k last : ℕ) (a b c d : Kept) → k ≤ 4 → Bounds shape k last (a ∷ b ∷ c ∷ d ∷ [])
-bound_four shape zero last a b c d few = let s = spare_sum_is last 0 (pages_of (a ∷ b ∷ c ∷ d ∷ [])) in omega (arith, s)
-bound_four shape (suc zero) last a b c d few = let s = spare_sum_is last 1 (pages_of (b ∷ c ∷ d ∷ [])) in omega (arith, s)
-bound_four shape (suc (suc zero)) last a b c d few = let s = spare_sum_is last 2 (pages_of (c ∷ d ∷ [])) in omega (arith, s)
-bound_four shape (suc (suc (suc zero))) last a b c d few = let s = spare_sum_is last 3 (pages_of (d ∷ [])) in omega (arith, s)
+bound_four shape zero last a b c d few = let s = spare_sum_is last 0 (page_counts (a ∷ b ∷ c ∷ d ∷ [])) in omega (arith, s)
+bound_four shape (suc zero) last a b c d few = let s = spare_sum_is last 1 (page_counts (b ∷ c ∷ d ∷ [])) in omega (arith, s)
+bound_four shape (suc (suc zero)) last a b c d few = let s = spare_sum_is last 2 (page_counts (c ∷ d ∷ [])) in omega (arith, s)
+bound_four shape (suc (suc (suc zero))) last a b c d few = let s = spare_sum_is last 3 (page_counts (d ∷ [])) in omega (arith, s)
 bound_four shape (suc (suc (suc (suc zero)))) last a b c d few = let s = first_none (last - 4) in omega (arith, s)
 bound_four shape (suc (suc (suc (suc (suc k))))) last a b c d few = absurd (omega (arith, few))
 
@@ -130,17 +130,17 @@ bound_runs shape k last (a ∷ (b ∷ (c ∷ []))) four few = absurd (omega (ari
 bound_runs shape k last (a ∷ (b ∷ (c ∷ (d ∷ [])))) four few = bound_four shape k last a b c d few
 bound_runs shape k last (a ∷ (b ∷ (c ∷ (d ∷ (e ∷ rs))))) four few = absurd (omega (arith, four))
 
-length-pages : (rs : List Kept) → length (pages_of rs) ≡ length rs
+length-pages : (rs : List Kept) → length (page_counts rs) ≡ length rs
 length-pages [] = refl
 length-pages (r ∷ rs) = ap suc (length-pages rs)
 
 -- what the last level is
-pub last_is : (levels : Levels) (frames : ℕ) → IsLevels levels → levels.pinned ≡ pinned levels.shape frames → IsAdapted levels.shape frames (pages_of levels.runs) (last_level levels frames)
+pub last_is : (levels : Levels) (frames : ℕ) → IsLevels levels → levels.pinned ≡ pinned levels.shape frames → IsAdapted levels.shape frames (page_counts levels.runs) (last_level levels frames)
 last_is levels frames is same =
     let most = is.most in
     let four = is.four in
     let long = length-pages levels.runs in
-    is_adapted levels.shape frames (pages_of levels.runs) (omega (arith, four, long)) (omega (arith, most, same))
+    is_adapted levels.shape frames (page_counts levels.runs) (omega (arith, four, long)) (omega (arith, most, same))
 
 -- Where no merge runs, there are frames for all pages that are to be filled, and besides for the output of a merge into a pinned level.
 pub frames_fit : (levels : Levels) (frames : ℕ) (arena : Frames) → IsLevels levels → AllByRecursion IsKept levels.runs → HasArena levels.shape frames levels arena []
@@ -154,8 +154,8 @@ frames_fit levels frames arena is kept has =
     let low : levels.pinned ≤ last = let l = adapts.least in omega (arith, l, pins) in
     let taken = leases_bound shape levels.pinned last 1 levels.runs is.each kept has.bare low in
     let bound = bound_runs shape levels.pinned last levels.runs is.four most in
-    let fits : pages_of_first (last - levels.pinned) (drop levels.pinned (pages_of levels.runs)) ≤ frames - need shape levels.pinned =
-    subst (λ (k : ℕ). pages_of_first (last - k) (drop k (pages_of levels.runs)) ≤ frames - need shape k) (sym pins) adapts.fits in
+    let fits : pages_of_first (last - levels.pinned) (drop levels.pinned (page_counts levels.runs)) ≤ frames - need shape levels.pinned =
+    subst (λ (k : ℕ). pages_of_first (last - k) (drop k (page_counts levels.runs)) ≤ frames - need shape k) (sym pins) adapts.fits in
     let needs : need shape levels.pinned ≤ frames = subst (λ (k : ℕ). need shape k ≤ frames) (sym pins) (need_most shape frames) in
     let counted = leases_counted arena (leases_of levels.runs ++ []) has.leases.only_these in
     let none = ap (λ (ls : List ℕ). length ls) (append-nil (leases_of levels.runs)) in
@@ -172,9 +172,9 @@ module _ (l : ℕ) where
   longer : (r : Kept) → length (framed r).leases ≡ length r.leases + 1
   longer r = let e = length-append r.leases (l ∷ []) in omega (arith, e)
 
-  pages_same : (rs : List Kept) (i : ℕ) (r : Kept) → slice_get rs i ≡ Some r → pages_of (slice_set rs i (framed r)) ≡ pages_of rs
+  pages_same : (rs : List Kept) (i : ℕ) (r : Kept) → slice_get rs i ≡ Some r → page_counts (slice_set rs i (framed r)) ≡ page_counts rs
   pages_same [] i r got = cc
-  pages_same (x ∷ rs) zero r got = let same : x ≡ r = cc in ap (λ (y : Kept). length y.firsts ∷ pages_of rs) (sym same)
+  pages_same (x ∷ rs) zero r got = let same : x ≡ r = cc in ap (λ (y : Kept). length y.firsts ∷ page_counts rs) (sym same)
   pages_same (x ∷ rs) (suc i) r got = ap (λ (ps : List ℕ). length x.firsts ∷ ps) (pages_same rs i r got)
 
   filled_one : (last level : ℕ) (rs : List Kept) (i : ℕ) (r : Kept) → slice_get rs i ≡ Some r → level + i ≤ last → length r.leases < length r.firsts

@@ -15,7 +15,7 @@ use Rattle.pk_run.specs.Leases.{AreLeased, LeavesOthers, LeavesOtherLeases}
 use Rattle.pk_run.proofs.Leasing.{are_leased}
 use Rattle.pk_run.proofs.Others.{among}
 use Rattle.pk_level.specs.Levels.{Levels, IsLevels, RunsOnFlash, HaveBlocks, run_of, with_run}
-use Rattle.pk_level.specs.Arenas.{HasLeases, HasArena, AreBareAbove, BaresRun, Releases, bare, bare_from, leases_of, pages_of, last_level}
+use Rattle.pk_level.specs.Arenas.{HasLeases, HasArena, AreBareAbove, BaresRun, Releases, bared, bare_from, leases_of, page_counts, last_level}
 use Rattle.pk_level.proofs.Filling.{got_of}
 
 gt_false : (x y : ℕ) → y < x → nat_le x y ≡ false
@@ -25,18 +25,18 @@ gt_false x y h = grind (arith, nat_tests)
 abbrev bare_first : ℕ → ℕ → ℕ → List Kept → List Kept
 bare_first zero last level rs = rs
 bare_first (suc n) last level [] = []
-bare_first (suc n) last level (r ∷ rs) = bare last level r ∷ bare_first n last (suc level) rs
+bare_first (suc n) last level (r ∷ rs) = bared last level r ∷ bare_first n last (suc level) rs
 
-same_level : (last level other : ℕ) (r : Kept) → other ≡ level → bare last other r ≡ bare last level r
-same_level last level other r e = ap (λ (l : ℕ). bare last l r) e
+same_level : (last level other : ℕ) (r : Kept) → other ≡ level → bared last other r ≡ bared last level r
+same_level last level other r e = ap (λ (l : ℕ). bared last l r) e
 
-bare_next : (n last level : ℕ) (rs : List Kept) (d : Kept) → n < length rs → slice_set (bare_first n last level rs) n (bare last (level + n) (slice_index_or (bare_first n last level rs) n d)) ≡ bare_first (suc n) last level rs
+bare_next : (n last level : ℕ) (rs : List Kept) (d : Kept) → n < length rs → slice_set (bare_first n last level rs) n (bared last (level + n) (slice_index_or (bare_first n last level rs) n d)) ≡ bare_first (suc n) last level rs
 bare_next n last level [] d h = absurd (omega (arith, h))
 bare_next zero last level (r ∷ rs) d h = ap (λ (x : Kept). x ∷ rs) (same_level last level (level + 0) r (omega arith))
 bare_next (suc n) last level (r ∷ rs) d h =
     let own : Kept = slice_index_or (bare_first n last (suc level) rs) n d in
-    ap (λ (x : Kept). bare last level r ∷ slice_set (bare_first n last (suc level) rs) n x) (same_level last (suc level + n) (level + suc n) own (omega arith))
-    ∙ ap (λ (xs : List Kept). bare last level r ∷ xs) (bare_next n last (suc level) rs d (omega (arith, h)))
+    ap (λ (x : Kept). bared last level r ∷ slice_set (bare_first n last (suc level) rs) n x) (same_level last (suc level + n) (level + suc n) own (omega arith))
+    ∙ ap (λ (xs : List Kept). bared last level r ∷ xs) (bare_next n last (suc level) rs d (omega (arith, h)))
 
 bare_length : (n last level : ℕ) (rs : List Kept) → length (bare_first n last level rs) ≡ length rs
 bare_length zero last level rs = refl
@@ -47,16 +47,16 @@ bare_all : (n last level : ℕ) (rs : List Kept) → length rs ≤ n → bare_fi
 bare_all zero last level [] h = refl
 bare_all zero last level (r ∷ rs) h = absurd (omega (arith, h))
 bare_all (suc n) last level [] h = refl
-bare_all (suc n) last level (r ∷ rs) h = ap (λ (xs : List Kept). bare last level r ∷ xs) (bare_all n last (suc level) rs (omega (arith, h)))
+bare_all (suc n) last level (r ∷ rs) h = ap (λ (xs : List Kept). bared last level r ∷ xs) (bare_all n last (suc level) rs (omega (arith, h)))
 
 one_pages : (b : Bool) (r : Kept) → length (if b then r else record r { leases = [] }).firsts ≡ length r.firsts
 one_pages true r = refl
 one_pages false r = refl
 
-bare_pages : (last level : ℕ) (rs : List Kept) → pages_of (bare_from last level rs) ≡ pages_of rs
+bare_pages : (last level : ℕ) (rs : List Kept) → page_counts (bare_from last level rs) ≡ page_counts rs
 bare_pages last level [] = refl
 bare_pages last level (r ∷ rs) =
-    ap (λ (n : ℕ). n ∷ pages_of (bare_from last (suc level) rs)) (one_pages (nat_le level last) r) ∙ ap (λ (ps : List ℕ). length r.firsts ∷ ps) (bare_pages last (suc level) rs)
+    ap (λ (n : ℕ). n ∷ page_counts (bare_from last (suc level) rs)) (one_pages (nat_le level last) r) ∙ ap (λ (ps : List ℕ). length r.firsts ∷ ps) (bare_pages last (suc level) rs)
 
 are_bare : (last level : ℕ) (rs : List Kept) → AreBareAbove last level (bare_from last level rs)
 are_bare last level [] = tt
@@ -197,13 +197,13 @@ module _ (n last : ℕ) (levels : Levels) (arena : Frames) (then_levels : Levels
   pub Baring-next : (levels' : Levels) (arena' : Frames) → BaresRun (suc n) last then_levels then_arena levels' arena' → Baring (suc n) last levels arena levels' arena'
   Baring-next levels' arena' b =
       let own : Kept = run_of then_levels (suc n) in
-      let r' : Kept = bare last (suc n) own in
+      let r' : Kept = bared last (suc n) own in
       let long = is.four in
       let level : suc n ≡ 1 + n = omega arith in
       let next : slice_set then_levels.runs n r' ≡ bare_first (suc n) last 1 levels.runs =
-      ap (λ (l : ℕ). slice_set then_levels.runs n (bare last l own)) level
-      ∙ ap (λ (x : Kept). slice_set then_levels.runs n (bare last (1 + n) x)) own_is
-      ∙ ap (λ (ls : Levels). slice_set ls.runs n (bare last (1 + n) (slice_index_or ls.runs n (empty ls.shape (suc n))))) so_far.levels_are
+      ap (λ (l : ℕ). slice_set then_levels.runs n (bared last l own)) level
+      ∙ ap (λ (x : Kept). slice_set then_levels.runs n (bared last (1 + n) x)) own_is
+      ∙ ap (λ (ls : Levels). slice_set ls.runs n (bared last (1 + n) (slice_index_or ls.runs n (empty ls.shape (suc n))))) so_far.levels_are
       ∙ bare_next n last 1 levels.runs (empty levels.shape (suc n)) (omega (arith, long, few)) in
       let here : levels' ≡ record then_levels { runs = slice_set then_levels.runs n r' } = b.levels_are ∙ ap (λ (i : ℕ). record then_levels { runs = slice_set then_levels.runs i r' }) one_less in
       let split = leases_split then_levels.runs n own r' got in
@@ -254,7 +254,7 @@ module _ (levels : Levels) (level last : ℕ) (arena : Frames) (r' : Kept) (aren
   pub bares : last < level → levels' ≡ with_run levels level r' → r' ≡ record former { leases = [] } → ((flash : Flash) (es : List Entry) → RunOnFlash former flash arena es → RunOnFlash r' flash arena' es)
       → LeavesOthers former.leases arena arena' → LeavesOtherLeases former.leases arena arena' → arena'.page_bytes ≡ arena.page_bytes → length arena'.used ≡ length arena.used → BaresRun level last levels arena levels' arena'
   bares above are is stands others leases bytes size =
-      let here : bare last level former ≡ r' = ap (λ (b : Bool). if b then former else record former { leases = [] }) (gt_false level last above) ∙ sym is in
+      let here : bared last level former ≡ r' = ap (λ (b : Bool). if b then former else record former { leases = [] }) (gt_false level last above) ∙ sym is in
       record {
         levels_are = are ∙ ap (λ (r : Kept). with_run levels level r) (sym here);
         stands = λ flash es s. subst (λ (r : Kept). RunOnFlash r flash arena' es) (sym here) (stands flash es s);

@@ -22,12 +22,12 @@ IsPinnedIf true r = IsPinned r
 IsPinnedIf false r = r.leases ≡ []
 
 -- how many pages each run has
-abbrev pub pages_of : List Kept → List ℕ
-pages_of rs = map (λ r. length r.firsts) rs
+abbrev pub page_counts : List Kept → List ℕ
+page_counts rs = map (λ r. length r.firsts) rs
 
 -- the last level that may have frames, of which there are this many
 abbrev pub last_level : Levels → ℕ → ℕ
-last_level levels frames = adapted levels.shape frames (pages_of levels.runs)
+last_level levels frames = adapted levels.shape frames (page_counts levels.runs)
 
 -- of the runs from this level on, those of the levels after the last one have no frames
 abbrev pub AreBareAbove : ℕ → ℕ → List Kept → Type 0
@@ -93,22 +93,22 @@ pub record FillsNone (levels : Levels) (arena : Frames) (old : BoardState) (leve
 -- ---- frames that are freed
 
 -- the run of a level, without its frames if it is after the last level that may have some
-abbrev pub bare : ℕ → ℕ → Kept → Kept
-bare last level r = if nat_le level last then r else record r { leases = [] }
+abbrev pub bared : ℕ → ℕ → Kept → Kept
+bared last level r = if nat_le level last then r else record r { leases = [] }
 
 -- The run of this level has no frames if it is after the last level that may have some, and all others have theirs.
 pub record BaresRun (level last : ℕ) (levels : Levels) (arena : Frames) (levels' : Levels) (arena' : Frames) : Type 0 where
-  pub levels_are : levels' ≡ with_run levels level (bare last level (run_of levels level))
-  pub stands : (flash : Flash) (es : List Entry) → RunOnFlash (run_of levels level) flash arena es → RunOnFlash (bare last level (run_of levels level)) flash arena' es
+  pub levels_are : levels' ≡ with_run levels level (bared last level (run_of levels level))
+  pub stands : (flash : Flash) (es : List Entry) → RunOnFlash (run_of levels level) flash arena es → RunOnFlash (bared last level (run_of levels level)) flash arena' es
   pub others : LeavesOthers (run_of levels level).leases arena arena'
-  pub leases : (front behind : List ℕ) → AreLeases arena (front ++ ((run_of levels level).leases ++ behind)) → AreLeases arena' (front ++ ((bare last level (run_of levels level)).leases ++ behind))
+  pub leases : (front behind : List ℕ) → AreLeases arena (front ++ ((run_of levels level).leases ++ behind)) → AreLeases arena' (front ++ ((bared last level (run_of levels level)).leases ++ behind))
   pub same_bytes : arena'.page_bytes ≡ arena.page_bytes
   pub same_size : length arena'.used ≡ length arena.used
 
 -- so of all runs
 abbrev pub bare_from : ℕ → ℕ → List Kept → List Kept
 bare_from last level [] = []
-bare_from last level (r ∷ rs) = bare last level r ∷ bare_from last (suc level) rs
+bare_from last level (r ∷ rs) = bared last level r ∷ bare_from last (suc level) rs
 
 -- No level after the last one that may have frames has some, and the runs are as before.
 pub record Releases (levels : Levels) (arena : Frames) (levels' : Levels) (arena' : Frames) : Type 0 where

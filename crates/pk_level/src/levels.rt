@@ -13,7 +13,7 @@ ghost use Rattle.pk_run.specs.Kept.{IsKept, RunOnFlash};
 ghost use Rattle.pk_run.specs.Leases.{AreLeased};
 ghost use Rattle.pk_run.specs.Search.{IsFound};
 ghost use Rattle.pk_level.specs.Levels as spec;
-ghost use Rattle.pk_level.specs.Levels.{IsLevels, IsOfLevel, RunsOnFlash, LooksFor, ReadsUpTo, ReadFailsWithin, no_runs, run_of, with_run, all_entries, reads_through, held_of, is_held};
+ghost use Rattle.pk_level.specs.Levels.{IsLevels, IsOfLevel, RunsOnFlash, LooksFor, ReadsUpTo, ReadFailsWithin, no_runs, run_of, with_run, all_entries, reads_through, held_levels, is_held};
 ghost use Rattle.pk_level.specs.Arenas.{HasArena, HasLeases, FillsRun, FillsOne, FillsNone, IsUnfilled, BaresRun, Releases, last_level, unfilled_from, lacks};
 
 use pk_adapt::adapted;
@@ -100,7 +100,7 @@ impl<A: Allocator> Levels<A> {
     pub fn known(&self)
         ensures levels { IsLevels self.now }
         ensures runs { AllByRecursion IsKept self.now.runs }
-        ensures exact { reads_through self.now.runs + self.now.pinned + held_of self.now ≡ LEVELS }
+        ensures exact { reads_through self.now.runs + self.now.pinned + held_levels self.now ≡ LEVELS }
         ensures few { reads_through self.now.runs + self.now.pinned ≤ LEVELS }
     {
         self.first.known();
@@ -118,7 +118,7 @@ impl<A: Allocator> Levels<A> {
 
     /// How many levels below the pinned ones have frames for all their pages.
     pub fn held(&self) -> u8
-        ensures held { result ≡ held_of self.now }
+        ensures held { result ≡ held_levels self.now }
         ensures most { result + self.now.pinned ≤ LEVELS }
     {
         self.known();

@@ -12,7 +12,7 @@ use Rattle.pk_pin.specs.Frames.{Frames, leased, filled, times, AreLeases, KeepsP
 use Rattle.pk_pin.proofs.Leases.{times-append, leases_none, leases_taken}
 use Rattle.pk_run.specs.Kept.{Kept}
 use Rattle.pk_level.specs.Levels.{Levels}
-use Rattle.pk_level.specs.Arenas.{HasArena, AreBareAbove, IsPinnedIf, last_level, leases_of, pages_of}
+use Rattle.pk_level.specs.Arenas.{HasArena, AreBareAbove, IsPinnedIf, last_level, leases_of, page_counts}
 use Rattle.pk_adapt.proofs.Fitting.{adapted_least}
 use Rattle.pk_run.proofs.Standing.{RunOnFlash-elsewhere}
 use Rattle.pk_scan.specs.Runs.{LeasedMore, RunsStand, listed}
@@ -100,7 +100,7 @@ arena_opened shape frames free arena levels counts have same pins page unused mo
   };
   bare =
       let here : levels.pinned ≡ pinned levels.shape frames = pins ∙ ap (λ (s : Shape). pinned s frames) (sym same) in
-      let least = adapted_least levels.shape frames (pages_of levels.runs) in
+      let least = adapted_least levels.shape frames (page_counts levels.runs) in
       bare_of levels.pinned (last_level levels frames) 1 levels.runs counts (omega (arith, here, least)) have;
 }
   where
