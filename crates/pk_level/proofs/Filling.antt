@@ -1,5 +1,5 @@
 -- Pages that get frames, and the frames that are free for them.
-use Rattle.std.proofs.Common.{◌≡◌, ◌⊎◌, inl, inr, ℕ, zero, suc, ◌+◌, ◌-◌, ◌*◌, ◌<◌, ◌≤◌, Bool, true, false, cond, if◌then◌else◌, nat_le, nat_lt, List, [], ◌∷◌, ◌++◌, length, map, slice_get, get_or, take, drop, sum, refl, ap, sym, subst, ◌∙◌, arith, Some, None, Result, Ok, Err, OnOk, length-append, append-nil, length-set, get_or-set_same}
+use Rattle.std.proofs.Common.{◌≡◌, inl, inr, ℕ, zero, suc, ◌+◌, ◌-◌, ◌<◌, ◌≤◌, Bool, true, false, if◌then◌else◌, nat_le, List, [], ◌∷◌, ◌++◌, length, map, slice_get, take, drop, sum, refl, ap, sym, subst, ◌∙◌, arith, Some, Result, Ok, Err, OnOk, length-append, append-nil, length-set, get_or-set_same}
 use Rattle.std.specs.Prelude.{max, fold, slice_set, slice_index_or, ◌&&◌, not}
 use Rattle.std.specs.List.{AllByRecursion}
 use Rattle.std.proofs.lemmas.Bool.{cases_lt}
@@ -11,12 +11,12 @@ use Rattle.pk_base.specs.Page.{Flash}
 use Rattle.pk_nand.specs.declared.types.Fault.{Fault}
 use Rattle.pk_pin.specs.Frames.{Frames, AreLeases, free_frames, leased, filled, times}
 use Rattle.pk_pin.proofs.Leases.{times-append, leases_taken, leases_filled, leases_counted, frames_counted}
-use Rattle.pk_adapt.specs.Adapted.{spare_frames, pages_of_first, adapted, pages_up_to, IsAdapted}
+use Rattle.pk_adapt.specs.Adapted.{pages_of_first, adapted, IsAdapted}
 use Rattle.pk_adapt.proofs.Fitting.{need_most, is_adapted}
-use Rattle.pk_run.specs.Kept.{Kept, IsKept, IsPinned, RunOnFlash, FillsPage, empty, is_pinned}
+use Rattle.pk_run.specs.Kept.{Kept, IsKept, RunOnFlash, FillsPage, empty, is_pinned}
 use Rattle.pk_run.proofs.Others.{RunOnFlash-taken, RunOnFlash-filled}
 use Rattle.pk_level.specs.Levels.{Levels, IsOfLevel, AreOfLevels, IsLevels, RunsOnFlash, HaveBlocks, run_of, with_run}
-use Rattle.pk_level.specs.Arenas.{HasLeases, HasArena, AreBareAbove, FillsRun, IsUnfilled, leases_of, page_counts, last_level, unfilled_from, unfilled, lacks}
+use Rattle.pk_level.specs.Arenas.{HasArena, AreBareAbove, FillsRun, IsUnfilled, leases_of, page_counts, last_level, unfilled_from, unfilled, lacks}
 use Rattle.pk_level.proofs.Looking.{stands_at, of_level_at}
 
 le_true : (x y : ℕ) → x ≤ y → nat_le x y ≡ true
@@ -289,10 +289,10 @@ module _ (levels : Levels) (arena : Frames) (level : ℕ) (levels' : Levels) (ar
       let taken = leases_taken arena before l has.leases.only_these f.fills.was_free in
       let all = leases_filled (leased arena l) (l ∷ before) l f.fills.bytes taken in
       let rows : AreLeases frames_behind (leases_of behind.runs ++ []) = λ x.
-          let one = one_lease l x levels.runs (level - 1) own got in
-          let now = times-append x (leases_of behind.runs) [] in
-          let was = times-append x (l ∷ leases_of levels.runs) [] in
-          (let e : times x (leases_of behind.runs ++ []) ≡ times x (l ∷ before) = omega (arith, one, now, was) in e) ∙ all x in
+      let one = one_lease l x levels.runs (level - 1) own got in
+      let now = times-append x (leases_of behind.runs) [] in
+      let was = times-append x (l ∷ leases_of levels.runs) [] in
+      (let e : times x (leases_of behind.runs ++ []) ≡ times x (l ∷ before) = omega (arith, one, now, was) in e) ∙ all x in
       let here : HasArena levels.shape (length arena.used) behind frames_behind [] = record {
         leases = record { page_bytes_is = has.leases.page_bytes_is; size = as_many; pinned_is = has.leases.pinned_is; only_these = rows };
         bare = subst (λ (n : ℕ). AreBareAbove n 1 behind.runs) (sym same_last) (bare_still l (last_level levels (length arena.used)) 1 levels.runs (level - 1) (framed l own) (omega (arith, least, up_to)) has.bare);
@@ -317,9 +317,9 @@ module _ (levels : Levels) (arena : Frames) (level : ℕ) (levels' : Levels) (ar
       ap (λ (ls : Levels). run_of ls level) levels_behind ∙ get_or-set_same levels.runs (level - 1) (framed l own) (empty levels.shape level) inside in
       let at = stands_of levels flash arena ess level is least few each in
       let mine : (es : List Entry) → slice_get ess (level - 1) ≡ Some es → RunOnFlash (framed l own) flash frames_behind es = λ es is_es.
-          let at_es = at.1 in
-          let same : at.0 ≡ es = cc in
-          subst (λ (a : Frames). RunOnFlash (framed l own) flash a es) f.fills.arena_is (subst (λ (r : Kept). RunOnFlash r flash arena' es) there (stands es (subst (λ (xs : List Entry). RunOnFlash own flash arena xs) same at.2))) in
+      let at_es = at.1 in
+      let same : at.0 ≡ es = cc in
+      subst (λ (a : Frames). RunOnFlash (framed l own) flash a es) f.fills.arena_is (subst (λ (r : Kept). RunOnFlash r flash arena' es) there (stands es (subst (λ (xs : List Entry). RunOnFlash own flash arena xs) same at.2))) in
       let others = stand_still l flash arena f.fills.bytes levels.runs ess f.fills.was_free each in
       let all : RunsOnFlash flash frames_behind behind.runs ess = stand_framed l flash frames_behind levels.runs ess (level - 1) (framed l own) others mine in
       subst (λ (a : Frames). RunsOnFlash flash a levels'.runs ess) (sym f.fills.arena_is) (subst (λ (ls : Levels). RunsOnFlash flash frames_behind ls.runs ess) (sym levels_behind) all)

@@ -1,10 +1,9 @@
 -- Frames of levels that are freed, one run after another.
-use Rattle.std.proofs.Common.{◌≡◌, inl, inr, ℕ, zero, suc, ◌+◌, ◌-◌, ◌<◌, ◌≤◌, Bool, true, false, cond, if◌then◌else◌, nat_le, List, [], ◌∷◌, ◌++◌, length, map, slice_get, get_or, refl, ap, sym, subst, ◌∙◌, arith, Some, append_assoc}
-use Rattle.std.specs.Prelude.{slice_set, slice_index_or, ◌==◌}
-use Rattle.std.proofs.lemmas.Bool.{cases_lt}
+use Rattle.std.proofs.Common.{◌≡◌, ℕ, zero, suc, ◌+◌, ◌-◌, ◌<◌, ◌≤◌, Bool, true, false, cond, if◌then◌else◌, nat_le, List, [], ◌∷◌, ◌++◌, length, map, slice_get, get_or, refl, ap, sym, subst, ◌∙◌, arith, Some, append_assoc}
+use Rattle.std.specs.Prelude.{slice_set, slice_index_or}
 use Rattle.std.proofs.lemmas.Bool.Decides.{nat_tests}
 use Rattle.std.proofs.lemmas.Option.{slice_get-get_or}
-use Rattle.pk_base.specs.Shape.{Shape, pinned}
+use Rattle.pk_base.specs.Shape.{Shape}
 use Rattle.pk_base.specs.Entry.{Entry}
 use Rattle.pk_base.specs.Page.{Flash}
 use Rattle.pk_pin.specs.Frames.{Frames, AreLeases, times}
@@ -15,8 +14,7 @@ use Rattle.pk_run.specs.Leases.{AreLeased, LeavesOthers, LeavesOtherLeases}
 use Rattle.pk_run.proofs.Leasing.{are_leased}
 use Rattle.pk_run.proofs.Others.{among}
 use Rattle.pk_level.specs.Levels.{Levels, IsLevels, RunsOnFlash, HaveBlocks, run_of, with_run}
-use Rattle.pk_level.specs.Arenas.{HasLeases, HasArena, AreBareAbove, BaresRun, Releases, bared, bare_from, leases_of, page_counts, last_level}
-use Rattle.pk_level.proofs.Filling.{got_of}
+use Rattle.pk_level.specs.Arenas.{AreBareAbove, BaresRun, Releases, bared, bare_from, leases_of, page_counts, last_level}
 
 gt_false : (x y : ℕ) → y < x → nat_le x y ≡ false
 gt_false x y h = grind (arith, nat_tests)
@@ -71,8 +69,7 @@ leases_split : (rs : List Kept) (n : ℕ) (r r' : Kept) → slice_get rs n ≡ S
 leases_split [] n r r' got = cc
 leases_split (x ∷ rs) zero r r' got = let same : x ≡ r = cc in ([], leases_of rs, ap (λ (y : Kept). y.leases ++ leases_of rs) same, refl)
 leases_split (x ∷ rs) (suc n) r r' got =
-    let rest = leases_split rs n r r' got in
-    (
+    let rest = leases_split rs n r r' got in (
       x.leases ++ rest.0,
       rest.1,
       ap (λ (ls : List ℕ). x.leases ++ ls) rest.2 ∙ sym (append_assoc x.leases rest.0 (r.leases ++ rest.1)),
@@ -129,32 +126,31 @@ stand_bared flash before after [] ess n r r' got only own leaves each = cc
 stand_bared flash before after (x ∷ rs) [] zero r r' got only own leaves each = each
 stand_bared flash before after (x ∷ rs) [] (suc n) r r' got only own leaves each = each
 stand_bared flash before after (x ∷ rs) (es ∷ ess) zero r r' got only own leaves each =
-    let same : x ≡ r = cc in
-    (
+    let same : x ≡ r = cc in (
       own es (subst (λ (y : Kept). RunOnFlash y flash before es) same each.0),
       stand_others flash r.leases before after rs ess leaves
-      (λ i l is.
+          (λ i l is.
           let all = only i l is in
           let both = times-append l x.leases (leases_of rs) in
           let mine : times l x.leases ≡ times l r.leases = ap (λ (y : Kept). times l y.leases) same in
           omega (arith, all, both, mine))
-      each.1,
+          each.1,
     )
 stand_bared flash before after (x ∷ rs) (es ∷ ess) (suc n) r r' got only own leaves each = (
   leaves x flash es
-  (λ i l is.
+      (λ i l is.
       let all = only i l is in
       let both = times-append l x.leases (leases_of rs) in
       let low = within_all l rs n r got in
       omega (arith, all, both, low))
-  each.0,
+      each.0,
   stand_bared flash before after rs ess n r r' got
-  (λ i l is.
+      (λ i l is.
       let all = only i l is in
       let both = times-append l x.leases (leases_of rs) in
       let low = within_all l rs n r got in
       omega (arith, all, both, low))
-  own leaves each.1,
+      own leaves each.1,
 )
 
 -- ---- so far
