@@ -1,5 +1,6 @@
 -- Pages that get frames, and the frames that are free for them.
-use Rattle.std.proofs.Common.{◌≡◌, inl, inr, ℕ, zero, suc, ◌+◌, ◌-◌, ◌<◌, ◌≤◌, Bool, true, false, if◌then◌else◌, nat_le, List, [], ◌∷◌, ◌++◌, length, map, slice_get, take, drop, sum, refl, ap, sym, subst, ◌∙◌, arith, Some, Result, Ok, Err, OnOk, length-append, append-nil, length-set, get_or-set_same}
+use Rattle.std.proofs.Common.{◌≡◌, inl, inr, ℕ, zero, suc, ◌+◌, ◌-◌, ◌<◌, ◌≤◌, Bool, true, false, if◌then◌else◌, nat_le, List, [], ◌∷◌, ◌++◌, length, map, slice_get, take, drop, sum, refl, ap, sym}
+use Rattle.std.proofs.Common.{subst, ◌∙◌, arith, Some, Result, Ok, Err, OnOk, length-append, append-nil, length-set, get_or-set_same}
 use Rattle.std.specs.Prelude.{max, fold, slice_set, slice_index_or, ◌&&◌, not}
 use Rattle.std.specs.List.{AllByRecursion}
 use Rattle.std.proofs.lemmas.Bool.{cases_lt}
@@ -37,7 +38,8 @@ stands_of levels flash arena ess level is least most each = stands_at flash aren
 pub level_is : (levels : Levels) (level : ℕ) → IsLevels levels → 1 ≤ level → level ≤ 4 → IsOfLevel levels.shape levels.pinned level (run_of levels level)
 level_is levels level is least most =
     let here : 1 + (level - 1) ≡ level = omega (arith, least) in
-    subst (λ (l : ℕ). IsOfLevel levels.shape levels.pinned l (run_of levels level)) here (of_level_at levels.shape levels.pinned 1 levels.runs (level - 1) (run_of levels level) is.each (got_of levels level is least most))
+    subst (λ (l : ℕ). IsOfLevel levels.shape levels.pinned l (run_of levels level)) here
+    (of_level_at levels.shape levels.pinned 1 levels.runs (level - 1) (run_of levels level) is.each (got_of levels level is least most))
 
 -- a run of which a page has no frame is of no pinned level
 pub above_pinned : (levels : Levels) (last level : ℕ) → IsLevels levels → last ≤ 4 → IsUnfilled last levels level → levels.pinned < level
@@ -183,7 +185,8 @@ module _ (l : ℕ) where
   filled_one last level (x ∷ rs) zero r got low some =
       let same : x ≡ r = cc in
       let more = longer r in
-      subst (λ (y : Kept). (if nat_le level last then length r.firsts - length (framed r).leases else 0) + unfilled_from last (suc level) rs + 1 ≡ (if nat_le level last then length y.firsts - length y.leases else 0) + unfilled_from last (suc level) rs) (sym same)
+      subst (λ (y : Kept). (if nat_le level last then length r.firsts - length (framed r).leases else 0) + unfilled_from last
+      (suc level) rs + 1 ≡ (if nat_le level last then length y.firsts - length y.leases else 0) + unfilled_from last (suc level) rs) (sym same)
       (rw (le_true level last (omega (arith, low))) (omega (arith, more, some)))
   filled_one last level (x ∷ rs) (suc i) r got low some = let rest = filled_one last (suc level) rs i r got (omega (arith, low)) some in omega (arith, rest)
 
@@ -246,7 +249,8 @@ unfilled_some : (last level : ℕ) (rs : List Kept) (i : ℕ) (r : Kept) → sli
 unfilled_some last level [] i r got low some = cc
 unfilled_some last level (x ∷ rs) zero r got low some =
     let same : x ≡ r = cc in
-    subst (λ (y : Kept). 0 < (if nat_le level last then length y.firsts - length y.leases else 0) + unfilled_from last (suc level) rs) (sym same) (rw (le_true level last (omega (arith, low))) (omega (arith, some)))
+    subst (λ (y : Kept). 0 < (if nat_le level last then length y.firsts - length y.leases else 0) + unfilled_from last (suc level) rs)
+    (sym same) (rw (le_true level last (omega (arith, low))) (omega (arith, some)))
 unfilled_some last level (x ∷ rs) (suc i) r got low some = let rest = unfilled_some last (suc level) rs i r got (omega (arith, low)) some in omega (arith, rest)
 
 -- a frame is free for a page that is to have one
@@ -255,12 +259,14 @@ pub some_free : (levels : Levels) (frames : ℕ) (arena : Frames) (level : ℕ) 
 some_free levels frames arena level is kept has few un =
     let least = un.least in
     let most = un.most in
-    let some = unfilled_some (last_level levels frames) 1 levels.runs (level - 1) (run_of levels level) (got_of levels level is least (omega (arith, most, few))) (omega (arith, least, most)) un.some in
+    let some = unfilled_some (last_level levels frames) 1 levels.runs (level - 1) (run_of levels level)
+    (got_of levels level is least (omega (arith, most, few))) (omega (arith, least, most)) un.some in
     let fit = frames_fit levels frames arena is kept has in
     omega (arith, some, fit)
 
 -- after a page got a frame
-module _ (levels : Levels) (arena : Frames) (level : ℕ) (levels' : Levels) (arena' : Frames) (is : IsLevels levels) (least : 1 ≤ level) (few : level ≤ 4) (f : FillsRun levels arena level levels' arena') where
+module _ (levels : Levels) (arena : Frames) (level : ℕ) (levels' : Levels) (arena' : Frames) (is : IsLevels levels)
+    (least : 1 ≤ level) (few : level ≤ 4) (f : FillsRun levels arena level levels' arena') where
   abbrev own : Kept
   own = run_of levels level
 
@@ -295,10 +301,12 @@ module _ (levels : Levels) (arena : Frames) (level : ℕ) (levels' : Levels) (ar
       (let e : times x (leases_of behind.runs ++ []) ≡ times x (l ∷ before) = omega (arith, one, now, was) in e) ∙ all x in
       let here : HasArena levels.shape (length arena.used) behind frames_behind [] = record {
         leases = record { page_bytes_is = has.leases.page_bytes_is; size = as_many; pinned_is = has.leases.pinned_is; only_these = rows };
-        bare = subst (λ (n : ℕ). AreBareAbove n 1 behind.runs) (sym same_last) (bare_still l (last_level levels (length arena.used)) 1 levels.runs (level - 1) (framed l own) (omega (arith, least, up_to)) has.bare);
+        bare = subst (λ (n : ℕ). AreBareAbove n 1 behind.runs) (sym same_last)
+            (bare_still l (last_level levels (length arena.used)) 1 levels.runs (level - 1) (framed l own) (omega (arith, least, up_to)) has.bare);
       } in
       let sized : HasArena behind.shape (length frames_behind.used) behind frames_behind [] = subst (λ (n : ℕ). HasArena levels.shape n behind frames_behind []) (sym as_many) here in
-      subst (λ (a : Frames). HasArena levels'.shape (length a.used) levels' a []) (sym f.fills.arena_is) (subst (λ (ls : Levels). HasArena ls.shape (length frames_behind.used) ls frames_behind []) (sym levels_behind) sized)
+      subst (λ (a : Frames). HasArena levels'.shape (length a.used) levels' a []) (sym f.fills.arena_is)
+      (subst (λ (ls : Levels). HasArena ls.shape (length frames_behind.used) ls frames_behind []) (sym levels_behind) sized)
 
   pub filled_less : level ≤ last_level levels (length arena.used) → length own.leases < length own.firsts → unfilled levels' (length arena'.used) + 1 ≡ unfilled levels (length arena.used)
   filled_less up_to some =
@@ -319,7 +327,8 @@ module _ (levels : Levels) (arena : Frames) (level : ℕ) (levels' : Levels) (ar
       let mine : (es : List Entry) → slice_get ess (level - 1) ≡ Some es → RunOnFlash (framed l own) flash frames_behind es = λ es is_es.
       let at_es = at.1 in
       let same : at.0 ≡ es = cc in
-      subst (λ (a : Frames). RunOnFlash (framed l own) flash a es) f.fills.arena_is (subst (λ (r : Kept). RunOnFlash r flash arena' es) there (stands es (subst (λ (xs : List Entry). RunOnFlash own flash arena xs) same at.2))) in
+      subst (λ (a : Frames). RunOnFlash (framed l own) flash a es) f.fills.arena_is
+      (subst (λ (r : Kept). RunOnFlash r flash arena' es) there (stands es (subst (λ (xs : List Entry). RunOnFlash own flash arena xs) same at.2))) in
       let others = stand_still l flash arena f.fills.bytes levels.runs ess f.fills.was_free each in
       let all : RunsOnFlash flash frames_behind behind.runs ess = stand_framed l flash frames_behind levels.runs ess (level - 1) (framed l own) others mine in
       subst (λ (a : Frames). RunsOnFlash flash a levels'.runs ess) (sym f.fills.arena_is) (subst (λ (ls : Levels). RunsOnFlash flash frames_behind ls.runs ess) (sym levels_behind) all)
@@ -364,7 +373,8 @@ none_of_four last shape (a ∷ (b ∷ (c ∷ (d ∷ [])))) four first second thi
     let last_one = lacks_none (nat_le 4 last) (is_pinned d) last 4 d refl refl fourth in
     omega (arith, one, two, three, last_one)
 
-pub none_lacks : (last : ℕ) (levels : Levels) → IsLevels levels → lacks last 1 (run_of levels 1) ≡ false → lacks last 2 (run_of levels 2) ≡ false → lacks last 3 (run_of levels 3) ≡ false → lacks last 4 (run_of levels 4) ≡ false
+pub none_lacks : (last : ℕ) (levels : Levels) → IsLevels levels → lacks last 1 (run_of levels 1) ≡ false
+    → lacks last 2 (run_of levels 2) ≡ false → lacks last 3 (run_of levels 3) ≡ false → lacks last 4 (run_of levels 4) ≡ false
     → unfilled_from last 1 levels.runs ≡ 0
 none_lacks last levels is first second third fourth = none_of_four last levels.shape levels.runs is.four first second third fourth
 

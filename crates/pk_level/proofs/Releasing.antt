@@ -1,5 +1,6 @@
 -- Frames of levels that are freed, one run after another.
-use Rattle.std.proofs.Common.{◌≡◌, ℕ, zero, suc, ◌+◌, ◌-◌, ◌<◌, ◌≤◌, Bool, true, false, cond, if◌then◌else◌, nat_le, List, [], ◌∷◌, ◌++◌, length, map, slice_get, get_or, refl, ap, sym, subst, ◌∙◌, arith, Some, append_assoc}
+use Rattle.std.proofs.Common.{◌≡◌, ℕ, zero, suc, ◌+◌, ◌-◌, ◌<◌, ◌≤◌, Bool, true, false, cond, if◌then◌else◌, nat_le, List, [], ◌∷◌, ◌++◌, length, map, slice_get, get_or, refl, ap, sym, subst, ◌∙◌}
+use Rattle.std.proofs.Common.{arith, Some, append_assoc}
 use Rattle.std.specs.Prelude.{slice_set, slice_index_or}
 use Rattle.std.proofs.lemmas.Bool.Decides.{nat_tests}
 use Rattle.std.proofs.lemmas.Option.{slice_get-get_or}
@@ -28,7 +29,8 @@ bare_first (suc n) last level (r ∷ rs) = bared last level r ∷ bare_first n l
 same_level : (last level other : ℕ) (r : Kept) → other ≡ level → bared last other r ≡ bared last level r
 same_level last level other r e = ap (λ (l : ℕ). bared last l r) e
 
-bare_next : (n last level : ℕ) (rs : List Kept) (d : Kept) → n < length rs → slice_set (bare_first n last level rs) n (bared last (level + n) (slice_index_or (bare_first n last level rs) n d)) ≡ bare_first (suc n) last level rs
+bare_next : (n last level : ℕ) (rs : List Kept) (d : Kept) → n < length rs
+    → slice_set (bare_first n last level rs) n (bared last (level + n) (slice_index_or (bare_first n last level rs) n d)) ≡ bare_first (suc n) last level rs
 bare_next n last level [] d h = absurd (omega (arith, h))
 bare_next zero last level (r ∷ rs) d h = ap (λ (x : Kept). x ∷ rs) (same_level last level (level + 0) r (omega arith))
 bare_next (suc n) last level (r ∷ rs) d h =
@@ -166,7 +168,8 @@ pub record Baring (n last : ℕ) (levels : Levels) (arena : Frames) (levels' : L
 pub Baring-none : (last : ℕ) (levels : Levels) (arena : Frames) → Baring 0 last levels arena levels arena
 Baring-none last levels arena = record { levels_are = refl; stand = λ flash ess each. each; leases = λ others all. all; same_bytes = refl; same_size = refl }
 
-module _ (n last : ℕ) (levels : Levels) (arena : Frames) (then_levels : Levels) (then_arena : Frames) (others : List ℕ) (is : IsLevels levels) (few : suc n ≤ 4) (so_far : Baring n last levels arena then_levels then_arena)
+module _ (n last : ℕ) (levels : Levels) (arena : Frames) (then_levels : Levels) (then_arena : Frames) (others : List ℕ)
+    (is : IsLevels levels) (few : suc n ≤ 4) (so_far : Baring n last levels arena then_levels then_arena)
     (all : AreLeases arena (leases_of levels.runs ++ others)) where
   four : length then_levels.runs ≡ 4
   four = ap (λ (ls : Levels). length ls.runs) so_far.levels_are ∙ bare_length n last 1 levels.runs ∙ is.four
@@ -188,7 +191,8 @@ module _ (n last : ℕ) (levels : Levels) (arena : Frames) (then_levels : Levels
   next_leased =
       let split = leases_split then_levels.runs n (run_of then_levels (suc n)) (run_of then_levels (suc n)) got in
       let row = subst (λ (ls : List ℕ). AreLeases then_arena (ls ++ others)) split.2 (so_far.leases others all) in
-      are_leased then_arena split.0 (run_of then_levels (suc n)).leases (split.1 ++ others) (subst (λ (ls : List ℕ). AreLeases then_arena ls) (row_of split.0 (run_of then_levels (suc n)).leases split.1 others) row)
+      are_leased then_arena split.0 (run_of then_levels (suc n)).leases (split.1 ++ others)
+      (subst (λ (ls : List ℕ). AreLeases then_arena ls) (row_of split.0 (run_of then_levels (suc n)).leases split.1 others) row)
 
   pub Baring-next : (levels' : Levels) (arena' : Frames) → BaresRun (suc n) last then_levels then_arena levels' arena' → Baring (suc n) last levels arena levels' arena'
   Baring-next levels' arena' b =
@@ -207,7 +211,8 @@ module _ (n last : ℕ) (levels : Levels) (arena : Frames) (then_levels : Levels
         levels_are = here ∙ ap (λ (ls : Levels). record ls { runs = slice_set then_levels.runs n r' }) so_far.levels_are ∙ ap (λ (rs : List Kept). record levels { runs = rs }) next;
         stand = λ flash ess each.
             subst (λ (ls : Levels). RunsOnFlash flash arena' ls.runs ess) (sym here)
-            (stand_bared flash then_arena arena' then_levels.runs ess n own r' got (alone then_arena then_levels.runs others n own got (so_far.leases others all)) (b.stands flash) b.others (so_far.stand flash ess each));
+            (stand_bared flash then_arena arena' then_levels.runs ess n own r' got
+            (alone then_arena then_levels.runs others n own got (so_far.leases others all)) (b.stands flash) b.others (so_far.stand flash ess each));
         leases = λ more had.
             let row = subst (λ (ls : List ℕ). AreLeases then_arena (ls ++ more)) split.2 (so_far.leases more had) in
             let given = b.leases split.0 (split.1 ++ more) (subst (λ (ls : List ℕ). AreLeases then_arena ls) (row_of split.0 own.leases split.1 more) row) in
@@ -218,7 +223,8 @@ module _ (n last : ℕ) (levels : Levels) (arena : Frames) (then_levels : Levels
       }
 
 -- all of them
-pub released : (levels : Levels) (arena : Frames) (levels' : Levels) (arena' : Frames) → IsLevels levels → Baring 4 (last_level levels (length arena.used)) levels arena levels' arena' → Releases levels arena levels' arena'
+pub released : (levels : Levels) (arena : Frames) (levels' : Levels) (arena' : Frames) → IsLevels levels
+    → Baring 4 (last_level levels (length arena.used)) levels arena levels' arena' → Releases levels arena levels' arena'
 released levels arena levels' arena' is b =
     let last : ℕ = last_level levels (length arena.used) in
     let long = is.four in
@@ -247,8 +253,10 @@ module _ (levels : Levels) (level last : ℕ) (arena : Frames) (r' : Kept) (aren
   abbrev former : Kept
   former = run_of levels level
 
-  pub bares : last < level → levels' ≡ with_run levels level r' → r' ≡ record former { leases = [] } → ((flash : Flash) (es : List Entry) → RunOnFlash former flash arena es → RunOnFlash r' flash arena' es)
-      → LeavesOthers former.leases arena arena' → LeavesOtherLeases former.leases arena arena' → arena'.page_bytes ≡ arena.page_bytes → length arena'.used ≡ length arena.used → BaresRun level last levels arena levels' arena'
+  pub bares : last < level → levels' ≡ with_run levels level r' → r' ≡ record former { leases = [] }
+      → ((flash : Flash) (es : List Entry) → RunOnFlash former flash arena es → RunOnFlash r' flash arena' es)
+      → LeavesOthers former.leases arena arena' → LeavesOtherLeases former.leases arena arena'
+      → arena'.page_bytes ≡ arena.page_bytes → length arena'.used ≡ length arena.used → BaresRun level last levels arena levels' arena'
   bares above are is stands others leases bytes size =
       let here : bared last level former ≡ r' = ap (λ (b : Bool). if b then former else record former { leases = [] }) (gt_false level last above) ∙ sym is in
       record {
@@ -282,4 +290,5 @@ bare_blocks shape last level (r ∷ rs) (bs ∷ bss) have =
 pub bare_counts : (last level : ℕ) (rs : List Kept) → map (λ (r : Kept). r.count) (bare_from last level rs) ≡ map (λ (r : Kept). r.count) rs
 bare_counts last level [] = refl
 bare_counts last level (r ∷ rs) =
-    ap (λ (n : ℕ). n ∷ map (λ (x : Kept). x.count) (bare_from last (suc level) rs)) (ap (λ (x : Kept). x.count) (one_bare (nat_le level last) r)) ∙ ap (λ (ns : List ℕ). r.count ∷ ns) (bare_counts last (suc level) rs)
+    ap (λ (n : ℕ). n ∷ map (λ (x : Kept). x.count) (bare_from last (suc level) rs)) (ap (λ (x : Kept). x.count) (one_bare (nat_le level last) r))
+    ∙ ap (λ (ns : List ℕ). r.count ∷ ns) (bare_counts last (suc level) rs)

@@ -25,7 +25,7 @@ use Rattle.pk_pool.specs.Blocks.{Blocks, IsShared, PoolOnFlash, used_by, freed}
 use Rattle.pk_pool.specs.Unready.{unready}
 use Rattle.pk_run.specs.Kept.{Kept, empty}
 use Rattle.pk_level.specs.Levels.{Levels, IsLevels, RunsOnFlash, HaveBlocks}
-use Rattle.pk_level.specs.Arenas.{HasArena, HasLeases, Releases, bare_from, last_level, unfilled}
+use Rattle.pk_level.specs.Arenas.{HasArena, HasLeases, Releases, last_level, unfilled}
 use Rattle.pk_level.proofs.Releasing.{bare_blocks, bare_counts}
 use Rattle.pk_law_steps.specs.Merging.{IsMerged, merged_root, merged_found, freed_by, blocks_at}
 use Rattle.pk_law_steps.specs.Under.{IsUnder}
