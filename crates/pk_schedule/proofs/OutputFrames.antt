@@ -1,6 +1,6 @@
 -- How many frames the output of a merge may have.
 use Rattle.std.proofs.Common.{◌≡◌, inl, inr, ℕ, ◌+◌, ◌-◌, ◌*◌, ◌<◌, ◌≤◌, Bool, true, false, ◌==◌, ◌||◌, if◌then◌else◌, nat_le, nat_lt, List, [], ◌++◌, length, map, refl, sym, ap, subst, ◌∙◌, arith}
-use Rattle.std.proofs.Common.{length-append}
+use Rattle.std.proofs.Common.{length-append, le_trans}
 use Rattle.std.proofs.lemmas.Bool.{cases_lt}
 use Rattle.std.proofs.lemmas.Bool.Decides.{nat_tests}
 use Rattle.pk_base.specs.Shape.{Shape, IsShape, cap, page_entries, pinned, run_pages}
@@ -59,6 +59,9 @@ leases_few shape frames level out some pins few = elim (cases_lt (pinned shape f
       rw (zero_false level some, lt_false (pinned shape frames) level within) (omega (arith, all, few))
 ]
 
+front_few : (xs ys zs : List Entry) → xs ≡ ys ++ zs → length ys ≤ length xs
+front_few xs ys zs is = let all = ap (λ (es : List Entry). length es) is in let parts = length-append ys zs in omega (arith, all, parts)
+
 pages_few : (shape : Shape) (level : ℕ) (out : Kept) (flash : Flash) (arena : Frames) (es : List Entry) → IsShape shape → out.shape ≡ shape → RunOnFlash out flash arena es
     → length es ≤ room shape level → length out.firsts ≤ cap shape level
 pages_few shape level out flash arena es is same stands few =
@@ -88,10 +91,7 @@ module _ (x : Index) (frames : ℕ) (flash : Flash) (top : ℕ × Root) (found :
   by_phase (Running level) is merge =
       let into = merge.into in
       let runs = merge.runs.running in
-      let all = ap (λ (es : List Entry). length es) runs.merging.makes in
-      let parts = length-append runs.merging.entries _ in
-      let fits = runs.lists.few in
-      let few : length runs.merging.entries ≤ room out.shape out.level = omega (arith, all, parts, fits) in
+      let few : length runs.merging.entries ≤ room out.shape out.level = le_trans (front_few _ _ _ runs.merging.makes) runs.lists.few in
       let here : length runs.merging.entries ≤ room x.log.shape level =
       subst (λ (n : ℕ). length runs.merging.entries ≤ room x.log.shape n) into.output_level (subst (λ (s : Shape). length runs.merging.entries ≤ room s out.level) into.output_shape few) in
       leases_few x.log.shape frames level out (least level into) (pins_are level into runs.frames.pinned)
