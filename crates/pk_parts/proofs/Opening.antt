@@ -81,7 +81,7 @@ module _ {A : Type 0} (shape : Shape) (flash : Flash) (frames : ℕ) (f : Opened
   index_found held was log_is stands idle pins =
       let own : f.root.shape ≡ log.shape = sym (ap (λ (l : LogState). l.shape) log_is) in
       let its : shape ≡ log.shape = sym was.lists.shape_is ∙ own in
-      let frames_are : frames ≡ length f.arena.used = sym was.lists.arena_is.size in
+      let frames_are : frames ≡ length f.arena.used = sym was.lists.arena_is.leases.size in
       let found : IsFound log f.levels f.arena f.pool (length f.arena.used) flash (f.root_page, f.root.root) was.found = record {
         logs = stands flash was.found (log_opens shape flash frames f was.found was.map was.lists);
         pool_shape = was.blocks.owners.pool_shape ∙ its;
@@ -137,7 +137,7 @@ module _ {A : Type 0} (shape : Shape) (flash : Flash) (frames : ℕ) (f : Opened
           moves = ap commits_in rests.1;
           epoch = ap (λ (l : LogState). l.epoch.half) log_is ∙ ap (λ (e : JournalEpoch). e.half) was.lists.epoch_is.1;
         };
-        frames_are = was.lists.arena_is.size;
+        frames_are = was.lists.arena_is.leases.size;
         runs = refl;
         none_pending = none;
         takes_none = ap (λ (l : LogState). l.epoch.takes_more) log_is ∙ ap (λ (e : JournalEpoch). e.takes_more) was.lists.epoch_is.1;

@@ -304,7 +304,7 @@ module _ {A : Type 0} (shape a : Shape) (f : Opened A) (is : a ≡ shape) (root_
         is_opened shape old.pages frames f found held_here top_here pinned_here live (values_here live values) shape_is
         (subst (λ (s : Shape). is_root s f.root.root ≡ true) from_before finds.grammar)
         (subst (λ (s : Shape). f.root_page < root_pages s) from_before finds.place) (finds.levels_shape ∙ from_before) finds.few
-        (arena_opened shape frames before.arena f.arena f.levels f.root.root.counts finds.held.run_frames unread.page_bytes unread.all_free finds.more)
+        (arena_opened shape frames before.arena f.arena f.levels f.root.root.counts finds.held.run_frames (finds.levels_shape ∙ from_before) pinned_here unread.page_bytes unread.all_free finds.more)
         pool (subst (λ (s : Shape). HasOwners s f.root.root live pool) shape_is owners)
         (subst (λ (s : Shape). used_by for_values pool.states ≡ length (blocks_with s (all_pages s (places found [])))) shape_is values_are) u (subst (λ (s : Shape). IsUseOf s u (places found [])) shape_is uses)
 
