@@ -4,7 +4,7 @@ use Rattle.pk_base.specs.Entry.{Entry}
 use Rattle.pk_nand.specs.BoardState.{BoardState}
 use Rattle.pk_nand.specs.Calls.{Rose, ProgramFailed, after_program}
 use Rattle.pk_nand.specs.Operations.{ReadFailed, EraseFailed, after_read, after_erase}
-use Rattle.pk_nand.specs.Effects.{AtMostOneCall, NoFault, OnlyFlash, OnlyReading, Stops}
+use Rattle.pk_nand.specs.Effects.{AtMostOneCall, NoFault, OnlyFlash, OnlyReading, Stops, made_no_call, made_read, made_program, made_erase}
 use Rattle.pk_nand.specs.declared.types.Fault.{Fault}
 use Rattle.pk_nand.specs.declared.types.Fault.TheVariants.{Reading, Stopped}
 use Rattle.pk_nand.proofs.Effects.{stops_erase, stops_program}
@@ -32,16 +32,16 @@ called : (old to new : BoardState) → Called old to → new ≡ to → Called o
 called old to new c e = subst (λ (b : BoardState). Called old b) (sym e) c
 
 nothing : (old : BoardState) → Called old old
-nothing old = record { calls = inl (refl, refl, refl); sound = (refl, refl, refl, refl); rest = refl }
+nothing old = record { calls = made_no_call (refl, refl, refl); sound = (refl, refl, refl, refl); rest = refl }
 
 reads : (old : BoardState) → Called old (after_read old)
-reads old = record { calls = inr (inl (refl, refl, refl)); sound = (refl, refl, refl, refl); rest = refl }
+reads old = record { calls = made_read (refl, refl, refl); sound = (refl, refl, refl, refl); rest = refl }
 
 programs : (old : BoardState) (page : ℕ) (bytes : List ℕ) → Called old (after_program old page bytes)
-programs old page bytes = record { calls = inr (inr (inl (refl, refl, refl))); sound = (refl, refl, refl, refl); rest = refl }
+programs old page bytes = record { calls = made_program (refl, refl, refl); sound = (refl, refl, refl, refl); rest = refl }
 
 erases : (old : BoardState) (block : ℕ) → Called old (after_erase old block)
-erases old block = record { calls = inr (inr (inr (refl, refl, refl))); sound = (refl, refl, refl, refl); rest = refl }
+erases old block = record { calls = made_erase (refl, refl, refl); sound = (refl, refl, refl, refl); rest = refl }
 
 looks : (leases : List ℕ) (old : BoardState) → Called old (after_look leases old)
 looks [] old = reads old
@@ -91,17 +91,17 @@ look_fails (Frozen b) m old new f = absurd f
 look_fails (Run r) m old new f = read_fails old new (page_of r.now (own_page m.source)) f
 
 read_failed : (old new : BoardState) (at : ℕ) → ReadFailed old new at → Failed old new
-read_failed old new at f = subst (λ (b : BoardState). Failed old b) (sym f.rest) (record { calls = inr (inl (refl, refl, refl)); rest = refl })
+read_failed old new at f = subst (λ (b : BoardState). Failed old b) (sym f.rest) (record { calls = made_read (refl, refl, refl); rest = refl })
 
 look_failed : {X : Type 0} (source : Source X) (m : Merger) (old new : BoardState) → LookFails source m.source old new → Failed old new
 look_failed (Frozen b) m old new f = absurd f
 look_failed (Run r) m old new f = read_failed old new (page_of r.now (own_page m.source)) f
 
 program_failed : (old new : BoardState) (at : ℕ) (bytes : List ℕ) → ProgramFailed old new at bytes → Failed old new
-program_failed old new at bytes f = subst (λ (b : BoardState). Failed old b) (sym f.rest) (record { calls = inr (inr (inl (refl, refl, refl))); rest = refl })
+program_failed old new at bytes f = subst (λ (b : BoardState). Failed old b) (sym f.rest) (record { calls = made_program (refl, refl, refl); rest = refl })
 
 erase_failed : (old new : BoardState) (block : ℕ) → EraseFailed old new block → Failed old new
-erase_failed old new block f = subst (λ (b : BoardState). Failed old b) (sym f.rest) (record { calls = inr (inr (inr (refl, refl, refl))); rest = refl })
+erase_failed old new block f = subst (λ (b : BoardState). Failed old b) (sym f.rest) (record { calls = made_erase (refl, refl, refl); rest = refl })
 
 module _ {X : Type 0} (source : Source X) (target out : Kept) (m : Merger) (pool : Blocks) (old : BoardState) (m' : Merger) (new : BoardState) where
   pub fails_call : (fault : Fault) → Fails source target out m pool old fault m' new → Failed old new

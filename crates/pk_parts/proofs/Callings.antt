@@ -1,9 +1,9 @@
 -- How many flash operations consecutive calls make, and how many roots they install.
-use Rattle.std.proofs.Common.{◌≡◌, ◌≢◌, inl, inr, ℕ, suc, ◌+◌, ◌≤◌, refl, sym, ap, subst, ◌∙◌, arith, List, [], ◌∷◌}
+use Rattle.std.proofs.Common.{◌≡◌, ◌≢◌, ℕ, suc, ◌+◌, ◌≤◌, refl, sym, ap, subst, ◌∙◌, arith, List, [], ◌∷◌}
 use Rattle.pk_nand.specs.BoardState.{BoardState}
 use Rattle.pk_nand.specs.Calls.{counted}
 use Rattle.pk_nand.specs.Counts.{counted_by}
-use Rattle.pk_nand.specs.Effects.{AtMostOneCall, OneProgram}
+use Rattle.pk_nand.specs.Effects.{AtMostOneCall, OneProgram, made_no_call, made_read, made_program, made_erase}
 use Rattle.pk_model.specs.Wear.{roots}
 use Rattle.pk_law_work.specs.Calls.{commit_calls}
 use Rattle.pk_call.specs.Calling.{FewCalls}
@@ -27,7 +27,7 @@ few_within n k old new less f = record {
 
 -- one call more
 pub few_more : (n : ℕ) (a b c : BoardState) → FewCalls n a b → AtMostOneCall b c → FewCalls (n + 1) a c
-few_more n a b c f (inl none) = record {
+few_more n a b c f (made_no_call none) = record {
   reads_made = f.reads_made;
   programs_made = f.programs_made;
   erases_made = f.erases_made;
@@ -36,7 +36,7 @@ few_more n a b c f (inl none) = record {
   programs = none.1 ∙ f.programs;
   erases = none.2 ∙ f.erases;
 }
-few_more n a b c f (inr (inl read)) = record {
+few_more n a b c f (made_read read) = record {
   reads_made = suc f.reads_made;
   programs_made = f.programs_made;
   erases_made = f.erases_made;
@@ -45,7 +45,7 @@ few_more n a b c f (inr (inl read)) = record {
   programs = read.1 ∙ f.programs;
   erases = read.2 ∙ f.erases;
 }
-few_more n a b c f (inr (inr (inl program))) = record {
+few_more n a b c f (made_program program) = record {
   reads_made = f.reads_made;
   programs_made = suc f.programs_made;
   erases_made = f.erases_made;
@@ -54,7 +54,7 @@ few_more n a b c f (inr (inr (inl program))) = record {
   programs = program.1 ∙ ap counted f.programs;
   erases = program.2 ∙ f.erases;
 }
-few_more n a b c f (inr (inr (inr erase))) = record {
+few_more n a b c f (made_erase erase) = record {
   reads_made = f.reads_made;
   programs_made = f.programs_made;
   erases_made = suc f.erases_made;

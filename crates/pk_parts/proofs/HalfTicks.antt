@@ -1,7 +1,7 @@
 -- A background step that makes the second program of a pair, by the drive and its board.
-use Rattle.std.proofs.Common.{◌≡◌, inl, inr, refl, ap, ◌∙◌, arith, true}
+use Rattle.std.proofs.Common.{◌≡◌, inl, refl, ap, ◌∙◌, arith, true}
 use Rattle.pk_nand.specs.BoardState.{BoardState}
-use Rattle.pk_nand.specs.Effects.{AtMostOneCall, OneProgram}
+use Rattle.pk_nand.specs.Effects.{AtMostOneCall, OneProgram, made_program}
 use Rattle.pk_pool.specs.Blocks.{IsShared}
 use Rattle.pk_log.specs.State.{LogState}
 use Rattle.pk_call.specs.declared.types.Ticked.TheVariants.{Worked, Fault}
@@ -16,7 +16,7 @@ use Rattle.pk_parts.proofs.Unchanging.{agrees_ready}
 
 -- one program is one flash operation
 program_calls : (old new : BoardState) → OneProgram old new → AtMostOneCall old new
-program_calls old new one = inr (inr (inl (one.reads, one.programs, one.erases)))
+program_calls old new one = made_program (one.reads, one.programs, one.erases)
 
 module _ (d : Parts) (old : BoardState) (m : MayTick d old) (half : is_half d ≡ true) where
   pub may_finish : MayFinishHalf d old

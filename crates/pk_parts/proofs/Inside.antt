@@ -8,7 +8,7 @@ use Rattle.pk_nand.specs.declared.types.Fault.{Fault}
 use Rattle.pk_nand.specs.declared.types.Fault.TheVariants.{Reading, Stopped}
 use Rattle.pk_nand.specs.BoardState.{BoardState}
 use Rattle.pk_nand.specs.Calls.{IsReady, Rose, last_count}
-use Rattle.pk_nand.specs.Effects.{AtMostOneCall, NoFault, OnlyFlash, OnlyReading, Works, Stops}
+use Rattle.pk_nand.specs.Effects.{AtMostOneCall, NoFault, OnlyFlash, OnlyReading, Works, Stops, made_no_call, made_read, made_program, made_erase}
 use Rattle.pk_nand.proofs.Reaching.{Reached-start}
 use Rattle.pk_nand.proofs.Writing.{shape_is}
 use Rattle.pk_rootfmt.specs.Root.{Root}
@@ -200,10 +200,10 @@ module _ (d : Parts) (old : BoardState) (may : MayEmpty d old) where
 -- ---- the board
 
 pub one_call : (old new : BoardState) → old.reads ≤ last_count → AtMostOneCall old new → ReadsUpTo 1 old new
-one_call old new few (inl (same, p, e)) = record { up = omega (arith, same); few = omega (arith, same) }
-one_call old new few (inr (inl (one, p, e))) = record { up = omega (arith, one, few); few = omega (arith, one) }
-one_call old new few (inr (inr (inl (same, p, e)))) = record { up = omega (arith, same); few = omega (arith, same) }
-one_call old new few (inr (inr (inr (same, p, e)))) = record { up = omega (arith, same); few = omega (arith, same) }
+one_call old new few (made_no_call (same, p, e)) = record { up = omega (arith, same); few = omega (arith, same) }
+one_call old new few (made_read (one, p, e)) = record { up = omega (arith, one, few); few = omega (arith, one) }
+one_call old new few (made_program (same, p, e)) = record { up = omega (arith, same); few = omega (arith, same) }
+one_call old new few (made_erase (same, p, e)) = record { up = omega (arith, same); few = omega (arith, same) }
 
 -- ---- a step of the merges
 

@@ -49,7 +49,7 @@ use Rattle.pk_values.proofs.Unchanged.{block_elsewhere}
 use Rattle.pk_model.specs.Growth.{Grows, Reaches, Goes}
 use Rattle.pk_model.specs.Wear.{roots}
 use Rattle.pk_call.specs.Drive.{HoldsMap}
-use Rattle.pk_nand.specs.Effects.{AtMostOneCall}
+use Rattle.pk_nand.specs.Effects.{AtMostOneCall, made_no_call, made_erase}
 use Rattle.pk_call.specs.Seen.{stopped_by}
 use Rattle.pk_model.specs.Crashes.{CrashFinds, background}
 use Rattle.pk_call.specs.declared.types.Ticked.{Ticked}
@@ -110,7 +110,7 @@ ticks_nothing d old new d' answer same_drive same_board none runs fine =
       unmade = λ e. absurd (fine e);
       grows = λ _. inl refl;
       rest = refl;
-      calls = inl (refl, refl, refl);
+      calls = made_no_call (refl, refl, refl);
       unread = λ e. absurd (fine e);
       up = omega arith;
       flash_up = λ _. omega arith;
@@ -277,7 +277,7 @@ module _ (d : Parts) (old new : BoardState) (a : DriveOnFlash d old.shape old.pa
           unmade = λ e. absurd (worked_fine e);
           grows = λ _. grown new (same_top d.log.shape a.top.1 a.found d.log.pending old.pages new.pages same);
           rest = works.rest;
-          calls = subst (λ b. AtMostOneCall old b) (sym made) (inr (inr (inr (refl, refl, refl))));
+          calls = subst (λ b. AtMostOneCall old b) (sym made) (made_erase (refl, refl, refl));
           unread = λ e. absurd (worked_fine e);
           up = (let e = works.no_fault.1 in omega (arith, e));
           flash_up = λ _. (let e = works.no_fault.0 in omega (arith, e));
@@ -303,7 +303,7 @@ module _ (d : Parts) (old new : BoardState) (a : DriveOnFlash d old.shape old.pa
         unmade = λ e. absurd (stopped_fine e);
         grows = λ e. absurd (yes_no true e refl);
         rest = stops.rest;
-        calls = inr (inr (inr (ap (λ b. b.reads) made, ap (λ b. b.programs) made, ap (λ b. b.erases) made)));
+        calls = made_erase (ap (λ b. b.reads) made, ap (λ b. b.programs) made, ap (λ b. b.erases) made);
         unread = λ e. absurd (stopped_fine e);
         up = (let e = stops.read in omega (arith, e));
         flash_up = λ few. (let e = stops.flash in omega (arith, e, few));
