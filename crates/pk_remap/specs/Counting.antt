@@ -1,5 +1,5 @@
 -- What the calls of a relocation do besides: only the flash differs, and spares are taken only for faults and for the block that moved.
-use Rattle.std.specs.Prelude.{◌≡◌, ◌⊎◌, ℕ, ◌+◌, ◌≤◌, Bool, true, false, length, Result, Ok, Err}
+use Rattle.std.specs.Prelude.{◌≡◌, ◌≢◌, ◌⊎◌, ℕ, ◌+◌, ◌≤◌, Bool, true, false, length, None, Result, Ok, Err}
 use Rattle.pk_base.specs.Page.{Flash, page_at}
 use Rattle.pk_nand.specs.BoardState.{BoardState}
 use Rattle.pk_nand.specs.Calls.{IsReady, Rose, last_count}
@@ -7,7 +7,7 @@ use Rattle.pk_nand.specs.Effects.{OnlyFlash, OnlyReading}
 use Rattle.pk_nand.specs.declared.types.NandFault.{NandFault}
 use Rattle.pk_remap.specs.declared.relocation.Relocation.{Relocation as InMemory}
 use Rattle.pk_remap.specs.Table.{SpareTable}
-use Rattle.pk_remap.specs.Newest.{IsNewest}
+use Rattle.pk_remap.specs.Newest.{newest_table, IsNewest}
 use Rattle.pk_remap.specs.Places.{inner_shape}
 
 -- At most this many more spares are taken than programs and erases failed, unless their count is at its last value.
@@ -20,13 +20,11 @@ pub record SparesCounted (more : ℕ) (r : InMemory) (old : BoardState) (r' : In
 abbrev pub UsesOnlyTaken : InMemory → Flash → Type 0
 UsesOnlyTaken r flash = (page : ℕ) (table : SpareTable) → IsNewest r.shape r.spares (page_at flash) page table → length table.serves ≤ r.taken
 
--- the board is ready, and has a table
+-- the board is ready, and has a table, which uses only spares that are taken
 pub record HasTable (r : InMemory) (board : BoardState) : Type 0 where
   pub ready : IsReady board (inner_shape r.shape r.spares)
-  pub page : ℕ
-  pub table : SpareTable
-  pub newest : IsNewest r.shape r.spares (page_at board.pages) page table
-  pub used : length table.serves ≤ r.taken
+  pub some : newest_table r.shape r.spares (page_at board.pages) ≢ None
+  pub used : UsesOnlyTaken r board.pages
 
 -- after a step
 abbrev pub StepCounts : InMemory → BoardState → Result Bool NandFault → InMemory → BoardState → Type 0

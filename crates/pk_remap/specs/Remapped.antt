@@ -1,9 +1,9 @@
 -- A flash with spare blocks, as a board: its pages are those of the outer flash, its counts are its own.
-use Rattle.std.specs.Prelude.{◌≡◌, ◌≢◌, ℕ, ◌+◌, ◌-◌, ◌<◌, ◌≤◌, Bool, true, false, List, [], length, unwrap_or, Option, Some, None, Result, Ok, Err, ⊤}
+use Rattle.std.specs.Prelude.{◌≡◌, ℕ, ◌+◌, ◌-◌, ◌≤◌, Bool, true, false, List, [], length, unwrap_or, Option, Some, None, Result, Ok, Err}
 use Rattle.pk_base.specs.Shape.{Shape, IsShape}
 use Rattle.pk_base.specs.Page.{Flash, page_at}
 use Rattle.pk_nand.specs.BoardState.{BoardState}
-use Rattle.pk_nand.specs.Calls.{IsReady, Rose, counted}
+use Rattle.pk_nand.specs.Calls.{counted}
 use Rattle.pk_nand.specs.Effects.{OnlyReading, NoFault}
 use Rattle.pk_nand.specs.declared.types.LoadFault.{LoadFault}
 use Rattle.pk_nand.specs.declared.types.LoadFault.TheVariants.{Fault, BadImage, Memory}
@@ -15,7 +15,9 @@ use Rattle.pk_remap.specs.declared.image.Image.TheVariants.{Unknown, Missing, Un
 use Rattle.pk_remap.specs.declared.mark_log.MarkLog.{MarkLog}
 use Rattle.pk_remap.specs.declared.relocation.Relocation.{Relocation as InMemory}
 use Rattle.pk_remap.specs.Through.{through}
-use Rattle.pk_remap.specs.Running.{HasPageBuffers, IsAtRest}
+use Rattle.pk_remap.specs.Newest.{newest_table}
+use Rattle.pk_remap.specs.Table.{is_table}
+use Rattle.pk_remap.specs.Running.{relocation_of, HasPageBuffers, HasTurn}
 use Rattle.pk_remap.specs.Counting.{HasTable, SearchFailed}
 use Rattle.pk_remap.specs.Noted.{no_marks}
 use Rattle.pk_remap.specs.Logged.{told}
@@ -53,6 +55,12 @@ is_missing Unknown = false
 is_missing Missing = true
 is_missing Unsure = false
 is_missing Sure = false
+
+abbrev pub is_sure : Image → Bool
+is_sure Unknown = false
+is_sure Missing = false
+is_sure Unsure = false
+is_sure Sure = true
 
 abbrev pub open_shape : Bool → Shape → Option Shape
 open_shape false shape = None
@@ -114,26 +122,27 @@ spares_left image work = open_spares_left (is_open image) work
 
 -- ---- what is known of it between calls
 
--- what is known of the inner flash
-abbrev pub ImageHolds : Image → InMemory → BoardState → Type 0
-ImageHolds Unknown work inner = ⊤
-ImageHolds Missing work inner = inner.bare ≡ true
-ImageHolds Unsure work inner = HasTable work inner
-ImageHolds Sure work inner = IsAtRest work inner
+-- the newest table is in memory
+pub record HoldsTable (work : InMemory) (inner : BoardState) : Type 0 where
+  pub grammar : is_table work.shape work.spares (relocation_of work).table ≡ true
+  pub used : length (relocation_of work).table.serves ≤ work.taken
+  pub newest : newest_table work.shape work.spares (page_at inner.pages) ≡ Some (work.top, (relocation_of work).table)
+  pub turn : HasTurn work inner.pages
 
+-- what is known of the inner flash
 pub record RemapHolds (image : Image) (work : InMemory) (inner : BoardState) : Type 0 where
   pub shape_is : IsShape work.shape
   pub few : work.spares ≤ MOST_SPARES
   pub taken : work.taken ≤ work.spares
   pub room : HasPageBuffers work
-  pub known : ImageHolds image work inner
+  pub missing : is_missing image ≡ true → inner.bare ≡ true
+  pub open : is_open image ≡ true → HasTable work inner
+  pub sure : is_sure image ≡ true → HoldsTable work inner
 
 -- the log has its room once there is a table, and no mark before
-abbrev pub HasLog : Image → Shape → MarkLog → Type 0
-HasLog Unknown shape log = told log ≡ no_marks log.room
-HasLog Missing shape log = told log ≡ no_marks log.room
-HasLog Unsure shape log = log.page_bytes ≡ shape.page_bytes
-HasLog Sure shape log = log.page_bytes ≡ shape.page_bytes
+pub record HasLog (image : Image) (shape : Shape) (log : MarkLog) : Type 0 where
+  pub unused : is_open image ≡ false → log.used ≡ 0
+  pub sized : is_open image ≡ true → log.page_bytes ≡ shape.page_bytes
 
 -- ---- the search for the newest table
 
