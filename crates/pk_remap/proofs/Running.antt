@@ -501,7 +501,7 @@ module _ (r : InMemory) (before : Flash) (old : BoardState) (runs : RelocationRu
       )
 
   -- the second page of the pair is Erased
-  half_erased : (pair : ℕ) → IsTableHalf (relocation_of r) before old.pages pair → page_at old.pages (suc pair) ≡ erased
+  pub half_erased : (pair : ℕ) → IsTableHalf (relocation_of r) before old.pages pair → page_at old.pages (suc pair) ≡ erased
   half_erased pair half =
       let next : (pair + 1) % n ≡ pair % n + 1 = mod-next pair n half.room in
       let one : pair + 1 ≡ suc pair = omega arith in

@@ -33,6 +33,10 @@ with_refusal Fault counts = record counts { flash_faults = counted counts.flash_
 with_refusal (BadImage at) counts = record counts { bad = Some at }
 with_refusal Memory counts = counts
 
+-- after a program or an erase in this block that failed
+abbrev pub with_stop : ℕ → BoardCounts → BoardCounts
+with_stop block counts = record counts { flash_faults = counted counts.flash_faults; stop_faults = counted counts.stop_faults; failed_at = Some block }
+
 -- ---- what it means
 
 -- the shape of an inner flash without its spares and its table blocks
@@ -136,7 +140,7 @@ pub record RemapHolds (image : Image) (work : InMemory) (inner : BoardState) : T
   pub taken : work.taken ≤ work.spares
   pub room : HasPageBuffers work
   pub missing : is_missing image ≡ true → inner.bare ≡ true
-  pub open : is_open image ≡ true → HasTable work inner
+  pub opened : is_open image ≡ true → HasTable work inner
   pub sure : is_sure image ≡ true → HoldsTable work inner
 
 -- the log has its room once there is a table, and no mark before

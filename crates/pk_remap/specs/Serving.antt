@@ -85,7 +85,7 @@ pub record PartnerKept (r : InMemory) (page : ℕ) (old : BoardState) (r' : InMe
 
 abbrev pub PartnerOutcome : InMemory → ℕ → BoardState → Result Unit NandFault → InMemory → BoardState → Type 0
 PartnerOutcome r page old (Ok u) r' new = PartnerKept r page old r' new
-PartnerOutcome r page old (Err e) r' new = ReadFailed old new (placed_page r.shape (relocation_of r).table (page - 1)) × SameSpares r r'
+PartnerOutcome r page old (Err e) r' new = ReadFailed old new (placed_page r.shape (relocation_of r).table (page - 1)) × SameSpares r r' × (r' ≡ record r { kept = r'.kept; partner = r'.partner })
 
 -- What a program or an erase of the outer flash does: it is done, with the newest table in memory; or it failed, and this is why.
 abbrev pub OuterOutcome : InMemory → Mark → BoardState → Result Unit NandFault → InMemory → BoardState → Type 0

@@ -18,7 +18,8 @@ impl<B: Board> Board for Remap<B> {
         // What of the inner board makes it fail.
         ensures cause { OnErr result (Rose (B.state self.old.inner).in_faults
             (B.state self.new.inner).in_faults) }
-        ensures rest { self.new ≡ record self.old { inner = self.new.inner; counts = self.new.counts } }
+        ensures image { self.new.image ≡ self.old.image }
+        ensures work { self.new.work ≡ self.old.work }
     {
         match self.inner.fetch(into) {
             Ok(count) => Ok(count),
@@ -40,7 +41,8 @@ impl<B: Board> Board for Remap<B> {
         ensures cause { OnErr result (IsRefused self.old.log (length bytes.now)
             (B.state self.old.inner) (B.state self.new.inner)
             ⊎ Rose (B.state self.old.inner).out_faults (B.state self.new.inner).out_faults) }
-        ensures rest { self.new ≡ record self.old { inner = self.new.inner; log = self.new.log; counts = self.new.counts } }
+        ensures image { self.new.image ≡ self.old.image }
+        ensures work { self.new.work ≡ self.old.work }
     {
         if !self.log.has_room(bytes.len()) {
             raise(&mut self.counts.out_faults);

@@ -1,7 +1,7 @@
 //! The counts that a flash with spare blocks keeps of its own calls and faults.
 ghost use Rattle.std.specs.Prelude.{◌≡◌, Some};
 ghost use Rattle.pk_nand.specs.Calls.{counted};
-ghost use Rattle.pk_remap.specs.Remapped.{no_counts, with_refusal};
+ghost use Rattle.pk_remap.specs.Remapped.{no_counts, with_refusal, with_stop};
 
 use pk_nand::{LoadFault, raise};
 
@@ -55,11 +55,7 @@ impl BoardCounts {
 
     /// Counts a program or an erase in this block that failed.
     pub fn stop_failed(&mut self, block: u32)
-        ensures { self.new ≡ record self.old {
-          flash_faults = counted self.old.flash_faults;
-          stop_faults = counted self.old.stop_faults;
-          failed_at = Some block;
-        } }
+        ensures { self.new ≡ with_stop block self.old }
     {
         raise(&mut self.flash_faults);
         raise(&mut self.stop_faults);

@@ -6,7 +6,8 @@ ghost use Rattle.pk_remap.specs.Places.{inner_shape as inner_shape_of};
 ghost use Rattle.pk_remap.specs.Running.{IsAtRest};
 ghost use Rattle.pk_remap.specs.Remapped.{spares_left as spares_left_of};
 ghost use Rattle.pk_remap.specs.Causes.{LoadCause, MakeCause};
-ghost use Rattle.pk_remap.specs.Answers.{LoadAnswers, MakeAnswers, IsMade};
+ghost use Rattle.pk_remap.specs.Answers.{LoadAnswers, MakeAnswers};
+ghost use Rattle.pk_remap.specs.FirstTable.{IsMade};
 ghost use Rattle.pk_remap.specs.Logged.{told};
 
 use crate::image::Image;
@@ -21,8 +22,27 @@ use std::alloc::Global;
 const NO_TABLE_AT: u64 = 32;
 
 impl<N: Nand> Remap<N> {
+    /// Loads the image of the inner flash.
+    pub(crate) fn load_inner(&mut self, alloc: Global) -> Result<Option<Shape>, LoadFault>
+        requires unknown { self.old.image ≡ Unknown }
+        requires none_bad { self.old.counts.bad ≡ None }
+        ensures answers { LoadAnswers (⟦<Remap<N> as Nand>⟧.state self.old) result
+            (⟦<Remap<N> as Nand>⟧.state self.new) }
+        ensures cause { LoadCause self.old.work.spares (N.state self.old.inner) result
+            (spares_left_of self.new.image self.new.work) (N.state self.new.inner) }
+    {
+        match self.inner.load(alloc) {
+            Ok(Some(found)) => self.open_image(alloc, &found),
+            Ok(None) => {
+                self.image = Image::Missing;
+                Ok(None)
+            }
+            Err(fault) => Err(self.refuse(fault)),
+        }
+    }
+
     /// Opens the image of the inner flash, which has this shape.
-    pub(crate) fn open(
+    pub(crate) fn open_image(
         &mut self,
         alloc: Global,
         found: &Shape,
@@ -37,6 +57,7 @@ impl<N: Nand> Remap<N> {
     {
         match outer_shape(found, self.work.spares) {
             Ok(shape) => {
+                shape.known();
                 self.work.fit(shape);
                 self.open_table(alloc)
             }
@@ -115,13 +136,14 @@ impl<N: Nand> Remap<N> {
     fn make_table(&mut self, shape: Shape, log: MarkLog) -> Result<(), LoadFault>
         requires unknown { self.old.image ≡ Unknown }
         requires made { IsMade shape self.old.work.spares (N.state self.old.inner) }
-        requires none { told log ≡ told self.old.log }
+        requires told { told log ≡ told self.old.log }
         requires sized { log.page_bytes ≡ shape.page_bytes }
         ensures answers { MakeAnswers (⟦<Remap<N> as Nand>⟧.state self.old) shape result
             (⟦<Remap<N> as Nand>⟧.state self.new) }
         ensures cause { MakeCause self.old.work.spares shape (N.state self.old.inner) result
             (spares_left_of self.new.image self.new.work) (N.state self.new.inner) }
     {
+        shape.known();
         self.work.fit(shape);
         match self.work.write_first_table(&mut self.inner) {
             Ok(()) => {

@@ -50,16 +50,10 @@ impl<N: Nand> Nand for Remap<N> {
     {
         self.counts.bad = None;
         if self.is_open() {
-            return Ok(Some(self.work.shape));
-        }
-        self.image = Image::Unknown;
-        match self.inner.load(alloc) {
-            Ok(Some(found)) => self.open(alloc, &found),
-            Ok(None) => {
-                self.image = Image::Missing;
-                Ok(None)
-            }
-            Err(fault) => Err(self.refuse(fault)),
+            Ok(Some(self.work.shape))
+        } else {
+            self.image = Image::Unknown;
+            self.load_inner(alloc)
         }
     }
 
@@ -142,16 +136,12 @@ impl<N: Nand> Nand for Remap<N> {
     {
         raise(&mut self.counts.programs);
         let block = self.block_of(page);
-        if !self.log.has_room(bytes.len()) {
+        if self.log.has_room(bytes.len()) {
+            self.program_noted(page, bytes, block)
+        } else {
             self.counts.stop_failed(block);
-            return Err(NandFault);
+            Err(NandFault)
         }
-        let done = self.program_page(page, bytes);
-        self.log.note_program(page, bytes);
-        if done.is_err() {
-            self.counts.stop_failed(block);
-        }
-        done
     }
 
     fn erase(&mut self, block: u32) -> Result<(), NandFault>
@@ -177,16 +167,12 @@ impl<N: Nand> Nand for Remap<N> {
             (N.state self.new.inner) }
     {
         raise(&mut self.counts.erases);
-        if !self.log.has_room(0) {
+        if self.log.has_room(0) {
+            self.erase_noted(block)
+        } else {
             self.counts.stop_failed(block);
-            return Err(NandFault);
+            Err(NandFault)
         }
-        let done = self.erase_block(block);
-        self.log.note_erase(block);
-        if done.is_err() {
-            self.counts.stop_failed(block);
-        }
-        done
     }
 
     fn read_count(&self) -> u64 {

@@ -1,5 +1,5 @@
 //! How marks are noted in a log.
-ghost use Rattle.std.specs.Prelude.{◌≡◌, ◌≤◌, ◌∷◌, [], ◌↔◌, length, IsTrue, IfOk};
+ghost use Rattle.std.specs.Prelude.{◌≡◌, ◌≤◌, ◌∷◌, [], length, true, false, IfOk};
 ghost use Rattle.pk_base.specs.Mark.{program, erase, post};
 ghost use Rattle.pk_nand.specs.Calls.{longer};
 ghost use Rattle.pk_remap.specs.Noted.{no_marks, marks_for, bytes_of_mark, mark_with};
@@ -14,7 +14,7 @@ impl MarkLog {
         ensures told { told result ≡ no_marks room }
         ensures room { result.room ≡ room }
         ensures bare { result.page_bytes ≡ 0 }
-        ensures none { result.marks.items ≡ [] }
+        ensures unused { result.used ≡ 0 }
     {
         MarkLog {
             room,
@@ -31,6 +31,7 @@ impl MarkLog {
         ensures told { IfOk result (λ log. told log ≡ no_marks room) }
         ensures room { IfOk result (λ log. log.room ≡ room) }
         ensures page { IfOk result (λ log. log.page_bytes ≡ page_bytes) }
+        ensures unused { IfOk result (λ log. log.used ≡ 0) }
     {
         if room > usize::MAX / page_bytes {
             return Err(AllocError);
@@ -56,7 +57,8 @@ impl MarkLog {
 
     /// Whether a mark with so many bytes has room.
     pub fn has_room(&self, len: usize) -> bool
-        ensures { IsTrue result ↔ HasLogRoom self.now len }
+        ensures yes { result ≡ true → HasLogRoom self.now len }
+        ensures no { result ≡ false → HasLogRoom self.now len → ⊥ }
     {
         if self.room == 0 {
             true

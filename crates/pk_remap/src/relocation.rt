@@ -1,6 +1,7 @@
 //! A relocation in memory.
 ghost use Rattle.std.specs.Prelude.{◌≡◌, ◌≤◌, length, None, IfOk};
 ghost use Rattle.pk_base.specs.declared.sizes.TheConstants.{MOST_PAGE_BYTES};
+ghost use Rattle.pk_base.specs.Shape.{IsShape};
 ghost use Rattle.pk_remap.specs.Running.{HasPageBuffers};
 
 use crate::phase::Phase;
@@ -44,6 +45,7 @@ impl Relocation {
         ensures room { IfOk result (λ r. HasPageBuffers r) }
         ensures spares { IfOk result (λ r. r.spares ≡ spares) }
         ensures none { IfOk result (λ r. r.taken ≡ 0) }
+        ensures shape { IfOk result (λ r. IsShape r.shape) }
     {
         let partner = page_buffer(alloc)?;
         let bytes = page_buffer(alloc)?;
@@ -87,9 +89,14 @@ fn page_buffer(alloc: Global) -> Result<Vec<u8>, AllocError>
 }
 
 /// Some shape, until the shape of the flash is known.
-fn any_shape() -> Shape {
+fn any_shape() -> Shape
+    ensures { IsShape result }
+{
     match Shape::new(512, 16, 64) {
-        Ok(shape) => shape,
+        Ok(shape) => {
+            shape.known();
+            shape
+        }
         Err(_) => unreachable!(),
     }
 }

@@ -1,7 +1,7 @@
 //! A flash with spare blocks over another flash.
 ghost use Rattle.std.specs.Prelude.{◌≡◌, ◌≤◌, true, IfOk};
 ghost use Rattle.pk_remap.specs.declared.layout.TheConstants.{MOST_SPARES};
-ghost use Rattle.pk_remap.specs.Remapped.{RemapHolds, HasLog, is_open as is_open_image, spares_left as spares_left_of, fresh_remap, with_refusal, FindsTable};
+ghost use Rattle.pk_remap.specs.Remapped.{RemapHolds, HasLog, is_open as is_open_image, is_sure as is_sure_image, spares_left as spares_left_of, fresh_remap, with_refusal, FindsTable};
 
 use crate::counts::BoardCounts;
 use crate::image::Image;
@@ -40,14 +40,16 @@ impl<N: Nand + Drop> Remap<N> {
         ensures spares { IfOk result (λ r. r.work.spares ≡ spares) }
         ensures left { IfOk result (λ r. spares_left_of r.image r.work ≡ 0) }
     {
-        let work = Relocation::new(alloc, spares)?;
-        Ok(Remap {
-            inner,
-            work,
-            log: MarkLog::new(alloc, log),
-            counts: BoardCounts::zero(),
-            image: Image::Unknown,
-        })
+        match Relocation::new(alloc, spares) {
+            Ok(work) => Ok(Remap {
+                inner,
+                work,
+                log: MarkLog::new(alloc, log),
+                counts: BoardCounts::zero(),
+                image: Image::Unknown,
+            }),
+            Err(_) => Err(AllocError),
+        }
     }
 }
 
@@ -100,25 +102,49 @@ impl<N: Nand> Remap<N> {
         fault
     }
 
+    /// Whether the newest table is in memory.
+    fn is_sure(&self) -> bool
+        ensures { result ≡ is_sure_image self.now.image }
+    {
+        match self.image {
+            Image::Unknown => false,
+            Image::Missing => false,
+            Image::Unsure => false,
+            Image::Sure => true,
+        }
+    }
+
     /// Takes the newest table into memory, if it is not there.
     pub(crate) fn find_table(&mut self) -> Result<(), NandFault>
         requires { is_open_image self.old.image ≡ true }
         ensures found { FindsTable self.old.work (N.state self.old.inner) result self.new.image
             self.new.work (N.state self.new.inner) }
-        ensures rest { self.new ≡ record self.old { inner = self.new.inner; work = self.new.work; image = self.new.image } }
+        ensures log { self.new.log ≡ self.old.log }
+        ensures counts { self.new.counts ≡ self.old.counts }
     {
-        match self.image {
-            Image::Unsure => match self.work.find(&mut self.inner) {
-                Ok(true) => {
-                    self.image = Image::Sure;
-                    Ok(())
-                }
-                Ok(false) => unreachable!(),
-                Err(_) => Err(NandFault),
-            },
-            Image::Sure => Ok(()),
-            Image::Unknown => unreachable!(),
-            Image::Missing => unreachable!(),
+        if self.is_sure() {
+            Ok(())
+        } else {
+            self.search_table()
+        }
+    }
+
+    /// Searches for the newest table, and takes it into memory.
+    fn search_table(&mut self) -> Result<(), NandFault>
+        requires opened { is_open_image self.old.image ≡ true }
+        requires unsure { is_sure_image self.old.image ≡ false }
+        ensures found { FindsTable self.old.work (N.state self.old.inner) result self.new.image
+            self.new.work (N.state self.new.inner) }
+        ensures log { self.new.log ≡ self.old.log }
+        ensures counts { self.new.counts ≡ self.old.counts }
+    {
+        match self.work.find(&mut self.inner) {
+            Ok(true) => {
+                self.image = Image::Sure;
+                Ok(())
+            }
+            Ok(false) => unreachable!(),
+            Err(_) => Err(NandFault),
         }
     }
 }

@@ -12,15 +12,14 @@ ghost use Rattle.pk_nand.specs.Seen.{answer};
 ghost use Rattle.pk_remap.specs.declared.layout.TheConstants.{MOST_SPARES};
 ghost use Rattle.pk_remap.specs.Places.{inner_shape, placed_page};
 ghost use Rattle.pk_remap.specs.Counting.{SearchFailed, UsesOnlyTaken, ServeCounts, OuterCounts};
-ghost use Rattle.pk_remap.specs.Answers.{IsMade, FirstTableOutcome};
-ghost use Rattle.pk_remap.specs.Running.{relocation_of, HasPageBuffers, RelocationRuns, IsAtRest};
+ghost use Rattle.pk_remap.specs.Running.{relocation_of, RelocationRuns, IsAtRest};
 ghost use Rattle.pk_remap.specs.Serving.{outer_of, HasPartner, PartnerOutcome, CanFind, FindOutcome, found_top, RelocationServes, OuterOutcome};
 
 use crate::phase::Phase;
 use crate::places::{page_in, place};
 use crate::relocation::{Call, Relocation};
 use crate::search::newest;
-use crate::steps::{program_table, read_into};
+use crate::steps::read_into;
 use crate::top::Top;
 use pk_base::Shape;
 use pk_nand::{Nand, NandFault, PageRead};
@@ -62,34 +61,6 @@ impl Relocation {
         if (self.taken as usize) < top.used {
             self.taken = top.used as u16;
         }
-    }
-
-    /// Writes the first table, by which no spare is used, to the first pair of the first table block. All pages are Erased before.
-    pub(crate) fn write_first_table<N: Nand>(&mut self, inner: &mut N) -> Result<(), NandFault>
-        requires made { IsMade self.old.shape self.old.spares (N.state inner.old) }
-        requires few { self.old.spares ≤ MOST_SPARES }
-        requires none { self.old.taken ≡ 0 }
-        requires room { HasPageBuffers self.old }
-        ensures outcome { FirstTableOutcome self.old (N.state inner.old) result self.new
-            (N.state inner.new) }
-    {
-        self.shape.known();
-        let page = page_in(&self.shape, self.shape.blocks() + self.spares as u32, 0);
-        program_table(inner, page, &self.shape, self.spares, 1, &[], &mut self.copy)?;
-        program_table(
-            inner,
-            page + 1,
-            &self.shape,
-            self.spares,
-            1,
-            &[],
-            &mut self.copy,
-        )?;
-        self.number = 1;
-        self.used = 0;
-        self.top = page;
-        self.next = Some(page + 2);
-        Ok(())
     }
 
     /// The inner page of a page of the outer flash.
