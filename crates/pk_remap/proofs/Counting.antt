@@ -123,13 +123,13 @@ pub has_table : (r : InMemory) (board : BoardState) (page : ℕ) (table : SpareT
     → IsNewest r.shape r.spares (page_at board.pages) page table → length table.serves ≤ r.taken → HasTable r board
 has_table r board page table ready is used = record {
   ready = ready;
-  some = λ e. apart (sym (newest-found r.shape r.spares (page_at board.pages) page table is) ∙ e);
+  some = λ e. apart (page, table) (sym (newest-found r.shape r.spares (page_at board.pages) page table is) ∙ e);
   used = λ page' table' is'. (let few : length table.serves ≤ r.taken = used in
       let same : length table'.serves ≡ length table.serves = ap (λ (t : SpareTable). length t.serves) (one_newest r.shape r.spares board.pages page page' table table' is is') in
       omega (arith, few, same));
 } where
-  apart : Some (page, table) ≡ None → ⊥
-  apart e = cc
+  apart : (x : ℕ × SpareTable) → Some x ≡ None → ⊥
+  apart x e = cc
 
 -- ---- single calls
 

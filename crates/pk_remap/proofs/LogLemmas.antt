@@ -89,4 +89,17 @@ bytes_fit used more p have len one two = omega (arith, one, two)
 -- what a call left that was done
 pub if_is_ok : {X E : Type 0} (r : Result Unit E) (a b x : X) → IsOk r → x ≡ (if is_ok r then a else b) → x ≡ a
 if_is_ok (Ok u) a b x ok is = is
-if_is_ok (Err e) a b x ok is = absurd ok
+if_is_ok (Err e) a b x ok is = let no : false ≡ true = ok in cc
+
+-- a log whose room was not taken has no mark
+pub told_unfit : (log : MarkLog) → log.page_bytes ≡ 0 → told log ≡ told_of log.room []
+told_unfit log unfit =
+    let none = log.marks_fit unfit in
+    let few = log.counted in
+    let size = log.marks.ok.0 in
+    let empty : length log.marks.items ≡ 0 = omega (arith, none, few, size) in
+    ap (λ (l : List Mark). told_of log.room l) (no_marks_of log.marks.items log.bytes.items empty)
+  where
+    no_marks_of : (marks : List NotedMark) (bytes : List ℕ) → length marks ≡ 0 → noted_marks marks bytes ≡ []
+    no_marks_of [] bytes e = refl
+    no_marks_of (m ∷ ms) bytes e = absurd (omega (arith, e))

@@ -73,12 +73,12 @@ module _ (image : Image) (work : InMemory) (inner : BoardState) where
       }
 
   pub holds_rest : IsAtRest work inner → is_missing image ≡ false → RemapHolds image work inner
-  holds_rest rest open = record {
+  holds_rest rest has_open = record {
     shape_is = rest.shape_is;
     few = rest.few;
     taken = rest.taken;
     room = rest.room;
-    missing = λ e. no_bool (sym open ∙ e);
+    missing = λ e. no_bool (sym has_open ∙ e);
     opened = λ e. has_table work inner work.top (relocation_of work).table rest.ready rest.top rest.used;
     sure = λ e. record {
       grammar = rest.grammar;
@@ -280,10 +280,10 @@ opened shape pages trail counts input posted = record {
 module _ (work : InMemory) (log : MarkLog) (counts : BoardCounts) (inner : BoardState) where
   pub board_is : (image : Image) → is_open image ≡ true → remap_board image work log counts inner
       ≡ opened work.shape (outer_pages work.shape work.spares inner.pages) (told log) counts inner.input inner.posted
-  board_is Unknown open = no_bool open
-  board_is Missing open = no_bool open
-  board_is Unsure open = refl
-  board_is Sure open = refl
+  board_is Unknown has_open = no_bool has_open
+  board_is Missing has_open = no_bool has_open
+  board_is Unsure has_open = refl
+  board_is Sure has_open = refl
 
   pub opens_page : (image : Image) (page : ℕ) → page < length (remap_board image work log counts inner).pages → is_open image ≡ true
   opens_page Unknown page inside = absurd (omega (arith, inside))
@@ -340,10 +340,10 @@ module _ (work w : InMemory) (log : MarkLog) (mark : Mark) (old new : BoardState
 -- ---- what is known of the image
 
 pub open_there : (image : Image) → is_open image ≡ true → is_missing image ≡ false
-open_there Unknown open = no_bool open
-open_there Missing open = no_bool open
-open_there Unsure open = refl
-open_there Sure open = refl
+open_there Unknown has_open = no_bool has_open
+open_there Missing has_open = no_bool has_open
+open_there Unsure has_open = refl
+open_there Sure has_open = refl
 
 pub sure_is : (image : Image) → is_sure image ≡ true → image ≡ Sure
 sure_is Unknown sure = no_bool sure
@@ -352,10 +352,10 @@ sure_is Unsure sure = no_bool sure
 sure_is Sure sure = refl
 
 pub unsure_is : (image : Image) → is_open image ≡ true → is_sure image ≡ false → image ≡ Unsure
-unsure_is Unknown open unsure = no_bool open
-unsure_is Missing open unsure = no_bool open
-unsure_is Unsure open unsure = refl
-unsure_is Sure open unsure = no_bool (sym unsure)
+unsure_is Unknown has_open unsure = no_bool has_open
+unsure_is Missing has_open unsure = no_bool has_open
+unsure_is Unsure has_open unsure = refl
+unsure_is Sure has_open unsure = no_bool (sym unsure)
 
 pub missing_is : (image : Image) → is_missing image ≡ true → image ≡ Missing
 missing_is Unknown missing = no_bool missing
@@ -384,12 +384,12 @@ table_again work w old new same shape pages table =
 -- with a table of which nobody knows whether it is in memory
 pub holds_table : (image : Image) (work : InMemory) (inner : BoardState) → is_open image ≡ true → is_sure image ≡ false
     → IsShape work.shape → work.spares ≤ MOST_SPARES → work.taken ≤ work.spares → HasPageBuffers work → HasTable work inner → RemapHolds image work inner
-holds_table image work inner open unsure shape few taken room table = record {
+holds_table image work inner has_open unsure shape few taken room table = record {
   shape_is = shape;
   few = few;
   taken = taken;
   room = room;
-  missing = λ e. no_bool (sym (open_there image open) ∙ e);
+  missing = λ e. no_bool (sym (open_there image has_open) ∙ e);
   opened = λ e. table;
   sure = λ e. no_bool (sym unsure ∙ e);
 }
@@ -405,9 +405,9 @@ same_fits work w shape few same = (
 -- the log has room still
 pub log_sized : (image image' : Image) (shape shape' : Shape) (log log' : MarkLog) → is_open image ≡ true → is_open image' ≡ true → shape' ≡ shape → log'.page_bytes ≡ log.page_bytes
     → HasLog image shape log → HasLog image' shape' log'
-log_sized image image' shape shape' log log' open open' same sized has = record {
-  unused = λ e. no_bool (sym e ∙ open');
-  sized = λ e. sized ∙ has.sized open ∙ sym (ap (λ (s : Shape). s.page_bytes) same);
+log_sized image image' shape shape' log log' has_open has_open' same sized has = record {
+  unfit = λ e. no_bool (sym e ∙ has_open');
+  sized = λ e. sized ∙ has.sized has_open ∙ sym (ap (λ (s : Shape). s.page_bytes) same);
 }
 
 -- ---- reads
@@ -434,7 +434,7 @@ rose_page old mid new at (Err e) same err = let P : ℕ → Type 0 = λ x. Rose 
 -- ---- a program and an erase, as the trait has them
 
 module _ (image image' : Image) (work w : InMemory) (log log' : MarkLog) (counts counts' : BoardCounts) (old new : BoardState)
-    (open : is_open image ≡ true) (open' : is_open image' ≡ true) (table : HasTable work old) where
+    (has_open : is_open image ≡ true) (has_open' : is_open image' ≡ true) (table : HasTable work old) where
   abbrev board : BoardState
   board = remap_board image work log counts old
 
@@ -451,8 +451,8 @@ module _ (image image' : Image) (work w : InMemory) (log log' : MarkLog) (counts
   over : (Q : BoardState → BoardState → Type 0) → w.shape ≡ work.shape → OnlyFlash old new
       → Q (opened work.shape outer (told log) counts old.input old.posted) (opened work.shape outer' (told log') counts' old.input old.posted) → Q board board'
   over Q shape rest own =
-      let is = board_is work log counts old image open in
-      let is' = board_is w log' counts' new image' open' in
+      let is = board_is work log counts old image has_open in
+      let is' = board_is w log' counts' new image' has_open' in
       let input : new.input ≡ old.input = ap (λ s. s.input) rest in
       let posted : new.posted ≡ old.posted = ap (λ s. s.posted) rest in
       let same : opened w.shape outer' (told log') counts' new.input new.posted ≡ opened work.shape outer' (told log') counts' old.input old.posted =
@@ -521,13 +521,13 @@ module _ (image image' : Image) (work w : InMemory) (log log' : MarkLog) (counts
       (record { flash = omega arith; read = omega arith; rest = refl }))
 
 -- the room of the log would be passed: nothing is done
-module _ (image : Image) (work : InMemory) (log : MarkLog) (counts : BoardCounts) (inner : BoardState) (open : is_open image ≡ true) where
+module _ (image : Image) (work : InMemory) (log : MarkLog) (counts : BoardCounts) (inner : BoardState) (has_open : is_open image ≡ true) where
   pub program_refused : (at : ℕ) (bytes : List ℕ) → ProgramFailed (remap_board image work log counts inner)
       (remap_board image work log (with_stop (at / work.shape.block_pages) (record counts { programs = counted counts.programs })) inner) at bytes
   program_refused at bytes =
       let own = outer_pages work.shape work.spares inner.pages in
-      let is = board_is work log counts inner image open in
-      let is' = board_is work log (with_stop (at / work.shape.block_pages) (record counts { programs = counted counts.programs })) inner image open in
+      let is = board_is work log counts inner image has_open in
+      let is' = board_is work log (with_stop (at / work.shape.block_pages) (record counts { programs = counted counts.programs })) inner image has_open in
       let A : BoardState → Type 0 = λ s. ProgramFailed s
       (remap_board image work log (with_stop (at / work.shape.block_pages) (record counts { programs = counted counts.programs })) inner) at bytes in
       let B : BoardState → Type 0 = λ s. ProgramFailed (opened work.shape own (told log) counts inner.input inner.posted) s at bytes in
@@ -537,39 +537,39 @@ module _ (image : Image) (work : InMemory) (log : MarkLog) (counts : BoardCounts
       (remap_board image work log (with_stop block (record counts { erases = counted counts.erases })) inner) block
   erase_refused block =
       let own = outer_pages work.shape work.spares inner.pages in
-      let is = board_is work log counts inner image open in
-      let is' = board_is work log (with_stop block (record counts { erases = counted counts.erases })) inner image open in
+      let is = board_is work log counts inner image has_open in
+      let is' = board_is work log (with_stop block (record counts { erases = counted counts.erases })) inner image has_open in
       let A : BoardState → Type 0 = λ s. EraseFailed s (remap_board image work log (with_stop block (record counts { erases = counted counts.erases })) inner) block in
       let B : BoardState → Type 0 = λ s. EraseFailed (opened work.shape own (told log) counts inner.input inner.posted) s block in
       subst A (sym is) (subst B (sym is') (erase_failed work.shape own own (told log) (told log) counts inner.input inner.posted block (inr (refl, refl))))
 
 -- what the trait requires, of the outer flash
-module _ (image : Image) (work : InMemory) (log : MarkLog) (counts : BoardCounts) (inner : BoardState) (open : is_open image ≡ true) where
+module _ (image : Image) (work : InMemory) (log : MarkLog) (counts : BoardCounts) (inner : BoardState) (has_open : is_open image ≡ true) where
   pub shape_open : shape_of (remap_board image work log counts inner) ≡ work.shape
-  shape_open = ap shape_of (board_is work log counts inner image open)
+  shape_open = ap shape_of (board_is work log counts inner image has_open)
 
   pub pages_open : (remap_board image work log counts inner).pages ≡ outer_pages work.shape work.spares inner.pages
-  pages_open = ap (λ s. s.pages) (board_is work log counts inner image open)
+  pages_open = ap (λ s. s.pages) (board_is work log counts inner image has_open)
 
   pub page_open : (page : ℕ) → HasTable work inner → page < length (remap_board image work log counts inner).pages → page < page_count work.shape
   page_open page table inside = let size = outer_size work inner table in let own : length (remap_board image work log counts inner).pages ≡ length (outer_pages work.shape work.spares inner.pages) = ap length pages_open in omega (arith, inside, size, own)
 
 pub left_open : (image : Image) (work : InMemory) → is_open image ≡ true → spares_left image work ≡ work.spares - work.taken
-left_open image work open = ap (λ (b : Bool). open_spares_left b work) open
+left_open image work has_open = ap (λ (b : Bool). open_spares_left b work) has_open
 
 -- the causes of a call that was made
 pub cause_open : (image' : Image) (work w : InMemory) (mark : Mark) (old new : BoardState) (log : MarkLog) (len : ℕ) (result : Result Unit NandFault) → is_open image' ≡ true
     → MarkMade work mark old result w new → OnErr result (IsRefused log len old new ⊎ StopCause work.shape work.spares mark old (spares_left image' w) new)
-cause_open image' work w mark old new log len (Ok u) open made = tt
-cause_open image' work w mark old new log len (Err e) open made =
+cause_open image' work w mark old new log len (Ok u) has_open made = tt
+cause_open image' work w mark old new log len (Err e) has_open made =
     let P : ℕ → Type 0 = λ left. StopCause work.shape work.spares mark old left new in
-    let same : spares_left image' w ≡ work.spares - w.taken = left_open image' w open ∙ ap (λ (n : ℕ). n - w.taken) made.spares in
+    let same : spares_left image' w ≡ work.spares - w.taken = left_open image' w has_open ∙ ap (λ (n : ℕ). n - w.taken) made.spares in
     inr (subst P (sym same) made.cause)
 
 pub fall_open : (image image' : Image) (work w : InMemory) (mark : Mark) (old new : BoardState) (result : Result Unit NandFault) → is_open image ≡ true → is_open image' ≡ true
     → MarkMade work mark old result w new → SparesFallBy (spares_left image work) old (spares_left image' w) new
-fall_open image image' work w mark old new result open open' made =
+fall_open image image' work w mark old new result has_open has_open' made =
     let P : ℕ → Type 0 = λ left. SparesFallBy left old (spares_left image' w) new in
     let R : ℕ → Type 0 = λ left. SparesFallBy (work.spares - work.taken) old left new in
-    let same : spares_left image' w ≡ work.spares - w.taken = left_open image' w open' ∙ ap (λ (n : ℕ). n - w.taken) made.spares in
-    subst P (sym (left_open image work open)) (subst R (sym same) made.fall)
+    let same : spares_left image' w ≡ work.spares - w.taken = left_open image' w has_open' ∙ ap (λ (n : ℕ). n - w.taken) made.spares in
+    subst P (sym (left_open image work has_open)) (subst R (sym same) made.fall)

@@ -245,7 +245,7 @@ module _ (r : InMemory) (before : Flash) (old : BoardState) (runs : RelocationRu
 
   -- a step that fails
   pub stopped_as : (result : Result Bool NandFault) (r' : InMemory) (new : BoardState) → IsErr result → Stopped r' new → StepOutcome r before old result r' new
-  stopped_as (Ok done) r' new fails stops = absurd fails
+  stopped_as (Ok done) r' new fails stops = let e : false ≡ true = fails in cc
   stopped_as (Err e) r' new fails stops = stops
 
   none_failed : (new : BoardState) → new.read_faults ≡ old.read_faults → new.stop_faults ≡ old.stop_faults → NoReadFailed old new

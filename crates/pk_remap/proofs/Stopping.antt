@@ -67,7 +67,7 @@ module _ (r : InMemory) (before : Flash) (old : BoardState) (runs : RelocationRu
 
   failed_step : (result : Result Bool NandFault) (copy : Vec ℕ Global) (next : Option ℕ) (new : BoardState) → IsErr result → OnlyFlash old new → Rose old.stop_faults new.stop_faults
       → HasTable (record r { copy = copy; next = next; taken = r.taken + 1 }) new → StepCounts r old result (record r { copy = copy; next = next; taken = r.taken + 1 }) new
-  failed_step (Ok done) copy next new fails rest rose table = absurd fails
+  failed_step (Ok done) copy next new fails rest rose table = let e : false ≡ true = fails in cc
   failed_step (Err e) copy next new fails rest rose table = (counted_failed r (record r { copy = copy; next = next; taken = r.taken + 1 }) old new rest 0 rose (omega arith), table)
 
   one_left : (copy : Vec ℕ Global) (next : Option ℕ) (new : BoardState) → IsReady new (inner_shape r.shape r.spares) × OneOfTables (relocation_of r) new.pages

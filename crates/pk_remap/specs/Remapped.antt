@@ -143,9 +143,9 @@ pub record RemapHolds (image : Image) (work : InMemory) (inner : BoardState) : T
   pub opened : is_open image ≡ true → HasTable work inner
   pub sure : is_sure image ≡ true → HoldsTable work inner
 
--- the log has its room once there is a table, and no mark before
+-- the log has its room once there is a table
 pub record HasLog (image : Image) (shape : Shape) (log : MarkLog) : Type 0 where
-  pub unused : is_open image ≡ false → log.used ≡ 0
+  pub unfit : is_open image ≡ false → log.page_bytes ≡ 0
   pub sized : is_open image ≡ true → log.page_bytes ≡ shape.page_bytes
 
 -- ---- the search for the newest table

@@ -1,7 +1,9 @@
 //! A flash with spare blocks over a board is a board: the host is that of the inner board.
-ghost use Rattle.std.specs.Prelude.{◌≡◌, ◌⊎◌, length, IfOk, IfErr, OnOk, OnErr};
-ghost use Rattle.pk_nand.specs.Calls.{Rose};
+ghost use Rattle.std.specs.Prelude.{◌≡◌, ◌≤◌, ◌⊎◌, ◌∷◌, [], length, take, IfOk, IfErr, OnOk, OnErr};
+ghost use Rattle.pk_base.specs.Mark.{post};
+ghost use Rattle.pk_nand.specs.Calls.{Rose, counted, longer};
 ghost use Rattle.pk_nand.specs.Operations.{Fetched, FetchFailed, after_post, PostFailed, SentFront};
+ghost use Rattle.pk_remap.specs.Logged.{told, HasLogRoom};
 ghost use Rattle.pk_remap.specs.Causes.{IsRefused};
 
 use crate::remap::Remap;
@@ -44,20 +46,36 @@ impl<B: Board> Board for Remap<B> {
         ensures image { self.new.image ≡ self.old.image }
         ensures work { self.new.work ≡ self.old.work }
     {
-        if !self.log.has_room(bytes.len()) {
+        if self.log.has_room(bytes.len()) {
+            match self.inner.post(bytes) {
+                Ok(()) => {
+                    self.log.note_post(bytes);
+                    Ok(())
+                }
+                Err(fault) => {
+                    self.post_failed(bytes, fault.given);
+                    Err(fault)
+                }
+            }
+        } else {
             raise(&mut self.counts.out_faults);
-            return Err(HostFault { given: 0 });
+            Err(HostFault { given: 0 })
         }
-        match self.inner.post(bytes) {
-            Ok(()) => {
-                self.log.note_post(bytes);
-                Ok(())
-            }
-            Err(fault) => {
-                self.log.note_post(&bytes[..fault.given as usize]);
-                raise(&mut self.counts.out_faults);
-                Err(fault)
-            }
-        }
+    }
+}
+
+impl<B: Board> Remap<B> {
+    /// Notes the bytes that a post gave that failed, and counts it.
+    fn post_failed(&mut self, bytes: &[u8], given: u32)
+        requires within { given ≤ length bytes.now }
+        requires room { HasLogRoom self.old.log (length bytes.now) }
+        ensures told { told self.new.log ≡ longer (told self.old.log) (post (take given bytes.now) ∷ []) }
+        ensures counts { self.new.counts ≡ record self.old.counts { out_faults = counted self.old.counts.out_faults } }
+        ensures inner { self.new.inner ≡ self.old.inner }
+        ensures image { self.new.image ≡ self.old.image }
+        ensures work { self.new.work ≡ self.old.work }
+    {
+        self.log.note_post(&bytes[..given as usize]);
+        raise(&mut self.counts.out_faults);
     }
 }

@@ -14,7 +14,6 @@ impl MarkLog {
         ensures told { told result ≡ no_marks room }
         ensures room { result.room ≡ room }
         ensures bare { result.page_bytes ≡ 0 }
-        ensures unused { result.used ≡ 0 }
     {
         MarkLog {
             room,
@@ -31,7 +30,6 @@ impl MarkLog {
         ensures told { IfOk result (λ log. told log ≡ no_marks room) }
         ensures room { IfOk result (λ log. log.room ≡ room) }
         ensures page { IfOk result (λ log. log.page_bytes ≡ page_bytes) }
-        ensures unused { IfOk result (λ log. log.used ≡ 0) }
     {
         if room > usize::MAX / page_bytes {
             return Err(AllocError);

@@ -1,5 +1,5 @@
 //! A flash with spare blocks over another flash.
-ghost use Rattle.std.specs.Prelude.{◌≡◌, ◌≤◌, true, IfOk};
+ghost use Rattle.std.specs.Prelude.{◌≡◌, ◌≤◌, true, false, IfOk};
 ghost use Rattle.pk_remap.specs.declared.layout.TheConstants.{MOST_SPARES};
 ghost use Rattle.pk_remap.specs.Remapped.{RemapHolds, HasLog, is_open as is_open_image, is_sure as is_sure_image, spares_left as spares_left_of, fresh_remap, with_refusal, FindsTable};
 

@@ -1,4 +1,4 @@
-use Rattle.std.proofs.Common.{◌≡◌, ◌≤◌, ◌<◌, ◌+◌, ◌*◌, ◌∷◌, [], ◌++◌, ℕ, List, length, ap, sym, subst, ◌∙◌, arith}
+use Rattle.std.proofs.Common.{◌≡◌, ◌≤◌, ◌<◌, ◌+◌, ◌*◌, ◌∷◌, [], ◌++◌, ℕ, List, length, Bool, true, false, refl, ap, sym, subst, ◌∙◌, arith}
 use Rattle.std.specs.Prelude.{Result, IsOk, vec_len, vec_capacity}
 use Rattle.std.specs.declared.alloc.AllocError.{AllocError}
 use Rattle.pk_remap.specs.Noted.{noted_bytes, noted_marks, told_of, bytes_of_mark, marks_for}
@@ -49,14 +49,15 @@ unreachable-requires c =
     let all : (log.used + c.takes.result) * log.page_bytes ≤ log.room * log.page_bytes = times_le (log.used + c.takes.result) log.room log.page_bytes within in
     let has = log.has_bytes in
     let T : Result Unit AllocError → Type 0 = λ r. IsOk r in
-    absurd (subst T c.in-Err.is (c.extend_from_slice.ensures.succeeds (omega (arith, more, all, has))))
+    let no : false ≡ true = subst T c.in-Err.is (c.extend_from_slice.ensures.succeeds (omega (arith, more, all, has))) in
+    cc
 
 pub returns-in-Ok-clause-told : goal.returns-in-Ok-clause-told
 returns-in-Ok-clause-told c =
     let log = c.args.self.now in
     let T : Result Unit AllocError → Type 0 = λ r. IsOk r in
     let items : c.extend_from_slice.new.self.items ≡ log.bytes.items ++ c.args.bytes.now =
-    if_is_ok c.extend_from_slice.result _ _ _ (subst T (sym c.in-Ok.is) tt) c.extend_from_slice.ensures.items in
+    if_is_ok c.extend_from_slice.result _ _ _ (subst T (sym c.in-Ok.is) refl) c.extend_from_slice.ensures.items in
     let size = log.bytes.ok.0 in
     let all : noted_bytes log.marks.items ≡ length log.bytes.items = log.bytes_are ∙ size in
     (λ i. told_of log.room (noted_marks (c.push_reserved.ensures.items i) (items i)))

@@ -1,3 +1,4 @@
+use Rattle.std.proofs.Common.{refl}
 use Rattle.pk_nand.specs.BoardState.{BoardState}
 use Rattle.pk_remap.proofs.Running.{spare_erased, spare_erase_failed, next_or_stop}
 use Rattle.pk_nand.proofs.Effects.{works_erase, stops_erase}
