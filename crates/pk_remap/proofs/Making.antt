@@ -1,6 +1,6 @@
 -- The first table of a flash that was just made.
 use Rattle.std.proofs.Common.{◌≡◌, ◌≢◌, ◌⊎◌, inl, inr, ℕ, zero, suc, ◌+◌, ◌-◌, ◌*◌, ◌/◌, ◌%◌, ◌<◌, ◌≤◌, Bool, true, false, List, [], length, replicate, refl, sym, ap, subst, ◌∙◌, arith, Option, Some, None}
-use Rattle.std.specs.Prelude.{nat_le, nat_lt, nat_eq, slice_set, unwrap_or, Vec}
+use Rattle.std.specs.Prelude.{nat_le, nat_lt, nat_eq, slice_set, unwrap_or, Vec, Result, Ok, Err}
 use Rattle.std.specs.declared.alloc.Global.{Global}
 use Rattle.std.proofs.Math.Nat.{mod-lt}
 use Rattle.std.proofs.lemmas.Bool.Decides.{nat_tests}
@@ -14,6 +14,7 @@ use Rattle.pk_nand.specs.BoardState.{BoardState, shape_of, shape_or_none}
 use Rattle.pk_nand.specs.Calls.{IsReady, Rose, after_program, ProgramFailed}
 use Rattle.pk_nand.specs.Operations.{InOrder}
 use Rattle.pk_nand.specs.Effects.{OnlyFlash}
+use Rattle.pk_nand.specs.declared.types.NandFault.{NandFault}
 use Rattle.pk_nand.proofs.Effects.{works_program, stops_program, only_then}
 use Rattle.pk_nand.proofs.Leaving.{same_pages, page_at-slice_set, page_at-slice_set_same, IsFlash-after, full_program}
 use Rattle.pk_remap.specs.declared.layout.TheConstants.{MOST_SPARES}
@@ -24,7 +25,7 @@ use Rattle.pk_remap.specs.Places.{inner_shape, placed_page, through_by}
 use Rattle.pk_remap.specs.Relocating.{IsNextPair}
 use Rattle.pk_remap.specs.Running.{relocation_of, HasPageBuffers, IsAtRest}
 use Rattle.pk_remap.specs.Remapped.{outer_pages}
-use Rattle.pk_remap.specs.FirstTable.{first_table, first_table_bytes, IsMade, IsHalfMade, FirstTableWritten, FirstTableFailed}
+use Rattle.pk_remap.specs.FirstTable.{first_table, first_table_bytes, IsMade, IsHalfMade, FirstTableWritten, FirstTableFailed, FirstTableOutcome}
 use Rattle.pk_remap.proofs.TableLemmas.{table_parts, page_again}
 use Rattle.pk_remap.proofs.Placing.{mod-of, length-through, page-through, past-through}
 use Rattle.pk_remap.proofs.Finding.{same_table, none_some}
@@ -298,3 +299,17 @@ module _ (r : InMemory) (made : BoardState) (is : IsMade r.shape r.spares made) 
     room = room;
     rest = (stops_program made new page bytes failed).rest;
   }
+
+-- whatever is in the buffer
+pub outcome_copy : (r : InMemory) (copy : Vec ℕ Global) (old : BoardState) (result : Result Unit NandFault) (r' : InMemory) (new : BoardState)
+    → FirstTableOutcome (record r { copy = copy }) old result r' new → FirstTableOutcome r old result r' new
+outcome_copy r copy old (Ok u) r' new own = record {
+  rests = own.rests;
+  shape = own.shape;
+  spares = own.spares;
+  none = own.none;
+  unused = own.unused;
+  shown = own.shown;
+  rest = own.rest;
+}
+outcome_copy r copy old (Err e) r' new own = record { faults = own.faults; shape = own.shape; spares = own.spares; none = own.none; room = own.room; rest = own.rest }

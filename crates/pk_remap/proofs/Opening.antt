@@ -4,9 +4,10 @@ use Rattle.std.specs.Prelude.{Result, Ok, Err, IsOk, IsErr, OnOk, OnErr, IfOk, I
 use Rattle.pk_base.specs.declared.shape.ShapeError.{ShapeError}
 use Rattle.pk_base.specs.declared.shape.ShapeError.TheVariants.{BadPage, BadBlock, TooLarge, TooSmall}
 use Rattle.pk_base.specs.Shape.{Shape, IsShape, page_count, checked, deepest, meta_blocks, has_bad_page, has_bad_block, is_too_large, is_too_small}
-use Rattle.std.specs.Prelude.{if◌then◌else◌}
-use Rattle.pk_base.specs.Page.{Flash, page_at, erased, IsFlash}
-use Rattle.pk_base.specs.Mark.{Mark, erase}
+use Rattle.std.specs.Prelude.{if◌then◌else◌, nat_lt, unwrap_or}
+use Rattle.std.proofs.lemmas.Bool.Decides.{nat_tests}
+use Rattle.pk_base.specs.Page.{Flash, page_at, erased, whole, IsPage, IsFlash}
+use Rattle.pk_base.specs.Mark.{Mark}
 use Rattle.pk_nand.specs.BoardState.{BoardState}
 use Rattle.pk_nand.specs.Calls.{IsReady, Rose, counted, Loaded, LoadFailed, Made, MakeFailed}
 use Rattle.pk_nand.specs.declared.types.LoadFault.{LoadFault}
@@ -14,13 +15,20 @@ use Rattle.pk_nand.specs.declared.types.LoadFault.TheVariants.{Fault, BadImage, 
 use Rattle.pk_remap.specs.declared.counts.BoardCounts.{BoardCounts}
 use Rattle.pk_remap.specs.declared.relocation.Relocation.{Relocation as InMemory}
 use Rattle.pk_remap.specs.Places.{inner_shape}
-use Rattle.pk_remap.specs.Running.{relocation_of, IsAtRest}
-use Rattle.pk_remap.specs.Serving.{for_mark, outer_of}
-use Rattle.pk_remap.specs.Remapped.{outer_pages, with_refusal, without_spares}
+use Rattle.pk_remap.specs.Places.{placed_page, through_by}
+use Rattle.pk_remap.specs.Table.{SpareTable}
+use Rattle.pk_remap.specs.Counting.{HasTable}
+use Rattle.pk_remap.specs.Causes.{LoadCause, BadImageCause, inner_is_bad}
+use Rattle.pk_remap.specs.declared.image.Image.{Image}
+use Rattle.pk_remap.specs.declared.image.Image.TheVariants.{Unknown, Missing, Sure}
+use Rattle.pk_remap.specs.declared.mark_log.MarkLog.{MarkLog}
+use Rattle.pk_remap.specs.Logged.{told}
+use Rattle.pk_remap.specs.Remapped.{outer_pages, with_refusal, without_spares, remap_board}
 use Rattle.pk_remap.specs.Answers.{LoadAnswers, MakeAnswers}
-use Rattle.pk_remap.proofs.Beginning.{whole_above}
-use Rattle.pk_remap.proofs.Outer.{can}
-use Rattle.pk_remap.proofs.Remapping.{opened, outer_at_rest}
+use Rattle.pk_remap.proofs.Placing.{length-through, page-through, past-through}
+use Rattle.pk_remap.proofs.Standing.{shows}
+use Rattle.pk_remap.proofs.Counting.{newest_is}
+use Rattle.pk_remap.proofs.Remapping.{opened}
 
 -- ---- shapes
 
@@ -84,6 +92,9 @@ no_shape_is shape e = absurd (apart e)
     apart : None ≡ Some shape → ⊥
     apart e = cc
 
+no_some : {X : Type 0} → IsSome {A = Shape} None → X
+no_some e = let no : false ≡ true = e in cc
+
 module _ (bare : Bool) (trail : Option (List Mark)) (counts : BoardCounts) (input posted : Option (List ℕ)) where
   abbrev before : BoardState
   before = closed bare trail counts input posted
@@ -91,7 +102,7 @@ module _ (bare : Bool) (trail : Option (List Mark)) (counts : BoardCounts) (inpu
   pub load_refused : (fault : LoadFault) → LoadAnswers before (Err fault) (closed false trail (with_refusal fault counts) input posted)
   load_refused Fault = record {
     ok = tt;
-    err = record { held = λ is. absurd is; rest = refl };
+    err = record { held = λ is. no_some is; rest = refl };
     fault = λ e. omega arith;
     no_fault = λ other. absurd (other refl);
     ready = λ shape e. no_shape_is shape e;
@@ -99,7 +110,7 @@ module _ (bare : Bool) (trail : Option (List Mark)) (counts : BoardCounts) (inpu
   }
   load_refused (BadImage at) = record {
     ok = tt;
-    err = record { held = λ is. absurd is; rest = refl };
+    err = record { held = λ is. no_some is; rest = refl };
     fault = λ e. cc;
     no_fault = λ other. refl;
     ready = λ shape e. no_shape_is shape e;
@@ -107,7 +118,7 @@ module _ (bare : Bool) (trail : Option (List Mark)) (counts : BoardCounts) (inpu
   }
   load_refused Memory = record {
     ok = tt;
-    err = record { held = λ is. absurd is; rest = refl };
+    err = record { held = λ is. no_some is; rest = refl };
     fault = λ e. cc;
     no_fault = λ other. refl;
     ready = λ shape e. no_shape_is shape e;
@@ -121,7 +132,7 @@ module _ (bare : Bool) (trail : Option (List Mark)) (counts : BoardCounts) (inpu
       none_bad = none;
       ready = λ shape e. no_shape_is shape e;
       bare = λ e. refl;
-      held = λ is. absurd is;
+      held = λ is. no_some is;
       rest = refl;
     };
     err = tt;
@@ -138,7 +149,7 @@ module _ (bare : Bool) (trail : Option (List Mark)) (counts : BoardCounts) (inpu
       none_bad = none;
       ready = λ own e. ready_as own e;
       bare = λ e. no_shape_is shape (sym e);
-      held = λ is. absurd is;
+      held = λ is. no_some is;
       rest = refl;
     };
     err = tt;
@@ -153,8 +164,8 @@ module _ (bare : Bool) (trail : Option (List Mark)) (counts : BoardCounts) (inpu
     ready_as : (own : Shape) → Some shape ≡ Some own → IsReady (opened shape pages trail counts input posted) own
     ready_as own e = record { shape_is = e; flash = subst (λ (s : Shape). IsFlash s pages) (same_shape shape own e) flash }
 
-  pub make_refused : (shape : Shape) (fault : LoadFault) → ((at : ℕ) → fault ≢ BadImage at) → MakeAnswers before shape (Err fault) (closed false trail (with_refusal fault counts) input posted)
-  make_refused shape Fault other = record {
+  pub make_refused : (bare' : Bool) (shape : Shape) (fault : LoadFault) → ((at : ℕ) → fault ≢ BadImage at) → MakeAnswers before shape (Err fault) (closed bare' trail (with_refusal fault counts) input posted)
+  make_refused bare' shape Fault other = record {
     ok = tt;
     err = refl;
     fault = λ e. omega arith;
@@ -162,8 +173,8 @@ module _ (bare : Bool) (trail : Option (List Mark)) (counts : BoardCounts) (inpu
     ready = λ own e. no_shape_is own e;
     bad = λ at e. cc;
   }
-  make_refused shape (BadImage at) other = absurd (other at refl)
-  make_refused shape Memory other = record {
+  make_refused bare' shape (BadImage at) other = absurd (other at refl)
+  make_refused bare' shape Memory other = record {
     ok = tt;
     err = refl;
     fault = λ e. cc;
@@ -172,9 +183,9 @@ module _ (bare : Bool) (trail : Option (List Mark)) (counts : BoardCounts) (inpu
     bad = λ at e. cc;
   }
 
-  pub make_done : (shape : Shape) (pages : Flash) → pages ≡ replicate (page_count shape) erased → IsFlash shape pages
-      → MakeAnswers before shape (Ok tt) (opened shape pages trail counts input posted)
-  make_done shape pages all flash = record {
+  pub make_done : (shape : Shape) (u : Unit) (pages : Flash) → pages ≡ replicate (page_count shape) erased → IsFlash shape pages
+      → MakeAnswers before shape (Ok u) (opened shape pages trail counts input posted)
+  make_done shape u pages all flash = record {
     ok = record { shape_is = refl; all_erased = all; not_bare = refl; rest = refl };
     err = tt;
     fault = λ e. cc;
@@ -185,11 +196,161 @@ module _ (bare : Bool) (trail : Option (List Mark)) (counts : BoardCounts) (inpu
     same_shape : (a b : Shape) → Some a ≡ Some b → a ≡ b
     same_shape a b e = cc
 
--- ---- the outer flash at rest
+-- ---- the outer flash
 
-pub whole_rest : (work : InMemory) (inner : BoardState) → IsAtRest work inner → IsFlash work.shape (outer_pages work.shape work.spares inner.pages)
-whole_rest work inner rest =
-    let some = rest.shape_is.data_fits in
-    let zero_inside : 0 < work.shape.blocks = omega (arith, some) in
-    subst (λ (f : Flash). IsFlash work.shape f) (sym (outer_at_rest work inner rest))
-    (whole_above (for_mark work (erase 0)) inner (can work inner rest (erase 0) (record { within = zero_inside; call = tt })))
+pub whole_table : (work : InMemory) (inner : BoardState) → HasTable work inner → IsFlash work.shape (outer_pages work.shape work.spares inner.pages)
+whole_table work inner table =
+    let own = newest_is work.shape work.spares inner.pages table.some in
+    let shown : outer_pages work.shape work.spares inner.pages ≡ through_by work.shape own.1 (page_at inner.pages) =
+    ap (λ (f : Option Flash). unwrap_or f []) (shows work.shape work.spares inner.pages own.0 own.1 own.2) in
+    subst (λ (f : Flash). IsFlash work.shape f) (sym shown) (record {
+      size = length-through work.shape own.1 (page_at inner.pages);
+      full = λ k bytes is. by own.1 k bytes is (nat_lt k (page_count work.shape)) refl;
+    })
+  where
+    by : (top : SpareTable) (k : ℕ) (bytes : List ℕ) → page_at (through_by work.shape top (page_at inner.pages)) k ≡ whole bytes → (t : Bool) → nat_lt k (page_count work.shape) ≡ t
+        → IsPage work.shape bytes
+    by top k bytes is true t =
+        let inside : k < page_count work.shape = grind (arith, nat_tests) in
+        table.ready.flash.full (placed_page work.shape top k) bytes (sym (page-through work.shape top (page_at inner.pages) k inside) ∙ is)
+    by top k bytes is false t =
+        let past : page_count work.shape ≤ k = grind (arith, nat_tests) in
+        let none = sym (past-through work.shape top (page_at inner.pages) k past) ∙ is in
+        cc
+
+-- ---- from the board before to the one on the way
+
+-- a load that began over a board that differs only in what it knows of the image
+pub load_from : (old mid new : BoardState) (result : Result (Option Shape) LoadFault) → old.shape ≡ None → mid ≡ record old { bare = mid.bare; bad = mid.bad }
+    → LoadAnswers mid result new → LoadAnswers old result new
+load_from old mid new result none is own = record {
+  ok = ok_from result own.ok;
+  err = err_from result own.err;
+  fault = λ e. subst F (ap (λ s. s.flash_faults) is) (own.fault e);
+  no_fault = λ e. own.no_fault e ∙ ap (λ s. s.flash_faults) is;
+  ready = own.ready;
+  bad = own.bad;
+} where
+  F : ℕ → Type 0
+  F x = Rose x new.flash_faults
+
+  no_shape : {X : Type 0} → IsSome old.shape → X
+  no_shape some = let T : Option Shape → Type 0 = λ s. IsSome s in no_some (subst T none some)
+
+  ok_from : (r : Result (Option Shape) LoadFault) → IfOk r (λ found. Loaded mid new found) → IfOk r (λ found. Loaded old new found)
+  ok_from (Ok found) l = record {
+    shape_is = l.shape_is;
+    none_bad = l.none_bad;
+    ready = l.ready;
+    bare = l.bare;
+    held = λ some. no_shape some;
+    rest = l.rest ∙ ap (λ (s : BoardState). record s { shape = new.shape; bare = new.bare; pages = new.pages; bad = new.bad }) is;
+  }
+  ok_from (Err e) l = tt
+
+  err_from : (r : Result (Option Shape) LoadFault) → OnErr r (LoadFailed mid new) → OnErr r (LoadFailed old new)
+  err_from (Ok found) l = tt
+  err_from (Err e) l = record {
+    held = λ some. no_shape some;
+    rest = l.rest ∙ ap (λ (s : BoardState). record s { shape = new.shape; bare = new.bare; pages = new.pages; flash_faults = new.flash_faults; bad = new.bad }) is;
+  }
+
+-- and a make
+pub make_from : (old mid new : BoardState) (shape : Shape) (result : Result Unit LoadFault) → mid ≡ record old { bare = mid.bare } → MakeAnswers mid shape result new → MakeAnswers old shape result new
+make_from old mid new shape result is own = record {
+  ok = ok_from result own.ok;
+  err = err_from result own.err;
+  fault = λ e. subst F (ap (λ s. s.flash_faults) is) (own.fault e);
+  no_fault = λ e. own.no_fault e ∙ ap (λ s. s.flash_faults) is;
+  ready = own.ready;
+  bad = own.bad;
+} where
+  F : ℕ → Type 0
+  F x = Rose x new.flash_faults
+
+  ok_from : (r : Result Unit LoadFault) → OnOk r (Made mid new shape) → OnOk r (Made old new shape)
+  ok_from (Ok u) m = record {
+    shape_is = m.shape_is;
+    all_erased = m.all_erased;
+    not_bare = m.not_bare;
+    rest = m.rest ∙ ap (λ (s : BoardState). record s { shape = new.shape; bare = new.bare; pages = new.pages }) is;
+  }
+  ok_from (Err e) m = tt
+
+  err_from : (r : Result Unit LoadFault) → OnErr r (MakeFailed mid new) → OnErr r (MakeFailed old new)
+  err_from (Ok u) m = tt
+  err_from (Err e) m = m ∙ ap (λ (s : BoardState). record s { shape = new.shape; bare = new.bare; pages = new.pages; flash_faults = new.flash_faults }) is
+
+-- ---- causes
+
+pub load_cause_refused : (spares : ℕ) (old new : BoardState) (fault : LoadFault) (left : ℕ) (result : Result (Option Shape) LoadFault) → result ≡ Err fault
+    → (result ≡ Err Fault → Rose old.flash_faults new.flash_faults) → ((at : ℕ) → result ≡ Err (BadImage at) → new.bad ≡ Some at) → LoadCause spares old (Err fault) left new
+load_cause_refused spares old new Fault left result is fault bad = fault is
+load_cause_refused spares old new (BadImage at) left result is fault bad = inner_is_bad (bad at is)
+load_cause_refused spares old new Memory left result is fault bad = tt
+
+pub load_cause_from : (spares : ℕ) (old mid new : BoardState) (result : Result (Option Shape) LoadFault) (left : ℕ) → mid.flash_faults ≡ old.flash_faults
+    → LoadCause spares mid result left new → LoadCause spares old result left new
+load_cause_from spares old mid new (Ok None) left same own = own
+load_cause_from spares old mid new (Ok (Some shape)) left same own = own
+load_cause_from spares old mid new (Err Fault) left same own = let F : ℕ → Type 0 = λ x. Rose x new.flash_faults in subst F same own
+load_cause_from spares old mid new (Err (BadImage at)) left same own = own
+load_cause_from spares old mid new (Err Memory) left same own = own
+
+-- ---- the steps of a load
+
+-- over a board whose image is not known, by calls that leave the host alone
+module _ (image : Image) (unknown : image ≡ Unknown) (work work' : InMemory) (log log' : MarkLog) (counts : BoardCounts) (old new : BoardState)
+    (input : new.input ≡ old.input) (posted : new.posted ≡ old.posted) (noted : told log' ≡ told log) where
+  abbrev first : BoardState
+  first = remap_board image work log counts old
+
+  -- refused
+  pub unknown_refused : (fault : LoadFault) → LoadAnswers first (Err fault) (remap_board image work' log' (with_refusal fault counts) new)
+  unknown_refused fault =
+      let T : Image → Type 0 = λ i. LoadAnswers (remap_board i work log counts old) (Err fault) (remap_board i work' log' (with_refusal fault counts) new) in
+      let U : BoardState → Type 0 = λ s. LoadAnswers (remap_board Unknown work log counts old) (Err fault) s in
+      subst T (sym unknown) (subst U (λ i. closed false (sym noted i) (with_refusal fault counts) (sym input i) (sym posted i))
+      (load_refused false (told log) counts old.input old.posted fault))
+
+  -- there is no image
+  pub unknown_none : counts.bad ≡ None → LoadAnswers first (Ok None) (remap_board Missing work' log' counts new)
+  unknown_none none =
+      let T : Image → Type 0 = λ i. LoadAnswers (remap_board i work log counts old) (Ok None) (remap_board Missing work' log' counts new) in
+      let U : BoardState → Type 0 = λ s. LoadAnswers (remap_board Unknown work log counts old) (Ok None) s in
+      subst T (sym unknown) (subst U (λ i. closed true (sym noted i) counts (sym input i) (sym posted i)) (load_none false (told log) counts old.input old.posted none))
+
+  -- its table is in memory
+  pub unknown_opened : counts.bad ≡ None → HasTable work' new → LoadAnswers first (Ok (Some work'.shape)) (remap_board Sure work' log' counts new)
+  unknown_opened none table =
+      let T : Image → Type 0 = λ i. LoadAnswers (remap_board i work log counts old) (Ok (Some work'.shape)) (remap_board Sure work' log' counts new) in
+      let U : BoardState → Type 0 = λ s. LoadAnswers (remap_board Unknown work log counts old) (Ok (Some work'.shape)) s in
+      let pages : Flash = outer_pages work'.shape work'.spares new.pages in
+      subst T (sym unknown) (subst U (λ i. opened work'.shape pages (sym noted i) counts (sym input i) (sym posted i))
+      (load_opened false (told log) counts old.input old.posted work'.shape pages none (whole_table work' new table)))
+
+  -- a step on the way
+  pub unknown_then : (result : Result (Option Shape) LoadFault) (last : BoardState) → LoadAnswers (remap_board image work' log' counts new) result last → LoadAnswers first result last
+  unknown_then result last own =
+      let T : Image → Type 0 = λ i. LoadAnswers (remap_board i work' log' counts new) result last → LoadAnswers (remap_board i work log counts old) result last in
+      let U : BoardState → Type 0 = λ s. LoadAnswers s result last in
+      subst T (sym unknown) (λ a. subst U (λ i. closed false (noted i) counts (input i) (posted i)) a) own
+
+  -- ---- and of a make
+
+  pub unknown_make_refused : (shape : Shape) (fault : LoadFault) → ((at : ℕ) → fault ≢ BadImage at)
+      → MakeAnswers first shape (Err fault) (remap_board image work' log' (with_refusal fault counts) new)
+  unknown_make_refused shape fault other =
+      let T : Image → Type 0 = λ i. MakeAnswers (remap_board i work log counts old) shape (Err fault) (remap_board i work' log' (with_refusal fault counts) new) in
+      let U : BoardState → Type 0 = λ s. MakeAnswers (remap_board Unknown work log counts old) shape (Err fault) s in
+      subst T (sym unknown) (subst U (λ i. closed false (sym noted i) (with_refusal fault counts) (sym input i) (sym posted i))
+      (make_refused false (told log) counts old.input old.posted false shape fault other))
+
+  pub unknown_made : (u : Unit) → HasTable work' new → outer_pages work'.shape work'.spares new.pages ≡ replicate (page_count work'.shape) erased
+      → MakeAnswers first work'.shape (Ok u) (remap_board Sure work' log' counts new)
+  unknown_made u table all =
+      let T : Image → Type 0 = λ i. MakeAnswers (remap_board i work log counts old) work'.shape (Ok u) (remap_board Sure work' log' counts new) in
+      let U : BoardState → Type 0 = λ s. MakeAnswers (remap_board Unknown work log counts old) work'.shape (Ok u) s in
+      let pages : Flash = outer_pages work'.shape work'.spares new.pages in
+      subst T (sym unknown) (subst U (λ i. opened work'.shape pages (sym noted i) counts (sym input i) (sym posted i))
+      (make_done false (told log) counts old.input old.posted work'.shape u pages all (whole_table work' new table)))

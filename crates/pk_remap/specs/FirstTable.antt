@@ -1,7 +1,7 @@
 -- The first table of a flash that was just made.
 use Rattle.std.specs.Prelude.{◌≡◌, ℕ, List, [], Some, Result, Ok, Err, replicate}
 use Rattle.pk_base.specs.Shape.{Shape, page_count}
-use Rattle.pk_base.specs.Page.{erased}
+use Rattle.pk_base.specs.Page.{erased, IsPage}
 use Rattle.pk_nand.specs.BoardState.{BoardState}
 use Rattle.pk_nand.specs.Calls.{Rose, after_program}
 use Rattle.pk_nand.specs.Effects.{OnlyFlash}
@@ -28,6 +28,7 @@ pub record IsMade (shape : Shape) (spares : ℕ) (board : BoardState) : Type 0 w
 -- and then the first table was programmed in the first page
 pub record IsHalfMade (r : InMemory) (made half : BoardState) : Type 0 where
   pub was : IsMade r.shape r.spares made
+  pub full : IsPage r.shape (first_table_bytes r)
   pub board : half ≡ after_program made (first_table_page r.shape r.spares) (first_table_bytes r)
 
 -- the first table was written: the outer flash has all pages Erased
