@@ -18,7 +18,7 @@ use Rattle.pk_remap.specs.Places.{inner_shape}
 use Rattle.pk_remap.specs.Places.{placed_page, through_by}
 use Rattle.pk_remap.specs.Table.{SpareTable}
 use Rattle.pk_remap.specs.Counting.{HasTable}
-use Rattle.pk_remap.specs.Causes.{LoadCause, BadImageCause, inner_is_bad}
+use Rattle.pk_remap.specs.Causes.{LoadCause, BadImageCause, inner_is_bad, MakeCause, MakeFaultCause, inner_fault, not_allowed}
 use Rattle.pk_remap.specs.declared.image.Image.{Image}
 use Rattle.pk_remap.specs.declared.image.Image.TheVariants.{Unknown, Missing, Sure}
 use Rattle.pk_remap.specs.declared.mark_log.MarkLog.{MarkLog}
@@ -354,3 +354,54 @@ module _ (image : Image) (unknown : image ≡ Unknown) (work work' : InMemory) (
       let pages : Flash = outer_pages work'.shape work'.spares new.pages in
       subst T (sym unknown) (subst U (λ i. opened work'.shape pages (sym noted i) counts (sym input i) (sym posted i))
       (make_done false (told log) counts old.input old.posted work'.shape u pages all (whole_table work' new table)))
+
+-- over a board that was told to have no image
+module _ (image : Image) (missing : image ≡ Missing) (work : InMemory) (log : MarkLog) (counts : BoardCounts) (old : BoardState) where
+  abbrev absent : BoardState
+  absent = remap_board image work log counts old
+
+  -- refused before a call
+  pub missing_refused : (shape : Shape) (fault : LoadFault) → ((at : ℕ) → fault ≢ BadImage at)
+      → MakeAnswers absent shape (Err fault) (remap_board image work log (with_refusal fault counts) old)
+  missing_refused shape fault other =
+      let T : Image → Type 0 = λ i. MakeAnswers (remap_board i work log counts old) shape (Err fault) (remap_board i work log (with_refusal fault counts) old) in
+      subst T (sym missing) (make_refused true (told log) counts old.input old.posted true shape fault other)
+
+  module _ (new : BoardState) (input : new.input ≡ old.input) (posted : new.posted ≡ old.posted) where
+    -- refused by the inner flash
+    pub missing_failed : (shape : Shape) (fault : LoadFault) → ((at : ℕ) → fault ≢ BadImage at)
+        → MakeAnswers absent shape (Err fault) (remap_board Unknown work log (with_refusal fault counts) new)
+    missing_failed shape fault other =
+        let T : Image → Type 0 = λ i. MakeAnswers (remap_board i work log counts old) shape (Err fault) (remap_board Unknown work log (with_refusal fault counts) new) in
+        let U : BoardState → Type 0 = λ s. MakeAnswers (remap_board Missing work log counts old) shape (Err fault) s in
+        subst T (sym missing) (subst U (λ i. closed false (told log) (with_refusal fault counts) (sym input i) (sym posted i))
+        (make_refused true (told log) counts old.input old.posted false shape fault other))
+
+    -- a step on the way
+    pub missing_then : (shape : Shape) (result : Result Unit LoadFault) (last : BoardState) → MakeAnswers (remap_board Unknown work log counts new) shape result last
+        → MakeAnswers absent shape result last
+    missing_then shape result last own =
+        let T : Image → Type 0 = λ i. MakeAnswers (remap_board i work log counts old) shape result last in
+        let U : BoardState → Type 0 = λ s. MakeAnswers s shape result last in
+        subst T (sym missing) (make_from (closed true (told log) counts old.input old.posted) (closed false (told log) counts old.input old.posted) last shape result refl
+        (subst U (λ i. closed false (told log) counts (input i) (posted i)) own))
+
+-- ---- causes of a make
+
+ok_or_err : {X E Y : Type 0} (r : Result X E) → IsOk r → IsErr r → Y
+ok_or_err (Ok x) ok err = let no : false ≡ true = err in cc
+ok_or_err (Err e) ok err = let no : false ≡ true = ok in cc
+
+pub make_cause_from : (spares : ℕ) (shape : Shape) (old mid new : BoardState) (result : Result Unit LoadFault) (left : ℕ) → IsOk (checked (inner_shape shape spares))
+    → mid.flash_faults ≡ old.flash_faults → MakeCause spares shape mid result left new → MakeCause spares shape old result left new
+make_cause_from spares shape old mid new (Ok u) left allowed same own = own
+make_cause_from spares shape old mid new (Err Fault) left allowed same (inner_fault rose) = inner_fault (let F : ℕ → Type 0 = λ x. Rose x new.flash_faults in subst F same rose)
+make_cause_from spares shape old mid new (Err Fault) left allowed same (not_allowed err is) = ok_or_err (checked (inner_shape shape spares)) allowed err
+make_cause_from spares shape old mid new (Err (BadImage at)) left allowed same own = own
+make_cause_from spares shape old mid new (Err Memory) left allowed same own = own
+
+pub make_cause_refused : (spares : ℕ) (shape : Shape) (old new : BoardState) (fault : LoadFault) (left : ℕ) (result : Result Unit LoadFault) → IsOk (checked (inner_shape shape spares))
+    → result ≡ Err fault → (result ≡ Err Fault → Rose old.flash_faults new.flash_faults) → ((at : ℕ) → result ≢ Err (BadImage at)) → MakeCause spares shape old (Err fault) left new
+make_cause_refused spares shape old new Fault left result allowed is fault bad = inner_fault (fault is)
+make_cause_refused spares shape old new (BadImage at) left result allowed is fault bad = bad at is
+make_cause_refused spares shape old new Memory left result allowed is fault bad = allowed

@@ -1,5 +1,6 @@
 //! How a flash with spare blocks opens its image, and makes one.
-ghost use Rattle.std.specs.Prelude.{◌≡◌, None};
+ghost use Rattle.std.specs.Prelude.{◌≡◌, None, IsOk};
+ghost use Rattle.pk_base.specs.Shape.{checked};
 ghost use Rattle.pk_nand.specs.Calls.{IsReady};
 ghost use Rattle.pk_remap.specs.declared.image.Image.TheVariants.{Unknown, Missing};
 ghost use Rattle.pk_remap.specs.Places.{inner_shape as inner_shape_of};
@@ -115,20 +116,41 @@ impl<N: Nand> Remap<N> {
     ) -> Result<(), LoadFault>
         requires missing { self.old.image ≡ Missing }
         requires inner { inner ≡ inner_shape_of shape self.old.work.spares }
+        requires allowed { IsOk (checked (inner_shape_of shape self.old.work.spares)) }
         ensures answers { MakeAnswers (⟦<Remap<N> as Nand>⟧.state self.old) shape result
             (⟦<Remap<N> as Nand>⟧.state self.new) }
         ensures cause { MakeCause self.old.work.spares shape (N.state self.old.inner) result
             (spares_left_of self.new.image self.new.work) (N.state self.new.inner) }
     {
-        match MarkLog::with_room(alloc, self.log.room, shape.page_bytes() as usize) {
-            Ok(log) => {
-                self.image = Image::Unknown;
-                match self.inner.make(alloc, inner) {
-                    Ok(()) => self.make_table(shape, log),
-                    Err(fault) => Err(self.refuse(fault)),
-                }
-            }
+        let size = shape.page_bytes() as usize;
+        match MarkLog::with_room(alloc, self.log.room, size) {
+            Ok(log) => self.make_with(alloc, shape, inner, log),
             Err(_) => Err(LoadFault::Memory),
+        }
+    }
+
+    /// The same, with the room for the log.
+    fn make_with(
+        &mut self,
+        alloc: Global,
+        shape: Shape,
+        inner: Shape,
+        log: MarkLog,
+    ) -> Result<(), LoadFault>
+        requires missing { self.old.image ≡ Missing }
+        requires inner { inner ≡ inner_shape_of shape self.old.work.spares }
+        requires allowed { IsOk (checked (inner_shape_of shape self.old.work.spares)) }
+        requires told { told log ≡ told self.old.log }
+        requires sized { log.page_bytes ≡ shape.page_bytes }
+        ensures answers { MakeAnswers (⟦<Remap<N> as Nand>⟧.state self.old) shape result
+            (⟦<Remap<N> as Nand>⟧.state self.new) }
+        ensures cause { MakeCause self.old.work.spares shape (N.state self.old.inner) result
+            (spares_left_of self.new.image self.new.work) (N.state self.new.inner) }
+    {
+        self.image = Image::Unknown;
+        match self.inner.make(alloc, inner) {
+            Ok(()) => self.make_table(shape, log),
+            Err(fault) => Err(self.refuse(fault)),
         }
     }
 
@@ -136,6 +158,7 @@ impl<N: Nand> Remap<N> {
     fn make_table(&mut self, shape: Shape, log: MarkLog) -> Result<(), LoadFault>
         requires unknown { self.old.image ≡ Unknown }
         requires made { IsMade shape self.old.work.spares (N.state self.old.inner) }
+        requires allowed { IsOk (checked (inner_shape_of shape self.old.work.spares)) }
         requires told { told log ≡ told self.old.log }
         requires sized { log.page_bytes ≡ shape.page_bytes }
         ensures answers { MakeAnswers (⟦<Remap<N> as Nand>⟧.state self.old) shape result

@@ -1,6 +1,6 @@
 //! Calls of the outer flash that a relocation serves, from its first step to its last.
 ghost use Rattle.pk_base.specs.Page.{Flash, page_at, IsPage};
-ghost use Rattle.std.specs.Prelude.{◌≡◌, ◌*◌, ◌<◌, ◌≤◌, length, take, IfOk, OnOk, OnErr};
+ghost use Rattle.std.specs.Prelude.{◌≡◌, ◌*◌, ◌<◌, ◌≤◌, length, take, max, true, IfOk, OnOk, OnErr};
 ghost use Rattle.pk_base.specs.Mark.{program, erase};
 ghost use Rattle.pk_base.specs.Shape.{page_count};
 ghost use Rattle.pk_nand.specs.Calls.{IsReady};
@@ -32,6 +32,8 @@ impl Relocation {
             (N.state inner.new) }
         ensures taken { UsesOnlyTaken self.old (N.state inner.old).pages
             → self.new.taken ≡ self.old.taken }
+        ensures most { IfOk result (λ found. found ≡ true
+            → self.new.taken ≡ max self.old.taken self.new.used) }
     {
         match newest_by(
             inner,

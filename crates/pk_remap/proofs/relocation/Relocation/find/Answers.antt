@@ -1,4 +1,4 @@
-use Rattle.std.proofs.Common.{◌≡◌, ◌≤◌, ◌++◌, ℕ, List, length, take, drop, sym, ap, ◌∙◌, arith}
+use Rattle.std.proofs.Common.{◌≡◌, ◌≤◌, ◌++◌, ℕ, List, length, take, drop, refl, sym, ap, ◌∙◌, arith}
 use Rattle.std.proofs.Math.Seq.{take-append_seam}
 use Rattle.pk_base.specs.declared.sizes.TheConstants.{MOST_PAGE_BYTES}
 use Rattle.pk_nand.specs.BoardState.{BoardState}
@@ -28,3 +28,6 @@ returns-in-Ok-Some-clause-taken g c =
     (found_taken c.args.self.now (g.N.Nand.state c.args.inner.now) c.requires c.in-Ok-Some.top c.newest_by.new.serves c.args.self.now.copy
     (rw c.in-Ok-Some.field-0-is at c.in-Ok-Some.ensures.found)
     (rw c.in-Ok-Some.field-0-is at c.in-Ok-Some.ensures.few) (c.in-Ok-Some.ensures.all ∙ c.requires.room.all))
+
+pub returns-in-Ok-Some-clause-most : goal.returns-in-Ok-Some-clause-most
+returns-in-Ok-Some-clause-most g c = rw c.take_found.ensures (λ e. refl)
