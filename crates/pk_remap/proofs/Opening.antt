@@ -23,12 +23,12 @@ use Rattle.pk_remap.specs.declared.image.Image.{Image}
 use Rattle.pk_remap.specs.declared.image.Image.TheVariants.{Unknown, Missing, Sure}
 use Rattle.pk_remap.specs.declared.mark_log.MarkLog.{MarkLog}
 use Rattle.pk_remap.specs.Logged.{told}
-use Rattle.pk_remap.specs.Remapped.{outer_pages, with_refusal, without_spares, remap_board}
+use Rattle.pk_remap.specs.Remapped.{outer_pages, with_refusal, without_spares, remap_board, is_open, open_shape}
 use Rattle.pk_remap.specs.Answers.{LoadAnswers, MakeAnswers}
 use Rattle.pk_remap.proofs.Placing.{length-through, page-through, past-through}
 use Rattle.pk_remap.proofs.Standing.{shows}
 use Rattle.pk_remap.proofs.Counting.{newest_is}
-use Rattle.pk_remap.proofs.Remapping.{opened}
+use Rattle.pk_remap.proofs.Remapping.{opened, board_is, no_bool}
 
 -- ---- shapes
 
@@ -405,3 +405,58 @@ pub make_cause_refused : (spares : ℕ) (shape : Shape) (old new : BoardState) (
 make_cause_refused spares shape old new Fault left result allowed is fault bad = inner_fault (fault is)
 make_cause_refused spares shape old new (BadImage at) left result allowed is fault bad = bad at is
 make_cause_refused spares shape old new Memory left result allowed is fault bad = allowed
+
+-- ---- a load
+
+module _ (image : Image) (work : InMemory) (log : MarkLog) (counts : BoardCounts) (inner : BoardState) where
+  -- of a flash whose shape is known
+  pub load_known : is_open image ≡ true → HasTable work inner
+      → LoadAnswers (remap_board image work log counts inner) (Ok (Some work.shape)) (remap_board image work log (record counts { bad = None }) inner)
+  load_known has_open table =
+      let pages : Flash = outer_pages work.shape work.spares inner.pages in
+      let is = board_is work log counts inner image has_open in
+      let is' = board_is work log (record counts { bad = None }) inner image has_open in
+      let whole_pages = whole_table work inner table in
+      let A : BoardState → Type 0 = λ s. LoadAnswers s (Ok (Some work.shape)) (remap_board image work log (record counts { bad = None }) inner) in
+      let B : BoardState → Type 0 = λ s. LoadAnswers (opened work.shape pages (told log) counts inner.input inner.posted) (Ok (Some work.shape)) s in
+      subst A (sym is) (subst B (sym is') (record {
+        ok = record {
+          shape_is = refl;
+          none_bad = refl;
+          ready = λ own e. ready_as own e whole_pages;
+          bare = λ e. no_shape_is work.shape (sym e);
+          held = λ some. (refl, refl);
+          rest = refl;
+        };
+        err = tt;
+        fault = λ e. cc;
+        no_fault = λ other. refl;
+        ready = λ own e. ready_as own e whole_pages;
+        bad = λ at e. cc;
+      }))
+    where
+      same_shape : (a b : Shape) → Some a ≡ Some b → a ≡ b
+      same_shape a b e = cc
+
+      ready_as : (own : Shape) → Some work.shape ≡ Some own → IsFlash work.shape (outer_pages work.shape work.spares inner.pages)
+          → IsReady (opened work.shape (outer_pages work.shape work.spares inner.pages) (told log) (record counts { bad = None }) inner.input inner.posted) own
+      ready_as own e flash = record {
+        shape_is = e;
+        flash = subst (λ (s : Shape). IsFlash s (outer_pages work.shape work.spares inner.pages)) (same_shape work.shape own e) flash;
+      }
+
+  closed_mid : (i : Image) → is_open i ≡ false → remap_board Unknown work log (record counts { bad = None }) inner ≡ record (remap_board i work log counts inner) { bare = false; bad = None }
+  closed_mid Unknown e = refl
+  closed_mid Missing e = refl
+  closed_mid Unsure e = no_bool (sym e)
+  closed_mid Sure e = no_bool (sym e)
+
+  -- of one whose image is not known yet
+  pub load_closed : is_open image ≡ false → (result : Result (Option Shape) LoadFault) (last : BoardState)
+      → LoadAnswers (remap_board Unknown work log (record counts { bad = None }) inner) result last → LoadAnswers (remap_board image work log counts inner) result last
+  load_closed shut result last own =
+      load_from (remap_board image work log counts inner) (remap_board Unknown work log (record counts { bad = None }) inner) last result
+      (ap (λ (b : Bool). open_shape b work.shape) shut) (closed_mid image shut) own
+
+  pub shut_none : {X : Type 0} → is_open image ≡ false → IsSome (remap_board image work log counts inner).shape → X
+  shut_none shut some = let T : Option Shape → Type 0 = λ s. IsSome s in no_some (subst T (ap (λ (b : Bool). open_shape b work.shape) shut) some)
