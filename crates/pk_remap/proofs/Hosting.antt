@@ -1,6 +1,6 @@
 -- The host of a flash with spare blocks is that of its inner board.
 use Rattle.std.proofs.Common.{◌≡◌, ◌⊎◌, inl, inr, ℕ, ◌+◌, ◌≤◌, List, [], ◌∷◌, ◌++◌, length, take, drop, refl, sym, ap, subst, ◌∙◌, arith, Option, Some, None}
-use Rattle.std.specs.Prelude.{Bool, true, false}
+use Rattle.std.specs.Prelude.{Result, Ok, Err, IfOk, OnOk, OnErr}
 use Rattle.std.proofs.lemmas.List.{append-nil}
 use Rattle.pk_base.specs.Mark.{Mark, post}
 use Rattle.pk_nand.specs.BoardState.{BoardState}
@@ -84,3 +84,17 @@ holds_host image work old new shape pages bare holds = record {
       turn = subst (HasTurn work) (sym pages) own.turn;
     });
 }
+
+-- what only the host did
+pub record HostOnly (old new : BoardState) : Type 0 where
+  pub shape : new.shape ≡ old.shape
+  pub pages : new.pages ≡ old.pages
+  pub bare : new.bare ≡ old.bare
+
+pub fetch_rest : {E : Type 0} (old new : BoardState) (into : List ℕ) (result : Result ℕ E) → IfOk result (λ n. Fetched old new n into) → OnErr result (FetchFailed old new) → HostOnly old new
+fetch_rest old new into (Ok n) ok err = record { shape = ap (λ s. s.shape) ok.rest; pages = ap (λ s. s.pages) ok.rest; bare = ap (λ s. s.bare) ok.rest }
+fetch_rest old new into (Err e) ok err = record { shape = ap (λ s. s.shape) err.rest; pages = ap (λ s. s.pages) err.rest; bare = ap (λ s. s.bare) err.rest }
+
+pub post_rest : {E : Type 0} (old new : BoardState) (bytes : List ℕ) (result : Result Unit E) → OnOk result (new ≡ after_post old bytes) → OnErr result (PostFailed old new bytes) → HostOnly old new
+post_rest old new bytes (Ok u) ok err = record { shape = ap (λ s. s.shape) ok; pages = ap (λ s. s.pages) ok; bare = ap (λ s. s.bare) ok }
+post_rest old new bytes (Err e) ok err = record { shape = ap (λ s. s.shape) err.rest; pages = ap (λ s. s.pages) err.rest; bare = ap (λ s. s.bare) err.rest }

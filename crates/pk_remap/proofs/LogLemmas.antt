@@ -61,6 +61,9 @@ marks_fewer p few len some less = let own = div_ceil_le few len p some less in o
     div_ceil_le : (a b p : ℕ) → 1 ≤ p → a ≤ b → div_ceil a p ≤ div_ceil b p
     div_ceil_le a b p some less = by (nat_lt (div_ceil b p) (div_ceil a p)) refl
       where
+        apart : (x y : ℕ) → suc y * p ≤ x * p → x * p < a + p → b ≤ y * p → ⊥
+        apart x y all one two = omega (arith, all, one, two, less)
+
         by : (t : Bool) → nat_lt (div_ceil b p) (div_ceil a p) ≡ t → div_ceil a p ≤ div_ceil b p
         by true t =
             let more : div_ceil b p < div_ceil a p = grind (arith, nat_tests) in
@@ -69,9 +72,6 @@ marks_fewer p few len some less = let own = div_ceil_le few len p some less in o
             let all : suc (div_ceil b p) * p ≤ div_ceil a p * p = times_le (suc (div_ceil b p)) (div_ceil a p) p more in
             absurd (apart (div_ceil a p) (div_ceil b p) all one.1 two.0)
         by false t = grind (arith, nat_tests)
-
-        apart : (x y : ℕ) → suc y * p ≤ x * p → x * p < a + p → b ≤ y * p → ⊥
-        apart x y all one two = omega (arith, all, one, two, less)
 
 -- the room of a mark
 pub has_room : (log : MarkLog) (len : ℕ) → HasLogRoom log len → 0 < log.room → (1 ≤ log.page_bytes) × (log.used + marks_for log.page_bytes len ≤ log.room)

@@ -92,9 +92,6 @@ no_shape_is shape e = absurd (apart e)
     apart : None ≡ Some shape → ⊥
     apart e = cc
 
-no_some : {X : Type 0} → IsSome {A = Shape} None → X
-no_some e = let no : false ≡ true = e in cc
-
 module _ (bare : Bool) (trail : Option (List Mark)) (counts : BoardCounts) (input posted : Option (List ℕ)) where
   abbrev before : BoardState
   before = closed bare trail counts input posted
@@ -102,7 +99,7 @@ module _ (bare : Bool) (trail : Option (List Mark)) (counts : BoardCounts) (inpu
   pub load_refused : (fault : LoadFault) → LoadAnswers before (Err fault) (closed false trail (with_refusal fault counts) input posted)
   load_refused Fault = record {
     ok = tt;
-    err = record { held = λ is. no_some is; rest = refl };
+    err = record { held = λ is. no_bool is; rest = refl };
     fault = λ e. omega arith;
     no_fault = λ other. absurd (other refl);
     ready = λ shape e. no_shape_is shape e;
@@ -110,7 +107,7 @@ module _ (bare : Bool) (trail : Option (List Mark)) (counts : BoardCounts) (inpu
   }
   load_refused (BadImage at) = record {
     ok = tt;
-    err = record { held = λ is. no_some is; rest = refl };
+    err = record { held = λ is. no_bool is; rest = refl };
     fault = λ e. cc;
     no_fault = λ other. refl;
     ready = λ shape e. no_shape_is shape e;
@@ -118,7 +115,7 @@ module _ (bare : Bool) (trail : Option (List Mark)) (counts : BoardCounts) (inpu
   }
   load_refused Memory = record {
     ok = tt;
-    err = record { held = λ is. no_some is; rest = refl };
+    err = record { held = λ is. no_bool is; rest = refl };
     fault = λ e. cc;
     no_fault = λ other. refl;
     ready = λ shape e. no_shape_is shape e;
@@ -132,7 +129,7 @@ module _ (bare : Bool) (trail : Option (List Mark)) (counts : BoardCounts) (inpu
       none_bad = none;
       ready = λ shape e. no_shape_is shape e;
       bare = λ e. refl;
-      held = λ is. no_some is;
+      held = λ is. no_bool is;
       rest = refl;
     };
     err = tt;
@@ -149,7 +146,7 @@ module _ (bare : Bool) (trail : Option (List Mark)) (counts : BoardCounts) (inpu
       none_bad = none;
       ready = λ own e. ready_as own e;
       bare = λ e. no_shape_is shape (sym e);
-      held = λ is. no_some is;
+      held = λ is. no_bool is;
       rest = refl;
     };
     err = tt;
@@ -235,7 +232,7 @@ load_from old mid new result none is own = record {
   F x = Rose x new.flash_faults
 
   no_shape : {X : Type 0} → IsSome old.shape → X
-  no_shape some = let T : Option Shape → Type 0 = λ s. IsSome s in no_some (subst T none some)
+  no_shape some = let T : Option Shape → Type 0 = λ s. IsSome s in no_bool (subst T none some)
 
   ok_from : (r : Result (Option Shape) LoadFault) → IfOk r (λ found. Loaded mid new found) → IfOk r (λ found. Loaded old new found)
   ok_from (Ok found) l = record {
@@ -459,4 +456,4 @@ module _ (image : Image) (work : InMemory) (log : MarkLog) (counts : BoardCounts
       (ap (λ (b : Bool). open_shape b work.shape) shut) (closed_mid image shut) own
 
   pub shut_none : {X : Type 0} → is_open image ≡ false → IsSome (remap_board image work log counts inner).shape → X
-  shut_none shut some = let T : Option Shape → Type 0 = λ s. IsSome s in no_some (subst T (ap (λ (b : Bool). open_shape b work.shape) shut) some)
+  shut_none shut some = let T : Option Shape → Type 0 = λ s. IsSome s in no_bool (subst T (ap (λ (b : Bool). open_shape b work.shape) shut) some)

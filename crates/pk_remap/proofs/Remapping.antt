@@ -1,5 +1,5 @@
 -- A flash with spare blocks, as a board.
-use Rattle.std.proofs.Common.{◌≡◌, ◌≢◌, ◌⊎◌, inl, inr, ℕ, suc, ◌+◌, ◌-◌, ◌*◌, ◌/◌, ◌<◌, ◌≤◌, Bool, true, false, List, [], ◌∷◌, length, refl, sym, ap, subst, ◌∙◌, arith, Option, Some, None}
+use Rattle.std.proofs.Common.{◌≡◌, ◌≢◌, ◌⊎◌, inl, inr, ℕ, zero, suc, ◌+◌, ◌-◌, ◌*◌, ◌/◌, ◌<◌, ◌≤◌, Bool, true, false, List, [], ◌∷◌, length, refl, sym, ap, subst, ◌∙◌, arith, Option, Some, None}
 use Rattle.std.specs.Prelude.{unwrap_or, Result, Ok, Err, OnOk, OnErr}
 use Rattle.pk_base.specs.Shape.{Shape, IsShape, page_count}
 use Rattle.pk_base.specs.Page.{Flash, page_at, torn, IsFlash}
@@ -117,7 +117,7 @@ holds_closed image work inner closed unsure missing shape few taken room = recor
 -- ---- the outer flash
 
 module _ (work : InMemory) (inner : BoardState) (table : HasTable work inner) where
-  newest : (page : ℕ) × (top : SpareTable) × IsNewest work.shape work.spares (page_at inner.pages) page top
+  pub newest : (page : ℕ) × (top : SpareTable) × IsNewest work.shape work.spares (page_at inner.pages) page top
   newest = newest_is work.shape work.spares inner.pages table.some
 
   pub outer_shown : outer_pages work.shape work.spares inner.pages ≡ through_by work.shape newest.1 (page_at inner.pages)
@@ -141,7 +141,7 @@ outer_at_rest work inner rest = ap (λ (f : Option Flash). unwrap_or f []) (show
 
 -- what passes through some calls is so at the end
 pub passes_end : (P : Flash → Type 0) (n : ℕ) (old new : BoardState) → PassesCount P n old new → P old.pages → P new.pages
-passes_end P 0 old new same here = subst P (ap (λ s. s.pages) (sym same)) here
+passes_end P zero old new same here = subst P (ap (λ s. s.pages) (sym same)) here
 passes_end P (suc n) old new more here = let went = more.2 in went.1.cuts new.pages _ went.1.stands
 
 -- reads alone: every cut is as before

@@ -72,6 +72,7 @@ impl Relocation {
         ensures copy { self.new ≡ record self.old { copy = self.new.copy } }
         ensures room { HasPageBuffers self.new }
     {
+        self.shape.known();
         program_table(
             inner,
             page,

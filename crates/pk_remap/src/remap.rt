@@ -40,11 +40,12 @@ impl<N: Nand + Drop> Remap<N> {
         ensures spares { IfOk result (λ r. r.work.spares ≡ spares) }
         ensures left { IfOk result (λ r. spares_left_of r.image r.work ≡ 0) }
     {
+        let marks = MarkLog::new(alloc, log);
         match Relocation::new(alloc, spares) {
             Ok(work) => Ok(Remap {
                 inner,
                 work,
-                log: MarkLog::new(alloc, log),
+                log: marks,
                 counts: BoardCounts::zero(),
                 image: Image::Unknown,
             }),

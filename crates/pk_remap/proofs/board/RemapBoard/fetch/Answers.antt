@@ -1,31 +1,27 @@
-use Rattle.std.proofs.Common.{◌≡◌, refl, ap, subst}
+use Rattle.std.proofs.Common.{◌≡◌, subst}
 use Rattle.pk_nand.specs.BoardState.{BoardState}
 use Rattle.pk_nand.specs.Operations.{FetchFailed}
 use Rattle.pk_nand.specs.Calls.{counted}
 use Rattle.std.proofs.Common.{ℕ, sym}
 use Rattle.pk_remap.specs.Remapped.{remap_board}
-use Rattle.pk_remap.proofs.Hosting.{fetched, fetch_failed, holds_host}
+use Rattle.pk_remap.proofs.Hosting.{fetched, fetch_failed, fetch_rest, holds_host}
 use Rattle.pk_remap.proofs.board.RemapBoard.fetch.Goals as goal
 
-pub invariant_of-self-in-Ok : goal.invariant_of-self-in-Ok
-invariant_of-self-in-Ok g c =
+pub invariant_of-self : goal.invariant_of-self
+invariant_of-self g c =
     let self = c.args.self.now in
-    let rest = c.in-Ok.ensures.ok.rest in
-    record {
-      holds = holds_host self.image self.work (g.B.Nand.state self.inner) (g.B.Nand.state c.fetch.new.self) (ap (λ s. s.shape) rest) (ap (λ s. s.pages) rest)
-          (ap (λ s. s.bare) rest) self.holds;
-      logs = self.logs;
-    }
+    let old : BoardState = g.B.Nand.state self.inner in
+    let new : BoardState = g.B.Nand.state c.fetch.new.self in
+    let rest = fetch_rest old new _ c.fetch.result c.fetch.ensures.ok c.fetch.ensures.err in
+    record { holds = holds_host self.image self.work old new rest.shape rest.pages rest.bare self.holds; logs = self.logs }
 
 pub invariant_of-self-in-Err : goal.invariant_of-self-in-Err
 invariant_of-self-in-Err g c =
     let self = c.args.self.now in
-    let rest = c.in-Err.ensures.err.rest in
-    record {
-      holds = holds_host self.image self.work (g.B.Nand.state self.inner) (g.B.Nand.state c.fetch.new.self) (ap (λ s. s.shape) rest) (ap (λ s. s.pages) rest)
-          (ap (λ s. s.bare) rest) self.holds;
-      logs = self.logs;
-    }
+    let old : BoardState = g.B.Nand.state self.inner in
+    let new : BoardState = g.B.Nand.state c.fetch.new.self in
+    let rest = fetch_rest old new _ c.fetch.result c.fetch.ensures.ok c.fetch.ensures.err in
+    record { holds = holds_host self.image self.work old new rest.shape rest.pages rest.bare self.holds; logs = self.logs }
 
 pub returns-in-Ok-clause-ok : goal.returns-in-Ok-clause-ok
 returns-in-Ok-clause-ok g c =

@@ -5,7 +5,7 @@ use Rattle.pk_nand.specs.Calls.{counted, Rose}
 use Rattle.pk_remap.specs.declared.counts.BoardCounts.{BoardCounts}
 use Rattle.pk_remap.specs.Logged.{told}
 use Rattle.pk_remap.specs.Remapped.{remap_board}
-use Rattle.pk_remap.proofs.Hosting.{posted_all, sent_some, post_failed_board, sent_none, post_refused, holds_host}
+use Rattle.pk_remap.proofs.Hosting.{posted_all, sent_some, post_failed_board, sent_none, post_refused, post_rest, holds_host}
 use Rattle.pk_remap.proofs.board.RemapBoard.post.Goals as goal
 
 pub note_post-requires : goal.note_post-requires
@@ -17,28 +17,27 @@ post_failed-requires-clause-within g c = c.in-Err.ensures.given.within
 pub post_failed-requires-clause-room : goal.post_failed-requires-clause-room
 post_failed-requires-clause-room g c = c.has_room.ensures.yes c.if-has_room.true
 
-pub invariant_of-self-in-Ok : goal.invariant_of-self-in-Ok
-invariant_of-self-in-Ok g c =
+pub invariant_of-self : goal.invariant_of-self
+invariant_of-self g c =
     let self = c.args.self.now in
-    let rest = c.in-Ok.ensures.ok in
+    let old : BoardState = g.B.Nand.state self.inner in
+    let new : BoardState = g.B.Nand.state c.post.new.self in
+    let rest = post_rest old new c.args.bytes.now c.post.result c.post.ensures.ok c.post.ensures.err in
     record {
-      holds = holds_host self.image self.work (g.B.Nand.state self.inner) (g.B.Nand.state c.post.new.self) (ap (λ s. s.shape) rest) (ap (λ s. s.pages) rest)
-          (ap (λ s. s.bare) rest) self.holds;
+      holds = holds_host self.image self.work old new rest.shape rest.pages rest.bare self.holds;
       logs = record {
         unfit = λ e. c.note_post.ensures.page ∙ self.logs.unfit e;
         sized = λ e. c.note_post.ensures.page ∙ self.logs.sized e;
       };
     }
 
-pub invariant_of-self-in-Err : goal.invariant_of-self-in-Err
-invariant_of-self-in-Err g c =
+pub invariant_of-self-in-Err-1 : goal.invariant_of-self-in-Err-1
+invariant_of-self-in-Err-1 g c =
     let self = c.args.self.now in
-    let rest = c.in-Err.ensures.err.rest in
-    record {
-      holds = holds_host self.image self.work (g.B.Nand.state self.inner) (g.B.Nand.state c.post.new.self) (ap (λ s. s.shape) rest) (ap (λ s. s.pages) rest)
-          (ap (λ s. s.bare) rest) self.holds;
-      logs = self.logs;
-    }
+    let old : BoardState = g.B.Nand.state self.inner in
+    let new : BoardState = g.B.Nand.state c.post.new.self in
+    let rest = post_rest old new c.args.bytes.now c.post.result c.post.ensures.ok c.post.ensures.err in
+    record { holds = holds_host self.image self.work old new rest.shape rest.pages rest.bare self.holds; logs = self.logs }
 
 pub returns-in-Ok-clause-ok : goal.returns-in-Ok-clause-ok
 returns-in-Ok-clause-ok g c =

@@ -16,8 +16,8 @@ erase_outer-requires-clause-rests g c =
     let self = c.args.self.now in
     rests self.image self.work (g.N.Nand.state self.inner) self.holds (ap is_sure c.requires.sure)
 
-pub invariant_of-self-in-Ok : goal.invariant_of-self-in-Ok
-invariant_of-self-in-Ok g c =
+pub invariant_of-self : goal.invariant_of-self
+invariant_of-self g c =
     let self = c.args.self.now in
     let old : BoardState = g.N.Nand.state self.inner in
     let new : BoardState = g.N.Nand.state c.erase_outer.new.inner in

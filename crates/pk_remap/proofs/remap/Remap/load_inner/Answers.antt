@@ -12,8 +12,8 @@ use Rattle.pk_remap.proofs.Remapping.{no_bool, holds_closed}
 use Rattle.pk_remap.proofs.Opening.{unknown_refused, unknown_none, unknown_then, load_cause_refused, load_cause_from}
 use Rattle.pk_remap.proofs.remap.Remap.load_inner.Goals as goal
 
-pub invariant_of-self-in-Ok-Some : goal.invariant_of-self-in-Ok-Some
-invariant_of-self-in-Ok-Some g c =
+pub invariant_of-self : goal.invariant_of-self
+invariant_of-self g c =
     let self = c.args.self.now in
     let h = self.holds in
     record {

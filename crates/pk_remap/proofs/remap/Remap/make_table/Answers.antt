@@ -39,8 +39,8 @@ write_first_table-requires-clause-room g c =
     subst HasPageBuffers (sym c.fit.ensures)
     (record { fits = omega arith; all = room.all; kept_page = room.kept_page; new_page = room.new_page; read_page = room.read_page })
 
-pub invariant_of-self-in-Ok : goal.invariant_of-self-in-Ok
-invariant_of-self-in-Ok g c =
+pub invariant_of-self : goal.invariant_of-self
+invariant_of-self g c =
     let self = c.args.self.now in
     let new : BoardState = g.N.Nand.state c.write_first_table.new.inner in
     let w = c.write_first_table.new.self in

@@ -14,8 +14,8 @@ use Rattle.pk_remap.proofs.remap.Remap.make_with.Goals as goal
 pub make-requires : goal.make-requires
 make-requires g c = c.args.self.now.holds.missing (ap is_missing c.requires.missing)
 
-pub invariant_of-self-in-Ok : goal.invariant_of-self-in-Ok
-invariant_of-self-in-Ok g c =
+pub invariant_of-self : goal.invariant_of-self
+invariant_of-self g c =
     let self = c.args.self.now in
     let h = self.holds in
     record {

@@ -14,8 +14,8 @@ use Rattle.pk_remap.proofs.Remapping.{no_bool, holds_closed}
 use Rattle.pk_remap.proofs.Opening.{with_spares, unknown_refused, unknown_then}
 use Rattle.pk_remap.proofs.remap.Remap.open_image.Goals as goal
 
-pub invariant_of-self-in-Ok : goal.invariant_of-self-in-Ok
-invariant_of-self-in-Ok g c =
+pub invariant_of-self : goal.invariant_of-self
+invariant_of-self g c =
     let self = c.args.self.now in
     let h = self.holds in
     let inner : BoardState = g.N.Nand.state self.inner in

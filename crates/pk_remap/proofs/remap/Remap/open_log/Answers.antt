@@ -14,8 +14,8 @@ use Rattle.pk_remap.proofs.Remapping.{no_bool, holds_rest}
 use Rattle.pk_remap.proofs.Opening.{unknown_refused, unknown_opened}
 use Rattle.pk_remap.proofs.remap.Remap.open_log.Goals as goal
 
-pub invariant_of-self-in-Ok : goal.invariant_of-self-in-Ok
-invariant_of-self-in-Ok g c =
+pub invariant_of-self : goal.invariant_of-self
+invariant_of-self g c =
     let self = c.args.self.now in
     record {
       holds = holds_rest Sure self.work (g.N.Nand.state self.inner) c.requires.rests refl;

@@ -18,8 +18,8 @@ find-requires g c =
     let h = c.args.self.now.holds in
     record { ready = c.requires.ready; shape_is = h.shape_is; few = h.few; taken = h.taken; room = h.room }
 
-pub invariant_of-self-in-Ok-true : goal.invariant_of-self-in-Ok-true
-invariant_of-self-in-Ok-true g c =
+pub invariant_of-self : goal.invariant_of-self
+invariant_of-self g c =
     let self = c.args.self.now in
     let old : BoardState = g.N.Nand.state self.inner in
     let new : BoardState = g.N.Nand.state c.find.new.inner in

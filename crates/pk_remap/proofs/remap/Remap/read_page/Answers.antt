@@ -31,8 +31,8 @@ read_outer-requires-clause-room g c =
     let T : Result Unit NandFault → Type 0 = λ x. FindsTable c.args.self.now.work (g.N.Nand.state c.args.self.now.inner) x there.image there.work (g.N.Nand.state there.inner) in
     c.requires.room ∙ sym (ap (λ (s : Shape). s.page_bytes) (subst T c.in-Ok.is c.find_table.ensures.found).same.shape)
 
-pub invariant_of-self-in-Ok : goal.invariant_of-self-in-Ok
-invariant_of-self-in-Ok g c =
+pub invariant_of-self : goal.invariant_of-self
+invariant_of-self g c =
     let self = c.args.self.now in
     let old : BoardState = g.N.Nand.state self.inner in
     let there = c.find_table.new.self in

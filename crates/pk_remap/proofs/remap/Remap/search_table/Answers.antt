@@ -21,8 +21,8 @@ unreachable-requires g c =
     let own = subst T (c.in-Ok-false.is ∙ ap (λ (b : Bool). Ok b) c.in-Ok-false.field-0-test) c.find.ensures.found in
     (c.args.self.now.holds.opened c.requires.opened).some own.0
 
-pub invariant_of-self-in-Ok-true : goal.invariant_of-self-in-Ok-true
-invariant_of-self-in-Ok-true g c =
+pub invariant_of-self : goal.invariant_of-self
+invariant_of-self g c =
     let self = c.args.self.now in
     let old : BoardState = g.N.Nand.state self.inner in
     let new : BoardState = g.N.Nand.state c.find.new.inner in
