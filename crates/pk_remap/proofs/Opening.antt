@@ -20,7 +20,7 @@ use Rattle.pk_remap.specs.Table.{SpareTable}
 use Rattle.pk_remap.specs.Counting.{HasTable}
 use Rattle.pk_remap.specs.Causes.{LoadCause, BadImageCause, inner_is_bad, MakeCause, MakeFaultCause, inner_fault, not_allowed}
 use Rattle.pk_remap.specs.declared.image.Image.{Image}
-use Rattle.pk_remap.specs.declared.image.Image.TheVariants.{Unknown, Missing, Sure}
+use Rattle.pk_remap.specs.declared.image.Image.TheVariants.{Unknown, Missing, Unsure, Sure}
 use Rattle.pk_remap.specs.declared.mark_log.MarkLog.{MarkLog}
 use Rattle.pk_remap.specs.Logged.{told}
 use Rattle.pk_remap.specs.Remapped.{outer_pages, with_refusal, without_spares, remap_board, is_open, open_shape}

@@ -45,7 +45,7 @@ use Rattle.pk_remap.specs.Stepping.{RelocationGoesOn, IsSource}
 use Rattle.pk_remap.specs.Beginning.{CanRelocate, CallHasFailed}
 use Rattle.pk_remap.specs.Running.{relocation_of, mark_of, is_kept, HasPageBuffers, HasTurn, RelocationRuns, IsAtRest, SameCall}
 use Rattle.pk_remap.specs.Serving.{PassesCount, PassesCalls, ServingStops, ServingOutcome, read_failed, table_failed, spares_failed, page_is_torn, for_mark, outer_of}
-use Rattle.pk_remap.specs.Serving.{SameSpares, OuterCall, OuterOutcome, HasPartner, PartnerKept, PartnerOutcome, CanFind, found_top, RelocationServes}
+use Rattle.pk_remap.specs.Serving.{SameSpares, OuterCall, OuterOutcome, HasPartner, PartnerKept, PartnerOutcome, CanFind, FindOutcome, found_top, RelocationServes}
 use Rattle.pk_remap.proofs.Calls.{erase_reached, erase_went, program_reached, program_went, left_interrupted, done_interrupted}
 use Rattle.pk_remap.proofs.Beginning.{table_kept, calls_below, done_below, fails_below}
 use Rattle.pk_remap.proofs.Turning.{next_kept}
@@ -666,3 +666,9 @@ partner_failed r old rest at r' new failed others =
       table = subst T (sym others) (has_table again new r.top (relocation_of r).table ready top rest.used);
       faults = inl failed.read;
     }
+
+-- the search keeps the shape and the spares, whatever it finds
+pub find_same : (r : InMemory) (old : BoardState) (result : Result Bool NandFault) (r' : InMemory) (new : BoardState) → FindOutcome r old result r' new → SameSpares r r'
+find_same r old (Ok true) r' new own = own.2
+find_same r old (Ok false) r' new own = own.2
+find_same r old (Err e) r' new own = own.1

@@ -226,6 +226,11 @@ module _ (work : InMemory) (old : BoardState) (table : HasTable work old) (taken
         let C : Flash → Type 0 = λ f. IsNewest work.shape work.spares (page_at f) w.top (relocation_of w).table in
         torn_page rose k w.top (relocation_of w).table own.0 (subst C pages (subst B found.same.spares own.1)) own.2
 
+    faults_all : (new : BoardState) → Rose mid.read_faults new.read_faults ⊎ Rose mid.stop_faults new.stop_faults
+        → Rose old.read_faults new.read_faults ⊎ Rose old.stop_faults new.stop_faults
+    faults_all new (inl rose) = inl (let P : ℕ → Type 0 = λ x. Rose x new.read_faults in subst P reads rose)
+    faults_all new (inr rose) = inr (let P : ℕ → Type 0 = λ x. Rose x new.stop_faults in subst P stops rose)
+
     rest_all : (new : BoardState) → OnlyFlash mid new → OnlyFlash old new
     rest_all new own = only_then old mid new (only_flash old mid found.reads) own
 
@@ -251,7 +256,7 @@ module _ (work : InMemory) (old : BoardState) (table : HasTable work old) (taken
       rest = rest_all new counts.counts.rest;
       fall = fall_all w' new own.2.most counts.counts;
       done = tt;
-      cause = why w' new counts.faults own.1;
+      cause = why w' new (faults_all new counts.faults) own.1;
     }
 
 -- ---- the board

@@ -1,7 +1,7 @@
 //! A flash with spare blocks over another flash.
 ghost use Rattle.std.specs.Prelude.{◌≡◌, ◌≤◌, true, false, IfOk};
 ghost use Rattle.pk_remap.specs.declared.layout.TheConstants.{MOST_SPARES};
-ghost use Rattle.pk_remap.specs.Remapped.{RemapHolds, HasLog, is_open as is_open_image, is_sure as is_sure_image, spares_left as spares_left_of, fresh_remap, with_refusal, FindsTable};
+ghost use Rattle.pk_remap.specs.Remapped.{RemapHolds, HasLog, is_open as is_open_image, is_sure as is_sure_image, spares_left as spares_left_of, remap_board, fresh_remap, with_refusal, FindsTable};
 
 use crate::counts::BoardCounts;
 use crate::image::Image;
@@ -96,8 +96,12 @@ impl<N: Nand> Remap<N> {
     /// Counts a refusal of `load` or `make`, and gives it back.
     pub(crate) fn refuse(&mut self, fault: LoadFault) -> LoadFault
         ensures fault { result ≡ fault }
-        ensures counts { self.new
-            ≡ record self.old { counts = with_refusal fault self.old.counts } }
+        ensures board { ⟦<Remap<N> as Nand>⟧.state self.new ≡ remap_board self.old.image
+            self.old.work self.old.log (with_refusal fault self.old.counts)
+            (N.state self.old.inner) }
+        ensures inner { self.new.inner ≡ self.old.inner }
+        ensures image { self.new.image ≡ self.old.image }
+        ensures work { self.new.work ≡ self.old.work }
     {
         self.counts.refused(&fault);
         fault

@@ -1,21 +1,10 @@
 use Rattle.std.proofs.Common.{◌≡◌, ◌≤◌, ℕ, Bool, true, false, refl, sym, ap, subst, ◌∙◌, arith, Some}
 use Rattle.std.specs.Prelude.{Result, Ok, Err}
 use Rattle.pk_nand.specs.BoardState.{BoardState}
-use Rattle.pk_remap.specs.declared.image.Image.TheVariants.{Unknown}
 use Rattle.pk_remap.specs.Remapped.{open_spares_left, spares_left}
-use Rattle.pk_remap.proofs.Remapping.{no_bool, holds_closed}
+use Rattle.pk_remap.proofs.Remapping.{no_bool}
 use Rattle.pk_remap.proofs.Opening.{load_known, load_closed, shut_none}
 use Rattle.pk_remap.proofs.nand.RemapNand.load.Goals as goal
-
-pub invariant_of-self : goal.invariant_of-self
-invariant_of-self g c =
-    let self = c.args.self.now in
-    let h = self.holds in
-    let shut = sym c.is_open.ensures ∙ c.if-is_open.false in
-    record {
-      holds = holds_closed Unknown self.work (g.N.Nand.state self.inner) refl refl (λ e. no_bool e) h.shape_is h.few h.taken h.room;
-      logs = record { unfit = λ e. self.logs.unfit shut; sized = λ e. no_bool e };
-    }
 
 pub returns-then-is_open-clause-ok : goal.returns-then-is_open-clause-ok
 returns-then-is_open-clause-ok g c =

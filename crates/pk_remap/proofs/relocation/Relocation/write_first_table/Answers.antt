@@ -15,7 +15,7 @@ program_empty-requires-clause-ready g c = made_ready c.args.self.now (g.N.Nand.s
 
 pub program_empty-requires-clause-exists : goal.program_empty-requires-clause-exists
 program_empty-requires-clause-exists g c =
-    let own = rw c.blocks.ensures.value at c.page_in-page.ensures in
+    let own = rw c.blocks-2.ensures.value at c.page_in-page.ensures in
     let at : c.page_in-page.result ≡ first_table_page c.args.self.now.shape c.args.self.now.spares = omega (arith, own) in
     let board : BoardState = g.N.Nand.state c.args.inner.now in
     let P : ℕ → Type 0 = λ k. k < length board.pages in
@@ -23,7 +23,7 @@ program_empty-requires-clause-exists g c =
 
 pub program_empty-requires-clause-order : goal.program_empty-requires-clause-order
 program_empty-requires-clause-order g c =
-    let own = rw c.blocks.ensures.value at c.page_in-page.ensures in
+    let own = rw c.blocks-2.ensures.value at c.page_in-page.ensures in
     let at : c.page_in-page.result ≡ first_table_page c.args.self.now.shape c.args.self.now.spares = omega (arith, own) in
     let board : BoardState = g.N.Nand.state c.args.inner.now in
     let P : ℕ → Type 0 = λ k. InOrder (inner_shape c.args.self.now.shape c.args.self.now.spares) board.pages k in
@@ -31,7 +31,7 @@ program_empty-requires-clause-order g c =
 
 pub program_again-requires-clause-at : goal.program_again-requires-clause-at
 program_again-requires-clause-at g c =
-    let own = rw c.blocks.ensures.value at c.page_in-page.ensures in
+    let own = rw c.blocks-2.ensures.value at c.page_in-page.ensures in
     let at : c.page_in-page.result ≡ first_table_page c.args.self.now.shape c.args.self.now.spares = omega (arith, own) in
     let T : InMemory → Type 0 = λ s. c.page_in-page.result ≡ first_table_page s.shape s.spares in
     subst T (sym c.program_empty.ensures.copy) at
@@ -39,7 +39,7 @@ program_again-requires-clause-at g c =
 pub program_again-requires-clause-half : goal.program_again-requires-clause-half
 program_again-requires-clause-half g c =
     let r = c.args.self.now in
-    let own = rw c.blocks.ensures.value at c.page_in-page.ensures in
+    let own = rw c.blocks-2.ensures.value at c.page_in-page.ensures in
     let at : c.page_in-page.result ≡ first_table_page r.shape r.spares = omega (arith, own) in
     let board : BoardState = g.N.Nand.state c.args.inner.now in
     let half : BoardState = g.N.Nand.state c.program_empty.new.inner in
@@ -59,7 +59,7 @@ program_again-requires-clause-none g c = ap (λ (s : InMemory). s.taken) c.progr
 pub returns-in-Ok : goal.returns-in-Ok
 returns-in-Ok g c =
     let r = c.args.self.now in
-    let own = rw c.blocks.ensures.value at c.page_in-page.ensures in
+    let own = rw c.blocks-2.ensures.value at c.page_in-page.ensures in
     let at : c.page_in-page.result ≡ first_table_page r.shape r.spares = omega (arith, own) in
     let board : BoardState = g.N.Nand.state c.args.inner.now in
     let half : BoardState = g.N.Nand.state c.program_empty.new.inner in
@@ -74,7 +74,7 @@ returns-in-Ok g c =
 pub returns-in-Err : goal.returns-in-Err
 returns-in-Err g c =
     let r = c.args.self.now in
-    let own = rw c.blocks.ensures.value at c.page_in-page.ensures in
+    let own = rw c.blocks-2.ensures.value at c.page_in-page.ensures in
     let at : c.page_in-page.result ≡ first_table_page r.shape r.spares = omega (arith, own) in
     let board : BoardState = g.N.Nand.state c.args.inner.now in
     let new : BoardState = g.N.Nand.state c.program_empty.new.inner in

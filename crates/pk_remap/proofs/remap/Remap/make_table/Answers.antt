@@ -4,15 +4,16 @@ use Rattle.pk_base.specs.Shape.{Shape, IsShape, page_count}
 use Rattle.pk_base.specs.Page.{Flash, page_at, erased}
 use Rattle.pk_nand.specs.BoardState.{BoardState}
 use Rattle.pk_nand.specs.declared.types.NandFault.{NandFault}
+use Rattle.pk_nand.specs.declared.types.LoadFault.{LoadFault}
 use Rattle.pk_nand.specs.declared.types.LoadFault.TheVariants.{Fault}
 use Rattle.pk_remap.specs.declared.image.Image.TheVariants.{Sure}
 use Rattle.pk_remap.specs.declared.relocation.Relocation.{Relocation as InMemory}
 use Rattle.pk_remap.specs.Places.{inner_shape}
 use Rattle.pk_remap.specs.Running.{relocation_of, HasPageBuffers}
 use Rattle.pk_remap.specs.FirstTable.{IsMade, FirstTableOutcome}
-use Rattle.pk_remap.specs.Remapped.{is_open, is_sure, is_missing, remap_board, outer_pages}
+use Rattle.pk_remap.specs.Remapped.{is_open, is_sure, is_missing, remap_board, outer_pages, spares_left}
 use Rattle.pk_remap.specs.Answers.{MakeAnswers}
-use Rattle.pk_remap.specs.Causes.{ImageOpened, inner_fault}
+use Rattle.pk_remap.specs.Causes.{ImageOpened, MakeCause, inner_fault}
 use Rattle.pk_remap.proofs.Finding.{newest-found}
 use Rattle.pk_remap.proofs.Counting.{has_table}
 use Rattle.pk_remap.proofs.Remapping.{no_bool, holds_closed, holds_rest}
@@ -116,11 +117,18 @@ returns-in-Err-clause-answers g c =
     let is = subst T c.in-Err.is c.write_first_table.ensures in
     let own = unknown_make_refused self.image c.requires.unknown self.work w self.log self.log self.counts old new
     (ap (λ s. s.input) is.rest) (ap (λ s. s.posted) is.rest) refl c.args.shape Fault (λ at e. cc) in
-    rw (c.refuse.ensures.counts, c.refuse.ensures.fault) own
+    let T : LoadFault → Type 0 = λ f. MakeAnswers (remap_board self.image self.work self.log self.counts (g.N.Nand.state self.inner)) c.args.shape (Err f)
+    (remap_board c.refuse.new.self.image c.refuse.new.self.work c.refuse.new.self.log c.refuse.new.self.counts (g.N.Nand.state c.refuse.new.self.inner)) in
+    let U : BoardState → Type 0 = λ s. MakeAnswers (remap_board self.image self.work self.log self.counts (g.N.Nand.state self.inner)) c.args.shape (Err Fault) s in
+    subst T (sym c.refuse.ensures.fault) (subst U (sym c.refuse.ensures.board) own)
 
 pub returns-in-Err-clause-cause : goal.returns-in-Err-clause-cause
 returns-in-Err-clause-cause g c =
     let self = c.args.self.now in
     let T : Result Unit NandFault → Type 0 = λ x. FirstTableOutcome c.fit.new.self (g.N.Nand.state self.inner) x c.write_first_table.new.self (g.N.Nand.state c.write_first_table.new.inner) in
     let is = subst T c.in-Err.is c.write_first_table.ensures in
-    rw (c.refuse.ensures.counts, c.refuse.ensures.fault) (inner_fault is.faults)
+    let own : MakeCause self.work.spares c.args.shape (g.N.Nand.state self.inner) (Err Fault) (spares_left c.refuse.new.self.image c.refuse.new.self.work) (g.N.Nand.state c.write_first_table.new.inner) = inner_fault is.faults in
+    let there = c.refuse.new.self in
+    let T : LoadFault → Type 0 = λ f. MakeCause self.work.spares c.args.shape (g.N.Nand.state self.inner) (Err f) (spares_left there.image there.work) (g.N.Nand.state there.inner) in
+    let U : BoardState → Type 0 = λ s. MakeCause self.work.spares c.args.shape (g.N.Nand.state self.inner) (Err Fault) (spares_left there.image there.work) s in
+    subst T (sym c.refuse.ensures.fault) (subst U (λ i. g.N.Nand.state (sym c.refuse.ensures.inner i)) own)

@@ -6,9 +6,11 @@ use Rattle.pk_nand.specs.BoardState.{BoardState}
 use Rattle.pk_nand.specs.declared.types.LoadFault.{LoadFault}
 use Rattle.pk_nand.specs.declared.types.LoadFault.TheVariants.{BadImage}
 use Rattle.pk_remap.specs.declared.image.Image.TheVariants.{Unknown}
-use Rattle.pk_remap.specs.Remapped.{is_open, is_missing}
+use Rattle.pk_remap.specs.Remapped.{is_open, is_missing, remap_board, spares_left}
 use Rattle.pk_remap.proofs.Remapping.{no_bool, holds_closed}
 use Rattle.pk_remap.proofs.Opening.{missing_failed, missing_then, make_cause_from, make_cause_refused}
+use Rattle.pk_remap.specs.Answers.{MakeAnswers}
+use Rattle.pk_remap.specs.Causes.{MakeCause}
 use Rattle.pk_remap.proofs.remap.Remap.make_with.Goals as goal
 
 pub make-requires : goal.make-requires
@@ -16,15 +18,6 @@ make-requires g c = c.args.self.now.holds.missing (ap is_missing c.requires.miss
 
 pub invariant_of-self : goal.invariant_of-self
 invariant_of-self g c =
-    let self = c.args.self.now in
-    let h = self.holds in
-    record {
-      holds = holds_closed Unknown self.work (g.N.Nand.state c.make.new.self) refl refl (λ e. no_bool e) h.shape_is h.few h.taken h.room;
-      logs = record { unfit = λ e. self.logs.unfit (ap is_open c.requires.missing); sized = λ e. no_bool e };
-    }
-
-pub invariant_of-self-in-Err : goal.invariant_of-self-in-Err
-invariant_of-self-in-Err g c =
     let self = c.args.self.now in
     let h = self.holds in
     record {
@@ -60,11 +53,17 @@ returns-in-Err-clause-answers g c =
     let own = missing_failed self.image c.requires.missing self.work self.log self.counts (g.N.Nand.state self.inner) (g.N.Nand.state c.make.new.self)
     (ap (λ s. s.input) rest) (ap (λ s. s.posted) rest) c.args.shape c.in-Err.fault
     (λ at e. c.make.ensures.bad at (c.in-Err.is ∙ ap (λ (f : LoadFault). Err f) e)) in
-    rw (c.refuse.ensures.counts, c.refuse.ensures.fault) own
+    let T : LoadFault → Type 0 = λ f. MakeAnswers (remap_board self.image self.work self.log self.counts (g.N.Nand.state self.inner)) c.args.shape (Err f)
+    (remap_board c.refuse.new.self.image c.refuse.new.self.work c.refuse.new.self.log c.refuse.new.self.counts (g.N.Nand.state c.refuse.new.self.inner)) in
+    let U : BoardState → Type 0 = λ s. MakeAnswers (remap_board self.image self.work self.log self.counts (g.N.Nand.state self.inner)) c.args.shape (Err c.in-Err.fault) s in
+    subst T (sym c.refuse.ensures.fault) (subst U (sym c.refuse.ensures.board) own)
 
 pub returns-in-Err-clause-cause : goal.returns-in-Err-clause-cause
 returns-in-Err-clause-cause g c =
     let self = c.args.self.now in
     let own = make_cause_refused self.work.spares c.args.shape (g.N.Nand.state self.inner) (g.N.Nand.state c.make.new.self) c.in-Err.fault _ c.make.result
     c.requires.allowed c.in-Err.is c.make.ensures.fault c.make.ensures.bad in
-    rw (c.refuse.ensures.counts, c.refuse.ensures.fault) own
+    let there = c.refuse.new.self in
+    let T : LoadFault → Type 0 = λ f. MakeCause self.work.spares c.args.shape (g.N.Nand.state self.inner) (Err f) (spares_left there.image there.work) (g.N.Nand.state there.inner) in
+    let U : BoardState → Type 0 = λ s. MakeCause self.work.spares c.args.shape (g.N.Nand.state self.inner) (Err c.in-Err.fault) (spares_left there.image there.work) s in
+    subst T (sym c.refuse.ensures.fault) (subst U (λ i. g.N.Nand.state (sym c.refuse.ensures.inner i)) own)

@@ -7,10 +7,12 @@ use Rattle.pk_nand.specs.declared.types.LoadFault.{LoadFault}
 use Rattle.pk_nand.specs.declared.types.LoadFault.TheVariants.{BadImage, Fault}
 use Rattle.pk_remap.specs.Newest.{newest_table}
 use Rattle.pk_remap.specs.Serving.{FindOutcome}
-use Rattle.pk_remap.specs.Remapped.{is_open, is_sure, is_missing, spares_left}
+use Rattle.pk_remap.specs.Remapped.{is_open, is_sure, is_missing, spares_left, remap_board}
 use Rattle.pk_remap.specs.Causes.{LoadCause, no_table}
+use Rattle.pk_remap.proofs.Outer.{find_same}
 use Rattle.pk_remap.proofs.Remapping.{no_bool, holds_closed, same_fits}
 use Rattle.pk_remap.proofs.Opening.{unknown_refused, unknown_then, load_cause_from}
+use Rattle.pk_remap.specs.Answers.{LoadAnswers}
 use Rattle.pk_remap.proofs.remap.Remap.open_table.Goals as goal
 
 pub find-requires : goal.find-requires
@@ -23,40 +25,11 @@ invariant_of-self g c =
     let self = c.args.self.now in
     let old : BoardState = g.N.Nand.state self.inner in
     let new : BoardState = g.N.Nand.state c.find.new.inner in
-    let T : Result Bool NandFault → Type 0 = λ x. FindOutcome self.work old x c.find.new.self new in
-    let own = subst T (c.in-Ok-true.is ∙ ap (λ (b : Bool). Ok b) c.in-Ok-true.field-0-test) c.find.ensures.found in
-    let fits = same_fits self.work c.find.new.self self.holds.shape_is self.holds.few own.2 in
+    let same = find_same self.work old c.find.result c.find.new.self new c.find.ensures.found in
+    let fits = same_fits self.work c.find.new.self self.holds.shape_is self.holds.few same in
     record {
       holds = holds_closed self.image c.find.new.self new (ap is_open c.requires.unknown) (ap is_sure c.requires.unknown)
-          (λ e. no_bool (sym (ap is_missing c.requires.unknown) ∙ e)) fits.0 fits.1 fits.2 own.2.room;
-      logs = record { unfit = self.logs.unfit; sized = λ e. no_bool (sym (ap is_open c.requires.unknown) ∙ e) };
-    }
-
-pub invariant_of-self-in-Ok-false : goal.invariant_of-self-in-Ok-false
-invariant_of-self-in-Ok-false g c =
-    let self = c.args.self.now in
-    let old : BoardState = g.N.Nand.state self.inner in
-    let new : BoardState = g.N.Nand.state c.find.new.inner in
-    let T : Result Bool NandFault → Type 0 = λ x. FindOutcome self.work old x c.find.new.self new in
-    let own = subst T (c.in-Ok-false.is ∙ ap (λ (b : Bool). Ok b) c.in-Ok-false.field-0-test) c.find.ensures.found in
-    let fits = same_fits self.work c.find.new.self self.holds.shape_is self.holds.few own.2 in
-    record {
-      holds = holds_closed self.image c.find.new.self new (ap is_open c.requires.unknown) (ap is_sure c.requires.unknown)
-          (λ e. no_bool (sym (ap is_missing c.requires.unknown) ∙ e)) fits.0 fits.1 fits.2 own.2.room;
-      logs = record { unfit = self.logs.unfit; sized = λ e. no_bool (sym (ap is_open c.requires.unknown) ∙ e) };
-    }
-
-pub invariant_of-self-in-Err : goal.invariant_of-self-in-Err
-invariant_of-self-in-Err g c =
-    let self = c.args.self.now in
-    let old : BoardState = g.N.Nand.state self.inner in
-    let new : BoardState = g.N.Nand.state c.find.new.inner in
-    let T : Result Bool NandFault → Type 0 = λ x. FindOutcome self.work old x c.find.new.self new in
-    let own = subst T c.in-Err.is c.find.ensures.found in
-    let fits = same_fits self.work c.find.new.self self.holds.shape_is self.holds.few own.1 in
-    record {
-      holds = holds_closed self.image c.find.new.self new (ap is_open c.requires.unknown) (ap is_sure c.requires.unknown)
-          (λ e. no_bool (sym (ap is_missing c.requires.unknown) ∙ e)) fits.0 fits.1 fits.2 own.1.room;
+          (λ e. no_bool (sym (ap is_missing c.requires.unknown) ∙ e)) fits.0 fits.1 fits.2 same.room;
       logs = record { unfit = self.logs.unfit; sized = λ e. no_bool (sym (ap is_open c.requires.unknown) ∙ e) };
     }
 
@@ -103,7 +76,10 @@ returns-in-Ok-false-clause-answers g c =
     let is = subst T (c.in-Ok-false.is ∙ ap (λ (b : Bool). Ok b) c.in-Ok-false.field-0-test) c.find.ensures.found in
     let own = unknown_refused self.image c.requires.unknown self.work c.find.new.self self.log self.log self.counts old new
     (ap (λ s. s.input) is.1) (ap (λ s. s.posted) is.1) refl (BadImage 32) in
-    rw (c.refuse.ensures.counts, c.refuse.ensures.fault) own
+    let T : LoadFault → Type 0 = λ f. LoadAnswers (remap_board self.image self.work self.log self.counts (g.N.Nand.state self.inner)) (Err f)
+    (remap_board c.refuse.new.self.image c.refuse.new.self.work c.refuse.new.self.log c.refuse.new.self.counts (g.N.Nand.state c.refuse.new.self.inner)) in
+    let U : BoardState → Type 0 = λ s. LoadAnswers (remap_board self.image self.work self.log self.counts (g.N.Nand.state self.inner)) (Err (BadImage 32)) s in
+    subst T (sym c.refuse.ensures.fault) (subst U (sym c.refuse.ensures.board) own)
 
 pub returns-in-Ok-false-clause-cause : goal.returns-in-Ok-false-clause-cause
 returns-in-Ok-false-clause-cause g c =
@@ -113,8 +89,11 @@ returns-in-Ok-false-clause-cause g c =
     let T : Result Bool NandFault → Type 0 = λ x. FindOutcome self.work old x c.find.new.self new in
     let is = subst T (c.in-Ok-false.is ∙ ap (λ (b : Bool). Ok b) c.in-Ok-false.field-0-test) c.find.ensures.found in
     let P : Flash → Type 0 = λ f. newest_table self.work.shape self.work.spares (page_at f) ≡ None in
-    let own = no_table self.work.shape (ap (λ s. s.shape) is.1 ∙ c.requires.ready.shape_is) (subst P (sym (ap (λ s. s.pages) is.1)) is.0) refl in
-    rw (c.refuse.ensures.counts, c.refuse.ensures.fault) own
+    let own : LoadCause self.work.spares old (Err (BadImage 32)) (spares_left c.refuse.new.self.image c.refuse.new.self.work) new = no_table self.work.shape (ap (λ s. s.shape) is.1 ∙ c.requires.ready.shape_is) (subst P (sym (ap (λ s. s.pages) is.1)) is.0) refl in
+    let there = c.refuse.new.self in
+    let T : LoadFault → Type 0 = λ f. LoadCause self.work.spares (g.N.Nand.state self.inner) (Err f) (spares_left there.image there.work) (g.N.Nand.state there.inner) in
+    let U : BoardState → Type 0 = λ s. LoadCause self.work.spares (g.N.Nand.state self.inner) (Err (BadImage 32)) (spares_left there.image there.work) s in
+    subst T (sym c.refuse.ensures.fault) (subst U (λ i. g.N.Nand.state (sym c.refuse.ensures.inner i)) own)
 
 pub returns-in-Err-clause-answers : goal.returns-in-Err-clause-answers
 returns-in-Err-clause-answers g c =
@@ -125,11 +104,17 @@ returns-in-Err-clause-answers g c =
     let is = subst T c.in-Err.is c.find.ensures.found in
     let own = unknown_refused self.image c.requires.unknown self.work c.find.new.self self.log self.log self.counts old new
     (ap (λ s. s.input) is.0.rest) (ap (λ s. s.posted) is.0.rest) refl Fault in
-    rw (c.refuse.ensures.counts, c.refuse.ensures.fault) own
+    let T : LoadFault → Type 0 = λ f. LoadAnswers (remap_board self.image self.work self.log self.counts (g.N.Nand.state self.inner)) (Err f)
+    (remap_board c.refuse-in-Err.new.self.image c.refuse-in-Err.new.self.work c.refuse-in-Err.new.self.log c.refuse-in-Err.new.self.counts (g.N.Nand.state c.refuse-in-Err.new.self.inner)) in
+    let U : BoardState → Type 0 = λ s. LoadAnswers (remap_board self.image self.work self.log self.counts (g.N.Nand.state self.inner)) (Err Fault) s in
+    subst T (sym c.refuse-in-Err.ensures.fault) (subst U (sym c.refuse-in-Err.ensures.board) own)
 
 pub returns-in-Err-clause-cause : goal.returns-in-Err-clause-cause
 returns-in-Err-clause-cause g c =
     let self = c.args.self.now in
     let T : Result Bool NandFault → Type 0 = λ x. FindOutcome self.work (g.N.Nand.state self.inner) x c.find.new.self (g.N.Nand.state c.find.new.inner) in
     let own = (subst T c.in-Err.is c.find.ensures.found).0.flash in
-    rw (c.refuse.ensures.counts, c.refuse.ensures.fault) own
+    let there = c.refuse-in-Err.new.self in
+    let T : LoadFault → Type 0 = λ f. LoadCause self.work.spares (g.N.Nand.state self.inner) (Err f) (spares_left there.image there.work) (g.N.Nand.state there.inner) in
+    let U : BoardState → Type 0 = λ s. LoadCause self.work.spares (g.N.Nand.state self.inner) (Err Fault) (spares_left there.image there.work) s in
+    subst T (sym c.refuse-in-Err.ensures.fault) (subst U (λ i. g.N.Nand.state (sym c.refuse-in-Err.ensures.inner i)) own)
