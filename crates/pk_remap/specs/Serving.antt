@@ -17,6 +17,7 @@ use Rattle.pk_remap.specs.Places.{inner_shape, placed_page, through_by}
 use Rattle.pk_remap.specs.Through.{through, MayShow, IsMarkWithin}
 use Rattle.pk_remap.specs.Relocating.{Relocation, block, copies_of, IsCall}
 use Rattle.pk_remap.specs.Stepping.{IsTableBlock}
+use Rattle.pk_remap.specs.Counting.{SearchFailed}
 use Rattle.pk_remap.specs.Running.{relocation_of, RelocationRuns, HasPageBuffers, IsAtRest, SameCall}
 
 -- n calls, of which each cut, and the flash after each, have P
@@ -112,4 +113,4 @@ found_top r top = record r { number = top.number; used = top.used; top = top.pag
 abbrev pub FindOutcome : InMemory → BoardState → Result Bool NandFault → InMemory → BoardState → Type 0
 FindOutcome r old (Ok true) r' new = IsAtRest r' new × (new ≡ after_reads (2 * r.shape.block_pages) old) × SameSpares r r'
 FindOutcome r old (Ok false) r' new = (newest_table r.shape r.spares (page_at old.pages) ≡ None) × (new ≡ after_reads (2 * r.shape.block_pages) old) × SameSpares r r'
-FindOutcome r old (Err e) r' new = Rose old.read_faults new.read_faults × SameSpares r r'
+FindOutcome r old (Err e) r' new = SearchFailed old new × SameSpares r r'

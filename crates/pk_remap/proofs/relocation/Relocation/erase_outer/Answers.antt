@@ -24,23 +24,23 @@ serve-requires g c =
           (g.N.Nand.state c.erase.new.self) (rw at at c.in-Err.ensures.err) c.if-self.true,
     )
 
-pub returns-in-Ok : goal.returns-in-Ok
-returns-in-Ok g c =
+pub returns-in-Ok-clause-outcome : goal.returns-in-Ok-clause-outcome
+returns-in-Ok-clause-outcome g c =
     let r = c.args.self.now in
     let board : BoardState = g.N.Nand.state c.args.inner.now in
     let at : c.place-at.result ≡ place r.shape (relocation_of r).table c.args.block = c.place-at.ensures in
     erase_done r board c.requires.rests c.args.block c.requires.inside _ (g.N.Nand.state c.erase.new.self) (rw at at c.in-Ok.ensures.ok)
 
-pub returns-then-self : goal.returns-then-self
-returns-then-self g c =
+pub returns-then-self-clause-outcome : goal.returns-then-self-clause-outcome
+returns-then-self-clause-outcome g c =
     let r = c.args.self.now in
     let board : BoardState = g.N.Nand.state c.args.inner.now in
     let at : c.place-at.result ≡ place r.shape (relocation_of r).table c.args.block = c.place-at.ensures in
     erase_served r board c.requires.rests c.args.block c.requires.inside (g.N.Nand.state c.erase.new.self) (rw at at c.in-Err.ensures.err) c.if-self.true
-    c.serve.result c.serve.new.self (g.N.Nand.state c.serve.new.inner) c.serve.ensures
+    c.serve.result c.serve.new.self (g.N.Nand.state c.serve.new.inner) c.serve.ensures.serves
 
-pub returns-else-self : goal.returns-else-self
-returns-else-self g c =
+pub returns-else-self-clause-outcome : goal.returns-else-self-clause-outcome
+returns-else-self-clause-outcome g c =
     let r = c.args.self.now in
     let board : BoardState = g.N.Nand.state c.args.inner.now in
     let at : c.place-at.result ≡ place r.shape (relocation_of r).table c.args.block = c.place-at.ensures in

@@ -5,8 +5,8 @@ use Rattle.pk_nand.specs.BoardState.{BoardState}
 use Rattle.pk_remap.proofs.Outer.{found_rests}
 use Rattle.pk_remap.proofs.relocation.Relocation.find.Goals as goal
 
-pub returns-in-Ok-Some : goal.returns-in-Ok-Some
-returns-in-Ok-Some g c =
+pub returns-in-Ok-Some-clause-found : goal.returns-in-Ok-Some-clause-found
+returns-in-Ok-Some-clause-found g c =
     let r = c.args.self.now in
     let board : BoardState = g.N.Nand.state c.args.inner.now in
     let new : List ℕ = c.newest_by.new.buffer in

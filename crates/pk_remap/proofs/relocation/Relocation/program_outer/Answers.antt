@@ -7,17 +7,17 @@ use Rattle.pk_remap.specs.Serving.{PartnerOutcome}
 use Rattle.pk_remap.proofs.Outer.{kept_outcome, read_stopped}
 use Rattle.pk_remap.proofs.relocation.Relocation.program_outer.Goals as goal
 
-pub returns-in-Ok : goal.returns-in-Ok
-returns-in-Ok g c =
+pub returns-in-Ok-clause-outcome : goal.returns-in-Ok-clause-outcome
+returns-in-Ok-clause-outcome g c =
     let board : BoardState = g.N.Nand.state c.args.inner.now in
     let mid : BoardState = g.N.Nand.state c.keep_partner.new.inner in
     let T : Result Unit NandFault → Type 0 = λ x. PartnerOutcome c.args.self.now c.args.page board x c.keep_partner.new.self mid in
     kept_outcome c.args.self.now c.args.page board c.keep_partner.new.self mid (subst T c.in-Ok.is c.keep_partner.ensures)
     c.requires.rests (program c.args.page c.args.bytes.now) c.program_with_partner.result c.program_with_partner.new.self
-    (g.N.Nand.state c.program_with_partner.new.inner) c.program_with_partner.ensures
+    (g.N.Nand.state c.program_with_partner.new.inner) c.program_with_partner.ensures.outcome
 
-pub returns-in-Err : goal.returns-in-Err
-returns-in-Err g c =
+pub returns-in-Err-clause-outcome : goal.returns-in-Err-clause-outcome
+returns-in-Err-clause-outcome g c =
     let board : BoardState = g.N.Nand.state c.args.inner.now in
     let mid : BoardState = g.N.Nand.state c.keep_partner.new.inner in
     let T : Result Unit NandFault → Type 0 = λ x. PartnerOutcome c.args.self.now c.args.page board x c.keep_partner.new.self mid in

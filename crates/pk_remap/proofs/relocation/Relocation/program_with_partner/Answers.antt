@@ -20,8 +20,8 @@ program-requires-clause-order g c =
     rw (c.inner_page-at.ensures, shape_is board _ c.requires.rests.ready)
     (inner_order c.args.self.now board c.requires.rests c.args.page c.requires.inside c.requires.order)
 
-pub returns-in-Ok : goal.returns-in-Ok
-returns-in-Ok g c =
+pub returns-in-Ok-clause-outcome : goal.returns-in-Ok-clause-outcome
+returns-in-Ok-clause-outcome g c =
     let r = c.args.self.now in
     let board : BoardState = g.N.Nand.state c.args.inner.now in
     program_done r board c.requires.rests c.args.page c.requires.inside c.args.bytes.now c.requires.full c.requires.order _
@@ -46,8 +46,8 @@ serve-requires g c =
           (g.N.Nand.state c.program.new.self) failed c.if-self.true _ (rw items front) (rw items large) c.requires.partner,
     )
 
-pub returns-then-self : goal.returns-then-self
-returns-then-self g c =
+pub returns-then-self-clause-outcome : goal.returns-then-self-clause-outcome
+returns-then-self-clause-outcome g c =
     let r = c.args.self.now in
     let board : BoardState = g.N.Nand.state c.args.inner.now in
     let new : List ℕ = c.put_front.new.buffer in
@@ -62,10 +62,10 @@ returns-then-self g c =
     let failed = rw c.inner_page-at.ensures at c.in-Err.ensures.err in
     program_served r board c.requires.rests c.args.page c.requires.inside c.args.bytes.now c.requires.full c.requires.order
     (g.N.Nand.state c.program.new.self) failed c.if-self.true _ (rw items front) (rw items large) c.requires.partner
-    c.serve.result c.serve.new.self (g.N.Nand.state c.serve.new.inner) c.serve.ensures
+    c.serve.result c.serve.new.self (g.N.Nand.state c.serve.new.inner) c.serve.ensures.serves
 
-pub returns-else-self : goal.returns-else-self
-returns-else-self g c =
+pub returns-else-self-clause-outcome : goal.returns-else-self-clause-outcome
+returns-else-self-clause-outcome g c =
     let r = c.args.self.now in
     let board : BoardState = g.N.Nand.state c.args.inner.now in
     program_none_left r board c.requires.rests c.args.page c.requires.inside c.args.bytes.now c.requires.full c.requires.order _

@@ -25,8 +25,8 @@ read_into-requires-clause-exists g c =
     c.page_in-at.ensures ∙ ap (λ (x : ℕ). x * r.shape.block_pages + c.args.page) at ∙ sym own.0 in
     omega (arith, is, own.1)
 
-pub returns-in-Ok-Whole : goal.returns-in-Ok-Whole
-returns-in-Ok-Whole g c before runs =
+pub returns-in-Ok-Whole-clause-steps : goal.returns-in-Ok-Whole-clause-steps
+returns-in-Ok-Whole-clause-steps g c before runs =
     let r = c.args.self.now in
     let board : BoardState = g.N.Nand.state c.args.inner.now in
     let at : c.place-block.result ≡ place r.shape (relocation_of r).table (block (relocation_of r)) = rw c.block.ensures at c.place-block.ensures in
@@ -47,8 +47,8 @@ returns-in-Ok-Whole g c before runs =
     page_read r before board runs c.args.page c.requires.phase _ found.0 (g.N.Nand.state c.read_into.new.inner) c.in-Ok-Whole.ensures.ok here
     (ap (λ (x : List ℕ). take r.shape.page_bytes x) items ∙ taken) (rw items room)
 
-pub returns-in-Ok-Erased : goal.returns-in-Ok-Erased
-returns-in-Ok-Erased g c before runs =
+pub returns-in-Ok-Erased-clause-steps : goal.returns-in-Ok-Erased-clause-steps
+returns-in-Ok-Erased-clause-steps g c before runs =
     let r = c.args.self.now in
     let board : BoardState = g.N.Nand.state c.args.inner.now in
     let at : c.place-block.result ≡ place r.shape (relocation_of r).table (block (relocation_of r)) = rw c.block.ensures at c.place-block.ensures in
@@ -59,8 +59,8 @@ returns-in-Ok-Erased g c before runs =
     (ap (page_at board.pages) (sym is)
     ∙ answer_erased (page_at board.pages c.page_in-at.result) (rw c.in-Ok-Erased.field-0-is at c.in-Ok-Erased.ensures.found)))
 
-pub returns-in-Ok-Torn : goal.returns-in-Ok-Torn
-returns-in-Ok-Torn g c before runs =
+pub returns-in-Ok-Torn-clause-steps : goal.returns-in-Ok-Torn-clause-steps
+returns-in-Ok-Torn-clause-steps g c before runs =
     let r = c.args.self.now in
     let board : BoardState = g.N.Nand.state c.args.inner.now in
     let at : c.place-block.result ≡ place r.shape (relocation_of r).table (block (relocation_of r)) = rw c.block.ensures at c.place-block.ensures in
@@ -77,8 +77,8 @@ returns-in-Ok-Torn g c before runs =
     page_torn r before board runs c.args.page c.requires.phase _ (rw items room) (g.N.Nand.state c.read_into.new.inner) c.in-Ok-Torn.ensures.ok
     (ap (page_at board.pages) (sym is) ∙ answer_torn (page_at board.pages c.page_in-at.result) (rw c.in-Ok-Torn.field-0-is at c.in-Ok-Torn.ensures.found))
 
-pub returns-in-Err : goal.returns-in-Err
-returns-in-Err g c before runs =
+pub returns-in-Err-clause-steps : goal.returns-in-Err-clause-steps
+returns-in-Err-clause-steps g c before runs =
     let r = c.args.self.now in
     let new : List ℕ = c.read_into.new.buffer in
     let a = c.read_into.auto.buffer in

@@ -7,7 +7,7 @@ use Rattle.pk_nand.proofs.Writing.{shape_is}
 use Rattle.pk_remap.specs.Table.{table_bytes}
 use Rattle.pk_remap.specs.Relocating.{next_table}
 use Rattle.pk_remap.specs.Running.{relocation_of}
-use Rattle.pk_remap.proofs.Running.{second_in_order, second_written, second_failed}
+use Rattle.pk_remap.proofs.Running.{second_in_order, second_written, second_failed, stopped_as}
 use Rattle.pk_remap.proofs.relocation.Relocation.second.Goals as goal
 
 pub program_table-requires-clause-order : goal.program_table-requires-clause-order
@@ -17,8 +17,8 @@ program_table-requires-clause-order g c =
     rw (next, shape_is board _ c.requires.runs.1.goes_on.ready)
     (second_in_order c.args.self.now c.requires.runs.0 board c.requires.runs.1 c.args.page c.requires.phase).1
 
-pub returns-in-Ok : goal.returns-in-Ok
-returns-in-Ok g c before runs =
+pub returns-in-Ok-clause-steps : goal.returns-in-Ok-clause-steps
+returns-in-Ok-clause-steps g c before runs =
     let r = c.args.self.now in
     let board : BoardState = g.N.Nand.state c.args.inner.now in
     let new : List ℕ = c.program_table.new.buffer in
@@ -37,8 +37,8 @@ returns-in-Ok g c before runs =
     c.program_table.ensures.page same (c.in-Ok.ensures.ok ∙ ap (λ (k : ℕ). after_program board k (take r.shape.page_bytes new)) next) _ (rw items room)
     c.next_serves-serves.result c.next_serves-serves.ensures.front c.next_serves-serves.ensures.len)
 
-pub returns-in-Err : goal.returns-in-Err
-returns-in-Err g c before runs =
+pub returns-in-Err-clause-steps : goal.returns-in-Err-clause-steps
+returns-in-Err-clause-steps g c before runs =
     let r = c.args.self.now in
     let board : BoardState = g.N.Nand.state c.args.inner.now in
     let new : List ℕ = c.program_table.new.buffer in
@@ -52,5 +52,7 @@ returns-in-Err g c before runs =
     let items : take r.copy.len (new ++ drop (length new) r.copy.items) ≡ new = ap (λ (n : ℕ). take n (new ++ drop (length new) r.copy.items)) size
     ∙ take-append_seam _ _ in
     let room : MOST_PAGE_BYTES ≤ length new = let old = runs.room.read_page in omega (arith, old, c.program_table.ensures.len, ap length b.value) in
-    second_failed r before board runs c.args.page c.requires.phase (g.N.Nand.state c.program_table.new.inner) (take r.shape.page_bytes new)
-    c.program_table.ensures.page same (rw next at c.in-Err.ensures.err) _ (rw items room)
+    rw c.fail_table.ensures.taken
+    (stopped_as r before board runs c.fail_table.result _ _ c.fail_table.ensures.fails
+    (second_failed r before board runs c.args.page c.requires.phase (g.N.Nand.state c.program_table.new.inner) (take r.shape.page_bytes new)
+    c.program_table.ensures.page same (rw next at c.in-Err.ensures.err) _ (rw items room)))

@@ -13,21 +13,21 @@ loop-init g c = record { far = λ before runs. so_far_start c.args.self.now befo
 pub step-requires : goal.step-requires
 step-requires g c = (c.requires.0, (c.loop.invariant.far c.requires.0 c.requires.1).runs)
 
-pub returns-in-Ok-true : goal.returns-in-Ok-true
-returns-in-Ok-true g c before runs =
+pub returns-in-Ok-true-clause-serves : goal.returns-in-Ok-true-clause-serves
+returns-in-Ok-true-clause-serves g c before runs =
     let far = c.loop.invariant.far before runs in
     let T : Result Bool NandFault → Type 0 = λ x. StepOutcome c.loop.self before
     (g.N.Nand.state c.loop.inner) x c.step.new.self (g.N.Nand.state c.step.new.inner) in
     served_now c.args.self.now before (g.N.Nand.state c.args.inner.now) c.loop.self (g.N.Nand.state c.loop.inner) far _
     c.step.new.self (g.N.Nand.state c.step.new.inner)
-    (subst T (c.in-Ok-true.is ∙ ap (λ (b : Bool). Ok b) c.in-Ok-true.field-0-test) (c.step.ensures before far.runs))
+    (subst T (c.in-Ok-true.is ∙ ap (λ (b : Bool). Ok b) c.in-Ok-true.field-0-test) (c.step.ensures.steps before far.runs))
 
 pub loop-smaller : goal.loop-smaller
 loop-smaller g c =
     let far = c.loop.invariant.far c.requires.0 c.requires.1 in
     let T : Result Bool NandFault → Type 0 = λ x. StepOutcome c.loop.self c.requires.0
     (g.N.Nand.state c.loop.inner) x c.step.new.self (g.N.Nand.state c.step.new.inner) in
-    (subst T (c.in-Ok-false.is ∙ ap (λ (b : Bool). Ok b) c.in-Ok-false.field-0-test) (c.step.ensures c.requires.0 far.runs)).2
+    (subst T (c.in-Ok-false.is ∙ ap (λ (b : Bool). Ok b) c.in-Ok-false.field-0-test) (c.step.ensures.steps c.requires.0 far.runs)).2
 
 pub loop-preserved : goal.loop-preserved
 loop-preserved g c = record {
@@ -37,13 +37,13 @@ loop-preserved g c = record {
       (g.N.Nand.state c.loop.inner) x c.step.new.self (g.N.Nand.state c.step.new.inner) in
       so_far_more c.args.self.now before (g.N.Nand.state c.args.inner.now) c.loop.self (g.N.Nand.state c.loop.inner) far
       c.step.new.self (g.N.Nand.state c.step.new.inner)
-      (subst T (c.in-Ok-false.is ∙ ap (λ (b : Bool). Ok b) c.in-Ok-false.field-0-test) (c.step.ensures before far.runs));
+      (subst T (c.in-Ok-false.is ∙ ap (λ (b : Bool). Ok b) c.in-Ok-false.field-0-test) (c.step.ensures.steps before far.runs));
 }
 
-pub returns-in-Err : goal.returns-in-Err
-returns-in-Err g c before runs =
+pub returns-in-Err-clause-serves : goal.returns-in-Err-clause-serves
+returns-in-Err-clause-serves g c before runs =
     let far = c.loop.invariant.far before runs in
     let T : Result Bool NandFault → Type 0 = λ x. StepOutcome c.loop.self before
     (g.N.Nand.state c.loop.inner) x c.step.new.self (g.N.Nand.state c.step.new.inner) in
     stopped_now c.args.self.now before (g.N.Nand.state c.args.inner.now) c.loop.self (g.N.Nand.state c.loop.inner) far _
-    c.step.new.self (g.N.Nand.state c.step.new.inner) (subst T c.in-Err.is (c.step.ensures before far.runs))
+    c.step.new.self (g.N.Nand.state c.step.new.inner) (subst T c.in-Err.is (c.step.ensures.steps before far.runs))

@@ -14,8 +14,8 @@ program-requires-clause-order g c =
     rw (at, shape_is board _ c.requires.runs.1.goes_on.ready)
     (write_order c.args.self.now c.requires.runs.0 board c.requires.runs.1 c.args.page c.requires.phase)
 
-pub returns-in-Ok : goal.returns-in-Ok
-returns-in-Ok g c before runs =
+pub returns-in-Ok-clause-steps : goal.returns-in-Ok-clause-steps
+returns-in-Ok-clause-steps g c before runs =
     let at : c.page_in-at.result ≡ spare_page (relocation_of c.args.self.now) c.args.page = rw c.blocks-2.ensures.value at c.page_in-at.ensures in
     let board : BoardState = g.N.Nand.state c.args.inner.now in
     let next : c.args.page + 1 ≡ suc c.args.page = omega arith in
@@ -24,8 +24,8 @@ returns-in-Ok g c before runs =
     (write_less c.args.self.now before board runs c.args.page c.requires.phase) (g.N.Nand.state c.program.new.self)
     (c.in-Ok.ensures.ok ∙ (λ i. after_program board (at i) (c.bytes_for.ensures i))))
 
-pub returns-in-Err : goal.returns-in-Err
-returns-in-Err g c before runs =
+pub returns-in-Err-clause-steps : goal.returns-in-Err-clause-steps
+returns-in-Err-clause-steps g c before runs =
     let at : c.page_in-at.result ≡ spare_page (relocation_of c.args.self.now) c.args.page = rw c.blocks-2.ensures.value at c.page_in-at.ensures in
     let board : BoardState = g.N.Nand.state c.args.inner.now in
     let new : BoardState = g.N.Nand.state c.program.new.self in
