@@ -34,5 +34,6 @@ pub use places::{page_in, place};
 pub use relocation::{Call, Relocation};
 pub use remap::Remap;
 pub use search::newest;
+pub use shapes::inner_shape;
 pub use table::{BadTable, decode, encode};
 pub use top::Top;
