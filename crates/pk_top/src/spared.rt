@@ -51,10 +51,9 @@ pub fn run_spared<B: Board + Drop>(
         → result.0.0 ≡ MEMORY.0 }
 
     // What `run` promises, from the board before its first call on.
-    ensures runs { IfSome result.1 (λ r. (form : SparedForm)
-        → spared_form (map (λ w. w.now) words.now) ≡ Some form
-        → RunsOver form.rest (fresh_remap log (B.state board)) (⟦<Remap<B> as Nand>⟧.state r)
-        result.0.0) }
+    ensures runs { (form : SparedForm) → spared_form (map (λ w. w.now) words.now) ≡ Some form
+        → IfSome result.1 (λ r. RunsOver form.rest (fresh_remap log (B.state board))
+        (⟦<Remap<B> as Nand>⟧.state r) result.0.0) }
 {
     match spared_words(words) {
         Some(asked) => run_over(alloc, asked.spares, asked.rest, board, log),

@@ -12,6 +12,7 @@ use pk_asm::{is_bytes_word, key, number};
 use pk_remap::{MOST_SPARES, inner_shape};
 
 /// A number of spare blocks, and the words to obey over them.
+#[derive(Clone, Copy)]
 pub struct Spared<'a> {
     pub spares: u16,
     pub rest: &'a [&'a str],
