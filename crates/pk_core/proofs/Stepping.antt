@@ -37,14 +37,14 @@ use Rattle.pk_parts.specs.Agreeing.{DriveOnFlash}
 use Rattle.pk_core.specs.Done.{Does}
 use Rattle.pk_core.specs.Quiet.{eleven}
 use Rattle.pk_parts.specs.Staying.{StaysOrFrees}
-use Rattle.pk_parts.specs.Ticking.{MayTick, Ticks, HasNoStep, Advances}
+use Rattle.pk_background.specs.Ticking.{MayTick, Ticks, HasNoStep, Advances}
 use Rattle.pk_core.specs.Stepping.{has_failed, BackgroundSteps, outcome_of}
 use Rattle.pk_core.proofs.Unchanging.{same_early, unread_step}
 use Rattle.pk_parts.proofs.Unchanging.{for_its_map}
 use Rattle.pk_core.proofs.Staying.{frees_then}
 use Rattle.pk_parts.proofs.Staying.{stays_same, stays_frees}
-use Rattle.pk_parts.proofs.Callings.{few_more, spends_same, spends_within}
-use Rattle.pk_parts.proofs.Ticking.{yes_no}
+use Rattle.pk_background.proofs.Callings.{few_more, spends_same, spends_within}
+use Rattle.pk_background.proofs.Ticking.{yes_no}
 use Rattle.pk_nand.proofs.Effects.{only_then}
 
 -- the drive agrees with its board after this many steps, of which none failed
