@@ -11,7 +11,7 @@ use std::process::Abort;
 use std::test::*;
 
 // The most calls of the sessions here.
-const CALLS: u64 = 400;
+const CALLS: u64 = 200;
 
 // What the call at the cut leaves.
 fn way(number: u8) -> Left {
@@ -58,14 +58,14 @@ fn moves(rt: &impl Abort, alloc: Global, pages: &[PageState], fault: u64) -> boo
     ran.status == Status::DONE && ran.left == 3
 }
 
-/// Each program and erase of the session fails, and the session is cut off at each of the forty calls after it.
+/// Each program and erase of the session fails, and the session is cut off at each of the fourteen calls after it.
 #[test]
 fn a_move_that_is_cut_off(rt: HostRuntime) {
     let alloc = rt.alloc();
     let pages = made(&rt, alloc);
     for fault in 0..CALLS {
         if moves(&rt, alloc, &pages, fault) {
-            for more in 1..40u64 {
+            for more in 1..15u64 {
                 check_cut(&rt, alloc, &pages, fault, fault.saturating_add(more));
             }
         }

@@ -8,3 +8,4 @@ mod Images
 mod Runs
 mod Resting
 mod Pairs
+mod Spared
