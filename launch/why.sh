@@ -11,7 +11,7 @@ why() { # NAME STATUS IMAGE WORDS..
         [ -z "$fault" ] || { echo "$fault" && return; }
     fi
     case $status in
-        2) if [ "$name" = pink ]; then words_fault "$@"; else echo "the words are IMAGE, or IMAGE lines"; fi ;;
+        2) if [ "$name" = pink ]; then words_fault "$@"; else echo "the words are IMAGE or IMAGE spared S, and lines after them or not"; fi ;;
         3) input_cut "${2:-}" ;;
         4) if [ -d /dev/fd/0 ]; then echo "the input is a folder"; else echo "reading the input failed"; fi ;;
         5) echo "writing the output failed (is its disk full?)" ;;

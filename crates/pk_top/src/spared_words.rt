@@ -19,14 +19,16 @@ pub struct Spared<'a> {
 }
 
 /// Whether the operands are a key and a value whose length is a field of an entry.
+#[tactic(auto, using(crate::proofs::Spared::put_judged))]
 fn is_put(operands: &[&str]) -> bool
     ensures { result ≡ is_some (spec.put_of (map (λ w. w.now) operands.now)) }
 {
     match operands {
         [key_word, bytes] => {
-            key(key_word.as_bytes()).is_some()
-                && is_bytes_word(bytes.as_bytes())
-                && bytes.len() / 2 < VALUE_LENGTHS
+            let has_key = key(key_word.as_bytes()).is_some();
+            let has_value = is_bytes_word(bytes.as_bytes());
+            let is_short = bytes.len() / 2 < VALUE_LENGTHS;
+            has_key & (has_value & is_short)
         }
         _ => false,
     }
