@@ -10,19 +10,19 @@ use Rattle.pk_adapt.specs.Adapted.{spare_frames, pages_of_first, last_fitting, a
 pub need_most : (shape : Shape) (frames : ℕ) → need shape (pinned shape frames) ≤ frames
 need_most shape frames =
     elim (nat_le (need shape 4) frames) as (λ b. nat_le (need shape 4) frames ≡ b
-        → need shape (if b then 4 else if nat_le (need shape 3) frames then 3 else if nat_le (need shape 2) frames then 2 else if nat_le (need shape 1) frames then 1 else 0) ≤ frames) [
+    → need shape (if b then 4 else if nat_le (need shape 3) frames then 3 else if nat_le (need shape 2) frames then 2 else if nat_le (need shape 1) frames then 1 else 0) ≤ frames) [
       | true ↦ λ e. leb→le _ _ (subst T (sym e) tt)
       | false ↦ λ e. elim (nat_le (need shape 3) frames) as (λ b. nat_le (need shape 3) frames ≡ b
           → need shape (if b then 3 else if nat_le (need shape 2) frames then 2 else if nat_le (need shape 1) frames then 1 else 0) ≤ frames) [
-        | true ↦ λ e. leb→le _ _ (subst T (sym e) tt)
-        | false ↦ λ e. elim (nat_le (need shape 2) frames) as (λ b. nat_le (need shape 2) frames ≡ b → need shape (if b then 2 else if nat_le (need shape 1) frames then 1 else 0) ≤ frames) [
-          | true ↦ λ e. leb→le _ _ (subst T (sym e) tt)
-          | false ↦ λ e. elim (nat_le (need shape 1) frames) as (λ b. nat_le (need shape 1) frames ≡ b → need shape (if b then 1 else 0) ≤ frames) [
             | true ↦ λ e. leb→le _ _ (subst T (sym e) tt)
-            | false ↦ λ e. omega arith
+            | false ↦ λ e. elim (nat_le (need shape 2) frames) as (λ b. nat_le (need shape 2) frames ≡ b → need shape (if b then 2 else if nat_le (need shape 1) frames then 1 else 0) ≤ frames) [
+              | true ↦ λ e. leb→le _ _ (subst T (sym e) tt)
+              | false ↦ λ e. elim (nat_le (need shape 1) frames) as (λ b. nat_le (need shape 1) frames ≡ b → need shape (if b then 1 else 0) ≤ frames) [
+                | true ↦ λ e. leb→le _ _ (subst T (sym e) tt)
+                | false ↦ λ e. omega arith
+              ] refl
+            ] refl
           ] refl
-        ] refl
-      ] refl
     ] refl
 
 -- ---- one level more, or none

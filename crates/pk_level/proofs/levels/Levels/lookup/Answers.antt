@@ -36,7 +36,7 @@ pub returns-in-Err-clause-err : goal.returns-in-Err-clause-err
 returns-in-Err-clause-err g c =
     let failed = c.in-Err.ensures.err in
     let own = next_stands c.args.self.now.runs c.args.arena.now c.args.key.now _ _ c.loop-place.place
-        c.at.result.now c.requires.stand.0 c.loop-place.invariant.looking c.at.ensures c.requires.stand.1 in
+    c.at.result.now c.requires.stand.0 c.loop-place.invariant.looking c.at.ensures c.requires.stand.1 in
     Looking-failed c.args.self.now.runs c.args.arena.now c.args.key.now (g.B.Nand.state c.args.board.now) (g.B.Nand.state c.loop-place.board) (g.B.Nand.state c.find.new.board) c.loop-place.place
     (page_of c.at.result.now failed.0) c.at.result.now c.loop-place.invariant.looking c.at.ensures (unpinned_reads c.at.result.now own.2.leased c.in-Err.ensures.unpinned) failed.2
 

@@ -11,13 +11,13 @@ use Rattle.pk_run.proofs.run.Run.fill_page.Goals as goal
 pub read_page-requires-clause-exists : goal.read_page-requires-clause-exists
 read_page-requires-clause-exists g c =
     let stands = page_stands c.args.self.now _ c.args.arena.now c.requires.stands.0 c.known.ensures.shape c.requires.stands.1 c.known.ensures.kept
-        (length c.args.self.now.leases) c.requires.unfilled in
+    (length c.args.self.now.leases) c.requires.unfilled in
     rw (c.page.ensures, c.leases.ensures) (whole_exists _ _ stands.0 stands.1)
 
 pub read_page-requires-clause-whole : goal.read_page-requires-clause-whole
 read_page-requires-clause-whole g c =
     let stands = page_stands c.args.self.now _ c.args.arena.now c.requires.stands.0 c.known.ensures.shape c.requires.stands.1 c.known.ensures.kept
-        (length c.args.self.now.leases) c.requires.unfilled in
+    (length c.args.self.now.leases) c.requires.unfilled in
     rw (c.page.ensures, c.leases.ensures) stands
 
 pub returns-in-Some-clause-stands : goal.returns-in-Some-clause-stands

@@ -41,7 +41,7 @@ pub returns-clause-leases : goal.returns-clause-leases
 returns-clause-leases g c =
     let all : c.args.self.now.leases ≡ c.loop-lease.invariant.others = c.loop-lease.invariant.row ∙ ap (λ (xs : List ℕ). xs ++ c.loop-lease.invariant.others) c.in_default.ensures.taken in
     subst (LeavesOtherLeases c.args.self.now.leases c.args.arena.now)
-        (sym (c.loop-lease.invariant.given ∙ ap (given_all c.args.arena.now) (sym all))) (leases_back c.args.arena.now c.args.self.now.leases)
+    (sym (c.loop-lease.invariant.given ∙ ap (given_all c.args.arena.now) (sym all))) (leases_back c.args.arena.now c.args.self.now.leases)
 
 pub returns-clause-same_bytes : goal.returns-clause-same_bytes
 returns-clause-same_bytes g c = ap (λ (a : Frames). a.page_bytes) c.loop-lease.invariant.given ∙ given_bytes c.args.arena.now c.loop-lease.invariant.others
