@@ -16,13 +16,13 @@ use Rattle.pk_top.specs.declared.words.TheConstants.{VALUE_LENGTHS}
 half_as_many : (word bytes : List ℕ) → bytes_of word ≡ Some bytes → length bytes ≡ length word / 2
 half_as_many word bytes is = elim (bytes_eq word (codes "-")) as
     (λ b. bytes_eq word (codes "-") ≡ b → (if b then Some [] else some_bytes_of word) ≡ Some bytes → length bytes ≡ length word / 2) [
-  | true ↦ λ dash e.
-      let none : [] ≡ bytes = cc in
-      let one : word ≡ codes "-" = (bytes_eq-Decides word (codes "-")).0 dash in
-      let size : length word ≡ 1 = ap length one in
-      subst (λ (l : List ℕ). length l ≡ length word / 2) none (omega (arith, size))
-  | false ↦ λ other e. let size = (some_bytes_of-is word bytes e).1 in omega (arith, size)
-] refl is
+      | true ↦ λ dash e.
+          let none : [] ≡ bytes = cc in
+          let one : word ≡ codes "-" = (bytes_eq-Decides word (codes "-")).0 dash in
+          let size : length word ≡ 1 = ap length one in
+          subst (λ (l : List ℕ). length l ≡ length word / 2) none (omega (arith, size))
+      | false ↦ λ other e. let size = (some_bytes_of-is word bytes e).1 in omega (arith, size)
+    ] refl is
 
 -- ---- the operands of `put`
 

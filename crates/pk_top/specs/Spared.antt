@@ -13,6 +13,7 @@ use Rattle.pk_top.specs.Words.{Word, make, serve, ask, assemble, show, word_of}
 use Rattle.pk_top.specs.Statuses.{Tells, Untouched}
 use Rattle.pk_top.specs.Makes.{MakeRun, IsMade}
 use Rattle.pk_top.specs.Serves.{ServeRun, ServesWhole}
+use Rattle.pk_top.specs.Isolates.{IsolatesWhole}
 use Rattle.pk_top.specs.Asks.{AskRun, AsksWhole}
 use Rattle.pk_top.specs.TextRuns.{TextRun}
 use Rattle.pk_top.specs.Resting.{Rests}
@@ -62,6 +63,8 @@ pub record RunsOver (words : List (List ℕ)) (old new : BoardState) (status : �
   pub asks : (task : Task) → word_of words ≡ Some (ask task) → AskRun task old new status
   pub asks_whole : (task : Task) → word_of words ≡ Some (ask task) → AsksWhole task old new status
   pub serves_whole : (frames : ℕ) → word_of words ≡ Some (serve frames) → ServesWhole frames old new status
+  -- each namespace is answered as a drive answers that has it alone
+  pub isolated : (frames : ℕ) → word_of words ≡ Some (serve frames) → IsolatesWhole frames old new status
   -- those that touch no flash, and what any word leaves of it
   pub assembles : word_of words ≡ Some assemble → TextRun assembled old new status
   pub shows : word_of words ≡ Some show → TextRun shown old new status
