@@ -109,13 +109,7 @@ fn spare_blocks_that_are_used_up(rt: HostRuntime) {
     let quiet = serve(&rt, alloc, &pages, &SCRIPT);
     let (erases, _) = first_program(&rt, &quiet.flash);
     let call = call_of_value(&rt, alloc, &pages, erases);
-    let ran = serve_failing(
-        &rt,
-        alloc,
-        &pages,
-        &SCRIPT,
-        every_second(&rt, alloc, call),
-    );
+    let ran = serve_failing(&rt, alloc, &pages, &SCRIPT, every_second(&rt, alloc, call));
     assert!(rt; ran.status == Status::FLASH && ran.left == 0);
     assert!(rt; ran.flash.posted().is_empty());
     let pages = crate::spared::left(&rt, alloc, &ran.flash);

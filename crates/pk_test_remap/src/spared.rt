@@ -1,9 +1,10 @@
 //! Boards with four spare blocks, and runs of the program over them. Whatever fails ends the test.
 
 use pk_base::Shape;
-use pk_flash::{Flash, Left, Room};
+use pk_flash::{Flash, Left, PageLeft, Room};
 use pk_nand::PageState;
 use pk_test_scripts::boards;
+use pk_test_scripts::script::{Answer, Ask, Value, records, script};
 use pk_top::{Status, run_spared};
 use std::alloc::Global;
 use std::process::Abort;
@@ -42,6 +43,18 @@ pub struct Ran {
 pub struct Failing {
     pub call: u64,
     pub left: Left,
+}
+
+/// What a failing call leaves, by its number; the last three are of a program of the second page of a pair.
+pub fn way(number: u8) -> Left {
+    match number {
+        0 => Left::Untouched,
+        1 => Left::Torn,
+        2 => Left::Done,
+        3 => Left::WithEven(PageLeft::Untouched),
+        4 => Left::WithEven(PageLeft::Torn),
+        _ => Left::WithEven(PageLeft::Done),
+    }
 }
 
 /// The value of a step that did not fail.
@@ -147,26 +160,29 @@ pub fn said(
     ran
 }
 
+// What the next session asks: the value of the worked script, a Store of another value, and this value.
+const ASKS: [Ask; 3] = [
+    Ask::Retrieve(0x61),
+    Ask::Store(0x62, OTHER),
+    Ask::Retrieve(0x62),
+];
+
+const WORKED: Value = Value {
+    first: 0x61,
+    len: 3,
+};
+
+const OTHER: Value = Value { first: 7, len: 600 };
+
 /// The drive can be used: the value of the worked script is there, or, if it may lack, is not; and another value is stored and read.
 pub fn serves_on(rt: &impl Abort, alloc: Global, pages: &[PageState], may_lack: bool) {
-    let flash = board_of(rt, alloc, pages, &[]);
-    let ran = run_over(rt, alloc, flash, &GET);
-    let has = ran.flash.posted() == b"ok 616263\n".as_slice();
-    let lacks = ran.flash.posted() == b"refused 87\n".as_slice();
-    assert!(rt; ran.status == Status::DONE && (has || (may_lack && lacks)));
-    let after = said(
-        rt,
-        alloc,
-        pages,
-        &["spared", "4", "put", "62", "00"],
-        b"ok\n",
-    );
-    let pages = left(rt, alloc, &after.flash);
-    said(
-        rt,
-        alloc,
-        &pages,
-        &["spared", "4", "get", "62"],
-        b"ok 00\n",
-    );
+    let input = script(alloc, &ASKS).expect(rt, "memory");
+    let ran = serve(rt, alloc, pages, &input);
+    let has = [Answer::Found(WORKED), Answer::Done, Answer::Found(OTHER)];
+    let lacks = [Answer::Missing, Answer::Done, Answer::Found(OTHER)];
+    let has = records(alloc, &has).expect(rt, "memory");
+    let lacks = records(alloc, &lacks).expect(rt, "memory");
+    let posted = ran.flash.posted();
+    assert!(rt; ran.status == Status::DONE);
+    assert!(rt; posted == has.as_slice() || (may_lack && posted == lacks.as_slice()));
 }
