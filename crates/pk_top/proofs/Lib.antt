@@ -9,4 +9,4 @@ mod Images
 mod Runs
 mod Resting
 mod Pairs
-mod Spared
+mod Judging
