@@ -164,7 +164,9 @@ fn main(rt: HostRuntime) -> ExitCode {
         Ok(()) => ExitCode::from(DONE),
         Err(why) => {
             let _ = match why {
-                Refused::Words => eprintln!(rt; "pinkdump: IMAGE, or IMAGE spared S, and lines after it or not"),
+                Refused::Words => eprintln!(rt;
+                    "pinkdump: IMAGE, or IMAGE spared S, and lines after it or not"
+                ),
                 Refused::NoImage => eprintln!(rt; "pinkdump: there is no image"),
                 Refused::BadImage { at } => {
                     eprintln!(rt; "pinkdump: no image: the first wrong byte is at {at}")

@@ -78,11 +78,11 @@ holds_host image work old new shape pages bare holds = record {
   missing = λ e. bare ∙ holds.missing e;
   opened = λ e. table_again work work old new (record { shape = refl; spares = refl; taken = refl }) shape pages (holds.opened e);
   sure = λ e. (let own = holds.sure e in record {
-      grammar = own.grammar;
-      used = own.used;
-      newest = subst (λ (f : Flash). newest_table work.shape work.spares (page_at f) ≡ Some (work.top, (relocation_of work).table)) (sym pages) own.newest;
-      turn = subst (HasTurn work) (sym pages) own.turn;
-    });
+    grammar = own.grammar;
+    used = own.used;
+    newest = subst (λ (f : Flash). newest_table work.shape work.spares (page_at f) ≡ Some (work.top, (relocation_of work).table)) (sym pages) own.newest;
+    turn = subst (HasTurn work) (sym pages) own.turn;
+  });
 }
 
 -- what only the host did

@@ -310,14 +310,20 @@ module _ (shape : Shape) (before above : Flash) (trail trail' : Option (List Mar
   -- a program that failed
   pub program_failed : (at : ℕ) (bytes : List ℕ) → (Interrupted shape (program at bytes) before above [] × (trail' ≡ longer trail (program at bytes ∷ []))) ⊎ ((above ≡ before) × (trail' ≡ trail))
       → ProgramFailed first (opened shape above trail' (record counts {
-        programs = counted counts.programs; flash_faults = counted counts.flash_faults; stop_faults = counted counts.stop_faults; failed_at = Some (at / shape.block_pages);
+        programs = counted counts.programs;
+        flash_faults = counted counts.flash_faults;
+        stop_faults = counted counts.stop_faults;
+        failed_at = Some (at / shape.block_pages);
       }) input posted) at bytes
   program_failed at bytes left = record { flash = omega arith; stop = omega arith; left = left; rest = refl }
 
   -- an erase that failed
   pub erase_failed : (block : ℕ) → (Interrupted shape (erase block) before above [] × (trail' ≡ longer trail (erase block ∷ []))) ⊎ ((above ≡ before) × (trail' ≡ trail))
       → EraseFailed first (opened shape above trail' (record counts {
-        erases = counted counts.erases; flash_faults = counted counts.flash_faults; stop_faults = counted counts.stop_faults; failed_at = Some block;
+        erases = counted counts.erases;
+        flash_faults = counted counts.flash_faults;
+        stop_faults = counted counts.stop_faults;
+        failed_at = Some block;
       }) input posted) block
   erase_failed block left = record { flash = omega arith; stop = omega arith; left = left; rest = refl }
 

@@ -76,12 +76,20 @@ returns-in-Err-clause-err g c =
     let n : there.work.shape.block_pages ≡ self.work.shape.block_pages = ap (λ (s : Shape). s.block_pages) c.read_page.ensures.same.shape in
     let block : c.block_of-block.result ≡ c.args.page / self.work.shape.block_pages = c.block_of-block.ensures ∙ ap (λ (m : ℕ). c.args.page / m) n in
     let is : c.read_failed.new.self ≡ record self.counts {
-      reads = counted self.counts.reads; flash_faults = counted self.counts.flash_faults; read_faults = counted self.counts.read_faults; failed_at = Some (c.args.page / self.work.shape.block_pages);
+      reads = counted self.counts.reads;
+      flash_faults = counted self.counts.flash_faults;
+      read_faults = counted self.counts.read_faults;
+      failed_at = Some (c.args.page / self.work.shape.block_pages);
     } =
     c.read_failed.ensures ∙ (λ i. record (c.read_page.ensures.counts i) {
-      flash_faults = counted (c.read_page.ensures.counts i).flash_faults; read_faults = counted (c.read_page.ensures.counts i).read_faults; failed_at = Some (block i);
+      flash_faults = counted (c.read_page.ensures.counts i).flash_faults;
+      read_faults = counted (c.read_page.ensures.counts i).read_faults;
+      failed_at = Some (block i);
     }) ∙ (λ i. record self.counts {
-      reads = c.raise.ensures i; flash_faults = counted self.counts.flash_faults; read_faults = counted self.counts.read_faults; failed_at = Some (c.args.page / self.work.shape.block_pages);
+      reads = c.raise.ensures i;
+      flash_faults = counted self.counts.flash_faults;
+      read_faults = counted self.counts.read_faults;
+      failed_at = Some (c.args.page / self.work.shape.block_pages);
     }) in
     read_failed_answer self.image there.image self.work there.work self.log there.log self.counts c.read_failed.new.self old new has_open c.read_page.ensures.opened
     (self.holds.opened has_open) c.args.page c.read_page.ensures.same noted c.read_page.ensures.reads is

@@ -24,7 +24,6 @@ erase_found-requires-clause-inside g c =
     let P : Shape → Type 0 = λ s. c.args.block < s.blocks in
     subst P (sym found.same.shape) c.requires.inside
 
-
 pub returns-in-Ok-clause-made : goal.returns-in-Ok-clause-made
 returns-in-Ok-clause-made g c =
     let self = c.args.self.now in
