@@ -1,10 +1,10 @@
 -- The host of a flash with spare blocks is that of its inner board.
-use Rattle.std.proofs.Common.{◌≡◌, ◌⊎◌, inl, inr, ℕ, ◌+◌, ◌≤◌, List, [], ◌∷◌, ◌++◌, length, take, drop, refl, sym, ap, subst, ◌∙◌, arith, Option, Some, None}
+use Rattle.std.proofs.Common.{◌≡◌, inl, inr, ℕ, List, [], ◌∷◌, take, refl, sym, ap, subst, ◌∙◌, arith, Option, Some, None}
 use Rattle.std.specs.Prelude.{Result, Ok, Err, IfOk, OnOk, OnErr}
 use Rattle.std.proofs.lemmas.List.{append-nil}
-use Rattle.pk_base.specs.Mark.{Mark, post}
+use Rattle.pk_base.specs.Mark.{post}
 use Rattle.pk_nand.specs.BoardState.{BoardState}
-use Rattle.pk_nand.specs.Calls.{Rose, counted, longer}
+use Rattle.pk_nand.specs.Calls.{counted, longer}
 use Rattle.pk_nand.specs.Operations.{Fetched, FetchFailed, PostFailed, SentFront, after_post}
 use Rattle.pk_nand.proofs.Posting.{sent_left}
 use Rattle.pk_remap.specs.declared.counts.BoardCounts.{BoardCounts}
@@ -78,11 +78,11 @@ holds_host image work old new shape pages bare holds = record {
   missing = λ e. bare ∙ holds.missing e;
   opened = λ e. table_again work work old new (record { shape = refl; spares = refl; taken = refl }) shape pages (holds.opened e);
   sure = λ e. (let own = holds.sure e in record {
-      grammar = own.grammar;
-      used = own.used;
-      newest = subst (λ (f : Flash). newest_table work.shape work.spares (page_at f) ≡ Some (work.top, (relocation_of work).table)) (sym pages) own.newest;
-      turn = subst (HasTurn work) (sym pages) own.turn;
-    });
+    grammar = own.grammar;
+    used = own.used;
+    newest = subst (λ (f : Flash). newest_table work.shape work.spares (page_at f) ≡ Some (work.top, (relocation_of work).table)) (sym pages) own.newest;
+    turn = subst (HasTurn work) (sym pages) own.turn;
+  });
 }
 
 -- what only the host did

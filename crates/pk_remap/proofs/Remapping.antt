@@ -6,9 +6,9 @@ use Rattle.pk_base.specs.Page.{Flash, page_at, torn, IsFlash}
 use Rattle.pk_base.specs.Mark.{Mark, program, erase, after}
 use Rattle.pk_nand.specs.BoardState.{BoardState, shape_of}
 use Rattle.pk_nand.specs.Cut.{Interrupted}
-use Rattle.pk_nand.specs.Calls.{IsReady, Rose, counted, longer, last_count, after_program, ProgramFailed}
+use Rattle.pk_nand.specs.Calls.{IsReady, Rose, counted, longer, after_program, ProgramFailed}
 use Rattle.pk_nand.specs.Operations.{after_read, after_erase, EraseFailed, ReadFailed}
-use Rattle.pk_nand.specs.Effects.{OnlyFlash, OnlyReading, NoFault}
+use Rattle.pk_nand.specs.Effects.{OnlyFlash, OnlyReading}
 use Rattle.pk_nand.specs.Crash.{Went}
 use Rattle.pk_nand.specs.declared.types.NandFault.{NandFault}
 use Rattle.pk_nand.proofs.Effects.{only_then}
@@ -28,9 +28,9 @@ use Rattle.pk_remap.specs.Relocating.{block_of, copies_of}
 use Rattle.pk_remap.specs.Stepping.{IsTableBlock}
 use Rattle.pk_remap.specs.Running.{relocation_of, HasPageBuffers, IsAtRest}
 use Rattle.pk_remap.specs.Serving.{PassesCount, PassesCalls, ServingStops, read_failed, table_failed, spares_failed, page_is_torn, for_mark, outer_of, OuterOutcome, SameSpares}
-use Rattle.pk_remap.specs.Counting.{SparesCounted, UsesOnlyTaken, HasTable, OuterFailed, OuterCounts, SearchFailed}
+use Rattle.pk_remap.specs.Counting.{SparesCounted, HasTable, OuterCounts}
 use Rattle.pk_remap.specs.Logged.{told}
-use Rattle.pk_remap.specs.Remapped.{outer_pages, is_open, is_missing, is_sure, open_spares_left, spares_left, with_stop, remap_board, HoldsTable, RemapHolds, HasLog}
+use Rattle.pk_remap.specs.Remapped.{outer_pages, is_open, is_missing, is_sure, open_spares_left, spares_left, with_stop, remap_board, RemapHolds, HasLog}
 use Rattle.pk_remap.specs.Remapped.{SameTaken, TableIsFound, TableNotFound}
 use Rattle.pk_nand.specs.Counts.{after_reads}
 use Rattle.pk_remap.specs.Causes.{SparesFallBy, IsRefused, StopCause, read_fault, table_fault, no_spare_left, torn_page, MarkMade}
@@ -310,14 +310,20 @@ module _ (shape : Shape) (before above : Flash) (trail trail' : Option (List Mar
   -- a program that failed
   pub program_failed : (at : ℕ) (bytes : List ℕ) → (Interrupted shape (program at bytes) before above [] × (trail' ≡ longer trail (program at bytes ∷ []))) ⊎ ((above ≡ before) × (trail' ≡ trail))
       → ProgramFailed first (opened shape above trail' (record counts {
-        programs = counted counts.programs; flash_faults = counted counts.flash_faults; stop_faults = counted counts.stop_faults; failed_at = Some (at / shape.block_pages);
+        programs = counted counts.programs;
+        flash_faults = counted counts.flash_faults;
+        stop_faults = counted counts.stop_faults;
+        failed_at = Some (at / shape.block_pages);
       }) input posted) at bytes
   program_failed at bytes left = record { flash = omega arith; stop = omega arith; left = left; rest = refl }
 
   -- an erase that failed
   pub erase_failed : (block : ℕ) → (Interrupted shape (erase block) before above [] × (trail' ≡ longer trail (erase block ∷ []))) ⊎ ((above ≡ before) × (trail' ≡ trail))
       → EraseFailed first (opened shape above trail' (record counts {
-        erases = counted counts.erases; flash_faults = counted counts.flash_faults; stop_faults = counted counts.stop_faults; failed_at = Some block;
+        erases = counted counts.erases;
+        flash_faults = counted counts.flash_faults;
+        stop_faults = counted counts.stop_faults;
+        failed_at = Some block;
       }) input posted) block
   erase_failed block left = record { flash = omega arith; stop = omega arith; left = left; rest = refl }
 

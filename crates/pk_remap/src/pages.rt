@@ -27,11 +27,7 @@ impl<N: Nand> Remap<N> {
     }
 
     /// Reads a page by the newest table.
-    pub(crate) fn read_page(
-        &mut self,
-        page: u32,
-        into: &mut [u8],
-    ) -> Result<PageRead, NandFault>
+    pub(crate) fn read_page(&mut self, page: u32, into: &mut [u8]) -> Result<PageRead, NandFault>
         requires opened { is_open_image self.old.image ≡ true }
         requires inside { page < page_count self.old.work.shape }
         requires room { length into.old ≡ self.old.work.shape.page_bytes }

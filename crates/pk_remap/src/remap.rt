@@ -26,12 +26,7 @@ pub struct Remap<N: Nand> {
 impl<N: Nand + Drop> Remap<N> {
     /// A flash over this one, of which `spares` blocks are spare blocks; it tells its marks if the log has room for some. The memory of its
     /// three page buffers is taken here, that of the log by `load` and `make`. Without memory the inner flash is dropped.
-    pub fn new(
-        alloc: Global,
-        inner: N,
-        spares: u16,
-        log: usize,
-    ) -> Result<Remap<N>, AllocError>
+    pub fn new(alloc: Global, inner: N, spares: u16, log: usize) -> Result<Remap<N>, AllocError>
         requires some { 1 ≤ spares }
         requires few { spares ≤ MOST_SPARES }
         ensures board { IfOk result

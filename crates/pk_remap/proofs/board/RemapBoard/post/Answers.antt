@@ -1,8 +1,7 @@
-use Rattle.std.proofs.Common.{◌≡◌, inl, inr, ℕ, refl, sym, ap, subst, ◌∙◌}
+use Rattle.std.proofs.Common.{inl, inr, ℕ, refl, sym, subst, ◌∙◌}
 use Rattle.pk_nand.specs.BoardState.{BoardState}
 use Rattle.pk_nand.specs.Operations.{PostFailed, SentFront}
-use Rattle.pk_nand.specs.Calls.{counted, Rose}
-use Rattle.pk_remap.specs.declared.counts.BoardCounts.{BoardCounts}
+use Rattle.pk_nand.specs.Calls.{Rose}
 use Rattle.pk_remap.specs.Logged.{told}
 use Rattle.pk_remap.specs.Remapped.{remap_board}
 use Rattle.pk_remap.proofs.Hosting.{posted_all, sent_some, post_failed_board, sent_none, post_refused, post_rest, holds_host}

@@ -1,16 +1,16 @@
-use Rattle.std.proofs.Common.{◌≡◌, ◌<◌, ◌/◌, inl, inr, ℕ, length, refl, sym, ap, subst, ◌∙◌, arith}
-use Rattle.std.specs.Prelude.{Result, Ok, Err, OnOk, OnErr, Some}
+use Rattle.std.proofs.Common.{◌≡◌, ◌<◌, inl, ℕ, refl, sym, subst, ◌∙◌, arith}
+use Rattle.std.specs.Prelude.{OnOk, OnErr}
 use Rattle.pk_base.specs.Shape.{Shape}
 use Rattle.pk_base.specs.Page.{Flash}
 use Rattle.pk_base.specs.Mark.{erase}
-use Rattle.pk_nand.specs.BoardState.{BoardState, shape_of}
+use Rattle.pk_nand.specs.BoardState.{BoardState}
 use Rattle.pk_nand.specs.Calls.{counted}
 use Rattle.pk_nand.specs.Operations.{EraseFailed}
 use Rattle.pk_remap.specs.declared.counts.BoardCounts.{BoardCounts}
 use Rattle.pk_remap.specs.Through.{MayShow}
 use Rattle.pk_remap.specs.Serving.{PassesCalls}
-use Rattle.pk_remap.specs.Remapped.{with_stop, spares_left, remap_board}
-use Rattle.pk_remap.proofs.Remapping.{opens_block, erase_answer, erase_refused, shape_open, pages_open, page_open, cause_open, fall_open}
+use Rattle.pk_remap.specs.Remapped.{with_stop, remap_board}
+use Rattle.pk_remap.proofs.Remapping.{opens_block, erase_answer, erase_refused, shape_open, pages_open, cause_open, fall_open}
 use Rattle.pk_remap.proofs.nand.RemapNand.erase.Goals as goal
 
 pub erase_noted-requires-clause-opened : goal.erase_noted-requires-clause-opened

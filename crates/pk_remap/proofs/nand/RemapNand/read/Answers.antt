@@ -1,15 +1,13 @@
-use Rattle.std.proofs.Common.{◌≡◌, ◌<◌, ◌/◌, ◌-◌, ℕ, length, refl, sym, ap, subst, ◌∙◌}
-use Rattle.std.specs.Prelude.{Result, Ok, Err, OnOk, OnErr, IfOk, Some}
+use Rattle.std.proofs.Common.{◌≡◌, ◌/◌, ◌-◌, ℕ, sym, ap, ◌∙◌}
+use Rattle.std.specs.Prelude.{Some}
 use Rattle.pk_base.specs.Shape.{Shape}
 use Rattle.pk_base.specs.Page.{Flash, page_at}
-use Rattle.pk_nand.specs.BoardState.{BoardState, shape_of}
+use Rattle.pk_nand.specs.BoardState.{BoardState}
 use Rattle.pk_nand.specs.Calls.{counted}
 use Rattle.pk_nand.specs.Operations.{filled}
 use Rattle.pk_nand.specs.Seen.{answer}
-use Rattle.pk_remap.specs.declared.counts.BoardCounts.{BoardCounts}
 use Rattle.pk_remap.specs.declared.mark_log.MarkLog.{MarkLog}
 use Rattle.pk_remap.specs.Logged.{told}
-use Rattle.pk_remap.specs.Remapped.{spares_left}
 use Rattle.pk_remap.proofs.Remapping.{opens_page, shape_open, pages_open, page_open, read_answer, read_failed_answer, left_open}
 use Rattle.pk_remap.proofs.nand.RemapNand.read.Goals as goal
 
@@ -76,12 +74,20 @@ returns-in-Err-clause-err g c =
     let n : there.work.shape.block_pages ≡ self.work.shape.block_pages = ap (λ (s : Shape). s.block_pages) c.read_page.ensures.same.shape in
     let block : c.block_of-block.result ≡ c.args.page / self.work.shape.block_pages = c.block_of-block.ensures ∙ ap (λ (m : ℕ). c.args.page / m) n in
     let is : c.read_failed.new.self ≡ record self.counts {
-      reads = counted self.counts.reads; flash_faults = counted self.counts.flash_faults; read_faults = counted self.counts.read_faults; failed_at = Some (c.args.page / self.work.shape.block_pages);
+      reads = counted self.counts.reads;
+      flash_faults = counted self.counts.flash_faults;
+      read_faults = counted self.counts.read_faults;
+      failed_at = Some (c.args.page / self.work.shape.block_pages);
     } =
     c.read_failed.ensures ∙ (λ i. record (c.read_page.ensures.counts i) {
-      flash_faults = counted (c.read_page.ensures.counts i).flash_faults; read_faults = counted (c.read_page.ensures.counts i).read_faults; failed_at = Some (block i);
+      flash_faults = counted (c.read_page.ensures.counts i).flash_faults;
+      read_faults = counted (c.read_page.ensures.counts i).read_faults;
+      failed_at = Some (block i);
     }) ∙ (λ i. record self.counts {
-      reads = c.raise.ensures i; flash_faults = counted self.counts.flash_faults; read_faults = counted self.counts.read_faults; failed_at = Some (c.args.page / self.work.shape.block_pages);
+      reads = c.raise.ensures i;
+      flash_faults = counted self.counts.flash_faults;
+      read_faults = counted self.counts.read_faults;
+      failed_at = Some (c.args.page / self.work.shape.block_pages);
     }) in
     read_failed_answer self.image there.image self.work there.work self.log there.log self.counts c.read_failed.new.self old new has_open c.read_page.ensures.opened
     (self.holds.opened has_open) c.args.page c.read_page.ensures.same noted c.read_page.ensures.reads is

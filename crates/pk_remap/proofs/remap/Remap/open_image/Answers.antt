@@ -1,5 +1,5 @@
-use Rattle.std.proofs.Common.{◌≡◌, ◌≤◌, ℕ, length, refl, sym, ap, subst, ◌∙◌, arith, Some}
-use Rattle.std.specs.Prelude.{Result, Ok, Err, IsErr, None}
+use Rattle.std.proofs.Common.{◌≡◌, ℕ, refl, sym, ap, subst, ◌∙◌, arith}
+use Rattle.std.specs.Prelude.{Result, Err, IsErr, None}
 use Rattle.pk_base.specs.declared.shape.ShapeError.{ShapeError}
 use Rattle.pk_base.specs.Shape.{Shape}
 use Rattle.pk_nand.specs.BoardState.{BoardState}
