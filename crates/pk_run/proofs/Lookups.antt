@@ -1,9 +1,9 @@
 -- A lookup in a run: which page may have the key, and what that page says of the whole run.
-use Rattle.std.proofs.Common.{◌≡◌, inl, inr, ℕ, suc, ◌+◌, ◌-◌, ◌*◌, ◌<◌, ◌≤◌, T, List, [], ◌∷◌, length, slice_get, get_or, take, drop, refl, ap, sym, subst, ◌∙◌, arith, Option, Some, None, option_map}
+use Rattle.std.proofs.Common.{◌≡◌, ℕ, suc, ◌+◌, ◌*◌, ◌<◌, ◌≤◌, T, List, [], length, slice_get, get_or, take, drop, ap, sym, subst, ◌∙◌, arith, Option, Some, None, option_map}
 use Rattle.std.proofs.Common.{◌/◌, ◌%◌, div-lt_iff_lt-mul, suc-mul, zero-mul, mul-le-mul_right, lt_of_mul-lt-mul_right}
 use Rattle.std.proofs.lemmas.Grind.{div_ceil_times}
 use Rattle.std.proofs.lemmas.List.{get_or_default}
-use Rattle.std.proofs.lemmas.Option.{slice_get_within, slice_get-get_or}
+use Rattle.std.proofs.lemmas.Option.{slice_get_within, slice_get_past, slice_get-get_or}
 use Rattle.std.specs.FinMap.Entries.{find, is_sorted}
 use Rattle.pk_base.specs.Key.{Key, key_cmp}
 use Rattle.pk_base.specs.Shape.{Shape, IsShape, page_entries}
@@ -21,6 +21,7 @@ use Rattle.pk_run.specs.Kept.{Kept, IsKept, IsPinned, RunOnFlash, page_of, after
 use Rattle.pk_run.specs.Search.{IsFound, IsBeforeAll, IsPageFor}
 use Rattle.pk_run.proofs.Orders.{find_piece, find_nowhere, absent, present, sorted_drop, sorted_take}
 use Rattle.pk_run.proofs.Pieces.{pieces, share}
+use Rattle.pk_base.specs.declared.sizes.TheConstants.{MOST_SPACES}
 
 -- an entry that is the first of a page has the page's first key
 pub first_is : (r : Kept) (flash : Flash) (arena : Frames) (es : List Entry) → IsShape r.shape → RunOnFlash r flash arena es → (j : ℕ) (e : Entry) → slice_get es (j * page_entries r.shape) ≡ Some e
@@ -75,7 +76,7 @@ module _ (r : Kept) (flash : Flash) (arena : Frames) (es : List Entry) (is : IsS
   holds_piece kept p bytes exists here =
       let least = kept.level_least in
       let most = kept.level_most in
-      let has = pieces r.shape (page_at flash) r.level r.count r.blocks es is least most (omega (arith, s.pages, few kept)) s.read p (omega (arith, s.pages, exists)) in
+      let has = pieces r.shape MOST_SPACES (page_at flash) r.level r.count r.blocks es is least most (omega (arith, s.pages, few kept)) s.read p (omega (arith, s.pages, exists)) in
       let was = has.is_whole in
       let same : has.bytes ≡ bytes = cc in
       let held = meta_held r.shape r.level p (share r.shape r.count p) has.bytes (piece p) least most (omega (arith, exists, few kept)) has.holds in
@@ -84,7 +85,7 @@ module _ (r : Kept) (flash : Flash) (arena : Frames) (es : List Entry) (is : IsS
   -- each page of the run is whole
   pub page_stands : IsKept r → (p : ℕ) → p < length r.firsts → (bytes : List ℕ) × (page_at flash (page_of r p) ≡ whole bytes)
   page_stands kept p exists =
-      let has = pieces r.shape (page_at flash) r.level r.count r.blocks es is kept.level_least kept.level_most (omega (arith, s.pages, few kept)) s.read p (omega (arith, s.pages, exists)) in
+      let has = pieces r.shape MOST_SPACES (page_at flash) r.level r.count r.blocks es is kept.level_least kept.level_most (omega (arith, s.pages, few kept)) s.read p (omega (arith, s.pages, exists)) in
       (has.bytes, has.is_whole)
 
 -- what is found in a page's entries
@@ -134,25 +135,17 @@ pub frame_page : (r : Kept) (flash : Flash) (arena : Frames) (es : List Entry) (
     → page_at flash (page_of r p) ≡ whole bytes
 frame_page r flash arena es bytes s p lease got is = (s.frames p lease got).bytes ∙ ap (λ (xs : List ℕ). whole xs) (sym is)
 
--- if a page has no frame, none has
-pub no_leases : (r : Kept) (flash : Flash) (arena : Frames) (es : List Entry) → RunOnFlash r flash arena es → (p : ℕ) → p < length r.firsts → length r.leases ≤ p → r.leases ≡ []
-no_leases r flash arena es s p exists past =
-    elim s.pinned [
-      | inl none ↦ none
-      | inr all ↦ absurd (omega (arith, all, exists, past))
-    ]
+-- if a page has a frame, nothing is read
+pub look_pinned : (leases : List ℕ) (board : BoardState) (p lease : ℕ) → slice_get leases p ≡ Some lease → after_look (slice_get leases p) board ≡ board
+look_pinned leases board p lease got = ap (λ (o : Option ℕ). after_look o board) got
 
--- if a page has one, nothing is read
-pub look_pinned : (leases : List ℕ) (board : BoardState) (p lease : ℕ) → slice_get leases p ≡ Some lease → after_look leases board ≡ board
-look_pinned [] board p lease got = cc
-look_pinned (l ∷ leases) board p lease got = refl
+-- and if it has none, it is read
+pub look_unpinned : (leases : List ℕ) (board : BoardState) (p : ℕ) → length leases ≤ p → after_look (slice_get leases p) board ≡ after_read board
+look_unpinned leases board p past = ap (λ (o : Option ℕ). after_look o board) (slice_get_past leases p past)
 
-pub look_unpinned : (leases : List ℕ) (board : BoardState) → leases ≡ [] → after_look leases board ≡ after_read board
-look_unpinned leases board none = ap (λ (ls : List ℕ). after_look ls board) none
-
--- a run whose pages all have frames has one for each
-pub not_pinned : (r : Kept) (p : ℕ) → p < length r.firsts → r.leases ≡ [] → IsPinned r → ⊥
-not_pinned r p exists none all = let e = ap (λ (ls : List ℕ). length ls) none in omega (arith, exists, e, all)
+-- if a page of a run has no frame, not all have one
+pub not_pinned : (r : Kept) (p : ℕ) → p < length r.firsts → length r.leases ≤ p → IsPinned r → ⊥
+not_pinned r p exists past all = omega (arith, exists, past, all)
 
 -- ---- boards
 

@@ -12,6 +12,7 @@ mod errors;
 mod levels;
 mod lists;
 mod memory;
+mod namespaces;
 mod opening;
 mod pages;
 mod refused;

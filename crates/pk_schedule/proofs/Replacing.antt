@@ -1,7 +1,6 @@
 -- A run that replaces another, in lists of runs.
-use Rattle.std.proofs.Common.{◌≡◌, inl, ℕ, zero, suc, ◌+◌, ◌≤◌, ◌<◌, false, nat_le, T, List, [], ◌∷◌, length, map, slice_set, slice_index_or, Some, refl, sym, ap, subst, ◌∙◌, arith}
+use Rattle.std.proofs.Common.{◌≡◌, inl, ℕ, zero, suc, ◌+◌, ◌≤◌, ◌<◌, T, List, [], ◌∷◌, length, map, slice_set, slice_index_or, Some, refl, sym, ap, subst, ◌∙◌, arith}
 use Rattle.std.specs.Prelude.{slice_get}
-use Rattle.std.proofs.lemmas.List.{length-set}
 use Rattle.std.proofs.lemmas.Option.{same_Some}
 use Rattle.pk_base.specs.Shape.{Shape}
 use Rattle.pk_base.specs.Page.{Flash}
@@ -11,10 +10,11 @@ use Rattle.pk_pin.proofs.Leases.{times-append}
 use Rattle.pk_rootfmt.specs.Root.{differ}
 use Rattle.pk_run.specs.Kept.{Kept, RunOnFlash, empty}
 use Rattle.pk_level.specs.Levels.{RunsOnFlash, HaveBlocks, AreOfLevels, IsOfLevel}
-use Rattle.pk_level.specs.Arenas.{leases_of, IsPinnedIf, ArePinnedTo}
+use Rattle.pk_level.specs.Arenas.{leases_of}
 use Rattle.pk_model.proofs.Commits.{apart, rest_differs}
 use Rattle.pk_law_steps.proofs.Places.{In}
-use Rattle.pk_merge.specs.Jobs.{LeavesOthers, given_all, all_spare, spare_of, without, with_spare}
+use Rattle.pk_run.specs.Leases.{LeavesOthers}
+use Rattle.pk_merge.specs.Jobs.{all_spare, spare_of, without, with_spare}
 use Rattle.pk_schedule.proofs.Grown.{got_in}
 
 -- ---- what is unchanged
@@ -42,12 +42,6 @@ blocks_at_level shape [] (bs ∷ bss) i d none s = absurd s
 blocks_at_level shape (q ∷ rs) [] i d none s = absurd s
 blocks_at_level shape (q ∷ rs) (bs ∷ bss) zero d none s = s.1
 blocks_at_level shape (q ∷ rs) (bs ∷ bss) (suc i) d none s = blocks_at_level shape rs bss i d none s.2
-
-pub ArePinnedTo-set : (pinned level : ℕ) (rs : List Kept) (i : ℕ) (r : Kept)
-    → ((n : ℕ) → n ≡ level + i → IsPinnedIf (nat_le n pinned) r) → ArePinnedTo pinned level rs → ArePinnedTo pinned level (slice_set rs i r)
-ArePinnedTo-set pinned level [] i r is s = tt
-ArePinnedTo-set pinned level (q ∷ rs) zero r is s = (is level (omega arith), s.1)
-ArePinnedTo-set pinned level (q ∷ rs) (suc i) r is s = (s.0, ArePinnedTo-set pinned (suc level) rs i r (λ n e. is n (omega (arith, e))) s.1)
 
 -- a run of this level
 pub of_level : (shape : Shape) (pinned level : ℕ) (rs : List Kept) (i : ℕ) (d : Kept) → ((n : ℕ) → n ≡ level + i → IsOfLevel shape pinned n d)
@@ -97,14 +91,6 @@ RunsOnFlash-given leases flash before after (r ∷ rs) (es ∷ ess) leaves none 
   leaves r flash es (λ i l is. let all = none i l is in let both = times-append l r.leases (leases_of rs) in omega (arith, all, both)) s.0,
   RunsOnFlash-given leases flash before after rs ess leaves (λ i l is. let all = none i l is in let both = times-append l r.leases (leases_of rs) in omega (arith, all, both)) s.1,
 )
-
-pub given_bytes : (arena : Frames) (ls : List ℕ) → (given_all arena ls).page_bytes ≡ arena.page_bytes
-given_bytes arena [] = refl
-given_bytes arena (l ∷ ls) = given_bytes arena ls
-
-pub given_size : (arena : Frames) (ls : List ℕ) → length (given_all arena ls).used ≡ length arena.used
-given_size arena [] = refl
-given_size arena (l ∷ ls) = length-set (given_all arena ls).used l false ∙ given_size arena ls
 
 -- ---- different blocks
 

@@ -33,10 +33,11 @@ use Rattle.pk_law_steps.proofs.NewestBlocks.{valid_root}
 use Rattle.pk_law_steps.proofs.Outputs.{output_fits}
 use Rattle.pk_law_steps.proofs.Places.{In, differ_back}
 use Rattle.pk_law_steps.proofs.Spelling.{merged_grammar}
-use Rattle.pk_merge.specs.Jobs.{Job, IsIdle, AreOwned, AreLeased, all_spare, held_at, taken_from, given_to, pins}
+use Rattle.pk_run.specs.Leases.{AreLeased}
+use Rattle.pk_merge.specs.Jobs.{Job, IsIdle, AreOwned, all_spare, held_at, taken_from, given_to, pins}
 use Rattle.pk_merge.specs.Laws.{IsFormer, done_with}
 use Rattle.pk_merge.proofs.Ending.{idle_one}
-use Rattle.pk_merge.proofs.Leasing.{are_leased}
+use Rattle.pk_run.proofs.Leasing.{are_leased}
 use Rattle.pk_compact.specs.FreezeSteps.{taken_by}
 use Rattle.pk_log.specs.MergeSteps.{MayPrepare, MayMerge}
 use Rattle.pk_schedule.specs.declared.phase.Phase.TheVariants.{Ready}
@@ -49,6 +50,10 @@ use Rattle.pk_schedule.proofs.Giving.{GivesBack, gives_back, one_owner}
 use Rattle.pk_schedule.proofs.Replacing.{blocks_at_level, of_level, at_other, leases_set, places_differ}
 use Rattle.pk_base.proofs.Logic.{is_true}
 use Rattle.pk_schedule.proofs.Grown.{got_in}
+use Rattle.pk_run.proofs.Pieces.{run_in}
+use Rattle.pk_base.specs.declared.sizes.TheConstants.{MOST_SPACES}
+use Rattle.pk_model.specs.RootLimits.{root_spaces}
+use Rattle.pk_law_steps.proofs.OutputSpaces.{output_in_spaces}
 
 -- ---- different runs
 
@@ -154,8 +159,10 @@ module _ (x : Index) (frames : ℕ) (old : BoardState) (top : ℕ × Root) (foun
   pub is_merged : IsMerged shape old.pages [] top found level out.count out.blocks
   is_merged = record {
     next = waits.into.due;
-    stands = subst (λ (s : Shape). run s (page_at old.pages) level out.count out.blocks ≡ Ok (output_of level found)) waits.into.output_shape
-        (subst (λ l. run out.shape (page_at old.pages) l out.count out.blocks ≡ Ok (output_of level found)) waits.into.output_level waits.whole.stands.read);
+    stands = run_in shape MOST_SPACES (root_spaces shape root) (page_at old.pages) level out.count out.blocks (output_of level found)
+        (subst (λ (s : Shape). run s MOST_SPACES (page_at old.pages) level out.count out.blocks ≡ Ok (output_of level found)) waits.into.output_shape
+        (subst (λ l. run out.shape MOST_SPACES (page_at old.pages) l out.count out.blocks ≡ Ok (output_of level found)) waits.into.output_level waits.whole.stands.read))
+        (output_in_spaces shape (page_at old.pages) root found level may.under.is_found);
     size = size;
     grammar = merged_grammar shape root level out.count out.blocks (is_true _ valid) least most few size waits.into.held.different inside waits.into.held.unnamed
         (let number = may.number in let same : x.log.root.number ≡ root.number = ap (λ (r : Root). r.number) may.stands.logs.root_is in omega (arith, number, same));
@@ -211,7 +218,7 @@ module _ (x : Index) (frames : ℕ) (old : BoardState) (top : ℕ × Root) (foun
       let now = times-append l (run_of x.levels level).leases (leases_of runs_one) in
       let was = times-append l (leases_of x.levels.runs) out.leases in
       let same : times l ((run_of x.levels level).leases ++ leases_of runs_one) ≡ times l (leases_of x.levels.runs ++ out.leases) = omega (arith, set, now, was) in
-      same ∙ may.stands.arena_is.only_these l
+      same ∙ may.stands.arena_is.leases.only_these l
 
   pub exchange_one : CanExchange x.levels x.arena x.pool job level out
   exchange_one = record {

@@ -1,4 +1,5 @@
 mod Within
+mod Isolating
 mod Sessions
 mod Telling
 mod Completing
@@ -8,3 +9,4 @@ mod Images
 mod Runs
 mod Resting
 mod Pairs
+mod Judging

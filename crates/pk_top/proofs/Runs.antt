@@ -1,5 +1,5 @@
 -- Runs of the program one after another: each begins from what the one before it kept.
-use Rattle.std.proofs.Common.{◌≡◌, inl, inr, ℕ, List, [], ◌∷◌, ◌++◌, Option, Some, None, IsSome, refl, sym, ◌∙◌, ap, subst, append-nil}
+use Rattle.std.proofs.Common.{◌≡◌, ℕ, List, [], ◌∷◌, ◌++◌, Option, Some, None, IsSome, refl, sym, ◌∙◌, ap, subst, append-nil}
 use Rattle.std.specs.FinMap.{empty}
 use Rattle.std.proofs.lemmas.List.{append_cancel_left}
 use Rattle.pk_base.specs.Shape.{Shape}
@@ -10,6 +10,7 @@ use Rattle.pk_nand.specs.Calls.{longer}
 use Rattle.pk_nand.specs.Resting.{Standing, RestsFlash}
 use Rattle.pk_nand.proofs.Reaching.{Went-reached, longer-nil}
 use Rattle.pk_nand.specs.Cut.{Cut}
+use Rattle.pk_model.specs.Spaces.{limits_at, terms_at}
 use Rattle.pk_model.specs.Kept.{Kept, rise}
 use Rattle.pk_base.specs.Map.{Map}
 use Rattle.pk_nand.specs.Crash.{EveryCut}
@@ -17,6 +18,7 @@ use Rattle.pk_model.specs.Reading.{reading, Holds}
 use Rattle.pk_model.specs.Script.{script}
 use Rattle.pk_serve.proofs.Counting.{at_most-zero}
 use Rattle.pk_call.specs.Meter.{Meter, meter}
+use Rattle.pk_top.specs.Loads.{no_memory, not_loaded, no_image, has_image}
 use Rattle.pk_top.specs.Serves.{ServeRun, ServesFound, behind_opening}
 use Rattle.pk_wordrun.specs.Tasks.{Task, KeptTask}
 use Rattle.pk_top.specs.Asks.{AsksFound, AskRun}
@@ -50,10 +52,11 @@ module _ (shape : Shape) (r : ProgramRun) (is : IsRun shape r) where
   -- what every cut keeps: of a run that serves, of one that asks, and of another
   abbrev ServesCut : ℕ → Type 0
   ServesCut frames =
-      (m : Map) → Holds shape r.old.pages m → EveryCut shape r.old.pages r.marks (λ flash posted. Kept shape frames m (script r.input).0 (rise r.old.read_faults r.new.read_faults) posted flash)
+      (m : Map) → Holds shape r.old.pages m
+      → EveryCut shape r.old.pages r.marks (λ flash posted. Kept shape (terms_at shape r.old.pages frames) m (script r.input).0 (rise r.old.read_faults r.new.read_faults) posted flash)
 
   abbrev AsksCut : Task → Type 0
-  AsksCut task = (m : Map) → Holds shape r.old.pages m → EveryCut shape r.old.pages r.marks (KeptTask task (opened shape) (meter r.new) shape WORD_FRAMES m)
+  AsksCut task = (m : Map) → Holds shape r.old.pages m → EveryCut shape r.old.pages r.marks (KeptTask task (opened shape) (meter r.new) shape (terms_at shape r.old.pages WORD_FRAMES) m)
 
   abbrev RestsCut : Type 0
   RestsCut = EveryCut shape r.old.pages r.marks (Standing r.old.pages)
@@ -75,6 +78,7 @@ module _ (shape : Shape) (r : ProgramRun) (is : IsRun shape r) where
               map_left = m;
               ran = refl;
               held = subst H (sym here.0) holds;
+              same_limits = ap (limits_at shape) here.0;
               unposted = [];
               begins = append-nil posted ∙ here.1;
               few_faults = at_most-zero (rise r.old.read_faults r.new.read_faults);
@@ -102,9 +106,10 @@ module _ (shape : Shape) (r : ProgramRun) (is : IsRun shape r) where
             let H : Flash → Type 0 = λ f. Holds found.shape f m in
             let G : Shape → Type 0 = λ s. Holds s r.old.pages m in
             let kept = goes.1.cuts cut posted at m (subst H (sym held.0) (subst G (sym same) holds)) in
-            let K : Shape → Type 0 = λ s. Kept s frames m (script r.input).0 (rise r.old.read_faults r.new.read_faults) posted cut in
-            let R : ℕ → Type 0 = λ n. Kept found.shape frames m (script r.input).0 (rise n r.new.read_faults) posted cut in
-            subst K same (subst R (ap (λ (s : BoardState). s.read_faults) found.found.rest) kept),
+            let K : Shape → Type 0 = λ s. Kept s (terms_at s r.old.pages frames) m (script r.input).0 (rise r.old.read_faults r.new.read_faults) posted cut in
+            let R : ℕ → Type 0 = λ n. Kept found.shape (terms_at found.shape r.old.pages frames) m (script r.input).0 (rise n r.new.read_faults) posted cut in
+            let P : Flash → Type 0 = λ f. Kept found.shape (terms_at found.shape f frames) m (script r.input).0 (rise found.loaded.read_faults r.new.read_faults) posted cut in
+            subst K same (subst R (ap (λ (s : BoardState). s.read_faults) found.found.rest) (subst P held.0 kept)),
         (
             let F : Flash → Type 0 = λ f. Cut shape f r.marks r.new.pages (all_posted r.marks) in
             let M : List Mark → Type 0 = λ ms. Cut shape found.loaded.pages ms r.new.pages (all_posted ms) in
@@ -114,10 +119,10 @@ module _ (shape : Shape) (r : ProgramRun) (is : IsRun shape r) where
       )
 
   sound_serving : (frames : ℕ) → ServeRun frames r.old r.new r.status → ServesCut frames × Ended
-  sound_serving frames (inl none) = sound_untouched frames (ap (λ (s : BoardState). s.trail) none.1) (ap (λ (s : BoardState). s.pages) none.1)
-  sound_serving frames (inr (inl refused)) = sound_untouched frames (ap (λ (s : BoardState). s.trail) refused.failed.rest) (refused.failed.held some_shape).0
-  sound_serving frames (inr (inr (inl missing))) = sound_untouched frames (ap (λ (s : BoardState). s.trail) missing.1.rest) (missing.1.held some_shape).0
-  sound_serving frames (inr (inr (inr found))) = sound_found frames found
+  sound_serving frames (no_memory is same) = sound_untouched frames (ap (λ (s : BoardState). s.trail) same) (ap (λ (s : BoardState). s.pages) same)
+  sound_serving frames (not_loaded refused) = sound_untouched frames (ap (λ (s : BoardState). s.trail) refused.failed.rest) (refused.failed.held some_shape).0
+  sound_serving frames (no_image missing) = sound_untouched frames (ap (λ (s : BoardState). s.trail) missing.found.rest) (missing.found.held some_shape).0
+  sound_serving frames (has_image found) = sound_found frames found
 
   -- the flash is unchanged
   sound_resting : RestsFlash r.old r.new → RestsCut × Ended
@@ -144,9 +149,9 @@ module _ (shape : Shape) (r : ProgramRun) (is : IsRun shape r) where
       let none : r.marks ≡ [] = same_marks r.old.trail is.before r.marks [] is.trail (longer-nil r.old.trail ∙ (sym same ∙ is.more)) in
       let T : List Mark → Type 0 = λ marks. Cut shape r.old.pages marks cut posted in
       let here : (cut ≡ r.old.pages) × (posted ≡ []) = subst T none stands in
-      let F : Flash → Type 0 = λ f. KeptTask task (opened shape) (meter r.new) shape WORD_FRAMES m f posted in
-      let P : List ℕ → Type 0 = λ q. KeptTask task (opened shape) (meter r.new) shape WORD_FRAMES m r.old.pages q in
-      subst F (sym here.0) (subst P (sym here.1) (silent task (opened shape) (meter r.new) shape WORD_FRAMES m r.old.pages holds))
+      let F : Flash → Type 0 = λ f. KeptTask task (opened shape) (meter r.new) shape (terms_at shape r.old.pages WORD_FRAMES) m f posted in
+      let P : List ℕ → Type 0 = λ q. KeptTask task (opened shape) (meter r.new) shape (terms_at shape r.old.pages WORD_FRAMES) m r.old.pages q in
+      subst F (sym here.0) (subst P (sym here.1) (silent task (opened shape) (meter r.new) shape (terms_at shape r.old.pages WORD_FRAMES) m r.old.pages holds refl))
 
   asks_found : (task : Task) → AsksFound task r.old r.new r.status → AsksCut task
   asks_found task found m holds cut posted stands =
@@ -164,15 +169,17 @@ module _ (shape : Shape) (r : ProgramRun) (is : IsRun shape r) where
       let H : Flash → Type 0 = λ f. Holds found.shape f m in
       let G : Shape → Type 0 = λ s. Holds s r.old.pages m in
       let kept = goes.1.cuts cut posted at m (subst H (sym held.0) (subst G (sym same) holds)) in
-      let K : Shape → Type 0 = λ s. KeptTask task (opened s) (meter r.new) s WORD_FRAMES m cut posted in
-      let R : Meter → Type 0 = λ t. KeptTask task t (meter r.new) found.shape WORD_FRAMES m cut posted in
-      subst K same (subst R (same_meter found.shape r.old found.loaded found.found some_shape) kept)
+      let K : Shape → Type 0 = λ s. KeptTask task (opened s) (meter r.new) s (terms_at s r.old.pages WORD_FRAMES) m cut posted in
+      let R : Meter → Type 0 = λ t. KeptTask task t (meter r.new) found.shape (terms_at found.shape r.old.pages WORD_FRAMES) m cut posted in
+      let P : Flash → Type 0 =
+      λ f. KeptTask task (meter (behind_opening found.shape WORD_FRAMES found.loaded)) (meter r.new) found.shape (terms_at found.shape f WORD_FRAMES) m cut posted in
+      subst K same (subst R (same_meter found.shape r.old found.loaded found.found some_shape) (subst P held.0 kept))
 
   asks_cut : (task : Task) → AskRun task r.old r.new r.status → AsksCut task
-  asks_cut task (inl none) = quiet_untouched task (ap (λ (s : BoardState). s.trail) none.1)
-  asks_cut task (inr (inl refused)) = quiet_untouched task (ap (λ (s : BoardState). s.trail) refused.failed.rest)
-  asks_cut task (inr (inr (inl missing))) = quiet_untouched task (ap (λ (s : BoardState). s.trail) missing.1.rest)
-  asks_cut task (inr (inr (inr found))) = asks_found task found
+  asks_cut task (no_memory is same) = quiet_untouched task (ap (λ (s : BoardState). s.trail) same)
+  asks_cut task (not_loaded refused) = quiet_untouched task (ap (λ (s : BoardState). s.trail) refused.failed.rest)
+  asks_cut task (no_image missing) = quiet_untouched task (ap (λ (s : BoardState). s.trail) missing.found.rest)
+  asks_cut task (has_image found) = asks_found task found
 
   -- ---- any word
 
@@ -193,7 +200,7 @@ module _ (shape : Shape) (r : ProgramRun) (is : IsRun shape r) where
       (kept.map_left, (kept, refl), kept.held)
   left_by (Some (ask task)) of rests m holds =
       let kept = asks_cut task (is.asks task of) m holds r.left r.posted is.cut in
-      let held = task_holds task (opened shape) (meter r.new) shape WORD_FRAMES m r.left r.posted kept in
+      let held = task_holds task (opened shape) (meter r.new) shape (terms_at shape r.old.pages WORD_FRAMES) m r.left r.posted kept in
       (held.0, kept, held.1)
 
   left : (m : Map) → Holds shape r.old.pages m → Left (word_of r.words) m

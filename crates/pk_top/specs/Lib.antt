@@ -5,9 +5,12 @@ pub mod Loads
 pub mod Ends
 pub mod TextRuns
 pub mod Resting
+pub mod Isolates
 pub mod Serves
 pub mod Asks
 pub mod Makes
 pub mod PairWords
 pub mod PairRuns
 pub mod Sessions
+pub mod Spared
+pub mod SparedTexts

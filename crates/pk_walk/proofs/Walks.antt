@@ -36,6 +36,7 @@ use Rattle.pk_walk.proofs.Leasts.{NotBelow, NoneBelow, none_below}
 use Rattle.pk_walk.proofs.Following.{Follows-above, Follows-start}
 use Rattle.pk_walk.proofs.Seeking.{Reads-none, Reads-more, Reads-pages, ReadsAll-none, ReadsAll-more, no_answer, one_list}
 use Rattle.pk_base.proofs.KeyLemmas.{firsts_sorted}
+use Rattle.pk_base.specs.declared.sizes.TheConstants.{MOST_SPACES}
 
 -- ---- lists of runs that match the flash
 
@@ -60,7 +61,7 @@ read_entries (Err refusal) = []
 -- the entries of runs on a flash, as they are read
 abbrev pub lists_on : Flash → List Kept → List (List Entry)
 lists_on flash [] = []
-lists_on flash (r ∷ rs) = read_entries (run r.shape (page_at flash) r.level r.count r.blocks) ∷ lists_on flash rs
+lists_on flash (r ∷ rs) = read_entries (run r.shape MOST_SPACES (page_at flash) r.level r.count r.blocks) ∷ lists_on flash rs
 
 pub lists_are : (flash : Flash) (arena : Frames) (rs : List Kept) (ess : List (List Entry)) → RunsOnFlash flash arena rs ess → lists_on flash rs ≡ ess
 lists_are flash arena [] [] s = refl
@@ -355,8 +356,7 @@ start_left w cs same unknown flash arena rs active frozen ess stand = record {
 }
 
 none_read_of : (leases : List ℕ) → read_of leases 0 ≡ 0
-none_read_of [] = refl
-none_read_of (l ∷ leases) = refl
+none_read_of leases = omega arith
 
 start_reads : (rs : List Kept) (cs : List Cursor) → pages_read rs (all_at_start cs) ≡ 0
 start_reads [] cs = refl
@@ -540,8 +540,7 @@ module _ (rs : List Kept) (arena : Frames) (active frozen : List Entry) (shape :
     few_read v follow = bound rs at.ess v.cursors stand_now (follow at.ess stand_now).0
       where
         few : (leases : List ℕ) (n m : ℕ) → n ≤ m → read_of leases n ≤ read_of leases m
-        few [] n m h = h
-        few (l ∷ leases) n m h = omega arith
+        few leases n m h = omega (arith, h)
 
         bound : (rs : List Kept) (ess : List (List Entry)) (cs : List Cursor) → RunsOnFlash now.pages arena rs ess → FollowEach now.pages rs ess v.position cs → pages_read rs cs ≤ most_read rs
         bound [] ess cs s f = omega arith
