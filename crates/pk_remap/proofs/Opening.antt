@@ -161,7 +161,8 @@ module _ (bare : Bool) (trail : Option (List Mark)) (counts : BoardCounts) (inpu
     ready_as : (own : Shape) → Some shape ≡ Some own → IsReady (opened shape pages trail counts input posted) own
     ready_as own e = record { shape_is = e; flash = subst (λ (s : Shape). IsFlash s pages) (same_shape shape own e) flash }
 
-  pub make_refused : (bare' : Bool) (shape : Shape) (fault : LoadFault) → ((at : ℕ) → fault ≢ BadImage at) → MakeAnswers before shape (Err fault) (closed bare' trail (with_refusal fault counts) input posted)
+  pub make_refused : (bare' : Bool) (shape : Shape) (fault : LoadFault) → ((at : ℕ) → fault ≢ BadImage at)
+      → MakeAnswers before shape (Err fault) (closed bare' trail (with_refusal fault counts) input posted)
   make_refused bare' shape Fault other = record {
     ok = tt;
     err = refl;

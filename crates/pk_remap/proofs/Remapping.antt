@@ -563,7 +563,8 @@ module _ (image : Image) (work : InMemory) (log : MarkLog) (counts : BoardCounts
   pages_open = ap (λ s. s.pages) (board_is work log counts inner image has_open)
 
   pub page_open : (page : ℕ) → HasTable work inner → page < length (remap_board image work log counts inner).pages → page < page_count work.shape
-  page_open page table inside = let size = outer_size work inner table in let own : length (remap_board image work log counts inner).pages ≡ length (outer_pages work.shape work.spares inner.pages) = ap length pages_open in omega (arith, inside, size, own)
+  page_open page table inside = let size = outer_size work inner table in let own : length (remap_board image work log counts inner).pages
+      ≡ length (outer_pages work.shape work.spares inner.pages) = ap length pages_open in omega (arith, inside, size, own)
 
 pub left_open : (image : Image) (work : InMemory) → is_open image ≡ true → spares_left image work ≡ work.spares - work.taken
 left_open image work has_open = ap (λ (b : Bool). open_spares_left b work) has_open

@@ -76,7 +76,8 @@ pub returns-else-has_room-clause-err : goal.returns-else-has_room-clause-err
 returns-else-has_room-clause-err g c =
     let self = c.args.self.now in
     let old : BoardState = g.B.Nand.state self.inner in
-    let P : ℕ → Type 0 = λ n. PostFailed (remap_board self.image self.work self.log self.counts old) (remap_board self.image self.work self.log (record self.counts { out_faults = n }) old) c.args.bytes.now in
+    let P : ℕ → Type 0 = λ n. PostFailed (remap_board self.image self.work self.log self.counts old)
+    (remap_board self.image self.work self.log (record self.counts { out_faults = n }) old) c.args.bytes.now in
     subst P (sym c.raise.ensures) (post_refused self.image self.work self.log self.counts old c.args.bytes.now)
 
 pub returns-else-has_room-clause-given : goal.returns-else-has_room-clause-given

@@ -44,7 +44,8 @@ returns-then-has_room-clause-ok g c =
     let P : ℕ → Type 0 = λ n. OnOk c.erase_noted.result (there.counts ≡ record self.counts { erases = n }) in
     let Q : ℕ → Type 0 = λ n. OnErr c.erase_noted.result (there.counts ≡ with_stop c.args.block (record self.counts { erases = n })) in
     let own = erase_answer self.image there.image self.work there.work self.log there.log self.counts there.counts old new has_open c.erase_noted.ensures.opened
-    (self.holds.opened has_open) c.args.block c.erase_noted.result c.erase_noted.ensures.made c.erase_noted.ensures.told (subst P c.raise.ensures c.erase_noted.ensures.ok) (subst Q c.raise.ensures c.erase_noted.ensures.err) in
+    (self.holds.opened has_open) c.args.block c.erase_noted.result c.erase_noted.ensures.made c.erase_noted.ensures.told
+    (subst P c.raise.ensures c.erase_noted.ensures.ok) (subst Q c.raise.ensures c.erase_noted.ensures.err) in
     own.0
 
 pub returns-then-has_room-clause-err : goal.returns-then-has_room-clause-err
@@ -57,7 +58,8 @@ returns-then-has_room-clause-err g c =
     let P : ℕ → Type 0 = λ n. OnOk c.erase_noted.result (there.counts ≡ record self.counts { erases = n }) in
     let Q : ℕ → Type 0 = λ n. OnErr c.erase_noted.result (there.counts ≡ with_stop c.args.block (record self.counts { erases = n })) in
     let own = erase_answer self.image there.image self.work there.work self.log there.log self.counts there.counts old new has_open c.erase_noted.ensures.opened
-    (self.holds.opened has_open) c.args.block c.erase_noted.result c.erase_noted.ensures.made c.erase_noted.ensures.told (subst P c.raise.ensures c.erase_noted.ensures.ok) (subst Q c.raise.ensures c.erase_noted.ensures.err) in
+    (self.holds.opened has_open) c.args.block c.erase_noted.result c.erase_noted.ensures.made c.erase_noted.ensures.told
+    (subst P c.raise.ensures c.erase_noted.ensures.ok) (subst Q c.raise.ensures c.erase_noted.ensures.err) in
     own.1
 
 pub returns-then-has_room-clause-passes : goal.returns-then-has_room-clause-passes
