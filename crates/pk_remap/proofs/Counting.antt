@@ -1,11 +1,9 @@
 -- What the calls of a relocation do besides: only the flash differs, and spares are taken only for faults.
-use Rattle.std.proofs.Common.{◌≡◌, ◌≢◌, ◌⊎◌, inl, inr, ℕ, suc, ◌+◌, ◌*◌, ◌/◌, ◌<◌, ◌≤◌, Bool, true, false, List, length, refl, sym, ap, subst, ◌∙◌, arith, Option, Some, None}
-use Rattle.std.specs.Prelude.{nat_lt, replicate, ◌++◌, ◌∷◌, [], Result, Ok, Err, IsErr}
+use Rattle.std.proofs.Common.{◌≡◌, ◌≢◌, ◌⊎◌, inl, inr, ℕ, ◌+◌, ◌<◌, ◌≤◌, Bool, true, false, length, refl, sym, ap, subst, ◌∙◌, arith, Option, Some, None}
+use Rattle.std.specs.Prelude.{nat_lt, Result, Ok, Err}
 use Rattle.std.proofs.lemmas.Bool.Decides.{nat_tests}
-use Rattle.std.proofs.lemmas.List.{length-append}
 use Rattle.pk_base.specs.Shape.{Shape}
 use Rattle.pk_base.specs.Page.{Flash, page_at}
-use Rattle.pk_base.specs.Mark.{Mark, program, erase}
 use Rattle.pk_nand.specs.BoardState.{BoardState}
 use Rattle.pk_nand.specs.Calls.{IsReady, Rose, last_count}
 use Rattle.pk_nand.specs.Operations.{after_read, ReadFailed}
@@ -16,9 +14,7 @@ use Rattle.pk_remap.specs.declared.relocation.Relocation.{Relocation as InMemory
 use Rattle.pk_remap.specs.Table.{SpareTable}
 use Rattle.pk_remap.specs.Newest.{newest_table, IsNewest}
 use Rattle.pk_remap.specs.Places.{inner_shape}
-use Rattle.pk_remap.specs.Counting.{SparesCounted, UsesOnlyTaken, HasTable, StepCounts, ServeCounts, OuterFailed, OuterCounts}
-use Rattle.pk_remap.specs.Running.{SameCall}
-use Rattle.pk_remap.specs.Serving.{SameSpares}
+use Rattle.pk_remap.specs.Counting.{SparesCounted, HasTable, ServeCounts, OuterFailed, OuterCounts}
 use Rattle.pk_remap.proofs.Finding.{newest-found, found-newest}
 
 -- the same board but for its flash

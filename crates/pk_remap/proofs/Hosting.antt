@@ -1,10 +1,10 @@
 -- The host of a flash with spare blocks is that of its inner board.
-use Rattle.std.proofs.Common.{◌≡◌, ◌⊎◌, inl, inr, ℕ, ◌+◌, ◌≤◌, List, [], ◌∷◌, ◌++◌, length, take, drop, refl, sym, ap, subst, ◌∙◌, arith, Option, Some, None}
+use Rattle.std.proofs.Common.{◌≡◌, inl, inr, ℕ, List, [], ◌∷◌, take, refl, sym, ap, subst, ◌∙◌, arith, Option, Some, None}
 use Rattle.std.specs.Prelude.{Result, Ok, Err, IfOk, OnOk, OnErr}
 use Rattle.std.proofs.lemmas.List.{append-nil}
-use Rattle.pk_base.specs.Mark.{Mark, post}
+use Rattle.pk_base.specs.Mark.{post}
 use Rattle.pk_nand.specs.BoardState.{BoardState}
-use Rattle.pk_nand.specs.Calls.{Rose, counted, longer}
+use Rattle.pk_nand.specs.Calls.{counted, longer}
 use Rattle.pk_nand.specs.Operations.{Fetched, FetchFailed, PostFailed, SentFront, after_post}
 use Rattle.pk_nand.proofs.Posting.{sent_left}
 use Rattle.pk_remap.specs.declared.counts.BoardCounts.{BoardCounts}

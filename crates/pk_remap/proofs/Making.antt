@@ -1,16 +1,14 @@
 -- The first table of a flash that was just made.
-use Rattle.std.proofs.Common.{◌≡◌, ◌≢◌, ◌⊎◌, inl, inr, ℕ, zero, suc, ◌+◌, ◌-◌, ◌*◌, ◌/◌, ◌%◌, ◌<◌, ◌≤◌, Bool, true, false, List, [], length, replicate, refl, sym, ap, subst, ◌∙◌, arith, Option, Some, None}
+use Rattle.std.proofs.Common.{◌≡◌, ◌≢◌, inr, ℕ, zero, suc, ◌+◌, ◌*◌, ◌%◌, ◌<◌, ◌≤◌, Bool, true, false, List, [], length, replicate, refl, sym, ap, subst, ◌∙◌, arith, Option, Some}
 use Rattle.std.specs.Prelude.{nat_le, nat_lt, nat_eq, slice_set, unwrap_or, Vec, Result, Ok, Err}
 use Rattle.std.specs.declared.alloc.Global.{Global}
-use Rattle.std.proofs.Math.Nat.{mod-lt}
 use Rattle.std.proofs.lemmas.Bool.Decides.{nat_tests}
 use Rattle.std.proofs.lemmas.List.{length-replicate}
 use Rattle.std.proofs.lemmas.Nat.{div-add-mod'}
-use Rattle.pk_base.specs.declared.sizes.TheConstants.{MOST_PAGE_BYTES}
 use Rattle.pk_base.specs.Shape.{Shape, IsShape, page_count}
-use Rattle.pk_base.specs.Page.{Page, Flash, page_at, erased, whole, torn, IsPage, IsFlash}
-use Rattle.pk_base.specs.Mark.{program, after}
-use Rattle.pk_nand.specs.BoardState.{BoardState, shape_of, shape_or_none}
+use Rattle.pk_base.specs.Page.{Flash, page_at, erased, whole, torn, IsPage, IsFlash}
+use Rattle.pk_base.specs.Mark.{program}
+use Rattle.pk_nand.specs.BoardState.{BoardState}
 use Rattle.pk_nand.specs.Calls.{IsReady, Rose, after_program, ProgramFailed}
 use Rattle.pk_nand.specs.Operations.{InOrder}
 use Rattle.pk_nand.specs.Effects.{OnlyFlash}
@@ -19,13 +17,13 @@ use Rattle.pk_nand.proofs.Effects.{works_program, stops_program, only_then}
 use Rattle.pk_nand.proofs.Leaving.{same_pages, page_at-slice_set, page_at-slice_set_same, IsFlash-after, full_program}
 use Rattle.pk_remap.specs.declared.layout.TheConstants.{MOST_SPARES}
 use Rattle.pk_remap.specs.declared.relocation.Relocation.{Relocation as InMemory}
-use Rattle.pk_remap.specs.Table.{SpareTable, is_table, table_page, table_bytes}
+use Rattle.pk_remap.specs.Table.{SpareTable, is_table}
 use Rattle.pk_remap.specs.Newest.{table_in, first_table_page, IsTablePage, IsNewer, IsNewest}
-use Rattle.pk_remap.specs.Places.{inner_shape, placed_page, through_by}
+use Rattle.pk_remap.specs.Places.{inner_shape, through_by}
 use Rattle.pk_remap.specs.Relocating.{IsNextPair}
-use Rattle.pk_remap.specs.Running.{relocation_of, HasPageBuffers, IsAtRest}
+use Rattle.pk_remap.specs.Running.{HasPageBuffers, IsAtRest}
 use Rattle.pk_remap.specs.Remapped.{outer_pages}
-use Rattle.pk_remap.specs.FirstTable.{first_table, first_table_bytes, IsMade, IsHalfMade, FirstTableWritten, FirstTableFailed, FirstTableOutcome}
+use Rattle.pk_remap.specs.FirstTable.{first_table, first_table_bytes, IsMade, FirstTableWritten, FirstTableFailed, FirstTableOutcome}
 use Rattle.pk_remap.proofs.TableLemmas.{table_parts, page_again}
 use Rattle.pk_remap.proofs.Placing.{mod-of, length-through, page-through, past-through}
 use Rattle.pk_remap.proofs.Finding.{same_table, none_some}

@@ -1,5 +1,5 @@
 -- How a flash with spare blocks opens its image, and makes one.
-use Rattle.std.proofs.Common.{◌≡◌, ◌≢◌, ◌⊎◌, inl, inr, ℕ, suc, ◌+◌, ◌-◌, ◌*◌, ◌/◌, ◌%◌, ◌<◌, ◌≤◌, Bool, true, false, List, [], length, replicate, refl, sym, ap, subst, ◌∙◌, arith, Option, Some, None}
+use Rattle.std.proofs.Common.{◌≡◌, ◌≢◌, ℕ, ◌+◌, ◌-◌, ◌<◌, ◌≤◌, Bool, true, false, List, [], replicate, refl, sym, ap, subst, ◌∙◌, arith, Option, Some, None}
 use Rattle.std.specs.Prelude.{Result, Ok, Err, IsOk, IsErr, OnOk, OnErr, IfOk, IsSome}
 use Rattle.pk_base.specs.declared.shape.ShapeError.{ShapeError}
 use Rattle.pk_base.specs.declared.shape.ShapeError.TheVariants.{BadPage, BadBlock, TooLarge, TooSmall}
@@ -9,7 +9,7 @@ use Rattle.std.proofs.lemmas.Bool.Decides.{nat_tests}
 use Rattle.pk_base.specs.Page.{Flash, page_at, erased, whole, IsPage, IsFlash}
 use Rattle.pk_base.specs.Mark.{Mark}
 use Rattle.pk_nand.specs.BoardState.{BoardState}
-use Rattle.pk_nand.specs.Calls.{IsReady, Rose, counted, Loaded, LoadFailed, Made, MakeFailed}
+use Rattle.pk_nand.specs.Calls.{IsReady, Rose, Loaded, LoadFailed, Made, MakeFailed}
 use Rattle.pk_nand.specs.declared.types.LoadFault.{LoadFault}
 use Rattle.pk_nand.specs.declared.types.LoadFault.TheVariants.{Fault, BadImage, Memory}
 use Rattle.pk_remap.specs.declared.counts.BoardCounts.{BoardCounts}
@@ -18,7 +18,7 @@ use Rattle.pk_remap.specs.Places.{inner_shape}
 use Rattle.pk_remap.specs.Places.{placed_page, through_by}
 use Rattle.pk_remap.specs.Table.{SpareTable}
 use Rattle.pk_remap.specs.Counting.{HasTable}
-use Rattle.pk_remap.specs.Causes.{LoadCause, BadImageCause, inner_is_bad, MakeCause, MakeFaultCause, inner_fault, not_allowed}
+use Rattle.pk_remap.specs.Causes.{LoadCause, inner_is_bad, MakeCause, inner_fault, not_allowed}
 use Rattle.pk_remap.specs.declared.image.Image.{Image}
 use Rattle.pk_remap.specs.declared.image.Image.TheVariants.{Unknown, Missing, Unsure, Sure}
 use Rattle.pk_remap.specs.declared.mark_log.MarkLog.{MarkLog}
@@ -161,7 +161,8 @@ module _ (bare : Bool) (trail : Option (List Mark)) (counts : BoardCounts) (inpu
     ready_as : (own : Shape) → Some shape ≡ Some own → IsReady (opened shape pages trail counts input posted) own
     ready_as own e = record { shape_is = e; flash = subst (λ (s : Shape). IsFlash s pages) (same_shape shape own e) flash }
 
-  pub make_refused : (bare' : Bool) (shape : Shape) (fault : LoadFault) → ((at : ℕ) → fault ≢ BadImage at) → MakeAnswers before shape (Err fault) (closed bare' trail (with_refusal fault counts) input posted)
+  pub make_refused : (bare' : Bool) (shape : Shape) (fault : LoadFault) → ((at : ℕ) → fault ≢ BadImage at)
+      → MakeAnswers before shape (Err fault) (closed bare' trail (with_refusal fault counts) input posted)
   make_refused bare' shape Fault other = record {
     ok = tt;
     err = refl;

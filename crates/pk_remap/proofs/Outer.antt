@@ -11,7 +11,7 @@ use Rattle.pk_base.specs.declared.sizes.TheConstants.{MOST_PAGE_BYTES}
 use Rattle.pk_base.specs.Shape.{Shape, page_count}
 use Rattle.pk_base.specs.Page.{Page, Flash, page_at, erased, whole, torn, IsPage, IsFlash}
 use Rattle.pk_base.specs.Mark.{Mark, program, erase, after}
-use Rattle.pk_nand.specs.BoardState.{BoardState, shape_of}
+use Rattle.pk_nand.specs.BoardState.{BoardState}
 use Rattle.pk_nand.specs.Cut.{Interrupted}
 use Rattle.pk_nand.proofs.Leaving.{interrupted_done, page_at-slice_set, IsFlash-interrupted, full_program, full_erase}
 use Rattle.pk_nand.proofs.Writing.{shape_is}
@@ -41,12 +41,12 @@ use Rattle.pk_remap.specs.declared.relocation.Relocation.{Relocation as InMemory
 use Rattle.pk_remap.specs.Places.{inner_shape, place, placed_page}
 use Rattle.pk_remap.specs.Through.{through, MayShow, mark_below}
 use Rattle.pk_remap.specs.Relocating.{Relocation, block_of, copies_of, IsTop, SameTables}
-use Rattle.pk_remap.specs.Stepping.{RelocationGoesOn, IsSource}
+use Rattle.pk_remap.specs.Stepping.{RelocationGoesOn}
 use Rattle.pk_remap.specs.Beginning.{CanRelocate, CallHasFailed}
-use Rattle.pk_remap.specs.Running.{relocation_of, mark_of, is_kept, HasPageBuffers, HasTurn, RelocationRuns, IsAtRest, SameCall}
+use Rattle.pk_remap.specs.Running.{relocation_of, mark_of, HasPageBuffers, HasTurn, RelocationRuns, IsAtRest, SameCall}
 use Rattle.pk_remap.specs.Serving.{PassesCount, PassesCalls, ServingStops, ServingOutcome, read_failed, table_failed, spares_failed, page_is_torn, for_mark, outer_of}
 use Rattle.pk_remap.specs.Serving.{SameSpares, OuterCall, OuterOutcome, HasPartner, PartnerKept, PartnerOutcome, CanFind, FindOutcome, found_top, RelocationServes}
-use Rattle.pk_remap.proofs.Calls.{erase_reached, erase_went, program_reached, program_went, left_interrupted, done_interrupted}
+use Rattle.pk_remap.proofs.Calls.{erase_reached, erase_went, program_reached, program_went, left_interrupted}
 use Rattle.pk_remap.proofs.Beginning.{table_kept, calls_below, done_below, fails_below}
 use Rattle.pk_remap.proofs.Turning.{next_kept}
 use Rattle.pk_nand.specs.Effects.{OnlyFlash}

@@ -6,9 +6,9 @@ use Rattle.pk_base.specs.Page.{Flash, page_at, torn, IsFlash}
 use Rattle.pk_base.specs.Mark.{Mark, program, erase, after}
 use Rattle.pk_nand.specs.BoardState.{BoardState, shape_of}
 use Rattle.pk_nand.specs.Cut.{Interrupted}
-use Rattle.pk_nand.specs.Calls.{IsReady, Rose, counted, longer, last_count, after_program, ProgramFailed}
+use Rattle.pk_nand.specs.Calls.{IsReady, Rose, counted, longer, after_program, ProgramFailed}
 use Rattle.pk_nand.specs.Operations.{after_read, after_erase, EraseFailed, ReadFailed}
-use Rattle.pk_nand.specs.Effects.{OnlyFlash, OnlyReading, NoFault}
+use Rattle.pk_nand.specs.Effects.{OnlyFlash, OnlyReading}
 use Rattle.pk_nand.specs.Crash.{Went}
 use Rattle.pk_nand.specs.declared.types.NandFault.{NandFault}
 use Rattle.pk_nand.proofs.Effects.{only_then}
@@ -28,9 +28,9 @@ use Rattle.pk_remap.specs.Relocating.{block_of, copies_of}
 use Rattle.pk_remap.specs.Stepping.{IsTableBlock}
 use Rattle.pk_remap.specs.Running.{relocation_of, HasPageBuffers, IsAtRest}
 use Rattle.pk_remap.specs.Serving.{PassesCount, PassesCalls, ServingStops, read_failed, table_failed, spares_failed, page_is_torn, for_mark, outer_of, OuterOutcome, SameSpares}
-use Rattle.pk_remap.specs.Counting.{SparesCounted, UsesOnlyTaken, HasTable, OuterFailed, OuterCounts, SearchFailed}
+use Rattle.pk_remap.specs.Counting.{SparesCounted, HasTable, OuterCounts}
 use Rattle.pk_remap.specs.Logged.{told}
-use Rattle.pk_remap.specs.Remapped.{outer_pages, is_open, is_missing, is_sure, open_spares_left, spares_left, with_stop, remap_board, HoldsTable, RemapHolds, HasLog}
+use Rattle.pk_remap.specs.Remapped.{outer_pages, is_open, is_missing, is_sure, open_spares_left, spares_left, with_stop, remap_board, RemapHolds, HasLog}
 use Rattle.pk_remap.specs.Remapped.{SameTaken, TableIsFound, TableNotFound}
 use Rattle.pk_nand.specs.Counts.{after_reads}
 use Rattle.pk_remap.specs.Causes.{SparesFallBy, IsRefused, StopCause, read_fault, table_fault, no_spare_left, torn_page, MarkMade}
@@ -563,7 +563,8 @@ module _ (image : Image) (work : InMemory) (log : MarkLog) (counts : BoardCounts
   pages_open = ap (λ s. s.pages) (board_is work log counts inner image has_open)
 
   pub page_open : (page : ℕ) → HasTable work inner → page < length (remap_board image work log counts inner).pages → page < page_count work.shape
-  page_open page table inside = let size = outer_size work inner table in let own : length (remap_board image work log counts inner).pages ≡ length (outer_pages work.shape work.spares inner.pages) = ap length pages_open in omega (arith, inside, size, own)
+  page_open page table inside = let size = outer_size work inner table in let own : length (remap_board image work log counts inner).pages
+      ≡ length (outer_pages work.shape work.spares inner.pages) = ap length pages_open in omega (arith, inside, size, own)
 
 pub left_open : (image : Image) (work : InMemory) → is_open image ≡ true → spares_left image work ≡ work.spares - work.taken
 left_open image work has_open = ap (λ (b : Bool). open_spares_left b work) has_open

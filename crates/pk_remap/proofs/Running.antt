@@ -37,7 +37,7 @@ use Rattle.pk_remap.specs.Relocating.{IsTop, SameTables, IsNextPair}
 use Rattle.pk_remap.specs.Stepping.{WentSafely, RelocationGoesOn, IsSource, IsOtherTable, SpareFailed}
 use Rattle.pk_remap.specs.Running.{mark_of, is_program, relocation_of, copies, is_kept, bytes_for, next_after, with_table, table_phase, phase_after, phase_rank}
 use Rattle.pk_remap.specs.Running.{relocation_steps_left}
-use Rattle.pk_remap.specs.Running.{IsTableHalf, AtPhase, HasPageBuffersFor, HasPageBuffers, HasTurn, RelocationRuns, IsAtRest, IsRelocated, SameCall, NoReadFailed}
+use Rattle.pk_remap.specs.Running.{IsTableHalf, AtPhase, HasPageBuffers, HasTurn, RelocationRuns, SameCall, NoReadFailed}
 use Rattle.pk_remap.specs.Running.{RelocationStops, StepOutcome, reading, in_table, no_spare, torn}
 use Rattle.pk_remap.proofs.TableLemmas.{table_parts}
 use Rattle.pk_remap.proofs.Cutting.{none_cut, block_inside, next_grammar}

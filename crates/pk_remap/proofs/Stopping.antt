@@ -1,16 +1,16 @@
 -- What a step leaves besides: how many spares it takes, and that the board has a table after a step that fails.
-use Rattle.std.proofs.Common.{◌≡◌, inl, inr, ℕ, suc, ◌+◌, ◌<◌, ◌≤◌, Bool, true, false, List, length, refl, sym, ap, subst, ◌∙◌, arith}
-use Rattle.std.specs.Prelude.{Result, Ok, Err, IsErr, IfOk, OnErr, Vec, Option, None}
+use Rattle.std.proofs.Common.{◌≡◌, ℕ, suc, ◌+◌, ◌<◌, ◌≤◌, Bool, true, false, List, length, sym, subst, ◌∙◌, arith}
+use Rattle.std.specs.Prelude.{Result, Ok, Err, IsErr, IfOk, Vec, Option, None}
 use Rattle.std.specs.declared.alloc.Global.{Global}
 use Rattle.pk_base.specs.Page.{Flash, IsPage, IsFlash}
 use Rattle.pk_nand.specs.BoardState.{BoardState}
-use Rattle.pk_nand.specs.Calls.{IsReady, Rose, ProgramFailed, after_program}
-use Rattle.pk_nand.specs.Operations.{EraseFailed, ReadFailed, after_read, after_erase}
+use Rattle.pk_nand.specs.Calls.{IsReady, Rose, ProgramFailed}
+use Rattle.pk_nand.specs.Operations.{EraseFailed}
 use Rattle.pk_nand.specs.Effects.{OnlyFlash}
-use Rattle.pk_nand.proofs.Effects.{stops_erase, stops_program, only_then}
+use Rattle.pk_nand.proofs.Effects.{stops_erase, stops_program}
 use Rattle.pk_nand.specs.declared.types.NandFault.{NandFault}
 use Rattle.pk_remap.specs.declared.phase.Phase.{Phase}
-use Rattle.pk_remap.specs.declared.phase.Phase.TheVariants.{EraseSpare, Read, Write, EraseTable, First, Second}
+use Rattle.pk_remap.specs.declared.phase.Phase.TheVariants.{EraseSpare, Read, EraseTable, First, Second}
 use Rattle.pk_remap.specs.declared.relocation.Relocation.{Relocation as InMemory}
 use Rattle.pk_remap.specs.Table.{table_bytes}
 use Rattle.pk_remap.specs.Places.{inner_shape}
@@ -22,7 +22,7 @@ use Rattle.pk_remap.proofs.Turning.{next_pair, erased_pair}
 use Rattle.pk_remap.proofs.Cutting.{OneOfTables}
 use Rattle.pk_remap.proofs.Stepping.{table_erase_top, first_left, second_left}
 use Rattle.pk_remap.proofs.Running.{half_erased}
-use Rattle.pk_remap.proofs.Counting.{only_same, counted_done, counted_failed, has_table}
+use Rattle.pk_remap.proofs.Counting.{counted_done, counted_failed, has_table}
 
 module _ (r : InMemory) (before : Flash) (old : BoardState) (runs : RelocationRuns r before old) where
   used_most : length (relocation_of r).table.serves ≤ r.taken

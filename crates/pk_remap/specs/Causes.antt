@@ -1,7 +1,7 @@
 -- What a flash with spare blocks does by calls of its inner flash, and why it refuses a call.
 use Rattle.std.specs.Prelude.{◌≡◌, ◌⊎◌, ℕ, ◌+◌, ◌-◌, ◌*◌, ◌<◌, ◌≤◌, length, Option, Some, None, Result, Ok, Err, IsOk, IsErr, OnOk, OnErr, ⊤}
 use Rattle.pk_base.specs.Shape.{Shape, checked}
-use Rattle.pk_base.specs.Page.{Flash, page_at, torn}
+use Rattle.pk_base.specs.Page.{page_at, torn}
 use Rattle.pk_base.specs.Mark.{Mark, after}
 use Rattle.pk_nand.specs.BoardState.{BoardState}
 use Rattle.pk_nand.specs.Calls.{Rose, last_count}

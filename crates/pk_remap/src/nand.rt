@@ -10,7 +10,6 @@ ghost use Rattle.pk_nand.specs.Operations.{filled, InOrder, after_read, after_er
 ghost use Rattle.pk_nand.specs.declared.types.LoadFault.{LoadFault};
 ghost use Rattle.pk_remap.specs.Through.{MayShow};
 ghost use Rattle.pk_remap.specs.Serving.{PassesCalls};
-ghost use Rattle.pk_remap.specs.Logged.{HasLogRoom};
 ghost use Rattle.pk_remap.specs.Remapped.{remap_board, is_open as is_open_image, spares_left as spares_left_of};
 ghost use Rattle.pk_remap.specs.Causes.{LoadCause, MakeCause, StopCause, SparesFallBy, IsRefused};
 

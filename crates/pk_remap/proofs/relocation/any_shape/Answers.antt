@@ -1,4 +1,4 @@
-use Rattle.std.proofs.Common.{◌≡◌, sym, ap, ◌∙◌}
+use Rattle.std.proofs.Common.{sym, ap, ◌∙◌}
 use Rattle.std.specs.Prelude.{is_ok}
 use Rattle.pk_remap.proofs.Opening.{small_is}
 use Rattle.pk_remap.proofs.relocation.any_shape.Goals as goal

@@ -1,7 +1,6 @@
-use Rattle.std.proofs.Common.{◌≡◌, subst}
+use Rattle.std.proofs.Common.{subst}
 use Rattle.pk_nand.specs.BoardState.{BoardState}
 use Rattle.pk_nand.specs.Operations.{FetchFailed}
-use Rattle.pk_nand.specs.Calls.{counted}
 use Rattle.std.proofs.Common.{ℕ, sym}
 use Rattle.pk_remap.specs.Remapped.{remap_board}
 use Rattle.pk_remap.proofs.Hosting.{fetched, fetch_failed, fetch_rest, holds_host}

@@ -1,8 +1,7 @@
-use Rattle.std.proofs.Common.{◌≡◌, inl, inr, ℕ, refl, sym, ap, subst, ◌∙◌}
+use Rattle.std.proofs.Common.{inl, inr, ℕ, refl, sym, subst, ◌∙◌}
 use Rattle.pk_nand.specs.BoardState.{BoardState}
 use Rattle.pk_nand.specs.Operations.{PostFailed, SentFront}
-use Rattle.pk_nand.specs.Calls.{counted, Rose}
-use Rattle.pk_remap.specs.declared.counts.BoardCounts.{BoardCounts}
+use Rattle.pk_nand.specs.Calls.{Rose}
 use Rattle.pk_remap.specs.Logged.{told}
 use Rattle.pk_remap.specs.Remapped.{remap_board}
 use Rattle.pk_remap.proofs.Hosting.{posted_all, sent_some, post_failed_board, sent_none, post_refused, post_rest, holds_host}
@@ -77,7 +76,8 @@ pub returns-else-has_room-clause-err : goal.returns-else-has_room-clause-err
 returns-else-has_room-clause-err g c =
     let self = c.args.self.now in
     let old : BoardState = g.B.Nand.state self.inner in
-    let P : ℕ → Type 0 = λ n. PostFailed (remap_board self.image self.work self.log self.counts old) (remap_board self.image self.work self.log (record self.counts { out_faults = n }) old) c.args.bytes.now in
+    let P : ℕ → Type 0 = λ n. PostFailed (remap_board self.image self.work self.log self.counts old)
+    (remap_board self.image self.work self.log (record self.counts { out_faults = n }) old) c.args.bytes.now in
     subst P (sym c.raise.ensures) (post_refused self.image self.work self.log self.counts old c.args.bytes.now)
 
 pub returns-else-has_room-clause-given : goal.returns-else-has_room-clause-given

@@ -1,16 +1,16 @@
-use Rattle.std.proofs.Common.{◌≡◌, ◌<◌, ◌/◌, inl, inr, ℕ, length, refl, sym, ap, subst, ◌∙◌, arith}
-use Rattle.std.specs.Prelude.{Result, Ok, Err, OnOk, OnErr, Some}
+use Rattle.std.proofs.Common.{◌≡◌, ◌<◌, inl, ℕ, refl, sym, subst, ◌∙◌, arith}
+use Rattle.std.specs.Prelude.{OnOk, OnErr}
 use Rattle.pk_base.specs.Shape.{Shape}
 use Rattle.pk_base.specs.Page.{Flash}
 use Rattle.pk_base.specs.Mark.{erase}
-use Rattle.pk_nand.specs.BoardState.{BoardState, shape_of}
+use Rattle.pk_nand.specs.BoardState.{BoardState}
 use Rattle.pk_nand.specs.Calls.{counted}
 use Rattle.pk_nand.specs.Operations.{EraseFailed}
 use Rattle.pk_remap.specs.declared.counts.BoardCounts.{BoardCounts}
 use Rattle.pk_remap.specs.Through.{MayShow}
 use Rattle.pk_remap.specs.Serving.{PassesCalls}
-use Rattle.pk_remap.specs.Remapped.{with_stop, spares_left, remap_board}
-use Rattle.pk_remap.proofs.Remapping.{opens_block, erase_answer, erase_refused, shape_open, pages_open, page_open, cause_open, fall_open}
+use Rattle.pk_remap.specs.Remapped.{with_stop, remap_board}
+use Rattle.pk_remap.proofs.Remapping.{opens_block, erase_answer, erase_refused, shape_open, pages_open, cause_open, fall_open}
 use Rattle.pk_remap.proofs.nand.RemapNand.erase.Goals as goal
 
 pub erase_noted-requires-clause-opened : goal.erase_noted-requires-clause-opened
@@ -44,7 +44,8 @@ returns-then-has_room-clause-ok g c =
     let P : ℕ → Type 0 = λ n. OnOk c.erase_noted.result (there.counts ≡ record self.counts { erases = n }) in
     let Q : ℕ → Type 0 = λ n. OnErr c.erase_noted.result (there.counts ≡ with_stop c.args.block (record self.counts { erases = n })) in
     let own = erase_answer self.image there.image self.work there.work self.log there.log self.counts there.counts old new has_open c.erase_noted.ensures.opened
-    (self.holds.opened has_open) c.args.block c.erase_noted.result c.erase_noted.ensures.made c.erase_noted.ensures.told (subst P c.raise.ensures c.erase_noted.ensures.ok) (subst Q c.raise.ensures c.erase_noted.ensures.err) in
+    (self.holds.opened has_open) c.args.block c.erase_noted.result c.erase_noted.ensures.made c.erase_noted.ensures.told
+    (subst P c.raise.ensures c.erase_noted.ensures.ok) (subst Q c.raise.ensures c.erase_noted.ensures.err) in
     own.0
 
 pub returns-then-has_room-clause-err : goal.returns-then-has_room-clause-err
@@ -57,7 +58,8 @@ returns-then-has_room-clause-err g c =
     let P : ℕ → Type 0 = λ n. OnOk c.erase_noted.result (there.counts ≡ record self.counts { erases = n }) in
     let Q : ℕ → Type 0 = λ n. OnErr c.erase_noted.result (there.counts ≡ with_stop c.args.block (record self.counts { erases = n })) in
     let own = erase_answer self.image there.image self.work there.work self.log there.log self.counts there.counts old new has_open c.erase_noted.ensures.opened
-    (self.holds.opened has_open) c.args.block c.erase_noted.result c.erase_noted.ensures.made c.erase_noted.ensures.told (subst P c.raise.ensures c.erase_noted.ensures.ok) (subst Q c.raise.ensures c.erase_noted.ensures.err) in
+    (self.holds.opened has_open) c.args.block c.erase_noted.result c.erase_noted.ensures.made c.erase_noted.ensures.told
+    (subst P c.raise.ensures c.erase_noted.ensures.ok) (subst Q c.raise.ensures c.erase_noted.ensures.err) in
     own.1
 
 pub returns-then-has_room-clause-passes : goal.returns-then-has_room-clause-passes

@@ -1,5 +1,4 @@
-use Rattle.std.proofs.Common.{◌≡◌, ◌≤◌, ℕ, Bool, true, false, refl, sym, ap, subst, ◌∙◌, arith, Some}
-use Rattle.std.specs.Prelude.{Result, Ok, Err}
+use Rattle.std.proofs.Common.{◌≡◌, Bool, refl, sym, ap, ◌∙◌, arith}
 use Rattle.pk_nand.specs.BoardState.{BoardState}
 use Rattle.pk_remap.specs.Remapped.{open_spares_left, spares_left}
 use Rattle.pk_remap.proofs.Remapping.{no_bool}

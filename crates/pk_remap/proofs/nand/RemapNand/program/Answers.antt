@@ -1,15 +1,15 @@
-use Rattle.std.proofs.Common.{◌≡◌, ◌<◌, ◌/◌, inl, inr, ℕ, length, refl, sym, ap, subst, ◌∙◌, arith}
-use Rattle.std.specs.Prelude.{Result, Ok, Err, OnOk, OnErr, Some}
+use Rattle.std.proofs.Common.{◌≡◌, ◌/◌, inl, ℕ, length, refl, sym, ap, subst, ◌∙◌, arith}
+use Rattle.std.specs.Prelude.{OnOk, OnErr}
 use Rattle.pk_base.specs.Shape.{Shape}
 use Rattle.pk_base.specs.Page.{Flash}
 use Rattle.pk_base.specs.Mark.{program}
-use Rattle.pk_nand.specs.BoardState.{BoardState, shape_of}
+use Rattle.pk_nand.specs.BoardState.{BoardState}
 use Rattle.pk_nand.specs.Calls.{counted, ProgramFailed}
 use Rattle.pk_nand.specs.Operations.{InOrder}
 use Rattle.pk_remap.specs.declared.counts.BoardCounts.{BoardCounts}
 use Rattle.pk_remap.specs.Through.{MayShow}
 use Rattle.pk_remap.specs.Serving.{PassesCalls}
-use Rattle.pk_remap.specs.Remapped.{with_stop, spares_left, remap_board}
+use Rattle.pk_remap.specs.Remapped.{with_stop, remap_board}
 use Rattle.pk_remap.proofs.Remapping.{opens_page, program_answer, program_refused, shape_open, pages_open, page_open, cause_open, fall_open}
 use Rattle.pk_remap.proofs.nand.RemapNand.program.Goals as goal
 
@@ -62,7 +62,8 @@ returns-then-has_room-clause-ok g c =
     let R : ℕ → Type 0 = λ b. OnErr c.program_noted.result (there.counts ≡ with_stop b (record self.counts { programs = c.raise.new.count })) in
     let err = subst R c.block_of-block.ensures c.program_noted.ensures.err in
     let own = program_answer self.image there.image self.work there.work self.log there.log self.counts there.counts old new has_open c.program_noted.ensures.opened
-    (self.holds.opened has_open) c.args.page c.args.bytes.now c.program_noted.result c.program_noted.ensures.made c.program_noted.ensures.told (subst P c.raise.ensures c.program_noted.ensures.ok) (subst Q c.raise.ensures err) in
+    (self.holds.opened has_open) c.args.page c.args.bytes.now c.program_noted.result c.program_noted.ensures.made c.program_noted.ensures.told
+    (subst P c.raise.ensures c.program_noted.ensures.ok) (subst Q c.raise.ensures err) in
     own.0
 
 pub returns-then-has_room-clause-err : goal.returns-then-has_room-clause-err
@@ -77,7 +78,8 @@ returns-then-has_room-clause-err g c =
     let R : ℕ → Type 0 = λ b. OnErr c.program_noted.result (there.counts ≡ with_stop b (record self.counts { programs = c.raise.new.count })) in
     let err = subst R c.block_of-block.ensures c.program_noted.ensures.err in
     let own = program_answer self.image there.image self.work there.work self.log there.log self.counts there.counts old new has_open c.program_noted.ensures.opened
-    (self.holds.opened has_open) c.args.page c.args.bytes.now c.program_noted.result c.program_noted.ensures.made c.program_noted.ensures.told (subst P c.raise.ensures c.program_noted.ensures.ok) (subst Q c.raise.ensures err) in
+    (self.holds.opened has_open) c.args.page c.args.bytes.now c.program_noted.result c.program_noted.ensures.made c.program_noted.ensures.told
+    (subst P c.raise.ensures c.program_noted.ensures.ok) (subst Q c.raise.ensures err) in
     own.1
 
 pub returns-then-has_room-clause-passes : goal.returns-then-has_room-clause-passes
@@ -96,7 +98,8 @@ returns-then-has_room-clause-cause g c =
     let has_open = opens_page self.work self.log self.counts old self.image c.args.page c.requires.exists in
     let there = c.program_noted.new.self in
     let new : BoardState = g.N.Nand.state there.inner in
-    cause_open there.image self.work there.work (program c.args.page c.args.bytes.now) old new self.log (length c.args.bytes.now) c.program_noted.result c.program_noted.ensures.opened c.program_noted.ensures.made
+    cause_open there.image self.work there.work (program c.args.page c.args.bytes.now) old new self.log
+    (length c.args.bytes.now) c.program_noted.result c.program_noted.ensures.opened c.program_noted.ensures.made
 
 pub returns-then-has_room-clause-left : goal.returns-then-has_room-clause-left
 returns-then-has_room-clause-left g c =

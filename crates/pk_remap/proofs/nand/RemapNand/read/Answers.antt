@@ -1,15 +1,13 @@
-use Rattle.std.proofs.Common.{◌≡◌, ◌<◌, ◌/◌, ◌-◌, ℕ, length, refl, sym, ap, subst, ◌∙◌}
-use Rattle.std.specs.Prelude.{Result, Ok, Err, OnOk, OnErr, IfOk, Some}
+use Rattle.std.proofs.Common.{◌≡◌, ◌/◌, ◌-◌, ℕ, sym, ap, ◌∙◌}
+use Rattle.std.specs.Prelude.{Some}
 use Rattle.pk_base.specs.Shape.{Shape}
 use Rattle.pk_base.specs.Page.{Flash, page_at}
-use Rattle.pk_nand.specs.BoardState.{BoardState, shape_of}
+use Rattle.pk_nand.specs.BoardState.{BoardState}
 use Rattle.pk_nand.specs.Calls.{counted}
 use Rattle.pk_nand.specs.Operations.{filled}
 use Rattle.pk_nand.specs.Seen.{answer}
-use Rattle.pk_remap.specs.declared.counts.BoardCounts.{BoardCounts}
 use Rattle.pk_remap.specs.declared.mark_log.MarkLog.{MarkLog}
 use Rattle.pk_remap.specs.Logged.{told}
-use Rattle.pk_remap.specs.Remapped.{spares_left}
 use Rattle.pk_remap.proofs.Remapping.{opens_page, shape_open, pages_open, page_open, read_answer, read_failed_answer, left_open}
 use Rattle.pk_remap.proofs.nand.RemapNand.read.Goals as goal
 

@@ -1,4 +1,4 @@
-use Rattle.std.proofs.Common.{◌≡◌, subst}
+use Rattle.std.proofs.Common.{subst}
 use Rattle.std.specs.Prelude.{Result}
 use Rattle.pk_base.specs.Mark.{program}
 use Rattle.pk_nand.specs.BoardState.{BoardState}

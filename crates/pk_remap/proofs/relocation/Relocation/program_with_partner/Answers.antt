@@ -1,11 +1,8 @@
-use Rattle.std.proofs.Common.{◌≡◌, ◌<◌, ◌≤◌, ◌++◌, ℕ, List, length, take, drop, refl, sym, ap, subst, ◌∙◌, arith}
+use Rattle.std.proofs.Common.{◌≡◌, ◌≤◌, ◌++◌, ℕ, List, length, take, drop, refl, sym, ap, subst, ◌∙◌, arith}
 use Rattle.std.proofs.Math.Seq.{take-append_seam}
 use Rattle.pk_base.specs.declared.sizes.TheConstants.{MOST_PAGE_BYTES}
 use Rattle.pk_nand.specs.BoardState.{BoardState}
-use Rattle.pk_nand.specs.Calls.{after_program, ProgramFailed}
 use Rattle.pk_nand.proofs.Writing.{shape_is}
-use Rattle.pk_remap.specs.Places.{placed_page}
-use Rattle.pk_remap.specs.Running.{relocation_of}
 use Rattle.pk_remap.specs.Serving.{outer_of}
 use Rattle.pk_remap.proofs.Outer.{page_inside, inner_order, program_done, program_begins, program_served, program_none_left, program_left}
 use Rattle.pk_nand.proofs.Effects.{works_program, stops_program}

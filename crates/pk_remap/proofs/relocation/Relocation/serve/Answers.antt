@@ -1,7 +1,5 @@
-use Rattle.std.proofs.Common.{◌≡◌, ◌∙◌, Bool, ap, subst}
-use Rattle.std.specs.Prelude.{Result, Ok, Err, true, false}
-use Rattle.pk_base.specs.Page.{Flash}
-use Rattle.pk_nand.specs.BoardState.{BoardState}
+use Rattle.std.proofs.Common.{◌∙◌, Bool, ap, subst}
+use Rattle.std.specs.Prelude.{Result, Ok}
 use Rattle.pk_nand.specs.declared.types.NandFault.{NandFault}
 use Rattle.pk_remap.specs.Counting.{StepCounts}
 use Rattle.pk_remap.specs.Running.{StepOutcome}

@@ -1,13 +1,11 @@
-use Rattle.std.proofs.Common.{◌≡◌, ◌<◌, refl, sym, ap, subst, ◌∙◌, arith}
-use Rattle.std.specs.Prelude.{Result, Ok, Err}
-use Rattle.pk_base.specs.Shape.{Shape, page_count}
-use Rattle.pk_base.specs.Page.{Flash, IsPage}
+use Rattle.std.proofs.Common.{◌<◌, sym, ap, subst}
+use Rattle.std.specs.Prelude.{Result}
+use Rattle.pk_base.specs.Shape.{Shape}
 use Rattle.pk_base.specs.Mark.{erase}
 use Rattle.pk_nand.specs.BoardState.{BoardState}
-use Rattle.pk_nand.specs.Operations.{InOrder}
 use Rattle.pk_nand.specs.declared.types.NandFault.{NandFault}
 use Rattle.pk_remap.specs.Remapped.{FindsTable, is_open, is_sure}
-use Rattle.pk_remap.proofs.Remapping.{rests, outer_same, made, made_not_found}
+use Rattle.pk_remap.proofs.Remapping.{rests, made, made_not_found}
 use Rattle.pk_remap.proofs.remap.Remap.erase_block.Goals as goal
 
 pub erase_found-requires-clause-sure : goal.erase_found-requires-clause-sure

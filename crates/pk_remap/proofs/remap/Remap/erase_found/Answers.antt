@@ -1,9 +1,8 @@
-use Rattle.std.proofs.Common.{◌≡◌, Bool, refl, sym, ap, subst, ◌∙◌}
-use Rattle.std.specs.Prelude.{Result, Ok, Err}
+use Rattle.std.proofs.Common.{refl, ap, subst}
+use Rattle.std.specs.Prelude.{Result}
 use Rattle.pk_base.specs.Mark.{erase}
 use Rattle.pk_nand.specs.BoardState.{BoardState}
 use Rattle.pk_nand.specs.declared.types.NandFault.{NandFault}
-use Rattle.pk_remap.specs.declared.image.Image.{Image}
 use Rattle.pk_remap.specs.declared.image.Image.TheVariants.{Sure, Unsure}
 use Rattle.pk_remap.specs.Serving.{OuterOutcome}
 use Rattle.pk_remap.specs.Counting.{OuterCounts}

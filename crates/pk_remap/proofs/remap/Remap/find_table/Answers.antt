@@ -1,4 +1,4 @@
-use Rattle.std.proofs.Common.{◌≡◌, refl, sym, ◌∙◌}
+use Rattle.std.proofs.Common.{refl, sym, ◌∙◌}
 use Rattle.pk_remap.proofs.Remapping.{sure_is}
 use Rattle.pk_remap.proofs.remap.Remap.find_table.Goals as goal
 

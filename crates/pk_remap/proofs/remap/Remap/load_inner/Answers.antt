@@ -1,10 +1,8 @@
-use Rattle.std.proofs.Common.{◌≡◌, Option, Some, None, refl, sym, ap, subst, ◌∙◌}
-use Rattle.std.specs.Prelude.{Result, Ok, Err, true, false, Bool}
-use Rattle.pk_base.specs.Shape.{Shape}
+use Rattle.std.proofs.Common.{refl, sym, ap, subst, ◌∙◌}
+use Rattle.std.specs.Prelude.{Err}
 use Rattle.pk_nand.specs.BoardState.{BoardState}
 use Rattle.pk_nand.specs.declared.types.LoadFault.{LoadFault}
-use Rattle.pk_remap.specs.declared.image.Image.{Image}
-use Rattle.pk_remap.specs.declared.image.Image.TheVariants.{Unknown, Missing}
+use Rattle.pk_remap.specs.declared.image.Image.TheVariants.{Missing}
 use Rattle.pk_remap.specs.Remapped.{is_open, is_sure, is_missing, remap_board, spares_left}
 use Rattle.pk_remap.specs.Causes.{LoadCause}
 use Rattle.pk_remap.specs.Answers.{LoadAnswers}

@@ -1,4 +1,4 @@
-use Rattle.std.proofs.Common.{◌≡◌, sym, ap, ◌∙◌}
+use Rattle.std.proofs.Common.{sym, ap, ◌∙◌}
 use Rattle.pk_nand.specs.declared.types.LoadFault.TheVariants.{Memory}
 use Rattle.pk_remap.specs.Remapped.{is_open}
 use Rattle.pk_remap.proofs.LogLemmas.{told_unfit}

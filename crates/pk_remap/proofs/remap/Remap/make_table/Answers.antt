@@ -1,14 +1,13 @@
-use Rattle.std.proofs.Common.{◌≡◌, ◌≤◌, ◌+◌, ◌-◌, ℕ, length, take, replicate, refl, sym, ap, subst, ◌∙◌, arith, Some, None}
+use Rattle.std.proofs.Common.{◌≡◌, ◌≤◌, ◌-◌, ℕ, length, take, replicate, refl, sym, ap, subst, ◌∙◌, arith}
 use Rattle.std.specs.Prelude.{Result, Ok, Err}
 use Rattle.pk_base.specs.Shape.{Shape, IsShape, page_count}
-use Rattle.pk_base.specs.Page.{Flash, page_at, erased}
+use Rattle.pk_base.specs.Page.{page_at, erased}
 use Rattle.pk_nand.specs.BoardState.{BoardState}
 use Rattle.pk_nand.specs.declared.types.NandFault.{NandFault}
 use Rattle.pk_nand.specs.declared.types.LoadFault.{LoadFault}
 use Rattle.pk_nand.specs.declared.types.LoadFault.TheVariants.{Fault}
 use Rattle.pk_remap.specs.declared.image.Image.TheVariants.{Sure}
 use Rattle.pk_remap.specs.declared.relocation.Relocation.{Relocation as InMemory}
-use Rattle.pk_remap.specs.Places.{inner_shape}
 use Rattle.pk_remap.specs.Running.{relocation_of, HasPageBuffers}
 use Rattle.pk_remap.specs.FirstTable.{IsMade, FirstTableOutcome}
 use Rattle.pk_remap.specs.Remapped.{is_open, is_sure, is_missing, remap_board, outer_pages, spares_left}
@@ -127,7 +126,8 @@ returns-in-Err-clause-cause g c =
     let self = c.args.self.now in
     let T : Result Unit NandFault → Type 0 = λ x. FirstTableOutcome c.fit.new.self (g.N.Nand.state self.inner) x c.write_first_table.new.self (g.N.Nand.state c.write_first_table.new.inner) in
     let is = subst T c.in-Err.is c.write_first_table.ensures in
-    let own : MakeCause self.work.spares c.args.shape (g.N.Nand.state self.inner) (Err Fault) (spares_left c.refuse.new.self.image c.refuse.new.self.work) (g.N.Nand.state c.write_first_table.new.inner) = inner_fault is.faults in
+    let own : MakeCause self.work.spares c.args.shape (g.N.Nand.state self.inner) (Err Fault)
+    (spares_left c.refuse.new.self.image c.refuse.new.self.work) (g.N.Nand.state c.write_first_table.new.inner) = inner_fault is.faults in
     let there = c.refuse.new.self in
     let T : LoadFault → Type 0 = λ f. MakeCause self.work.spares c.args.shape (g.N.Nand.state self.inner) (Err f) (spares_left there.image there.work) (g.N.Nand.state there.inner) in
     let U : BoardState → Type 0 = λ s. MakeCause self.work.spares c.args.shape (g.N.Nand.state self.inner) (Err Fault) (spares_left there.image there.work) s in

@@ -1,10 +1,9 @@
-use Rattle.std.proofs.Common.{◌≡◌, ◌≢◌, ℕ, refl, sym, ap, subst, ◌∙◌, Some, replicate}
-use Rattle.std.specs.Prelude.{Result, Ok, Err}
+use Rattle.std.proofs.Common.{refl, sym, ap, subst, ◌∙◌, Some, replicate}
+use Rattle.std.specs.Prelude.{Err}
 use Rattle.pk_base.specs.Shape.{Shape, page_count}
 use Rattle.pk_base.specs.Page.{erased}
 use Rattle.pk_nand.specs.BoardState.{BoardState}
 use Rattle.pk_nand.specs.declared.types.LoadFault.{LoadFault}
-use Rattle.pk_nand.specs.declared.types.LoadFault.TheVariants.{BadImage}
 use Rattle.pk_remap.specs.declared.image.Image.TheVariants.{Unknown}
 use Rattle.pk_remap.specs.Remapped.{is_open, is_missing, remap_board, spares_left}
 use Rattle.pk_remap.proofs.Remapping.{no_bool, holds_closed}

@@ -1,5 +1,5 @@
-use Rattle.std.proofs.Common.{◌≡◌, ◌≤◌, ℕ, length, refl, sym, ap, subst, ◌∙◌, arith, Some}
-use Rattle.std.specs.Prelude.{Result, Ok, Err, IsErr, None}
+use Rattle.std.proofs.Common.{◌≡◌, ℕ, refl, sym, ap, subst, ◌∙◌, arith}
+use Rattle.std.specs.Prelude.{Result, Err, IsErr, None}
 use Rattle.pk_base.specs.declared.shape.ShapeError.{ShapeError}
 use Rattle.pk_base.specs.Shape.{Shape}
 use Rattle.pk_nand.specs.BoardState.{BoardState}
@@ -70,7 +70,8 @@ pub returns-in-Err-clause-cause : goal.returns-in-Err-clause-cause
 returns-in-Err-clause-cause g c =
     let self = c.args.self.now in
     let T : Result Shape ShapeError → Type 0 = λ r. IsErr r in
-    let own : LoadCause self.work.spares (g.N.Nand.state self.inner) (Err (BadImage 32)) (spares_left c.refuse.new.self.image c.refuse.new.self.work) (g.N.Nand.state self.inner) = no_outer_shape c.args.found.now c.requires.ready.shape_is (subst T (sym c.in-Err.is ∙ c.outer_shape.ensures) refl) refl in
+    let own : LoadCause self.work.spares (g.N.Nand.state self.inner) (Err (BadImage 32)) (spares_left c.refuse.new.self.image c.refuse.new.self.work)
+    (g.N.Nand.state self.inner) = no_outer_shape c.args.found.now c.requires.ready.shape_is (subst T (sym c.in-Err.is ∙ c.outer_shape.ensures) refl) refl in
     let there = c.refuse.new.self in
     let T : LoadFault → Type 0 = λ f. LoadCause self.work.spares (g.N.Nand.state self.inner) (Err f) (spares_left there.image there.work) (g.N.Nand.state there.inner) in
     let U : BoardState → Type 0 = λ s. LoadCause self.work.spares (g.N.Nand.state self.inner) (Err (BadImage 32)) (spares_left there.image there.work) s in

@@ -1,4 +1,4 @@
-use Rattle.std.proofs.Common.{◌≡◌, ◌≤◌, ◌*◌, ℕ, Bool, length, refl, sym, ap, subst, ◌∙◌, arith, Some, None}
+use Rattle.std.proofs.Common.{◌≡◌, ℕ, Bool, refl, sym, ap, subst, ◌∙◌, arith, None}
 use Rattle.std.specs.Prelude.{Result, Ok, Err, max}
 use Rattle.pk_base.specs.Page.{Flash, page_at}
 use Rattle.pk_nand.specs.BoardState.{BoardState}
@@ -89,7 +89,8 @@ returns-in-Ok-false-clause-cause g c =
     let T : Result Bool NandFault → Type 0 = λ x. FindOutcome self.work old x c.find.new.self new in
     let is = subst T (c.in-Ok-false.is ∙ ap (λ (b : Bool). Ok b) c.in-Ok-false.field-0-test) c.find.ensures.found in
     let P : Flash → Type 0 = λ f. newest_table self.work.shape self.work.spares (page_at f) ≡ None in
-    let own : LoadCause self.work.spares old (Err (BadImage 32)) (spares_left c.refuse.new.self.image c.refuse.new.self.work) new = no_table self.work.shape (ap (λ s. s.shape) is.1 ∙ c.requires.ready.shape_is) (subst P (sym (ap (λ s. s.pages) is.1)) is.0) refl in
+    let own : LoadCause self.work.spares old (Err (BadImage 32)) (spares_left c.refuse.new.self.image c.refuse.new.self.work) new = no_table self.work.shape
+    (ap (λ s. s.shape) is.1 ∙ c.requires.ready.shape_is) (subst P (sym (ap (λ s. s.pages) is.1)) is.0) refl in
     let there = c.refuse.new.self in
     let T : LoadFault → Type 0 = λ f. LoadCause self.work.spares (g.N.Nand.state self.inner) (Err f) (spares_left there.image there.work) (g.N.Nand.state there.inner) in
     let U : BoardState → Type 0 = λ s. LoadCause self.work.spares (g.N.Nand.state self.inner) (Err (BadImage 32)) (spares_left there.image there.work) s in

@@ -1,5 +1,5 @@
-use Rattle.std.proofs.Common.{◌≡◌, ◌≤◌, length, refl, sym, ap, subst, ◌∙◌, arith}
-use Rattle.std.proofs.Common.{ℕ, List, take}
+use Rattle.std.proofs.Common.{◌≡◌, length, sym, subst, ◌∙◌}
+use Rattle.std.proofs.Common.{ℕ, take}
 use Rattle.std.proofs.lemmas.List.{length-take-le}
 use Rattle.pk_remap.specs.Logged.{HasLogRoom}
 use Rattle.pk_remap.proofs.LogLemmas.{room_fewer}

@@ -1,5 +1,5 @@
-use Rattle.std.proofs.Common.{◌≡◌, ◌<◌, refl, sym, ap, subst, ◌∙◌, arith}
-use Rattle.std.specs.Prelude.{Result, Ok, Err}
+use Rattle.std.proofs.Common.{◌<◌, sym, ap, subst}
+use Rattle.std.specs.Prelude.{Result}
 use Rattle.pk_base.specs.Shape.{Shape, page_count}
 use Rattle.pk_base.specs.Page.{Flash, IsPage}
 use Rattle.pk_base.specs.Mark.{program}
