@@ -1,7 +1,7 @@
 -- Words that ask for a flash with spare blocks, judged without memory.
 use Rattle.std.proofs.Common.{◌≡◌, ◌/◌, ◌<◌, ◌≤◌, ◌&&◌, ℕ, List, [], ◌∷◌, Option, None, Some, option_map, option_and_then, Bool, true, false, if◌then◌else◌, nat_lt, nat_le, length, bytes_eq, codes}
-use Rattle.std.proofs.Common.{subst, sym, ap, ◌∙◌, refl, arith}
-use Rattle.std.specs.Prelude.{is_some}
+use Rattle.std.proofs.Common.{Bor, subst, sym, ap, ◌∙◌, refl, arith}
+use Rattle.std.specs.Prelude.{is_some, map, slice_index_or}
 use Rattle.std.proofs.lemmas.Bool.Decides.{nat_tests}
 use Rattle.std.proofs.lemmas.Slice.Eq.{bytes_eq-Decides}
 use Rattle.pk_base.specs.Key.{Key}
@@ -45,6 +45,15 @@ both_judged (Some key) (Some bytes) n half =
 pub put_judged : (key value : List ℕ)
     → is_some (key_of key) && (is_some (bytes_of value) && nat_lt (length value / 2) VALUE_LENGTHS) ≡ is_some (put_of (key ∷ value ∷ []))
 put_judged key value = both_judged (key_of key) (bytes_of value) (length value / 2) (half_as_many value)
+
+-- two operands, as a slice has them
+pub two_judged : (operands : List (Bor (List ℕ))) (none : Bor (List ℕ)) (has_key has_value : Bool) → 2 ≤ length operands → length operands < 3
+    → has_key ≡ is_some (key_of (slice_index_or operands 0 none).now) → has_value ≡ is_some (bytes_of (slice_index_or operands 1 none).now)
+    → has_key && (has_value && nat_lt (length (slice_index_or operands 1 none).now / 2) VALUE_LENGTHS) ≡ is_some (put_of (map (λ w. w.now) operands))
+two_judged [] none has_key has_value low high k v = absurd (omega (arith, low))
+two_judged (a ∷ []) none has_key has_value low high k v = absurd (omega (arith, low))
+two_judged (a ∷ b ∷ []) none has_key has_value low high k v = rw (k, v) (put_judged a.now b.now)
+two_judged (a ∷ b ∷ c ∷ more) none has_key has_value low high k v = absurd (omega (arith, high))
 
 -- ---- the words over spare blocks
 

@@ -19,7 +19,7 @@ pub struct Spared<'a> {
 }
 
 /// Whether the operands are a key and a value whose length is a field of an entry.
-#[tactic(auto, using(crate::proofs::Judging::put_judged))]
+#[tactic(auto, using(crate::proofs::Judging::two_judged))]
 fn is_put(operands: &[&str]) -> bool
     ensures { result ≡ is_some (spec.put_of (map (λ w. w.now) operands.now)) }
 {
