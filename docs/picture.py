@@ -47,7 +47,7 @@ def ending(name, fields):
 
 def read(lines):
     """The heading, the blocks as pairs of a label and letters, and the page at which reading fails."""
-    heading, blocks, failing = "", [], None
+    heading, blocks, failing, moved = "", [], None, {}
     for name, fields in items(lines):
         if name == "image":
             shape = fields["blocks"], fields["block_pages"], fields["page_bytes"]
@@ -57,7 +57,17 @@ def read(lines):
         elif name in ("map", "no-root", "fails"):
             heading += ": " + ending(name, fields)
             failing = int(fields["page"]) if name == "fails" else None
-    return heading, blocks, failing
+        elif name == "spares":
+            heading += f", {fields['left']} of {fields['all']} spare blocks left"
+        elif name == "spare":
+            moved[fields["serves"]] = fields["number"]
+    return heading, [(with_spare(label, moved), letters) for label, letters in blocks], failing
+
+
+def with_spare(label, moved):
+    """The label of a block, with the spare block that it moved to, if it did."""
+    spare = moved.get(label.split()[0])
+    return label if spare is None else f"{label}, in spare {spare}"
 
 
 def is_empty(label, letters):

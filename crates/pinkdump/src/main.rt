@@ -1,10 +1,16 @@
 //! The program: prints what is in the image file of a drive.
 #![tactic(auto)]
 
+ghost use Rattle.std.specs.Prelude.{◌≤◌};
+ghost use Rattle.pk_nand.specs.Calls.{IsReady};
+ghost use Rattle.pk_remap.specs.declared.layout.TheConstants.{MOST_SPARES};
+
+use pk_base::Shape;
 use pk_dump::{DumpError, Form, dump};
 use pk_file::FileBoard;
 use pk_nand::{LoadFault, Nand};
-use pk_remap::{MOST_SPARES, Remap};
+use pk_remap::{FAILED, MOST_SPARES, Remap, Top, newest, outer_shape};
+use std::alloc::AllocError;
 use std::env;
 use std::fmt::Write;
 use std::process::ExitCode;
@@ -79,6 +85,75 @@ fn text_of<B: Nand>(rt: &HostRuntime, board: &mut B, form: Form) -> Result<Strin
     }
 }
 
+/// Prints which block a used spare block has.
+fn tell_spare(
+    out: &mut String,
+    form: Form,
+    spare: usize,
+    block: u32,
+    served: u16,
+) -> Result<(), AllocError> {
+    let failed = served == FAILED;
+    match form {
+        Form::People if failed => writeln!(out, "spare {spare} (block {block}): failed"),
+        Form::People => writeln!(out, "spare {spare} (block {block}): block {served}"),
+        Form::Programs if failed => {
+            writeln!(out, "spare number={spare} block={block} serves=failed")
+        }
+        Form::Programs => writeln!(out, "spare number={spare} block={block} serves={served}"),
+    }
+}
+
+/// Prints a table, and which block each used spare block has.
+fn tell_served(
+    out: &mut String,
+    form: Form,
+    shape: &Shape,
+    table: Top,
+    serves: &[u16; MOST_SPARES],
+) -> Result<(), AllocError> {
+    let (page, number) = (table.page, table.number);
+    match form {
+        Form::People => writeln!(out, "table {number} in page {page}")?,
+        Form::Programs => writeln!(out, "table number={number} page={page}")?,
+    }
+    for spare in 0..table.used.min(MOST_SPARES) {
+        let block = shape.blocks().saturating_add(spare as u32);
+        tell_spare(out, form, spare, block, serves[spare])?;
+    }
+    Ok(())
+}
+
+/// Prints the newest table of an image with spare blocks, whose inner shape this is.
+fn tell_table<B: Nand>(
+    rt: &HostRuntime,
+    out: &mut String,
+    board: &mut B,
+    found: &Shape,
+    spares: u16,
+    form: Form,
+) -> Result<(), Refused>
+    requires ready { IsReady (B.state board.old) found.now }
+    requires few { spares ≤ MOST_SPARES }
+{
+    let Ok(shape) = outer_shape(found, spares) else {
+        return Err(Refused::Fault);
+    };
+    shape.known();
+    let Ok(mut buf) = Vec::from_elem(rt.alloc(), 0u8, shape.page_bytes() as usize) else {
+        return Err(Refused::Memory);
+    };
+    let mut serves = [0u16; MOST_SPARES];
+    match newest(board, &shape, spares, &mut serves, &mut buf) {
+        Ok(Some(table)) => match tell_served(out, form, &shape, table, &serves) {
+            Ok(()) => Ok(()),
+            Err(_) => Err(Refused::Memory),
+        },
+        Ok(None) => Ok(()),
+        Err(_) => Err(Refused::Fault),
+    }
+}
+
 /// The text of a drive with spare blocks, seen through its tables, and how many spare blocks are left.
 fn text_of_spared(
     rt: &HostRuntime,
@@ -98,10 +173,15 @@ fn text_of_spared(
         Form::People => writeln!(text, "{spares} spare blocks, {left} left"),
         Form::Programs => writeln!(text, "spares all={spares} left={left}"),
     };
-    match told {
-        Ok(()) => Ok(text),
-        Err(_) => Err(Refused::Memory),
+    if told.is_err() {
+        return Err(Refused::Memory);
     }
+    let mut board = remap.into_inner();
+    match board.load(rt.alloc()) {
+        Ok(Some(found)) => tell_table(rt, &mut text, &mut board, &found, spares, form)?,
+        _ => return Err(Refused::Fault),
+    }
+    Ok(text)
 }
 
 /// Prints the image that is asked for.
