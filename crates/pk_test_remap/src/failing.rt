@@ -2,7 +2,8 @@
 //! serves on.
 
 use crate::spared::{
-    Failing, call_after_opening, left, made, moving, one, serve, serve_failing, serves_on, way,
+    Failing, MOST_CALLS, call_after_opening, left, made, moving, one, serve, serve_failing,
+    serves_on, way,
 };
 use pk_flash::{Flash, Left};
 use pk_nand::PageState;
@@ -35,28 +36,26 @@ fn check(rt: &impl Abort, alloc: Global, pages: &[PageState], failing: Vec<Faili
     serves_on(rt, alloc, &left(rt, alloc, &ran.flash), !stored);
 }
 
-/// Each call after the opening fails alone, and every fourth one of the opening.
+/// Each call fails alone.
 #[test]
 fn one_call_that_fails(rt: HostRuntime) {
     let alloc = rt.alloc();
     let pages = made(&rt, alloc);
     let quiet = serve(&rt, alloc, &pages, &SCRIPT);
-    let opened = call_after_opening(&quiet.flash);
     for call in 0..calls_of(&quiet.flash) {
-        if call % 4 == 0 || call >= opened {
-            check(&rt, alloc, &pages, one(&rt, alloc, call, way(0)));
-        }
+        check(&rt, alloc, &pages, one(&rt, alloc, call, way(0)));
     }
 }
 
-/// Each of four calls that move a block fails alone, in each way.
+/// Each call after the opening, all programs and erases among them, fails alone, in each way.
 #[test]
 fn each_way_of_a_failure(rt: HostRuntime) {
     let alloc = rt.alloc();
     let pages = made(&rt, alloc);
-    for call in &moving(&rt, alloc, &pages) {
+    let quiet = serve(&rt, alloc, &pages, &SCRIPT);
+    for call in call_after_opening(&quiet.flash)..calls_of(&quiet.flash) {
         for number in 0..6u8 {
-            check(&rt, alloc, &pages, one(&rt, alloc, *call, way(number)));
+            check(&rt, alloc, &pages, one(&rt, alloc, call, way(number)));
         }
     }
 }
@@ -70,13 +69,13 @@ fn two(rt: &impl Abort, alloc: Global, first: u64, second: u64) -> Vec<Failing> 
     all
 }
 
-/// Each of four calls that move a block fails, and so does one of the ten calls after it.
+/// Each call that moves a block fails, and so does one of the calls after it, to the end of the session.
 #[test]
 fn two_calls_that_fail(rt: HostRuntime) {
     let alloc = rt.alloc();
     let pages = made(&rt, alloc);
     for call in &moving(&rt, alloc, &pages) {
-        for more in 1..11u64 {
+        for more in 1..MOST_CALLS {
             let later = call.saturating_add(more);
             check(&rt, alloc, &pages, two(&rt, alloc, *call, later));
         }

@@ -166,7 +166,10 @@ pub fn call_after_opening(flash: &Flash) -> u64 {
     flash.read_count().saturating_sub(12)
 }
 
-/// The first calls of the worked session whose failure moves a block to a spare block, four of them.
+/// More calls than a session makes after its opening, if it moves two blocks.
+pub const MOST_CALLS: u64 = 60;
+
+/// The calls of the worked session whose failure moves a block to a spare block.
 pub fn moving(rt: &impl Abort, alloc: Global, pages: &[PageState]) -> Vec<u64> {
     let quiet = serve(rt, alloc, pages, &SCRIPT);
     let start = call_after_opening(&quiet.flash);
@@ -174,11 +177,11 @@ pub fn moving(rt: &impl Abort, alloc: Global, pages: &[PageState]) -> Vec<u64> {
     for call in start..start.saturating_add(40) {
         let failing = one(rt, alloc, call, Left::Torn);
         let ran = serve_failing(rt, alloc, pages, &SCRIPT, failing);
-        if ran.left == 3 && found.len() < 4 {
+        if ran.left == 3 {
             found.push(call).expect(rt, "memory");
         }
     }
-    assert!(rt; found.len() == 4);
+    assert!(rt; found.len() >= 4);
     found
 }
 
