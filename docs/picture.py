@@ -59,6 +59,8 @@ def read(lines):
             failing = int(fields["page"]) if name == "fails" else None
         elif name == "spares":
             heading += f", {fields['left']} of {fields['all']} spare blocks left"
+        elif name == "table":
+            heading += f", table {fields['number']} at page {fields['page']}"
         elif name == "spare":
             moved[fields["serves"]] = fields["number"]
     return heading, [(with_spare(label, moved), letters) for label, letters in blocks], failing
