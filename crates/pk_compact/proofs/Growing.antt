@@ -7,7 +7,7 @@ use Rattle.pk_base.specs.Map.{Map}
 use Rattle.pk_nand.specs.BoardState.{BoardState}
 use Rattle.pk_nand.specs.Calls.{IsReady, after_program, ProgramFailed}
 use Rattle.pk_nand.specs.Operations.{after_erase, EraseFailed}
-use Rattle.pk_nand.specs.Effects.{AtMostOneCall}
+use Rattle.pk_nand.specs.Effects.{AtMostOneCall, made_no_call, made_program, made_erase}
 use Rattle.pk_nand.specs.declared.types.Fault.{Fault}
 use Rattle.pk_nand.specs.declared.types.Fault.TheVariants.{Stopped}
 use Rattle.pk_rootfmt.specs.Root.{Root, root_bytes}
@@ -48,19 +48,19 @@ module _ (shape : Shape) (is_shape : IsShape shape) (root : Root) (next : Next) 
 -- ---- the one call
 
 pub erase_calls : (old new : BoardState) (b : ℕ) → new ≡ after_erase old b → AtMostOneCall old new
-erase_calls old new b e = inr (inr (inr (ap (λ (s : BoardState). s.reads) e, ap (λ (s : BoardState). s.programs) e, ap (λ (s : BoardState). s.erases) e)))
+erase_calls old new b e = made_erase (ap (λ (s : BoardState). s.reads) e, ap (λ (s : BoardState). s.programs) e, ap (λ (s : BoardState). s.erases) e)
 
 pub erase_failed_calls : (old new : BoardState) (b : ℕ) → EraseFailed old new b → AtMostOneCall old new
-erase_failed_calls old new b f = inr (inr (inr (ap (λ (s : BoardState). s.reads) f.rest, ap (λ (s : BoardState). s.programs) f.rest, ap (λ (s : BoardState). s.erases) f.rest)))
+erase_failed_calls old new b f = made_erase (ap (λ (s : BoardState). s.reads) f.rest, ap (λ (s : BoardState). s.programs) f.rest, ap (λ (s : BoardState). s.erases) f.rest)
 
 pub program_calls : (old new : BoardState) (page : ℕ) (bytes : List ℕ) → new ≡ after_program old page bytes → AtMostOneCall old new
-program_calls old new page bytes e = inr (inr (inl (ap (λ (s : BoardState). s.reads) e, ap (λ (s : BoardState). s.programs) e, ap (λ (s : BoardState). s.erases) e)))
+program_calls old new page bytes e = made_program (ap (λ (s : BoardState). s.reads) e, ap (λ (s : BoardState). s.programs) e, ap (λ (s : BoardState). s.erases) e)
 
 pub program_failed_calls : (old new : BoardState) (page : ℕ) (bytes : List ℕ) → ProgramFailed old new page bytes → AtMostOneCall old new
-program_failed_calls old new page bytes f = inr (inr (inl (ap (λ (s : BoardState). s.reads) f.rest, ap (λ (s : BoardState). s.programs) f.rest, ap (λ (s : BoardState). s.erases) f.rest)))
+program_failed_calls old new page bytes f = made_program (ap (λ (s : BoardState). s.reads) f.rest, ap (λ (s : BoardState). s.programs) f.rest, ap (λ (s : BoardState). s.erases) f.rest)
 
 pub took_calls : (b : ℕ) (old new : BoardState) → AtMostErases b old new → AtMostOneCall old new
-took_calls b old new (inl same) = inl (ap (λ (s : BoardState). s.reads) same, ap (λ (s : BoardState). s.programs) same, ap (λ (s : BoardState). s.erases) same)
+took_calls b old new (inl same) = made_no_call (ap (λ (s : BoardState). s.reads) same, ap (λ (s : BoardState). s.programs) same, ap (λ (s : BoardState). s.erases) same)
 took_calls b old new (inr e) = erase_calls old new b e
 
 -- ---- the erase before a root

@@ -8,9 +8,9 @@ use Rattle.pk_call.specs.Tick.{TellsIdle, LowersWork}
 use Rattle.pk_call.specs.declared.types.Ticked.{Ticked}
 use Rattle.pk_call.specs.declared.types.Ticked.TheVariants.{Idle}
 use Rattle.pk_parts.specs.Parts.{Parts, sight_of}
-use Rattle.pk_parts.specs.Ticking.{MayTick, Advances}
+use Rattle.pk_background.specs.Ticking.{MayTick, Advances}
 use Rattle.pk_parts.proofs.Unchanging.{for_its_map}
-use Rattle.pk_parts.proofs.Ticking.{none_idle}
+use Rattle.pk_background.proofs.Ticking.{none_idle}
 
 -- ---- what the step answers
 

@@ -9,12 +9,12 @@ use Rattle.pk_nand.specs.Counts.{counted_by}
 use Rattle.pk_model.specs.Wear.{roots}
 use Rattle.pk_call.specs.Calling.{FewCalls, most_calls_of}
 use Rattle.pk_nand.specs.BoardState.{shape_or_none}
-use Rattle.pk_parts.specs.Costs.{Spends}
+use Rattle.pk_background.specs.Costs.{Spends}
 use Rattle.pk_parts.specs.Parts.{Parts}
 use Rattle.pk_parts.specs.Agreeing.{DriveOnFlash}
 use Rattle.pk_parts.specs.Quiet.{ReadsOnly, ReadsFailing}
 use Rattle.pk_parts.proofs.Unchanging.{counted_by-min}
-use Rattle.pk_parts.proofs.Callings.{spends_still}
+use Rattle.pk_background.proofs.Callings.{spends_still}
 
 -- ---- reads alone
 

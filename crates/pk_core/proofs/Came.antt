@@ -5,7 +5,7 @@ use Rattle.pk_nand.specs.declared.types.Fault.{Fault}
 use Rattle.pk_nand.specs.declared.types.Fault.TheVariants.{Reading, Stopped}
 use Rattle.pk_call.specs.declared.types.Outcome.{Outcome}
 use Rattle.pk_parts.specs.Parts.{Parts}
-use Rattle.pk_parts.specs.Emptying.{OnRunning}
+use Rattle.pk_background.specs.Emptying.{OnRunning}
 use Rattle.pk_core.specs.Serving.{outcome_for}
 use Rattle.pk_core.proofs.Executing.{never}
 

@@ -14,13 +14,13 @@ use Rattle.pk_nand.specs.BoardState.{BoardState}
 use Rattle.pk_nand.specs.Calls.{last_count}
 use Rattle.pk_call.specs.declared.types.Outcome.{Outcome}
 use Rattle.pk_parts.specs.Parts.{Parts, is_half}
-use Rattle.pk_parts.specs.Emptying.{OnRunning}
+use Rattle.pk_background.specs.Emptying.{OnRunning}
 use Rattle.pk_core.specs.Done.{Executes}
 use Rattle.pk_parts.specs.Quiet.{ReadsOnly, ReadsFailing, Looks}
 use Rattle.pk_core.specs.Serving.{IsServable, IsCounted, outcome_for}
 use Rattle.pk_parts.specs.Staying.{Stays, StaysOrOpens, IsNoted}
 use Rattle.pk_core.specs.Programming.{ReadsNone}
-use Rattle.pk_parts.specs.Programming.{PutsQuietly, TakesQuietly, ReadsQuietly}
+use Rattle.pk_changes.specs.Programming.{PutsQuietly, TakesQuietly, ReadsQuietly}
 use Rattle.pk_core.specs.LookedUp.{IsLookedUp, StoresOver, DeletesAt}
 use Rattle.pk_core.proofs.Came.{came_running, came_served}
 use Rattle.pk_core.proofs.Executing.{executes_quiet}

@@ -24,7 +24,7 @@ use Rattle.pk_call.specs.Moving.{HasOpenRoom, StoresIn, Stores}
 use Rattle.pk_parts.specs.Parts.{Parts, sight_of, block_if_open}
 use Rattle.pk_parts.specs.Agreeing.{DriveOnFlash}
 use Rattle.pk_parts.specs.Staying.{IsNoted, SameUse, OpensOne, MakesRoom}
-use Rattle.pk_parts.proofs.Ticking.{count_free}
+use Rattle.pk_background.proofs.Ticking.{count_free}
 use Rattle.pk_base.proofs.Logic.{not_both, some_same}
 
 -- ---- what is seen of it

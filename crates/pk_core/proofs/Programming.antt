@@ -26,7 +26,7 @@ use Rattle.pk_values.specs.State.{fits_open}
 use Rattle.pk_call.specs.Moving.{IsQuiet, commits_for}
 use Rattle.pk_parts.specs.Parts.{Parts, sight_of, is_half, settled_parts}
 use Rattle.pk_parts.specs.Agreeing.{DriveOnFlashWith}
-use Rattle.pk_parts.specs.Programming.{Programs}
+use Rattle.pk_changes.specs.Programming.{Programs}
 use Rattle.pk_parts.specs.Quiet.{ReadsOnly}
 
 -- ---- a key that needs no freeze

@@ -4,7 +4,7 @@ use Rattle.pk_base.specs.Key.{Key}
 use Rattle.pk_nand.specs.BoardState.{BoardState}
 use Rattle.pk_log.specs.State.{needs_freeze}
 use Rattle.pk_parts.specs.Parts.{Parts, is_half}
-use Rattle.pk_parts.specs.Programming.{ReadsQuietly}
+use Rattle.pk_changes.specs.Programming.{ReadsQuietly}
 
 -- after the reads of a lookup
 pub reads_behind : (d e : Parts) (mid new : BoardState) (k k' : Key) → e ≡ d → k ≡ k' → ReadsQuietly e k mid new → needs_freeze d.log k' ≡ false → new.reads ≡ mid.reads

@@ -12,7 +12,7 @@ use Rattle.pk_call.specs.declared.types.Outcome.{Outcome}
 use Rattle.pk_parts.specs.Parts.{Parts, sight_of, frames_of}
 use Rattle.pk_parts.specs.Agreeing.{DriveOnFlash}
 use Rattle.pk_core.specs.Programming.{QuietStore, QuietDelete}
-use Rattle.pk_parts.specs.Programming.{Programs}
+use Rattle.pk_changes.specs.Programming.{Programs}
 use Rattle.pk_core.proofs.Noted.{left_is}
 use Rattle.pk_core.proofs.Programming.{quiet_needs_none}
 

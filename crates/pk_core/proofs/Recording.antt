@@ -14,7 +14,7 @@ use Rattle.pk_call.specs.Exec.{report_of}
 use Rattle.pk_call.specs.Running.{LeavesDrive}
 use Rattle.pk_call.specs.declared.types.Outcome.{Outcome}
 use Rattle.pk_parts.specs.Parts.{Parts, sight_of}
-use Rattle.pk_parts.proofs.Callings.{few_within, few_none}
+use Rattle.pk_background.proofs.Callings.{few_within, few_none}
 use Rattle.pk_parts.proofs.Staying.{stays_same, stays_opens}
 use Rattle.pk_core.specs.Agreeing.{DriveOnFlashBetween}
 use Rattle.pk_core.specs.Done.{Executes}

@@ -17,7 +17,7 @@ use Rattle.pk_schedule.specs.Steps.{backlog_of as backlog_of_index, merge_left}
 use Rattle.pk_parts.specs.Parts.{Parts, index_of, outputs_of, settled_parts, counts_of, sight_of, reclaim_left, has_moves}
 use Rattle.pk_parts.specs.Agreeing.{DriveOnFlash}
 use Rattle.pk_parts.proofs.Halves.{counted_of}
-use Rattle.pk_parts.proofs.Ticking.{ready_freed}
+use Rattle.pk_background.proofs.Ticking.{ready_freed}
 
 -- by the numbers of blocks for values, of those that are ready and of those that are not, and what remains of the merge
 due_by : Parts → ℕ → Bool

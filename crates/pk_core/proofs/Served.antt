@@ -42,12 +42,12 @@ use Rattle.pk_core.specs.Done.{Does, Executes}
 use Rattle.pk_parts.specs.Finding.{IsPlaceIn}
 use Rattle.pk_parts.specs.Moves.{StandsFor, StandsBetween}
 use Rattle.pk_parts.specs.Stopping.{StoppedOn}
-use Rattle.pk_parts.specs.Emptying.{Unread, Halts, OnRunning}
+use Rattle.pk_background.specs.Emptying.{Unread, Halts, OnRunning}
 use Rattle.pk_core.specs.Quiet.{eleven}
 use Rattle.pk_parts.specs.Quiet.{ReadsOnly, Looks}
-use Rattle.pk_parts.specs.Changes.{Changes, StaysBetween}
+use Rattle.pk_changes.specs.Changes.{Changes, StaysBetween}
 use Rattle.pk_core.specs.Whole.{MayPutBetween, MayStoreBetween, MayTakeBetween, CanPutBetween, CanTakeBetween, StoresWhole, TakesWhole}
-use Rattle.pk_parts.specs.Spacing.{SameMap}
+use Rattle.pk_background.specs.Spacing.{SameMap}
 use Rattle.pk_parts.proofs.Halves.{between}
 use Rattle.pk_core.specs.Serving.{IsServable, IsCounted, outcome_for, pages_at}
 use Rattle.pk_core.proofs.Standing.{stands_so}

@@ -8,9 +8,9 @@ use Rattle.pk_model.specs.Sight.{IsIdle}
 use Rattle.pk_call.specs.Settling.{Settles, RestsAfter}
 use Rattle.pk_parts.specs.Parts.{Parts, sight_of}
 use Rattle.pk_parts.specs.Agreeing.{DriveOnFlash}
-use Rattle.pk_parts.specs.Ticking.{HasNoStep}
+use Rattle.pk_background.specs.Ticking.{HasNoStep}
 use Rattle.pk_core.specs.Stepping.{Lessens}
-use Rattle.pk_parts.proofs.Ticking.{none_idle}
+use Rattle.pk_background.proofs.Ticking.{none_idle}
 use Rattle.pk_core.proofs.Steadying.{few_left}
 
 some_same : (x y : Shape) → ◌≡◌ {A = Option Shape} (Some x) (Some y) → x ≡ y

@@ -24,7 +24,7 @@ use Rattle.pk_rootfmt.specs.Root.{Root}
 use Rattle.pk_rootfmt.specs.Newest.{newest_root}
 use Rattle.pk_model.specs.Wear.{number_of, root_number, roots, is_worn}
 use Rattle.pk_call.specs.Drive.{HoldsMap}
-use Rattle.pk_nand.specs.Effects.{NoFault, AtMostOneCall}
+use Rattle.pk_nand.specs.Effects.{NoFault, AtMostOneCall, made_no_call, made_read, made_program, made_erase}
 use Rattle.pk_model.specs.Crashes.{CrashFinds, background, command}
 use Rattle.pk_call.specs.Exec.{most_installs}
 use Rattle.pk_call.specs.Seen.{stopped_by, reply_of}
@@ -37,14 +37,14 @@ use Rattle.pk_parts.specs.Agreeing.{DriveOnFlash}
 use Rattle.pk_core.specs.Done.{Does}
 use Rattle.pk_core.specs.Quiet.{eleven}
 use Rattle.pk_parts.specs.Staying.{StaysOrFrees}
-use Rattle.pk_parts.specs.Ticking.{MayTick, Ticks, HasNoStep, Advances}
+use Rattle.pk_background.specs.Ticking.{MayTick, Ticks, HasNoStep, Advances}
 use Rattle.pk_core.specs.Stepping.{has_failed, BackgroundSteps, outcome_of}
 use Rattle.pk_core.proofs.Unchanging.{same_early, unread_step}
 use Rattle.pk_parts.proofs.Unchanging.{for_its_map}
 use Rattle.pk_core.proofs.Staying.{frees_then}
 use Rattle.pk_parts.proofs.Staying.{stays_same, stays_frees}
-use Rattle.pk_parts.proofs.Callings.{few_more, spends_same, spends_within}
-use Rattle.pk_parts.proofs.Ticking.{yes_no}
+use Rattle.pk_background.proofs.Callings.{few_more, spends_same, spends_within}
+use Rattle.pk_background.proofs.Ticking.{yes_no}
 use Rattle.pk_nand.proofs.Effects.{only_then}
 
 -- the drive agrees with its board after this many steps, of which none failed
@@ -92,14 +92,10 @@ record OneRead (a b : BoardState) : Type 0 where
 
 one_read : (a b : BoardState) → a.reads ≤ last_count → AtMostOneCall a b → OneRead a b
 one_read a b few calls = elim calls [
-  | inl none ↦ (let e = none.0 in record { few = omega (arith, e, few); more = omega (arith, e); within = omega (arith, e) })
-  | inr some ↦ elim some [
-    | inl one ↦ (let e = one.0 in record { few = omega (arith, e, few); more = omega (arith, e, few); within = omega (arith, e, few) })
-    | inr other ↦ elim other [
-      | inl program ↦ (let e = program.0 in record { few = omega (arith, e, few); more = omega (arith, e); within = omega (arith, e) })
-      | inr erase ↦ (let e = erase.0 in record { few = omega (arith, e, few); more = omega (arith, e); within = omega (arith, e) })
-    ]
-  ]
+  | made_no_call none ↦ (let e = none.0 in record { few = omega (arith, e, few); more = omega (arith, e); within = omega (arith, e) })
+  | made_read one ↦ (let e = one.0 in record { few = omega (arith, e, few); more = omega (arith, e, few); within = omega (arith, e, few) })
+  | made_program program ↦ (let e = program.0 in record { few = omega (arith, e, few); more = omega (arith, e); within = omega (arith, e) })
+  | made_erase erase ↦ (let e = erase.0 in record { few = omega (arith, e, few); more = omega (arith, e); within = omega (arith, e) })
 ]
 
 -- a step that did not fail met no fault

@@ -26,25 +26,25 @@ use Rattle.pk_values.specs.State.{fits_open}
 use Rattle.pk_parts.specs.Parts.{Parts, counts_of}
 use Rattle.pk_parts.specs.Agreeing.{DriveOnFlash}
 use Rattle.pk_parts.specs.Moves.{StandsFor, KeepsAll, BreaksAll}
-use Rattle.pk_parts.specs.Emptying.{StepOrRead, OnRunning}
+use Rattle.pk_background.specs.Emptying.{StepOrRead, OnRunning}
 use Rattle.pk_parts.specs.Staying.{StaysFresh, StaysOrOpens}
 use Rattle.pk_parts.specs.Quiet.{ReadsOnly, ReadsFailing, Looks}
-use Rattle.pk_parts.specs.Changes.{MayPut, CanPut, PutsAll, FailsToPut, PutsOrReads, StaysBetween}
+use Rattle.pk_changes.specs.Changes.{MayPut, CanPut, PutsAll, FailsToPut, PutsOrReads, StaysBetween}
 use Rattle.pk_core.specs.Programming.{ReadsNone}
-use Rattle.pk_parts.specs.Programming.{PutsQuietly}
-use Rattle.pk_parts.specs.Reclaiming.{CannotRead}
+use Rattle.pk_changes.specs.Programming.{PutsQuietly}
+use Rattle.pk_background.specs.Reclaiming.{CannotRead}
 use Rattle.pk_core.specs.Spacing.{MayStore, StoresAll, FailsToStore, StoresOrReads, CanStore, store_most}
-use Rattle.pk_parts.specs.Spacing.{SameMapAll, MovesOrReads, StaysSame, needs}
+use Rattle.pk_background.specs.Spacing.{SameMapAll, MovesOrReads, StaysSame, needs}
 use Rattle.pk_core.proofs.Amounts.{store_few, numbers_last}
-use Rattle.pk_parts.proofs.Changing.{kept_goes}
+use Rattle.pk_changes.proofs.Changing.{kept_goes}
 use Rattle.pk_parts.proofs.Keeping.{board_has}
-use Rattle.pk_parts.proofs.Putting.{later_reaches, later_goes}
-use Rattle.pk_parts.proofs.ReadSteps.{Passes, passes_none, reading_then, reading_failed, running_says}
-use Rattle.pk_parts.proofs.SameMaps.{same_of, same_unread, passes_moved, SameMapAll-then}
-use Rattle.pk_parts.proofs.SpaceSteps.{wanted_full}
+use Rattle.pk_changes.proofs.Putting.{later_reaches, later_goes}
+use Rattle.pk_background.proofs.ReadSteps.{Passes, passes_none, reading_then, reading_failed, running_says}
+use Rattle.pk_background.proofs.SameMaps.{same_of, same_unread, passes_moved, SameMapAll-then}
+use Rattle.pk_background.proofs.SpaceSteps.{wanted_full}
 use Rattle.pk_parts.proofs.Standing.{found_once, agrees_so}
 use Rattle.pk_parts.proofs.Staying.{fresh_then}
-use Rattle.pk_parts.proofs.Stored.{blocks_most, blocks_at}
+use Rattle.pk_background.proofs.Stored.{blocks_most, blocks_at}
 use Rattle.pk_base.proofs.ShapeLemmas.{entries_some}
 
 true_false : true ≡ false → ⊥

@@ -25,23 +25,23 @@ use Rattle.pk_law_steps.specs.Under.{places}
 use Rattle.pk_log.specs.State.{LogState}
 use Rattle.pk_parts.specs.Parts.{Parts, frames_of, is_half}
 use Rattle.pk_parts.specs.Moves.{StandsFor, StandsBetween, KeepsAll}
-use Rattle.pk_parts.specs.Emptying.{StepOrRead, OnRunning}
-use Rattle.pk_parts.specs.Pairing.{FinishesHalf, FailsToFinish, FinishesOr}
+use Rattle.pk_background.specs.Emptying.{StepOrRead, OnRunning}
+use Rattle.pk_background.specs.Pairing.{FinishesHalf, FailsToFinish, FinishesOr}
 use Rattle.pk_parts.specs.Staying.{Stays, StaysOrOpens}
-use Rattle.pk_parts.specs.Programming.{PutsQuietly, TakesQuietly, ReadsQuietly}
-use Rattle.pk_parts.specs.Costs.{Spends, space_and_put_calls}
-use Rattle.pk_parts.specs.Changes.{MayPut, MayTake, CanPut, CanTake, TakesAll, FailsToTake, TakesOrReads, StaysBetween}
-use Rattle.pk_parts.specs.Spacing.{SameMapAll}
+use Rattle.pk_changes.specs.Programming.{PutsQuietly, TakesQuietly, ReadsQuietly}
+use Rattle.pk_background.specs.Costs.{Spends, space_and_put_calls}
+use Rattle.pk_changes.specs.Changes.{MayPut, MayTake, CanPut, CanTake, TakesAll, FailsToTake, TakesOrReads, StaysBetween}
+use Rattle.pk_background.specs.Spacing.{SameMapAll}
 use Rattle.pk_core.specs.Programming.{ReadsNone}
 use Rattle.pk_core.specs.Spacing.{MayStore, StoresAll, FailsToStore, StoresOrReads, store_most}
 use Rattle.pk_core.specs.Whole.{MayStoreBetween, MayTakeBetween, SameMapBetween, StoresBetween, FailsToStoreBetween, TakesBetween, FailsToTakeBetween, StoresWhole, TakesWhole, CanPutBetween}
 use Rattle.pk_core.specs.Whole.{CanTakeBetween}
-use Rattle.pk_parts.proofs.Callings.{few_program, few_same, spends_then}
+use Rattle.pk_background.proofs.Callings.{few_program, few_same, spends_then}
 use Rattle.pk_parts.proofs.Halves.{whole_of, with_whole, not_made, is_whole}
 use Rattle.pk_parts.proofs.Keeping.{KeepsAll-none}
-use Rattle.pk_parts.proofs.Putting.{later_reaches, later_goes}
-use Rattle.pk_parts.proofs.ReadSteps.{Passes, reading_then, running_says}
-use Rattle.pk_parts.proofs.SameMaps.{SameMap-then, same_of}
+use Rattle.pk_changes.proofs.Putting.{later_reaches, later_goes}
+use Rattle.pk_background.proofs.ReadSteps.{Passes, reading_then, running_says}
+use Rattle.pk_background.proofs.SameMaps.{SameMap-then, same_of}
 use Rattle.pk_parts.proofs.Staying.{opens_behind, stays_same, stays_then}
 
 -- ---- the pair is whole

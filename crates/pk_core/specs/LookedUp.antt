@@ -13,7 +13,7 @@ use Rattle.pk_parts.specs.Quiet.{Looks}
 use Rattle.pk_core.specs.Serving.{IsServable, IsReadSince}
 use Rattle.pk_parts.specs.Staying.{Stays, StaysOrOpens, IsNoted}
 use Rattle.pk_core.specs.Programming.{ReadsNone}
-use Rattle.pk_parts.specs.Programming.{PutsQuietly, TakesQuietly, ReadsQuietly}
+use Rattle.pk_changes.specs.Programming.{PutsQuietly, TakesQuietly, ReadsQuietly}
 
 -- The drive serves the request, and its key has its value at this place, as was found since the board had this count of reads.
 pub record IsLookedUp (d : Parts) (board : BoardState) (r : Request) (k : Key) (p : Option Place) (before : ℕ) : Type 0 where

@@ -12,7 +12,7 @@ use Rattle.pk_values.specs.State.{fits_open}
 use Rattle.pk_call.specs.Moving.{commits_for}
 use Rattle.pk_call.specs.declared.types.Outcome.{Outcome}
 use Rattle.pk_parts.specs.Parts.{Parts, sight_of, is_half}
-use Rattle.pk_parts.specs.Programming.{Programs, ReadsQuietly}
+use Rattle.pk_changes.specs.Programming.{Programs, ReadsQuietly}
 
 -- nor if besides a value of n pages has room in the open block
 abbrev pub ReadsNone : Parts → Key → ℕ → BoardState → BoardState → Type 0

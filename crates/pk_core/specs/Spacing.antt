@@ -14,9 +14,9 @@ use Rattle.pk_model.specs.Growth.{Goes}
 use Rattle.pk_model.specs.Crashes.{CrashFinds, change}
 use Rattle.pk_parts.specs.Parts.{Parts}
 use Rattle.pk_parts.specs.Moves.{StandsFor}
-use Rattle.pk_parts.specs.Changes.{Changes}
-use Rattle.pk_parts.specs.Emptying.{StepOrRead}
-use Rattle.pk_parts.specs.Spacing.{SameMapAll}
+use Rattle.pk_changes.specs.Changes.{Changes}
+use Rattle.pk_background.specs.Emptying.{StepOrRead}
+use Rattle.pk_background.specs.Spacing.{SameMapAll}
 
 -- ---- a value is stored, wherever the former one of its key is
 

@@ -12,9 +12,9 @@ use Rattle.pk_call.specs.Seen.{stopped_by}
 use Rattle.pk_call.specs.declared.types.Ticked.{Ticked}
 use Rattle.pk_call.specs.declared.types.Ticked.TheVariants.{Worked, Idle, Fault}
 use Rattle.pk_call.specs.declared.types.Outcome.{Outcome}
-use Rattle.pk_parts.specs.Costs.{Spends}
+use Rattle.pk_background.specs.Costs.{Spends}
 use Rattle.pk_parts.specs.Parts.{Parts, sight_of}
-use Rattle.pk_parts.specs.Ticking.{HasNoStep}
+use Rattle.pk_background.specs.Ticking.{HasNoStep}
 
 -- a flash operation failed
 abbrev pub has_failed : Ticked → Bool

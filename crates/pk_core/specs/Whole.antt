@@ -16,9 +16,9 @@ use Rattle.pk_model.specs.Crashes.{CrashFinds, change}
 use Rattle.pk_law_steps.specs.Under.{places}
 use Rattle.pk_parts.specs.Parts.{Parts}
 use Rattle.pk_parts.specs.Moves.{StandsBetween}
-use Rattle.pk_parts.specs.Changes.{Changes}
-use Rattle.pk_parts.specs.Emptying.{StepOrRead}
-use Rattle.pk_parts.specs.Spacing.{SameMap}
+use Rattle.pk_changes.specs.Changes.{Changes}
+use Rattle.pk_background.specs.Emptying.{StepOrRead}
+use Rattle.pk_background.specs.Spacing.{SameMap}
 
 -- A key may get a value: its value stood at this place until now, or there was none, and the live pages are within their limit with the new one.
 pub record MayPutBetween (d : Parts) (shape : Shape) (flash : Flash) (m : Map) (key : Key) (value : List ℕ) (old : Option Place) : Type 0 where

@@ -10,7 +10,7 @@ ghost use Rattle.pk_core.specs.Done.{Executes};
 ghost use Rattle.pk_core.specs.Serving.{IsServable, IsCounted, outcome_for, pages_at as pages_at_by};
 ghost use Rattle.pk_nvme.specs.declared.opcode.TheConstants.{STORE, DELETE};
 ghost use Rattle.pk_law_work.specs.Calls.{commit_calls, pair_calls, room_calls, room_roots, store_roots};
-ghost use Rattle.pk_parts.specs.Costs.{Spends, space_and_put_calls};
+ghost use Rattle.pk_background.specs.Costs.{Spends, space_and_put_calls};
 ghost use Rattle.pk_parts.specs.Parts.{is_half};
 ghost use Rattle.pk_parts.specs.Staying.{Stays, StaysOrOpens, IsNoted};
 ghost use Rattle.pk_core.specs.Programming.{QuietStore, QuietDelete};

@@ -1,21 +1,23 @@
 //! A key gets a value: after reclaims, if there is no room for it without them.
 ghost use Rattle.std.specs.Prelude.{◌≡◌, ◌≤◌, ◌+◌, true, false, OnOk};
 ghost use Rattle.pk_parts.specs.Parts.{pages_for, is_half};
-ghost use Rattle.pk_parts.specs.Costs.{NumbersLast, Spends, put_calls, space_and_put_calls};
+ghost use Rattle.pk_background.specs.Costs.{NumbersLast, Spends, put_calls, space_and_put_calls};
 ghost use Rattle.pk_nand.specs.Calls.{last_count};
 ghost use Rattle.pk_model.specs.Wear.{is_worn};
 ghost use Rattle.pk_law_work.specs.Calls.{commit_calls, lookup_calls, pair_calls, room_calls, room_roots, store_roots};
-ghost use Rattle.pk_parts.specs.Changes.{CanPut, StaysBetween};
-ghost use Rattle.pk_parts.specs.Emptying.{OnRunning};
+ghost use Rattle.pk_changes.specs.Changes.{CanPut, StaysBetween};
+ghost use Rattle.pk_background.specs.Emptying.{OnRunning};
 ghost use Rattle.pk_parts.specs.Staying.{Stays, StaysOrOpens, IsNoted};
 ghost use Rattle.pk_parts.specs.Stopping.{StoppedOn};
 ghost use Rattle.pk_core.specs.Spacing.{CanStore, StoresOrReads, store_most};
-ghost use Rattle.pk_parts.specs.Spacing.{needs};
+ghost use Rattle.pk_background.specs.Spacing.{needs};
 ghost use Rattle.pk_core.specs.Programming.{ReadsNone};
-ghost use Rattle.pk_parts.specs.Programming.{PutsQuietly, TakesQuietly, ReadsQuietly};
+ghost use Rattle.pk_changes.specs.Programming.{PutsQuietly, TakesQuietly, ReadsQuietly};
 ghost use Rattle.pk_core.specs.Whole.{CanPutBetween, CanTakeBetween, StoresWhole, TakesWhole};
 
+use pk_background::{make_space, make_whole, needs_space};
 use pk_base::{Key, Place};
+use pk_changes::{put, take_out};
 use pk_nand::{Fault, Nand};
 use pk_parts::Parts;
 use pk_region::Region;
@@ -49,7 +51,7 @@ fn put_found<B: Nand, A: Region>(
     let _ = board.read_count();
     let _ = key.bytes();
     match parts.look(board, &key) {
-        Ok(old) => parts.put(board, key, value, old, count),
+        Ok(old) => put(parts, board, key, value, old, count),
         Err(_) => Err(Fault::Reading),
     }
 }
@@ -81,7 +83,7 @@ fn put_behind_reclaims<B: Nand, A: Region>(
         (B.state board.new) }
     ensures stops { StoppedOn parts.new result }
 {
-    match parts.make_space(board, count) {
+    match make_space(parts, board, count) {
         Ok(()) => {
             // so that the board's counts are known to be of 64 bits
             let _ = board.read_count();
@@ -124,10 +126,10 @@ pub(crate) fn put_with_space<B: Nand, A: Region>(
         (pages_for parts.old value.now) (B.state board.old)
         (B.state board.new)) }
 {
-    if parts.needs_space(count) {
+    if needs_space(parts, count) {
         put_behind_reclaims(parts, board, key, value, count)
     } else {
-        parts.put(board, key, value, old, count)
+        put(parts, board, key, value, old, count)
     }
 }
 
@@ -167,7 +169,7 @@ pub(crate) fn put_whole<B: Nand, A: Region>(
         (pages_for parts.old value.now) (B.state board.old)
         (B.state board.new)) }
 {
-    match parts.make_whole(board) {
+    match make_whole(parts, board) {
         Ok(()) => put_with_space(parts, board, key, value, old, count),
         Err(fault) => Err(fault),
     }
@@ -200,8 +202,8 @@ pub(crate) fn take_whole<B: Nand, A: Region>(
     ensures quiet { is_half parts.old ≡ false → OnOk result
         (ReadsQuietly parts.old key (B.state board.old) (B.state board.new)) }
 {
-    match parts.make_whole(board) {
-        Ok(()) => parts.take_out(board, key, old),
+    match make_whole(parts, board) {
+        Ok(()) => take_out(parts, board, key, old),
         Err(fault) => Err(fault),
     }
 }

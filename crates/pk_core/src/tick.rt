@@ -5,9 +5,10 @@ ghost use Rattle.pk_call.specs.Tick.{TellsIdle, LowersWork};
 ghost use Rattle.pk_call.specs.Seen.{stopped_by};
 ghost use Rattle.pk_parts.specs.Parts.{sight_of, is_half};
 ghost use Rattle.pk_parts.specs.Agreeing.{DriveOnFlash};
-ghost use Rattle.pk_parts.specs.Ticking.{MayTick, Ticks};
+ghost use Rattle.pk_background.specs.Ticking.{MayTick, Ticks};
 ghost use Rattle.pk_parts.specs.Staying.{StaysOrFrees};
 
+use pk_background::advance;
 use pk_call::Ticked;
 use pk_nand::Nand;
 use pk_parts::Parts;
@@ -38,5 +39,5 @@ pub(crate) fn step<B: Nand, A: Region>(parts: &mut Parts<A>, board: &mut B) -> T
         result }
 {
     parts.known();
-    parts.advance(board)
+    advance(parts, board)
 }

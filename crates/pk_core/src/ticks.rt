@@ -7,7 +7,7 @@ ghost use Rattle.pk_parts.specs.Parts.{sight_of};
 ghost use Rattle.pk_parts.specs.Agreeing.{DriveOnFlash};
 ghost use Rattle.pk_core.specs.Serving.{IsServable};
 ghost use Rattle.pk_core.specs.Done.{Executes};
-ghost use Rattle.pk_parts.specs.Ticking.{MayTick};
+ghost use Rattle.pk_background.specs.Ticking.{MayTick};
 ghost use Rattle.pk_core.specs.Stepping.{BackgroundSteps, Lessens, has_failed, outcome_of};
 ghost use Rattle.pk_nvme.specs.declared.status.TheConstants.{SUCCESSFUL_COMPLETION};
 ghost use Rattle.pk_nvme.specs.declared.opcode.TheConstants.{TICK};
@@ -15,6 +15,7 @@ ghost use Rattle.pk_call.specs.Calling.{FewCalls};
 ghost use Rattle.pk_parts.specs.Staying.{StaysOrFrees};
 
 use crate::counts::reads_since;
+use pk_background::advance;
 use pk_call::{Outcome, Ticked};
 use pk_nand::Nand;
 use pk_nvme::Request;
@@ -61,7 +62,7 @@ fn work<B: Nand, A: Region>(parts: &mut Parts<A>, board: &mut B, steps: u32) -> 
         → (sight_of parts.new).work ≤ (sight_of parts.old).work }
 {
     for made in 0..steps {
-        match parts.advance(board) {
+        match advance(parts, board) {
             Ticked::Worked => {}
             Ticked::Idle => return Ticked::Idle,
             Ticked::Fault { stopped } => return Ticked::Fault { stopped },

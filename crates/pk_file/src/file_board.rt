@@ -28,6 +28,8 @@ pub struct FileBoard<'a> {
     /// Whether each change has to be on the disk when its call returns.
     is_durable: bool,
     file: Option<ImageFile>,
+    /// Whether a load found no file, and none was made since.
+    bare: bool,
     shape: Option<Shape>,
     slots: Vec<Slot>,
     input: Incoming<Stdin>,
@@ -164,6 +166,7 @@ impl<'a> FileBoard<'a> {
             path,
             is_durable,
             file: None,
+            bare: false,
             shape: None,
             slots: Vec::new(rt.alloc()),
             input: Incoming::new(rt.alloc(), rt.stdin()),
@@ -190,9 +193,9 @@ impl<'a> FileBoard<'a> {
     {
         match self.output.send() {
             Ok(()) => Ok(()),
-            Err(_) => {
+            Err(fault) => {
                 raise(&mut self.out_faults);
-                Err(HostFault)
+                Err(fault)
             }
         }
     }
@@ -211,6 +214,7 @@ impl<'a> FileBoard<'a> {
 impl Nand for FileBoard<'_> {
     ghost state = { λ f. record {
       shape = f.shape;
+      bare = f.bare;
       pages = pages_of f.slots.items;
       trail = None;
       reads = f.reads;
@@ -234,8 +238,12 @@ impl Nand for FileBoard<'_> {
             return Ok(self.shape);
         }
         match find_image(self.rt, alloc, self.path, self.is_durable) {
-            Ok(None) => Ok(None),
+            Ok(None) => {
+                self.bare = true;
+                Ok(None)
+            }
             Ok(Some(image)) => {
+                self.bare = false;
                 self.slots = image.slots;
                 self.shape = Some(image.shape);
                 self.file = Some(image.file);
@@ -258,6 +266,7 @@ impl Nand for FileBoard<'_> {
         let Ok(slots) = erased_slots(alloc, &shape) else {
             return Err(LoadFault::Memory);
         };
+        self.bare = false;
         let Ok(file) = create_image(self.rt, self.path, &shape, self.is_durable) else {
             raise(&mut self.flash_faults);
             return Err(LoadFault::Fault);
@@ -326,7 +335,7 @@ impl Board for FileBoard<'_> {
             Ok(count) => Ok(count),
             Err(_) => {
                 raise(&mut self.in_faults);
-                Err(HostFault)
+                Err(HostFault { given: 0 })
             }
         }
     }
@@ -336,7 +345,7 @@ impl Board for FileBoard<'_> {
             Ok(()) => Ok(()),
             Err(_) => {
                 raise(&mut self.out_faults);
-                Err(HostFault)
+                Err(HostFault { given: 0 })
             }
         }
     }

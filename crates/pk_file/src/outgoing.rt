@@ -56,13 +56,13 @@ impl<W: Write + Drop> Outgoing<W> {
         ensures none_left { OnOk result (writer_buffer self.new.to ≡ []) }
     {
         if self.stage == Stage::Lost {
-            return Err(HostFault);
+            return Err(HostFault { given: 0 });
         }
         match self.to.flush() {
             Ok(()) => Ok(()),
             Err(_) => {
                 self.stage = Stage::Lost;
-                Err(HostFault)
+                Err(HostFault { given: 0 })
             }
         }
     }
@@ -73,13 +73,13 @@ impl<W: Write + Drop> Outgoing<W> {
             (writer_contents W.contents self.new.to) bytes.now) }
     {
         if self.stage == Stage::Lost {
-            return Err(HostFault);
+            return Err(HostFault { given: 0 });
         }
         match self.to.write_all(bytes) {
             Ok(()) => Ok(()),
             Err(_) => {
                 self.stage = Stage::Lost;
-                Err(HostFault)
+                Err(HostFault { given: 0 })
             }
         }
     }

@@ -1,5 +1,5 @@
 -- The board in memory before its first call.
-use Rattle.std.specs.Prelude.{ℕ, List, [], Option, Some, None}
+use Rattle.std.specs.Prelude.{ℕ, List, [], Option, Some, None, is_none}
 use Rattle.pk_base.specs.Shape.{Shape}
 use Rattle.pk_base.specs.Page.{Flash}
 use Rattle.pk_nand.specs.BoardState.{BoardState}
@@ -8,6 +8,7 @@ use Rattle.pk_nand.specs.BoardState.{BoardState}
 abbrev pub fresh_board : Option Shape → Flash → List ℕ → BoardState
 fresh_board shape pages input = record {
   shape = shape;
+  bare = is_none shape;
   pages = pages;
   trail = Some [];
   reads = 0;

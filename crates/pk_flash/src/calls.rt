@@ -1,10 +1,10 @@
 //! What calls do to the pages, the trail and the posted bytes of a board in memory.
-ghost use Rattle.std.specs.Prelude.{◌≡◌, ◌≤◌, ◌<◌, ◌+◌, ◌++◌, ◌∷◌, [], length, Some, OnOk, OnErr, vec_capacity, slice_set, option_copied};
+ghost use Rattle.std.specs.Prelude.{◌≡◌, ◌≤◌, ◌<◌, ◌+◌, ◌++◌, ◌∷◌, ◌^◌, [], length, Some, IsSome, OnOk, OnErr, IfErr, vec_capacity, slice_set, option_copied};
 ghost use Rattle.pk_base.specs.Page.{whole, IsPage, IsFlash};
 ghost use Rattle.pk_base.specs.Mark.{program, erase, post, after};
 ghost use Rattle.pk_nand.specs.BoardState.{shape_or_none};
 ghost use Rattle.pk_nand.specs.Calls.{counted, LeftBehind};
-ghost use Rattle.pk_nand.specs.Operations.{PostLeft};
+ghost use Rattle.pk_nand.specs.Operations.{PostLeft, SentFront};
 ghost use Rattle.pk_nand.specs.Seen.{states, marks as seen_marks};
 ghost use Rattle.pk_flash.specs.Exact.{ActsBy, PostsBy, part as part_of};
 
@@ -111,10 +111,11 @@ pub fn erase_block(
     }
 }
 
-// How many bytes a post sends.
+// How many bytes a post sends. One that fails is planned by a count of 32 bits.
 fn part(left: Option<&Left>, all: usize) -> usize
     ensures part { result ≡ part_of all (option_copied left.entry) }
     ensures within { result ≤ all }
+    ensures bounded { IsSome left.entry → result < 2 ^ 32 }
 {
     match left {
         None => all,
@@ -146,6 +147,9 @@ pub fn post_bytes(
         ≡ seen_marks trail.old.marks.items ++ post bytes.now ∷ []) }
     ensures left { OnErr result (PostLeft bytes.now (Some posted.old.items) (Some posted.new.items)
         (Some (seen_marks trail.old.marks.items)) (Some (seen_marks trail.new.marks.items))) }
+    ensures given { IfErr result (λ f. SentFront bytes.now f.given (Some posted.old.items)
+        (Some posted.new.items) (Some (seen_marks trail.old.marks.items))
+        (Some (seen_marks trail.new.marks.items))) }
 
     // The buffers keep their room.
     ensures holds { posted_room ≤ vec_capacity posted.new }
@@ -155,16 +159,18 @@ pub fn post_bytes(
     let count = part(left, bytes.len());
     let out = &bytes[..count];
     if count > posted_room || posted.len() > posted_room - count || trail.is_full() {
-        return Err(HostFault);
+        return Err(HostFault { given: 0 });
     }
     match trail.note_post(alloc, out) {
         Ok(()) => match posted.extend_from_slice(out) {
             Ok(()) => match left {
                 None => Ok(()),
-                Some(_) => Err(HostFault),
+                Some(_) => Err(HostFault {
+                    given: count as u32,
+                }),
             },
             Err(_) => unreachable!(),
         },
-        Err(_) => Err(HostFault),
+        Err(_) => Err(HostFault { given: 0 }),
     }
 }

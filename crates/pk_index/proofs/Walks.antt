@@ -39,8 +39,7 @@ left_from w from flash arena rs active frozen ess at left = (
 -- ---- the pages of the runs
 
 few_read : (leases : List ℕ) (n m : ℕ) → n ≤ m → read_of leases n ≤ m
-few_read [] n m h = h
-few_read (l ∷ leases) n m h = omega arith
+few_read leases n m h = omega (arith, h)
 
 pub few_of_four : (rs : List Kept) (a b c d : Kept) (m : ℕ) → length rs ≡ 4 → length (slice_index_or rs 0 a).firsts ≤ m
     → length (slice_index_or rs 1 b).firsts ≤ m → length (slice_index_or rs 2 c).firsts ≤ m → length (slice_index_or rs 3 d).firsts ≤ m

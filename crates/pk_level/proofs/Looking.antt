@@ -1,23 +1,25 @@
 -- A lookup through the runs, from the first on.
-use Rattle.std.proofs.Common.{◌≡◌, ◌⊎◌, inl, inr, ℕ, zero, suc, ◌+◌, ◌-◌, ◌<◌, ◌≤◌, Bool, true, false, cond, List, [], ◌∷◌, ◌++◌, length, slice_get, drop, refl, ap, sym, subst, ◌∙◌, arith, Option}
-use Rattle.std.proofs.Common.{Some, None, MatchOption, append_assoc}
+use Rattle.std.proofs.Common.{◌≡◌, inl, inr, ℕ, zero, suc, ◌+◌, ◌-◌, ◌<◌, ◌≤◌, Bool, true, false, cond, if◌then◌else◌, nat_le, nat_lt, List, [], ◌∷◌, ◌++◌, length, slice_get, drop, refl, ap, sym}
+use Rattle.std.proofs.Common.{subst, ◌∙◌, arith, Option}
+use Rattle.std.proofs.Common.{Some, None, MatchOption}
 use Rattle.std.specs.Ordering.{eq_by_cmp}
 use Rattle.std.specs.FinMap.Entries.{find}
 use Rattle.std.proofs.lemmas.Bool.{cases_lt}
+use Rattle.std.proofs.lemmas.Bool.Decides.{nat_tests}
 use Rattle.pk_base.specs.Key.{Key, key_cmp}
 use Rattle.pk_base.specs.Shape.{Shape}
-use Rattle.pk_base.specs.Entry.{Entry, Place, key_of}
+use Rattle.pk_base.specs.Entry.{Entry, Place}
 use Rattle.pk_base.specs.Seen.{entry as seen}
 use Rattle.pk_base.specs.declared.entry.Entry.{Entry as RustEntry}
 use Rattle.pk_base.specs.Page.{Flash}
 use Rattle.pk_nand.specs.BoardState.{BoardState}
-use Rattle.pk_nand.specs.Calls.{counted, IsReady}
-use Rattle.pk_nand.specs.Operations.{after_read, ReadFailed}
+use Rattle.pk_nand.specs.Calls.{counted}
+use Rattle.pk_nand.specs.Operations.{ReadFailed}
 use Rattle.pk_nand.specs.Counts.{counted_by, after_reads}
 use Rattle.pk_pin.specs.Frames.{Frames}
-use Rattle.pk_run.specs.Kept.{Kept, IsPinned, RunOnFlash, empty, after_look}
-use Rattle.pk_run.specs.Search.{IsFound, IsPageFor, RunLooks}
-use Rattle.pk_level.specs.Levels.{Levels, IsOfLevel, AreOfLevels, IsLevels, RunsOnFlash, all_entries, reads_by, most_reads, reads_through, LooksFor, ReadsUpTo, ReadFailsWithin}
+use Rattle.pk_run.specs.Kept.{Kept, IsPinned, RunOnFlash, after_look, is_pinned}
+use Rattle.pk_run.specs.Search.{IsFound, RunLooks}
+use Rattle.pk_level.specs.Levels.{Levels, IsOfLevel, AreOfLevels, IsLevels, RunsOnFlash, all_entries, is_held, held_from, held_of, most_reads, reads_through, LooksFor, ReadsUpTo, ReadFailsWithin}
 
 -- ---- entries of several lists
 
@@ -73,23 +75,29 @@ of_level_at shape pinned level (x ∷ rs) (suc i) r are got =
 
 -- ---- reads
 
-by_frames : (n m : ℕ) → m ≡ n → reads_by n m ≡ 0
-by_frames zero m e = refl
-by_frames (suc n) zero e = absurd (omega arith)
-by_frames (suc n) (suc m) e = refl
+le_true : (x y : ℕ) → x ≤ y → nat_le x y ≡ true
+le_true x y h = grind (arith, nat_tests)
 
-one_read : (n m : ℕ) → reads_by n m ≤ 1
-one_read zero m = omega arith
-one_read (suc n) zero = omega arith
-one_read (suc n) (suc m) = omega arith
+gt_false : (x y : ℕ) → y < x → nat_le x y ≡ false
+gt_false x y h = grind (arith, nat_tests)
 
-needs_read : (n m p : ℕ) → p < n → m ≡ 0 → 1 ≤ reads_by n m
-needs_read zero m p h e = absurd (omega arith)
-needs_read (suc n) zero p h e = omega arith
-needs_read (suc n) (suc m) p h e = absurd (omega arith)
+lt_true : (x y : ℕ) → x < y → nat_lt x y ≡ true
+lt_true x y h = grind (arith, nat_tests)
 
-pub unpinned_reads : (r : Kept) (key : Key) (p : ℕ) → IsPageFor key r.firsts p → r.leases ≡ [] → 1 ≤ most_reads r
-unpinned_reads r key p for_key none = needs_read (length r.firsts) (length r.leases) p for_key.exists (ap (λ (ls : List ℕ). length ls) none)
+ge_false : (x y : ℕ) → y ≤ x → nat_lt x y ≡ false
+ge_false x y h = grind (arith, nat_tests)
+
+by_frames : (r : Kept) → IsPinned r → most_reads r ≡ 0
+by_frames r all = rw (le_true (length r.firsts) (length r.leases) (omega (arith, all))) refl
+
+needs_read : (r : Kept) → length r.leases < length r.firsts → most_reads r ≡ 1
+needs_read r some = rw (gt_false (length r.firsts) (length r.leases) some) refl
+
+pub unpinned_reads : (r : Kept) → length r.leases ≤ length r.firsts → (IsPinned r → ⊥) → 1 ≤ most_reads r
+unpinned_reads r few not = elim (cases_lt (length r.leases) (length r.firsts)) [
+  | inl some ↦ let one = needs_read r some in omega (arith, one)
+  | inr all ↦ absurd (not (omega (arith, few, all)))
+]
 
 counted_more : (k m n : ℕ) → counted_by k (counted_by m n) ≡ counted_by (k + m) n
 counted_more zero m n = let e : m ≡ 0 + m = omega arith in ap (λ (j : ℕ). counted_by j n) e
@@ -98,33 +106,52 @@ counted_more (suc k) m n = ap counted (counted_more k m n) ∙ (let e : suc (k +
 pub reads_more : (k m : ℕ) (old : BoardState) → after_reads k (after_reads m old) ≡ after_reads (k + m) old
 reads_more k m old = ap (λ (n : ℕ). record old { reads = n }) (counted_more k m old.reads)
 
-look_by : (leases : List ℕ) (n p : ℕ) (now next : BoardState) → p < n → next ≡ after_look leases now → (k : ℕ) × (k ≤ reads_by n (length leases)) × (next ≡ after_reads k now)
-look_by leases zero p now next h e = absurd (omega arith)
-look_by [] (suc n) p now next h e = (suc zero, omega arith, e)
-look_by (l ∷ leases) (suc n) p now next h e = (zero, omega arith, e)
+look_by : (r : Kept) (p : ℕ) (o : Option ℕ) (now next : BoardState) → p < length r.firsts
+    → slice_get r.leases p ≡ o → next ≡ after_look o now → (k : ℕ) × (k ≤ most_reads r) × (next ≡ after_reads k now)
+look_by r p None now next h got e =
+    let past = missing_past r.leases p got in
+    let one = needs_read r (omega (arith, h, past)) in
+    (suc zero, omega (arith, one), e)
+  where
+    missing_past : (ls : List ℕ) (i : ℕ) → slice_get ls i ≡ None → length ls ≤ i
+    missing_past [] i got = omega arith
+    missing_past (l ∷ ls) zero got = cc
+    missing_past (l ∷ ls) (suc i) got = omega (arith, missing_past ls i got)
+look_by r p (Some l) now next h got e = (zero, omega arith, e)
 
 -- how often a lookup in one run reads
 look_reads : (r : Kept) (key : Key) (now next : BoardState) → RunLooks r key now next → (k : ℕ) × (k ≤ most_reads r) × (next ≡ after_reads k now)
 look_reads r key now next (inl none) = (zero, omega arith, none.1)
-look_reads r key now next (inr some) = look_by r.leases (length r.firsts) some.0 now next some.1.exists some.2
+look_reads r key now next (inr some) = look_by r some.0 (slice_get r.leases some.0) now next some.1.exists refl some.2
 
 through_at : (rs : List Kept) (i : ℕ) (r : Kept) → slice_get rs i ≡ Some r → reads_through (drop i rs) ≡ most_reads r + reads_through (drop (suc i) rs)
 through_at [] i r got = cc
 through_at (x ∷ rs) zero r got = let same : x ≡ r = cc in ap (λ (y : Kept). most_reads y + reads_through rs) same
 through_at (x ∷ rs) (suc i) r got = through_at rs i r got
 
--- no more runs are read than have no frames
-few_from : (shape : Shape) (pinned level : ℕ) (rs : List Kept) → AreOfLevels shape pinned level rs → suc pinned - level ≤ length rs → reads_through rs + (suc pinned - level) ≤ length rs
-few_from shape pinned level [] are most = omega arith
-few_from shape pinned level (r ∷ rs) are most =
-    let rest = few_from shape pinned (suc level) rs are.1 (omega arith) in
+-- a run is read at most once if its level is neither pinned nor held
+one_of : (b : Bool) → ◌≡◌ {A = ℕ} ((if b then 0 else 1) + (if b then 1 else 0)) 1
+one_of true = refl
+one_of false = refl
+
+exact_from : (shape : Shape) (pinned level : ℕ) (rs : List Kept) → AreOfLevels shape pinned level rs
+    → suc pinned - level ≤ length rs → reads_through rs + held_from pinned level rs + (suc pinned - level) ≡ length rs
+exact_from shape pinned level [] are most = omega (arith, most)
+exact_from shape pinned level (r ∷ rs) are most =
+    let rest = exact_from shape pinned (suc level) rs are.1 (omega (arith, most)) in
     elim (cases_lt pinned level) [
-      | inl behind ↦ let one = one_read (length r.firsts) (length r.leases) in omega (arith, rest, one, behind)
-      | inr within ↦ let none = by_frames (length r.firsts) (length r.leases) (are.0.frames within) in omega (arith, rest, none, within)
+      | inl behind ↦
+          let one = one_of (is_pinned r) in
+          let held : ◌≡◌ {A = ℕ} (if is_held pinned level r then 1 else 0) (if is_pinned r then 1 else 0) = rw (lt_true pinned level behind) refl in
+          omega (arith, rest, one, held, behind)
+      | inr within ↦
+          let none = by_frames r (are.0.frames within) in
+          let held : ◌≡◌ {A = ℕ} (if is_held pinned level r then 1 else 0) 0 = rw (ge_false pinned level within) refl in
+          omega (arith, rest, none, held, within)
     ]
 
-pub few_reads : (levels : Levels) → IsLevels levels → reads_through levels.runs + levels.pinned ≤ 4
-few_reads levels is = let few = few_from levels.shape levels.pinned 1 levels.runs is.each (omega (arith, is.most, is.four)) in omega (arith, few, is.four)
+pub few_reads : (levels : Levels) → IsLevels levels → reads_through levels.runs + levels.pinned + held_of levels ≡ 4
+few_reads levels is = let few = exact_from levels.shape levels.pinned 1 levels.runs is.each (omega (arith, is.most, is.four)) in omega (arith, few, is.four)
 
 -- ---- a lookup
 

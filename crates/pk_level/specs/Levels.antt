@@ -1,5 +1,5 @@
 -- The four runs of a drive, and a lookup through them.
-use Rattle.std.specs.Prelude.{◌≡◌, ⊤, ℕ, zero, suc, ◌+◌, ◌-◌, ◌<◌, ◌≤◌, List, [], ◌∷◌, length, slice_get, slice_index_or, slice_set, Some, MatchOption}
+use Rattle.std.specs.Prelude.{◌≡◌, ⊤, ℕ, suc, ◌+◌, ◌-◌, ◌<◌, ◌≤◌, Bool, nat_lt, ◌&&◌, if◌then◌else◌, List, [], ◌∷◌, length, slice_index_or, slice_set, MatchOption}
 use Rattle.std.specs.List.{flat_map}
 use Rattle.std.specs.FinMap.Entries.{find}
 use Rattle.pk_base.specs.declared.sizes.TheConstants.{LEVELS}
@@ -11,7 +11,7 @@ use Rattle.pk_nand.specs.BoardState.{BoardState}
 use Rattle.pk_nand.specs.Operations.{ReadFailed}
 use Rattle.pk_nand.specs.Counts.{after_reads}
 use Rattle.pk_pin.specs.Frames.{Frames}
-use Rattle.pk_run.specs.Kept.{Kept, IsPinned, RunOnFlash, empty}
+use Rattle.pk_run.specs.Kept.{Kept, IsPinned, RunOnFlash, empty, is_pinned}
 use Rattle.pk_run.specs.Search.{RunLooks}
 
 -- how many levels have frames for all their pages, and runs 1 to 4
@@ -66,25 +66,32 @@ HaveBlocks shape (r ∷ rs) (bs ∷ bss) = (r.shape ≡ shape) × (r.blocks ≡ 
 abbrev pub all_entries : List (List Entry) → List Entry
 all_entries ess = flat_map (λ es. es) ess
 
--- most reads of a lookup in a run, by its pages and their frames: none if it has no pages, or if they have frames
-abbrev pub reads_by : ℕ → ℕ → ℕ
-reads_by zero leases = 0
-reads_by (suc pages) zero = 1
-reads_by (suc pages) (suc leases) = 0
-
+-- most reads of a lookup in a run: none if all its pages have frames
 abbrev pub most_reads : Kept → ℕ
-most_reads r = reads_by (length r.firsts) (length r.leases)
+most_reads r = if is_pinned r then 0 else 1
 
 abbrev pub reads_through : List Kept → ℕ
 reads_through [] = 0
 reads_through (r ∷ rs) = most_reads r + reads_through rs
 
--- Runs are looked into from the first on, down to the one with an entry of the key: by at most one read each, and by none if the pages have frames.
+-- Runs are looked into from the first on, down to the one with an entry of the key: by at most one read each, and by none if the page has a frame.
 abbrev pub LooksFor : Key → List Kept → List (List Entry) → BoardState → BoardState → Type 0
 LooksFor key [] ess old new = new ≡ old
 LooksFor key (r ∷ rs) [] old new = new ≡ old
 LooksFor key (r ∷ rs) (es ∷ ess) old new =
     (between : BoardState) × RunLooks r key old between × MatchOption (find key_cmp key es) (LooksFor key rs ess between new) (λ place. new ≡ between)
+
+-- a level is held if it is below the pinned ones and all its pages have frames
+abbrev pub is_held : ℕ → ℕ → Kept → Bool
+is_held pinned level r = nat_lt pinned level && is_pinned r
+
+-- how many levels are held, of those from this one on
+abbrev pub held_from : ℕ → ℕ → List Kept → ℕ
+held_from pinned level [] = 0
+held_from pinned level (r ∷ rs) = (if is_held pinned level r then 1 else 0) + held_from pinned (suc level) rs
+
+abbrev pub held_of : Levels → ℕ
+held_of levels = held_from levels.pinned 1 levels.runs
 
 -- nothing but at most n reads
 abbrev pub ReadsUpTo : ℕ → BoardState → BoardState → Type 0

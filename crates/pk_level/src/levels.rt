@@ -11,7 +11,7 @@ ghost use Rattle.pk_pin.specs.Frames.{Frames};
 ghost use Rattle.pk_run.specs.Kept.{IsKept};
 ghost use Rattle.pk_run.specs.Search.{IsFound};
 ghost use Rattle.pk_level.specs.Levels as spec;
-ghost use Rattle.pk_level.specs.Levels.{IsLevels, IsOfLevel, RunsOnFlash, LooksFor, ReadsUpTo, ReadFailsWithin, no_runs, run_of, with_run, all_entries, reads_through};
+ghost use Rattle.pk_level.specs.Levels.{IsLevels, IsOfLevel, RunsOnFlash, LooksFor, ReadsUpTo, ReadFailsWithin, no_runs, run_of, with_run, all_entries, reads_through, held_of};
 
 use pk_base::{Entry, Key, LEVELS};
 use pk_nand::{Fault, Nand};
@@ -91,11 +91,12 @@ impl<A: Allocator + Clone> Levels<A> {
 }
 
 impl<A: Allocator> Levels<A> {
-    /// All levels keep this, and each run keeps within its level. No lookup reads more often than
-    /// there are levels without frames.
+    /// All levels keep this, and each run keeps within its level. A lookup reads at most once for
+    /// each level that is neither pinned nor held.
     pub fn known(&self)
         ensures levels { IsLevels self.now }
         ensures runs { AllByRecursion IsKept self.now.runs }
+        ensures exact { reads_through self.now.runs + self.now.pinned + held_of self.now ≡ LEVELS }
         ensures few { reads_through self.now.runs + self.now.pinned ≤ LEVELS }
     {
         self.first.known();

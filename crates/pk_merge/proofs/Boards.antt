@@ -1,10 +1,10 @@
 -- What a step does to a board apart from its pages.
-use Rattle.std.proofs.Common.{◌≡◌, ◌⊎◌, inl, inr, ℕ, List, [], ◌∷◌, refl, sym, subst, Bool}
+use Rattle.std.proofs.Common.{◌≡◌, ◌⊎◌, inl, inr, ℕ, List, [], ◌∷◌, slice_get, Option, Some, None, refl, sym, subst, Bool}
 use Rattle.pk_base.specs.Entry.{Entry}
 use Rattle.pk_nand.specs.BoardState.{BoardState}
 use Rattle.pk_nand.specs.Calls.{Rose, ProgramFailed, after_program}
 use Rattle.pk_nand.specs.Operations.{ReadFailed, EraseFailed, after_read, after_erase}
-use Rattle.pk_nand.specs.Effects.{AtMostOneCall, NoFault, OnlyFlash, OnlyReading, Stops}
+use Rattle.pk_nand.specs.Effects.{AtMostOneCall, NoFault, OnlyFlash, OnlyReading, Stops, made_no_call, made_read, made_program, made_erase}
 use Rattle.pk_nand.specs.declared.types.Fault.{Fault}
 use Rattle.pk_nand.specs.declared.types.Fault.TheVariants.{Reading, Stopped}
 use Rattle.pk_nand.proofs.Effects.{stops_erase, stops_program}
@@ -16,7 +16,7 @@ use Rattle.pk_merge.specs.declared.source.Source.{Source}
 use Rattle.pk_merge.specs.declared.source.Source.TheVariants.{Frozen, Run}
 use Rattle.pk_merge.specs.declared.next.Next.{Next}
 use Rattle.pk_merge.specs.declared.next.Next.TheVariants.{LoadSource, LoadTarget, Gather, TakeBlock, Program, End}
-use Rattle.pk_merge.specs.Cursors.{own_page}
+use Rattle.pk_merge.specs.Cursors.{Cursor, own_page}
 use Rattle.pk_merge.specs.Sources.{LookFails, after_look_at}
 use Rattle.pk_merge.specs.Merging.{Merger}
 use Rattle.pk_merge.specs.Outputs.{FailsToProgram}
@@ -32,24 +32,24 @@ called : (old to new : BoardState) → Called old to → new ≡ to → Called o
 called old to new c e = subst (λ (b : BoardState). Called old b) (sym e) c
 
 nothing : (old : BoardState) → Called old old
-nothing old = record { calls = inl (refl, refl, refl); sound = (refl, refl, refl, refl); rest = refl }
+nothing old = record { calls = made_no_call (refl, refl, refl); sound = (refl, refl, refl, refl); rest = refl }
 
 reads : (old : BoardState) → Called old (after_read old)
-reads old = record { calls = inr (inl (refl, refl, refl)); sound = (refl, refl, refl, refl); rest = refl }
+reads old = record { calls = made_read (refl, refl, refl); sound = (refl, refl, refl, refl); rest = refl }
 
 programs : (old : BoardState) (page : ℕ) (bytes : List ℕ) → Called old (after_program old page bytes)
-programs old page bytes = record { calls = inr (inr (inl (refl, refl, refl))); sound = (refl, refl, refl, refl); rest = refl }
+programs old page bytes = record { calls = made_program (refl, refl, refl); sound = (refl, refl, refl, refl); rest = refl }
 
 erases : (old : BoardState) (block : ℕ) → Called old (after_erase old block)
-erases old block = record { calls = inr (inr (inr (refl, refl, refl))); sound = (refl, refl, refl, refl); rest = refl }
+erases old block = record { calls = made_erase (refl, refl, refl); sound = (refl, refl, refl, refl); rest = refl }
 
-looks : (leases : List ℕ) (old : BoardState) → Called old (after_look leases old)
-looks [] old = reads old
-looks (l ∷ ls) old = nothing old
+looks : (lease : Option ℕ) (old : BoardState) → Called old (after_look lease old)
+looks None old = reads old
+looks (Some l) old = nothing old
 
-looks_at : {X : Type 0} (source : Source X) (old : BoardState) → Called old (after_look_at source old)
-looks_at (Frozen b) old = nothing old
-looks_at (Run r) old = looks r.now.leases old
+looks_at : {X : Type 0} (source : Source X) (c : Cursor) (old : BoardState) → Called old (after_look_at source c old)
+looks_at (Frozen b) c old = nothing old
+looks_at (Run r) c old = looks (slice_get r.now.leases (own_page c)) old
 
 takes : (pool : Blocks) (old : BoardState) (b : ℕ) (new : BoardState) → TakesReady pool old b new ⊎ ErasesFree pool old b new → Called old new
 takes pool old b new (inl ready) = called old old new (nothing old) ready.same
@@ -59,8 +59,9 @@ takes pool old b new (inr free) = called old (after_erase old b) new (erases old
 pub acts_call : {X : Type 0} (source : Source X) (target : Kept) (pins : Bool) (out : Kept) (m : Merger) (pool : Blocks)
     (old : BoardState) (before : Frames) (next : Next) (out' : Kept) (m' : Merger) (pool' : Blocks) (new : BoardState) (after : Frames)
     → Acts source target pins out m pool old before next out' m' pool' new after → Called old new
-acts_call source target pins out m pool old before LoadSource out' m' pool' new after (l, o, p, a) = called old (after_look_at source old) new (looks_at source old) l.board
-acts_call source target pins out m pool old before LoadTarget out' m' pool' new after (l, o, p, a) = called old (after_look target.leases old) new (looks target.leases old) l.board
+acts_call source target pins out m pool old before LoadSource out' m' pool' new after (l, o, p, a) = called old (after_look_at source m.source old) new (looks_at source m.source old) l.board
+acts_call source target pins out m pool old before LoadTarget out' m' pool' new after (l, o, p, a) = called old
+    (after_look (slice_get target.leases (own_page m.target)) old) new (looks (slice_get target.leases (own_page m.target)) old) l.board
 acts_call source target pins out m pool old before Gather out' m' pool' new after (n, e, o, p, a) = called old old new (nothing old) n
 acts_call source target pins out m pool old before End out' m' pool' new after (n, e, o, p, a) = called old old new (nothing old) n
 acts_call source target pins out m pool old before TakeBlock out' m' pool' new after (k, e, a, fits) = takes pool old k.block new k.choice
@@ -91,17 +92,17 @@ look_fails (Frozen b) m old new f = absurd f
 look_fails (Run r) m old new f = read_fails old new (page_of r.now (own_page m.source)) f
 
 read_failed : (old new : BoardState) (at : ℕ) → ReadFailed old new at → Failed old new
-read_failed old new at f = subst (λ (b : BoardState). Failed old b) (sym f.rest) (record { calls = inr (inl (refl, refl, refl)); rest = refl })
+read_failed old new at f = subst (λ (b : BoardState). Failed old b) (sym f.rest) (record { calls = made_read (refl, refl, refl); rest = refl })
 
 look_failed : {X : Type 0} (source : Source X) (m : Merger) (old new : BoardState) → LookFails source m.source old new → Failed old new
 look_failed (Frozen b) m old new f = absurd f
 look_failed (Run r) m old new f = read_failed old new (page_of r.now (own_page m.source)) f
 
 program_failed : (old new : BoardState) (at : ℕ) (bytes : List ℕ) → ProgramFailed old new at bytes → Failed old new
-program_failed old new at bytes f = subst (λ (b : BoardState). Failed old b) (sym f.rest) (record { calls = inr (inr (inl (refl, refl, refl))); rest = refl })
+program_failed old new at bytes f = subst (λ (b : BoardState). Failed old b) (sym f.rest) (record { calls = made_program (refl, refl, refl); rest = refl })
 
 erase_failed : (old new : BoardState) (block : ℕ) → EraseFailed old new block → Failed old new
-erase_failed old new block f = subst (λ (b : BoardState). Failed old b) (sym f.rest) (record { calls = inr (inr (inr (refl, refl, refl))); rest = refl })
+erase_failed old new block f = subst (λ (b : BoardState). Failed old b) (sym f.rest) (record { calls = made_erase (refl, refl, refl); rest = refl })
 
 module _ {X : Type 0} (source : Source X) (target out : Kept) (m : Merger) (pool : Blocks) (old : BoardState) (m' : Merger) (new : BoardState) where
   pub fails_call : (fault : Fault) → Fails source target out m pool old fault m' new → Failed old new

@@ -1,5 +1,5 @@
 -- Wherever a step is cut, no page differs that another may read; and after a read that failed the merge runs as before.
-use Rattle.std.proofs.Common.{◌≡◌, ◌≢◌, inl, inr, ◌+◌, ◌-◌, ◌*◌, ◌/◌, ◌%◌, ◌<◌, ◌≤◌, ℕ, refl, sym, ap, subst, ◌∙◌, arith, Bool, List, [], ◌∷◌, length}
+use Rattle.std.proofs.Common.{◌≡◌, ◌≢◌, inl, inr, ◌+◌, ◌-◌, ◌*◌, ◌/◌, ◌%◌, ◌<◌, ◌≤◌, ℕ, refl, sym, ap, subst, ◌∙◌, arith, Bool, List, [], ◌∷◌, length, slice_get, Option, Some, None}
 use Rattle.std.specs.Prelude.{slice_index}
 use Rattle.pk_base.specs.Shape.{Shape, IsShape}
 use Rattle.pk_base.specs.Entry.{Entry}
@@ -17,7 +17,7 @@ use Rattle.pk_merge.specs.declared.source.Source.{Source}
 use Rattle.pk_merge.specs.declared.source.Source.TheVariants.{Frozen, Run}
 use Rattle.pk_merge.specs.declared.next.Next.{Next}
 use Rattle.pk_merge.specs.declared.next.Next.TheVariants.{LoadSource, LoadTarget, Gather, TakeBlock, Program, End}
-use Rattle.pk_merge.specs.Cursors.{Follows}
+use Rattle.pk_merge.specs.Cursors.{Cursor, Follows, own_page}
 use Rattle.pk_merge.specs.Sources.{FollowsIn, after_look_at}
 use Rattle.pk_merge.specs.Merging.{Merger, Tells}
 use Rattle.pk_merge.specs.Running.{Running}
@@ -27,13 +27,13 @@ use Rattle.pk_merge.proofs.Places.{block_there, rest}
 
 -- ---- other pages
 
-look_is : (leases : List ℕ) (b : BoardState) → IsLook b (after_look leases b)
-look_is [] b = inr refl
-look_is (l ∷ ls) b = inl refl
+look_is : (lease : Option ℕ) (b : BoardState) → IsLook b (after_look lease b)
+look_is None b = inr refl
+look_is (Some l) b = inl refl
 
-look_is_in : {X : Type 0} (source : Source X) (b : BoardState) → IsLook b (after_look_at source b)
-look_is_in (Frozen x) b = inl refl
-look_is_in (Run r) b = look_is r.now.leases b
+look_is_in : {X : Type 0} (source : Source X) (c : Cursor) (b : BoardState) → IsLook b (after_look_at source c b)
+look_is_in (Frozen x) c b = inl refl
+look_is_in (Run r) c b = look_is (slice_get r.now.leases (own_page c)) b
 
 looked : (a b c : BoardState) → c ≡ b → IsLook a b → IsLook a c
 looked a b c e l = subst (IsLook a) (sym e) l
@@ -92,8 +92,9 @@ module _ {X : Type 0} (source : Source X) (target : Kept) (pins : Bool) (out : K
 
   pub acts_reach : (next : Next) (out' : Kept) (m' : Merger) (pool' : Blocks) (new : BoardState) (after : Frames)
       → Tells source target out m next → Acts source target pins out m pool old before next out' m' pool' new after → StepReaches pool out old new
-  acts_reach LoadSource out' m' pool' new after t (l, o, p, a) = inl (looked old (after_look_at source old) new l.board (look_is_in source old))
-  acts_reach LoadTarget out' m' pool' new after t (l, o, p, a) = inl (looked old (after_look target.leases old) new l.board (look_is target.leases old))
+  acts_reach LoadSource out' m' pool' new after t (l, o, p, a) = inl (looked old (after_look_at source m.source old) new l.board (look_is_in source m.source old))
+  acts_reach LoadTarget out' m' pool' new after t (l, o, p, a) =
+      let lease = slice_get target.leases (own_page m.target) in inl (looked old (after_look lease old) new l.board (look_is lease old))
   acts_reach Gather out' m' pool' new after t (e, o, p, q, a) = inl (inl e)
   acts_reach End out' m' pool' new after t (e, o, p, q, a) = inl (inl e)
   acts_reach TakeBlock out' m' pool' new after t (k, e, a, fits) = inr (k.block, inl k.spare, subst (λ (s : Shape). ReachesIn s k.block old new) r.shapes.of_pool k.cuts)

@@ -22,7 +22,7 @@ use Rattle.pk_merge.specs.declared.source.Source.{Source}
 use Rattle.pk_merge.specs.declared.source.Source.TheVariants.{Frozen, Run}
 use Rattle.pk_merge.specs.declared.next.Next.{Next}
 use Rattle.pk_merge.specs.declared.next.Next.TheVariants.{LoadSource, LoadTarget, Gather, TakeBlock, Program, End}
-use Rattle.pk_merge.specs.Cursors.{Follows}
+use Rattle.pk_merge.specs.Cursors.{Cursor, Follows, own_page}
 use Rattle.pk_merge.specs.Sources.{FollowsIn, IsOf, blocks_in, after_look_at}
 use Rattle.pk_merge.specs.Merging.{Merger, left, StandsIn, GoesOn, HasNextPage, IsAtEnd, IsDone, Tells}
 use Rattle.pk_merge.specs.Outputs.{AreMeta, BlocksApart, IsOutput, TakesBlock, ProgramsPage, next_bytes}
@@ -36,13 +36,13 @@ use Rattle.pk_level.specs.Arenas.{IsPinnedIf}
 use Rattle.pk_merge.specs.Steps.{LoadsSource, LoadsTarget, Acts}
 use Rattle.pk_merge.specs.Elsewhere.{LeavesRuns}
 
-look_pages : (leases : List ℕ) (b : BoardState) → (after_look leases b).pages ≡ b.pages
-look_pages [] b = refl
-look_pages (l ∷ ls) b = refl
+look_pages : (lease : Option ℕ) (b : BoardState) → (after_look lease b).pages ≡ b.pages
+look_pages None b = refl
+look_pages (Some l) b = refl
 
-look_pages_in : {X : Type 0} (source : Source X) (b : BoardState) → (after_look_at source b).pages ≡ b.pages
-look_pages_in (Frozen x) b = refl
-look_pages_in (Run r) b = look_pages r.now.leases b
+look_pages_in : {X : Type 0} (source : Source X) (c : Cursor) (b : BoardState) → (after_look_at source c b).pages ≡ b.pages
+look_pages_in (Frozen x) c b = refl
+look_pages_in (Run r) c b = look_pages (slice_get r.now.leases (own_page c)) b
 
 kept_none : (b : Bool) → (if b then filter (λ (e : Entry). is_some e.1) [] else []) ≡ []
 kept_none true = refl
@@ -113,7 +113,7 @@ module _ {X : Type 0} (source : Source X) (target : Kept) (pins : Bool) (out : K
 
   pub loads_source : (m' : Merger) (new : BoardState) → LoadsSource source m old m' new → Running source target pins out m' pool new.pages before es fs
   loads_source m' new l =
-      let pages : new.pages ≡ old.pages = ap (λ (b : BoardState). b.pages) l.board ∙ look_pages_in source old in
+      let pages : new.pages ≡ old.pages = ap (λ (b : BoardState). b.pages) l.board ∙ look_pages_in source m.source old in
       let c = r.merging.cursors in
       subst (λ (f : Flash). Running source target pins out m' pool f before es fs) (sym pages)
       (subst (λ (x : Merger). Running source target pins out x pool old.pages before es fs) (sym l.merger) (record {
@@ -140,7 +140,7 @@ module _ {X : Type 0} (source : Source X) (target : Kept) (pins : Bool) (out : K
 
   pub loads_target : (m' : Merger) (new : BoardState) → LoadsTarget target m old m' new → Running source target pins out m' pool new.pages before es fs
   loads_target m' new l =
-      let pages : new.pages ≡ old.pages = ap (λ (b : BoardState). b.pages) l.board ∙ look_pages target.leases old in
+      let pages : new.pages ≡ old.pages = ap (λ (b : BoardState). b.pages) l.board ∙ look_pages (slice_get target.leases (own_page m.target)) old in
       let c = r.merging.cursors in
       subst (λ (f : Flash). Running source target pins out m' pool f before es fs) (sym pages)
       (subst (λ (x : Merger). Running source target pins out x pool old.pages before es fs) (sym l.merger) (record {
@@ -369,9 +369,9 @@ pub acts_leave : {X : Type 0} (source : Source X) (target : Kept) (pins : Bool) 
     (old : BoardState) (before : Frames) (next : Next) (out' : Kept) (m' : Merger) (pool' : Blocks) (new : BoardState) (after : Frames)
     → IsShape out.shape → pool.shape ≡ out.shape → Acts source target pins out m pool old before next out' m' pool' new after → LeavesRuns pool out old.pages before new.pages after
 acts_leave source target pins out m pool old before LoadSource out' m' pool' new after is shape (l, o, p, a) other es same meta apart s =
-    look_same other es old new before after (ap (λ (b : BoardState). b.pages) l.board ∙ look_pages_in source old) a s
+    look_same other es old new before after (ap (λ (b : BoardState). b.pages) l.board ∙ look_pages_in source m.source old) a s
 acts_leave source target pins out m pool old before LoadTarget out' m' pool' new after is shape (l, o, p, a) other es same meta apart s =
-    look_same other es old new before after (ap (λ (b : BoardState). b.pages) l.board ∙ look_pages target.leases old) a s
+    look_same other es old new before after (ap (λ (b : BoardState). b.pages) l.board ∙ look_pages (slice_get target.leases (own_page m.target)) old) a s
 acts_leave source target pins out m pool old before Gather out' m' pool' new after is shape
     (n, e, o, p, a) other es same meta apart s = look_same other es old new before after (ap (λ (b : BoardState). b.pages) n) a s
 acts_leave source target pins out m pool old before End out' m' pool' new after is shape

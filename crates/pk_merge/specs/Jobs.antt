@@ -3,7 +3,7 @@ use Rattle.std.specs.Prelude.{◌≡◌, ℕ, ◌-◌, ◌≤◌, nat_le, Bool, 
 use Rattle.pk_base.specs.Shape.{Shape, run_pages, run_blocks}
 use Rattle.pk_base.specs.Entry.{Entry}
 use Rattle.pk_base.specs.Page.{Flash}
-use Rattle.pk_pin.specs.Frames.{Frames, IsLeased, given, times}
+use Rattle.pk_pin.specs.Frames.{Frames}
 use Rattle.pk_pool.specs.Blocks.{Blocks}
 use Rattle.pk_run.specs.Kept.{Kept, RunOnFlash, empty}
 use Rattle.pk_merge.specs.declared.source.Source.{Source}
@@ -83,11 +83,6 @@ module _ {X : Type 0} (source : Source X) (target : Kept) where
 
 -- ---- the end
 
--- these frames are freed, the last first
-abbrev pub given_all : Frames → List ℕ → Frames
-given_all arena [] = arena
-given_all arena (l ∷ ls) = given (given_all arena ls) l
-
 -- the run of a level that may be taken: the output for the target, and a spare one for another
 abbrev pub held_at : Job → ℕ → Option Kept
 held_at j level = if level == j.target then j.output else spare_of j.spares level
@@ -104,23 +99,10 @@ given_to j r = record j { spares = with_spare j.spares r.level (empty r.shape r.
 abbrev pub ended : Job → Job
 ended j = record j { target = 0 }
 
--- each of these frames is leased, and none occurs twice
-pub record AreLeased (arena : Frames) (leases : List ℕ) : Type 0 where
-  pub leased : (i l : ℕ) → slice_get leases i ≡ Some l → IsLeased arena l
-  pub different : (i j l : ℕ) → slice_get leases i ≡ Some l → slice_get leases j ≡ Some l → i ≡ j
-
 -- each of these blocks is owned for meta pages, and none occurs twice
 pub record AreOwned (pool : Blocks) (blocks : List ℕ) : Type 0 where
   pub meta : AreMeta pool blocks
   pub different : (i j b : ℕ) → slice_get blocks i ≡ Some b → slice_get blocks j ≡ Some b → i ≡ j
-
--- the run has none of these frames
-abbrev pub HasNone : List ℕ → Kept → Type 0
-HasNone leases r = (i l : ℕ) → slice_get leases i ≡ Some l → times l r.leases ≡ 0
-
--- a run that has none of these frames is as before
-abbrev pub LeavesOthers : List ℕ → Frames → Frames → Type 0
-LeavesOthers leases before after = (other : Kept) (flash : Flash) (es : List Entry) → HasNone leases other → RunOnFlash other flash before es → RunOnFlash other flash after es
 
 -- a block that is none of these is what it was
 abbrev pub LeavesBlocks : List ℕ → Blocks → Blocks → Type 0

@@ -1,11 +1,10 @@
 -- The end of a merge: the statements.
-use Rattle.std.specs.Prelude.{◌≡◌, ℕ, ◌-◌, ◌≤◌, List, ◌++◌, slice_get, Some}
+use Rattle.std.specs.Prelude.{◌≡◌, ℕ, ◌-◌, ◌≤◌, Some}
 use Rattle.pk_base.specs.declared.sizes.TheConstants.{LEVELS}
 use Rattle.pk_base.specs.Shape.{Shape}
-use Rattle.pk_pin.specs.Frames.{Frames, AreLeases, times}
 use Rattle.pk_run.specs.Kept.{Kept, empty}
 use Rattle.pk_merge.specs.Merging.{Merger}
-use Rattle.pk_merge.specs.Jobs.{Job, IsIdle, AreLeased, begun, held_at, taken_from, given_to, ended}
+use Rattle.pk_merge.specs.Jobs.{Job, IsIdle, begun, held_at, taken_from, given_to, ended}
 
 -- a job whose merge into the run of this level is done: it has this output
 abbrev pub done_with : Shape → Job → ℕ → Kept → Merger → Job
@@ -28,11 +27,3 @@ IdleBehindTwo =
     (shape : Shape) (j : Job) (level : ℕ) (out former source : Kept) (m : Merger) → IsIdle shape j → m.shape ≡ shape → 2 ≤ level → level ≤ LEVELS → IsFormer shape level former → IsFormer shape (level - 1) source
     → (held_at (taken_from (done_with shape j level out m) level) (level - 1) ≡ Some (empty shape (level - 1)))
     × IsIdle shape (ended (given_to (given_to (taken_from (taken_from (done_with shape j level out m) level) (level - 1)) former) source))
-
--- A run's leases among all those of the arena are leased, and different.
-abbrev pub LeasesAreLeased : Type 0
-LeasesAreLeased = (arena : Frames) (before leases behind : List ℕ) → AreLeases arena (before ++ (leases ++ behind)) → AreLeased arena leases
-
--- and nobody else has one of them
-abbrev pub LeasesAreApart : Type 0
-LeasesAreApart = (arena : Frames) (leases others : List ℕ) → AreLeases arena (leases ++ others) → (i l : ℕ) → slice_get leases i ≡ Some l → times l others ≡ 0

@@ -1,5 +1,5 @@
 -- What is merged into a run: the frozen write buffer, or the run of the level above.
-use Rattle.std.specs.Prelude.{◌≡◌, ⊤, ℕ, ◌≤◌, Bool, false, List, [], length}
+use Rattle.std.specs.Prelude.{◌≡◌, ⊤, ℕ, ◌≤◌, Bool, false, List, [], length, slice_get}
 use Rattle.pk_base.specs.Shape.{Shape}
 use Rattle.pk_base.specs.Entry.{Entry}
 use Rattle.pk_base.specs.Page.{Flash}
@@ -46,10 +46,10 @@ abbrev pub IsOf : {X : Type 0} → Shape → Source X → Type 0
 IsOf shape (Frozen b) = ⊤
 IsOf shape (Run r) = r.now.shape ≡ shape
 
--- the board after a look at a page: one read, and none if the page has a frame
-abbrev pub after_look_at : {X : Type 0} → Source X → BoardState → BoardState
-after_look_at (Frozen b) board = board
-after_look_at (Run r) board = after_look r.now.leases board
+-- the board after a look at the page of a cursor's place: one read, and none if the page has a frame
+abbrev pub after_look_at : {X : Type 0} → Source X → Cursor → BoardState → BoardState
+after_look_at (Frozen b) c board = board
+after_look_at (Run r) c board = after_look (slice_get r.now.leases (own_page c)) board
 
 -- the read of the page of a cursor's place failed
 abbrev pub LookFails : {X : Type 0} → Source X → Cursor → BoardState → BoardState → Type 0

@@ -1,5 +1,5 @@
 -- What a step of a merge does: one action, and then entries are taken; and why it fails.
-use Rattle.std.specs.Prelude.{◌≡◌, ◌⊎◌, suc, Bool, false, []}
+use Rattle.std.specs.Prelude.{◌≡◌, ◌⊎◌, suc, Bool, false, [], slice_get}
 use Rattle.pk_nand.specs.BoardState.{BoardState}
 use Rattle.pk_nand.specs.Operations.{ReadFailed}
 use Rattle.pk_nand.specs.declared.types.Fault.{Fault}
@@ -20,13 +20,13 @@ use Rattle.pk_merge.specs.Outputs.{TakesBlock, ProgramsPage, FailsToProgram}
 
 -- the page at the source's cursor was loaded, by one read or from a frame
 pub record LoadsSource {X : Type 0} (source : Source X) (m : Merger) (old : BoardState) (m' : Merger) (new : BoardState) : Type 0 where
-  pub board : new ≡ after_look_at source old
+  pub board : new ≡ after_look_at source m.source old
   pub merger : m' ≡ record m { source = record m.source { loaded = suc (own_page m.source); bytes = m'.source.bytes } }
   pub follows : FollowsIn source old.pages m'.source
 
 -- the page at the target's cursor was
 pub record LoadsTarget (target : Kept) (m : Merger) (old : BoardState) (m' : Merger) (new : BoardState) : Type 0 where
-  pub board : new ≡ after_look target.leases old
+  pub board : new ≡ after_look (slice_get target.leases (own_page m.target)) old
   pub merger : m' ≡ record m { target = record m.target { loaded = suc (own_page m.target); bytes = m'.target.bytes } }
   pub follows : Follows old.pages target m'.target
 

@@ -8,18 +8,19 @@ ghost use Rattle.pk_base.specs.Shape.{IsShape};
 ghost use Rattle.pk_nand.specs.Calls.{IsReady, Rose};
 ghost use Rattle.pk_nand.specs.Effects.{AtMostOneCall, NoFault, OnlyFlash, OnlyReading, Stops};
 ghost use Rattle.pk_nand.specs.declared.types.Fault.TheVariants.{Reading, Stopped};
-ghost use Rattle.pk_pin.specs.Frames.{Frames, AreLeases};
+ghost use Rattle.pk_pin.specs.Frames.{Frames};
 ghost use Rattle.pk_plan.specs.declared.owner.Owner.{Owner};
 ghost use Rattle.pk_pool.specs.Blocks.{Blocks, given_back, freed, used_by, PoolOnFlash};
 ghost use Rattle.pk_pool.specs.Unready.{unready};
 ghost use Rattle.pk_run.specs.Kept.{Kept, empty, most_pages, most_blocks};
+ghost use Rattle.pk_run.specs.Leases.{AreLeased, LeavesOthers, LeavesOtherLeases, given_all};
 ghost use Rattle.pk_merge.specs.declared.source.Source.{Source as SourceSpec};
 ghost use Rattle.pk_merge.specs.Merging.{IsDone};
 ghost use Rattle.pk_merge.specs.Running.{IsMergerOf, CanBegin};
 ghost use Rattle.pk_merge.specs.Steps.{Steps, Fails};
 ghost use Rattle.pk_merge.specs.Remaining.{LowersTo, IsWithin};
 ghost use Rattle.pk_merge.specs.Elsewhere.{StepReaches, StepWent, LeavesRuns, LeavesLeases, IsElsewhere};
-ghost use Rattle.pk_merge.specs.Jobs.{pins, output_of, begun, IsIdle, JobRuns, RunsOn, Completes, LowersRest, given_all, given_to, held_at, taken_from, ended, AreOwned, AreLeased, LeavesOthers, LeavesBlocks};
+ghost use Rattle.pk_merge.specs.Jobs.{pins, output_of, begun, IsIdle, JobRuns, RunsOn, Completes, LowersRest, given_to, held_at, taken_from, ended, AreOwned, LeavesBlocks};
 
 use crate::merger::Merger;
 use crate::source::{Inputs, Source};
@@ -255,8 +256,9 @@ impl<A: Region> MergeJob<A> {
         }
     }
 
-    /// Makes the blocks of the former run of a level leave, gives its frames back, and keeps it for a later merge.
-    pub fn leave(&mut self, pool: &mut Pool<A>, arena: &mut PinArena<A>, former: Run<A>)
+    /// Makes the blocks of the former run of a level leave, frees its frames, and keeps it for a
+    /// later merge.
+    pub fn leave(&mut self, pool: &mut Pool<A>, arena: &mut PinArena<A>, mut former: Run<A>)
         requires blocks { AreOwned (freed pool.old) former.blocks }
         requires frames { AreLeased arena.old former.leases }
 
@@ -274,14 +276,13 @@ impl<A: Region> MergeJob<A> {
         // Its frames are free.
         ensures arena { arena.new ≡ given_all arena.old former.leases }
         ensures others { LeavesOthers former.leases arena.old arena.new }
-        ensures leases { (before behind : List ℕ)
-            → AreLeases arena.old (before ++ (former.leases ++ behind))
-            → AreLeases arena.new (before ++ behind) }
+        ensures leases { LeavesOtherLeases former.leases arena.old arena.new }
     {
         former.known();
         leave_blocks(pool, former.blocks());
-        let spare = without_frames(arena, former);
-        self.spares.put(spare.level(), spare);
+        former.give_frames(arena);
+        former.clear();
+        self.spares.put(former.level(), former);
     }
 
     /// Ends the merge, whose output was taken.
@@ -304,17 +305,4 @@ fn leave_blocks<A: Allocator>(pool: &mut Pool<A>, blocks: &[u16])
     for block in blocks {
         pool.leave(*block as u32);
     }
-}
-
-// Gives the frames of a run back, and all that it has away.
-fn without_frames<A: Allocator>(arena: &mut PinArena<A>, mut run: Run<A>) -> Run<A>
-    requires { AreLeased arena.old run.leases }
-    ensures given { arena.new ≡ given_all arena.old run.leases }
-    ensures empty { result ≡ empty run.shape run.level }
-{
-    while let Some(lease) = run.pop_lease() {
-        arena.give(lease);
-    }
-    run.clear();
-    run
 }

@@ -16,5 +16,5 @@ mod source;
 mod spares;
 
 pub use job::MergeJob;
-pub use laws::{idle_again, leases_of_a_run};
+pub use laws::idle_again;
 pub use source::Source;

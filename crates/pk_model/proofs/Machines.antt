@@ -20,32 +20,45 @@ use Rattle.pk_nvme.specs.Reply.{refusal}
 use Rattle.pk_nvme.specs.Opcode.{op_of}
 use Rattle.pk_nvme.specs.declared.opcode.Opcode.{Opcode}
 use Rattle.pk_nvme.specs.declared.opcode.Opcode.TheVariants.{Store}
+use Rattle.pk_model.specs.Spaces.{limit_of, in_space}
 use Rattle.pk_model.specs.Answer.{check, early, late_of, reply_of, effect, success, report_bytes}
-use Rattle.pk_model.specs.Machine.{Machine, replied, no_numbers, Answers}
+use Rattle.pk_model.specs.Machine.{Machine, replied, no_numbers, machine_terms, Answers}
 use Rattle.pk_model.specs.declared.answer.Answer.{Answer}
-use Rattle.pk_model.proofs.Answering.{refuses_early, refuses_late, serves}
+use Rattle.pk_model.proofs.Answering.{IsAlone, refuses_early, refuses_alone, serves, serves_alone}
 use Rattle.pk_model.proofs.MapLemmas.{key_total, key_antisymm, live-insert}
 use Rattle.pk_base.specs.Map.{Map, live, pages_in, pages_of, pages_if_some}
 
 pub live-empty : (shape : Shape) → live shape empty ≡ 0
 live-empty shape = ap (pages_in shape) (nil_from_length (entries {R = key_cmp} empty) (sym (len-entries empty) ∙ len-empty key_cmp (List ℕ)))
 
-module _ (old : Machine) (r : Request) (k : Opcode) where
+-- a command that was served, whatever it says of the map of its namespace
+pub served_here : (old new : Machine) (r : Request) (k : Opcode) → op_of r.opcode ≡ Some k → ((v : List ℕ) → early 1 old.shape (command_of r v) ≡ None) → (a : Answer) (v : List ℕ)
+    → late_of old.shape (limit_of (limit old.shape ∷ []) r.namespace) (in_space r.namespace old.map) (command_of r v) (Some k) ≡ None
+    → replied a ≡ reply_of old.shape (limit_of (limit old.shape ∷ []) r.namespace) 0 (in_space r.namespace old.map) no_numbers (command_of r v) (Some k)
+    → new ≡ record old { map = effect old.map (command_of r v) (Some k) } → Answers old new (command_of r v) a
+served_here old new r k is passes a v late answer left =
+    let serves_it = serves old.shape (machine_terms old.shape) old.map no_numbers (command_of r v) k is (passes v) late in
+    record { reply_is = answer ∙ sym serves_it.replied; map_is = left ∙ ap (λ (m : Map). record old { map = m }) (sym serves_it.leaves) }
+
+module _ (old : Machine) (whole : in_space 1 old.map ≡ old.map) (r : Request) (k : Opcode) where
+  alone : IsAlone (machine_terms old.shape) (limit old.shape) old.map
+  alone = record { one = refl; whole = whole }
+
   -- the command of the request passed its early checks, whatever value follows
   abbrev pub Passes : Type 0
-  Passes = (v : List ℕ) → early old.shape (command_of r v) ≡ None
+  Passes = (v : List ℕ) → early 1 old.shape (command_of r v) ≡ None
 
   pub refused_answer : (status : ℕ) → op_of r.opcode ≡ Some k → Passes → ((v : List ℕ) → late_of old.shape (limit old.shape) old.map (command_of r v) (Some k) ≡ Some status)
       → (a : Answer) → replied a ≡ refusal status → (v : List ℕ) → Answers old old (command_of r v) a
   refused_answer status is passes late a answer v =
-      let refuses = refuses_late old.shape (limit old.shape) 0 old.map no_numbers (command_of r v) k status is (passes v) (late v) in
+      let refuses = refuses_alone old.shape (machine_terms old.shape) (limit old.shape) old.map alone (command_of r v) no_numbers k status is (passes v) (late v) in
       record { reply_is = answer ∙ sym refuses.replied; map_is = ap (λ (m : Map). record old { map = m }) (sym refuses.leaves) }
 
   pub served_answer : (new : Machine) → op_of r.opcode ≡ Some k → Passes → (a : Answer) (v : List ℕ) → late_of old.shape (limit old.shape) old.map (command_of r v) (Some k) ≡ None
       → replied a ≡ reply_of old.shape (limit old.shape) 0 old.map no_numbers (command_of r v) (Some k)
       → new ≡ record old { map = effect old.map (command_of r v) (Some k) } → Answers old new (command_of r v) a
   served_answer new is passes a v late answer left =
-      let serves_it = serves old.shape (limit old.shape) 0 old.map no_numbers (command_of r v) k is (passes v) late in
+      let serves_it = serves_alone old.shape (machine_terms old.shape) (limit old.shape) old.map alone (command_of r v) no_numbers k is (passes v) late in
       record { reply_is = answer ∙ sym serves_it.replied; map_is = left ∙ ap (λ (m : Map). record old { map = m }) (sym serves_it.leaves) }
 
 -- what was found of a key in a map
@@ -55,9 +68,9 @@ found_some m q o v e is = ap is_some (sym e ∙ is)
 pub found_none : (m : Map) (q : Key) (o : Option (List ℕ)) → o ≡ get m q → o ≡ None → contains_key m q ≡ false
 found_none m q o e is = ap is_some (sym e ∙ is)
 
-pub early_answer : (old : Machine) (c : Command) (status : ℕ) → early old.shape c ≡ Some status → (a : Answer) → replied a ≡ refusal status → Answers old old c a
+pub early_answer : (old : Machine) (c : Command) (status : ℕ) → early 1 old.shape c ≡ Some status → (a : Answer) → replied a ≡ refusal status → Answers old old c a
 early_answer old c status e a answer =
-    let refuses = refuses_early old.shape (limit old.shape) 0 old.map no_numbers c status e in
+    let refuses = refuses_early old.shape (machine_terms old.shape) old.map no_numbers c status e in
     record { reply_is = answer ∙ sym refuses.replied; map_is = ap (λ (m : Map). record old { map = m }) (sym refuses.leaves) }
 
 pub turned : (b x : Bool) → not b ≡ x → b ≡ not x

@@ -1,6 +1,6 @@
 -- What a crash finds: the map that a flash holds when power is lost.
 use Rattle.std.specs.Prelude.{◌≡◌, ◌⊎◌, ℕ, List, [], Result, Ok}
-use Rattle.pk_base.specs.Shape.{Shape, limit}
+use Rattle.pk_base.specs.Shape.{Shape}
 use Rattle.pk_base.specs.Page.{Flash}
 use Rattle.pk_base.specs.Map.{Map}
 use Rattle.pk_base.specs.Refusal.{Refusal}
@@ -16,15 +16,15 @@ pub data Moment : Type 0 where
   commit : Moment
   -- the map becomes this one
   change : Map → Moment
-  -- the map becomes the one after this command
-  command : Command → Moment
+  -- the map becomes the one after this command, within these limits
+  command : List ℕ → Command → Moment
 
 -- What reading the flash of a crash may give, if it gave this before and the drive has the map m.
 abbrev pub MayFind : Shape → Moment → Result Map Refusal → Map → Result Map Refusal → Type 0
 MayFind shape background before m now = now ≡ Ok m
 MayFind shape commit before m now = (now ≡ before) ⊎ (now ≡ Ok m)
 MayFind shape (change after) before m now = (now ≡ before) ⊎ ((now ≡ Ok m) ⊎ (now ≡ Ok after))
-MayFind shape (command c) before m now = (now ≡ before) ⊎ ((now ≡ Ok m) ⊎ (now ≡ Ok (map_after shape (limit shape) m c)))
+MayFind shape (command limits c) before m now = (now ≡ before) ⊎ ((now ≡ Ok m) ⊎ (now ≡ Ok (map_after shape limits m c)))
 
 -- A crash finds what the moment allows, and no byte was posted.
 abbrev pub CrashFinds : Shape → Moment → Flash → Map → Flash → List ℕ → Type 0

@@ -4,6 +4,7 @@ use Rattle.pk_base.specs.Shape.{Shape, limit}
 use Rattle.pk_base.specs.Map.{Map}
 use Rattle.pk_nvme.specs.Command.{Command}
 use Rattle.pk_nvme.specs.Reply.{Reply}
+use Rattle.pk_model.specs.Spaces.{Terms, one_space}
 use Rattle.pk_model.specs.Answer.{reply, map_after}
 use Rattle.pk_model.specs.declared.answer.Answer.{Answer}
 
@@ -19,7 +20,11 @@ replied a = record { status = a.status; result = a.result; data_bytes = a.bytes.
 abbrev pub no_numbers : List ℕ
 no_numbers = replicate 11 0
 
--- The command was answered as the definition says, without frames, and left the map that it says.
+-- it has no frames, and one namespace with the limit of its shape
+abbrev pub machine_terms : Shape → Terms
+machine_terms shape = one_space 0 (limit shape)
+
+-- The command was answered as the definition says, and left the map that it says.
 pub record Answers (old new : Machine) (c : Command) (a : Answer) : Type 0 where
-  pub reply_is : replied a ≡ reply old.shape (limit old.shape) 0 old.map no_numbers c
-  pub map_is : new ≡ record old { map = map_after old.shape (limit old.shape) old.map c }
+  pub reply_is : replied a ≡ reply old.shape (machine_terms old.shape) old.map no_numbers c
+  pub map_is : new ≡ record old { map = map_after old.shape (machine_terms old.shape).limits old.map c }

@@ -2,13 +2,16 @@
 ghost use Rattle.std.specs.Prelude.{◌≡◌, ◌==◌, ◌≤◌, ◌<◌, ◌^◌, ◌/◌, ◌%◌, ◌⊎◌, ◌&&◌, ◌||◌, not, nat_le, ℕ, length, flat_map, ◌++◌, None, Some, IfOk, OnOk, OnErr, List, [], ◌∷◌};
 ghost use Rattle.std.specs.FinMap.{empty, get, contains_key};
 ghost use Rattle.pk_base.specs.Fields.{u32 as u32_bytes};
+ghost use Rattle.pk_base.specs.Key.{space_of};
 ghost use Rattle.pk_base.specs.Shape.{charge, limit};
-ghost use Rattle.pk_base.specs.declared.sizes.TheConstants.{KEY_BYTES, MOST_SPACES};
+ghost use Rattle.pk_base.specs.declared.sizes.TheConstants.{KEY_BYTES};
 ghost use Rattle.pk_base.specs.Map.{pages_of, pages_if_some, live as live_of};
 ghost use Rattle.std.specs.FinMap as map;
 ghost use Rattle.pk_nvme.specs.Command.{command, key, IsWhole};
 ghost use Rattle.pk_nvme.specs.Seen.{command_of};
+ghost use Rattle.pk_model.specs.declared.machine.TheConstants.{SPACES};
 ghost use Rattle.pk_model.specs.Answer.{early, success};
+ghost use Rattle.pk_model.specs.Spaces.{in_space};
 ghost use Rattle.pk_model.specs.Listing.{offered_all};
 ghost use Rattle.pk_model.specs.Machine.{Machine, Answers, replied};
 
@@ -30,6 +33,9 @@ const FRONT_BYTES: usize = 12;
 
 const REST_BYTES: usize = REPORT_BYTES - FRONT_BYTES;
 
+/// How many namespaces a machine has.
+const SPACES: u32 = 1;
+
 /// A shape and a map from keys to values.
 #[derive(Drop)]
 pub struct MapMachine {
@@ -45,6 +51,7 @@ impl Model for MapMachine {
     ghost use Rattle.pk_base.specs.Key.{key_cmp};
     ghost use Rattle.pk_base.specs.Shape.{limit};
     ghost use Rattle.pk_base.specs.Map.{live as live_of};
+    ghost use Rattle.pk_model.specs.Spaces.{in_space};
     ghost use Rattle.pk_model.specs.Machine.{Machine};
 
     ghost Value = { Machine };
@@ -57,7 +64,7 @@ impl Model for MapMachine {
 
     ghost view = { λ m. record { shape = m.shape; map = m.map } };
 
-    ghost invariant = { λ m. (m.live ≡ live_of m.shape m.map) × (m.live ≤ limit m.shape) };
+    ghost invariant = { λ m. (m.live ≡ live_of m.shape m.map) × (m.live ≤ limit m.shape) × (in_space 1 m.map ≡ m.map) };
 }
 
 /// The pages of a value.
@@ -118,7 +125,7 @@ impl MapMachine {
         ensures err { OnErr result (self.new ≡ self.old) }
     {
         let request = Request::of(entry);
-        match early_fault(&self.shape, &request) {
+        match early_fault(&self.shape, SPACES, &request) {
             Some(status) => Answer::of_status(alloc, status),
             None => self.serve(alloc, &request, value),
         }
@@ -131,7 +138,7 @@ impl MapMachine {
         request: &Request,
         value: &[u8],
     ) -> Result<Answer, AllocError>
-        requires passed { (v : List ℕ) → early self.old.shape (command_of request.now v) ≡ None }
+        requires passed { (v : List ℕ) → early SPACES self.old.shape (command_of request.now v) ≡ None }
         requires whole { IsWhole (command_of request.now value.now) }
         ensures ok { IfOk result
             (λ a. Answers self.old self.new (command_of request.now value.now) a) }
@@ -175,7 +182,7 @@ impl MapMachine {
         value: &[u8],
     ) -> Result<Answer, AllocError>
         requires opcode { request.now.opcode ≡ STORE }
-        requires passed { (v : List ℕ) → early self.old.shape (command_of request.now v) ≡ None }
+        requires passed { (v : List ℕ) → early SPACES self.old.shape (command_of request.now v) ≡ None }
         requires whole { length value.now ≡ request.now.size }
         ensures ok { IfOk result
             (λ a. Answers self.old self.new (command_of request.now value.now) a) }
@@ -202,6 +209,7 @@ impl MapMachine {
         requires short { length value.now < 2 ^ 32 }
         requires live { live ≡ live_of self.old.shape (map.insert self.old.map key value.now) }
         requires most { live ≤ limit self.old.shape }
+        requires space { space_of key ≡ 1 }
         ensures ok { IfOk result (λ a. replied a ≡ success 0 []) }
         ensures left { OnOk result
             (self.new ≡ record self.old { map = map.insert self.old.map key value.now }) }
@@ -220,7 +228,7 @@ impl MapMachine {
     /// Takes a key away.
     fn delete(&mut self, alloc: Global, request: &Request) -> Result<Answer, AllocError>
         requires opcode { request.now.opcode ≡ DELETE }
-        requires passed { (v : List ℕ) → early self.old.shape (command_of request.now v) ≡ None }
+        requires passed { (v : List ℕ) → early SPACES self.old.shape (command_of request.now v) ≡ None }
         ensures ok { IfOk result
             (λ a. (v : List ℕ) → Answers self.old self.new (command_of request.now v) a) }
         ensures err { OnErr result (self.new ≡ self.old) }
@@ -243,7 +251,7 @@ impl MapMachine {
     /// A prefix of the value of a key.
     fn retrieve(&self, alloc: Global, request: &Request) -> Result<Answer, AllocError>
         requires opcode { request.now.opcode ≡ RETRIEVE }
-        requires passed { (v : List ℕ) → early self.now.shape (command_of request.now v) ≡ None }
+        requires passed { (v : List ℕ) → early SPACES self.now.shape (command_of request.now v) ≡ None }
         ensures { IfOk result
             (λ a. (v : List ℕ) → Answers self.now self.now (command_of request.now v) a) }
     {
@@ -259,7 +267,7 @@ impl MapMachine {
     /// Whether the key of a request exists.
     fn exist(&self, alloc: Global, request: &Request) -> Result<Answer, AllocError>
         requires opcode { request.now.opcode ≡ EXIST }
-        requires passed { (v : List ℕ) → early self.now.shape (command_of request.now v) ≡ None }
+        requires passed { (v : List ℕ) → early SPACES self.now.shape (command_of request.now v) ≡ None }
         ensures { IfOk result
             (λ a. (v : List ℕ) → Answers self.now self.now (command_of request.now v) a) }
     {
@@ -272,9 +280,9 @@ impl MapMachine {
     /// Lists the keys from the one that a request names on, from the first of its namespace if it names none.
     fn list_into(&self, request: &Request, page: &mut Page)
         requires len { request.now.key_len ≤ KEY_BYTES }
-        requires space { request.now.namespace ≤ MOST_SPACES }
+        requires space { request.now.namespace ≡ 1 }
         ensures { page.new ≡ offered_all (key (command_of request.now [])) page.old
-            (map.keys self.now.map) }
+            (map.keys (in_space request.now.namespace self.now.map)) }
     {
         let from = &request.key[..request.key_len as usize];
         self.map.list(request.namespace as u8, from, page);
@@ -283,7 +291,7 @@ impl MapMachine {
     /// The keys from a key on, as many as fit.
     fn list(&self, alloc: Global, request: &Request) -> Result<Answer, AllocError>
         requires opcode { request.now.opcode ≡ LIST }
-        requires passed { (v : List ℕ) → early self.now.shape (command_of request.now v) ≡ None }
+        requires passed { (v : List ℕ) → early SPACES self.now.shape (command_of request.now v) ≡ None }
         ensures { IfOk result
             (λ a. (v : List ℕ) → Answers self.now self.now (command_of request.now v) a) }
     {
@@ -298,7 +306,7 @@ impl MapMachine {
     /// A success that leaves the map: of a Flush or a Tick.
     fn done(&self, alloc: Global, request: &Request) -> Result<Answer, AllocError>
         requires opcode { (request.now.opcode ≡ FLUSH) ⊎ (request.now.opcode ≡ TICK) }
-        requires passed { (v : List ℕ) → early self.now.shape (command_of request.now v) ≡ None }
+        requires passed { (v : List ℕ) → early SPACES self.now.shape (command_of request.now v) ≡ None }
         ensures { IfOk result
             (λ a. (v : List ℕ) → Answers self.now self.now (command_of request.now v) a) }
     {
@@ -309,7 +317,7 @@ impl MapMachine {
     /// The numbers of the map, and zeros for those of a drive.
     fn report(&self, alloc: Global, request: &Request) -> Result<Answer, AllocError>
         requires opcode { request.now.opcode ≡ REPORT }
-        requires passed { (v : List ℕ) → early self.now.shape (command_of request.now v) ≡ None }
+        requires passed { (v : List ℕ) → early SPACES self.now.shape (command_of request.now v) ≡ None }
         ensures { IfOk result
             (λ a. (v : List ℕ) → Answers self.now self.now (command_of request.now v) a) }
     {

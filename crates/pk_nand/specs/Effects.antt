@@ -27,12 +27,11 @@ NoFault old new =
     (new.flash_faults ≡ old.flash_faults) × (new.read_faults ≡ old.read_faults) × (new.stop_faults ≡ old.stop_faults) × (new.failed_at ≡ old.failed_at)
 
 -- at most one flash operation was made
-abbrev pub AtMostOneCall : BoardState → BoardState → Type 0
-AtMostOneCall old new =
-    ((new.reads ≡ old.reads) × (new.programs ≡ old.programs) × (new.erases ≡ old.erases))
-    ⊎ (((new.reads ≡ counted old.reads) × (new.programs ≡ old.programs) × (new.erases ≡ old.erases))
-    ⊎ (((new.reads ≡ old.reads) × (new.programs ≡ counted old.programs) × (new.erases ≡ old.erases))
-    ⊎ ((new.reads ≡ old.reads) × (new.programs ≡ old.programs) × (new.erases ≡ counted old.erases))))
+pub data AtMostOneCall (old new : BoardState) : Type 0 where
+  made_no_call : (new.reads ≡ old.reads) × (new.programs ≡ old.programs) × (new.erases ≡ old.erases) → AtMostOneCall old new
+  made_read : (new.reads ≡ counted old.reads) × (new.programs ≡ old.programs) × (new.erases ≡ old.erases) → AtMostOneCall old new
+  made_program : (new.reads ≡ old.reads) × (new.programs ≡ counted old.programs) × (new.erases ≡ old.erases) → AtMostOneCall old new
+  made_erase : (new.reads ≡ old.reads) × (new.programs ≡ old.programs) × (new.erases ≡ counted old.erases) → AtMostOneCall old new
 
 -- one program was made, and no other call
 pub record OneProgram (old new : BoardState) : Type 0 where

@@ -73,6 +73,12 @@ pub record PostLeft (bytes : List ℕ) (posted posted' : Option (List ℕ)) (tra
   pub posted_is : posted' ≡ longer posted out
   pub trail_is : (trail' ≡ longer trail (post out ∷ [])) ⊎ ((out ≡ []) × (trail' ≡ trail))
 
+-- A prefix of this length was sent, and the trail has it; or nothing, and it may lack it.
+pub record SentFront (bytes : List ℕ) (given : ℕ) (posted posted' : Option (List ℕ)) (trail trail' : Option (List Mark)) : Type 0 where
+  pub within : given ≤ length bytes
+  pub posted_is : posted' ≡ longer posted (take given bytes)
+  pub trail_is : (trail' ≡ longer trail (post (take given bytes) ∷ [])) ⊎ ((given ≡ 0) × (trail' ≡ trail))
+
 pub record PostFailed (old new : BoardState) (bytes : List ℕ) : Type 0 where
   pub faults : Rose old.out_faults new.out_faults
   pub left : PostLeft bytes old.posted new.posted old.trail new.trail

@@ -3,17 +3,6 @@ pub mod Stopping
 pub mod Agreeing
 pub mod Finding
 pub mod Moves
-pub mod Emptying
 pub mod Staying
-pub mod Programming
 pub mod Quiet
-pub mod Placing
-pub mod Ticking
-pub mod Pairing
-pub mod Noting
-pub mod Changes
 pub mod Opening
-pub mod Reclaiming
-pub mod Spacing
-pub mod Costs
-pub mod Merging

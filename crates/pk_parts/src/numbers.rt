@@ -24,7 +24,7 @@ fn held_count(phase: Phase) -> u32
 
 impl<A: Region> Parts<A> {
     /// How many data blocks are in use, but for the one that a reclaim holds.
-    pub(crate) fn used_blocks(&self) -> u32
+    pub fn used_blocks(&self) -> u32
         ensures { result ≡ (spec.counts_of self.now).blocks }
     {
         self.pool

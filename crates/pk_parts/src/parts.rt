@@ -18,19 +18,30 @@ use std::marker::Model;
 
 /// The parts of a drive. Contracts see them as a record, and `DriveOnFlash` says how they match a
 /// flash. No call but `over` takes memory.
+///
+/// Only `pk_background` and `pk_changes` write the fields that are public, and each function that
+/// writes one proves the invariant again. All others use the methods.
 pub struct Parts<A: Region> {
-    pub(crate) log: Log<A>,
-    pub(crate) levels: Levels<A>,
-    pub(crate) arena: PinArena<A>,
-    pub(crate) schedule: Schedule<A>,
-    pub(crate) values: Values<A>,
-    pub(crate) reclaim: ReclaimJob<A>,
-    pub(crate) pool: Pool<A>,
-    pub(crate) keys: u32,
+    /// The log: the newest root, its epoch, both buffers and the pending entries.
+    pub log: Log<A>,
+    /// The runs.
+    pub levels: Levels<A>,
+    /// The frames of the pages that are cached.
+    pub arena: PinArena<A>,
+    /// The merge and the freeze.
+    pub schedule: Schedule<A>,
+    /// Where the values are, and the open block.
+    pub values: Values<A>,
+    /// The reclaim.
+    pub reclaim: ReclaimJob<A>,
+    /// The owners of the blocks.
+    pub pool: Pool<A>,
+    /// How many keys the map has.
+    pub keys: u32,
     /// A program or an erase failed: the drive refuses every later call. Set by `fail` alone.
     pub(crate) stopped: bool,
-    /// The bytes of a page.
-    pub(crate) page: Vec<u8, A>,
+    /// A buffer of the bytes of a page.
+    pub page: Vec<u8, A>,
     /// The walk of a List.
     pub(crate) walk: Walk<A>,
 }
@@ -121,7 +132,7 @@ impl<A: Region> Parts<A> {
     }
 
     /// A flash operation failed with this fault; one that is not a read stops the drive.
-    pub(crate) fn fail(&mut self, fault: Fault) -> Fault
+    pub fn fail(&mut self, fault: Fault) -> Fault
         ensures same { result ≡ fault }
         ensures rest { self.new ≡ failed_by self.old fault }
     {

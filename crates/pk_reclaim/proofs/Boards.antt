@@ -7,7 +7,7 @@ use Rattle.pk_nand.specs.BoardState.{BoardState, shape_of, shape_or_none}
 use Rattle.pk_nand.specs.Calls.{IsReady, after_program, LeftBy, ProgramFailed}
 use Rattle.pk_nand.specs.Operations.{after_read, after_erase, ReadFailed, EraseFailed}
 use Rattle.pk_nand.specs.Cut.{Interrupted, Touches}
-use Rattle.pk_nand.specs.Effects.{AtMostOneCall, NoFault, OnlyFlash, OnlyReading}
+use Rattle.pk_nand.specs.Effects.{AtMostOneCall, NoFault, OnlyFlash, OnlyReading, made_no_call, made_read, made_program, made_erase}
 use Rattle.pk_nand.proofs.Effects.{stops_erase, stops_program}
 use Rattle.std.proofs.Math.Nat.{mul-mod_left}
 use Rattle.pk_nand.proofs.Touching.{untouched}
@@ -25,18 +25,18 @@ pub record Sound (old new : BoardState) : Type 0 where
   pub rest : OnlyFlash old new
 
 pub sound_none : (old new : BoardState) → new ≡ old → Sound old new
-sound_none old new same = let T : BoardState → Type 0 = λ b. Sound old b in subst T (sym same) (record { fault = (refl, refl, refl, refl); calls = inl (refl, refl, refl); rest = refl })
+sound_none old new same = let T : BoardState → Type 0 = λ b. Sound old b in subst T (sym same) (record { fault = (refl, refl, refl, refl); calls = made_no_call (refl, refl, refl); rest = refl })
 
 pub sound_read : (old new : BoardState) → new ≡ after_read old → Sound old new
-sound_read old new made = let T : BoardState → Type 0 = λ b. Sound old b in subst T (sym made) (record { fault = (refl, refl, refl, refl); calls = inr (inl (refl, refl, refl)); rest = refl })
+sound_read old new made = let T : BoardState → Type 0 = λ b. Sound old b in subst T (sym made) (record { fault = (refl, refl, refl, refl); calls = made_read (refl, refl, refl); rest = refl })
 
 pub sound_program : (old new : BoardState) (at : ℕ) (bytes : List ℕ) → new ≡ after_program old at bytes → Sound old new
 sound_program old new at bytes made = let T : BoardState
-    → Type 0 = λ b. Sound old b in subst T (sym made) (record { fault = (refl, refl, refl, refl); calls = inr (inr (inl (refl, refl, refl))); rest = refl })
+    → Type 0 = λ b. Sound old b in subst T (sym made) (record { fault = (refl, refl, refl, refl); calls = made_program (refl, refl, refl); rest = refl })
 
 pub sound_erase : (old new : BoardState) (block : ℕ) → new ≡ after_erase old block → Sound old new
 sound_erase old new block made = let T : BoardState
-    → Type 0 = λ b. Sound old b in subst T (sym made) (record { fault = (refl, refl, refl, refl); calls = inr (inr (inr (refl, refl, refl))); rest = refl })
+    → Type 0 = λ b. Sound old b in subst T (sym made) (record { fault = (refl, refl, refl, refl); calls = made_erase (refl, refl, refl); rest = refl })
 
 -- ---- one that failed
 
@@ -47,19 +47,19 @@ pub record Failed (old new : BoardState) : Type 0 where
 pub failed_read : (old new : BoardState) (at : ℕ) → ReadFailed old new at → Failed old new
 failed_read old new at f =
     let T : BoardState → Type 0 = λ b. OnlyFlash old b in
-    record { calls = inr (inl (ap (λ (b : BoardState). b.reads) f.rest, ap (λ (b : BoardState). b.programs) f.rest, ap (λ (b : BoardState). b.erases) f.rest)); rest = subst T (sym f.rest) refl }
+    record { calls = made_read (ap (λ (b : BoardState). b.reads) f.rest, ap (λ (b : BoardState). b.programs) f.rest, ap (λ (b : BoardState). b.erases) f.rest); rest = subst T (sym f.rest) refl }
 
 pub failed_program : (old new : BoardState) (at : ℕ) (bytes : List ℕ) → ProgramFailed old new at bytes → Failed old new
 failed_program old new at bytes f =
     record {
-      calls = inr (inr (inl (ap (λ (b : BoardState). b.reads) f.rest, ap (λ (b : BoardState). b.programs) f.rest, ap (λ (b : BoardState). b.erases) f.rest)));
+      calls = made_program (ap (λ (b : BoardState). b.reads) f.rest, ap (λ (b : BoardState). b.programs) f.rest, ap (λ (b : BoardState). b.erases) f.rest);
       rest = (stops_program old new at bytes f).rest;
     }
 
 pub failed_erase : (old new : BoardState) (block : ℕ) → EraseFailed old new block → Failed old new
 failed_erase old new block f =
     record {
-      calls = inr (inr (inr (ap (λ (b : BoardState). b.reads) f.rest, ap (λ (b : BoardState). b.programs) f.rest, ap (λ (b : BoardState). b.erases) f.rest)));
+      calls = made_erase (ap (λ (b : BoardState). b.reads) f.rest, ap (λ (b : BoardState). b.programs) f.rest, ap (λ (b : BoardState). b.erases) f.rest);
       rest = (stops_erase old new block f).rest;
     }
 

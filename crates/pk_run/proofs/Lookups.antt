@@ -1,9 +1,9 @@
 -- A lookup in a run: which page may have the key, and what that page says of the whole run.
-use Rattle.std.proofs.Common.{◌≡◌, inl, inr, ℕ, suc, ◌+◌, ◌-◌, ◌*◌, ◌<◌, ◌≤◌, T, List, [], ◌∷◌, length, slice_get, get_or, take, drop, refl, ap, sym, subst, ◌∙◌, arith, Option, Some, None, option_map}
+use Rattle.std.proofs.Common.{◌≡◌, ℕ, suc, ◌+◌, ◌*◌, ◌<◌, ◌≤◌, T, List, [], length, slice_get, get_or, take, drop, ap, sym, subst, ◌∙◌, arith, Option, Some, None, option_map}
 use Rattle.std.proofs.Common.{◌/◌, ◌%◌, div-lt_iff_lt-mul, suc-mul, zero-mul, mul-le-mul_right, lt_of_mul-lt-mul_right}
 use Rattle.std.proofs.lemmas.Grind.{div_ceil_times}
 use Rattle.std.proofs.lemmas.List.{get_or_default}
-use Rattle.std.proofs.lemmas.Option.{slice_get_within, slice_get-get_or}
+use Rattle.std.proofs.lemmas.Option.{slice_get_within, slice_get_past, slice_get-get_or}
 use Rattle.std.specs.FinMap.Entries.{find, is_sorted}
 use Rattle.pk_base.specs.Key.{Key, key_cmp}
 use Rattle.pk_base.specs.Shape.{Shape, IsShape, page_entries}
@@ -134,25 +134,17 @@ pub frame_page : (r : Kept) (flash : Flash) (arena : Frames) (es : List Entry) (
     → page_at flash (page_of r p) ≡ whole bytes
 frame_page r flash arena es bytes s p lease got is = (s.frames p lease got).bytes ∙ ap (λ (xs : List ℕ). whole xs) (sym is)
 
--- if a page has no frame, none has
-pub no_leases : (r : Kept) (flash : Flash) (arena : Frames) (es : List Entry) → RunOnFlash r flash arena es → (p : ℕ) → p < length r.firsts → length r.leases ≤ p → r.leases ≡ []
-no_leases r flash arena es s p exists past =
-    elim s.pinned [
-      | inl none ↦ none
-      | inr all ↦ absurd (omega (arith, all, exists, past))
-    ]
+-- if a page has a frame, nothing is read
+pub look_pinned : (leases : List ℕ) (board : BoardState) (p lease : ℕ) → slice_get leases p ≡ Some lease → after_look (slice_get leases p) board ≡ board
+look_pinned leases board p lease got = ap (λ (o : Option ℕ). after_look o board) got
 
--- if a page has one, nothing is read
-pub look_pinned : (leases : List ℕ) (board : BoardState) (p lease : ℕ) → slice_get leases p ≡ Some lease → after_look leases board ≡ board
-look_pinned [] board p lease got = cc
-look_pinned (l ∷ leases) board p lease got = refl
+-- and if it has none, it is read
+pub look_unpinned : (leases : List ℕ) (board : BoardState) (p : ℕ) → length leases ≤ p → after_look (slice_get leases p) board ≡ after_read board
+look_unpinned leases board p past = ap (λ (o : Option ℕ). after_look o board) (slice_get_past leases p past)
 
-pub look_unpinned : (leases : List ℕ) (board : BoardState) → leases ≡ [] → after_look leases board ≡ after_read board
-look_unpinned leases board none = ap (λ (ls : List ℕ). after_look ls board) none
-
--- a run whose pages all have frames has one for each
-pub not_pinned : (r : Kept) (p : ℕ) → p < length r.firsts → r.leases ≡ [] → IsPinned r → ⊥
-not_pinned r p exists none all = let e = ap (λ (ls : List ℕ). length ls) none in omega (arith, exists, e, all)
+-- if a page of a run has no frame, not all have one
+pub not_pinned : (r : Kept) (p : ℕ) → p < length r.firsts → length r.leases ≤ p → IsPinned r → ⊥
+not_pinned r p exists past all = omega (arith, exists, past, all)
 
 -- ---- boards
 

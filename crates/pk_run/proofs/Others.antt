@@ -11,7 +11,7 @@ pub RunOnFlash-outside : StandsOutside
 RunOnFlash-outside r old new arena es first count same apart s =
     RunOnFlash-elsewhere r old new arena arena es (λ j h. elim (apart j h) [ inl below ↦ same.below (page_of r j) below | inr above ↦ same.above (page_of r j) above ]) (λ j lease got is. (is, refl)) s
 
-set_other : (us : List Bool) (i l : ℕ) (b : Bool) → i ≢ l → slice_get (set us l b) i ≡ slice_get us i
+pub set_other : (us : List Bool) (i l : ℕ) (b : Bool) → i ≢ l → slice_get (set us l b) i ≡ slice_get us i
 set_other [] i l b ne = refl
 set_other (u ∷ us) zero zero b ne = absurd (ne refl)
 set_other (u ∷ us) zero (suc l) b ne = refl

@@ -1,5 +1,5 @@
 -- Runs that match a flash: what others leave of them, and another block or page.
-use Rattle.std.proofs.Common.{◌≡◌, ◌⊎◌, inl, inr, ℕ, zero, suc, ◌+◌, ◌-◌, ◌*◌, ◌/◌, ◌%◌, ◌<◌, ◌≤◌, List, [], ◌∷◌, ◌++◌, length, slice_get, refl, ap, sym, subst, ◌∙◌, arith, Option, Some, None}
+use Rattle.std.proofs.Common.{◌≡◌, inl, inr, ℕ, zero, suc, ◌+◌, ◌*◌, ◌/◌, ◌%◌, ◌<◌, ◌≤◌, List, [], ◌∷◌, ◌++◌, length, slice_get, refl, ap, sym, subst, ◌∙◌, arith, Option, Some, None}
 use Rattle.std.proofs.Common.{option_map, Ok, length-append, suc-mul, mul-le-mul_right, zero-mul, div-lt_iff_lt-mul}
 use Rattle.std.proofs.Math.ListN.{get_or-append}
 use Rattle.std.proofs.lemmas.Bool.{cases_lt}
@@ -12,19 +12,13 @@ use Rattle.pk_meta.specs.Run.{run}
 use Rattle.pk_pin.specs.Frames.{Frames}
 use Rattle.pk_run.specs.Kept.{Kept, empty, page_of, IsFrameOf, RunOnFlash, IsNext, IsPinnedAlike, with_page, with_lease}
 use Rattle.pk_run.specs.Laws.{StandsElsewhere}
+use Rattle.pk_run.specs.Leases.{StandsBare}
 use Rattle.pk_run.proofs.Pieces.{pages_are, run_same, run_more}
 use Rattle.pk_base.proofs.ShapeLemmas.{entries_some}
 
-none_within : (j : ℕ) (lease : ℕ) → slice_get [] j ≡ Some lease → ⊥
-none_within j lease got = cc
-
 -- a lease is of a page of the run
 pub leased_page : (r : Kept) (flash : Flash) (arena : Frames) (es : List Entry) → RunOnFlash r flash arena es → (j lease : ℕ) → slice_get r.leases j ≡ Some lease → j < length r.firsts
-leased_page r flash arena es s j lease got =
-    elim s.pinned [
-      | inl none ↦ absurd (none_within j lease (ap (λ (ls : List ℕ). slice_get ls j) (sym none) ∙ got))
-      | inr all ↦ omega (arith, all, slice_get_within r.leases j lease got)
-    ]
+leased_page r flash arena es s j lease got = let few = s.leased in omega (arith, few, slice_get_within r.leases j lease got)
 
 pub RunOnFlash-elsewhere : StandsElsewhere
 RunOnFlash-elsewhere r old new before after es pages frames s = record {
@@ -34,7 +28,7 @@ RunOnFlash-elsewhere r old new before after es pages frames s = record {
   pages = s.pages;
   within = s.within;
   starts = s.starts;
-  pinned = s.pinned;
+  leased = s.leased;
   frames = λ j lease got.
       let had = s.frames j lease got in
       let same = frames j lease got had.leased in
@@ -54,7 +48,7 @@ RunOnFlash-empty shape level flash arena is = record {
   pages = sym (no_pages shape is);
   within = omega arith;
   starts = λ j h. absurd (omega arith);
-  pinned = inl refl;
+  leased = omega arith;
   frames = λ j lease got. cc;
 }
 
@@ -91,7 +85,7 @@ RunOnFlash-block r b flash arena es is s =
       pages = s.pages;
       within = omega (arith, s.within, more);
       starts = s.starts;
-      pinned = s.pinned;
+      leased = s.leased;
       frames = λ j lease got.
           subst (λ (page : ℕ). IsFrameOf flash arena page lease) (sym (place j (leased_page r flash arena es s j lease got))) (s.frames j lease got);
     }
@@ -123,9 +117,9 @@ module _ (r : Kept) (flash : Flash) (arena : Frames) (es more : List Entry) (fir
             get_right r.firsts (first ∷ []) j here ∙ sym begins ∙ ap (option_map key_of) (sym (get_right es more (j * size) at))
       ]
 
-  pinned_more : (lease : Option ℕ) → IsPinnedAlike r flash arena lease → (with_lease r.leases lease ≡ []) ⊎ (length (with_lease r.leases lease) ≡ length (r.firsts ++ first ∷ []))
-  pinned_more None alike = inl alike
-  pinned_more (Some lease) alike = let e = length-append r.leases (lease ∷ []) in let all = alike.0 in inr (omega (arith, e, all, pages_length))
+  leased_more : (lease : Option ℕ) → IsPinnedAlike r flash arena lease → length (with_lease r.leases lease) ≤ length (r.firsts ++ first ∷ [])
+  leased_more None alike = let none : length r.leases ≡ 0 = ap (λ (ls : List ℕ). length ls) alike in omega (arith, none)
+  leased_more (Some lease) alike = let e = length-append r.leases (lease ∷ []) in let all = alike.0 in omega (arith, e, all, pages_length)
 
   frames_more : ((j lease : ℕ) → slice_get r.leases j ≡ Some lease → IsFrameOf flash arena (page_of r j) lease)
       → (lease : Option ℕ) → IsPinnedAlike r flash arena lease
@@ -163,6 +157,44 @@ RunOnFlash-page r flash arena es more first lease n is full place some most s ne
       pages = long ∙ sym (pages_are (r.count + n) size (suc pages) positive (omega (arith, full, most, suc-mul pages size)) (omega (arith, full, some, suc-mul pages size)));
       within = omega (arith, long, place);
       starts = starts_more r flash arena es more first positive (s.many ∙ full) s.starts next.begins;
-      pinned = pinned_more r flash arena es more first lease next.alike;
+      leased = leased_more r flash arena es more first lease next.alike;
       frames = frames_more r flash arena es more first s.frames lease next.alike;
     }
+
+-- ---- one more frame
+
+pub RunOnFlash-frame : (r : Kept) (flash : Flash) (arena : Frames) (es : List Entry) (lease : ℕ) → RunOnFlash r flash arena es → length r.leases < length r.firsts
+    → IsFrameOf flash arena (page_of r (length r.leases)) lease → RunOnFlash (record r { leases = r.leases ++ lease ∷ [] }) flash arena es
+RunOnFlash-frame r flash arena es lease s some here = record {
+  read = s.read;
+  many = s.many;
+  rising = s.rising;
+  pages = s.pages;
+  within = s.within;
+  starts = s.starts;
+  leased = let e = length-append r.leases (lease ∷ []) in omega (arith, e, some);
+  frames = λ j l got.
+      elim (cases_lt j (length r.leases)) [
+        | inl before ↦ s.frames j l (sym (get_left r.leases (lease ∷ []) j before) ∙ got)
+        | inr past ↦
+            let e = length-append r.leases (lease ∷ []) in
+            let at : j ≡ length r.leases = omega (arith, past, e, slice_get_within (r.leases ++ lease ∷ []) j l got) in
+            let right = get_right r.leases (lease ∷ []) j at in
+            let same : lease ≡ l = cc in
+            subst (λ (k : ℕ). IsFrameOf flash arena (page_of r k) l) (sym at) (subst (IsFrameOf flash arena (page_of r (length r.leases))) same here)
+      ];
+}
+
+-- ---- without its frames
+
+pub RunOnFlash-bare : StandsBare
+RunOnFlash-bare r flash before after es s = record {
+  read = s.read;
+  many = s.many;
+  rising = s.rising;
+  pages = s.pages;
+  within = s.within;
+  starts = s.starts;
+  leased = omega arith;
+  frames = λ j lease got. cc;
+}

@@ -1,5 +1,5 @@
 -- What memory keeps of a run, and what this says of the pages of a flash and of the frames of an arena.
-use Rattle.std.specs.Prelude.{◌≡◌, ◌⊎◌, ℕ, ◌+◌, ◌*◌, ◌<◌, ◌≤◌, T, not, ◌||◌, ◌==◌, is_some, List, [], ◌∷◌, ◌++◌, length, slice_get, option_map, Option, Some, None, Ok}
+use Rattle.std.specs.Prelude.{◌≡◌, ℕ, ◌+◌, ◌*◌, ◌<◌, ◌≤◌, T, not, ◌||◌, ◌==◌, is_some, Bool, nat_le, false, List, [], ◌∷◌, ◌++◌, length, slice_get, option_map, Option, Some, None, Ok}
 use Rattle.std.specs.List.{list_all}
 use Rattle.std.specs.FinMap.Entries.{is_sorted}
 use Rattle.pk_base.specs.declared.sizes.TheConstants.{LEVELS}
@@ -11,9 +11,9 @@ use Rattle.pk_meta.specs.Page.{meta_entries}
 use Rattle.pk_meta.specs.Run.{run}
 use Rattle.pk_nand.specs.BoardState.{BoardState}
 use Rattle.pk_nand.specs.Operations.{after_read}
-use Rattle.pk_pin.specs.Frames.{Frames, IsLeased, frame_of}
+use Rattle.pk_pin.specs.Frames.{Frames, IsLeased, frame_of, leased, filled}
 
--- the level, how many entries there are, the blocks in order, the first key of each page, and a lease for each page of a pinned run
+-- the level, how many entries there are, the blocks in order, the first key of each page, and a lease for each of its first pages, as many as have a frame
 pub record Kept : Type 0 where
   pub shape : Shape
   pub level : ℕ
@@ -41,6 +41,10 @@ most_blocks r = blocks_of r.shape (most_pages r)
 abbrev pub IsPinned : Kept → Type 0
 IsPinned r = length r.leases ≡ length r.firsts
 
+-- whether it is so; a run has no more frames than pages
+abbrev pub is_pinned : Kept → Bool
+is_pinned r = nat_le (length r.firsts) (length r.leases)
+
 -- the frame of the lease contains the page
 pub record IsFrameOf (flash : Flash) (arena : Frames) (page lease : ℕ) : Type 0 where
   pub leased : IsLeased arena lease
@@ -54,7 +58,7 @@ pub record RunOnFlash (r : Kept) (flash : Flash) (arena : Frames) (es : List Ent
   pub pages : length r.firsts ≡ run_pages r.shape r.count
   pub within : length r.firsts ≤ length r.blocks * r.shape.block_pages
   pub starts : (j : ℕ) → j < length r.firsts → slice_get r.firsts j ≡ option_map key_of (slice_get es (j * page_entries r.shape))
-  pub pinned : (r.leases ≡ []) ⊎ IsPinned r
+  pub leased : length r.leases ≤ length r.firsts
   pub frames : (j lease : ℕ) → slice_get r.leases j ≡ Some lease → IsFrameOf flash arena (page_of r j) lease
 
 -- each key is below all later ones
@@ -87,12 +91,22 @@ pub record IsNext (r : Kept) (flash : Flash) (arena : Frames) (es more : List En
   pub deepest : T (not (r.level == LEVELS) || list_all (λ e. is_some e.1) more)
   pub alike : IsPinnedAlike r flash arena lease
 
+-- ---- one more frame
+
+-- The first page without a frame has one now, which was free.
+pub record FillsPage (r : Kept) (arena : Frames) (r' : Kept) (arena' : Frames) : Type 0 where
+  pub lease : ℕ
+  pub bytes : List ℕ
+  pub was_free : slice_get arena.used lease ≡ Some false
+  pub run_is : r' ≡ record r { leases = r.leases ++ lease ∷ [] }
+  pub arena_is : arena' ≡ filled (leased arena lease) lease bytes
+
 -- ---- looking at a page
 
 -- the board after it: one read, and none if the page has a frame
-abbrev pub after_look : List ℕ → BoardState → BoardState
-after_look [] board = after_read board
-after_look (lease ∷ leases) board = board
+abbrev pub after_look : Option ℕ → BoardState → BoardState
+after_look None board = after_read board
+after_look (Some lease) board = board
 
 -- ---- what every run keeps to
 
@@ -102,6 +116,6 @@ pub record IsKept (r : Kept) : Type 0 where
   pub level_most : r.level ≤ LEVELS
   pub bound : most_pages r ≤ 1000000
   pub pages : length r.firsts ≤ most_pages r
-  pub frames : length r.leases ≤ most_pages r
+  pub frames : length r.leases ≤ length r.firsts
   pub places : length r.blocks ≤ most_blocks r
   pub entries : r.count ≤ length r.firsts * page_entries r.shape

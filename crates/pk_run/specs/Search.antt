@@ -1,5 +1,5 @@
 -- Where a key is looked for among the pages of a run.
-use Rattle.std.specs.Prelude.{◌≡◌, ◌⊎◌, ℕ, suc, ◌+◌, ◌<◌, ◌≤◌, List, length, slice_get, Some, None, Option, MatchOption}
+use Rattle.std.specs.Prelude.{◌≡◌, ◌⊎◌, ℕ, suc, ◌<◌, ◌≤◌, List, length, slice_get, Some, None, Option, MatchOption}
 use Rattle.std.specs.declared.cmp.Ordering.TheVariants.{Greater}
 use Rattle.std.specs.FinMap.Entries.{find}
 use Rattle.pk_base.specs.Key.{Key, key_cmp}
@@ -33,7 +33,7 @@ pub record IsPageFor (key : Key) (firsts : List Key) (p : ℕ) : Type 0 where
 
 -- No page may have the key, and nothing was called; or one may, and it was looked at.
 abbrev pub RunLooks : Kept → Key → BoardState → BoardState → Type 0
-RunLooks r key old new = (IsBeforeAll key r.firsts × (new ≡ old)) ⊎ ((p : ℕ) × IsPageFor key r.firsts p × (new ≡ after_look r.leases old))
+RunLooks r key old new = (IsBeforeAll key r.firsts × (new ≡ old)) ⊎ ((p : ℕ) × IsPageFor key r.firsts p × (new ≡ after_look (slice_get r.leases p) old))
 
 -- ---- inside
 

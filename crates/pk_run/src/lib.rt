@@ -9,5 +9,7 @@ mod laws;
 mod run;
 mod search;
 
-pub use laws::{frame_filled, frame_given, frame_taken, stands_elsewhere, stands_outside};
+pub use laws::{
+    frame_filled, frame_given, frame_taken, leases_of_a_run, stands_elsewhere, stands_outside,
+};
 pub use run::Run;

@@ -7,8 +7,9 @@ ghost use Rattle.pk_base.specs.Page.{Flash, page_at, whole};
 ghost use Rattle.pk_nand.specs.Calls.{IsReady};
 ghost use Rattle.pk_nand.specs.Operations.{after_read, ReadFailed};
 ghost use Rattle.pk_nand.specs.declared.types.Fault.TheVariants.{Reading};
-ghost use Rattle.pk_pin.specs.Frames.{Frames};
-ghost use Rattle.pk_run.specs.Kept.{Kept, IsKept, IsPinned, RunOnFlash, IsNext, empty, page_of, most_pages, most_blocks, with_page, after_look};
+ghost use Rattle.pk_pin.specs.Frames.{Frames, free_frames};
+ghost use Rattle.pk_run.specs.Kept.{Kept, IsKept, IsPinned, RunOnFlash, IsNext, empty, page_of, most_pages, most_blocks, with_page, after_look, FillsPage, is_pinned};
+ghost use Rattle.pk_run.specs.Leases.{AreLeased, LeavesOthers, LeavesOtherLeases, given_all};
 ghost use Rattle.pk_run.specs.Search.{IsBeforeAll, IsFound, IsPageFor, RunLooks};
 
 use crate::search::page_for;
@@ -150,6 +151,13 @@ impl<A: Allocator> Run<A> {
         self.leases.len() as u32
     }
 
+    /// Whether each of its pages has a frame.
+    pub fn is_pinned(&self) -> bool
+        ensures { result ≡ is_pinned self.now }
+    {
+        self.firsts.len() <= self.leases.len()
+    }
+
     /// The number on the flash of a page of the run's blocks.
     pub fn page(&self, i: u32) -> u32
         requires { i < length self.now.blocks * self.now.shape.block_pages }
@@ -271,7 +279,7 @@ impl<A: Allocator> Run<A> {
         ensures reading { IfErr result (λ fault. fault ≡ Reading) }
         ensures err { OnErr result ((p : ℕ) × IsPageFor key.now self.now.firsts p
             × ReadFailed (B.state board.old) (B.state board.new) (page_of self.now p)) }
-        ensures unpinned { OnErr result (self.now.leases ≡ []) }
+        ensures unpinned { OnErr result (IsPinned self.now → ⊥) }
 
         // Either way nothing but a read was done.
         ensures same { (B.state board.new).pages ≡ (B.state board.old).pages }
@@ -309,14 +317,14 @@ impl<A: Allocator> Run<A> {
         ensures page { OnOk result (page_at (B.state board.old).pages (page_of self.now i)
             ≡ whole buf.new) }
         ensures ok { OnOk result (B.state board.new
-            ≡ after_look self.now.leases (B.state board.old)) }
+            ≡ after_look (slice_get self.now.leases i) (B.state board.old)) }
         ensures pinned { IsPinned self.now → B.state board.new ≡ B.state board.old }
 
         // Or that read failed.
         ensures reading { IfErr result (λ fault. fault ≡ Reading) }
         ensures err { OnErr result (ReadFailed (B.state board.old) (B.state board.new)
             (page_of self.now i)) }
-        ensures unpinned { OnErr result (self.now.leases ≡ []) }
+        ensures unpinned { OnErr result (length self.now.leases ≤ i) }
 
         // Either way nothing but a read was done.
         ensures same { (B.state board.new).pages ≡ (B.state board.old).pages }
@@ -329,6 +337,75 @@ impl<A: Allocator> Run<A> {
                 Ok(())
             }
             None => read_page(board, self.page(i), buf),
+        }
+    }
+
+    /// Reads the first page that has no frame into a frame, of which one must be free. `Reading` if
+    /// the read fails; otherwise nothing fails. `buf` has the size of a page and is overwritten.
+    pub fn fill_page<B: Nand>(
+        &mut self,
+        board: &mut B,
+        arena: &mut PinArena<A>,
+        buf: &mut [u8],
+    ) -> Result<(), Fault>
+        requires ready { IsReady (B.state board.old) self.old.shape }
+        requires stands { (es : List EntrySpec)
+            × RunOnFlash self.old (B.state board.old).pages arena.old es }
+        requires unfilled { length self.old.leases < length self.old.firsts }
+        requires free { 0 < free_frames arena.old }
+        requires page { arena.old.page_bytes ≡ self.old.shape.page_bytes }
+        requires room { length buf.old ≡ self.old.shape.page_bytes }
+
+        // The page has a frame, by one read, and the run is as before.
+        ensures filled { OnOk result (FillsPage self.old arena.old self.new arena.new) }
+        ensures stands { OnOk result ((es : List EntrySpec)
+            → RunOnFlash self.old (B.state board.old).pages arena.old es
+            → RunOnFlash self.new (B.state board.new).pages arena.new es) }
+        ensures ok { OnOk result (B.state board.new ≡ after_read (B.state board.old)) }
+
+        // Or that read failed, and nothing else changed.
+        ensures reading { IfErr result (λ fault. fault ≡ Reading) }
+        ensures err { OnErr result (ReadFailed (B.state board.old) (B.state board.new)
+            (page_of self.old (length self.old.leases))) }
+        ensures kept { OnErr result ((self.new ≡ self.old) × (arena.new ≡ arena.old)) }
+
+        // Either way nothing but a read was done, and of the run only the leases differ.
+        ensures same { (B.state board.new).pages ≡ (B.state board.old).pages }
+        ensures ready { IsReady (B.state board.new) self.old.shape }
+        ensures buffer { length buf.new ≡ length buf.old }
+        ensures rest { self.new ≡ record self.old { leases = self.new.leases } }
+    {
+        self.known();
+        match read_page(board, self.page(self.leases()), buf) {
+            Ok(()) => match arena.take() {
+                Some(lease) => {
+                    arena.fill(&lease, buf);
+                    self.leases.push_reserved(lease);
+                    Ok(())
+                }
+                // one is free
+                None => unreachable!(),
+            },
+            Err(fault) => Err(fault),
+        }
+    }
+
+    /// Frees the frames of all pages.
+    pub fn give_frames(&mut self, arena: &mut PinArena<A>)
+        requires { AreLeased arena.old self.old.leases }
+        ensures bare { self.new ≡ record self.old { leases = [] } }
+        ensures given { arena.new ≡ given_all arena.old self.old.leases }
+        ensures same_bytes { arena.new.page_bytes ≡ arena.old.page_bytes }
+        ensures same_size { length arena.new.used ≡ length arena.old.used }
+
+        // The run is as before, and so is every other.
+        ensures stands { (flash : Flash) (es : List EntrySpec)
+            → RunOnFlash self.old flash arena.old es → RunOnFlash self.new flash arena.new es }
+        ensures others { LeavesOthers self.old.leases arena.old arena.new }
+        ensures leases { LeavesOtherLeases self.old.leases arena.old arena.new }
+    {
+        while let Some(lease) = self.pop_lease() {
+            arena.give(lease);
         }
     }
 }

@@ -14,8 +14,7 @@ use Rattle.pk_scan.specs.OpeningParts.{HaveFrames}
 use Rattle.pk_scan.specs.Reads.{pages_of_runs, run_reads}
 
 none_pinned : (leases : List ℕ) (pages : ℕ) → length leases ≡ pages → read_of leases pages ≡ 0
-none_pinned [] pages same = sym same
-none_pinned (lease ∷ leases) pages same = refl
+none_pinned leases pages same = omega (arith, same)
 
 -- the pages of a run, and those that are read again
 once_more : (b : Bool) (r : Kept) (pages : ℕ) → IsPinnedIf b r → length r.firsts ≡ pages → pages + read_of r.leases (length r.firsts) ≡ (if b then 1 else 2) * pages

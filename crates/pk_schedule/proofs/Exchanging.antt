@@ -7,7 +7,8 @@ use Rattle.pk_pool.specs.Blocks.{Blocks, PoolOnFlash, given_back}
 use Rattle.pk_pool.specs.Unready.{unready}
 use Rattle.pk_run.specs.Kept.{Kept}
 use Rattle.pk_level.specs.Levels.{Levels, run_of, with_run}
-use Rattle.pk_merge.specs.Jobs.{Job, LeavesOthers, held_at, taken_from, given_to, given_all}
+use Rattle.pk_run.specs.Leases.{LeavesOthers, given_all}
+use Rattle.pk_merge.specs.Jobs.{Job, held_at, taken_from, given_to}
 use Rattle.pk_schedule.specs.Exchanges.{CanExchange, Exchanges}
 
 module _ (levels levels' : Levels) (arena arena' : Frames) (pool pool' : Blocks) (job middle job' : Job)

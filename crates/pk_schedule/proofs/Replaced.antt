@@ -28,9 +28,10 @@ use Rattle.pk_law_steps.specs.Merging.{merged_root, output_of, freed_by, blocks_
 use Rattle.pk_law_steps.proofs.FourRuns.{IsLevel}
 use Rattle.pk_law_steps.proofs.FreedCounts.{freed_counted}
 use Rattle.pk_law_steps.proofs.Places.{In, in_append}
-use Rattle.pk_merge.specs.Jobs.{Job, IsIdle, LeavesOthers, taken_from, given_to, ended}
+use Rattle.pk_run.specs.Leases.{LeavesOthers}
+use Rattle.pk_merge.specs.Jobs.{Job, IsIdle, taken_from, given_to, ended}
 use Rattle.pk_merge.proofs.Ending.{idle_one}
-use Rattle.pk_merge.proofs.Leasing.{are_apart}
+use Rattle.pk_run.proofs.Leasing.{are_apart, given_bytes, given_size}
 use Rattle.pk_schedule.specs.declared.phase.Phase.TheVariants.{Ready}
 use Rattle.pk_schedule.specs.Exchanges.{CanExchange, Exchanges, EndsFirst, EndsDeep}
 use Rattle.pk_schedule.specs.Index.{Index, output}
@@ -39,7 +40,7 @@ use Rattle.pk_schedule.proofs.Ended.{SecondRun}
 use Rattle.pk_schedule.proofs.Giving.{GivesBack, gives_back, one_owner}
 use Rattle.pk_schedule.proofs.Installing.{Replaced}
 use Rattle.pk_schedule.proofs.Preparing.{output_stands, runs_stand}
-use Rattle.pk_schedule.proofs.Replacing.{RunsOnFlash-set, HaveBlocks-set, ArePinnedTo-set, RunsOnFlash-given, at_set, at_other, map_set, given_bytes, given_size}
+use Rattle.pk_schedule.proofs.Replacing.{RunsOnFlash-set, HaveBlocks-set, ArePinnedTo-set, RunsOnFlash-given, at_set, at_other, map_set}
 use Rattle.pk_base.proofs.Logic.{is_true}
 use Rattle.pk_schedule.proofs.Waiting as wait
 

@@ -1,7 +1,6 @@
 -- A run that replaces another, in lists of runs.
 use Rattle.std.proofs.Common.{◌≡◌, inl, ℕ, zero, suc, ◌+◌, ◌≤◌, ◌<◌, false, nat_le, T, List, [], ◌∷◌, length, map, slice_set, slice_index_or, Some, refl, sym, ap, subst, ◌∙◌, arith}
 use Rattle.std.specs.Prelude.{slice_get}
-use Rattle.std.proofs.lemmas.List.{length-set}
 use Rattle.std.proofs.lemmas.Option.{same_Some}
 use Rattle.pk_base.specs.Shape.{Shape}
 use Rattle.pk_base.specs.Page.{Flash}
@@ -14,7 +13,8 @@ use Rattle.pk_level.specs.Levels.{RunsOnFlash, HaveBlocks, AreOfLevels, IsOfLeve
 use Rattle.pk_level.specs.Arenas.{leases_of, IsPinnedIf, ArePinnedTo}
 use Rattle.pk_model.proofs.Commits.{apart, rest_differs}
 use Rattle.pk_law_steps.proofs.Places.{In}
-use Rattle.pk_merge.specs.Jobs.{LeavesOthers, given_all, all_spare, spare_of, without, with_spare}
+use Rattle.pk_run.specs.Leases.{LeavesOthers}
+use Rattle.pk_merge.specs.Jobs.{all_spare, spare_of, without, with_spare}
 use Rattle.pk_schedule.proofs.Grown.{got_in}
 
 -- ---- what is unchanged
@@ -97,14 +97,6 @@ RunsOnFlash-given leases flash before after (r ∷ rs) (es ∷ ess) leaves none 
   leaves r flash es (λ i l is. let all = none i l is in let both = times-append l r.leases (leases_of rs) in omega (arith, all, both)) s.0,
   RunsOnFlash-given leases flash before after rs ess leaves (λ i l is. let all = none i l is in let both = times-append l r.leases (leases_of rs) in omega (arith, all, both)) s.1,
 )
-
-pub given_bytes : (arena : Frames) (ls : List ℕ) → (given_all arena ls).page_bytes ≡ arena.page_bytes
-given_bytes arena [] = refl
-given_bytes arena (l ∷ ls) = given_bytes arena ls
-
-pub given_size : (arena : Frames) (ls : List ℕ) → length (given_all arena ls).used ≡ length arena.used
-given_size arena [] = refl
-given_size arena (l ∷ ls) = length-set (given_all arena ls).used l false ∙ given_size arena ls
 
 -- ---- different blocks
 

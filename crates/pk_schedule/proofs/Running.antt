@@ -1,5 +1,5 @@
 -- A step of the job of a merge that runs: the index matches the flash after it, with the same map, wherever the step is cut.
-use Rattle.std.proofs.Common.{◌≡◌, ◌≢◌, ◌⊎◌, inl, inr, ℕ, ◌*◌, ◌/◌, ◌<◌, ◌≤◌, List, [], ◌∷◌, ◌++◌, length, Option, Some, refl, sym, ap, subst, ◌∙◌, arith, div-lt_iff_lt-mul}
+use Rattle.std.proofs.Common.{◌≡◌, ◌≢◌, ◌⊎◌, inl, inr, ℕ, ◌*◌, ◌/◌, ◌<◌, ◌≤◌, List, [], ◌∷◌, ◌++◌, length, Option, Some, None, refl, sym, ap, subst, ◌∙◌, arith, div-lt_iff_lt-mul}
 use Rattle.std.specs.Prelude.{slice_get, slice_index}
 use Rattle.std.specs.List.{concat, AllByRecursion}
 use Rattle.pk_base.specs.Shape.{Shape, IsShape}
@@ -33,6 +33,7 @@ use Rattle.pk_root.specs.Laws.{SameFront}
 use Rattle.pk_law_steps.specs.Under.{IsUnder, IsValuePage, places}
 use Rattle.pk_law_steps.proofs.Untouched.{under_reads}
 use Rattle.pk_law_steps.proofs.Places.{In, in_append}
+use Rattle.pk_merge.specs.Cursors.{Cursor, own_page}
 use Rattle.pk_merge.specs.declared.source.Source.{Source}
 use Rattle.pk_merge.specs.declared.source.Source.TheVariants.{Frozen, Run}
 use Rattle.pk_merge.specs.declared.next.Next.{Next}
@@ -134,13 +135,13 @@ module _ (x : Index) (frames : ℕ) (old : BoardState) (top : ℕ × Root) (foun
       read_leaves : new ≡ after_read old → CallLeaves x.log.shape old top found m new
       read_leaves e = same_leaves (ap (λ (b : BoardState). b.shape) e) (ap (λ (b : BoardState). b.pages) e) (ap (λ (b : BoardState). b.trail) e) (ap (λ (b : BoardState). b.posted) e)
 
-      look_leaves : (leases : List ℕ) → new ≡ after_look leases old → CallLeaves x.log.shape old top found m new
-      look_leaves [] e = read_leaves e
-      look_leaves (l ∷ ls) e = none_leaves e
+      look_leaves : (lease : Option ℕ) → new ≡ after_look lease old → CallLeaves x.log.shape old top found m new
+      look_leaves None e = read_leaves e
+      look_leaves (Some l) e = none_leaves e
 
-      source_leaves : {X : Type 0} (source : Source X) → new ≡ after_look_at source old → CallLeaves x.log.shape old top found m new
-      source_leaves (Frozen b) e = none_leaves e
-      source_leaves (Run r) e = look_leaves r.now.leases e
+      source_leaves : {X : Type 0} (source : Source X) (c : Cursor) → new ≡ after_look_at source c old → CallLeaves x.log.shape old top found m new
+      source_leaves (Frozen b) c e = none_leaves e
+      source_leaves (Run r) c e = look_leaves (slice_get r.now.leases (own_page c)) e
 
       module _ {X : Type 0} (source : Source X) (target : Kept) (j : Merger) (arena : Frames)
           (es fs : List Entry) (r : Running source target (pins x.schedule.job) out j x.pool old.pages arena es fs) where
@@ -169,8 +170,8 @@ module _ (x : Index) (frames : ℕ) (old : BoardState) (top : ℕ × Root) (foun
 
         pub job_leaves : (next : Next) (out' : Kept) (j' : Merger) (pool' : Blocks) (arena' : Frames) → Tells source target out j next
             → Acts source target (pins x.schedule.job) out j x.pool old arena next out' j' pool' new arena' → CallLeaves x.log.shape old top found m new
-        job_leaves LoadSource out' j' pool' arena' t (l, o, p, a) = source_leaves source l.board
-        job_leaves LoadTarget out' j' pool' arena' t (l, o, p, a) = look_leaves target.leases l.board
+        job_leaves LoadSource out' j' pool' arena' t (l, o, p, a) = source_leaves source j.source l.board
+        job_leaves LoadTarget out' j' pool' arena' t (l, o, p, a) = look_leaves (slice_get target.leases (own_page j.target)) l.board
         job_leaves Gather out' j' pool' arena' t (e, o, p, q, a) = none_leaves e
         job_leaves End out' j' pool' arena' t (e, o, p, q, a) = none_leaves e
         job_leaves TakeBlock out' j' pool' arena' t (k, e, a, fits) = elim k.choice [

@@ -33,10 +33,11 @@ use Rattle.pk_law_steps.proofs.NewestBlocks.{valid_root}
 use Rattle.pk_law_steps.proofs.Outputs.{output_fits}
 use Rattle.pk_law_steps.proofs.Places.{In, differ_back}
 use Rattle.pk_law_steps.proofs.Spelling.{merged_grammar}
-use Rattle.pk_merge.specs.Jobs.{Job, IsIdle, AreOwned, AreLeased, all_spare, held_at, taken_from, given_to, pins}
+use Rattle.pk_run.specs.Leases.{AreLeased}
+use Rattle.pk_merge.specs.Jobs.{Job, IsIdle, AreOwned, all_spare, held_at, taken_from, given_to, pins}
 use Rattle.pk_merge.specs.Laws.{IsFormer, done_with}
 use Rattle.pk_merge.proofs.Ending.{idle_one}
-use Rattle.pk_merge.proofs.Leasing.{are_leased}
+use Rattle.pk_run.proofs.Leasing.{are_leased}
 use Rattle.pk_compact.specs.FreezeSteps.{taken_by}
 use Rattle.pk_log.specs.MergeSteps.{MayPrepare, MayMerge}
 use Rattle.pk_schedule.specs.declared.phase.Phase.TheVariants.{Ready}

@@ -10,7 +10,8 @@ use Rattle.pk_pool.specs.Unready.{unready}
 use Rattle.pk_rootfmt.specs.Root.{differ}
 use Rattle.pk_run.specs.Kept.{Kept}
 use Rattle.pk_level.specs.Levels.{Levels, IsOfLevel, run_of, with_run}
-use Rattle.pk_merge.specs.Jobs.{Job, AreOwned, AreLeased, LeavesOthers, held_at, taken_from, given_to, given_all, ended}
+use Rattle.pk_run.specs.Leases.{AreLeased, LeavesOthers, given_all}
+use Rattle.pk_merge.specs.Jobs.{Job, AreOwned, held_at, taken_from, given_to, ended}
 
 -- The job has this run for the level, which may be there, and what the former one has may be freed.
 pub record CanExchange (levels : Levels) (arena : Frames) (pool : Blocks) (job : Job) (level : ℕ)

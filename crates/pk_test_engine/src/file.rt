@@ -23,9 +23,12 @@ fn image_path(rt: &HostRuntime, name: &str) -> io::Result<String> {
 
 // Makes an image and programs its first page.
 fn make_and_program<B: Nand>(board: &mut B, alloc: Global, shape: Shape, bytes: &[u8]) -> bool
-    requires none { (B.state board.old).shape ≡ None }
     requires full { length bytes.now ≡ shape.page_bytes }
 {
+    match board.load(alloc) {
+        Ok(None) => {}
+        _ => return false,
+    }
     match board.make(alloc, shape) {
         Ok(()) => {}
         Err(_) => return false,

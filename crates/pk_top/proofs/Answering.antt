@@ -25,7 +25,7 @@ use Rattle.pk_wordrun.specs.declared.end.WordEnd.TheVariants.{Done, Output, Flas
 use Rattle.pk_top.specs.Asks.{word_status, AskedTo, Asks, AsksAll, AsksWhole, AsksFound, AskRun}
 use Rattle.pk_top.specs.declared.asking.TheConstants.{WORD_FRAMES}
 use Rattle.pk_top.specs.Ends.{open_status}
-use Rattle.pk_top.specs.Loads.{load_status, HasReason}
+use Rattle.pk_top.specs.Loads.{load_status, HasReason, no_memory, not_loaded, no_image, has_image}
 use Rattle.pk_top.specs.Serves.{behind_opening}
 use Rattle.pk_top.specs.Statuses.{Untouched}
 use Rattle.pk_top.proofs.Asked.{same_meter}
@@ -149,10 +149,10 @@ module _ (task : Task) (few : most_roots task < 4611686018427387904) (old new : 
       absurd (let there : None ≡ Some shape = sym missing.shape_is ∙ ((missing.held (subst IsSome (sym has) refl)).1 ∙ has) in cc)
 
   pub whole_ask : AskRun task old new status → AsksWhole task old new status
-  whole_ask (inl none) = whole_none none
-  whole_ask (inr (inl refused)) = whole_refused refused.fault refused.tells refused.reason (λ same. refused_untouched old new same refused.failed)
-  whole_ask (inr (inr (inl missing))) = whole_missing missing.1
-  whole_ask (inr (inr (inr found))) = whole_found found
+  whole_ask (no_memory is same) = whole_none (is, same)
+  whole_ask (not_loaded refused) = whole_refused refused.fault refused.tells refused.reason (λ same. refused_untouched old new same refused.failed)
+  whole_ask (no_image missing) = whole_missing missing.found
+  whole_ask (has_image found) = whole_found found
 
 -- no word uses up the roots
 pub few_roots : (task : Task) → IsShortTask task → most_roots task < 4611686018427387904

@@ -30,6 +30,7 @@ use Rattle.pk_wordrun.specs.Tasks.{Task, answer, list, generate, KeptTask}
 use Rattle.pk_wordrun.specs.Told.{Told, EndsBy, KeepsInput}
 use Rattle.pk_wordrun.specs.declared.end.WordEnd.{WordEnd}
 use Rattle.pk_wordrun.specs.declared.end.WordEnd.TheVariants.{Done, Output, Flash as FlashFailed, Worn}
+use Rattle.pk_top.specs.Loads.{no_memory, not_loaded, no_image, has_image}
 use Rattle.pk_top.specs.Asks.{word_status, KeepsTask, AskedTo, Asks, AskRun}
 use Rattle.pk_top.specs.declared.asking.TheConstants.{WORD_FRAMES}
 use Rattle.pk_top.specs.Ends.{open_status}
@@ -207,13 +208,13 @@ module _ (shape : Shape) (old loaded new : BoardState) (found : Loaded old loade
   ]
 
 pub tells_ask : (task : Task) (old new : BoardState) (status : ℕ) → AskRun task old new status → Tells old new status
-tells_ask task old new status (inl none) = tells_memory old new status none.0 (ap (λ (s : BoardState). s.flash_faults) none.1) (gives_same old new none.1)
-tells_ask task old new status (inr (inl refused)) = tells_refused old new status refused
-tells_ask task old new status (inr (inr (inl missing))) = tells_no_drive old new status missing.0 (inl missing.1.shape_is) (load_untouched old new None missing.1)
-tells_ask task old new status (inr (inr (inr found))) = tells_asks found.shape old found.loaded new found.found task status found.asks
+tells_ask task old new status (no_memory is same) = tells_memory old new status is (ap (λ (s : BoardState). s.flash_faults) same) (gives_same old new same)
+tells_ask task old new status (not_loaded refused) = tells_refused old new status refused
+tells_ask task old new status (no_image missing) = tells_no_drive old new status missing.tells (inl missing.found.shape_is) (load_untouched old new None missing.found)
+tells_ask task old new status (has_image found) = tells_asks found.shape old found.loaded new found.found task status found.asks
 
 pub memory_ask : (task : Task) (old new : BoardState) (status : ℕ) → AskRun task old new status → status ≡ 7 → Untouched old new
-memory_ask task old new status (inl none) is = untouched_same old new none.1
-memory_ask task old new status (inr (inl refused)) is = refused_untouched old new (wants_sound old new refused.fault (sym refused.tells ∙ is) refused.reason) refused.failed
-memory_ask task old new status (inr (inr (inl missing))) is = load_untouched old new None missing.1
-memory_ask task old new status (inr (inr (inr found))) is = memory_asks found.shape old found.loaded new found.found task status found.asks is
+memory_ask task old new status (no_memory is same) is = untouched_same old new same
+memory_ask task old new status (not_loaded refused) is = refused_untouched old new (wants_sound old new refused.fault (sym refused.tells ∙ is) refused.reason) refused.failed
+memory_ask task old new status (no_image missing) is = load_untouched old new None missing.found
+memory_ask task old new status (has_image found) is = memory_asks found.shape old found.loaded new found.found task status found.asks is

@@ -17,7 +17,7 @@ use Rattle.pk_scan.specs.declared.errors.OpenError.{OpenError}
 use Rattle.pk_scan.specs.declared.errors.OpenError.TheVariants.{NotFormatted, Damaged, Fault as ReadFault, Memory as NoMemory}
 use Rattle.pk_serve.specs.Complete.{IsServable, Complete}
 use Rattle.pk_top.specs.Ends.{open_status}
-use Rattle.pk_top.specs.Loads.{load_status, HasReason}
+use Rattle.pk_top.specs.Loads.{load_status, HasReason, no_memory, not_loaded, no_image, has_image}
 use Rattle.pk_top.specs.Serves.{ServeRun, ServesFound, ServesAll, ServesWhole, behind_opening}
 use Rattle.pk_top.specs.Statuses.{Untouched}
 use Rattle.pk_top.proofs.Telling.{untouched_same, refused_untouched}
@@ -142,7 +142,7 @@ module _ (frames : ℕ) (old new : BoardState) (status : ℕ) where
       absurd (let there : None ≡ Some shape = sym missing.shape_is ∙ ((missing.held (subst IsSome (sym has) refl)).1 ∙ has) in cc)
 
   pub whole_serve : ServeRun frames old new status → ServesWhole frames old new status
-  whole_serve (inl none) = whole_none none
-  whole_serve (inr (inl refused)) = whole_refused refused.fault refused.tells refused.reason (λ same. refused_untouched old new same refused.failed)
-  whole_serve (inr (inr (inl missing))) = whole_missing missing.1
-  whole_serve (inr (inr (inr found))) = whole_found found
+  whole_serve (no_memory is same) = whole_none (is, same)
+  whole_serve (not_loaded refused) = whole_refused refused.fault refused.tells refused.reason (λ same. refused_untouched old new same refused.failed)
+  whole_serve (no_image missing) = whole_missing missing.found
+  whole_serve (has_image found) = whole_found found

@@ -8,7 +8,7 @@ use Rattle.pk_nand.specs.declared.types.LoadFault.{LoadFault}
 use Rattle.pk_nand.specs.declared.types.LoadFault.TheVariants.{Fault, BadImage, Memory}
 use Rattle.pk_rootfmt.specs.Held.{first as first_root}
 use Rattle.pk_rootfmt.specs.Root.{root_bytes}
-use Rattle.pk_top.specs.Loads.{load_status}
+use Rattle.pk_top.specs.Loads.{load_status, no_memory, not_loaded, no_image, has_image}
 use Rattle.pk_top.specs.Makes.{MakeRun, Makes, MadeImage, IsMade}
 use Rattle.pk_top.specs.Statuses.{GivesNothing, Tells}
 use Rattle.pk_top.proofs.Telling.{tells_good, tells_flash, tells_memory, tells_made, tells_refused, gives_same, load_untouched}
@@ -50,11 +50,11 @@ module _ (shape : Shape) (old loaded new : BoardState) (none : Loaded old loaded
   tells_makes status (inr m) = tells_image status m
 
 pub tells_make : (shape : Shape) (old new : BoardState) (status : ℕ) → MakeRun shape old new status → Tells old new status
-tells_make shape old new status (inl none) = tells_memory old new status none.0 (ap (λ (s : BoardState). s.flash_faults) none.1) (gives_same old new none.1)
-tells_make shape old new status (inr (inl refused)) = tells_refused old new status refused
-tells_make shape old new status (inr (inr (inl there))) =
+tells_make shape old new status (no_memory is same) = tells_memory old new status is (ap (λ (s : BoardState). s.flash_faults) same) (gives_same old new same)
+tells_make shape old new status (not_loaded refused) = tells_refused old new status refused
+tells_make shape old new status (has_image there) =
     tells_made old new status there.tells (some_shape there.shape new.shape there.found.shape_is) (load_untouched old new (Some there.shape) there.found)
-tells_make shape old new status (inr (inr (inr run))) = tells_makes shape old run.loaded new run.none status run.makes
+tells_make shape old new status (no_image run) = tells_makes shape old run.loaded new run.none status run.makes
 
 -- ---- status 0
 
@@ -71,7 +71,7 @@ formatted_made shape loaded new status done (inr m) = elim m.formats [
 ]
 
 pub made_drive : (shape : Shape) (old new : BoardState) (status : ℕ) → MakeRun shape old new status → status ≡ 0 → IsMade shape new
-made_drive shape old new status (inl none) done = absurd (let e : status ≡ 7 = none.0 in omega arith)
-made_drive shape old new status (inr (inl refused)) done = absurd (never_done refused.fault (sym refused.tells ∙ done))
-made_drive shape old new status (inr (inr (inl there))) done = absurd (let e : status ≡ 9 = there.tells in omega arith)
-made_drive shape old new status (inr (inr (inr run))) done = formatted_made shape run.loaded new status done run.makes
+made_drive shape old new status (no_memory is same) done = absurd (let e : status ≡ 7 = is in omega arith)
+made_drive shape old new status (not_loaded refused) done = absurd (never_done refused.fault (sym refused.tells ∙ done))
+made_drive shape old new status (has_image there) done = absurd (let e : status ≡ 9 = there.tells in omega arith)
+made_drive shape old new status (no_image run) done = formatted_made shape run.loaded new status done run.makes

@@ -43,7 +43,7 @@ use Rattle.pk_top.specs.Loads.{load_status, HasReason}
 use Rattle.pk_top.specs.Serves.{NotServed, behind_opening}
 use Rattle.pk_top.specs.Statuses.{GivesNothing, Untouched, Tells}
 use Rattle.pk_top.proofs.Asked.{input_still}
-use Rattle.pk_top.specs.PairRuns.{NotFound, KeepsPair, AskedPair, AsksPair, PairRun, PairTells, LacksPair, PairRefused, PairWhole}
+use Rattle.pk_top.specs.PairRuns.{NotFound, KeepsPair, AskedPair, AsksPair, PairRun, PairTells, LacksPair, PairRefused, PairWhole, no_speaker, first_unopened, second_unopened, pair_asked, no_pair_memory, first_missing, second_missing, shapes_differ, pair_found}
 use Rattle.pk_top.proofs.Telling.{tells_refused, tells_not, tells_no_drive, wants_untouched, wants_sound, untouched_same, load_untouched, refused_untouched}
 
 names_len : (es : List (Key × List ℕ)) → length (map (λ e. e.0) es) ≡ length es
@@ -99,7 +99,7 @@ module _ (task : PairTask) (shape : Shape) (loaded new loaded' new' : BoardState
     kept = still only also;
     first_input = input_still loaded new only;
     second_input = input_still loaded' new' also;
-    outcome = inl (is, same, same');
+    outcome = no_speaker is same same';
   }
 
   -- the first drive was not opened
@@ -109,7 +109,7 @@ module _ (task : PairTask) (shape : Shape) (loaded new loaded' new' : BoardState
     kept = still only also;
     first_input = input_still loaded new only;
     second_input = input_still loaded' new' also;
-    outcome = inr (inl (inl (record { error = error; tells = tells; reason = reason; only_reads = only }, same')));
+    outcome = first_unopened (record { error = error; tells = tells; reason = reason; only_reads = only }) same';
   }
 
   -- or the second
@@ -120,7 +120,7 @@ module _ (task : PairTask) (shape : Shape) (loaded new loaded' new' : BoardState
     kept = still only also;
     first_input = input_still loaded new only;
     second_input = input_still loaded' new' also;
-    outcome = inr (inl (inr (is, record { error = error; tells = tells; reason = reason; only_reads = also })));
+    outcome = second_unopened is (record { error = error; tells = tells; reason = reason; only_reads = also });
   }
 
   -- both were opened
@@ -168,20 +168,17 @@ module _ (task : PairTask) (shape : Shape) (loaded new loaded' new' : BoardState
       };
       first_input = record { input = told.first_input.input; in_faults = told.first_input.in_faults };
       second_input = record { input = told.second_input.input; in_faults = told.second_input.in_faults };
-      outcome = inr (inr (
-        end,
-        tells,
-        record {
-          start = start;
-          holds = start-held;
-          other = other;
-          holds_other = other-held;
-          ends = told.ends;
-          first_used = told.first_used;
-          second_used = told.second_used;
-          few = few;
-        },
-      ));
+      outcome = pair_asked end tells (
+          record {
+            start = start;
+            holds = start-held;
+            other = other;
+            holds_other = other-held;
+            ends = told.ends;
+            first_used = told.first_used;
+            second_used = told.second_used;
+            few = few;
+          });
     }
 
 module _ (task : PairTask) (shape : Shape) (loaded new loaded' new' : BoardState) where
@@ -342,7 +339,7 @@ module _ (task : PairTask) (shape : Shape) (old loaded new old' loaded' new' : B
 
   asks_tells : (status : ℕ) → AsksPair task shape loaded new loaded' new' status → PairTells old new old' new' status
   asks_tells status asks = elim asks.outcome [
-    | inl (is, same, same') ↦ record {
+    | no_speaker is same same' ↦ record {
       is_one = inr (inr (inr (inl is)));
       output = λ e. absurd (omega (arith, e, is));
       flash = λ e. absurd (omega (arith, e, is));
@@ -350,17 +347,17 @@ module _ (task : PairTask) (shape : Shape) (old loaded new old' loaded' new' : B
       no_drive = λ e. absurd (omega (arith, e, is));
       worn = λ e. absurd (omega (arith, e, is));
     }
-    | inr (inl (inl (n, same'))) ↦
+    | first_unopened n same' ↦
         by_first old new old' new' status (open_one status n.error n.tells) (tells_not shape old loaded new found status n.error n.tells n.reason n.only_reads)
         (λ e. wants_untouched shape old loaded new found n.error (sym n.tells ∙ e) n.reason) (still_untouched shape old' loaded' new' found' same')
-    | inr (inl (inr (is, n))) ↦
+    | second_unopened is n ↦
         by_second old new old' new' status (open_one status n.error n.tells) (tells_not shape old' loaded' new' found' status n.error n.tells n.reason n.only_reads)
         (λ e. wants_untouched shape old' loaded' new' found' n.error (sym n.tells ∙ e) n.reason) (opened_untouched shape old loaded new found is)
-    | inr (inr (end, is, asked)) ↦ end_tells asked.start asked.other end status is asked.ends
+    | pair_asked end is asked ↦ end_tells asked.start asked.other end status is asked.ends
   ]
 
 pub pair_tells : (task : PairTask) (old new old' new' : BoardState) (status : ℕ) → PairRun task old new old' new' status → PairTells old new old' new' status
-pair_tells task old new old' new' status (inl (is, same, same')) = record {
+pair_tells task old new old' new' status (no_pair_memory is same same') = record {
   is_one = inr (inr (inr (inl is)));
   output = λ e. absurd (omega (arith, e, is));
   flash = λ e. absurd (omega (arith, e, is));
@@ -368,12 +365,12 @@ pair_tells task old new old' new' status (inl (is, same, same')) = record {
   no_drive = λ e. absurd (omega (arith, e, is));
   worn = λ e. absurd (omega (arith, e, is));
 }
-pair_tells task old new old' new' status (inr (inl (missing, same'))) =
+pair_tells task old new old' new' status (first_missing missing same') =
     by_first old new old' new' status (not_found_one old new status missing) (not_found_tells old new status missing) (not_found_wants old new status missing) (untouched_same old' new' same')
-pair_tells task old new old' new' status (inr (inr (inl (shape, found, missing)))) =
+pair_tells task old new old' new' status (second_missing shape found missing) =
     by_second old new old' new' status (not_found_one old' new' status missing) (not_found_tells old' new' status missing)
     (not_found_wants old' new' status missing) (load_untouched old new (Some shape) found)
-pair_tells task old new old' new' status (inr (inr (inr (inl o)))) = record {
+pair_tells task old new old' new' status (shapes_differ o) = record {
   is_one = inr (inr (inr (inr (inl o.tells))));
   output = λ e. absurd (let is = o.tells in omega (arith, e, is));
   flash = λ e. absurd (let is = o.tells in omega (arith, e, is));
@@ -381,7 +378,7 @@ pair_tells task old new old' new' status (inr (inr (inr (inl o)))) = record {
   no_drive = λ e. (inr (inr (o.shape, o.other, o.found.shape_is, o.found'.shape_is, o.differ)), load_untouched old new (Some o.shape) o.found, load_untouched old' new' (Some o.other) o.found');
   worn = λ e. absurd (let is = o.tells in omega (arith, e, is));
 }
-pair_tells task old new old' new' status (inr (inr (inr (inr f)))) = asks_tells task f.shape old f.loaded new old' f.loaded' new' f.found f.found' status f.asks
+pair_tells task old new old' new' status (pair_found f) = asks_tells task f.shape old f.loaded new old' f.loaded' new' f.found f.found' status f.asks
 
 -- ---- boards that hold no pair
 
@@ -412,15 +409,15 @@ no_lack s shape other old old' loaded loaded' m k one two pages pages' held held
 no_lack s shape other old old' loaded loaded' m k one two pages pages' held held' (inr (inr (refusal, refuses))) = not_refused s other loaded'.pages old'.pages k refusal two pages' held' refuses
 
 pub pair_refused : (task : PairTask) (old new old' new' : BoardState) (status : ℕ) → PairRun task old new old' new' status → PairRefused old old' status
-pair_refused task old new old' new' status (inl (is, same, same')) shape other has has' lacks = inr (inl is)
-pair_refused task old new old' new' status (inr (inl (missing, same'))) shape other has has' lacks = refused_one status (not_found_one old new status missing)
-pair_refused task old new old' new' status (inr (inr (inl (s, found, missing)))) shape other has has' lacks = refused_one status (not_found_one old' new' status missing)
-pair_refused task old new old' new' status (inr (inr (inr (inl o)))) shape other has has' lacks = inl o.tells
-pair_refused task old new old' new' status (inr (inr (inr (inr f)))) shape other has has' lacks = elim f.asks.outcome [
-  | inl (is, same, same') ↦ inr (inl is)
-  | inr (inl (inl (n, same'))) ↦ refused_one status (open_one status n.error n.tells)
-  | inr (inl (inr (is, n))) ↦ refused_one status (open_one status n.error n.tells)
-  | inr (inr (end, is, asked)) ↦ absurd (no_lack f.shape shape other old old' f.loaded f.loaded' asked.start asked.other
+pair_refused task old new old' new' status (no_pair_memory is same same') shape other has has' lacks = inr (inl is)
+pair_refused task old new old' new' status (first_missing missing same') shape other has has' lacks = refused_one status (not_found_one old new status missing)
+pair_refused task old new old' new' status (second_missing s found missing) shape other has has' lacks = refused_one status (not_found_one old' new' status missing)
+pair_refused task old new old' new' status (shapes_differ o) shape other has has' lacks = inl o.tells
+pair_refused task old new old' new' status (pair_found f) shape other has has' lacks = elim f.asks.outcome [
+  | no_speaker is same same' ↦ inr (inl is)
+  | first_unopened n same' ↦ refused_one status (open_one status n.error n.tells)
+  | second_unopened is n ↦ refused_one status (open_one status n.error n.tells)
+  | pair_asked end is asked ↦ absurd (no_lack f.shape shape other old old' f.loaded f.loaded' asked.start asked.other
       (found_shape old f.loaded f.shape shape has f.found) (found_shape old' f.loaded' f.shape other has' f.found')
       (found_pages old f.loaded f.shape shape has f.found) (found_pages old' f.loaded' f.shape other has' f.found')
       asked.holds asked.holds_other lacks)
@@ -515,16 +512,16 @@ module _ (task : PairTask) (old new old' new' : BoardState) (status : ℕ) (shap
     -- the word is done, where its status is none of a fault
     asked_done : AsksPair task shape loaded new loaded' new' status → (status ≡ 0) ⊎ ((status ≡ 8) ⊎ (status ≡ 10)) → IsDone
     asked_done asks one = elim asks.outcome [
-      | inl (is, same, same') ↦ absurd (elim one [ inl e ↦ omega (arith, e, is) | inr rest ↦ elim rest [ inl e ↦ omega (arith, e, is) | inr e ↦ omega (arith, e, is) ] ])
-      | inr (inl (inl (n, same'))) ↦ absurd (elim one [
+      | no_speaker is same same' ↦ absurd (elim one [ inl e ↦ omega (arith, e, is) | inr rest ↦ elim rest [ inl e ↦ omega (arith, e, is) | inr e ↦ omega (arith, e, is) ] ])
+      | first_unopened n same' ↦ absurd (elim one [
         | inl e ↦ not_zero n.error n.tells e
         | inr rest ↦ elim rest [ inl e ↦ not_no_drive loaded new m holds_loaded n e | inr e ↦ not_ten n.error n.tells e ]
       ])
-      | inr (inl (inr (is, n))) ↦ absurd (elim one [
+      | second_unopened is n ↦ absurd (elim one [
         | inl e ↦ not_zero n.error n.tells e
         | inr rest ↦ elim rest [ inl e ↦ not_no_drive loaded' new' other holds_loaded' n e | inr e ↦ not_ten n.error n.tells e ]
       ])
-      | inr (inr (end, is, asked)) ↦ by end is asked one
+      | pair_asked end is asked ↦ by end is asked one
     ]
       where
         not_zero : (error : OpenError) → status ≡ open_status error → status ≡ 0 → ⊥
@@ -549,23 +546,23 @@ module _ (task : PairTask) (old new old' new' : BoardState) (status : ℕ) (shap
         ])
 
   run_done : PairRun task old new old' new' status → (status ≡ 0) ⊎ ((status ≡ 8) ⊎ (status ≡ 10)) → IsDone
-  run_done (inl (is, same, same')) one = absurd (elim one [ inl e ↦ omega (arith, e, is) | inr rest ↦ elim rest [ inl e ↦ omega (arith, e, is) | inr e ↦ omega (arith, e, is) ] ])
-  run_done (inr (inl (missing, same'))) one = absurd (elim one [
+  run_done (no_pair_memory is same same') one = absurd (elim one [ inl e ↦ omega (arith, e, is) | inr rest ↦ elim rest [ inl e ↦ omega (arith, e, is) | inr e ↦ omega (arith, e, is) ] ])
+  run_done (first_missing missing same') one = absurd (elim one [
     | inl e ↦ elim (not_found_one old new status missing) [ inl f ↦ omega (arith, e, f) | inr rest ↦ elim rest [ inl f ↦ omega (arith, e, f) | inr f ↦ omega (arith, e, f) ] ]
     | inr rest ↦ elim rest [
       | inl e ↦ none_missing old new status there missing e
       | inr e ↦ elim (not_found_one old new status missing) [ inl f ↦ omega (arith, e, f) | inr rest ↦ elim rest [ inl f ↦ omega (arith, e, f) | inr f ↦ omega (arith, e, f) ] ]
     ]
   ])
-  run_done (inr (inr (inl (s, found, missing)))) one = absurd (elim one [
+  run_done (second_missing s found missing) one = absurd (elim one [
     | inl e ↦ elim (not_found_one old' new' status missing) [ inl f ↦ omega (arith, e, f) | inr rest ↦ elim rest [ inl f ↦ omega (arith, e, f) | inr f ↦ omega (arith, e, f) ] ]
     | inr rest ↦ elim rest [
       | inl e ↦ none_missing old' new' status there' missing e
       | inr e ↦ elim (not_found_one old' new' status missing) [ inl f ↦ omega (arith, e, f) | inr rest ↦ elim rest [ inl f ↦ omega (arith, e, f) | inr f ↦ omega (arith, e, f) ] ]
     ]
   ])
-  run_done (inr (inr (inr (inl o)))) one = absurd (o.differ (shape_of_found old new o.shape there has o.found ∙ sym (shape_of_found old' new' o.other there' has' o.found')))
-  run_done (inr (inr (inr (inr f)))) one =
+  run_done (shapes_differ o) one = absurd (o.differ (shape_of_found old new o.shape there has o.found ∙ sym (shape_of_found old' new' o.other there' has' o.found')))
+  run_done (pair_found f) one =
       let same = shape_of_found old f.loaded f.shape there has f.found in
       let A : Shape → Type 0 = λ s. AsksPair task s f.loaded new f.loaded' new' status in
       asked_done f.loaded f.loaded' (subst (λ (s : Shape). Loaded old f.loaded (Some s)) same f.found) (subst (λ (s : Shape). Loaded old' f.loaded' (Some s)) same f.found') (subst A same f.asks) one

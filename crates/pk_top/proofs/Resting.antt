@@ -7,6 +7,7 @@ use Rattle.pk_nand.specs.Resting.{RestsFlash}
 use Rattle.pk_nand.proofs.Resting.{Rests-same, Rests-start, Rests-then}
 use Rattle.pk_text.specs.Written.{Written}
 use Rattle.pk_wordrun.specs.Tasks.{Task, only_asks}
+use Rattle.pk_top.specs.Loads.{no_memory, not_loaded, no_image, has_image}
 use Rattle.pk_top.specs.Asks.{AskRun}
 use Rattle.pk_top.specs.Makes.{MakeRun}
 use Rattle.pk_top.specs.TextRuns.{TextRun}
@@ -43,18 +44,18 @@ rests-refused old new some l =
 
 -- a word only asked
 pub rests-ask : (task : Task) (old new : BoardState) (status : ℕ) → AskRun task old new status → only_asks task ≡ true → IsSome old.shape → RestsFlash old new
-rests-ask task old new status (inl none) only some = Rests-same old new none.1
-rests-ask task old new status (inr (inl refused)) only some = rests-refused old new some refused.failed
-rests-ask task old new status (inr (inr (inl missing))) only some = rests-loaded old new None some missing.1
-rests-ask task old new status (inr (inr (inr run))) only some =
+rests-ask task old new status (no_memory is same) only some = Rests-same old new same
+rests-ask task old new status (not_loaded refused) only some = rests-refused old new some refused.failed
+rests-ask task old new status (no_image missing) only some = rests-loaded old new None some missing.found
+rests-ask task old new status (has_image run) only some =
     Rests-then old run.loaded new (run.found.held some).0 (rests-loaded old run.loaded (Some run.shape) some run.found) (run.asks.rests only)
 
 -- an image is there
 pub rests-make : (shape : Shape) (old new : BoardState) (status : ℕ) → MakeRun shape old new status → IsSome old.shape → RestsFlash old new
-rests-make shape old new status (inl none) some = Rests-same old new none.1
-rests-make shape old new status (inr (inl refused)) some = rests-refused old new some refused.failed
-rests-make shape old new status (inr (inr (inl there))) some = rests-loaded old new (Some there.shape) some there.found
-rests-make shape old new status (inr (inr (inr run))) some =
+rests-make shape old new status (no_memory is same) some = Rests-same old new same
+rests-make shape old new status (not_loaded refused) some = rests-refused old new some refused.failed
+rests-make shape old new status (has_image there) some = rests-loaded old new (Some there.shape) some there.found
+rests-make shape old new status (no_image run) some =
     let none : old.shape ≡ None = sym (run.none.held some).1 ∙ run.none.shape_is in
     absurd (never old.shape none some)
   where

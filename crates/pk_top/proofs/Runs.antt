@@ -1,5 +1,5 @@
 -- Runs of the program one after another: each begins from what the one before it kept.
-use Rattle.std.proofs.Common.{◌≡◌, inl, inr, ℕ, List, [], ◌∷◌, ◌++◌, Option, Some, None, IsSome, refl, sym, ◌∙◌, ap, subst, append-nil}
+use Rattle.std.proofs.Common.{◌≡◌, ℕ, List, [], ◌∷◌, ◌++◌, Option, Some, None, IsSome, refl, sym, ◌∙◌, ap, subst, append-nil}
 use Rattle.std.specs.FinMap.{empty}
 use Rattle.std.proofs.lemmas.List.{append_cancel_left}
 use Rattle.pk_base.specs.Shape.{Shape}
@@ -17,6 +17,7 @@ use Rattle.pk_model.specs.Reading.{reading, Holds}
 use Rattle.pk_model.specs.Script.{script}
 use Rattle.pk_serve.proofs.Counting.{at_most-zero}
 use Rattle.pk_call.specs.Meter.{Meter, meter}
+use Rattle.pk_top.specs.Loads.{no_memory, not_loaded, no_image, has_image}
 use Rattle.pk_top.specs.Serves.{ServeRun, ServesFound, behind_opening}
 use Rattle.pk_wordrun.specs.Tasks.{Task, KeptTask}
 use Rattle.pk_top.specs.Asks.{AsksFound, AskRun}
@@ -114,10 +115,10 @@ module _ (shape : Shape) (r : ProgramRun) (is : IsRun shape r) where
       )
 
   sound_serving : (frames : ℕ) → ServeRun frames r.old r.new r.status → ServesCut frames × Ended
-  sound_serving frames (inl none) = sound_untouched frames (ap (λ (s : BoardState). s.trail) none.1) (ap (λ (s : BoardState). s.pages) none.1)
-  sound_serving frames (inr (inl refused)) = sound_untouched frames (ap (λ (s : BoardState). s.trail) refused.failed.rest) (refused.failed.held some_shape).0
-  sound_serving frames (inr (inr (inl missing))) = sound_untouched frames (ap (λ (s : BoardState). s.trail) missing.1.rest) (missing.1.held some_shape).0
-  sound_serving frames (inr (inr (inr found))) = sound_found frames found
+  sound_serving frames (no_memory is same) = sound_untouched frames (ap (λ (s : BoardState). s.trail) same) (ap (λ (s : BoardState). s.pages) same)
+  sound_serving frames (not_loaded refused) = sound_untouched frames (ap (λ (s : BoardState). s.trail) refused.failed.rest) (refused.failed.held some_shape).0
+  sound_serving frames (no_image missing) = sound_untouched frames (ap (λ (s : BoardState). s.trail) missing.found.rest) (missing.found.held some_shape).0
+  sound_serving frames (has_image found) = sound_found frames found
 
   -- the flash is unchanged
   sound_resting : RestsFlash r.old r.new → RestsCut × Ended
@@ -169,10 +170,10 @@ module _ (shape : Shape) (r : ProgramRun) (is : IsRun shape r) where
       subst K same (subst R (same_meter found.shape r.old found.loaded found.found some_shape) kept)
 
   asks_cut : (task : Task) → AskRun task r.old r.new r.status → AsksCut task
-  asks_cut task (inl none) = quiet_untouched task (ap (λ (s : BoardState). s.trail) none.1)
-  asks_cut task (inr (inl refused)) = quiet_untouched task (ap (λ (s : BoardState). s.trail) refused.failed.rest)
-  asks_cut task (inr (inr (inl missing))) = quiet_untouched task (ap (λ (s : BoardState). s.trail) missing.1.rest)
-  asks_cut task (inr (inr (inr found))) = asks_found task found
+  asks_cut task (no_memory is same) = quiet_untouched task (ap (λ (s : BoardState). s.trail) same)
+  asks_cut task (not_loaded refused) = quiet_untouched task (ap (λ (s : BoardState). s.trail) refused.failed.rest)
+  asks_cut task (no_image missing) = quiet_untouched task (ap (λ (s : BoardState). s.trail) missing.found.rest)
+  asks_cut task (has_image found) = asks_found task found
 
   -- ---- any word
 

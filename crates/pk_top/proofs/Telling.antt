@@ -16,7 +16,7 @@ use Rattle.pk_scan.specs.Opening.{NotOpened, OnlyReads}
 use Rattle.pk_scan.specs.declared.errors.OpenError.{OpenError}
 use Rattle.pk_scan.specs.declared.errors.OpenError.TheVariants.{NotFormatted, Damaged, Fault as ReadFault, Memory as NoMemory}
 use Rattle.pk_top.specs.Ends.{end_status, open_status}
-use Rattle.pk_top.specs.Loads.{load_status, HasReason, LoadRefused}
+use Rattle.pk_top.specs.Loads.{load_status, HasReason, LoadRefused, no_memory, not_loaded, no_image, has_image}
 use Rattle.pk_top.specs.Serves.{ServeRun, RunServes, behind_opening}
 use Rattle.pk_top.specs.Statuses.{GivesNothing, Untouched, FlashFailed, HasNoDrive, Tells}
 
@@ -215,13 +215,13 @@ module _ (shape : Shape) (old loaded new : BoardState) (found : Loaded old loade
 -- ---- the word
 
 pub tells_serve : (frames : ℕ) (old new : BoardState) (status : ℕ) → ServeRun frames old new status → Tells old new status
-tells_serve frames old new status (inl none) = tells_memory old new status none.0 (ap (λ (s : BoardState). s.flash_faults) none.1) (gives_same old new none.1)
-tells_serve frames old new status (inr (inl refused)) = tells_refused old new status refused
-tells_serve frames old new status (inr (inr (inl missing))) = tells_no_drive old new status missing.0 (inl missing.1.shape_is) (load_untouched old new None missing.1)
-tells_serve frames old new status (inr (inr (inr found))) = tells_serves found.shape old found.loaded new found.found frames status found.serves
+tells_serve frames old new status (no_memory is same) = tells_memory old new status is (ap (λ (s : BoardState). s.flash_faults) same) (gives_same old new same)
+tells_serve frames old new status (not_loaded refused) = tells_refused old new status refused
+tells_serve frames old new status (no_image missing) = tells_no_drive old new status missing.tells (inl missing.found.shape_is) (load_untouched old new None missing.found)
+tells_serve frames old new status (has_image found) = tells_serves found.shape old found.loaded new found.found frames status found.serves
 
 pub memory_serve : (frames : ℕ) (old new : BoardState) (status : ℕ) → ServeRun frames old new status → status ≡ 7 → Untouched old new
-memory_serve frames old new status (inl none) is = untouched_same old new none.1
-memory_serve frames old new status (inr (inl refused)) is = refused_untouched old new (wants_sound old new refused.fault (sym refused.tells ∙ is) refused.reason) refused.failed
-memory_serve frames old new status (inr (inr (inl missing))) is = load_untouched old new None missing.1
-memory_serve frames old new status (inr (inr (inr found))) is = memory_serves found.shape old found.loaded new found.found frames status found.serves is
+memory_serve frames old new status (no_memory is same) is = untouched_same old new same
+memory_serve frames old new status (not_loaded refused) is = refused_untouched old new (wants_sound old new refused.fault (sym refused.tells ∙ is) refused.reason) refused.failed
+memory_serve frames old new status (no_image missing) is = load_untouched old new None missing.found
+memory_serve frames old new status (has_image found) is = memory_serves found.shape old found.loaded new found.found frames status found.serves is

@@ -1,5 +1,5 @@
 -- A run of a word that asks the drive: a session of one word.
-use Rattle.std.specs.Prelude.{◌≡◌, ◌⊎◌, ℕ, ◌+◌, ◌<◌, ◌≤◌, List, Some, None, true}
+use Rattle.std.specs.Prelude.{◌≡◌, ◌⊎◌, ℕ, ◌+◌, ◌<◌, ◌≤◌, List, Some, true}
 use Rattle.pk_base.specs.Shape.{Shape}
 use Rattle.pk_base.specs.Page.{Flash}
 use Rattle.pk_base.specs.Map.{Map}
@@ -15,9 +15,9 @@ use Rattle.pk_wordrun.specs.Tasks.{Task, only_asks, KeptTask}
 use Rattle.pk_wordrun.specs.Told.{EndsBy, WordDone, KeepsInput, most_roots}
 use Rattle.pk_wordrun.specs.declared.end.WordEnd.{WordEnd}
 use Rattle.pk_wordrun.specs.declared.end.WordEnd.TheVariants.{Done, Output, Flash as FlashFailed, Worn}
-use Rattle.pk_top.specs.declared.status.TheConstants.Status.{DONE, OUTPUT, FLASH, MEMORY, NO_DRIVE, WORN}
+use Rattle.pk_top.specs.declared.status.TheConstants.Status.{DONE, OUTPUT, FLASH, MEMORY, WORN}
 use Rattle.pk_top.specs.declared.asking.TheConstants.{WORD_FRAMES}
-use Rattle.pk_top.specs.Loads.{LoadRefused}
+use Rattle.pk_top.specs.Loads.{NoImage, WordRun}
 use Rattle.pk_top.specs.Serves.{NotServed, behind_opening}
 use Rattle.pk_top.specs.Statuses.{Untouched}
 
@@ -55,10 +55,9 @@ pub record AsksFound (task : Task) (old new : BoardState) (status : ℕ) : Type 
   pub found : Loaded old loaded (Some shape)
   pub asks : Asks task shape loaded new status
 
--- Memory for the words was missing and nothing was done; or the load was refused; or it found no image; or it found one.
+-- It needs an image, and asks its drive.
 abbrev pub AskRun : Task → BoardState → BoardState → ℕ → Type 0
-AskRun task old new status =
-    ((status ≡ MEMORY.0) × (new ≡ old)) ⊎ (LoadRefused old new status ⊎ (((status ≡ NO_DRIVE.0) × Loaded old new None) ⊎ AsksFound task old new status))
+AskRun task old new status = WordRun (NoImage old new status) (AsksFound task old new status) old new status
 
 -- ---- completeness
 

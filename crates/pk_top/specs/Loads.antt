@@ -1,7 +1,7 @@
 -- A load or a make of an image that was refused.
-use Rattle.std.specs.Prelude.{◌≡◌, ◌≢◌, ℕ, Some, IsSome}
+use Rattle.std.specs.Prelude.{◌≡◌, ◌≢◌, ℕ, Some, None, IsSome}
 use Rattle.pk_nand.specs.BoardState.{BoardState}
-use Rattle.pk_nand.specs.Calls.{Rose, LoadFailed, MakeFailed}
+use Rattle.pk_nand.specs.Calls.{Rose, Loaded, LoadFailed, MakeFailed}
 use Rattle.pk_nand.specs.declared.types.LoadFault.{LoadFault}
 use Rattle.pk_nand.specs.declared.types.LoadFault.TheVariants.{Fault, BadImage, Memory}
 use Rattle.pk_top.specs.declared.status.TheConstants.Status.{FLASH, MEMORY, NO_DRIVE}
@@ -33,3 +33,16 @@ pub record MakeRefused (old new : BoardState) (status : ℕ) : Type 0 where
   pub failed : MakeFailed old new
   pub rose : fault ≡ Fault → Rose old.flash_faults new.flash_faults
   pub same : fault ≢ Fault → new.flash_faults ≡ old.flash_faults
+
+-- A load found no image, and the word needs one.
+pub record NoImage (old new : BoardState) (status : ℕ) : Type 0 where
+  pub tells : status ≡ NO_DRIVE.0
+  pub found : Loaded old new None
+
+-- How a run of a word on a board ends: memory for the words was missing and nothing was done; or the load was refused; or it found no image; or it
+-- found one. Of the last two the word says what it then does.
+pub data WordRun (Missing Found : Type 0) (old new : BoardState) (status : ℕ) : Type 0 where
+  no_memory : status ≡ MEMORY.0 → new ≡ old → WordRun Missing Found old new status
+  not_loaded : LoadRefused old new status → WordRun Missing Found old new status
+  no_image : Missing → WordRun Missing Found old new status
+  has_image : Found → WordRun Missing Found old new status

@@ -8,8 +8,8 @@ use Rattle.pk_nand.specs.Pairs.{programs_of_pair}
 use Rattle.pk_rootfmt.specs.Held.{first as first_root}
 use Rattle.pk_rootfmt.specs.Root.{root_bytes}
 use Rattle.pk_model.specs.Reading.{Holds}
-use Rattle.pk_top.specs.declared.status.TheConstants.Status.{DONE, FLASH, MEMORY, IMAGE_EXISTS}
-use Rattle.pk_top.specs.Loads.{LoadRefused, MakeRefused}
+use Rattle.pk_top.specs.declared.status.TheConstants.Status.{DONE, FLASH, IMAGE_EXISTS}
+use Rattle.pk_top.specs.Loads.{MakeRefused, WordRun}
 
 -- The flash of an image that was made holds the empty map, by two programs with the same root.
 pub record Formatted (shape : Shape) (made new : BoardState) (status : ℕ) : Type 0 where
@@ -39,10 +39,9 @@ pub record FoundImage (old new : BoardState) (status : ℕ) : Type 0 where
   pub shape : Shape
   pub found : Loaded old new (Some shape)
 
--- Memory for the words was missing and nothing was done; or the load was refused; or it found an image; or it found none.
+-- It makes an image if there is none.
 abbrev pub MakeRun : Shape → BoardState → BoardState → ℕ → Type 0
-MakeRun shape old new status =
-    ((status ≡ MEMORY.0) × (new ≡ old)) ⊎ (LoadRefused old new status ⊎ (FoundImage old new status ⊎ MakesNew shape old new status))
+MakeRun shape old new status = WordRun (MakesNew shape old new status) (FoundImage old new status) old new status
 
 -- a drive of this shape with the empty map
 pub record IsMade (shape : Shape) (board : BoardState) : Type 0 where

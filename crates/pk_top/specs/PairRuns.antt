@@ -43,20 +43,20 @@ pub record AskedPair (task : PairTask) (shape : Shape) (loaded new loaded' new' 
   pub second_used : UsedRoots start other loaded' new'
   pub few : most_pair_roots start other < far_below
 
--- The first drive was not opened, and the second not tried; or the second was not.
-abbrev pub NotOpenedPair : Shape → BoardState → BoardState → BoardState → BoardState → ℕ → Type 0
-NotOpenedPair shape loaded new loaded' new' status =
-    (NotServed shape loaded new status × (new' ≡ loaded')) ⊎ ((new ≡ behind_opening shape WORD_FRAMES loaded) × NotServed shape loaded' new' status)
+-- How a word ends on two images of one shape: memory was missing and nothing was done; or the first drive was not opened, and the second not tried;
+-- or the second was not opened; or the word came to an end.
+pub data PairOutcome (task : PairTask) (shape : Shape) (loaded new loaded' new' : BoardState) (status : ℕ) : Type 0 where
+  no_speaker : status ≡ MEMORY.0 → new ≡ loaded → new' ≡ loaded' → PairOutcome task shape loaded new loaded' new' status
+  first_unopened : NotServed shape loaded new status → new' ≡ loaded' → PairOutcome task shape loaded new loaded' new' status
+  second_unopened : new ≡ behind_opening shape WORD_FRAMES loaded → NotServed shape loaded' new' status → PairOutcome task shape loaded new loaded' new' status
+  pair_asked : (end : WordEnd) → status ≡ word_status end → AskedPair task shape loaded new loaded' new' end → PairOutcome task shape loaded new loaded' new' status
 
--- What was done on two images of one shape, from their loads on: memory was missing, or a drive was not opened, or the word came to an end. No input
--- was read.
+-- What was done on two images of one shape, from their loads on. No input was read.
 pub record AsksPair (task : PairTask) (shape : Shape) (loaded new loaded' new' : BoardState) (status : ℕ) : Type 0 where
   pub kept : KeepsPair task shape loaded new loaded' new'
   pub first_input : KeepsInput loaded new
   pub second_input : KeepsInput loaded' new'
-  pub outcome :
-      ((status ≡ MEMORY.0) × (new ≡ loaded) × (new' ≡ loaded'))
-      ⊎ (NotOpenedPair shape loaded new loaded' new' status ⊎ ((end : WordEnd) × (status ≡ word_status end) × AskedPair task shape loaded new loaded' new' end))
+  pub outcome : PairOutcome task shape loaded new loaded' new' status
 
 -- two images of one shape were found
 pub record FoundPair (task : PairTask) (old new old' new' : BoardState) (status : ℕ) : Type 0 where
@@ -76,14 +76,14 @@ pub record OtherShapes (old new old' new' : BoardState) (status : ℕ) : Type 0 
   pub found' : Loaded old' new' (Some other)
   pub differ : shape ≢ other
 
--- Memory for the words was missing and nothing was done; or an image was not found, the first or else the second; or the shapes differ; or two images of
--- one shape were found.
-abbrev pub PairRun : PairTask → BoardState → BoardState → BoardState → BoardState → ℕ → Type 0
-PairRun task old new old' new' status =
-    ((status ≡ MEMORY.0) × (new ≡ old) × (new' ≡ old'))
-    ⊎ ((NotFound old new status × (new' ≡ old'))
-    ⊎ (((shape : Shape) × Loaded old new (Some shape) × NotFound old' new' status)
-    ⊎ (OtherShapes old new old' new' status ⊎ FoundPair task old new old' new' status)))
+-- How a run of a word on a pair of images ends: memory for the words was missing and nothing was done; or an image was not found, the first or else
+-- the second; or the shapes differ; or two images of one shape were found.
+pub data PairRun (task : PairTask) (old new old' new' : BoardState) (status : ℕ) : Type 0 where
+  no_pair_memory : status ≡ MEMORY.0 → new ≡ old → new' ≡ old' → PairRun task old new old' new' status
+  first_missing : NotFound old new status → new' ≡ old' → PairRun task old new old' new' status
+  second_missing : (shape : Shape) → Loaded old new (Some shape) → NotFound old' new' status → PairRun task old new old' new' status
+  shapes_differ : OtherShapes old new old' new' status → PairRun task old new old' new' status
+  pair_found : FoundPair task old new old' new' status → PairRun task old new old' new' status
 
 -- ---- statuses and their causes
 

@@ -1,5 +1,5 @@
 -- A run of the word `serve`: a session of a drive.
-use Rattle.std.specs.Prelude.{◌≡◌, ◌⊎◌, ℕ, List, Some, None}
+use Rattle.std.specs.Prelude.{◌≡◌, ◌⊎◌, ℕ, List, Some}
 use Rattle.pk_base.specs.Shape.{Shape}
 use Rattle.pk_base.specs.Page.{Flash}
 use Rattle.pk_base.specs.Map.{Map}
@@ -20,9 +20,9 @@ use Rattle.pk_scan.specs.Reads.{opening_reads}
 use Rattle.pk_scan.specs.Opening.{NotOpened}
 use Rattle.pk_nand.specs.Effects.{OnlyReading}
 use Rattle.pk_scan.specs.declared.errors.OpenError.{OpenError}
-use Rattle.pk_top.specs.declared.status.TheConstants.Status.{DONE, MEMORY, NO_DRIVE}
+use Rattle.pk_top.specs.declared.status.TheConstants.Status.{DONE, MEMORY}
 use Rattle.pk_top.specs.Ends.{end_status, open_status}
-use Rattle.pk_top.specs.Loads.{LoadRefused}
+use Rattle.pk_top.specs.Loads.{NoImage, WordRun}
 use Rattle.pk_top.specs.Statuses.{Untouched}
 
 -- ---- the headline
@@ -93,7 +93,6 @@ pub record ServesFound (frames : ℕ) (old new : BoardState) (status : ℕ) : Ty
   pub found : Loaded old loaded (Some shape)
   pub serves : RunServes shape frames loaded new status
 
--- Memory for the words was missing and nothing was done; or the load was refused; or it found no image; or it found one.
+-- It needs an image, and serves the input on it.
 abbrev pub ServeRun : ℕ → BoardState → BoardState → ℕ → Type 0
-ServeRun frames old new status =
-    ((status ≡ MEMORY.0) × (new ≡ old)) ⊎ (LoadRefused old new status ⊎ (((status ≡ NO_DRIVE.0) × Loaded old new None) ⊎ ServesFound frames old new status))
+ServeRun frames old new status = WordRun (NoImage old new status) (ServesFound frames old new status) old new status

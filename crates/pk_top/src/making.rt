@@ -1,5 +1,5 @@
 //! The word that makes an image.
-ghost use Rattle.std.specs.Prelude.{◌≡◌, None};
+ghost use Rattle.std.specs.Prelude.{◌≡◌, true};
 ghost use Rattle.pk_top.specs.Loads.{load_status};
 ghost use Rattle.pk_top.specs.Makes.{MakeRun, Makes};
 ghost use Rattle.pk_top.specs.Statuses.{Tells};
@@ -23,7 +23,7 @@ pub fn of_load_fault(fault: LoadFault) -> Status
 
 /// Makes an image if there is none, and formats its flash.
 fn make_image<B: Board>(alloc: Global, shape: Shape, board: &mut B) -> Status
-    requires { (B.state board.old).shape ≡ None }
+    requires { (B.state board.old).bare ≡ true }
     ensures { Makes shape (B.state board.old) (B.state board.new) result.0 }
 {
     match board.make(alloc, shape) {

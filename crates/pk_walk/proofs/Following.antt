@@ -1,6 +1,7 @@
 -- A cursor in a run: the page of its place, the entry at it, and what its moves leave.
 use Rattle.std.proofs.Common.{◌≡◌, ℕ, zero, suc, ◌+◌, ◌-◌, ◌*◌, ◌/◌, ◌%◌, ◌<◌, ◌≤◌, min, refl, sym, ap, subst, ◌∙◌, arith, Bool, true, false, if◌then◌else◌, T, is_some, List, [], ◌∷◌, ◌++◌, length}
 use Rattle.std.proofs.Common.{take, drop, slice_get, Option, Some, None, div-lt_iff_lt-mul, mul-le-mul, suc-mul}
+use Rattle.std.proofs.lemmas.Option.{slice_get_within}
 use Rattle.std.specs.Ordering.{is_gt, is_eq}
 use Rattle.std.specs.declared.cmp.Ordering.{Ordering}
 use Rattle.std.specs.declared.cmp.Ordering.TheVariants.{Less, Equal, Greater}
@@ -18,7 +19,7 @@ use Rattle.pk_nand.specs.BoardState.{BoardState}
 use Rattle.pk_pin.specs.Frames.{Frames}
 use Rattle.pk_run.specs.Kept.{Kept, IsKept, RunOnFlash, page_of, after_look}
 use Rattle.pk_run.specs.Search.{IsPageFor}
-use Rattle.pk_run.proofs.Lookups.{first_is, page_starts, holds_piece, no_leases}
+use Rattle.pk_run.proofs.Lookups.{first_is, page_starts, holds_piece}
 use Rattle.pk_walk.specs.declared.position.Position.{Position}
 use Rattle.pk_walk.specs.declared.position.Position.TheVariants.{Above}
 use Rattle.pk_walk.specs.Visible.{is_wanted, wanted, WantsFrom}
@@ -99,37 +100,34 @@ module _ (r : Kept) (flash : Flash) (arena : Frames) (es : List Entry) (is : IsS
 
 -- ---- the bytes of a page
 
-seen_nowhere : (leases : List ℕ) (i : ℕ) → slice_get leases i ≡ None → length leases ≤ i
+pub seen_nowhere : (leases : List ℕ) (i : ℕ) → slice_get leases i ≡ None → length leases ≤ i
 seen_nowhere [] i e = omega arith
 seen_nowhere (l ∷ leases) zero e = cc
 seen_nowhere (l ∷ leases) (suc i) e = omega (arith, seen_nowhere leases i e)
 
--- if a page has a frame, the run has frames
-pub has_frames : (leases : List ℕ) (i lease : ℕ) → slice_get leases i ≡ Some lease → leases ≡ [] → ⊥
-has_frames [] i lease got none = cc
-has_frames (l ∷ leases) i lease got none = cc
+-- a page has a frame, or none
+pub has_frames : (leases : List ℕ) (i lease : ℕ) → slice_get leases i ≡ Some lease → slice_get leases i ≡ None → ⊥
+has_frames leases i lease got none = cc
 
 module _ (r : Kept) (flash : Flash) (arena : Frames) (es : List Entry) (s : RunOnFlash r flash arena es) (read : List ℕ)
-    (p : ℕ) (exists : p < length r.firsts) (own : r.leases ≡ [] → page_at flash (page_of r p) ≡ whole read) where
+    (p : ℕ) (exists : p < length r.firsts) (own : slice_get r.leases p ≡ None → page_at flash (page_of r p) ≡ whole read) where
   seen_page : (o : Option ℕ) → slice_get r.leases p ≡ o → page_at flash (page_of r p) ≡ whole (seen_bytes read arena o)
-  seen_page None e = own (no_leases r flash arena es s p exists (seen_nowhere r.leases p e))
+  seen_page None e = own e
   seen_page (Some lease) e = (s.frames p lease e).bytes
 
 -- the cursor has the page that it came past last
 pub page_seen : (r : Kept) (flash : Flash) (arena : Frames) (es : List Entry) (c : Cursor) (p : ℕ) → RunOnFlash r flash arena es → p < length r.firsts → c.loaded ≡ suc p
-    → (r.leases ≡ [] → page_at flash (page_of r p) ≡ whole c.bytes) → page_at flash (page_of r p) ≡ whole (bytes_in r arena c)
+    → (slice_get r.leases p ≡ None → page_at flash (page_of r p) ≡ whole c.bytes) → page_at flash (page_of r p) ≡ whole (bytes_in r arena c)
 page_seen r flash arena es c p s exists loaded own =
     let same : p ≡ c.loaded - 1 = omega (arith, loaded) in
     subst (λ (n : ℕ). page_at flash (page_of r p) ≡ whole (seen_bytes c.bytes arena (slice_get r.leases n))) same (seen_page r flash arena es s c.bytes p exists own (slice_get r.leases p) refl)
 
 -- if it has a frame nothing is read
-pub come_pinned : (leases : List ℕ) (p lease a b : ℕ) (old : BoardState) → slice_get leases p ≡ Some lease → Reads (read_of leases a) (read_of leases b) old old
-come_pinned [] p lease a b old got = cc
-come_pinned (l ∷ leases) p lease a b old got = (0, omega arith, refl)
+pub come_pinned : (leases : List ℕ) (p lease a : ℕ) (old : BoardState) → slice_get leases p ≡ Some lease → a ≤ suc p → Reads (read_of leases a) (read_of leases (suc p)) old old
+come_pinned leases p lease a old got behind = let there = slice_get_within leases p lease got in (0, omega (arith, there, behind), refl)
 
-pub come_pinned_all : (leases : List ℕ) (p lease a b : ℕ) (old : BoardState) → slice_get leases p ≡ Some lease → ReadsAll (read_of leases a) (read_of leases b) old old
-come_pinned_all [] p lease a b old got = cc
-come_pinned_all (l ∷ leases) p lease a b old got = (0, omega arith, refl)
+pub come_pinned_all : (leases : List ℕ) (p lease a : ℕ) (old : BoardState) → slice_get leases p ≡ Some lease → a ≤ suc p → ReadsAll (read_of leases a) (read_of leases (suc p)) old old
+come_pinned_all leases p lease a old got behind = let there = slice_get_within leases p lease got in (0, omega (arith, there, behind), refl)
 
 -- ---- moves of a cursor
 
@@ -144,7 +142,7 @@ module _ (flash : Flash) (r : Kept) (es : List Entry) (position : Position) (c :
   page place = place / page_entries r.shape
 
   -- it has come past the page of its place
-  pub Follows-loaded : (bytes : List ℕ) → page c.place < length r.firsts → (r.leases ≡ [] → page_at flash (page_of r (page c.place)) ≡ whole bytes)
+  pub Follows-loaded : (bytes : List ℕ) → page c.place < length r.firsts → (slice_get r.leases (page c.place) ≡ None → page_at flash (page_of r (page c.place)) ≡ whole bytes)
       → Follows flash r es position (record c { loaded = suc (page c.place); bytes = bytes })
   Follows-loaded bytes exists here = record { pages = exists; behind = omega arith; holds = λ none e. here none; left = f.left; ended = f.ended; sure = λ has. (omega arith, (f.sure has).1) }
 
@@ -177,7 +175,7 @@ may_load flash r es position c p is kept inside f same =
 
 -- with the page of its place it is where it was
 pub stays_loaded : (flash : Flash) (r : Kept) (c d : Cursor) → IsShape r.shape → c.place / page_entries r.shape < length r.firsts
-    → (r.leases ≡ [] → page_at flash (page_of r (c.place / page_entries r.shape)) ≡ whole d.bytes)
+    → (slice_get r.leases (c.place / page_entries r.shape) ≡ None → page_at flash (page_of r (c.place / page_entries r.shape)) ≡ whole d.bytes)
     → d ≡ record c { loaded = suc (c.place / page_entries r.shape); bytes = d.bytes } → StaysAt flash r c d
 stays_loaded flash r c d is exists here moved = record {
   place = moved ∙ (λ i. record c { loaded = (sym moved i).loaded; bytes = d.bytes });
@@ -271,9 +269,12 @@ page_begins r flash arena es w key p is from for_key s =
 
 -- ---- reads
 
-pub looked : (leases : List ℕ) (loaded p : ℕ) (old new : BoardState) → loaded ≤ p → new ≡ after_look leases old → Reads (read_of leases loaded) (read_of leases (suc p)) old new
-looked [] loaded p old new h e = (1, omega (arith, h), e)
-looked (l ∷ leases) loaded p old new h e = (0, omega arith, e)
+pub looked : (leases : List ℕ) (loaded p : ℕ) (old new : BoardState) → loaded ≤ p → new ≡ after_look (slice_get leases p) old → Reads (read_of leases loaded) (read_of leases (suc p)) old new
+looked leases loaded p old new h e = by_frame (slice_get leases p) refl e
+  where
+    by_frame : (o : Option ℕ) → slice_get leases p ≡ o → new ≡ after_look o old → Reads (read_of leases loaded) (read_of leases (suc p)) old new
+    by_frame None got e = let past = seen_nowhere leases p got in (1, omega (arith, h, past), e)
+    by_frame (Some l) got e = let there = slice_get_within leases p l got in (0, omega (arith, h, there), e)
 
 -- ---- a cursor that skips no page
 
@@ -291,9 +292,12 @@ HasPassed-kept c d same loaded passed = subst HasPassed (sym (same ∙ (λ i. re
 pub HasPassed-begun : (c d : Cursor) → d ≡ record c { place = d.place } → d.place ≡ 0 → HasPassed d
 HasPassed-begun c d same none = omega (arith, none)
 
-pub looked_all : (leases : List ℕ) (loaded p : ℕ) (old new : BoardState) → loaded ≡ p → new ≡ after_look leases old → ReadsAll (read_of leases loaded) (read_of leases (suc p)) old new
-looked_all [] loaded p old new h e = (1, omega (arith, h), e)
-looked_all (l ∷ leases) loaded p old new h e = (0, omega arith, e)
+pub looked_all : (leases : List ℕ) (loaded p : ℕ) (old new : BoardState) → loaded ≡ p → new ≡ after_look (slice_get leases p) old → ReadsAll (read_of leases loaded) (read_of leases (suc p)) old new
+looked_all leases loaded p old new h e = by_frame (slice_get leases p) refl e
+  where
+    by_frame : (o : Option ℕ) → slice_get leases p ≡ o → new ≡ after_look o old → ReadsAll (read_of leases loaded) (read_of leases (suc p)) old new
+    by_frame None got e = let past = seen_nowhere leases p got in (1, omega (arith, h, past), e)
+    by_frame (Some l) got e = let there = slice_get_within leases p l got in (0, omega (arith, h, there), e)
 
 -- after a look at the page of its place
 pub head_here : (r : Kept) (c d : Cursor) → IsShape r.shape → c.shape ≡ r.shape

@@ -52,7 +52,7 @@ holds_entry r flash arena es position d e is s f sought at found =
       behind = omega (arith, loaded, up);
       holds = λ none here.
           let same : d.place / page_entries r.shape ≡ suc d.place / page_entries r.shape = omega (arith, here, loaded) in
-          ap (λ (p : ℕ). page_at flash (page_of r p)) (sym same) ∙ f.holds none loaded;
+          ap (λ (p : ℕ). page_at flash (page_of r p)) (sym same) ∙ f.holds (ap (slice_get r.leases) same ∙ none) loaded;
       left = sought_left flash r es position d f sought ∙ ap (wanted (is_wanted position)) (dropped es d.place e (at.is es s))
           ∙ ap (λ (b : Bool). if b then e ∷ wanted (is_wanted position) (drop (suc d.place) es) else wanted (is_wanted position) (drop (suc d.place) es)) one;
       ended = λ is. absurd (not_none e is);

@@ -186,7 +186,7 @@ module _ (r : Kept) (flash : Flash) (arena : Frames) (es : List Entry) (is : IsS
           let here = at.loaded in
           let own = same_loaded in
           let same : c.place / size ≡ d.place / size = omega (arith, loaded, here, own) in
-          ap (λ (p : ℕ). page_at flash (page_of r p)) (sym same) ∙ f.holds none here ∙ ap (λ (x : Cursor). whole x.bytes) (sym m.cursor);
+          ap (λ (p : ℕ). page_at flash (page_of r p)) (sym same) ∙ f.holds (ap (slice_get r.leases) same ∙ none) here ∙ ap (λ (x : Cursor). whole x.bytes) (sym m.cursor);
       left = subst (λ (h : Head). wanted (is_wanted position) es ≡ held h ++ wanted (is_wanted position) (drop d.place es))
           (sym (moved_sought sought)) (moved_left (sought_left flash r es position c f sought));
       ended = λ e. absurd (not_ended (sym (moved_sought sought) ∙ e));

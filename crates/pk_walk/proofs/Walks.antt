@@ -355,8 +355,7 @@ start_left w cs same unknown flash arena rs active frozen ess stand = record {
 }
 
 none_read_of : (leases : List ℕ) → read_of leases 0 ≡ 0
-none_read_of [] = refl
-none_read_of (l ∷ leases) = refl
+none_read_of leases = omega arith
 
 start_reads : (rs : List Kept) (cs : List Cursor) → pages_read rs (all_at_start cs) ≡ 0
 start_reads [] cs = refl
@@ -540,8 +539,7 @@ module _ (rs : List Kept) (arena : Frames) (active frozen : List Entry) (shape :
     few_read v follow = bound rs at.ess v.cursors stand_now (follow at.ess stand_now).0
       where
         few : (leases : List ℕ) (n m : ℕ) → n ≤ m → read_of leases n ≤ read_of leases m
-        few [] n m h = h
-        few (l ∷ leases) n m h = omega arith
+        few leases n m h = omega (arith, h)
 
         bound : (rs : List Kept) (ess : List (List Entry)) (cs : List Cursor) → RunsOnFlash now.pages arena rs ess → FollowEach now.pages rs ess v.position cs → pages_read rs cs ≤ most_read rs
         bound [] ess cs s f = omega arith

@@ -43,11 +43,11 @@ pub record HasPage (r : Kept) (arena : Frames) (c : Cursor) : Type 0 where
   pub decodes : Decodes c.shape (bytes_in r arena c)
   pub within : c.place % page_entries c.shape < number_at 2 10 (bytes_in r arena c)
 
--- Page p of the run is there, and the cursor has passed no later one; and if the run has no frames, it has its bytes if it has passed it.
+-- Page p of the run is there, and the cursor has passed no later one; and if the page has no frame, it has its bytes if it has passed it.
 pub record MayLoad (flash : Flash) (r : Kept) (p : ℕ) (c : Cursor) : Type 0 where
   pub exists : p < length r.firsts
   pub behind : c.loaded ≤ suc p
-  pub holds : r.leases ≡ [] → c.loaded ≡ suc p → page_at flash (page_of r p) ≡ whole c.bytes
+  pub holds : slice_get r.leases p ≡ None → c.loaded ≡ suc p → page_at flash (page_of r p) ≡ whole c.bytes
 
 -- The cursor has passed page p; pages were read at most once as it passed them, and exactly once if it skipped none.
 pub record Loads (r : Kept) (p : ℕ) (old new : BoardState) (c d : Cursor) : Type 0 where

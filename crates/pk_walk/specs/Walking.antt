@@ -1,5 +1,5 @@
 -- A walk over two write buffers and four runs: what it keeps, and what remains of it.
-use Rattle.std.specs.Prelude.{◌≡◌, ⊤, ℕ, suc, ◌+◌, ◌*◌, ◌/◌, ◌<◌, ◌≤◌, Bool, true, false, slice_get, List, [], ◌∷◌, ◌++◌, length, drop, Option, Some, None}
+use Rattle.std.specs.Prelude.{◌≡◌, ⊤, ℕ, suc, ◌+◌, ◌-◌, ◌*◌, ◌/◌, ◌<◌, ◌≤◌, Bool, true, false, slice_get, List, [], ◌∷◌, ◌++◌, length, drop, Option, Some, None}
 use Rattle.pk_base.specs.Key.{Key}
 use Rattle.pk_base.specs.Shape.{Shape, page_entries}
 use Rattle.pk_base.specs.Entry.{Entry, Place, put_entry}
@@ -89,11 +89,11 @@ pub record IsWalk (w : Walk) : Type 0 where
 
 -- ---- cursors and runs
 
--- No wanted key of the run is before the cursor but the one that it has; and if the run has no frames, it has the page of its place if it has passed it.
+-- No wanted key of the run is before the cursor but the one that it has; and if the page of its place has no frame, it has that page if it has passed it.
 pub record Follows (flash : Flash) (r : Kept) (es : List Entry) (position : Position) (c : Cursor) : Type 0 where
   pub pages : c.loaded ≤ length r.firsts
   pub behind : c.loaded ≤ suc (c.place / page_entries r.shape)
-  pub holds : r.leases ≡ [] → c.loaded ≡ suc (c.place / page_entries r.shape) → page_at flash (page_of r (c.place / page_entries r.shape)) ≡ whole c.bytes
+  pub holds : slice_get r.leases (c.place / page_entries r.shape) ≡ None → c.loaded ≡ suc (c.place / page_entries r.shape) → page_at flash (page_of r (c.place / page_entries r.shape)) ≡ whole c.bytes
   pub left : wanted (is_wanted position) es ≡ held c.head ++ wanted (is_wanted position) (drop c.place es)
   pub ended : c.head ≡ Some None → r.count ≤ c.place
   pub sure : c.has_found ≡ true → (0 < c.loaded) × ((i : ℕ) (e : Entry) → c.place ≤ i → slice_get es i ≡ Some e → IsNextWanted position c.head e)
@@ -145,10 +145,9 @@ WalkGives (Some e) (x ∷ rest) later = (entry e ≡ put_entry x.0 x.1) × (late
 
 -- ---- reads
 
--- how many pages were read at most, of n that were passed: none if they have frames
+-- how many pages were read at most, of n that were passed: none of the first ones, which have frames
 abbrev pub read_of : List ℕ → ℕ → ℕ
-read_of [] pages = pages
-read_of (lease ∷ leases) pages = 0
+read_of leases pages = pages - length leases
 
 -- of all the pages that the cursors have come past
 abbrev pub pages_read : List Kept → List Cursor → ℕ

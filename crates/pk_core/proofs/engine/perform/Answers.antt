@@ -4,7 +4,7 @@ use Rattle.pk_core.proofs.Executing.{executes_quiet}
 use Rattle.pk_call.specs.Calling.{only_looks}
 use Rattle.pk_core.proofs.Performing.{performs_looking, performs_store, performs_delete, performs_tick}
 use Rattle.pk_core.proofs.Callings.{few_for_looks}
-use Rattle.pk_parts.proofs.Callings.{few_within, few_none}
+use Rattle.pk_background.proofs.Callings.{few_within, few_none}
 use Rattle.pk_core.proofs.engine.perform.Goals as goal
 
 pub returns-in-0-clause-executes : goal.returns-in-0-clause-executes

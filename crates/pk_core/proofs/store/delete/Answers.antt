@@ -8,7 +8,7 @@ use Rattle.pk_core.proofs.Programming.{quiet_delete_behind}
 use Rattle.pk_core.proofs.Quieted.{reads_behind, whole_looked}
 use Rattle.pk_core.proofs.Callings.{spends_reads, spends_failed}
 use Rattle.pk_parts.specs.Parts.{Parts}
-use Rattle.pk_parts.proofs.StoreCalls.{spends_delete}
+use Rattle.pk_changes.proofs.StoreCalls.{spends_delete}
 use Rattle.pk_core.proofs.store.delete.Goals as goal
 
 pub delete_at-requires-clause-looked_up : goal.delete_at-requires-clause-looked_up

@@ -9,7 +9,7 @@ use Rattle.pk_core.proofs.Executing.{executes_quiet}
 use Rattle.pk_core.proofs.Served.{can_take, delete_missing, delete_came, none_read}
 use Rattle.pk_core.proofs.Whole.{take_makes_whole}
 use Rattle.pk_core.proofs.Statuses.{told_refused}
-use Rattle.pk_parts.proofs.Callings.{spends_same}
+use Rattle.pk_background.proofs.Callings.{spends_same}
 use Rattle.pk_core.proofs.store.delete_at.Goals as goal
 
 pub take_whole-answer-requires-clause-can : goal.take_whole-answer-requires-clause-can

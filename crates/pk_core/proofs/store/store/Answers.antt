@@ -10,7 +10,7 @@ use Rattle.pk_core.proofs.Quieted.{reads_behind, whole_looked}
 use Rattle.pk_core.proofs.Stored.{room_looked}
 use Rattle.pk_core.proofs.Callings.{spends_reads, spends_failed}
 use Rattle.pk_parts.specs.Parts.{Parts}
-use Rattle.pk_parts.proofs.StoreCalls.{spends_store}
+use Rattle.pk_changes.proofs.StoreCalls.{spends_store}
 use Rattle.pk_core.proofs.store.store.Goals as goal
 
 pub store_over-requires-clause-looked_up : goal.store_over-requires-clause-looked_up

@@ -10,7 +10,7 @@ use Rattle.pk_core.proofs.Executing.{executes_quiet}
 use Rattle.pk_core.proofs.Served.{short_place, can_put, store_refused, store_came, none_read}
 use Rattle.pk_core.proofs.Whole.{put_makes_whole}
 use Rattle.pk_core.proofs.Statuses.{told_refused, store_refuses}
-use Rattle.pk_parts.proofs.Callings.{spends_same}
+use Rattle.pk_background.proofs.Callings.{spends_same}
 use Rattle.pk_core.proofs.StoreCalls.{spends_stored}
 use Rattle.pk_core.proofs.store.store_over.Goals as goal
 

@@ -2,11 +2,11 @@ use Rattle.std.proofs.Common.{length, arith, sym, ap, ◌∙◌}
 use Rattle.pk_base.specs.Shape.{charge}
 use Rattle.pk_base.proofs.ShapeLemmas.{charge_most}
 use Rattle.pk_law_work.specs.Calls.{space_calls}
-use Rattle.pk_parts.specs.Spacing.{needs}
+use Rattle.pk_background.specs.Spacing.{needs}
 use Rattle.pk_core.proofs.Stored.{can_behind, room_behind, numbers_behind, stores_behind, stores_failed, stays_behind, stays_failed, fresh_behind, fresh_failed, opens_behind, space_numbers}
 use Rattle.pk_core.proofs.Stored.{store_numbers}
-use Rattle.pk_parts.proofs.Callings.{spends_within}
-use Rattle.pk_parts.proofs.StoreCalls.{spends_behind}
+use Rattle.pk_background.proofs.Callings.{spends_within}
+use Rattle.pk_changes.proofs.StoreCalls.{spends_behind}
 use Rattle.pk_core.proofs.storing.put_behind_reclaims.Goals as goal
 
 pub make_space-requires-clause-may : goal.make_space-requires-clause-may
@@ -18,59 +18,59 @@ make_space-requires-clause-number g c = space_numbers c.args.parts.now (g.B.Nand
 pub put_found-requires-clause-can : goal.put_found-requires-clause-can
 put_found-requires-clause-can g c =
     let e = c.in-Ok.ensures in (
-      can_behind c.args.parts.now c.make_space.new.self (g.B.Nand.state c.args.board.now) (g.B.Nand.state c.make_space.new.board) _ c.args.key c.args.value.now c.requires.can.0 e.stays e.none e.step,
+      can_behind c.args.parts.now c.make_space.new.parts (g.B.Nand.state c.args.board.now) (g.B.Nand.state c.make_space.new.board) _ c.args.key c.args.value.now c.requires.can.0 e.stays e.none e.step,
       c.requires.can.1 ∙ ap (λ s. charge s (length c.args.value.now)) (sym e.stays.same_shape),
     )
 
 pub put_found-requires-clause-room : goal.put_found-requires-clause-room
 put_found-requires-clause-room g c =
     let e = c.in-Ok.ensures in
-    room_behind c.args.parts.now c.make_space.new.self (g.B.Nand.state c.args.board.now) (g.B.Nand.state c.make_space.new.board) _ c.args.key c.args.value.now c.requires.can.0 e.stays e.none e.step
-    (ap (λ n. needs n c.make_space.new.self) (sym c.requires.can.1) ∙ e.room)
+    room_behind c.args.parts.now c.make_space.new.parts (g.B.Nand.state c.args.board.now) (g.B.Nand.state c.make_space.new.board) _ c.args.key c.args.value.now c.requires.can.0 e.stays e.none e.step
+    (ap (λ n. needs n c.make_space.new.parts) (sym c.requires.can.1) ∙ e.room)
 
 pub put_found-requires-clause-number : goal.put_found-requires-clause-number
 put_found-requires-clause-number g c =
     let e = c.in-Ok.ensures in
-    numbers_behind c.args.parts.now c.make_space.new.self (g.B.Nand.state c.args.board.now) (g.B.Nand.state c.make_space.new.board) _ c.args.key c.args.value.now c.requires.can.0 e.stays e.none e.step
+    numbers_behind c.args.parts.now c.make_space.new.parts (g.B.Nand.state c.args.board.now) (g.B.Nand.state c.make_space.new.board) _ c.args.key c.args.value.now c.requires.can.0 e.stays e.none e.step
     (store_numbers c.args.parts.now (g.B.Nand.state c.args.board.now) c.args.key c.args.value.now c.requires.can.0 c.requires.unworn)
 
 pub returns-in-Ok-clause-step : goal.returns-in-Ok-clause-step
 returns-in-Ok-clause-step g c =
     let e = c.in-Ok.ensures in
-    stores_behind c.args.parts.now c.make_space.new.self (g.B.Nand.state c.args.board.now) (g.B.Nand.state c.make_space.new.board) _ c.args.key c.args.value.now c.requires.can.0 e.stays e.none e.step
+    stores_behind c.args.parts.now c.make_space.new.parts (g.B.Nand.state c.args.board.now) (g.B.Nand.state c.make_space.new.board) _ c.args.key c.args.value.now c.requires.can.0 e.stays e.none e.step
     c.put_found.new.parts (g.B.Nand.state c.put_found.new.board) c.put_found.result c.put_found.ensures.step
 
 pub returns-in-Ok-clause-stays : goal.returns-in-Ok-clause-stays
-returns-in-Ok-clause-stays g c = stays_behind c.put_found.result c.args.parts.now c.make_space.new.self c.put_found.new.parts c.in-Ok.ensures.stays c.put_found.ensures.stays
+returns-in-Ok-clause-stays g c = stays_behind c.put_found.result c.args.parts.now c.make_space.new.parts c.put_found.new.parts c.in-Ok.ensures.stays c.put_found.ensures.stays
 
 pub returns-in-Ok-clause-opens : goal.returns-in-Ok-clause-opens
 returns-in-Ok-clause-opens g c =
     let e = c.in-Ok.ensures in
-    let step = stores_behind c.args.parts.now c.make_space.new.self (g.B.Nand.state c.args.board.now) (g.B.Nand.state c.make_space.new.board)
+    let step = stores_behind c.args.parts.now c.make_space.new.parts (g.B.Nand.state c.args.board.now) (g.B.Nand.state c.make_space.new.board)
     (space_calls c.args.parts.now.log.shape) c.args.key c.args.value.now c.requires.can.0 e.stays e.none e.step
     c.put_found.new.parts (g.B.Nand.state c.put_found.new.board) c.put_found.result c.put_found.ensures.step in
     opens_behind c.args.parts.now (g.B.Nand.state c.args.board.now) c.args.key c.args.value.now
     (charge c.args.parts.now.log.shape (length c.args.value.now)) c.requires.can.0 c.requires.no_room c.put_found.result c.put_found.new.parts (g.B.Nand.state c.put_found.new.board) _ step
-    (fresh_behind c.put_found.result c.args.parts.now c.make_space.new.self c.put_found.new.parts _ e.stays c.put_found.ensures.opens)
+    (fresh_behind c.put_found.result c.args.parts.now c.make_space.new.parts c.put_found.new.parts _ e.stays c.put_found.ensures.opens)
 
 pub returns-in-Err-clause-step : goal.returns-in-Err-clause-step
 returns-in-Err-clause-step g c =
-    stores_failed c.in-Err.fault c.args.parts.now c.make_space.new.self (g.B.Nand.state c.args.board.now) (g.B.Nand.state c.make_space.new.board)
+    stores_failed c.in-Err.fault c.args.parts.now c.make_space.new.parts (g.B.Nand.state c.args.board.now) (g.B.Nand.state c.make_space.new.board)
     (space_calls c.args.parts.now.log.shape) _ c.args.key c.args.value.now c.requires.can.0 (omega arith) c.in-Err.ensures.step
 
 pub returns-in-Err-clause-stays : goal.returns-in-Err-clause-stays
 returns-in-Err-clause-stays g c =
     let e = c.in-Err.ensures in
-    stays_failed c.in-Err.fault c.args.parts.now c.make_space.new.self (g.B.Nand.state c.args.board.now) c.args.key c.args.value.now c.requires.can.0 e.stays e.none
+    stays_failed c.in-Err.fault c.args.parts.now c.make_space.new.parts (g.B.Nand.state c.args.board.now) c.args.key c.args.value.now c.requires.can.0 e.stays e.none
 
 pub returns-in-Err-clause-opens : goal.returns-in-Err-clause-opens
 returns-in-Err-clause-opens g c =
     let e = c.in-Err.ensures in
-    let step = stores_failed c.in-Err.fault c.args.parts.now c.make_space.new.self (g.B.Nand.state c.args.board.now) (g.B.Nand.state c.make_space.new.board)
+    let step = stores_failed c.in-Err.fault c.args.parts.now c.make_space.new.parts (g.B.Nand.state c.args.board.now) (g.B.Nand.state c.make_space.new.board)
     (space_calls c.args.parts.now.log.shape) (space_calls c.args.parts.now.log.shape) c.args.key c.args.value.now c.requires.can.0 (omega arith) e.step in
     opens_behind c.args.parts.now (g.B.Nand.state c.args.board.now) c.args.key c.args.value.now
-    (charge c.args.parts.now.log.shape (length c.args.value.now)) c.requires.can.0 c.requires.no_room _ c.make_space.new.self (g.B.Nand.state c.make_space.new.board) _ step
-    (fresh_failed c.in-Err.fault c.args.parts.now c.make_space.new.self e.stays)
+    (charge c.args.parts.now.log.shape (length c.args.value.now)) c.requires.can.0 c.requires.no_room _ c.make_space.new.parts (g.B.Nand.state c.make_space.new.board) _ step
+    (fresh_failed c.in-Err.fault c.args.parts.now c.make_space.new.parts e.stays)
 
 pub returns-in-Ok-clause-spends : goal.returns-in-Ok-clause-spends
 returns-in-Ok-clause-spends g c = spends_behind _ _ _ _ _ c.in-Ok.ensures.stays.same_shape (length c.args.value.now) c.make_space.ensures.spends c.put_found.ensures.spends

@@ -4,7 +4,7 @@ use Rattle.pk_core.proofs.Stored.{its_drive, found_can, found_stores, found_unre
 use Rattle.pk_base.specs.Shape.{charge}
 use Rattle.pk_parts.specs.Parts.{Parts}
 use Rattle.pk_core.proofs.Callings.{spends_reads, spends_breaks}
-use Rattle.pk_parts.proofs.StoreCalls.{spends_found}
+use Rattle.pk_changes.proofs.StoreCalls.{spends_found}
 use Rattle.pk_core.proofs.storing.put_found.Goals as goal
 
 pub look-requires-clause-agrees : goal.look-requires-clause-agrees
@@ -26,15 +26,15 @@ put-requires-clause-number g c = found_numbers c.args.parts.now c.look.new.self 
 
 pub returns-in-Ok-clause-step : goal.returns-in-Ok-clause-step
 returns-in-Ok-clause-step g c =
-    found_stores c.put.result c.args.parts.now c.look.new.self c.put.new.self (g.B.Nand.state c.args.board.now)
+    found_stores c.put.result c.args.parts.now c.look.new.self c.put.new.parts (g.B.Nand.state c.args.board.now)
     (g.B.Nand.state c.look.new.board) (g.B.Nand.state c.put.new.board) c.args.key c.args.value.now c.in-Ok.old
     c.look.ensures.same c.in-Ok.ensures.looks c.in-Ok.ensures.reads c.put.ensures.step
 
 pub returns-in-Ok-clause-stays : goal.returns-in-Ok-clause-stays
-returns-in-Ok-clause-stays g c = between_from c.put.result c.args.parts.now c.look.new.self c.put.new.self c.look.ensures.same c.put.ensures.stays
+returns-in-Ok-clause-stays g c = between_from c.put.result c.args.parts.now c.look.new.self c.put.new.parts c.look.ensures.same c.put.ensures.stays
 
 pub returns-in-Ok-clause-opens : goal.returns-in-Ok-clause-opens
-returns-in-Ok-clause-opens g c = opens_looked c.put.result c.args.parts.now c.look.new.self c.put.new.self (length c.args.value.now) c.look.ensures.same c.put.ensures.opens
+returns-in-Ok-clause-opens g c = opens_looked c.put.result c.args.parts.now c.look.new.self c.put.new.parts (length c.args.value.now) c.look.ensures.same c.put.ensures.opens
 
 pub returns-in-Err-clause-step : goal.returns-in-Err-clause-step
 returns-in-Err-clause-step g c =

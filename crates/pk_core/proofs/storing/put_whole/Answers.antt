@@ -1,7 +1,7 @@
 use Rattle.std.proofs.Common.{◌∙◌, sym, ap, length, arith}
 use Rattle.pk_base.specs.Shape.{charge}
 use Rattle.pk_core.proofs.Whole.{wholes, fails_half, unworn_then, can_put_then, stores_whole, stays_whole, opens_whole, put_spends, stores_unmade, unmade_spends, puts_quietly, reads_nowhere}
-use Rattle.pk_parts.proofs.ReadSteps.{running_stopped}
+use Rattle.pk_background.proofs.ReadSteps.{running_stopped}
 use Rattle.pk_core.proofs.storing.put_whole.Goals as goal
 
 pub make_whole-requires : goal.make_whole-requires
@@ -10,7 +10,7 @@ make_whole-requires g c = record { may = record { ready = c.requires.can.0.ready
 pub put_with_space-requires-clause-can : goal.put_with_space-requires-clause-can
 put_with_space-requires-clause-can g c =
     let a = c.args.parts.now in
-    let b = c.make_whole.new.self in
+    let b = c.make_whole.new.parts in
     let s0 = g.B.Nand.state c.args.board.now in
     let s1 = g.B.Nand.state c.make_whole.new.board in
     let can = c.requires.can.0 in
@@ -20,7 +20,7 @@ put_with_space-requires-clause-can g c =
 pub put_with_space-requires-clause-unworn : goal.put_with_space-requires-clause-unworn
 put_with_space-requires-clause-unworn g c =
     let a = c.args.parts.now in
-    let b = c.make_whole.new.self in
+    let b = c.make_whole.new.parts in
     let s0 = g.B.Nand.state c.args.board.now in
     let s1 = g.B.Nand.state c.make_whole.new.board in
     let can = c.requires.can.0 in
@@ -29,7 +29,7 @@ put_with_space-requires-clause-unworn g c =
 pub returns-in-Ok-clause-step : goal.returns-in-Ok-clause-step
 returns-in-Ok-clause-step g c =
     let a = c.args.parts.now in
-    let b = c.make_whole.new.self in
+    let b = c.make_whole.new.parts in
     let s0 = g.B.Nand.state c.args.board.now in
     let s1 = g.B.Nand.state c.make_whole.new.board in
     let can = c.requires.can.0 in
@@ -39,7 +39,7 @@ returns-in-Ok-clause-step g c =
 pub returns-in-Ok-clause-stays : goal.returns-in-Ok-clause-stays
 returns-in-Ok-clause-stays g c =
     let a = c.args.parts.now in
-    let b = c.make_whole.new.self in
+    let b = c.make_whole.new.parts in
     let s0 = g.B.Nand.state c.args.board.now in
     let s1 = g.B.Nand.state c.make_whole.new.board in
     let can = c.requires.can.0 in
@@ -48,7 +48,7 @@ returns-in-Ok-clause-stays g c =
 pub returns-in-Ok-clause-opens : goal.returns-in-Ok-clause-opens
 returns-in-Ok-clause-opens g c =
     let a = c.args.parts.now in
-    let b = c.make_whole.new.self in
+    let b = c.make_whole.new.parts in
     let s0 = g.B.Nand.state c.args.board.now in
     let s1 = g.B.Nand.state c.make_whole.new.board in
     let can = c.requires.can.0 in
@@ -58,7 +58,7 @@ returns-in-Ok-clause-opens g c =
 pub returns-in-Ok-clause-spends : goal.returns-in-Ok-clause-spends
 returns-in-Ok-clause-spends g c =
     let a = c.args.parts.now in
-    let b = c.make_whole.new.self in
+    let b = c.make_whole.new.parts in
     let s0 = g.B.Nand.state c.args.board.now in
     let s1 = g.B.Nand.state c.make_whole.new.board in
     let can = c.requires.can.0 in
@@ -68,13 +68,13 @@ returns-in-Ok-clause-spends g c =
 pub returns-in-Ok-clause-programs : goal.returns-in-Ok-clause-programs
 returns-in-Ok-clause-programs g c = λ none.
     let r = c.in-Ok.ensures.rests none in
-    puts_quietly c.args.parts.now c.make_whole.new.self (g.B.Nand.state c.args.board.now) (g.B.Nand.state c.make_whole.new.board)
+    puts_quietly c.args.parts.now c.make_whole.new.parts (g.B.Nand.state c.args.board.now) (g.B.Nand.state c.make_whole.new.board)
     (g.B.Nand.state c.put_with_space.new.board) r.1 r.2 c.put_with_space.result c.args.key (length c.args.value.now) c.put_with_space.ensures.programs
 
 pub returns-in-Ok-clause-quiet : goal.returns-in-Ok-clause-quiet
 returns-in-Ok-clause-quiet g c = λ none.
     let r = c.in-Ok.ensures.rests none in
-    reads_nowhere c.args.parts.now c.make_whole.new.self (g.B.Nand.state c.args.board.now) (g.B.Nand.state c.make_whole.new.board)
+    reads_nowhere c.args.parts.now c.make_whole.new.parts (g.B.Nand.state c.args.board.now) (g.B.Nand.state c.make_whole.new.board)
     (g.B.Nand.state c.put_with_space.new.board) r.1 r.2 c.put_with_space.result c.args.key (length c.args.value.now) c.put_with_space.ensures.quiet
 
 -- ---- the second program failed
@@ -84,23 +84,23 @@ returns-in-Err-clause-step g c =
     let a = c.args.parts.now in
     let s0 = g.B.Nand.state c.args.board.now in
     let s1 = g.B.Nand.state c.make_whole.new.board in
-    let fails = fails_half c.in-Err.fault a c.make_whole.new.self s0 s1 c.in-Err.ensures.finishes c.in-Err.ensures.rests in
-    stores_unmade a s0 s1 fails.1 c.make_whole.new.self _ c.args.key c.args.value.now c.in-Err.fault fails.0
+    let fails = fails_half c.in-Err.fault a c.make_whole.new.parts s0 s1 c.in-Err.ensures.finishes c.in-Err.ensures.rests in
+    stores_unmade a s0 s1 fails.1 c.make_whole.new.parts _ c.args.key c.args.value.now c.in-Err.fault fails.0
 
 pub returns-in-Err-clause-stays : goal.returns-in-Err-clause-stays
 returns-in-Err-clause-stays g c =
     running_stopped Unit _ c.in-Err.fault
-    (fails_half c.in-Err.fault c.args.parts.now c.make_whole.new.self (g.B.Nand.state c.args.board.now) (g.B.Nand.state c.make_whole.new.board) c.in-Err.ensures.finishes c.in-Err.ensures.rests).0
+    (fails_half c.in-Err.fault c.args.parts.now c.make_whole.new.parts (g.B.Nand.state c.args.board.now) (g.B.Nand.state c.make_whole.new.board) c.in-Err.ensures.finishes c.in-Err.ensures.rests).0
 
 pub returns-in-Err-clause-opens : goal.returns-in-Err-clause-opens
 returns-in-Err-clause-opens g c =
     running_stopped Unit _ c.in-Err.fault
-    (fails_half c.in-Err.fault c.args.parts.now c.make_whole.new.self (g.B.Nand.state c.args.board.now) (g.B.Nand.state c.make_whole.new.board) c.in-Err.ensures.finishes c.in-Err.ensures.rests).0
+    (fails_half c.in-Err.fault c.args.parts.now c.make_whole.new.parts (g.B.Nand.state c.args.board.now) (g.B.Nand.state c.make_whole.new.board) c.in-Err.ensures.finishes c.in-Err.ensures.rests).0
 
 pub returns-in-Err-clause-spends : goal.returns-in-Err-clause-spends
 returns-in-Err-clause-spends g c =
     let a = c.args.parts.now in
     let s0 = g.B.Nand.state c.args.board.now in
     let s1 = g.B.Nand.state c.make_whole.new.board in
-    let fails = fails_half c.in-Err.fault a c.make_whole.new.self s0 s1 c.in-Err.ensures.finishes c.in-Err.ensures.rests in
+    let fails = fails_half c.in-Err.fault a c.make_whole.new.parts s0 s1 c.in-Err.ensures.finishes c.in-Err.ensures.rests in
     unmade_spends a s0 s1 fails.1 _ _ (omega arith)

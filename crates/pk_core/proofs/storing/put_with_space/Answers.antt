@@ -1,10 +1,10 @@
 use Rattle.std.proofs.Common.{◌∙◌, sym, ap, length, arith}
 use Rattle.pk_base.proofs.ShapeLemmas.{charge_most}
-use Rattle.pk_parts.specs.Spacing.{needs}
+use Rattle.pk_background.specs.Spacing.{needs}
 use Rattle.pk_law_work.specs.Calls.{room_calls}
 use Rattle.pk_base.specs.Shape.{charge}
 use Rattle.pk_core.proofs.Stored.{store_can, put_stores, put_numbers, reads_if_room}
-use Rattle.pk_parts.proofs.Callings.{spends_within}
+use Rattle.pk_background.proofs.Callings.{spends_within}
 use Rattle.pk_core.proofs.storing.put_with_space.Goals as goal
 
 pub put_behind_reclaims-requires-clause-can : goal.put_behind_reclaims-requires-clause-can
@@ -15,7 +15,7 @@ put-requires-clause-number g c = put_numbers c.args.parts.now (g.B.Nand.state c.
 
 pub returns-else-needs_space-clause-step : goal.returns-else-needs_space-clause-step
 returns-else-needs_space-clause-step g c =
-    put_stores c.args.parts.now (g.B.Nand.state c.args.board.now) c.args.key c.args.value.now c.args.old c.requires.can.0 c.put.result c.put.new.self
+    put_stores c.args.parts.now (g.B.Nand.state c.args.board.now) c.args.key c.args.value.now c.args.old c.requires.can.0 c.put.result c.put.new.parts
     (g.B.Nand.state c.put.new.board) (room_calls c.args.parts.now.log.shape) _ (omega arith) c.put.ensures.step
 
 pub returns-else-needs_space-clause-quiet : goal.returns-else-needs_space-clause-quiet

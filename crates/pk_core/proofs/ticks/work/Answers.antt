@@ -15,27 +15,27 @@ advance-requires g c = record {
 
 pub loop-made-preserved : goal.loop-made-preserved
 loop-made-preserved g c = ongoing_more c.args.parts.now (g.B.Nand.state c.args.board.now) c.loop-made.parts
-    (g.B.Nand.state c.loop-made.board) c.loop-made.made c.loop-made.invariant c.advance.new.self (g.B.Nand.state c.advance.new.board) c.in-Worked.ensures
+    (g.B.Nand.state c.loop-made.board) c.loop-made.made c.loop-made.invariant c.advance.new.parts (g.B.Nand.state c.advance.new.board) c.in-Worked.ensures
 
 pub returns-in-Idle-clause-steps : goal.returns-in-Idle-clause-steps
 returns-in-Idle-clause-steps g c =
-    ongoing_last c.args.parts.now (g.B.Nand.state c.args.board.now) c.loop-made.parts (g.B.Nand.state c.loop-made.board) c.loop-made.made c.loop-made.invariant c.advance.new.self
+    ongoing_last c.args.parts.now (g.B.Nand.state c.args.board.now) c.loop-made.parts (g.B.Nand.state c.loop-made.board) c.loop-made.made c.loop-made.invariant c.advance.new.parts
     (g.B.Nand.state c.advance.new.board) Idle c.in-Idle.ensures c.args.steps (omega (arith, c.loop-made-test.true))
 
 pub returns-in-Idle-clause-done : goal.returns-in-Idle-clause-done
 returns-in-Idle-clause-done g c = λ _.
     inr (ongoing_done c.args.parts.now (g.B.Nand.state c.args.board.now) c.loop-made.parts
-    (g.B.Nand.state c.loop-made.board) c.loop-made.made c.loop-made.invariant c.advance.new.self (g.B.Nand.state c.advance.new.board) c.in-Idle.ensures)
+    (g.B.Nand.state c.loop-made.board) c.loop-made.made c.loop-made.invariant c.advance.new.parts (g.B.Nand.state c.advance.new.board) c.in-Idle.ensures)
 
 pub returns-in-Idle-clause-no_more : goal.returns-in-Idle-clause-no_more
 returns-in-Idle-clause-no_more g c =
     ongoing_no_more c.args.parts.now (g.B.Nand.state c.args.board.now) c.loop-made.parts
-    (g.B.Nand.state c.loop-made.board) c.loop-made.made c.loop-made.invariant c.advance.new.self (g.B.Nand.state c.advance.new.board) Idle c.in-Idle.ensures
+    (g.B.Nand.state c.loop-made.board) c.loop-made.made c.loop-made.invariant c.advance.new.parts (g.B.Nand.state c.advance.new.board) Idle c.in-Idle.ensures
 
 pub returns-in-Fault-clause-no_more : goal.returns-in-Fault-clause-no_more
 returns-in-Fault-clause-no_more g c =
     ongoing_no_more c.args.parts.now (g.B.Nand.state c.args.board.now) c.loop-made.parts
-    (g.B.Nand.state c.loop-made.board) c.loop-made.made c.loop-made.invariant c.advance.new.self (g.B.Nand.state c.advance.new.board) (Fault c.in-Fault.stopped) c.in-Fault.ensures
+    (g.B.Nand.state c.loop-made.board) c.loop-made.made c.loop-made.invariant c.advance.new.parts (g.B.Nand.state c.advance.new.board) (Fault c.in-Fault.stopped) c.in-Fault.ensures
 
 pub returns-clause-no_more : goal.returns-clause-no_more
 returns-clause-no_more g c = λ _. let less = c.loop-made.invariant.less in omega (arith, less)
@@ -43,11 +43,11 @@ returns-clause-no_more g c = λ _. let less = c.loop-made.invariant.less in omeg
 pub returns-in-Fault-clause-moves : goal.returns-in-Fault-clause-moves
 returns-in-Fault-clause-moves g c =
     ongoing_stays c.args.parts.now (g.B.Nand.state c.args.board.now) c.loop-made.parts
-    (g.B.Nand.state c.loop-made.board) c.loop-made.made c.loop-made.invariant c.advance.new.self (g.B.Nand.state c.advance.new.board) (Fault c.in-Fault.stopped) c.in-Fault.ensures
+    (g.B.Nand.state c.loop-made.board) c.loop-made.made c.loop-made.invariant c.advance.new.parts (g.B.Nand.state c.advance.new.board) (Fault c.in-Fault.stopped) c.in-Fault.ensures
 
 pub returns-in-Fault-clause-steps : goal.returns-in-Fault-clause-steps
 returns-in-Fault-clause-steps g c =
-    ongoing_last c.args.parts.now (g.B.Nand.state c.args.board.now) c.loop-made.parts (g.B.Nand.state c.loop-made.board) c.loop-made.made c.loop-made.invariant c.advance.new.self
+    ongoing_last c.args.parts.now (g.B.Nand.state c.args.board.now) c.loop-made.parts (g.B.Nand.state c.loop-made.board) c.loop-made.made c.loop-made.invariant c.advance.new.parts
     (g.B.Nand.state c.advance.new.board) (Fault c.in-Fault.stopped) c.in-Fault.ensures c.args.steps (omega (arith, c.loop-made-test.true))
 
 pub returns-clause-steps : goal.returns-clause-steps

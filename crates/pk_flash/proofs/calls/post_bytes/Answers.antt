@@ -10,3 +10,10 @@ returns-in-Some-clause-left c = record {
   posted_is = ap (λ l. Some l) c.in-Ok-extend_from_slice.ensures.items;
   trail_is = inl (ap (λ l. Some l) c.in-Ok.ensures.marks);
 }
+
+pub returns-in-Some-clause-given : goal.returns-in-Some-clause-given
+returns-in-Some-clause-given c = record {
+  within = c.part-count.ensures.within;
+  posted_is = ap (λ l. Some l) c.in-Ok-extend_from_slice.ensures.items;
+  trail_is = inl (ap (λ l. Some l) c.in-Ok.ensures.marks);
+}

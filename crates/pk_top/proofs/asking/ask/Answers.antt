@@ -1,7 +1,8 @@
-use Rattle.std.proofs.Common.{Option, inr, subst}
+use Rattle.std.proofs.Common.{Option, subst}
 use Rattle.pk_base.specs.Shape.{Shape}
 use Rattle.pk_nand.specs.Calls.{Loaded}
 use Rattle.pk_wordrun.specs.Seen.{seen}
+use Rattle.pk_top.specs.Loads.{has_image}
 use Rattle.pk_top.proofs.Asked.{tells_ask}
 use Rattle.pk_top.proofs.asking.ask.Goals as goal
 
@@ -11,4 +12,4 @@ returns-in-Ok-Some-clause-tells g c =
     let loaded = g.B.Nand.state c.load.new.self in
     let T : Option Shape → Type 0 = λ o. Loaded before loaded o in
     tells_ask (seen c.args.task) before (g.B.Nand.state c.ask_image.new.board) c.ask_image.result.0
-    (inr (inr (inr (record { shape = c.in-Ok-Some.shape; loaded = loaded; found = subst T c.in-Ok-Some.field-0-is c.in-Ok-Some.ensures.ok; asks = c.ask_image.ensures }))))
+    (has_image (record { shape = c.in-Ok-Some.shape; loaded = loaded; found = subst T c.in-Ok-Some.field-0-is c.in-Ok-Some.ensures.ok; asks = c.ask_image.ensures }))

@@ -1,5 +1,6 @@
-use Rattle.std.proofs.Common.{◌≡◌, Option, Some, map, option_map, subst, ◌∙◌, inl, refl, sym}
+use Rattle.std.proofs.Common.{◌≡◌, Option, Some, map, option_map, subst, ◌∙◌, refl, sym}
 use Rattle.pk_top.specs.Words as spec
+use Rattle.pk_top.specs.Loads.{no_memory}
 use Rattle.pk_top.specs.Texts.{seen}
 use Rattle.pk_top.specs.declared.word.Word.{Word}
 use Rattle.pk_top.proofs.Images.{made_drive}
@@ -37,7 +38,7 @@ returns-in-Ok-Some-clause-serves_whole g c =
     whole_serve frames (g.B.Nand.state c.args.board.now) (g.B.Nand.state c.obey.new.board) c.obey.result.0 (c.obey.ensures.serves frames (cc))
 
 pub returns-in-Err-clause-serves_whole : goal.returns-in-Err-clause-serves_whole
-returns-in-Err-clause-serves_whole g c = λ frames asked. whole_serve frames (g.B.Nand.state c.args.board.now) (g.B.Nand.state c.args.board.now) 7 (inl (refl, refl))
+returns-in-Err-clause-serves_whole g c = λ frames asked. whole_serve frames (g.B.Nand.state c.args.board.now) (g.B.Nand.state c.args.board.now) 7 (no_memory refl refl)
 
 pub returns-in-Ok-Some-clause-asks_whole : goal.returns-in-Ok-Some-clause-asks_whole
 returns-in-Ok-Some-clause-asks_whole g c =
@@ -53,4 +54,4 @@ returns-in-Ok-Some-clause-asks_whole g c =
 pub returns-in-Err-clause-asks_whole : goal.returns-in-Err-clause-asks_whole
 returns-in-Err-clause-asks_whole g c = λ task asked.
     let words = map (λ w. w.now) c.args.words.now in
-    whole_ask task (few_roots task (short_within words (spec.ask task) (sym asked) task refl)) (g.B.Nand.state c.args.board.now) (g.B.Nand.state c.args.board.now) 7 (inl (refl, refl))
+    whole_ask task (few_roots task (short_within words (spec.ask task) (sym asked) task refl)) (g.B.Nand.state c.args.board.now) (g.B.Nand.state c.args.board.now) 7 (no_memory refl refl)

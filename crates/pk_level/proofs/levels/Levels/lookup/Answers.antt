@@ -1,6 +1,5 @@
-use Rattle.std.proofs.Common.{◌≡◌, ◌∙◌, ◌≤◌, ap, arith, length, subst, sym}
+use Rattle.std.proofs.Common.{◌∙◌, ◌≤◌, ap, arith, length, sym}
 use Rattle.pk_base.specs.Shape.{Shape}
-use Rattle.pk_nand.specs.Calls.{IsReady}
 use Rattle.pk_run.specs.Kept.{page_of}
 use Rattle.pk_level.proofs.Looking.{of_level_at, next_stands, Looking-next, Looking-found, Looking-failed, Looking-end, reads_found, looks_found, looks_end, unpinned_reads}
 use Rattle.pk_level.proofs.levels.Levels.lookup.Goals as goal
@@ -36,8 +35,10 @@ returns-in-Ok-Some-clause-reads g c =
 pub returns-in-Err-clause-err : goal.returns-in-Err-clause-err
 returns-in-Err-clause-err g c =
     let failed = c.in-Err.ensures.err in
+    let own = next_stands c.args.self.now.runs c.args.arena.now c.args.key.now _ _ c.loop-place.place
+    c.at.result.now c.requires.stand.0 c.loop-place.invariant.looking c.at.ensures c.requires.stand.1 in
     Looking-failed c.args.self.now.runs c.args.arena.now c.args.key.now (g.B.Nand.state c.args.board.now) (g.B.Nand.state c.loop-place.board) (g.B.Nand.state c.find.new.board) c.loop-place.place
-    (page_of c.at.result.now failed.0) c.at.result.now c.loop-place.invariant.looking c.at.ensures (unpinned_reads c.at.result.now c.args.key.now failed.0 failed.1 c.in-Err.ensures.unpinned) failed.2
+    (page_of c.at.result.now failed.0) c.at.result.now c.loop-place.invariant.looking c.at.ensures (unpinned_reads c.at.result.now own.2.leased c.in-Err.ensures.unpinned) failed.2
 
 pub loop-place-preserved : goal.loop-place-preserved
 loop-place-preserved g c =

@@ -1,7 +1,9 @@
-use Rattle.std.proofs.Common.{◌≡◌, ◌∙◌, sym, ap, refl, List, [], ℕ, true, false, arith}
+use Rattle.std.proofs.Common.{◌≡◌, ◌∙◌, sym, ap, refl, List, [], ℕ, true, false, arith, subst}
 use Rattle.std.proofs.lemmas.Result.{IfOk-weaker}
 use Rattle.std.specs.FinMap.{get, contains_key, remove}
-use Rattle.pk_base.specs.Map.{live, pages_if_some}
+use Rattle.pk_base.specs.Map.{Map, live, pages_if_some}
+use Rattle.pk_base.specs.Key.{space_of}
+use Rattle.pk_model.proofs.SpaceLemmas.{in_space-remove}
 use Rattle.pk_nvme.specs.Seen.{command_of}
 use Rattle.pk_nvme.specs.Command.{key}
 use Rattle.pk_nvme.specs.Reply.{refusal}
@@ -12,16 +14,17 @@ use Rattle.pk_model.specs.Machine.{Machine, replied, Answers}
 use Rattle.pk_model.proofs.Answering.{key_sized, key_spaced}
 use Rattle.pk_model.proofs.Machines.{refused_answer, served_answer, live_removed, turned}
 use Rattle.pk_model.proofs.machine.MapMachine.delete.Goals as goal
+use Rattle.pk_model.specs.Spaces.{in_space}
 
 pub key-key-requires-clause-some : goal.key-key-requires-clause-some
-key-key-requires-clause-some c = (key_sized c.args.self.now.shape (command_of c.args.request.now []) Delete (λ n. refl) (ap op_of c.requires.opcode) (c.requires.passed [])).some
+key-key-requires-clause-some c = (key_sized 1 c.args.self.now.shape (command_of c.args.request.now []) Delete (λ n. refl) (ap op_of c.requires.opcode) (c.requires.passed [])).some
 
 pub key-key-requires-clause-most : goal.key-key-requires-clause-most
-key-key-requires-clause-most c = (key_sized c.args.self.now.shape (command_of c.args.request.now []) Delete (λ n. refl) (ap op_of c.requires.opcode) (c.requires.passed [])).most
+key-key-requires-clause-most c = (key_sized 1 c.args.self.now.shape (command_of c.args.request.now []) Delete (λ n. refl) (ap op_of c.requires.opcode) (c.requires.passed [])).most
 
 pub key-key-requires-clause-space : goal.key-key-requires-clause-space
 key-key-requires-clause-space c =
-    let spaced = key_spaced c.args.self.now.shape (command_of c.args.request.now []) Delete (λ n. refl) (ap op_of c.requires.opcode) (c.requires.passed []) in
+    let spaced = key_spaced 1 c.args.self.now.shape (command_of c.args.request.now []) Delete (λ n k. refl) (ap op_of c.requires.opcode) (c.requires.passed []) in
     (spaced.some, spaced.most)
 
 pub returns-then-not-held-clause-ok : goal.returns-then-not-held-clause-ok
@@ -29,14 +32,18 @@ returns-then-not-held-clause-ok c =
     let gone : contains_key c.args.self.now.map (key (command_of c.args.request.now [])) ≡ false = ap (contains_key c.args.self.now.map) (sym c.key-key.ensures)
     ∙ sym c.held-held.ensures.there ∙ turned c.held-held.result.is_there true c.if-not-held.true in
     IfOk-weaker c.of_status.result (λ a. replied a ≡ refusal 0x87) (λ a. (v : List ℕ) → Answers c.args.self.now c.args.self.now (command_of c.args.request.now v) a)
-    (λ a answer v. refused_answer c.args.self.now c.args.request.now Delete 0x87 (ap op_of c.requires.opcode) c.requires.passed (λ v. ap (λ b. check b 0x87) gone) a answer v) c.of_status.ensures
+    (λ a answer v. refused_answer c.args.self.now (subst (λ (m : Machine). in_space 1 m.map ≡ m.map) c.self.view_is c.self.invariant.2) c.args.request.now Delete 0x87 (ap op_of c.requires.opcode) c.requires.passed (λ v. ap (λ b. check b 0x87) gone) a answer v) c.of_status.ensures
 
 pub invariant_of-self : goal.invariant_of-self
 invariant_of-self c =
+    let spaced = key_spaced 1 c.args.self.now.shape (command_of c.args.request.now []) Delete (λ n k. refl) (ap op_of c.requires.opcode) (c.requires.passed []) in
+    let first : space_of c.key-key.result ≡ 1 = ap space_of c.key-key.ensures ∙ omega (arith, spaced.some, spaced.most) in
     let held : c.held-held.result.pages ≡ _ = c.held-held.ensures.pages ∙ sym (ap (λ (m : Machine). pages_if_some m.shape (get m.map c.key-key.result)) c.self.view_is) in (
       live_removed c.self.inside.shape c.self.inside.map c.key-key.result c.self.inside.live c.held-held.result.pages c.self.invariant.0 held
           ∙ ap (live c.self.inside.shape) (sym c.remove.ensures),
       omega (arith, c.self.invariant.1),
+      subst (λ (m : Map). in_space 1 m ≡ m) (sym c.remove.ensures)
+          (in_space-remove 1 c.self.inside.map c.key-key.result first ∙ ap (λ (m : Map). remove m c.key-key.result) c.self.invariant.2),
     )
 
 pub returns-in-Ok-clause-ok : goal.returns-in-Ok-clause-ok
@@ -44,5 +51,5 @@ returns-in-Ok-clause-ok c = λ v.
     let there : contains_key c.args.self.now.map (key (command_of c.args.request.now [])) ≡ true = ap (contains_key c.args.self.now.map) (sym c.key-key.ensures)
     ∙ sym c.held-held.ensures.there ∙ turned c.held-held.result.is_there false c.if-not-held.false in
     let left : c.remove.new.self ≡ remove c.args.self.now.map (key (command_of c.args.request.now [])) = c.remove.ensures ∙ (λ i. remove (c.self.view_is i).map (c.key-key.ensures i)) in
-    served_answer c.args.self.now c.args.request.now Delete _ (ap op_of c.requires.opcode) c.requires.passed c.in-Ok.answer v
+    served_answer c.args.self.now (subst (λ (m : Machine). in_space 1 m.map ≡ m.map) c.self.view_is c.self.invariant.2) c.args.request.now Delete _ (ap op_of c.requires.opcode) c.requires.passed c.in-Ok.answer v
     (ap (λ b. check b 0x87) there) c.in-Ok.ensures (λ i. record { shape = (c.self.view_is i).shape; map = left i })

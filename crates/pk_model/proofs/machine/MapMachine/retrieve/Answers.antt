@@ -1,4 +1,4 @@
-use Rattle.std.proofs.Common.{◌≡◌, ◌∙◌, sym, ap, refl, List, [], ℕ, length, min, take, true, false}
+use Rattle.std.proofs.Common.{◌≡◌, ◌∙◌, sym, ap, refl, List, [], ℕ, length, min, take, true, false, subst}
 use Rattle.std.proofs.lemmas.Result.{IfOk-weaker}
 use Rattle.std.specs.Option.{option_copied}
 use Rattle.std.specs.FinMap.{get, contains_key}
@@ -9,20 +9,21 @@ use Rattle.pk_nvme.specs.Reply.{refusal}
 use Rattle.pk_nvme.specs.Opcode.{op_of}
 use Rattle.pk_nvme.specs.declared.opcode.Opcode.TheVariants.{Retrieve}
 use Rattle.pk_model.specs.Answer.{check, success}
-use Rattle.pk_model.specs.Machine.{replied, Answers}
+use Rattle.pk_model.specs.Machine.{replied, Answers, Machine}
 use Rattle.pk_model.proofs.Answering.{key_sized, key_spaced}
 use Rattle.pk_model.proofs.Machines.{refused_answer, served_answer, found_some, found_none, retrieved}
 use Rattle.pk_model.proofs.machine.MapMachine.retrieve.Goals as goal
+use Rattle.pk_model.specs.Spaces.{in_space}
 
 pub key-requires-clause-some : goal.key-requires-clause-some
-key-requires-clause-some c = (key_sized c.args.self.now.shape (command_of c.args.request.now []) Retrieve (λ n. refl) (ap op_of c.requires.opcode) (c.requires.passed [])).some
+key-requires-clause-some c = (key_sized 1 c.args.self.now.shape (command_of c.args.request.now []) Retrieve (λ n. refl) (ap op_of c.requires.opcode) (c.requires.passed [])).some
 
 pub key-requires-clause-most : goal.key-requires-clause-most
-key-requires-clause-most c = (key_sized c.args.self.now.shape (command_of c.args.request.now []) Retrieve (λ n. refl) (ap op_of c.requires.opcode) (c.requires.passed [])).most
+key-requires-clause-most c = (key_sized 1 c.args.self.now.shape (command_of c.args.request.now []) Retrieve (λ n. refl) (ap op_of c.requires.opcode) (c.requires.passed [])).most
 
 pub key-requires-clause-space : goal.key-requires-clause-space
 key-requires-clause-space c =
-    let spaced = key_spaced c.args.self.now.shape (command_of c.args.request.now []) Retrieve (λ n. refl) (ap op_of c.requires.opcode) (c.requires.passed []) in
+    let spaced = key_spaced 1 c.args.self.now.shape (command_of c.args.request.now []) Retrieve (λ n k. refl) (ap op_of c.requires.opcode) (c.requires.passed []) in
     (spaced.some, spaced.most)
 
 pub returns-in-Some : goal.returns-in-Some
@@ -32,7 +33,7 @@ returns-in-Some c =
     (option_copied c.get.result) c.in-Some.value.now got (ap option_copied c.in-Some.is) in
     IfOk-weaker c.of_parts.result (λ a. replied a ≡ success c.len.result (take c.min-size.result c.bytes-in-Some.result.now))
     (λ a. (v : List ℕ) → Answers c.args.self.now c.args.self.now (command_of c.args.request.now v) a)
-    (λ a answer v. served_answer c.args.self.now c.args.request.now Retrieve c.args.self.now (ap op_of c.requires.opcode) c.requires.passed a v
+    (λ a answer v. served_answer c.args.self.now (subst (λ (m : Machine). in_space 1 m.map ≡ m.map) c.self.view_is c.self.invariant.2) c.args.request.now Retrieve c.args.self.now (ap op_of c.requires.opcode) c.requires.passed a v
     (ap (λ q. check (contains_key c.args.self.now.map q) 0x87) (sym c.key.ensures) ∙ ap (λ b. check b 0x87) there)
     (answer ∙ retrieved c.args.self.now.map (key (command_of c.args.request.now []))
     (option_copied c.get.result) c.in-Some.value.now c.bytes-in-Some.result.now c.len.result c.min-size.result c.args.request.now.size
@@ -44,5 +45,5 @@ returns-in-None c =
     let got : option_copied c.get.result ≡ get c.args.self.now.map c.key.result = c.get.ensures ∙ ap (λ (m : Map). get m c.key.result) (ap (λ m. m.map) c.self.view_is) in
     let gone : contains_key c.args.self.now.map c.key.result ≡ false = found_none c.args.self.now.map c.key.result (option_copied c.get.result) got (ap option_copied c.in-None.is) in
     IfOk-weaker c.of_status.result (λ a. replied a ≡ refusal 0x87) (λ a. (v : List ℕ) → Answers c.args.self.now c.args.self.now (command_of c.args.request.now v) a)
-    (λ a answer v. refused_answer c.args.self.now c.args.request.now Retrieve 0x87 (ap op_of c.requires.opcode) c.requires.passed
+    (λ a answer v. refused_answer c.args.self.now (subst (λ (m : Machine). in_space 1 m.map ≡ m.map) c.self.view_is c.self.invariant.2) c.args.request.now Retrieve 0x87 (ap op_of c.requires.opcode) c.requires.passed
     (λ v. ap (λ q. check (contains_key c.args.self.now.map q) 0x87) (sym c.key.ensures) ∙ ap (λ b. check b 0x87) gone) a answer v) c.of_status.ensures

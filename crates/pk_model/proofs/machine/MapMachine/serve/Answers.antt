@@ -13,4 +13,4 @@ returns-in_default-clause-ok c =
     let unknown : op_of c.args.request.now.opcode ≡ None = search rules in
     IfOk-weaker c.of_status.result (λ a. replied a ≡ refusal 0x01) _
     (λ a answer. early_answer c.args.self.now (command_of c.args.request.now c.args.value.now) 0x01
-    (ap (fault_of c.args.self.now.shape (command_of c.args.request.now c.args.value.now)) unknown) a answer) c.of_status.ensures
+    (ap (fault_of 1 c.args.self.now.shape (command_of c.args.request.now c.args.value.now)) unknown) a answer) c.of_status.ensures

@@ -1,7 +1,8 @@
-use Rattle.std.proofs.Common.{◌≡◌, ◌≤◌, ◌∙◌, sym, ap, subst, refl, Some, None, List, [], ℕ}
+use Rattle.std.proofs.Common.{◌≡◌, ◌≤◌, ◌∙◌, sym, ap, subst, refl, arith, Some, None, List, [], ℕ}
 use Rattle.std.proofs.lemmas.Result.{IfOk-weaker}
 use Rattle.std.specs.FinMap.{get, contains_key, insert}
 use Rattle.pk_base.specs.Map.{live, pages_if_some}
+use Rattle.pk_base.specs.Key.{space_of}
 use Rattle.pk_base.specs.Shape.{limit, greatest, charge}
 use Rattle.pk_nvme.specs.Seen.{command_of}
 use Rattle.pk_nvme.specs.Reply.{refusal}
@@ -12,22 +13,28 @@ use Rattle.pk_model.specs.Machine.{Machine, replied}
 use Rattle.pk_model.proofs.Answering.{key_sized, store_sized, key_spaced}
 use Rattle.pk_model.proofs.Machines.{refused_answer, served_answer, store_late, live_stored, both_ok}
 use Rattle.pk_model.proofs.machine.MapMachine.store.Goals as goal
+use Rattle.pk_model.specs.Spaces.{in_space}
 
 pub key-key-requires-clause-some : goal.key-key-requires-clause-some
-key-key-requires-clause-some c = (key_sized c.args.self.now.shape (command_of c.args.request.now []) Store (λ n. refl) (ap op_of c.requires.opcode) (c.requires.passed [])).some
+key-key-requires-clause-some c = (key_sized 1 c.args.self.now.shape (command_of c.args.request.now []) Store (λ n. refl) (ap op_of c.requires.opcode) (c.requires.passed [])).some
 
 pub key-key-requires-clause-most : goal.key-key-requires-clause-most
-key-key-requires-clause-most c = (key_sized c.args.self.now.shape (command_of c.args.request.now []) Store (λ n. refl) (ap op_of c.requires.opcode) (c.requires.passed [])).most
+key-key-requires-clause-most c = (key_sized 1 c.args.self.now.shape (command_of c.args.request.now []) Store (λ n. refl) (ap op_of c.requires.opcode) (c.requires.passed [])).most
 
 pub key-key-requires-clause-space : goal.key-key-requires-clause-space
 key-key-requires-clause-space c =
-    let spaced = key_spaced c.args.self.now.shape (command_of c.args.request.now []) Store (λ n. refl) (ap op_of c.requires.opcode) (c.requires.passed []) in
+    let spaced = key_spaced 1 c.args.self.now.shape (command_of c.args.request.now []) Store (λ n k. refl) (ap op_of c.requires.opcode) (c.requires.passed []) in
     (spaced.some, spaced.most)
 
 pub charge-requires : goal.charge-requires
 charge-requires c =
-    let small = store_sized c.args.self.now.shape (command_of c.args.request.now []) (ap op_of c.requires.opcode) (c.requires.passed []) in
+    let small = store_sized 1 c.args.self.now.shape (command_of c.args.request.now []) (ap op_of c.requires.opcode) (c.requires.passed []) in
     subst (λ (m : Machine). c.args.request.now.size ≤ greatest m.shape) (sym c.self.view_is) small
+
+pub put-requires-clause-space : goal.put-requires-clause-space
+put-requires-clause-space c =
+    let spaced = key_spaced 1 c.args.self.now.shape (command_of c.args.request.now []) Store (λ n k. refl) (ap op_of c.requires.opcode) (c.requires.passed []) in
+    ap space_of c.key-key.ensures ∙ omega (arith, spaced.some, spaced.most)
 
 pub put-requires-clause-live : goal.put-requires-clause-live
 put-requires-clause-live c =
@@ -44,7 +51,7 @@ returns-in-Some-clause-ok c =
     (c.charge.ensures.value ∙ ap (λ (m : Machine). charge m.shape c.args.request.now.size) c.self.view_is) (c.limit-limit.ensures.value ∙ ap (λ (m : Machine). limit m.shape) c.self.view_is))
     ∙ sym c.store_fault.ensures ∙ c.in-Some.is in
     IfOk-weaker c.of_status.result (λ a. replied a ≡ refusal c.in-Some.status) _
-    (λ a answer. refused_answer c.args.self.now c.args.request.now Store c.in-Some.status (ap op_of c.requires.opcode) c.requires.passed late a answer c.args.value.now) c.of_status.ensures
+    (λ a answer. refused_answer c.args.self.now (subst (λ (m : Machine). in_space 1 m.map ≡ m.map) c.self.view_is c.self.invariant.2) c.args.request.now Store c.in-Some.status (ap op_of c.requires.opcode) c.requires.passed late a answer c.args.value.now) c.of_status.ensures
 
 pub returns-in-None-clause-ok : goal.returns-in-None-clause-ok
 returns-in-None-clause-ok c =
@@ -56,5 +63,5 @@ returns-in-None-clause-ok c =
     (c.charge.ensures.value ∙ ap (λ (m : Machine). charge m.shape c.args.request.now.size) c.self.view_is) (c.limit-limit.ensures.value ∙ ap (λ (m : Machine). limit m.shape) c.self.view_is))
     ∙ sym c.store_fault.ensures ∙ c.in-None.is in
     both_ok c.put.result _ _ _ c.put.ensures.ok c.put.ensures.left
-    (λ a answer left. served_answer c.args.self.now c.args.request.now Store _ (ap op_of c.requires.opcode) c.requires.passed a c.args.value.now late answer
+    (λ a answer left. served_answer c.args.self.now (subst (λ (m : Machine). in_space 1 m.map ≡ m.map) c.self.view_is c.self.invariant.2) c.args.request.now Store _ (ap op_of c.requires.opcode) c.requires.passed a c.args.value.now late answer
     (left ∙ ap (λ (q : List ℕ). record c.args.self.now { map = insert c.args.self.now.map q c.args.value.now }) c.key-key.ensures))

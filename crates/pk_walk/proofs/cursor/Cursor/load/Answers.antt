@@ -6,8 +6,8 @@ use Rattle.pk_walk.proofs.cursor.Cursor.load.Goals as goal
 pub returns-in-Some-clause-loads : goal.returns-in-Some-clause-loads
 returns-in-Some-clause-loads g c = record {
   cursor = search rules;
-  reads = come_pinned c.args.run.now.leases c.args.p _ _ _ (g.B.Nand.state c.args.board.now) c.in-Some.ensures;
-  all = λ come. come_pinned_all c.args.run.now.leases c.args.p _ _ _ (g.B.Nand.state c.args.board.now) c.in-Some.ensures;
+  reads = come_pinned c.args.run.now.leases c.args.p _ c.args.self.now.loaded (g.B.Nand.state c.args.board.now) c.in-Some.ensures c.requires.may.behind;
+  all = λ come. come_pinned_all c.args.run.now.leases c.args.p _ c.args.self.now.loaded (g.B.Nand.state c.args.board.now) c.in-Some.ensures c.requires.may.behind;
 }
 
 pub returns-in-Some-clause-page : goal.returns-in-Some-clause-page

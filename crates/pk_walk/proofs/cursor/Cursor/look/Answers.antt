@@ -1,4 +1,4 @@
-use Rattle.std.proofs.Common.{◌≡◌, ℕ, [], ◌/◌, suc, ap, sym, subst, ◌∙◌}
+use Rattle.std.proofs.Common.{◌≡◌, ℕ, slice_get, None, ◌/◌, suc, ap, sym, subst, ◌∙◌}
 use Rattle.pk_base.specs.Shape.{page_entries}
 use Rattle.pk_base.specs.Page.{page_at, whole}
 use Rattle.pk_nand.specs.Operations.{ReadFailed}
@@ -19,7 +19,8 @@ returns-in-Ok-clause-looks g c =
     let size : c.entries-size.result ≡ page_entries c.args.run.now.shape = c.entries-size.ensures.value ∙ ap page_entries (ap (λ (x : Cursor). x.shape) c.self.view_is ∙ c.requires.shape) in
     let page : c.self.inside.place / c.entries-size.result ≡ c.args.self.now.place / page_entries c.args.run.now.shape = λ i. ap (λ (x : Cursor). x.place) c.self.view_is i / size i in
     let moved = c.in-Ok.ensures.loads.cursor ∙ ap (λ (p : ℕ). record c.args.self.now { loaded = suc p; bytes = c.load.new.self.bytes }) page in
-    let own = subst (λ (p : ℕ). c.args.run.now.leases ≡ [] → page_at (g.B.Nand.state c.args.board.now).pages (page_of c.args.run.now p) ≡ whole c.load.new.self.bytes) page c.in-Ok.ensures.page in
+    let own = subst (λ (p : ℕ). slice_get c.args.run.now.leases p ≡ None
+    → page_at (g.B.Nand.state c.args.board.now).pages (page_of c.args.run.now p) ≡ whole c.load.new.self.bytes) page c.in-Ok.ensures.page in
     let loaded = ap (λ (x : Cursor). x.loaded) moved in
     record {
       page = page_seen c.args.run.now (g.B.Nand.state c.args.board.now).pages c.args.arena.now c.requires.follows.0 c.load.new.self
@@ -37,7 +38,8 @@ pub returns-in-Ok-clause-stays : goal.returns-in-Ok-clause-stays
 returns-in-Ok-clause-stays g c =
     let size : c.entries-size.result ≡ page_entries c.args.run.now.shape = c.entries-size.ensures.value ∙ ap page_entries (ap (λ (x : Cursor). x.shape) c.self.view_is ∙ c.requires.shape) in
     let page : c.self.inside.place / c.entries-size.result ≡ c.args.self.now.place / page_entries c.args.run.now.shape = λ i. ap (λ (x : Cursor). x.place) c.self.view_is i / size i in
-    let here = subst (λ (p : ℕ). c.args.run.now.leases ≡ [] → page_at (g.B.Nand.state c.args.board.now).pages (page_of c.args.run.now p) ≡ whole c.load.new.self.bytes) page c.in-Ok.ensures.page in
+    let here = subst (λ (p : ℕ). slice_get c.args.run.now.leases p ≡ None
+    → page_at (g.B.Nand.state c.args.board.now).pages (page_of c.args.run.now p) ≡ whole c.load.new.self.bytes) page c.in-Ok.ensures.page in
     let moved = c.in-Ok.ensures.loads.cursor ∙ ap (λ (p : ℕ). record c.args.self.now { loaded = suc p; bytes = c.load.new.self.bytes }) page in
     let exists = page_exists c.args.run.now c.args.self.now.place c.known.ensures.shape c.known.ensures.kept c.requires.exists in
     stays_loaded (g.B.Nand.state c.args.board.now).pages c.args.run.now c.args.self.now c.load.new.self c.known.ensures.shape exists here moved

@@ -1,0 +1,51 @@
+-- A background step that makes the second program of a pair, by the drive and its board.
+use Rattle.std.proofs.Common.{◌≡◌, inl, refl, ap, ◌∙◌, arith, true}
+use Rattle.pk_nand.specs.BoardState.{BoardState}
+use Rattle.pk_nand.specs.Effects.{AtMostOneCall, OneProgram, made_program}
+use Rattle.pk_pool.specs.Blocks.{IsShared}
+use Rattle.pk_log.specs.State.{LogState}
+use Rattle.pk_call.specs.declared.types.Ticked.TheVariants.{Worked, Fault}
+use Rattle.pk_parts.specs.Parts.{Parts, frames_of, is_half}
+use Rattle.pk_background.specs.Pairing.{MayFinishHalf, FinishesHalf, FailsToFinish}
+use Rattle.pk_background.specs.Ticking.{MayTick, Advances}
+use Rattle.pk_parts.proofs.Halves.{with_settled, is_whole}
+use Rattle.pk_parts.proofs.Staying.{stays_frees}
+use Rattle.pk_background.proofs.TickSteps.{its_stand, made_advances, stop_advances}
+use Rattle.pk_background.proofs.Ticking.{busy_half}
+use Rattle.pk_parts.proofs.Unchanging.{agrees_ready}
+
+-- one program is one flash operation
+program_calls : (old new : BoardState) → OneProgram old new → AtMostOneCall old new
+program_calls old new one = made_program (one.reads, one.programs, one.erases)
+
+module _ (d : Parts) (old : BoardState) (m : MayTick d old) (half : is_half d ≡ true) where
+  pub may_finish : MayFinishHalf d old
+  may_finish = record { ready = agrees_ready d old m.agrees; stands = (m.agrees.all, its_stand d old m); half = half }
+
+  module _ (d' : Parts) (new : BoardState) (shared : IsShared d.pool.shape d.pool.states) where
+    pub half_advances : FinishesHalf d d' old new → Advances d d' old new Worked
+    half_advances f =
+        let done = f.finished d.log.shape m.agrees.all (its_stand d old m) in
+        let s = done.stands in
+        let same = f.same_roots in
+        let number = ap (λ (l : LogState). l.root.number) f.log in
+        made_advances d old m d' new f.ready (program_calls old new f.program) f.works.rest (omega (arith, same))
+        (λ _. f.program) (λ _. is_whole d' s.whole) done.grows (busy_half d old m.agrees shared half)
+        (ap (λ (l : LogState). l.pending) f.log ∙ m.none)
+        (record {
+          stands = record {
+            top = s.top;
+            found = s.found;
+            without = s.without;
+            with = with_settled d' d.log.shape new.pages s.top s.found s.without m.agrees.all s.whole.settles s.with;
+            course = inl s.whole;
+          };
+          cuts = done.cuts;
+        }) f.works.no_fault (ap (λ (e : Parts). frames_of e) f.rest) (ap (λ (e : Parts). e.stopped) f.rest) (stays_frees d d' f.stays) (omega (arith, number)) f.lowers
+
+    pub half_stops : d'.log.pending ≡ d.log.pending → FailsToFinish d old new → Advances d (record d' { stopped = true }) old new (Fault true)
+    half_stops same fails =
+        let fewer = fails.no_root in
+        stop_advances d old m (record d' { stopped = true }) new fails.ready (program_calls old new fails.program) fails.stops.rest
+        (omega (arith, fewer)) (λ _. fails.program) (busy_half d old m.agrees shared half)
+        (same ∙ m.none) refl (fails.fails d.log.shape m.agrees.all (its_stand d old m)) fails.stops

@@ -1,0 +1,142 @@
+-- What one step of a merge or of a freeze does, and what a Tick promises of it.
+use Rattle.std.proofs.Common.{◌≡◌, refl, sym, ap, subst, ◌∙◌, arith, true, false, length, Result, Ok, Err}
+use Rattle.std.specs.Prelude.{IfOk, IfErr, ◌&&◌, ◌==◌}
+use Rattle.pk_base.specs.Page.{Flash}
+use Rattle.pk_nand.specs.declared.types.Fault.{Fault}
+use Rattle.pk_nand.specs.declared.types.Fault.TheVariants.{Reading, Stopped}
+use Rattle.pk_nand.specs.BoardState.{BoardState}
+use Rattle.pk_model.specs.Wear.{roots}
+use Rattle.pk_law_work.specs.Work.{work}
+use Rattle.pk_call.specs.declared.types.Ticked.TheVariants.{Worked as Goes, Fault as Fails}
+use Rattle.pk_schedule.specs.declared.phase.Stepped.{Stepped}
+use Rattle.pk_schedule.specs.declared.phase.Stepped.TheVariants.{Worked, Idle}
+use Rattle.pk_schedule.specs.Index.{Index}
+use Rattle.pk_schedule.specs.Steps.{Moves, Breaks, Unmoved, backlog_of as backlog_of_index, has_no_merge, is_between}
+use Rattle.pk_parts.specs.Parts.{Parts, frames_of, index_of, sight_of, backlog_of, may_freeze, is_half}
+use Rattle.pk_parts.specs.Moves.{StandsFor}
+use Rattle.pk_background.specs.Emptying.{MayEmpty, MergesOnce, FreezesOnce}
+use Rattle.pk_background.specs.Reclaiming.{FailsAll}
+use Rattle.pk_background.specs.Merging.{DoesMerge, FailsMerge, Merges, CannotMerge, FreezesOn}
+use Rattle.pk_background.specs.Ticking.{MayTick, Advances, WantsFreeze}
+use Rattle.pk_background.proofs.Indexing.{with_index}
+use Rattle.pk_parts.proofs.Unchanging.{agrees_ready}
+use Rattle.pk_parts.proofs.Staying.{stays_frees}
+use Rattle.pk_background.proofs.Inside.{MergeStep, FreezeDone, number_is, may_work, moved_holds, moved_many, whole_epoch, freeze_epoch, broken_fails, still_keeps}
+use Rattle.pk_background.proofs.Remaining.{merge_less, freeze_less, freeze_wanted}
+use Rattle.pk_background.proofs.Advancing.{busy_merge}
+use Rattle.pk_background.proofs.Ticking.{busy_wanted}
+use Rattle.pk_pool.specs.Blocks.{IsShared}
+use Rattle.pk_nand.specs.Calls.{IsReady}
+use Rattle.pk_background.proofs.TickSteps.{its_whole, whole_holds, whole_fails, read_grows, made_advances, unread_advances, stop_advances}
+use Rattle.pk_base.proofs.Logic.{not_both}
+
+-- ---- made by a Tick or by a command
+
+busy_of : (d : Parts) → is_between d.schedule.phase ≡ false → has_no_merge (index_of d) ≡ false
+busy_of d running = ap (λ b. b && (length d.log.frozen.entries == 0)) running
+
+-- only the job of the schedule differs, so the view of the drive is unchanged
+seen_same : (d : Parts) (x : Index) → Unmoved (index_of d) x → sight_of (with_index d x) ≡ sight_of d
+seen_same d x unmoved =
+    let same_job : Index = record (index_of d) { schedule = record d.schedule { job = x.schedule.job } } in
+    let index : backlog_of_index same_job ≡ backlog_of_index (index_of d) = ap backlog_of_index (sym unmoved.rest) ∙ unmoved.same_backlog in
+    let w : work d.log.shape (backlog_of (with_index d same_job)) ≡ work d.log.shape (backlog_of d) =
+    ap (λ b. work d.log.shape (record b { reclaim = (backlog_of d).reclaim; may_freeze = may_freeze d })) index in
+    let rest : sight_of (with_index d same_job) ≡ sight_of d = λ i. record (sight_of d) { work = w i } in
+    ap (λ y. sight_of (with_index d y)) unmoved.rest ∙ rest
+
+module _ (d : Parts) (old : BoardState) (may : MayEmpty d old) (x : Index) (new : BoardState) (freeze : x.schedule.freeze ≡ d.schedule.freeze) where
+  pub merge_does : (r : Result Stepped Fault) → MergeStep (index_of d) old x new r → (r ≡ Ok Worked → has_no_merge (index_of d) ≡ false) → IfOk r (λ s. DoesMerge d (with_index d x) old new s)
+  merge_does (Ok Idle) step works = let idle = step.idle refl in record { none = idle.0; same = ap (with_index d) idle.1; board = idle.2 }
+  merge_does (Ok Worked) step works =
+      let some = may.may.stands in
+      let work_may = may_work d old may some.0 some.1 in
+      let is = step.moves refl (frames_of d) some.1.top some.1.found some.0 work_may in
+      let less = step.less refl (frames_of d) some.1.top some.1.found some.0 work_may in
+      record {
+        holds = moved_holds d old may x new step.ready (whole_epoch d old may x new step.active) (step.moves refl);
+        grows = is.grows;
+        busy = works refl;
+        number = is.numbers;
+        less = merge_less d x (moved_many d old may x new (step.moves refl)) is.same_shape freeze step.active less.work;
+      }
+  merge_does (Err e) step works = tt
+
+  pub merge_fails : (r : Result Stepped Fault) → MergeStep (index_of d) old x new r → IfErr r (λ e. FailsMerge d (with_index d x) old new e)
+  merge_fails (Ok s) step = tt
+  merge_fails (Err Reading) step =
+      let unmoved = step.unmoved refl in
+      let rose = step.unread refl in
+      let same : new.pages ≡ old.pages = ap (λ (b : BoardState). b.pages) unmoved.1 in
+      record {
+        busy = busy_of d step.running;
+        rest = ap (with_index d) unmoved.0.rest;
+        seen = seen_same d x unmoved.0;
+        stands = λ shape m there. subst (λ (f : Flash). StandsFor (with_index d x) shape f m) same (still_keeps d old may x new unmoved.0 unmoved.1 (step.again refl) shape m there).stands;
+        only = unmoved.1;
+        read = rose.0;
+        flash = rose.1;
+      }
+  merge_fails (Err Stopped) step = let broken = step.broken refl in (busy_of d step.running, broken_fails d old may new broken.0, broken.1)
+
+module _ (d : Parts) (old : BoardState) (may : MayEmpty d old) (x : Index) (new : BoardState) where
+  pub freeze_does : Moves (index_of d) old x new → FreezeDone d old may x new → has_no_merge (index_of d) ≡ true → IsReady new d.log.shape → FreezesOn d (with_index d x) old new
+  freeze_does moves freezes merged ready =
+      let some = may.may.stands in
+      let is = moves (frames_of d) some.1.top some.1.found some.0 (may_work d old may some.0 some.1) in
+      record {
+        holds = moved_holds d old may x new ready (freeze_epoch d old may x new freezes) moves;
+        grows = is.grows;
+        number = is.numbers;
+        less = λ wants.
+            freeze_less d x merged some.1.whole.settles.whole (freeze_wanted d wants) freezes
+            (moved_many d old may x new moves) is.same_shape some.1.with.index.logs.is_shape is.stands.logs.epoch_shape;
+      }
+
+  pub freeze_fails : Breaks (index_of d) old new → FailsAll d old new
+  freeze_fails breaks = broken_fails d old may new breaks
+
+-- ---- made by a Tick
+
+module _ (d : Parts) (old : BoardState) (m : MayTick d old) (none_half : is_half d ≡ false) where
+  no_pair : {X : Type 0} → is_half d ≡ true → X
+  no_pair half = absurd (not_both (is_half d) half none_half)
+
+  pub may_empty : MayEmpty d old
+  may_empty =
+      let ready = agrees_ready d old m.agrees in
+      let there = its_whole d old m none_half in
+      let few = m.number in
+      let of_root : roots old ≡ d.log.root.number = number_is (index_of d) (frames_of d) old there.top there.found ready there.with.index in
+      record { may = record { ready = ready; stands = (m.agrees.all, there) }; none_pending = m.none; number = omega (arith, few, of_root) }
+
+  module _ (d' : Parts) (new : BoardState) where
+    pub tick_merged : MergesOnce d d' old new (Ok Worked) → Merges d d' old new → Advances d d' old new Goes
+    tick_merged once is =
+        made_advances d old m d' new once.step.ready once.calls once.step.rest once.step.roots_few no_pair no_pair is.grows (busy_merge d old old m none_half is.busy) once.none_pending
+        (whole_holds d old m d' new none_half is.holds) once.step.came.1 once.leaves.frames (ap (λ (e : Parts). e.stopped) once.leaves.rest) (stays_frees d d' once.stays) is.number is.less
+
+    pub tick_unread : MergesOnce d d' old new (Err Reading) → CannotMerge d d' old new → Advances d d' old new (Fails false)
+    tick_unread once is =
+        let number = ap (λ (e : Parts). e.log.root.number) is.rest in
+        unread_advances d old m d' new once.step.ready once.calls once.step.rest once.step.roots_few no_pair no_pair
+        (read_grows d.log.shape old new is.only) (busy_merge d old old m none_half is.busy) once.none_pending
+        is.seen (is.stands d.log.shape m.agrees.all (its_whole d old m none_half)) is.only is.read is.flash once.leaves.frames (ap (λ (e : Parts). e.stopped) once.leaves.rest)
+        (stays_frees d d' once.stays) (omega (arith, number))
+
+    pub tick_stopped : MergesOnce d d' old new (Err Stopped) → FailsMerge d d' old new Stopped → Advances d (record d' { stopped = true }) old new (Fails true)
+    tick_stopped once is =
+        stop_advances d old m (record d' { stopped = true }) new once.step.ready once.calls once.step.rest once.step.roots_few no_pair (busy_merge d old old m none_half is.0) once.none_pending refl
+        (whole_fails d old m d' new none_half is.1) is.2
+
+    pub tick_frozen : FreezesOnce d d' old new (Ok tt) → FreezesOn d d' old new → WantsFreeze d → IsShared d.pool.shape d.pool.states → Advances d d' old new Goes
+    tick_frozen once is wants shared =
+        made_advances d old m d' new once.step.ready once.calls once.step.works.rest once.step.roots_few no_pair no_pair is.grows (busy_wanted d old m.agrees shared wants) once.none_pending
+        (whole_holds d old m d' new none_half is.holds) once.step.works.no_fault once.leaves.frames
+        (ap (λ (e : Parts). e.stopped) once.leaves.rest) (stays_frees d d' once.stays) is.number (is.less wants)
+
+    pub tick_unfrozen : (e : Fault) → FreezesOnce d d' old new (Err e) → FailsAll d old new → WantsFreeze d → IsShared d.pool.shape d.pool.states
+        → Advances d (record d' { stopped = true }) old new (Fails true)
+    tick_unfrozen e once fails wants shared =
+        stop_advances d old m (record d' { stopped = true }) new once.step.ready once.calls once.step.stops.rest once.step.roots_few no_pair
+        (busy_wanted d old m.agrees shared wants) once.none_pending refl (whole_fails d old m d' new none_half fails) once.step.stops

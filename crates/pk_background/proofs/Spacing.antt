@@ -1,0 +1,185 @@
+-- What remains of the reclaims inside a Store, and how one of their steps lowers it.
+use Rattle.std.proofs.Common.{◌≡◌, ◌⊎◌, inl, inr, ℕ, ◌+◌, ◌-◌, ◌≤◌, Bool, true, false, refl, sym, ap, subst, ◌∙◌, arith, nat_le}
+use Rattle.std.specs.Prelude.{◌&&◌, not}
+use Rattle.std.proofs.lemmas.Bool.{le-leb}
+use Rattle.pk_base.specs.Shape.{Shape, data_blocks, most_pages}
+use Rattle.pk_plan.specs.declared.owner.Owner.TheVariants.{Values}
+use Rattle.pk_pool.specs.Blocks.{used_by}
+use Rattle.pk_pool.specs.Unready.{unready}
+use Rattle.pk_law_work.specs.Rest.{whole_reclaim, left_of, Lowers}
+use Rattle.pk_law_work.specs.Calls.{room_calls, room_roots}
+use Rattle.std.specs.Prelude.{unwrap_or}
+use Rattle.pk_gc.specs.declared.course.Phase.{Phase}
+use Rattle.pk_gc.specs.declared.course.Phase.TheVariants.{Idle, Copies, Commits, GivesBack}
+use Rattle.pk_gc.specs.State.{left_in}
+use Rattle.pk_gc.specs.Stepping.{runs_in}
+use Rattle.pk_log.specs.State.{LogState}
+use Rattle.pk_values.specs.State.{fits_open, needs_reclaim}
+use Rattle.pk_parts.specs.Parts.{Parts}
+use Rattle.pk_reclaim.specs.Space.{HasRoom as HasSpace}
+use Rattle.pk_reclaim.specs.Steps.{RoomBehind}
+use Rattle.pk_background.specs.Reclaiming.{RunsOn, is_tight_for, space_of}
+use Rattle.pk_background.specs.Spacing.{where_so, needs, steps_for, has_moves}
+
+no_yes : false ≡ true → ⊥
+no_yes e = cc
+
+-- what remains when the reclaim has come this far
+abbrev pub left_at : Phase → ℕ → Parts → ℕ
+left_at p count d = steps_for p count d + where_so (has_moves p count d && is_tight_for d) (room_calls d.log.shape)
+
+-- and how many roots
+abbrev pub roots_at : Phase → ℕ → Parts → ℕ
+roots_at p count d = where_so (has_moves p count d && is_tight_for d) room_roots
+
+-- from one point to a later one less remains
+abbrev pub FallsTo : Phase → Parts → Phase → Parts → Type 0
+FallsTo p b q c =
+    Lowers (left_of (whole_reclaim b.log.shape - 2) (left_in b.log.shape b.values.live.heads p)) (unready b.pool.states) (unwrap_or (left_in c.log.shape c.values.live.heads q) 0) (unready c.pool.states)
+
+-- a reclaim runs, or is to run
+abbrev pub AwaitsAt : Phase → ℕ → Parts → Type 0
+AwaitsAt p count d = (runs_in p ≡ true) ⊎ (needs count d ≡ true)
+
+tight_same : (b c : Parts) → c.log ≡ b.log → is_tight_for c ≡ is_tight_for b
+tight_same b c same = ap (λ (l : LogState). is_tight_for (record b { log = l })) same
+
+module _ (count : ℕ) (b c : Parts) (same_shape : c.log.shape ≡ b.log.shape) (most : count ≤ most_pages b.log.shape) where
+  has_room : HasSpace (space_of c) → needs count c ≡ false
+  has_room values = values count (subst (λ (s : Shape). count ≤ most_pages s) (sym same_shape) most)
+
+  -- ---- a step of a reclaim that runs on
+
+  pub works_less : (p q : Phase) → AwaitsAt p count b → FallsTo p b q c → RunsOn q b c → 1 + left_at q count c ≤ left_at p count b
+  works_less p Idle awaits falls on = absurd on
+  works_less Idle (Copies d) (inl runs) falls on = absurd (no_yes runs)
+  works_less Idle (Copies d) (inr wanted) falls on =
+      let less = falls.less in
+      let ready = falls.none_ready in
+      let tight : where_so (is_tight_for c) (room_calls c.log.shape) ≡ where_so (is_tight_for b) (room_calls b.log.shape) = λ i. where_so (tight_same b c on i) (room_calls (same_shape i)) in
+      let steps : where_so (needs count b) (whole_reclaim b.log.shape - 1) ≡ whole_reclaim b.log.shape - 1 = ap (λ x. where_so x (whole_reclaim b.log.shape - 1)) wanted in
+      let moves : where_so (needs count b && is_tight_for b) (room_calls b.log.shape) ≡ where_so (is_tight_for b)
+      (room_calls b.log.shape) = ap (λ x. where_so (x && is_tight_for b) (room_calls b.log.shape)) wanted in
+      omega (arith, less, ready, tight, steps, moves)
+  works_less (Copies e) (Copies d) awaits falls on =
+      let less = falls.less in
+      let ready = falls.none_ready in
+      let tight : where_so (is_tight_for c) (room_calls c.log.shape) ≡ where_so (is_tight_for b) (room_calls b.log.shape) = λ i. where_so (tight_same b c on i) (room_calls (same_shape i)) in
+      omega (arith, less, ready, tight)
+  works_less (Commits victim) (Copies d) awaits falls on =
+      let less = falls.less in
+      let ready = falls.none_ready in
+      absurd (omega (arith, less, ready))
+  works_less (GivesBack victim) (Copies d) awaits falls on =
+      let less = falls.less in
+      let ready = falls.none_ready in
+      absurd (omega (arith, less, ready))
+  works_less Idle (Commits other) (inl runs) falls on = absurd (no_yes runs)
+  works_less Idle (Commits other) (inr wanted) falls on =
+      let steps : where_so (needs count b) (whole_reclaim b.log.shape - 1) ≡ whole_reclaim b.log.shape - 1 = ap (λ x. where_so x (whole_reclaim b.log.shape - 1)) wanted in
+      omega (arith, steps)
+  works_less (Copies e) (Commits other) awaits falls on = omega arith
+  works_less (Commits victim) (Commits other) awaits falls on =
+      let less = falls.less in
+      let ready = falls.none_ready in
+      absurd (omega (arith, less, ready))
+  works_less (GivesBack victim) (Commits other) awaits falls on =
+      let less = falls.less in
+      let ready = falls.none_ready in
+      absurd (omega (arith, less, ready))
+  works_less Idle (GivesBack other) (inl runs) falls on = absurd (no_yes runs)
+  works_less Idle (GivesBack other) (inr wanted) falls on =
+      let steps : where_so (needs count b) (whole_reclaim b.log.shape - 1) ≡ whole_reclaim b.log.shape - 1 = ap (λ x. where_so x (whole_reclaim b.log.shape - 1)) wanted in
+      let none : where_so (needs count c) (whole_reclaim c.log.shape - 1) ≡ 0 = ap (λ x. where_so x (whole_reclaim c.log.shape - 1)) (has_room on) in
+      let moves : where_so (needs count c && is_tight_for c) (room_calls c.log.shape) ≡ 0 = ap (λ x. where_so (x && is_tight_for c) (room_calls c.log.shape)) (has_room on) in
+      omega (arith, steps, none, moves)
+  works_less (Copies e) (GivesBack other) awaits falls on =
+      let none : where_so (needs count c) (whole_reclaim c.log.shape - 1) ≡ 0 = ap (λ x. where_so x (whole_reclaim c.log.shape - 1)) (has_room on) in
+      let moves : where_so (needs count c && is_tight_for c) (room_calls c.log.shape) ≡ 0 = ap (λ x. where_so (x && is_tight_for c) (room_calls c.log.shape)) (has_room on) in
+      omega (arith, none, moves)
+  works_less (Commits victim) (GivesBack other) awaits falls on =
+      let none : where_so (needs count c) (whole_reclaim c.log.shape - 1) ≡ 0 = ap (λ x. where_so x (whole_reclaim c.log.shape - 1)) (has_room on) in
+      let moves : where_so (needs count c && is_tight_for c) (room_calls c.log.shape) ≡ 0 = ap (λ x. where_so (x && is_tight_for c) (room_calls c.log.shape)) (has_room on) in
+      omega (arith, none, moves)
+  works_less (GivesBack victim) (GivesBack other) awaits falls on =
+      let less = falls.less in
+      let ready = falls.none_ready in
+      absurd (omega (arith, less, ready))
+
+  -- no more roots
+  pub works_roots : (p q : Phase) → AwaitsAt p count b → FallsTo p b q c → RunsOn q b c → roots_at q count c ≤ roots_at p count b
+  works_roots p Idle awaits falls on = absurd on
+  works_roots Idle (Copies d) (inl runs) falls on = absurd (no_yes runs)
+  works_roots Idle (Copies d) (inr wanted) falls on =
+      let tight : where_so (is_tight_for c) room_roots ≡ where_so (is_tight_for b) room_roots = ap (λ t. where_so t room_roots) (tight_same b c on) in
+      let moves : where_so (needs count b && is_tight_for b) room_roots ≡ where_so (is_tight_for b) room_roots = ap (λ x. where_so (x && is_tight_for b) room_roots) wanted in
+      omega (arith, tight, moves)
+  works_roots (Copies e) (Copies d) awaits falls on =
+      let tight : where_so (is_tight_for c) room_roots ≡ where_so (is_tight_for b) room_roots = ap (λ t. where_so t room_roots) (tight_same b c on) in
+      omega (arith, tight)
+  works_roots (Commits victim) (Copies d) awaits falls on =
+      let less = falls.less in
+      let ready = falls.none_ready in
+      absurd (omega (arith, less, ready))
+  works_roots (GivesBack victim) (Copies d) awaits falls on =
+      let less = falls.less in
+      let ready = falls.none_ready in
+      absurd (omega (arith, less, ready))
+  works_roots p (Commits other) awaits falls on = omega arith
+  works_roots p (GivesBack other) awaits falls on =
+      let none : where_so (needs count c && is_tight_for c) room_roots ≡ 0 = ap (λ x. where_so (x && is_tight_for c) room_roots) (has_room on) in
+      omega (arith, none)
+
+  -- ---- one that ends it
+
+  full_needs : (used : ℕ) (fits : Bool) → data_blocks b.log.shape - 1 ≤ used → not fits && nat_le (data_blocks b.log.shape - 1) used ≡ not fits
+  full_needs used fits full = ap (λ x. not fits && x) (le-leb (data_blocks b.log.shape - 1) used full) ∙ both (not fits)
+    where
+      both : (x : Bool) → (x && true) ≡ x
+      both true = refl
+      both false = refl
+
+  -- a value needs a reclaim as before, if a block is freed
+  needs_same : (victim : ℕ) → (runs_in (GivesBack victim) ≡ true → used_by Values b.pool.states ≡ data_blocks b.log.shape)
+      → used_by Values c.pool.states + 1 ≡ used_by Values b.pool.states → RoomBehind (GivesBack victim) (space_of b) (space_of c) → needs count c ≡ needs count b
+  needs_same victim full given from =
+      let all = full refl in
+      let before : needs count b ≡ not (fits_open b.log.shape b.values count) = full_needs (used_by Values b.pool.states) (fits_open b.log.shape b.values count) (omega (arith, all)) in
+      let after : needs_reclaim b.log.shape b.values c.pool count ≡ not (fits_open b.log.shape b.values count) = full_needs
+      (used_by Values c.pool.states) (fits_open b.log.shape b.values count) (omega (arith, all, given)) in
+      (λ i. needs_reclaim (same_shape i) (from.1 i) c.pool count) ∙ (after ∙ sym before)
+
+  pub ends_less : (p : Phase) → AwaitsAt p count b → (runs_in p ≡ true → used_by Values b.pool.states ≡ data_blocks b.log.shape) → used_by Values c.pool.states + 1 ≡ used_by Values b.pool.states
+      → RoomBehind p (space_of b) (space_of c) → 1 + left_at Idle count c ≤ left_at p count b
+  ends_less Idle (inl runs) full given from = absurd (no_yes runs)
+  ends_less Idle (inr wanted) full given from =
+      let steps : where_so (needs count b) (whole_reclaim b.log.shape - 1) ≡ whole_reclaim b.log.shape - 1 = ap (λ x. where_so x (whole_reclaim b.log.shape - 1)) wanted in
+      let none : where_so (needs count c) (whole_reclaim c.log.shape - 1) ≡ 0 = ap (λ x. where_so x (whole_reclaim c.log.shape - 1)) (has_room from) in
+      let moves : where_so (needs count c && is_tight_for c) (room_calls c.log.shape) ≡ 0 = ap (λ x. where_so (x && is_tight_for c) (room_calls c.log.shape)) (has_room from) in
+      omega (arith, steps, none, moves)
+  ends_less (Copies e) awaits full given from =
+      let none : where_so (needs count c) (whole_reclaim c.log.shape - 1) ≡ 0 = ap (λ x. where_so x (whole_reclaim c.log.shape - 1)) (has_room from) in
+      let moves : where_so (needs count c && is_tight_for c) (room_calls c.log.shape) ≡ 0 = ap (λ x. where_so (x && is_tight_for c) (room_calls c.log.shape)) (has_room from) in
+      omega (arith, none, moves)
+  ends_less (Commits victim) awaits full given from = absurd from
+  ends_less (GivesBack victim) awaits full given from =
+      let same = needs_same victim full given from in
+      let steps : where_so (needs count c) (whole_reclaim c.log.shape - 1) ≡ where_so (needs count b) (whole_reclaim b.log.shape - 1) = λ i. where_so (same i) (whole_reclaim (same_shape i) - 1) in
+      let moves : where_so (needs count c && is_tight_for c) (room_calls c.log.shape) ≡ where_so (needs count b && is_tight_for b)
+      (room_calls b.log.shape) = λ i. where_so (same i && tight_same b c from.0 i) (room_calls (same_shape i)) in
+      omega (arith, steps, moves)
+
+  -- no more roots
+  pub ends_roots : (p : Phase) → AwaitsAt p count b → (runs_in p ≡ true → used_by Values b.pool.states ≡ data_blocks b.log.shape) → used_by Values c.pool.states + 1 ≡ used_by Values b.pool.states
+      → RoomBehind p (space_of b) (space_of c) → roots_at Idle count c ≤ roots_at p count b
+  ends_roots Idle awaits full given from =
+      let none : where_so (needs count c && is_tight_for c) room_roots ≡ 0 = ap (λ x. where_so (x && is_tight_for c) room_roots) (has_room from) in
+      omega (arith, none)
+  ends_roots (Copies e) awaits full given from =
+      let none : where_so (needs count c && is_tight_for c) room_roots ≡ 0 = ap (λ x. where_so (x && is_tight_for c) room_roots) (has_room from) in
+      omega (arith, none)
+  ends_roots (Commits victim) awaits full given from = absurd from
+  ends_roots (GivesBack victim) awaits full given from =
+      let same = needs_same victim full given from in
+      let moves : where_so (needs count c && is_tight_for c) room_roots ≡ where_so (needs count b && is_tight_for b) room_roots = λ i. where_so (same i && tight_same b c from.0 i) room_roots in
+      omega (arith, moves)

@@ -1,0 +1,174 @@
+-- From what one background step did to what a Tick promises.
+use Rattle.std.proofs.Common.{◌≡◌, inl, ◌+◌, ◌<◌, ◌≤◌, sym, ap, subst, ◌∙◌, arith, refl, true, false, List, [], Ok}
+use Rattle.pk_base.specs.Shape.{Shape}
+use Rattle.pk_base.specs.Page.{Flash, page_at}
+use Rattle.pk_rootfmt.specs.Newest.{newest_root}
+use Rattle.pk_base.specs.Entry.{Entry}
+use Rattle.pk_nand.specs.BoardState.{BoardState, shape_or_none}
+use Rattle.pk_nand.specs.Calls.{IsReady, Rose}
+use Rattle.pk_nand.specs.Effects.{AtMostOneCall, OneProgram, NoFault, OnlyFlash, OnlyReading, Stops}
+use Rattle.pk_nand.proofs.Reaching.{Reached-start}
+use Rattle.pk_model.specs.Growth.{Grows, Reaches, Goes}
+use Rattle.pk_model.specs.Wear.{roots}
+use Rattle.pk_model.specs.Crashes.{CrashFinds, background}
+use Rattle.pk_model.specs.Reading.{reading}
+use Rattle.pk_model.specs.Sight.{IsIdle}
+use Rattle.pk_call.specs.Drive.{HoldsMap}
+use Rattle.pk_call.specs.declared.types.Ticked.TheVariants.{Worked, Fault}
+use Rattle.pk_parts.specs.Parts.{Parts, frames_of, sight_of, is_half}
+use Rattle.pk_parts.specs.Moves.{StandsFor, StandsBetween}
+use Rattle.pk_parts.specs.Staying.{StaysOrFrees}
+use Rattle.pk_background.specs.Reclaiming.{ReclaimHolds, HoldsAll, FailsAll}
+use Rattle.pk_background.specs.Ticking.{MayTick, Advances}
+use Rattle.pk_parts.proofs.Unchanging.{for_its_map, agrees_ready}
+use Rattle.pk_parts.proofs.Halves.{stands as whole_stands}
+use Rattle.pk_parts.proofs.Standing.{agrees_so, agrees_between, reads_as, reads_between, stands_between}
+use Rattle.pk_background.proofs.Ticking.{worked_fine, stopped_fine, stopped_idle, stopped_worked, worked_idle}
+
+true_false : true ≡ false → ⊥
+true_false e = cc
+
+false_true : false ≡ true → ⊥
+false_true e = cc
+
+-- reads leave the tree
+pub read_grows : (shape : Shape) (old new : BoardState) → OnlyReading old new → Grows shape old.pages new.pages
+read_grows shape old new only = inl (ap (λ (f : Flash). newest_root shape (page_at f)) (ap (λ (b : BoardState). b.pages) only))
+
+module _ (d : Parts) (old : BoardState) (m : MayTick d old) where
+  -- the map that the drive represents
+  pub its_stand : StandsBetween d d.log.shape old.pages m.agrees.all
+  its_stand = stands_between d old.shape old.pages m.agrees
+
+  pub its_whole : is_half d ≡ false → StandsFor d d.log.shape old.pages m.agrees.all
+  its_whole none = whole_stands d d.log.shape old.pages m.agrees.all its_stand none
+
+  -- of a drive of which no pair is half made
+  pub whole_holds : (d' : Parts) (new : BoardState) → is_half d ≡ false → HoldsAll d d' old new → ReclaimHolds d' d.log.shape m.agrees.all old new
+  whole_holds d' new none holds = holds d.log.shape m.agrees.all (its_whole none)
+
+  pub whole_fails : (d' : Parts) (new : BoardState) → is_half d ≡ false → FailsAll d old new → Goes d.log.shape old new (CrashFinds d.log.shape background old.pages m.agrees.all)
+  whole_fails d' new none fails = fails d.log.shape m.agrees.all (its_whole none)
+
+  module _ (d' : Parts) (new : BoardState) (ready : IsReady new d.log.shape) (calls : AtMostOneCall old new) (rest : OnlyFlash old new)
+      (installs : roots new ≤ roots old + 1) (repeats : is_half d ≡ true → OneProgram old new) where
+    grown : Grows d.log.shape old.pages new.pages → Grows (shape_or_none old.shape) old.pages new.pages
+    grown grows = subst (λ o. Grows (shape_or_none o) old.pages new.pages) (sym (agrees_ready d old m.agrees).shape_is) grows
+
+    -- a step that worked: the map is unchanged, and less work remains
+    pub made_advances : (is_half d ≡ true → is_half d' ≡ false) → Grows d.log.shape old.pages new.pages
+        → (IsIdle d.log.shape old.pages (sight_of d) → ⊥) → d'.log.pending ≡ [] → ReclaimHolds d' d.log.shape m.agrees.all old new
+        → NoFault old new → frames_of d' ≡ frames_of d → d'.stopped ≡ d.stopped → StaysOrFrees d d'
+        → d'.log.root.number ≤ d.log.root.number + 1 → (sight_of d').work < (sight_of d).work → Advances d d' old new Worked
+    made_advances finishes grows busy none here sound frames stopped frees number less =
+        record {
+          ticks = record {
+            stands = λ _. for_its_map d old m.agrees (λ s f x. HoldsMap s f new (sight_of d') x)
+                (record { shape_is = ready.shape_is; frames_is = frames; map_is = reads_between d' d.log.shape new.pages m.agrees.all here.stands });
+            cuts = λ _. for_its_map d old m.agrees (λ s f x. Reaches s old new (CrashFinds s background old.pages x)) here.cuts;
+            cuts_stopped = λ e. absurd (false_true e);
+            idle_rests = λ e. absurd (worked_idle e);
+            unmade = λ e. absurd (worked_fine e);
+            grows = λ _. grown grows;
+            rest = rest;
+            calls = calls;
+            unread = λ e. absurd (worked_fine e);
+            up = (let e = sound.1 in omega (arith, e));
+            flash_up = λ _. (let e = sound.0 in omega (arith, e));
+            worked = λ _. sound;
+            stop = λ e. absurd (false_true e);
+            no_stop = λ _. sound.2;
+            installs = installs;
+          };
+          stops = stopped ∙ m.unstopped;
+          none = none;
+          agrees = λ _. agrees_between d' new.shape d.log.shape new.pages m.agrees.all ready.shape_is here.stands;
+          moves = λ _. frees;
+          repeats = repeats;
+          finishes = λ half _. finishes half;
+          number = λ _. number;
+          lowers = λ _. less;
+          idle = λ e. absurd (worked_idle e);
+          busy = λ idle. absurd (busy idle);
+        }
+
+    -- a step of which a read failed: the state of the drive is unchanged
+    pub unread_advances : (is_half d ≡ true → is_half d' ≡ false) → Grows d.log.shape old.pages new.pages → (IsIdle d.log.shape old.pages (sight_of d) → ⊥)
+        → d'.log.pending ≡ [] → sight_of d' ≡ sight_of d → StandsFor d' d.log.shape old.pages m.agrees.all → OnlyReading old new → Rose old.read_faults new.read_faults
+        → Rose old.flash_faults new.flash_faults
+        → frames_of d' ≡ frames_of d → d'.stopped ≡ d.stopped → StaysOrFrees d d' → d'.log.root.number ≤ d.log.root.number + 1 → Advances d d' old new (Fault false)
+    unread_advances finishes grows busy none seen stands only rose flash frames stopped frees number =
+        let counted = m.counted in
+        let pages_same : new.pages ≡ old.pages = ap (λ (b : BoardState). b.pages) only in
+        let S : Flash → Type 0 = λ f. StandsFor d' d.log.shape f m.agrees.all in
+        let still : StandsFor d' d.log.shape new.pages m.agrees.all = subst S (sym pages_same) stands in
+        record {
+          ticks = record {
+            stands = λ _. for_its_map d old m.agrees (λ s f x. HoldsMap s f new (sight_of d') x)
+                (record { shape_is = ready.shape_is; frames_is = frames; map_is = reads_as d' d.log.shape new.pages m.agrees.all still });
+            cuts = λ _. for_its_map d old m.agrees (λ s f x. Reaches s old new (CrashFinds s background old.pages x)) (
+              [],
+              Reached-start old new (CrashFinds d.log.shape background old.pages m.agrees.all) (ap (λ (b : BoardState). b.shape) only) pages_same
+                  (ap (λ (b : BoardState). b.trail) only) (ap (λ (b : BoardState). b.posted) only)
+                  (refl, subst (λ (es : List Entry). reading d.log.shape old.pages es ≡ Ok m.agrees.all) m.none (reads_between d d.log.shape old.pages m.agrees.all its_stand)),
+              tt,
+            );
+            cuts_stopped = λ e. absurd (false_true e);
+            idle_rests = λ e. absurd (stopped_idle false e);
+            unmade = λ _. (seen, only);
+            grows = λ _. grown grows;
+            rest = rest;
+            calls = calls;
+            unread = λ _. rose;
+            up = omega (arith, rose, counted);
+            flash_up = λ few. omega (arith, flash, few);
+            worked = λ e. absurd (stopped_worked false e);
+            stop = λ e. absurd (false_true e);
+            no_stop = λ _. ap (λ (b : BoardState). b.stop_faults) only;
+            installs = installs;
+          };
+          stops = stopped ∙ m.unstopped;
+          none = none;
+          agrees = λ _. agrees_so d' new.shape d.log.shape new.pages m.agrees.all ready.shape_is still;
+          moves = λ _. frees;
+          repeats = repeats;
+          finishes = λ half _. finishes half;
+          number = λ _. number;
+          lowers = λ e. absurd (stopped_worked false e);
+          idle = λ e. absurd (stopped_idle false e);
+          busy = λ idle. absurd (busy idle);
+        }
+
+    -- a step that stopped the drive
+    pub stop_advances : (IsIdle d.log.shape old.pages (sight_of d) → ⊥) → d'.log.pending ≡ [] → d'.stopped ≡ true
+        → Goes d.log.shape old new (CrashFinds d.log.shape background old.pages m.agrees.all) → Stops old new
+        → Advances d d' old new (Fault true)
+    stop_advances busy none stopped goes stops = record {
+      ticks = record {
+        stands = λ e. absurd (true_false e);
+        cuts = λ e. absurd (true_false e);
+        cuts_stopped = λ _. for_its_map d old m.agrees (λ s f x. Goes s old new (CrashFinds s background old.pages x)) goes;
+        idle_rests = λ e. absurd (stopped_idle true e);
+        unmade = λ e. absurd (stopped_fine e);
+        grows = λ e. absurd (true_false e);
+        rest = rest;
+        calls = calls;
+        unread = λ e. absurd (stopped_fine e);
+        up = (let e = stops.read in omega (arith, e));
+        flash_up = λ few. (let e = stops.flash in omega (arith, e, few));
+        worked = λ e. absurd (stopped_worked true e);
+        stop = λ _. stops.stop;
+        no_stop = λ e. absurd (true_false e);
+        installs = installs;
+      };
+      stops = stopped;
+      none = none;
+      agrees = λ e. absurd (true_false e);
+      moves = λ e. absurd (true_false e);
+      repeats = repeats;
+      finishes = λ half e. absurd (true_false e);
+      number = λ e. absurd (true_false e);
+      lowers = λ e. absurd (stopped_worked true e);
+      idle = λ e. absurd (stopped_idle true e);
+      busy = λ idle. absurd (busy idle);
+    }

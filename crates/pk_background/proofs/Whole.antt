@@ -1,0 +1,394 @@
+-- A step of merges or of a freeze with the second program of the root whose first one it made.
+use Rattle.std.proofs.Common.{◌≡◌, inl, inr, ℕ, ◌+◌, ◌<◌, ◌≤◌, refl, sym, ap, subst, ◌∙◌, arith, Bool, true, false, ◌||◌, if◌then◌else◌, Result, Ok, Err}
+use Rattle.pk_base.specs.Shape.{Shape}
+use Rattle.pk_nand.specs.declared.types.Fault.{Fault}
+use Rattle.pk_nand.specs.declared.types.Fault.TheVariants.{Reading, Stopped}
+use Rattle.pk_nand.specs.BoardState.{BoardState}
+use Rattle.pk_nand.specs.Calls.{IsReady, Rose}
+use Rattle.pk_nand.specs.Effects.{NoFault, Stops}
+use Rattle.pk_nand.proofs.Effects.{works_then, stops_then, only_then}
+use Rattle.pk_model.specs.Wear.{roots}
+use Rattle.pk_root.specs.Installing.{repeats_next}
+use Rattle.pk_law_work.specs.Backlog.{due_level}
+use Rattle.pk_law_work.specs.Work.{merging_left, repeating}
+use Rattle.pk_log.specs.State.{LogState}
+use Rattle.pk_schedule.specs.declared.phase.Stepped.{Stepped}
+use Rattle.pk_schedule.specs.declared.phase.Stepped.TheVariants.{Worked, Idle}
+use Rattle.pk_schedule.specs.Steps.{FreezeMoves, Freezes, backlog_of}
+use Rattle.pk_gc.specs.State.{JobState}
+use Rattle.pk_parts.specs.Parts.{Parts, frames_of, index_of, is_half, commits_in}
+use Rattle.pk_parts.specs.Moves.{StandsBetween, MayCommit, LeavesValues}
+use Rattle.pk_background.specs.Emptying.{ReadsUpTo, Halts, MayEmpty, MergesOnce, MergesWhole, FreezesOnce, FreezesWhole, merges_left, merges_due}
+use Rattle.pk_background.specs.Pairing.{FinishesRoot, FailsToFinish, SettlesOr}
+use Rattle.pk_background.proofs.Callings.{few_one, few_program, few_then}
+use Rattle.pk_parts.proofs.Halves.{not_made}
+use Rattle.pk_parts.proofs.Keeping.{KeepsAll-none, keeps_whole}
+use Rattle.pk_background.proofs.Completing.{KeepsAll-finished, BreaksAll-finished}
+use Rattle.pk_parts.proofs.Staying.{stays_then}
+use Rattle.pk_background.proofs.Steps.{leaves_twice}
+use Rattle.pk_base.proofs.Logic.{not_both}
+
+worked_idle : {E : Type 0} → ◌≡◌ {A = Result Stepped E} (Ok Worked) (Ok Idle) → ⊥
+worked_idle e = cc
+
+idle_worked : {E : Type 0} → ◌≡◌ {A = Result Stepped E} (Ok Idle) (Ok Worked) → ⊥
+idle_worked e = cc
+
+err_worked : {E : Type 0} (f : E) → ◌≡◌ {A = Result Stepped E} (Err f) (Ok Worked) → ⊥
+err_worked f e = cc
+
+err_idle : {E : Type 0} (f : E) → ◌≡◌ {A = Result Stepped E} (Err f) (Ok Idle) → ⊥
+err_idle f e = cc
+
+true_false_ok : {E : Type 0} (x : Bool) → x ≡ true → ◌≡◌ {A = Result Bool E} (Ok x) (Ok false) → ⊥
+true_false_ok x is e = cc
+
+false_true_ok : {E : Type 0} (x : Bool) → x ≡ false → ◌≡◌ {A = Result Bool E} (Ok x) (Ok true) → ⊥
+false_true_ok x is e = cc
+
+err_ok : {E : Type 0} (f : E) (x : Bool) → ◌≡◌ {A = Result Bool E} (Err f) (Ok x) → ⊥
+err_ok f x e = cc
+
+-- ---- what a second program leaves
+
+-- no value moves
+pub root_leaves : (b c : Parts) (s1 s2 : BoardState) → FinishesRoot b c s1 s2 → LeavesValues b c
+root_leaves b c s1 s2 fin =
+    let f = fin.finishes in
+    let T : Parts → Type 0 = λ x. x ≡ record b { log = x.log; levels = x.levels; arena = x.arena; schedule = x.schedule; pool = x.pool } in
+    let is : c ≡ record b { log = c.log; pool = c.pool } = f.rest ∙ ap (λ (r : JobState). record b { log = c.log; pool = c.pool; reclaim = r }) fin.same_reclaim in
+    record {
+      rest = subst T (sym is) refl;
+      frames = ap (λ (x : Parts). frames_of x) f.rest;
+      same_shape = ap (λ (l : LogState). l.shape) f.log;
+      as_many = f.counted;
+    }
+
+pub none_then : (a b c : BoardState) → NoFault a b → NoFault b c → NoFault a c
+none_then a b c first second = (second.0 ∙ first.0, second.1 ∙ first.1, second.2 ∙ first.2, second.3 ∙ first.3)
+
+pub halts_then : (a b c : BoardState) → NoFault a b → Stops b c → Halts a c
+halts_then a b c sound stops = record {
+  flash = subst (λ n. Rose n c.flash_faults) sound.0 stops.flash;
+  stop = subst (λ n. Rose n c.stop_faults) sound.2 stops.stop;
+  read = stops.read ∙ sound.1;
+}
+
+reads_same : (n : ℕ) (a b c : BoardState) → ReadsUpTo n a b → c.reads ≡ b.reads → ReadsUpTo n a c
+reads_same n a b c r same = record { up = (let up = r.up in omega (arith, up, same)); few = (let few = r.few in omega (arith, few, same)) }
+
+-- ---- before the second program
+
+module _ (a b : Parts) (s0 s1 : BoardState) (may : MayEmpty a s0) where
+  -- the reclaim is as it was, so that no commit of moves is half made
+  no_commit : LeavesValues a b → commits_in b.reclaim.phase ≡ false
+  no_commit leaves = ap (λ (x : Parts). commits_in x.reclaim.phase) leaves.rest ∙ may.may.stands.1.whole.moves
+
+  then_whole : LeavesValues a b → repeats_next b.log.next ≡ false → is_half b ≡ false
+  then_whole leaves whole = ap (λ (x : Bool). x || commits_in b.reclaim.phase) whole ∙ no_commit leaves
+
+  ready_then : LeavesValues a b → IsReady s1 a.log.shape → IsReady s1 b.log.shape
+  ready_then leaves ready = subst (λ (s : Shape). IsReady s1 s) (sym leaves.same_shape) ready
+
+  pub may_settle_merge : MergesOnce a b s0 s1 (Ok Worked) → MayCommit b s1
+  may_settle_merge once =
+      let there = once.step.came.0 a.log.shape may.may.stands.0 may.may.stands.1 in
+      record {
+        ready = ready_then once.leaves once.step.ready;
+        stands = (may.may.stands.0, subst (λ (s : Shape). StandsBetween b s s1.pages may.may.stands.0) (sym once.leaves.same_shape) there.stands);
+      }
+
+  pub may_settle_freeze : FreezesOnce a b s0 s1 (Ok tt) → MayCommit b s1
+  may_settle_freeze once =
+      let there = once.step.ended a.log.shape may.may.stands.0 may.may.stands.1 in
+      record {
+        ready = ready_then once.leaves once.step.ready;
+        stands = (may.may.stands.0, subst (λ (s : Shape). StandsBetween b s s1.pages may.may.stands.0) (sym once.leaves.same_shape) there.stands);
+      }
+
+  -- ---- a step of the merges
+
+  module _ (once : MergesOnce a b s0 s1 (Ok Worked)) (c : Parts) (s2 : BoardState) where
+    shape_b : b.log.shape ≡ a.log.shape
+    shape_b = once.leaves.same_shape
+
+    merged_half : FinishesRoot b c s1 s2 → MergesWhole a c s0 s2 (Ok Worked)
+    merged_half fin =
+        let f = fin.finishes in
+        let shape_c : c.log.shape ≡ b.log.shape = ap (λ (l : LogState). l.shape) f.log in
+        let first = once.less refl in
+        let second : merges_left c < merges_left b = subst (λ (s : Shape). merging_left s (backlog_of (index_of c)) < merges_left b) (sym shape_c) fin.less.merging in
+        let number : c.log.root.number ≡ b.log.root.number = ap (λ (l : LogState). l.root.number) f.log in
+        let roots_due : c.log.root.number + merges_due c ≡ b.log.root.number + merges_due b =
+        subst (λ (s : Shape). c.log.root.number + due_level s (backlog_of (index_of c)) ≡ b.log.root.number + merges_due b) (sym shape_c) fin.less.roots in
+        let same = f.same_roots in
+        let due = once.due in
+        let few = once.step.roots_few in
+        record {
+          made = 2;
+          some = omega arith;
+          step = record {
+            came = (KeepsAll-finished a b c s0 s1 s2 may.may.ready once.none_pending once.step.came.0 f, none_then s0 s1 s2 once.step.came.1 f.works.no_fault);
+            rest = only_then s0 s1 s2 once.step.rest f.works.rest;
+            reads = reads_same 1 s0 s1 s2 once.step.reads f.works.reads;
+            roots_few = omega (arith, same, few);
+            ready = subst (λ (s : Shape). IsReady s2 s) shape_b f.ready;
+          };
+          idle = λ e. absurd (worked_idle e);
+          calls = few_then 1 1 s0 s1 s2 (few_one s0 s1 once.calls) (few_program s1 s2 f.program);
+          within = tt;
+          less = λ _. omega (arith, first, second);
+          installs = omega (arith, same, due);
+          due = omega (arith, same, due, number, roots_due);
+          none_pending = ap (λ (l : LogState). l.pending) f.log ∙ once.none_pending;
+          leaves = leaves_twice a b c once.leaves (root_leaves b c s1 s2 fin);
+          stays = stays_then a b c once.stays f.stays;
+        }
+
+    merged_whole : repeats_next b.log.next ≡ false → MergesWhole a b s0 s1 (Ok Worked)
+    merged_whole whole =
+        let less = once.less refl in
+        record {
+          made = 1;
+          some = omega arith;
+          step = record {
+            came = (keeps_whole a b s0 s1 (then_whole once.leaves whole) once.step.came.0, once.step.came.1);
+            rest = once.step.rest;
+            reads = once.step.reads;
+            roots_few = once.step.roots_few;
+            ready = once.step.ready;
+          };
+          idle = λ e. absurd (worked_idle e);
+          calls = few_one s0 s1 once.calls;
+          within = tt;
+          less = λ _. omega (arith, less);
+          installs = once.installs;
+          due = once.due;
+          none_pending = once.none_pending;
+          leaves = once.leaves;
+          stays = once.stays;
+        }
+
+    pub merged_settled : SettlesOr b c s1 s2 (Ok tt) → MergesWhole a c s0 s2 (Ok Worked)
+    merged_settled set = elim (repeats_next b.log.next) as (λ z. repeats_next b.log.next ≡ z → MergesWhole a c s0 s2 (Ok Worked)) [
+      | true ↦ λ e. merged_half (set.half e)
+      | false ↦ λ e.
+          let is = set.whole e in
+          subst (λ (x : Parts). MergesWhole a x s0 s2 (Ok Worked)) (sym is.1) (subst (λ (s : BoardState). MergesWhole a b s0 s (Ok Worked)) (sym is.2) (merged_whole e))
+    ] refl
+
+    -- the second program failed
+    merged_broken : repeats_next b.log.next ≡ true → c.log.pending ≡ b.log.pending → FailsToFinish b s1 s2 → MergesWhole a c s0 s2 (Err Stopped)
+    merged_broken repeats same fails =
+        let first = once.less refl in
+        let one : repeating b.log.shape (backlog_of (index_of b)) ≡ 1 = ap (λ (x : Bool). if x then 1 else 0) repeats in
+        let fewer = fails.no_root in
+        let due = once.due in
+        let few = once.step.roots_few in
+        record {
+          made = 2;
+          some = omega arith;
+          step = record {
+            came = (BreaksAll-finished a b s0 s1 s2 may.may.ready once.none_pending once.step.came.0 fails, halts_then s0 s1 s2 once.step.came.1 fails.stops);
+            rest = only_then s0 s1 s2 once.step.rest fails.stops.rest;
+            reads = reads_same 1 s0 s1 s2 once.step.reads fails.stops.reads;
+            roots_few = omega (arith, fewer, few);
+            ready = subst (λ (s : Shape). IsReady s2 s) shape_b fails.ready;
+          };
+          idle = λ e. absurd (err_idle Stopped e);
+          calls = few_then 1 1 s0 s1 s2 (few_one s0 s1 once.calls) (few_program s1 s2 fails.program);
+          within = omega (arith, first, one);
+          less = λ e. absurd (err_worked Stopped e);
+          installs = omega (arith, fewer, due);
+          due = tt;
+          none_pending = same ∙ once.none_pending;
+          leaves = tt;
+          stays = tt;
+        }
+
+    pub merged_unsettled : (f : Fault) → SettlesOr b c s1 s2 (Err f) → MergesWhole a c s0 s2 (Err f)
+    merged_unsettled f set = elim (repeats_next b.log.next) as (λ z. repeats_next b.log.next ≡ z → MergesWhole a c s0 s2 (Err f)) [
+      | true ↦ λ e. let is = set.half e in subst (λ (x : Fault). MergesWhole a c s0 s2 (Err x)) (sym is.0) (merged_broken e is.1 is.2)
+      | false ↦ λ e. absurd (not_made f (set.whole e).0)
+    ] refl
+
+  pub merged_idle : MergesOnce a b s0 s1 (Ok Idle) → MergesWhole a b s0 s1 (Ok Idle)
+  merged_idle once =
+      let idle = once.idle refl in
+      record {
+        made = 1;
+        some = omega arith;
+        step = record {
+          came = (KeepsAll-none a b s0 s1 idle.1 idle.2, once.step.came.1);
+          rest = once.step.rest;
+          reads = once.step.reads;
+          roots_few = once.step.roots_few;
+          ready = once.step.ready;
+        };
+        idle = λ _. idle;
+        calls = few_one s0 s1 once.calls;
+        within = tt;
+        less = λ e. absurd (idle_worked e);
+        installs = once.installs;
+        due = once.due;
+        none_pending = once.none_pending;
+        leaves = once.leaves;
+        stays = once.stays;
+      }
+
+  pub merged_failed : (f : Fault) → MergesOnce a b s0 s1 (Err f) → MergesWhole a b s0 s1 (Err f)
+  merged_failed Reading once = record {
+    made = 1;
+    some = omega arith;
+    step = record { came = once.step.came; rest = once.step.rest; reads = once.step.reads; roots_few = once.step.roots_few; ready = once.step.ready };
+    idle = λ e. absurd (err_idle Reading e);
+    calls = few_one s0 s1 once.calls;
+    within = once.some;
+    less = λ e. absurd (err_worked Reading e);
+    installs = once.installs;
+    due = tt;
+    none_pending = once.none_pending;
+    leaves = once.leaves;
+    stays = once.stays;
+  }
+  merged_failed Stopped once = record {
+    made = 1;
+    some = omega arith;
+    step = record { came = once.step.came; rest = once.step.rest; reads = once.step.reads; roots_few = once.step.roots_few; ready = once.step.ready };
+    idle = λ e. absurd (err_idle Stopped e);
+    calls = few_one s0 s1 once.calls;
+    within = once.some;
+    less = λ e. absurd (err_worked Stopped e);
+    installs = once.installs;
+    due = tt;
+    none_pending = once.none_pending;
+    leaves = tt;
+    stays = tt;
+  }
+
+  -- ---- a step of a freeze
+
+  module _ (once : FreezesOnce a b s0 s1 (Ok tt)) (c : Parts) (s2 : BoardState) where
+    -- the root has its first program
+    frozen_now : repeats_next b.log.next ≡ true → Freezes (index_of a) (index_of b)
+    frozen_now repeats = elim once.freezes [
+      | inl on ↦ absurd (not_both (repeats_next b.log.next) repeats on.whole)
+      | inr done ↦ done
+    ]
+
+    goes_on : repeats_next b.log.next ≡ false → FreezeMoves (index_of a) (index_of b)
+    goes_on whole = elim once.freezes [
+      | inl on ↦ on
+      | inr done ↦ absurd (not_both (repeats_next b.log.next) done.half whole)
+    ]
+
+    frozen_half : (x : Bool) → x ≡ true → repeats_next b.log.next ≡ true → FinishesRoot b c s1 s2 → FreezesWhole a c s0 s2 (Ok x)
+    frozen_half x is repeats fin =
+        let f = fin.finishes in
+        let done = frozen_now repeats in
+        let same = f.same_roots in
+        let few : roots s1 ≤ roots s0 + 1 = once.step.roots_few in
+        let less = done.lowers.less in
+        let none = done.lowers.none_ready in
+        record {
+          made = 2;
+          step = record {
+            ended = KeepsAll-finished a b c s0 s1 s2 may.may.ready once.none_pending once.step.ended f;
+            broken = tt;
+            works = works_then s0 s1 s2 once.step.works f.works;
+            stops = tt;
+            stopped = tt;
+            roots_few = omega (arith, same, few);
+            ready = subst (λ (s : Shape). IsReady s2 s) once.leaves.same_shape f.ready;
+          };
+          calls = few_then 1 1 s0 s1 s2 (few_one s0 s1 once.calls) (few_program s1 s2 f.program);
+          within = omega (arith, less, none);
+          goes_on = λ e. absurd (true_false_ok x is e);
+          begins = λ _. record {
+            active = ap (λ (l : LogState). l.active) f.log ∙ done.active;
+            unused = ap (λ (l : LogState). l.epoch.used) f.log ∙ done.unused;
+            takes_more = ap (λ (l : LogState). l.epoch.takes_more) f.log ∙ done.takes_more;
+          };
+          no_root = λ e. absurd (true_false_ok x is e);
+          none_pending = ap (λ (l : LogState). l.pending) f.log ∙ once.none_pending;
+          leaves = leaves_twice a b c once.leaves (root_leaves b c s1 s2 fin);
+          stays = stays_then a b c once.stays f.stays;
+        }
+
+    frozen_whole : (x : Bool) → x ≡ false → repeats_next b.log.next ≡ false → FreezesWhole a b s0 s1 (Ok x)
+    frozen_whole x is whole = record {
+      made = 1;
+      step = record {
+        ended = keeps_whole a b s0 s1 (then_whole once.leaves whole) once.step.ended;
+        broken = tt;
+        works = once.step.works;
+        stops = tt;
+        stopped = tt;
+        roots_few = once.step.roots_few;
+        ready = once.step.ready;
+      };
+      calls = few_one s0 s1 once.calls;
+      within = omega arith;
+      goes_on = λ _. (refl, goes_on whole);
+      begins = λ e. absurd (false_true_ok x is e);
+      no_root = λ _. once.no_root whole;
+      none_pending = once.none_pending;
+      leaves = once.leaves;
+      stays = once.stays;
+    }
+
+    pub frozen_settled : (x : Bool) → x ≡ repeats_next b.log.next → SettlesOr b c s1 s2 (Ok tt) → FreezesWhole a c s0 s2 (Ok x)
+    frozen_settled x is set = elim (repeats_next b.log.next) as (λ z. repeats_next b.log.next ≡ z → FreezesWhole a c s0 s2 (Ok x)) [
+      | true ↦ λ e. frozen_half x (is ∙ e) e (set.half e)
+      | false ↦ λ e.
+          let same = set.whole e in
+          subst (λ (y : Parts). FreezesWhole a y s0 s2 (Ok x)) (sym same.1) (subst (λ (s : BoardState). FreezesWhole a b s0 s (Ok x)) (sym same.2) (frozen_whole x (is ∙ e) e))
+    ] refl
+
+    frozen_broken : repeats_next b.log.next ≡ true → c.log.pending ≡ b.log.pending → FailsToFinish b s1 s2 → FreezesWhole a c s0 s2 (Err Stopped)
+    frozen_broken repeats same fails =
+        let done = frozen_now repeats in
+        let fewer = fails.no_root in
+        let few : roots s1 ≤ roots s0 + 1 = once.step.roots_few in
+        let less = done.lowers.less in
+        let none = done.lowers.none_ready in
+        record {
+          made = 2;
+          step = record {
+            ended = tt;
+            broken = BreaksAll-finished a b s0 s1 s2 may.may.ready once.none_pending once.step.ended fails;
+            works = tt;
+            stops = stops_then s0 s1 s2 once.step.works fails.stops;
+            stopped = refl;
+            roots_few = omega (arith, fewer, few);
+            ready = subst (λ (s : Shape). IsReady s2 s) once.leaves.same_shape fails.ready;
+          };
+          calls = few_then 1 1 s0 s1 s2 (few_one s0 s1 once.calls) (few_program s1 s2 fails.program);
+          within = omega (arith, less, none);
+          goes_on = λ e. absurd (err_ok Stopped false e);
+          begins = λ e. absurd (err_ok Stopped true e);
+          no_root = λ e. absurd (err_ok Stopped false e);
+          none_pending = same ∙ once.none_pending;
+          leaves = tt;
+          stays = tt;
+        }
+
+    pub frozen_unsettled : (f : Fault) → SettlesOr b c s1 s2 (Err f) → FreezesWhole a c s0 s2 (Err f)
+    frozen_unsettled f set = elim (repeats_next b.log.next) as (λ z. repeats_next b.log.next ≡ z → FreezesWhole a c s0 s2 (Err f)) [
+      | true ↦ λ e. let is = set.half e in subst (λ (x : Fault). FreezesWhole a c s0 s2 (Err x)) (sym is.0) (frozen_broken e is.1 is.2)
+      | false ↦ λ e. absurd (not_made f (set.whole e).0)
+    ] refl
+
+  pub frozen_failed : (f : Fault) → FreezesOnce a b s0 s1 (Err f) → FreezesWhole a b s0 s1 (Err f)
+  frozen_failed f once = record {
+    made = 1;
+    step = record { ended = tt; broken = once.step.broken; works = tt; stops = once.step.stops; stopped = once.step.stopped; roots_few = once.step.roots_few; ready = once.step.ready };
+    calls = few_one s0 s1 once.calls;
+    within = omega arith;
+    goes_on = λ e. absurd (err_ok f false e);
+    begins = λ e. absurd (err_ok f true e);
+    no_root = λ e. absurd (err_ok f false e);
+    none_pending = once.none_pending;
+    leaves = tt;
+    stays = tt;
+  }

@@ -1,0 +1,338 @@
+-- Entries that wait for a commit: what the drive represents after them.
+use Rattle.std.proofs.Common.{◌≡◌, inl, inr, ℕ, ◌+◌, ◌-◌, ◌/◌, ◌<◌, ◌≤◌, refl, sym, ap, subst, ◌∙◌, arith, true, cond, T, List, [], ◌∷◌, ◌++◌, length, Option, Some, None, Ok, is_some}
+use Rattle.std.specs.Prelude.{MatchOption, slice_set}
+use Rattle.std.specs.Ordering as order
+use Rattle.std.specs.Cmp.{tied_itself}
+use Rattle.std.specs.FinMap.{insert, remove, entries, entries-insert}
+use Rattle.std.specs.FinMap.Entries.{put, find, is_sorted, find-put, length-put, length_without}
+use Rattle.pk_base.specs.Key.{Key, key_cmp}
+use Rattle.pk_base.specs.Shape.{Shape, IsShape, charge, greatest, buffer, data_blocks}
+use Rattle.pk_base.specs.Page.{Flash, page_at}
+use Rattle.pk_base.specs.Entry.{Entry, Place}
+use Rattle.pk_base.specs.Firsts.{firsts}
+use Rattle.pk_base.specs.Map.{Map, live, pages_in}
+use Rattle.pk_segfmt.specs.Value.{value_at}
+use Rattle.pk_segfmt.proofs.StoredLemmas.{charge_some}
+use Rattle.pk_rootfmt.specs.Root.{Root, named}
+use Rattle.pk_model.specs.Found.{Found, entries_in_order}
+use Rattle.pk_model.specs.Values.{placed, fits, all_pages}
+use Rattle.pk_model.specs.Laws.{AnyByRecursion, IsPageOf}
+use Rattle.pk_model.proofs.MapLemmas.{key_total}
+use Rattle.pk_model.proofs.ValueSets.{values_sound, fits_parts}
+use Rattle.pk_model.proofs.Stores.{placed-put, reads-put, entries_in_order-push}
+use Rattle.pk_model.proofs.Merges.{placed_sorted}
+use Rattle.pk_model.proofs.Live.{live-pages}
+use Rattle.pk_model.proofs.HeldMap.{nothing_fits}
+use Rattle.pk_law_steps.specs.Under.{IsUnder, counting, places}
+use Rattle.pk_law_steps.proofs.Untouched.{values_under}
+use Rattle.pk_law_steps.proofs.Places.{fits_more}
+use Rattle.pk_law_steps.proofs.Storing.{stores, deletes, placed-gone}
+use Rattle.pk_law_steps.proofs.Counting.{sorted_read, entries-rising}
+use Rattle.pk_log.specs.State.{LogState, pushed}
+use Rattle.pk_log.specs.Logs.{LogOnFlash}
+use Rattle.pk_values.specs.declared.span.Span.{Span}
+use Rattle.pk_live.specs.Values.{Values}
+use Rattle.pk_values.specs.State.{ValuesState, with_head, with_heads}
+use Rattle.pk_values.specs.Placed.{HoldsValues, ValuesOnFlash, without}
+use Rattle.pk_values.specs.Entries.{span_of, span_if_some, heads_without, ValueHeld, ValueMoves}
+use Rattle.pk_gc.specs.Standing.{ReclaimOnFlash}
+use Rattle.pk_values.specs.Laws.{value_blocks}
+use Rattle.pk_values.proofs.Lists.{found_page, found_place}
+use Rattle.pk_values.proofs.Unchanged.{lie_in_few}
+use Rattle.pk_parts.specs.Parts.{Parts, frames_of, index_of, outputs_of}
+use Rattle.pk_parts.specs.Agreeing.{DriveOnFlashWith}
+use Rattle.pk_parts.specs.Moves.{StandsFor}
+use Rattle.pk_changes.specs.Noting.{Puts, Drops, more_keys}
+use Rattle.pk_schedule.proofs.Keeping.{index_pushed}
+use Rattle.pk_parts.proofs.Halves.{whole_like}
+use Rattle.pk_parts.proofs.Reclaiming.{reclaim_stored, reclaim_gone, zero_fewer, replaced_fewer}
+use Rattle.pk_background.proofs.Beside.{named_owner, journal_or_values, meta_or_values}
+use Rattle.pk_base.proofs.KeyLemmas.{firsts_sorted}
+use Rattle.pk_law_steps.proofs.Outputs.{values_most}
+use Rattle.pk_scan.proofs.ValuesHeld.{limit_few}
+
+-- ---- numbers
+
+few_blocks : (shape : Shape) → IsShape shape → data_blocks shape ≤ 4096
+unfolding data_blocks
+few_blocks shape is = let most = is.blocks_most in omega (arith, most)
+
+-- ---- the places before
+
+module _ (d : Parts) (shape : Shape) (flash : Flash) (top : ℕ × Root) (found : Found) (lower m : Map) (with : DriveOnFlashWith d shape flash top found lower m) where
+  shape_is : IsShape shape
+  shape_is = subst IsShape with.shape_is with.index.logs.is_shape
+
+  rising : T (is_sorted key_cmp (places found d.log.pending))
+  rising = placed_sorted (counting found d.log.pending) (firsts_sorted (entries_in_order found d.log.pending))
+
+  fit : fits shape (named top.1) (all_pages shape (places found d.log.pending)) ≡ true
+  fit =
+      let values = values_under shape flash d.log.pending top.1 found m with.pending.is_map in
+      (values_sound shape (named top.1) (page_at flash) (places found d.log.pending) values.values (nothing_fits shape (named top.1)) values.read).placed_well
+
+  pub keys_small : d.keys ≤ 1048576
+  keys_small =
+      let parts = fits_parts shape (named top.1) (all_pages shape (places found d.log.pending)) (subst T (sym fit) tt) in
+      let few = parts.few in
+      let keys = values_most shape shape_is (places found d.log.pending) in
+      let most = limit_few shape shape_is in
+      omega (arith, few, keys, most, with.keys_are)
+
+  -- the live pages with one more value
+  live_put : (key : Key) (place : Place) (value : List ℕ) → value_at shape (page_at flash) key place ≡ Ok value
+      → live shape (insert m key value) ≡ length (all_pages shape (put key_cmp key place (places found d.log.pending)))
+  live_put key place value there =
+      let at = page_at flash in
+      let es = places found d.log.pending in
+      let values = values_under shape flash d.log.pending top.1 found m with.pending.is_map in
+      let vs = values.values in
+      let read = (values_sound shape (named top.1) at es vs (nothing_fits shape (named top.1)) values.read).read in
+      let all : entries m ≡ vs = ap (λ (x : Map). entries x) (sym values.whole_map) ∙ entries-rising vs (sorted_read shape (named top.1) at es vs read rising) in
+      let positive : 0 < shape.page_bytes = let least = shape_is.page_least in omega (arith, least) in
+      ap (pages_in shape) (entries-insert key_total m key value ∙ ap (put key_cmp key value) all)
+      ∙ sym (live-pages shape at (λ k bytes stands. (with.is_flash.full k bytes stands).0) positive (named top.1) (put key_cmp key place es) (put key_cmp key value vs)
+      (reads-put shape (named top.1) at key place value es vs there read))
+
+-- ---- a key gets a value
+
+-- the place of a key that was put
+pub found_put : (key : Key) (place : Place) (es : List (Key × Place)) → find key_cmp key (put key_cmp key place es) ≡ Some place
+found_put key place es = find-put key_cmp key_total key key place es ∙ ap (λ b. cond b (Some place) (find key_cmp key es)) (ap order.is_eq (tied_itself key_total key))
+
+keys_put : (key : Key) (place : Place) (es : List (Key × Place)) (old : Option Place) (keys : ℕ) → T (is_sorted key_cmp es) → find key_cmp key es ≡ old → keys ≡ length es
+    → more_keys keys old ≡ length (put key_cmp key place es)
+keys_put key place es None keys sorted is same =
+    ap (λ n. n + 1) same ∙ sym (length-put key_cmp key_total key place es sorted ∙ ap (λ o. cond (is_some o) (length es) (length es + 1)) is)
+keys_put key place es (Some p) keys sorted is same =
+    same ∙ sym (length-put key_cmp key_total key place es sorted ∙ ap (λ o. cond (is_some o) (length es) (length es + 1)) is)
+
+module _ (d : Parts) (flash : Flash) (m : Map) (key : Key) (value : List ℕ) (page : ℕ) (old : Option Place) (p : Puts d d.log.shape flash m key value page old) where
+  abbrev place : Place
+  place = record { page = page; len = length value }
+
+  abbrev e : Entry
+  e = (key, Some place)
+
+  abbrev es : List (Key × Place)
+  es = places p.found d.log.pending
+
+  pub puts_moves : (o : Option Span) (n : Span) → o ≡ span_if_some d.log.shape old → n ≡ span_of d.log.shape place → ValueMoves d.values o n
+  puts_moves o n o_is n_is = record {
+    shape = d.log.shape;
+    pool = d.pool;
+    outputs = (outputs_of d);
+    flash = flash;
+    es = es;
+    key = key;
+    place = place;
+    placed = p.with.placed;
+    rising = rising d d.log.shape flash p.top p.found p.without m p.with;
+    old_is = ap (span_if_some d.log.shape) p.old_is ∙ sym o_is;
+    new_is = sym n_is;
+    even = p.place.even;
+    short = p.place.short;
+    in_open = p.in_open;
+    free = λ k is is_value. p.written.apart p.top p.found p.without m p.with k is is_value;
+  }
+
+  places_are : places p.found (d.log.pending ++ e ∷ []) ≡ put key_cmp key place es
+  places_are = ap (λ xs. placed (firsts xs)) (entries_in_order-push p.found d.log.pending e)
+      ∙ placed-put key place (counting p.found d.log.pending) (firsts_sorted (entries_in_order p.found d.log.pending))
+
+  module _ (values : ValuesState) (placed_now : ValuesOnFlash d.log.shape values d.pool (outputs_of d) flash (put key_cmp key place es)) (o : Option Span)
+      (space_is : values ≡ with_head (with_heads d.values (heads_without o d.values.live.heads)) page (charge d.log.shape (length value))) where
+    -- no page of the value is in a block that the root names
+    unnamed : (k : ℕ) → IsPageOf d.log.shape k place → AnyByRecursion (λ b. k / d.log.shape.block_pages ≡ b) (named p.top.1) → ⊥
+    unnamed k is in_named =
+        let held : HoldsValues d.pool (k / d.log.shape.block_pages) = placed_now.owned k (found_page d.log.shape key place (put key_cmp key place es) k (found_put key place es) is) in
+        elim (named_owner d d.log.shape flash p.top p.found p.without m p.with (k / d.log.shape.block_pages) in_named) [
+          | inl journal ↦ journal_or_values d.pool (k / d.log.shape.block_pages) journal held
+          | inr meta ↦ meta_or_values d.pool (k / d.log.shape.block_pages) meta held
+        ]
+
+    fit_now : fits d.log.shape (named p.top.1) (all_pages d.log.shape (put key_cmp key place es)) ≡ true
+    fit_now =
+        let few = lie_in_few d.log.shape values d.pool (outputs_of d) flash (put key_cmp key place es) placed_now in
+        let most = p.room in
+        let same = live_put d d.log.shape flash p.top p.found p.without m p.with key place value p.written.there in
+        fits_more d.log.shape (named p.top.1) (value_blocks d.pool (outputs_of d)) es key place (fit d d.log.shape flash p.top p.found p.without m p.with)
+        unnamed (λ k is is_value. p.written.apart p.top p.found p.without m p.with k is is_value)
+        (omega (arith, most, same)) few.1 few.0
+
+    under_now : length (firsts (p.found.newest ++ (d.log.pending ++ e ∷ []))) ≤ buffer d.log.shape → IsUnder d.log.shape flash (d.log.pending ++ e ∷ []) p.top p.found (insert m key value)
+    under_now room = stores d.log.shape flash d.log.pending p.top p.found m key place value p.with.pending p.written.there room fit_now
+
+    -- a reclaim that runs copies other values than that one
+    reclaims_now : ReclaimOnFlash d.log.shape d.reclaim values.live d.pool flash (put key_cmp key place es)
+    reclaims_now =
+        let heads : List ℕ = slice_set (heads_without o d.values.live.heads) page (charge d.log.shape (length value)) in
+        let now = reclaim_stored d.log.shape d.reclaim d.values d.pool flash es key place heads p.with.reclaim p.with.placed p.in_open
+        (charge_some d.log.shape (shape_is d d.log.shape flash p.top p.found p.without m p.with) (length value))
+        (λ k other. replaced_fewer o d.values.live.heads page (charge d.log.shape (length value)) k other) in
+        subst (λ (l : Values). ReclaimOnFlash d.log.shape d.reclaim l d.pool flash (put key_cmp key place es)) (sym (ap (λ (x : ValuesState). x.live) space_is)) now
+
+    pub put_agrees : LogOnFlash (pushed d.log e) flash p.top p.found → length (firsts (p.found.newest ++ (d.log.pending ++ e ∷ []))) ≤ buffer d.log.shape
+        → DriveOnFlashWith (record d { log = pushed d.log e; values = values; keys = more_keys d.keys old }) d.log.shape flash p.top p.found p.without (insert m key value)
+    put_agrees logs room = record {
+      shape_is = refl;
+      is_flash = p.with.is_flash;
+      index = index_pushed (index_of d) (frames_of d) flash p.top p.found e p.with.index logs;
+      committed = p.with.committed;
+      pending = under_now room;
+      placed = subst (λ (xs : List (Key × Place)). ValuesOnFlash d.log.shape values d.pool (outputs_of d) flash xs) (sym places_are) placed_now;
+      former = p.with.former;
+      former_read = p.with.former_read;
+      reclaim = subst (λ (xs : List (Key × Place)). ReclaimOnFlash d.log.shape d.reclaim values.live d.pool flash xs) (sym places_are) reclaims_now;
+      keys_are = keys_put key place es old d.keys (rising d d.log.shape flash p.top p.found p.without m p.with) p.old_is p.with.keys_are ∙ ap length (sym places_are);
+    }
+
+-- what the calls of the parts say of one entry more
+pub record Noted (d : Parts) (e : Entry) (log : LogState) : Type 0 where
+  pub pushed_is : log ≡ pushed d.log e
+  pub stands : (flash : Flash) (top : ℕ × Root) (found : Found) → LogOnFlash d.log flash top found → LogOnFlash log flash top found
+  pub fits_in : (flash : Flash) (top : ℕ × Root) (found : Found) → LogOnFlash d.log flash top found → length (firsts (found.newest ++ (d.log.pending ++ e ∷ []))) ≤ buffer d.log.shape
+
+-- the place of the value
+abbrev placed_at : ℕ → ℕ → Place
+placed_at page len = record { page = page; len = len }
+
+put_stands_at : (d : Parts) (flash : Flash) (m : Map) (key : Key) (value : List ℕ) (page : ℕ) (old : Option Place) → Puts d d.log.shape flash m key value page old
+    → (log : LogState) (values : ValuesState) (keys : ℕ) (o : Option Span) (n : Span) → Noted d (key, Some (placed_at page (length value))) log
+    → o ≡ span_if_some d.log.shape old → n ≡ span_of d.log.shape (placed_at page (length value))
+    → values ≡ with_head (with_heads d.values (heads_without o d.values.live.heads)) n.page n.count
+    → ((mv : ValueMoves d.values o n) → ValuesOnFlash mv.shape values mv.pool mv.outputs mv.flash (put key_cmp mv.key mv.place mv.es))
+    → keys ≡ more_keys d.keys old
+    → StandsFor (record d { log = log; values = values; keys = keys }) d.log.shape flash (insert m key value)
+unfolding puts_moves
+put_stands_at d flash m key value page old p log values keys o n noted o_is n_is space_is moved keys_are =
+    let e : Entry = (key, Some (placed_at page (length value))) in
+    let placed_now = moved (puts_moves d flash m key value page old p o n o_is n_is) in
+    let space_now = subst (λ (x : Span). values ≡ with_head (with_heads d.values (heads_without o d.values.live.heads)) x.page x.count) n_is space_is in
+    let P : LogState → ℕ → Type 0 = λ l k. StandsFor (record d { log = l; values = values; keys = k }) d.log.shape flash (insert m key value) in
+    let logs : LogOnFlash (pushed d.log e) flash p.top p.found = subst (λ (l : LogState). LogOnFlash l flash p.top p.found) noted.pushed_is (noted.stands flash p.top p.found p.with.index.logs) in
+    let there : P (pushed d.log e) (more_keys d.keys old) = record {
+      top = p.top;
+      found = p.found;
+      without = p.without;
+      with = put_agrees d flash m key value page old p values placed_now o space_now logs (noted.fits_in flash p.top p.found p.with.index.logs);
+      whole = whole_like d (record d { log = pushed d.log e; values = values; keys = more_keys d.keys old }) refl (λ none. none) refl refl p.whole;
+    } in
+    subst (λ (l : LogState). P l keys) (sym noted.pushed_is) (subst (λ (k : ℕ). P (pushed d.log e) k) (sym keys_are) there)
+
+pub put_stands : (d : Parts) (shape : Shape) (flash : Flash) (m : Map) (key : Key) (value : List ℕ) (page len : ℕ) (old : Option Place) → length value ≡ len → Puts d shape flash m key value page old
+    → (log : LogState) (values : ValuesState) (keys : ℕ) (o : Option Span) (n : Span) → Noted d (key, Some (placed_at page len)) log
+    → o ≡ span_if_some d.log.shape old → n ≡ span_of d.log.shape (placed_at page len)
+    → values ≡ with_head (with_heads d.values (heads_without o d.values.live.heads)) n.page n.count
+    → ((mv : ValueMoves d.values o n) → ValuesOnFlash mv.shape values mv.pool mv.outputs mv.flash (put key_cmp mv.key mv.place mv.es))
+    → keys ≡ more_keys d.keys old
+    → StandsFor (record d { log = log; values = values; keys = keys }) shape flash (insert m key value)
+put_stands d shape flash m key value page len old is_len p log values keys o n noted o_is n_is space_is moved keys_are =
+    let is : d.log.shape ≡ shape = p.with.shape_is in
+    let own : Puts d d.log.shape flash m key value page old = subst (λ (s : Shape). Puts d s flash m key value page old) (sym is) p in
+    let noted' : Noted d (key, Some (placed_at page (length value))) log = subst (λ (l : ℕ). Noted d (key, Some (placed_at page l)) log) (sym is_len) noted in
+    let n_is' : n ≡ span_of d.log.shape (placed_at page (length value)) = subst (λ (l : ℕ). n ≡ span_of d.log.shape (placed_at page l)) (sym is_len) n_is in
+    subst (λ (s : Shape). StandsFor (record d { log = log; values = values; keys = keys }) s flash (insert m key value)) is
+    (put_stands_at d flash m key value page old own log values keys o n noted' o_is n_is' space_is moved keys_are)
+
+-- what the calls need
+pub put_moves : (d : Parts) (flash : Flash) (m : Map) (key : Key) (value : List ℕ) (page len : ℕ) (old : Option Place) → length value ≡ len → Puts d d.log.shape flash m key value page old
+    → (o : Option Span) (n : Span) → o ≡ span_if_some d.log.shape old → n ≡ span_of d.log.shape (placed_at page len) → ValueMoves d.values o n
+put_moves d flash m key value page len old is_len p o n o_is n_is =
+    puts_moves d flash m key value page old p o n o_is (subst (λ (l : ℕ). n ≡ span_of d.log.shape (placed_at page l)) (sym is_len) n_is)
+
+-- the length of the value that a key had
+pub old_short : (d : Parts) (flash : Flash) (m : Map) (key : Key) (value : List ℕ) (page : ℕ) (old : Option Place) → Puts d d.log.shape flash m key value page old
+    → MatchOption old (Unit {0}) (λ p. p.len ≤ greatest d.log.shape)
+old_short d flash m key value page None p = tt
+old_short d flash m key value page (Some q) p = (found_place d.log.shape key q (places p.found d.log.pending) p.with.placed.places p.old_is).short
+
+-- ---- a key loses its value
+
+keys_gone : (key : Key) (place : Place) (es : List (Key × Place)) (keys : ℕ) → T (is_sorted key_cmp es)
+    → find key_cmp key es ≡ Some place → keys ≡ length es → (keys - 1 ≡ length (without key es)) × (1 ≤ keys)
+keys_gone key place es keys sorted is same =
+    let all : cond (is_some (find key_cmp key es)) 1 0 + length (without key es) ≡ length es = length_without key_cmp key_total key es sorted in
+    let one : 1 + length (without key es) ≡ length es = subst (λ (o : Option Place). cond (is_some o) 1 0 + length (without key es) ≡ length es) is all in
+    (omega (arith, one, same), omega (arith, one, same))
+
+module _ (d : Parts) (flash : Flash) (m : Map) (key : Key) (old : Place) (p : Drops d d.log.shape flash m key old) where
+  abbrev gone : Entry
+  gone = (key, None)
+
+  abbrev values_before : List (Key × Place)
+  values_before = places p.found d.log.pending
+
+  pub drops_held : (n : Span) → n ≡ span_of d.log.shape old → ValueHeld d.values n
+  drops_held n n_is = record {
+    shape = d.log.shape;
+    pool = d.pool;
+    outputs = (outputs_of d);
+    flash = flash;
+    es = values_before;
+    key = key;
+    place = old;
+    placed = p.with.placed;
+    rising = rising d d.log.shape flash p.top p.found p.without m p.with;
+    found = p.old_is;
+    span_is = sym n_is;
+  }
+
+  pub gone_short : old.len ≤ greatest d.log.shape
+  gone_short = (found_place d.log.shape key old values_before p.with.placed.places p.old_is).short
+
+  pub gone_keys : (d.keys - 1 ≡ length (without key values_before)) × (1 ≤ d.keys)
+  gone_keys = keys_gone key old values_before d.keys (rising d d.log.shape flash p.top p.found p.without m p.with) p.old_is p.with.keys_are
+
+  places_gone : places p.found (d.log.pending ++ gone ∷ []) ≡ without key values_before
+  places_gone = ap (λ xs. placed (firsts xs)) (entries_in_order-push p.found d.log.pending gone)
+      ∙ placed-gone key (counting p.found d.log.pending) (firsts_sorted (entries_in_order p.found d.log.pending))
+
+  pub gone_agrees : (values : ValuesState) → ValuesOnFlash d.log.shape values d.pool (outputs_of d) flash (without key values_before)
+      → (at : ℕ) → values ≡ with_head d.values at 0 → LogOnFlash (pushed d.log gone) flash p.top p.found
+      → length (firsts (p.found.newest ++ (d.log.pending ++ gone ∷ []))) ≤ buffer d.log.shape
+      → DriveOnFlashWith (record d { log = pushed d.log gone; values = values; keys = d.keys - 1 }) d.log.shape flash p.top p.found p.without (remove m key)
+  gone_agrees values placed_now at space_is logs room = record {
+    shape_is = refl;
+    is_flash = p.with.is_flash;
+    index = index_pushed (index_of d) (frames_of d) flash p.top p.found gone p.with.index logs;
+    committed = p.with.committed;
+    pending = deletes d.log.shape flash d.log.pending p.top p.found m key p.with.pending room;
+    placed = subst (λ (xs : List (Key × Place)). ValuesOnFlash d.log.shape values d.pool (outputs_of d) flash xs) (sym places_gone) placed_now;
+    former = p.with.former;
+    former_read = p.with.former_read;
+    reclaim =
+        let R : Values → List (Key × Place) → Type 0 = λ l es. ReclaimOnFlash d.log.shape d.reclaim l d.pool flash es in
+        let now = reclaim_gone d.log.shape d.reclaim d.values.live d.pool flash values_before key (slice_set d.values.live.heads at 0) p.with.reclaim (λ k. zero_fewer d.values.live.heads at k) in
+        subst (λ (es : List (Key × Place)). R values.live es) (sym places_gone) (subst (λ (l : Values). R l (without key values_before)) (sym (ap (λ (x : ValuesState). x.live) space_is)) now);
+    keys_are = gone_keys.0 ∙ ap length (sym places_gone);
+  }
+
+gone_stands_at : (d : Parts) (flash : Flash) (m : Map) (key : Key) (old : Place) → Drops d d.log.shape flash m key old
+    → (log : LogState) (values : ValuesState) (n : Span) → Noted d (key, None) log → n ≡ span_of d.log.shape old
+    → values ≡ with_head d.values n.page 0
+    → ((h : ValueHeld d.values n) → ValuesOnFlash h.shape values h.pool h.outputs h.flash (without h.key h.es))
+    → StandsFor (record d { log = log; values = values; keys = d.keys - 1 }) d.log.shape flash (remove m key)
+unfolding drops_held
+gone_stands_at d flash m key old p log values n noted n_is space_is removed =
+    let e : Entry = (key, None) in
+    let placed_now = removed (drops_held d flash m key old p n n_is) in
+    let logs : LogOnFlash (pushed d.log e) flash p.top p.found = subst (λ (l : LogState). LogOnFlash l flash p.top p.found) noted.pushed_is (noted.stands flash p.top p.found p.with.index.logs) in
+    let there : StandsFor (record d { log = pushed d.log e; values = values; keys = d.keys - 1 }) d.log.shape flash (remove m key) = record {
+      top = p.top;
+      found = p.found;
+      without = p.without;
+      with = gone_agrees d flash m key old p values placed_now n.page space_is logs (noted.fits_in flash p.top p.found p.with.index.logs);
+      whole = whole_like d (record d { log = pushed d.log e; values = values; keys = d.keys - 1 }) refl (λ none. none) refl refl p.whole;
+    } in
+    subst (λ (l : LogState). StandsFor (record d { log = l; values = values; keys = d.keys - 1 }) d.log.shape flash (remove m key)) (sym noted.pushed_is) there
+
+pub gone_stands : (d : Parts) (shape : Shape) (flash : Flash) (m : Map) (key : Key) (old : Place) → Drops d shape flash m key old
+    → (log : LogState) (values : ValuesState) (n : Span) → Noted d (key, None) log → n ≡ span_of d.log.shape old
+    → values ≡ with_head d.values n.page 0
+    → ((h : ValueHeld d.values n) → ValuesOnFlash h.shape values h.pool h.outputs h.flash (without h.key h.es))
+    → StandsFor (record d { log = log; values = values; keys = d.keys - 1 }) shape flash (remove m key)
+gone_stands d shape flash m key old p log values n noted n_is space_is removed =
+    let is : d.log.shape ≡ shape = p.with.shape_is in
+    subst (λ (s : Shape). StandsFor (record d { log = log; values = values; keys = d.keys - 1 }) s flash (remove m key)) is
+    (gone_stands_at d flash m key old (subst (λ (s : Shape). Drops d s flash m key old) (sym is) p) log values n noted n_is space_is removed)

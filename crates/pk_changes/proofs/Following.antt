@@ -1,0 +1,121 @@
+-- A change of the map after a step that keeps it: what remains of it, and what one leaves that was interrupted.
+use Rattle.std.proofs.Common.{◌≡◌, ℕ, ◌<◌, ◌≤◌, sym, ap, subst, ◌∙◌, arith, false, List, length, Option, Result, Ok, Err}
+use Rattle.std.specs.Prelude.{IfErr, OnOk}
+use Rattle.pk_base.specs.Entry.{Place}
+use Rattle.pk_base.specs.Shape.{Shape, charge, greatest, page_entries}
+use Rattle.pk_base.specs.Key.{Key}
+use Rattle.pk_nand.specs.declared.types.Fault.{Fault}
+use Rattle.pk_nand.specs.declared.types.Fault.TheVariants.{Stopped}
+use Rattle.pk_nand.specs.BoardState.{BoardState}
+use Rattle.pk_nand.specs.Calls.{IsReady}
+use Rattle.pk_parts.specs.Parts.{Parts, frames_of}
+use Rattle.pk_parts.specs.Moves.{KeepsAll, BreaksAll, OnlyCommits, LeavesValues}
+use Rattle.pk_background.specs.Emptying.{StepOrRead, KeepsOrReads, OnRunning}
+use Rattle.pk_background.specs.Spacing.{needs}
+use Rattle.pk_changes.specs.Changes.{PutsAll, FailsToPut, TakesAll, FailsToTake, CanPut, CanTake, StepPuts, StepTakes, PutsOrReads, TakesOrReads, StaysBetween}
+use Rattle.pk_changes.proofs.Putting.{some_may_put, some_may_take, reclaim_same, put_broken, take_broken, puts_later, fails_later, takes_later, fails_to_take_later}
+use Rattle.pk_background.proofs.ReadSteps.{Passes, reading_passes, reads_nothing, reading_failed, reading_then, running_ok}
+use Rattle.pk_background.proofs.Steps.{shape_committed}
+
+-- ---- what a drive runs by
+
+pub stays_by : (a b c : Parts) → LeavesValues a b → StaysBetween b c → StaysBetween a c
+stays_by a b c first second = record {
+  frames = second.frames ∙ first.frames;
+  stopped = second.stopped ∙ ap (λ (d : Parts). d.stopped) first.rest;
+  same_shape = second.same_shape ∙ first.same_shape;
+  few = subst (λ (s : Shape). length c.log.pending < page_entries s) first.same_shape second.few;
+}
+
+-- after a step that keeps the map, one that reads nothing
+pub stays_then : (r : Result Unit Fault) (a b c : Parts) → LeavesValues a b → IfErr r (λ e. e ≡ Stopped) → OnOk r (StaysBetween b c) → OnRunning (StaysBetween a c) r
+stays_then r a b c first stopped second = running_ok (StaysBetween b c) (StaysBetween a c) r (stays_by a b c first) stopped second
+
+-- after a change in memory, and a commit
+pub stays_committed : (r : Result Unit Fault) (a c e : Parts) → frames_of c ≡ frames_of a → c.stopped ≡ a.stopped → c.log.shape ≡ a.log.shape
+    → OnOk r (OnlyCommits c e) → OnOk r (length e.log.pending < page_entries c.log.shape) → OnOk r (StaysBetween a e)
+stays_committed (Ok x) a c e frames stopped shapes rest few = record {
+  frames = ap (λ (d : Parts). frames_of d) rest ∙ frames;
+  stopped = ap (λ (d : Parts). d.stopped) rest ∙ stopped;
+  same_shape = shape_committed c e rest ∙ shapes;
+  few = subst (λ (s : Shape). length e.log.pending < page_entries s) shapes few;
+}
+stays_committed (Err f) a c e frames stopped shapes rest few = tt
+
+-- ---- a change after a step that keeps the map
+
+few_after : (a b : Parts) → b.log.shape ≡ a.log.shape → length b.log.pending ≤ length a.log.pending → length a.log.pending < page_entries a.log.shape → length b.log.pending < page_entries b.log.shape
+few_after a b same less few =
+    let here : length a.log.pending < page_entries b.log.shape = subst (λ (s : Shape). length a.log.pending < page_entries s) (sym same) few in
+    omega (arith, less, here)
+
+-- what a drive keeps to, if a read failed before the change
+pub stays_kept : (a b : Parts) → LeavesValues a b → length b.log.pending ≤ length a.log.pending → length a.log.pending < page_entries a.log.shape → StaysBetween a b
+stays_kept a b leaves less few = record {
+  frames = leaves.frames;
+  stopped = ap (λ (d : Parts). d.stopped) leaves.rest;
+  same_shape = leaves.same_shape;
+  few = omega (arith, less, few);
+}
+
+module _ (a b : Parts) (n : ℕ) (s0 s1 : BoardState) (u : Unit {0}) (leaves : LeavesValues a b) (less : length b.log.pending ≤ length a.log.pending) (step : KeepsOrReads a b n s0 s1 (Ok u)) where
+  keeps : KeepsAll a b s0 s1
+  keeps = step.came.0
+
+  made : Passes n s0 s1
+  made = reading_passes u (λ (x : Unit). KeepsAll a b s0 s1) (KeepsAll a b s0 s1) (BreaksAll a s0 s1) a.log.shape n s0 s1 step
+
+  pub can_put_after : (key : Key) (value : List ℕ) (place : Option Place) → CanPut a s0 key value place → CanPut b s1 key value place
+  can_put_after key value place can =
+      let same = leaves.same_shape in
+      record {
+        ready = subst (λ (s : Shape). IsReady s1 s) (sym same) step.ready;
+        may = some_may_put a b s0 s1 key value place can.may keeps same;
+        short = subst (λ (s : Shape). length value ≤ greatest s) (sym same) can.short;
+        few = few_after a b same less can.few;
+      }
+
+  -- a value that had room has it still
+  pub still_room : (size : ℕ) → needs (charge a.log.shape size) a ≡ false → needs (charge b.log.shape size) b ≡ false
+  still_room size room = reclaim_same a b size false leaves.same_shape (ap (λ (d : Parts). d.values) leaves.rest) leaves.as_many room
+
+  pub can_take_after : (key : Key) (place : Place) → CanTake a s0 key place → CanTake b s1 key place
+  can_take_after key place can =
+      let same = leaves.same_shape in
+      record {
+        ready = subst (λ (s : Shape). IsReady s1 s) (sym same) step.ready;
+        may = some_may_take a b s0 s1 key place can.may keeps same;
+        few = few_after a b same less can.few;
+      }
+
+  module _ (r : Result Unit Fault) (e : Parts) (s2 : BoardState) (ready : IsReady s0 a.log.shape) where
+    pub step_puts_later : (key : Key) (value : List ℕ) (place : Option Place) → StepPuts b e 0 s1 s2 key value place r → PutsOrReads a e n s0 s2 key value place r
+    step_puts_later key value place second =
+        reading_then r (λ (x : Unit). PutsAll b e s1 s2 key value place) (λ (x : Unit). PutsAll a e s0 s2 key value place) ⊥
+        (KeepsAll a e s0 s2) (FailsToPut b s1 s2 key value place) (FailsToPut a s0 s2 key value place)
+        a.log.shape n 0 n s0 s1 s2 (omega arith) made
+        (λ x puts. puts_later (Ok x) a b e s0 s1 s2 key value place ready keeps puts) (λ none. absurd none) (λ fails. fails_later (Err Stopped) a b s0 s1 s2 key value place ready keeps fails)
+        (subst (λ (s : Shape). StepOrRead (λ (x : Unit). PutsAll b e s1 s2 key value place) ⊥ (FailsToPut b s1 s2 key value place) s 0 s1 s2 r) leaves.same_shape
+        (reads_nothing r (λ (x : Unit). PutsAll b e s1 s2 key value place) ⊥ (FailsToPut b s1 s2 key value place) b.log.shape 0 s1 s2 second))
+
+    pub step_takes_later : (key : Key) (place : Place) → StepTakes b e 0 s1 s2 key place r → TakesOrReads a e n s0 s2 key place r
+    step_takes_later key place second =
+        reading_then r (λ (x : Unit). TakesAll b e s1 s2 key place) (λ (x : Unit). TakesAll a e s0 s2 key place) ⊥ (KeepsAll a e s0 s2) (FailsToTake b s1 s2 key place) (FailsToTake a s0 s2 key place)
+        a.log.shape n 0 n s0 s1 s2 (omega arith) made
+        (λ x takes. takes_later (Ok x) a b e s0 s1 s2 key place ready keeps takes) (λ none. absurd none) (λ fails. fails_to_take_later (Err Stopped) a b s0 s1 s2 key place ready keeps fails)
+        (subst (λ (s : Shape). StepOrRead (λ (x : Unit). TakesAll b e s1 s2 key place) ⊥ (FailsToTake b s1 s2 key place) s 0 s1 s2 r) leaves.same_shape
+        (reads_nothing r (λ (x : Unit). TakesAll b e s1 s2 key place) ⊥ (FailsToTake b s1 s2 key place) b.log.shape 0 s1 s2 second))
+
+-- ---- room could not be made
+
+module _ (e : Fault) (a b : Parts) (n : ℕ) (s0 s1 : BoardState) (ready : IsReady s0 a.log.shape) (step : KeepsOrReads {T = Unit {0}} a b n s0 s1 (Err e)) where
+  pub put_failed_before : (key : Key) (value : List ℕ) (place : Option Place) → PutsOrReads a b n s0 s1 key value place (Err e)
+  put_failed_before key value place =
+      reading_failed e (λ (x : Unit). KeepsAll a b s0 s1) (λ (x : Unit). PutsAll a b s0 s1 key value place)
+      (KeepsAll a b s0 s1) (KeepsAll a b s0 s1) (BreaksAll a s0 s1) (FailsToPut a s0 s1 key value place)
+      a.log.shape n n s0 s1 (omega arith) (λ kept. kept) (put_broken a s0 s1 key value place ready) step
+
+  pub take_failed_before : (key : Key) (place : Place) → TakesOrReads a b n s0 s1 key place (Err e)
+  take_failed_before key place =
+      reading_failed e (λ (x : Unit). KeepsAll a b s0 s1) (λ (x : Unit). TakesAll a b s0 s1 key place) (KeepsAll a b s0 s1) (KeepsAll a b s0 s1) (BreaksAll a s0 s1) (FailsToTake a s0 s1 key place)
+      a.log.shape n n s0 s1 (omega arith) (λ kept. kept) (take_broken a s0 s1 key place ready) step

@@ -1,0 +1,11 @@
+pub mod Changing
+pub mod Quieted
+pub mod Filling
+pub mod Writing
+pub mod Entries
+pub mod Putting
+pub mod Noted
+pub mod Programming
+pub mod StoreCalls
+pub mod PlacedStays
+pub mod Following

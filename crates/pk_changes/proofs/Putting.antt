@@ -1,0 +1,239 @@
+-- A key gets a value, or loses its own: the steps of that, one after another.
+use Rattle.std.proofs.Common.{◌≡◌, inl, inr, ℕ, refl, sym, ap, subst, ◌∙◌, List, [], ◌++◌, length, Bool, Option, Some, Result, Ok, Err}
+use Rattle.std.specs.Prelude.{OnOk, OnErr}
+use Rattle.std.specs.FinMap.{insert, remove}
+use Rattle.std.specs.FinMap.Entries.{find}
+use Rattle.pk_base.specs.Entry.{Place}
+use Rattle.pk_base.specs.Key.{Key, key_cmp}
+use Rattle.pk_base.specs.Shape.{Shape, charge}
+use Rattle.pk_base.specs.Page.{Flash}
+use Rattle.pk_base.specs.EntryChecks.{IsPlace}
+use Rattle.pk_base.specs.Map.{Map}
+use Rattle.pk_base.specs.Mark.{all_posted}
+use Rattle.pk_plan.specs.declared.owner.Owner.TheVariants.{Values as for_values}
+use Rattle.pk_nand.specs.declared.types.Fault.{Fault}
+use Rattle.pk_nand.specs.BoardState.{BoardState}
+use Rattle.pk_nand.specs.Calls.{IsReady}
+use Rattle.pk_nand.specs.Crash.{ReachedBy}
+use Rattle.pk_pool.specs.Blocks.{used_by}
+use Rattle.pk_model.specs.Growth.{Reaches, Goes}
+use Rattle.pk_model.specs.Crashes.{CrashFinds, commit, change}
+use Rattle.pk_model.proofs.Growing.{at_end, weaken, weaken_went, Reaches-then, Goes-then}
+use Rattle.pk_values.specs.State.{needs_reclaim}
+use Rattle.pk_values.specs.Entries.{IsInOpen}
+use Rattle.pk_parts.specs.Parts.{Parts}
+use Rattle.pk_parts.specs.Moves.{StandsFor, Keeps, KeepsAll, BreaksAll, IsWritten}
+use Rattle.pk_changes.specs.Noting.{Puts, Drops}
+use Rattle.pk_changes.specs.Changes.{MayPut, MayTake, PutsAll, FailsToPut, TakesAll, FailsToTake}
+use Rattle.pk_parts.proofs.Keeping.{board_has}
+use Rattle.pk_changes.proofs.Changing.{IsStill, kept_goes, changes, change_goes}
+
+-- ---- a step that keeps the map leaves what a change requires
+
+pub may_put_after : (a b : Parts) (shape : Shape) (m : Map) (old new : BoardState) (key : Key) (value : List ℕ) (place : Option Place)
+    → MayPut a shape old.pages m key value place → Keeps a b shape m old new
+    → MayPut b shape new.pages m key value place
+may_put_after a b shape m old new key value place may keeps = record {
+  stands = keeps.stands;
+  old_is = ap (find key_cmp key) (keeps.same_places may.stands) ∙ may.old_is;
+  bytes = may.bytes;
+  room = may.room;
+}
+
+pub may_take_after : (a b : Parts) (shape : Shape) (m : Map) (old new : BoardState) (key : Key) (place : Place)
+    → MayTake a shape old.pages m key place → Keeps a b shape m old new → MayTake b shape new.pages m key place
+may_take_after a b shape m old new key place may keeps = record {
+  stands = keeps.stands;
+  old_is = ap (find key_cmp key) (keeps.same_places may.stands) ∙ may.old_is;
+  bytes = may.bytes;
+}
+
+pub reclaim_same : (a b : Parts) (count : ℕ) (is : Bool) → b.log.shape ≡ a.log.shape → b.values ≡ a.values → used_by for_values b.pool.states ≡ used_by for_values a.pool.states
+    → needs_reclaim a.log.shape a.values a.pool (charge a.log.shape count) ≡ is → needs_reclaim b.log.shape b.values b.pool (charge b.log.shape count) ≡ is
+reclaim_same a b count is shapes spaces used needs = rw (shapes, spaces, used) needs
+
+-- ---- a step that keeps the map, and a change after it
+
+module _ (shape : Shape) (s0 s1 : BoardState) (has : s0.shape ≡ Some shape) (m m' : Map)
+    (first : Reaches shape s0 s1 (CrashFinds shape commit s0.pages m)) (still : IsStill shape s1.pages s0.pages m) where
+  silent : all_posted first.0 ≡ []
+  silent = (at_end first.0 s0 s1 (CrashFinds shape commit s0.pages m) first.1).0
+
+  kept_cut : (f : Flash) (q : List ℕ) → CrashFinds shape commit s0.pages m f q → CrashFinds shape (change m') s0.pages m f q
+  kept_cut f q (quiet, inl same) = (quiet, inl same)
+  kept_cut f q (quiet, inr is) = (quiet, inr (inl is))
+
+  begun : ReachedBy first.0 s0 s1 (CrashFinds shape (change m') s0.pages m)
+  begun = weaken first.0 s0 s1 (CrashFinds shape commit s0.pages m) (CrashFinds shape (change m') s0.pages m) kept_cut first.1
+
+  later_cut : (f : Flash) (q : List ℕ) → CrashFinds shape (change m') s1.pages m f q → CrashFinds shape (change m') s0.pages m f (all_posted first.0 ++ q)
+  later_cut f q (quiet, inl same) =
+      (ap (λ (p : List ℕ). p ++ q) silent ∙ quiet, elim still [ inl as_before ↦ inl (same ∙ as_before) | inr is ↦ inr (inl (same ∙ is)) ])
+  later_cut f q (quiet, inr is) = (ap (λ (p : List ℕ). p ++ q) silent ∙ quiet, inr is)
+
+  pub later_reaches : (s2 : BoardState) → Reaches shape s1 s2 (CrashFinds shape (change m') s1.pages m) → Reaches shape s0 s2 (CrashFinds shape (change m') s0.pages m)
+  later_reaches s2 second = Reaches-then shape first.0 s0 s1 (CrashFinds shape (change m') s0.pages m) has begun first.2 s2 (CrashFinds shape (change m') s1.pages m) later_cut second
+
+  pub later_goes : (s2 : BoardState) → Goes shape s1 s2 (CrashFinds shape (change m') s1.pages m) → Goes shape s0 s2 (CrashFinds shape (change m') s0.pages m)
+  later_goes s2 second = Goes-then shape first.0 s0 s1 (CrashFinds shape (change m') s0.pages m) has begun first.2 s2 (CrashFinds shape (change m') s1.pages m) later_cut second
+
+pub puts_later : (r : Result Unit Fault) (a b e : Parts) (s0 s1 s2 : BoardState) (key : Key) (value : List ℕ) (place : Option Place) → IsReady s0 a.log.shape → KeepsAll a b s0 s1
+    → OnOk r (PutsAll b e s1 s2 key value place) → OnOk r (PutsAll a e s0 s2 key value place)
+puts_later (Ok x) a b e s0 s1 s2 key value place ready keeps puts = λ shape m may.
+    let one = keeps shape m may.stands in
+    let later = puts shape m (may_put_after a b shape m s0 s1 key value place may one) in
+    record { stands = later.stands; cuts = later_reaches shape s0 s1 (board_has a s0 shape m ready may.stands) m (insert m key value) one.cuts one.still s2 later.cuts }
+puts_later (Err f) a b e s0 s1 s2 key value place ready keeps puts = tt
+
+pub fails_later : (r : Result Unit Fault) (a b : Parts) (s0 s1 s2 : BoardState) (key : Key) (value : List ℕ) (place : Option Place) → IsReady s0 a.log.shape → KeepsAll a b s0 s1
+    → OnErr r (FailsToPut b s1 s2 key value place) → OnErr r (FailsToPut a s0 s2 key value place)
+fails_later (Ok x) a b s0 s1 s2 key value place ready keeps puts = tt
+fails_later (Err f) a b s0 s1 s2 key value place ready keeps puts = λ shape m may.
+    let one = keeps shape m may.stands in
+    later_goes shape s0 s1 (board_has a s0 shape m ready may.stands) m (insert m key value) one.cuts one.still s2 (puts shape m (may_put_after a b shape m s0 s1 key value place may one))
+
+pub takes_later : (r : Result Unit Fault) (a b e : Parts) (s0 s1 s2 : BoardState) (key : Key) (place : Place) → IsReady s0 a.log.shape → KeepsAll a b s0 s1
+    → OnOk r (TakesAll b e s1 s2 key place) → OnOk r (TakesAll a e s0 s2 key place)
+takes_later (Ok x) a b e s0 s1 s2 key place ready keeps takes = λ shape m may.
+    let one = keeps shape m may.stands in
+    let later = takes shape m (may_take_after a b shape m s0 s1 key place may one) in
+    record { stands = later.stands; cuts = later_reaches shape s0 s1 (board_has a s0 shape m ready may.stands) m (remove m key) one.cuts one.still s2 later.cuts }
+takes_later (Err f) a b e s0 s1 s2 key place ready keeps takes = tt
+
+pub fails_to_take_later : (r : Result Unit Fault) (a b : Parts) (s0 s1 s2 : BoardState) (key : Key) (place : Place) → IsReady s0 a.log.shape → KeepsAll a b s0 s1
+    → OnErr r (FailsToTake b s1 s2 key place) → OnErr r (FailsToTake a s0 s2 key place)
+fails_to_take_later (Ok x) a b s0 s1 s2 key place ready keeps takes = tt
+fails_to_take_later (Err f) a b s0 s1 s2 key place ready keeps takes = λ shape m may.
+    let one = keeps shape m may.stands in
+    later_goes shape s0 s1 (board_has a s0 shape m ready may.stands) m (remove m key) one.cuts one.still s2 (takes shape m (may_take_after a b shape m s0 s1 key place may one))
+
+-- the step that was to keep the map stopped the drive
+pub put_broken : (a : Parts) (s0 s1 : BoardState) (key : Key) (value : List ℕ) (place : Option Place) → IsReady s0 a.log.shape → BreaksAll a s0 s1 → FailsToPut a s0 s1 key value place
+put_broken a s0 s1 key value place ready breaks shape m may = kept_goes shape s0 s1 (board_has a s0 shape m ready may.stands) m (insert m key value) (breaks shape m may.stands)
+
+pub take_broken : (a : Parts) (s0 s1 : BoardState) (key : Key) (place : Place) → IsReady s0 a.log.shape → BreaksAll a s0 s1 → FailsToTake a s0 s1 key place
+take_broken a s0 s1 key place ready breaks shape m may = kept_goes shape s0 s1 (board_has a s0 shape m ready may.stands) m (remove m key) (breaks shape m may.stands)
+
+-- ---- a value was written, its entry noted, and a commit made if the page is full
+
+pub puts_of : (b : Parts) (its shape : Shape) (flash : Flash) (m : Map) (key : Key) (value : List ℕ) (page : ℕ) (old : Option Place) → its ≡ shape → MayPut b shape flash m key value old
+    → IsWritten b its flash key value page → IsPlace its (record { page = page; len = length value }) → IsInOpen its b.values page (charge its (length value)) → Puts b shape flash m key value page old
+puts_of b its shape flash m key value page old same may written place in_open = record {
+  top = may.stands.top;
+  found = may.stands.found;
+  without = may.stands.without;
+  with = may.stands.with;
+  whole = may.stands.whole;
+  old_is = may.old_is;
+  written = subst (λ (s : Shape). IsWritten b s flash key value page) same written;
+  place = subst (λ (s : Shape). IsPlace s (record { page = page; len = length value })) same place;
+  in_open = subst (λ (s : Shape). IsInOpen s b.values page (charge s (length value))) same in_open;
+  bytes = may.bytes;
+  room = may.room;
+}
+
+pub drops_of : (d : Parts) (shape : Shape) (flash : Flash) (m : Map) (key : Key) (old : Place) → MayTake d shape flash m key old → Drops d shape flash m key old
+drops_of d shape flash m key old may = record {
+  top = may.stands.top;
+  found = may.stands.found;
+  without = may.stands.without;
+  with = may.stands.with;
+  whole = may.stands.whole;
+  old_is = may.old_is;
+  bytes = may.bytes;
+}
+
+-- for some map
+pub some_puts : (a b : Parts) (s0 s1 : BoardState) (key : Key) (value : List ℕ) (page : ℕ) (old : Option Place)
+    → (m : Map) × MayPut a a.log.shape s0.pages m key value old → KeepsAll a b s0 s1 → b.log.shape ≡ a.log.shape
+    → IsWritten b a.log.shape s1.pages key value page → IsPlace a.log.shape (record { page = page; len = length value }) → IsInOpen a.log.shape b.values page (charge a.log.shape (length value))
+    → (flash : Flash) × (m : Map) × (x : List ℕ) × (length x ≡ length value) × Puts b b.log.shape flash m key x page old
+some_puts a b s0 s1 key value page old may keeps same written place in_open =
+    let mid = may_put_after a b a.log.shape may.0 s0 s1 key value old may.1 (keeps a.log.shape may.0 may.1.stands) in (
+      s1.pages,
+      may.0,
+      value,
+      refl,
+      subst (λ (s : Shape). Puts b s s1.pages may.0 key value page old) (sym same)
+          (puts_of b a.log.shape a.log.shape s1.pages may.0 key value page old refl mid written place in_open),
+    )
+
+-- what a change requires, for some map, after a step that keeps it
+pub some_may_put : (a b : Parts) (s0 s1 : BoardState) (key : Key) (value : List ℕ) (place : Option Place)
+    → (m : Map) × MayPut a a.log.shape s0.pages m key value place → KeepsAll a b s0 s1 → b.log.shape ≡ a.log.shape
+    → (m : Map) × MayPut b b.log.shape s1.pages m key value place
+some_may_put a b s0 s1 key value place may keeps same =
+    (may.0, subst (λ (s : Shape). MayPut b s s1.pages may.0 key value place) (sym same) (may_put_after a b a.log.shape may.0 s0 s1 key value place may.1 (keeps a.log.shape may.0 may.1.stands)))
+
+pub some_may_take : (a b : Parts) (s0 s1 : BoardState) (key : Key) (place : Place) → (m : Map) × MayTake a a.log.shape s0.pages m key place → KeepsAll a b s0 s1 → b.log.shape ≡ a.log.shape
+    → (m : Map) × MayTake b b.log.shape s1.pages m key place
+some_may_take a b s0 s1 key place may keeps same =
+    (may.0, subst (λ (s : Shape). MayTake b s s1.pages may.0 key place) (sym same) (may_take_after a b a.log.shape may.0 s0 s1 key place may.1 (keeps a.log.shape may.0 may.1.stands)))
+
+pub some_drops : (a : Parts) (s0 : BoardState) (key : Key) (old : Place) → (m : Map) × MayTake a a.log.shape s0.pages m key old → (flash : Flash) × (m : Map) × Drops a a.log.shape flash m key old
+some_drops a s0 key old may = (s0.pages, may.0, drops_of a a.log.shape s0.pages may.0 key old may.1)
+
+-- a drive represents some map after the entry
+pub some_put : (a b c : Parts) (s0 s1 : BoardState) (key : Key) (value : List ℕ) (page : ℕ) (old : Option Place)
+    → (m : Map) × MayPut a a.log.shape s0.pages m key value old → KeepsAll a b s0 s1 → b.log.shape ≡ a.log.shape → c.log.shape ≡ b.log.shape
+    → IsWritten b a.log.shape s1.pages key value page → IsPlace a.log.shape (record { page = page; len = length value }) → IsInOpen a.log.shape b.values page (charge a.log.shape (length value))
+    → ((shape : Shape) (flash : Flash) (m : Map) → Puts b shape flash m key value page old → StandsFor c shape flash (insert m key value))
+    → (m : Map) × StandsFor c c.log.shape s1.pages m
+some_put a b c s0 s1 key value page old may keeps same same' written place in_open noted =
+    let one = keeps a.log.shape may.0 may.1.stands in
+    let mid = may_put_after a b a.log.shape may.0 s0 s1 key value old may.1 one in (
+      insert may.0 key value,
+      subst (λ (s : Shape). StandsFor c s s1.pages (insert may.0 key value)) (sym same ∙ sym same')
+          (noted a.log.shape s1.pages may.0 (puts_of b a.log.shape a.log.shape s1.pages may.0 key value page old refl mid written place in_open)),
+    )
+
+module _ (a b c : Parts) (s0 s1 : BoardState) (key : Key) (value : List ℕ) (page : ℕ) (old : Option Place) (ready : IsReady s0 a.log.shape) (keeps : KeepsAll a b s0 s1)
+    (written : IsWritten b a.log.shape s1.pages key value page) (place : IsPlace a.log.shape (record { page = page; len = length value }))
+    (in_open : IsInOpen a.log.shape b.values page (charge a.log.shape (length value)))
+    (noted : (shape : Shape) (flash : Flash) (m : Map) → Puts b shape flash m key value page old → StandsFor c shape flash (insert m key value)) where
+  there : (shape : Shape) (m : Map) → MayPut a shape s0.pages m key value old → StandsFor c shape s1.pages (insert m key value)
+  there shape m may =
+      let mid = may_put_after a b shape m s0 s1 key value old may (keeps shape m may.stands) in
+      noted shape s1.pages m (puts_of b a.log.shape shape s1.pages m key value page old may.stands.with.shape_is mid written place in_open)
+
+  pub put_changed : (r : Result Unit Fault) (e : Parts) (s2 : BoardState) → OnOk r (KeepsAll c e s1 s2) → OnOk r (PutsAll a e s0 s2 key value old)
+  put_changed (Ok x) e s2 kept = λ shape m may.
+      let one = keeps shape m may.stands in
+      let two = kept shape (insert m key value) (there shape m may) in
+      record { stands = two.stands; cuts = changes shape s0 s1 (board_has a s0 shape m ready may.stands) m (insert m key value) one.cuts one.still s2 two.cuts }
+  put_changed (Err f) e s2 kept = tt
+
+  pub put_failed : (r : Result Unit Fault) (s2 : BoardState) → OnErr r (BreaksAll c s1 s2) → OnErr r (FailsToPut a s0 s2 key value old)
+  put_failed (Ok x) s2 breaks = tt
+  put_failed (Err f) s2 breaks = λ shape m may.
+      let one = keeps shape m may.stands in
+      change_goes shape s0 s1 (board_has a s0 shape m ready may.stands) m (insert m key value) one.cuts one.still s2 (breaks shape (insert m key value) (there shape m may))
+
+-- ---- a key lost its value: only in memory, and a commit if the page is full
+
+module _ (a c : Parts) (s0 : BoardState) (key : Key) (old : Place) (ready : IsReady s0 a.log.shape)
+    (noted : (shape : Shape) (flash : Flash) (m : Map) → Drops a shape flash m key old → StandsFor c shape flash (remove m key)) where
+  pub some_taken : (m : Map) × MayTake a a.log.shape s0.pages m key old → c.log.shape ≡ a.log.shape → (m : Map) × StandsFor c c.log.shape s0.pages m
+  some_taken may same =
+      (remove may.0 key, subst (λ (s : Shape). StandsFor c s s0.pages (remove may.0 key)) (sym same) (noted a.log.shape s0.pages may.0 (drops_of a a.log.shape s0.pages may.0 key old may.1)))
+
+  -- the cuts after a change in memory
+  taken_cut : (shape : Shape) (m : Map) (f : Flash) (q : List ℕ) → CrashFinds shape commit s0.pages (remove m key) f q → CrashFinds shape (change (remove m key)) s0.pages m f q
+  taken_cut shape m f q (quiet, inl same) = (quiet, inl same)
+  taken_cut shape m f q (quiet, inr is) = (quiet, inr (inr is))
+
+  pub take_changed : (r : Result Unit Fault) (e : Parts) (s2 : BoardState) → OnOk r (KeepsAll c e s0 s2) → OnOk r (TakesAll a e s0 s2 key old)
+  take_changed (Ok x) e s2 kept = λ shape m may.
+      let two = kept shape (remove m key) (noted shape s0.pages m (drops_of a shape s0.pages m key old may)) in
+      record {
+        stands = two.stands;
+        cuts =
+            (two.cuts.0, weaken two.cuts.0 s0 s2 (CrashFinds shape commit s0.pages (remove m key)) (CrashFinds shape (change (remove m key)) s0.pages m) (taken_cut shape m) two.cuts.1, two.cuts.2);
+      }
+  take_changed (Err f) e s2 kept = tt
+
+  pub take_failed : (r : Result Unit Fault) (s2 : BoardState) → OnErr r (BreaksAll c s0 s2) → OnErr r (FailsToTake a s0 s2 key old)
+  take_failed (Ok x) s2 breaks = tt
+  take_failed (Err f) s2 breaks = λ shape m may.
+      let two = breaks shape (remove m key) (noted shape s0.pages m (drops_of a shape s0.pages m key old may)) in
+      (two.0, weaken_went two.0 s0 s2 (CrashFinds shape commit s0.pages (remove m key)) (CrashFinds shape (change (remove m key)) s0.pages m) (taken_cut shape m) two.1, two.2)

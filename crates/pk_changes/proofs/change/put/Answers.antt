@@ -1,0 +1,98 @@
+use Rattle.std.proofs.Common.{◌∙◌, sym, ap, ◌≤◌, length, Err, arith}
+use Rattle.pk_base.specs.Shape.{charge}
+use Rattle.pk_parts.specs.Parts.{Parts}
+use Rattle.pk_changes.specs.Changes.{StaysBetween}
+use Rattle.pk_parts.specs.Moves.{KeepsAll, LeavesValues}
+use Rattle.pk_parts.specs.Staying.{Stays, StaysOrOpens}
+use Rattle.pk_changes.proofs.Following.{can_put_after, still_room, step_puts_later, stays_then, stays_kept, put_failed_before}
+use Rattle.pk_background.proofs.ReadSteps.{running_ok, running_failed, running_both}
+use Rattle.pk_parts.proofs.Staying.{stays_opens, opens_put}
+use Rattle.pk_background.proofs.Halted.{fails_running, fails_step}
+use Rattle.pk_parts.proofs.Stopping.{fails_stopped}
+use Rattle.pk_changes.proofs.Quieted.{put_reads_none}
+use Rattle.pk_changes.proofs.Programming.{put_idle}
+use Rattle.pk_background.proofs.Callings.{spends_still, spends_within}
+use Rattle.pk_changes.proofs.StoreCalls.{spends_put}
+use Rattle.pk_changes.proofs.change.put.Goals as goal
+
+pub make_room-requires-clause-may : goal.make_room-requires-clause-may
+make_room-requires-clause-may g c = record { ready = c.requires.can.0.ready; stands = (c.requires.can.0.may.0, c.requires.can.0.may.1.stands) }
+
+pub put_with_room-requires-clause-can : goal.put_with_room-requires-clause-can
+put_with_room-requires-clause-can g c =
+    let e = c.in-Ok.ensures in (
+      can_put_after c.args.parts.now c.make_room.new.parts _ (g.B.Nand.state c.args.board.now)
+          (g.B.Nand.state c.make_room.new.board) tt e.leaves e.pending e.step c.args.key c.args.value.now c.args.old c.requires.can.0,
+      c.requires.can.1
+          ∙ ap (λ s. charge s (length c.args.value.now)) (sym e.leaves.same_shape),
+    )
+
+pub put_with_room-requires-clause-room : goal.put_with_room-requires-clause-room
+put_with_room-requires-clause-room g c =
+    let e = c.in-Ok.ensures in
+    still_room c.args.parts.now c.make_room.new.parts _ (g.B.Nand.state c.args.board.now) (g.B.Nand.state c.make_room.new.board) tt e.leaves e.pending e.step (length c.args.value.now) c.requires.room
+
+pub returns-in-Ok-clause-step : goal.returns-in-Ok-clause-step
+returns-in-Ok-clause-step g c =
+    let e = c.in-Ok.ensures in
+    step_puts_later c.args.parts.now c.make_room.new.parts _ (g.B.Nand.state c.args.board.now)
+    (g.B.Nand.state c.make_room.new.board) tt e.leaves e.pending e.step c.put_with_room.result c.put_with_room.new.parts (g.B.Nand.state c.put_with_room.new.board)
+    c.requires.can.0.ready c.args.key c.args.value.now c.args.old c.put_with_room.ensures.step
+
+pub returns-in-Ok-clause-stays : goal.returns-in-Ok-clause-stays
+returns-in-Ok-clause-stays g c =
+    let e = c.put_with_room.ensures in
+    stays_then c.put_with_room.result c.args.parts.now c.make_room.new.parts c.put_with_room.new.parts c.in-Ok.ensures.leaves e.step.stopped e.stays
+
+pub returns-in-Ok-clause-opens : goal.returns-in-Ok-clause-opens
+returns-in-Ok-clause-opens g c =
+    let e = c.in-Ok.ensures in
+    let opens = StaysOrOpens c.args.parts.now c.put_with_room.new.parts (charge c.args.parts.now.log.shape (length c.args.value.now)) in
+    running_ok opens opens c.put_with_room.result (λ is. is) c.put_with_room.ensures.step.stopped
+    (opens_put c.put_with_room.result c.args.parts.now c.make_room.new.parts c.put_with_room.new.parts
+    (length c.args.value.now) e.moves e.leaves.same_shape (ap (λ (d : Parts). d.values) e.leaves.rest) c.put_with_room.ensures.opens)
+
+pub returns-in-Ok-clause-programs : goal.returns-in-Ok-clause-programs
+returns-in-Ok-clause-programs g c =
+    put_idle c.put_with_room.result c.args.parts.now c.make_room.new.parts (g.B.Nand.state c.args.board.now) (g.B.Nand.state c.make_room.new.board)
+    (g.B.Nand.state c.put_with_room.new.board) c.args.key (length c.args.value.now) c.in-Ok.ensures.idle c.put_with_room.ensures.programs
+
+pub returns-in-Ok-clause-quiet : goal.returns-in-Ok-clause-quiet
+returns-in-Ok-clause-quiet g c = put_reads_none c.put_with_room.result c.args.parts.now c.make_room.new.parts (g.B.Nand.state c.args.board.now)
+    (g.B.Nand.state c.make_room.new.board) (g.B.Nand.state c.put_with_room.new.board) c.args.key c.in-Ok.ensures.idle c.put_with_room.ensures.step.works
+
+pub returns-in-Err-clause-step : goal.returns-in-Err-clause-step
+returns-in-Err-clause-step g c =
+    fails_step c.in-Err.fault c.fail.result c.make_room.new.parts c.fail.new.self c.fail.ensures.same c.fail.ensures.rest _ _
+    (λ e. KeepsAll c.args.parts.now e (g.B.Nand.state c.args.board.now) (g.B.Nand.state c.make_room.new.board)) _ _ _ _ _
+    (put_failed_before c.in-Err.fault c.args.parts.now c.make_room.new.parts _ (g.B.Nand.state c.args.board.now)
+    (g.B.Nand.state c.make_room.new.board) c.requires.can.0.ready c.in-Err.ensures.step c.args.key c.args.value.now c.args.old)
+
+pub returns-in-Err-clause-stays : goal.returns-in-Err-clause-stays
+returns-in-Err-clause-stays g c =
+    let e = c.in-Err.ensures in
+    let a = c.args.parts.now in
+    let b = c.make_room.new.parts in
+    fails_running c.in-Err.fault c.fail.result c.make_room.new.parts c.fail.new.self c.fail.ensures.same c.fail.ensures.rest (λ x. StaysBetween c.args.parts.now x)
+    (running_failed Unit Unit (LeavesValues a b × (length b.log.pending ≤ length a.log.pending)) (StaysBetween a b) c.in-Err.fault (λ is. stays_kept a b is.0 is.1 c.requires.can.0.few)
+    (running_both {T = Unit {0}} (LeavesValues a b) (length b.log.pending ≤ length a.log.pending) (Err c.in-Err.fault) e.leaves e.pending))
+
+pub returns-in-Err-clause-opens : goal.returns-in-Err-clause-opens
+returns-in-Err-clause-opens g c =
+    let a = c.args.parts.now in
+    let b = c.make_room.new.parts in
+    let count = charge a.log.shape (length c.args.value.now) in
+    fails_running c.in-Err.fault c.fail.result c.make_room.new.parts c.fail.new.self c.fail.ensures.same c.fail.ensures.rest
+    (λ x. StaysOrOpens c.args.parts.now x (charge c.args.parts.now.log.shape (length c.args.value.now)))
+    (running_failed Unit Unit (Stays a b) (StaysOrOpens a b count) c.in-Err.fault (stays_opens a b count) c.in-Err.ensures.moves)
+
+pub returns-in-Ok-clause-spends : goal.returns-in-Ok-clause-spends
+returns-in-Ok-clause-spends g c =
+    let e = c.put_with_room.ensures in
+    spends_put _ _ _ _ _ c.in-Ok.ensures.leaves.same_shape (length c.args.value.now) c.make_room.ensures.spends (spends_still _ 0 _ _ e.calls e.step.roots_few)
+
+pub returns-in-Err-clause-spends : goal.returns-in-Err-clause-spends
+returns-in-Err-clause-spends g c = spends_within _ _ _ _ _ _ (omega arith) (omega arith) c.make_room.ensures.spends
+
+pub returns-in-Err-clause-stops : goal.returns-in-Err-clause-stops
+returns-in-Err-clause-stops g c = fails_stopped c.in-Err.fault c.fail.result c.make_room.new.parts c.fail.new.self c.fail.ensures.same c.fail.ensures.rest

@@ -1,0 +1,111 @@
+use Rattle.std.proofs.Common.{refl, ap, sym, subst, ◌∙◌, arith, Ok, Err, length}
+use Rattle.pk_base.specs.Shape.{Shape, charge}
+use Rattle.pk_nand.specs.declared.types.Fault.TheVariants.{Stopped}
+use Rattle.pk_nand.specs.Calls.{IsReady}
+use Rattle.pk_model.proofs.Steps.{Step-broken}
+use Rattle.pk_parts.specs.Parts.{Parts, frames_of}
+use Rattle.pk_parts.specs.Moves.{KeepsAll, BreaksAll}
+use Rattle.pk_changes.specs.Noting.{IsPlaced}
+use Rattle.pk_changes.specs.Changes.{PutsAll, FailsToPut}
+use Rattle.pk_changes.proofs.Putting.{some_puts, some_put, put_changed, put_failed, put_broken}
+use Rattle.pk_parts.proofs.Stopping.{breaks_step, fails_stopped}
+use Rattle.pk_background.proofs.Steps.{later}
+use Rattle.pk_changes.proofs.Following.{stays_committed}
+use Rattle.pk_parts.proofs.Staying.{opens_then, opens_then_ok}
+use Rattle.pk_changes.proofs.Noted.{noted_after_ok}
+use Rattle.pk_changes.proofs.Programming.{put_programs}
+use Rattle.pk_background.proofs.Callings.{few_within, few_then}
+use Rattle.pk_changes.proofs.change.put_with_room.Goals as goal
+
+pub place_value-requires-clause-may : goal.place_value-requires-clause-may
+place_value-requires-clause-may g c = record { ready = c.requires.can.0.ready; stands = (c.requires.can.0.may.0, c.requires.can.0.may.1.stands) }
+
+pub note_put-requires-clause-puts : goal.note_put-requires-clause-puts
+note_put-requires-clause-puts g c =
+    let e = c.in-Ok.ensures.step.ended in
+    some_puts c.args.parts.now c.place_value.new.parts (g.B.Nand.state c.args.board.now) (g.B.Nand.state c.place_value.new.board) c.args.key c.args.value.now c.in-Ok.page c.args.old
+    c.requires.can.0.may e.keeps (ap (λ (d : Parts). d.log.shape) c.place_value.ensures.rest) e.written e.place e.in_open
+
+pub commit_if_full-requires : goal.commit_if_full-requires
+commit_if_full-requires g c =
+    let step = c.in-Ok.ensures.step in
+    let e = step.ended in
+    let one = ap (λ (d : Parts). d.log.shape) c.place_value.ensures.rest in
+    let two = ap (λ (d : Parts). d.log.shape) c.note_put.ensures.rest in
+    record {
+      may = record {
+        ready = subst (λ (s : Shape). IsReady (g.B.Nand.state c.place_value.new.board) s) (sym (two ∙ one)) step.ready;
+        stands = some_put c.args.parts.now c.place_value.new.parts c.note_put.new.parts (g.B.Nand.state c.args.board.now)
+            (g.B.Nand.state c.place_value.new.board) c.args.key c.args.value.now c.in-Ok.page c.args.old
+            c.requires.can.0.may e.keeps one two e.written e.place e.in_open (λ shape flash m p. c.note_put.ensures.stands shape flash m c.args.value.now refl p);
+      };
+    }
+
+pub returns-in-Ok-clause-step : goal.returns-in-Ok-clause-step
+returns-in-Ok-clause-step g c =
+    let step = c.in-Ok.ensures.step in
+    let e = step.ended in
+    let s0 = (g.B.Nand.state c.args.board.now) in
+    let s1 = (g.B.Nand.state c.place_value.new.board) in
+    let s2 = (g.B.Nand.state c.commit_if_full.new.board) in
+    let a = c.args.parts.now in
+    let b = c.place_value.new.parts in
+    let n = c.note_put.new.parts in
+    let d = c.commit_if_full.new.parts in
+    let same = ap (λ (d : Parts). d.log.shape) c.note_put.ensures.rest ∙ ap (λ (d : Parts). d.log.shape) c.place_value.ensures.rest in
+    later c.commit_if_full.result (λ (u : Unit). KeepsAll n d s1 s2) (λ (u : Unit). PutsAll a d s0 s2 c.args.key c.args.value.now c.args.old)
+    (BreaksAll n s1 s2) (FailsToPut a s0 s2 c.args.key c.args.value.now c.args.old)
+    a.log.shape n.log.shape 0 0 0 s0 s1 s2 same (omega arith) step.works step.roots_few
+    (λ u kept. put_changed a b n s0 s1 c.args.key c.args.value.now c.in-Ok.page c.args.old
+    c.requires.can.0.ready e.keeps e.written e.place e.in_open (λ shape flash m p. c.note_put.ensures.stands shape flash m c.args.value.now refl p) (Ok u) d s2 kept)
+    (λ broken. put_failed a b n s0 s1 c.args.key c.args.value.now c.in-Ok.page c.args.old
+    c.requires.can.0.ready e.keeps e.written e.place e.in_open (λ shape flash m p. c.note_put.ensures.stands shape flash m c.args.value.now refl p) (Err Stopped) s2 broken)
+    c.commit_if_full.ensures.step
+
+pub returns-in-Ok-clause-stays : goal.returns-in-Ok-clause-stays
+returns-in-Ok-clause-stays g c =
+    let one = c.place_value.ensures.rest in
+    let two = c.note_put.ensures.rest in
+    stays_committed c.commit_if_full.result c.args.parts.now c.note_put.new.parts c.commit_if_full.new.parts (ap (λ (d : Parts). frames_of d) two ∙ ap (λ (d : Parts). frames_of d) one)
+    (ap (λ (d : Parts). d.stopped) two ∙ ap (λ (d : Parts). d.stopped) one)
+    (ap (λ (d : Parts). d.log.shape) two ∙ ap (λ (d : Parts). d.log.shape) one) c.commit_if_full.ensures.rest c.commit_if_full.ensures.few
+
+pub returns-in-Err-clause-step : goal.returns-in-Err-clause-step
+returns-in-Err-clause-step g c =
+    let s0 = (g.B.Nand.state c.args.board.now) in
+    let s1 = (g.B.Nand.state c.place_value.new.board) in
+    let a = c.args.parts.now in
+    breaks_step c.in-Err.fault c.fail.result c.place_value.new.parts c.fail.new.self c.fail.ensures.same c.fail.ensures.rest
+    (λ (u : Unit). PutsAll a c.place_value.new.parts s0 s1 c.args.key c.args.value.now c.args.old) _ _ _ _ _ _
+    (Step-broken _ (λ page. IsPlaced a c.place_value.new.parts s0 s1 c.args.key c.args.value.now page) (λ (u : Unit). PutsAll a c.place_value.new.parts s0 s1 c.args.key c.args.value.now c.args.old)
+    (BreaksAll a s0 s1) (FailsToPut a s0 s1 c.args.key c.args.value.now c.args.old) a.log.shape 0 0 s0 s1 (omega arith)
+    (λ broken. put_broken a s0 s1 c.args.key c.args.value.now c.args.old c.requires.can.0.ready broken) c.in-Err.ensures.step)
+
+pub returns-in-Ok-clause-opens : goal.returns-in-Ok-clause-opens
+returns-in-Ok-clause-opens g c =
+    opens_then_ok c.commit_if_full.result _ _ _ _ (opens_then _ _ _ _ c.in-Ok.ensures.opens c.note_put.ensures.moves) c.commit_if_full.ensures.moves
+
+pub returns-in-Ok-clause-noted : goal.returns-in-Ok-clause-noted
+returns-in-Ok-clause-noted g c =
+    let e = c.commit_if_full.ensures in
+    noted_after_ok c.commit_if_full.result c.note_put.new.parts c.commit_if_full.new.parts c.args.key c.note_put.ensures.noted e.rest
+
+pub returns-in-Ok-clause-programs : goal.returns-in-Ok-clause-programs
+returns-in-Ok-clause-programs g c =
+    let e = c.in-Ok.ensures in
+    put_programs c.commit_if_full.result c.args.parts.now c.place_value.new.parts c.note_put.new.parts c.commit_if_full.new.parts
+    (g.B.Nand.state c.args.board.now) (g.B.Nand.state c.place_value.new.board) (g.B.Nand.state c.commit_if_full.new.board) (length c.args.value.now)
+    c.requires.can.0.few e.programs (ap (λ (d : Parts). d.log) c.place_value.ensures.rest) c.note_put.ensures.more
+    (ap (λ (d : Parts). d.log.shape) c.note_put.ensures.rest) c.commit_if_full.ensures.idle c.commit_if_full.ensures.full
+
+pub returns-in-Ok-clause-calls : goal.returns-in-Ok-clause-calls
+returns-in-Ok-clause-calls g c = few_then _ _ _ _ _ c.place_value.ensures.calls c.commit_if_full.ensures.calls
+
+pub returns-in-Err-clause-calls : goal.returns-in-Err-clause-calls
+returns-in-Err-clause-calls g c = few_within _ _ _ _ (omega arith) c.place_value.ensures.calls
+
+pub returns-in-Err-clause-stops : goal.returns-in-Err-clause-stops
+returns-in-Err-clause-stops g c = fails_stopped c.in-Err.fault c.fail.result c.place_value.new.parts c.fail.new.self c.fail.ensures.same c.fail.ensures.rest
+
+pub note_put-requires-clause-counted : goal.note_put-requires-clause-counted
+note_put-requires-clause-counted g c = c.requires.can.1 ∙ ap (λ (d : Parts). charge d.log.shape (length c.args.value.now)) (sym c.place_value.ensures.rest)

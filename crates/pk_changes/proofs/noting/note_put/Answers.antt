@@ -1,0 +1,64 @@
+use Rattle.pk_changes.proofs.Entries.{old_short, keys_small, put_moves, put_stands}
+use Rattle.std.proofs.Common.{ℕ, ap}
+use Rattle.pk_parts.proofs.Staying.{note_stays}
+use Rattle.pk_changes.proofs.Noted.{put_noted}
+use Rattle.pk_changes.proofs.Programming.{pushed_more}
+use Rattle.pk_changes.proofs.noting.note_put.Goals as goal
+
+pub span_if_there-before-requires : goal.span_if_there-before-requires
+span_if_there-before-requires g c =
+    let p = rw (← c.parts.view_is) at c.requires.puts in
+    rw (c.shape-shape.ensures, ← c.parts.view_is) (old_short _ p.0 p.1 c.args.key p.2 c.args.page c.args.old p.4)
+
+pub replace-requires : goal.replace-requires
+replace-requires g c =
+    let p = rw (← c.parts.view_is) at c.requires.puts in
+    let before = rw (c.shape-shape.ensures, ← c.parts.view_is) at c.span_if_there-before.ensures in
+    let now = ap (λ (n : ℕ). record { page = c.args.page; count = n }) (rw (← c.parts.view_is) at c.requires.counted) in
+    put_moves _ p.0 p.1 c.args.key p.2 c.args.page c.args.len c.args.old p.3 p.4 c.span_if_there-before.result (record { page = c.args.page; count = c.args.count }) before now
+
+pub more_keys-parts-inside-requires : goal.more_keys-parts-inside-requires
+more_keys-parts-inside-requires g c =
+    let p = rw (← c.parts.view_is) at c.requires.puts in
+    keys_small _ _ p.0 p.4.top p.4.found p.4.without p.1 p.4.with
+
+pub returns-clause-stands : goal.returns-clause-stands
+returns-clause-stands g c shape flash m value is_len puts =
+    let p = rw (← c.parts.view_is) at puts in
+    let before = rw (c.shape-shape.ensures, ← c.parts.view_is) at c.span_if_there-before.ensures in
+    let now = ap (λ (n : ℕ). record { page = c.args.page; count = n }) (rw (← c.parts.view_is) at c.requires.counted) in
+    put_stands _ shape flash m c.args.key value c.args.page c.args.len c.args.old is_len p c.push.new.self c.replace.new.self c.more_keys-parts-inside.result c.span_if_there-before.result
+    (record { page = c.args.page; count = c.args.count })
+    (record { pushed_is = c.push.ensures.pushed; stands = c.push.ensures.stands; fits_in = c.push.ensures.fits })
+    before now c.replace.ensures.moved c.replace.ensures.placed c.more_keys-parts-inside.ensures
+
+pub returns-clause-moves : goal.returns-clause-moves
+returns-clause-moves g c =
+    rw (← c.parts.view_is) (note_stays
+    (record {
+      log = c.parts.inside.log;
+      levels = c.parts.inside.levels;
+      arena = c.parts.inside.arena;
+      schedule = c.parts.inside.schedule;
+      values = c.parts.inside.values;
+      reclaim = c.parts.inside.reclaim;
+      pool = c.parts.inside.pool;
+      keys = c.parts.inside.keys;
+      stopped = c.parts.inside.stopped;
+      walk = c.parts.inside.walk;
+    })
+    _ c.push.new.self c.replace.new.self c.more_keys-parts-inside.result c.push.ensures.pushed (ap (λ s. s.open_block) c.replace.ensures.moved))
+
+pub returns-clause-noted : goal.returns-clause-noted
+returns-clause-noted g c =
+    let p = rw (← c.parts.view_is) at c.requires.puts in
+    put_noted _ p.0 p.1 c.args.key p.2 c.args.page c.args.len c.args.old c.push.new.self c.replace.new.self c.more_keys-parts-inside.result p.3 p.4 c.push.ensures.pushed
+    (ap (λ s. s.open_block) c.replace.ensures.moved)
+
+pub returns-clause-more : goal.returns-clause-more
+returns-clause-more g c = rw (← c.parts.view_is) (pushed_more c.parts.inside.log c.push.new.self _ c.push.ensures.pushed)
+
+pub push-requires-clause-whole : goal.push-requires-clause-whole
+push-requires-clause-whole g c =
+    let p = rw (← c.parts.view_is) at c.requires.puts in
+    p.4.whole.epoch

@@ -1,0 +1,98 @@
+-- A change of the map: a key gets a value, or loses its own.
+use Rattle.std.specs.Prelude.{◌≡◌, ◌≤◌, ◌<◌, ℕ, List, length, Option, Some, Result}
+use Rattle.std.specs.FinMap.{insert, remove}
+use Rattle.std.specs.FinMap.Entries.{find}
+use Rattle.pk_base.specs.Entry.{Place}
+use Rattle.pk_base.specs.Fields.{AreBytes}
+use Rattle.pk_base.specs.Key.{Key, key_cmp}
+use Rattle.pk_base.specs.Shape.{Shape, limit, greatest, page_entries}
+use Rattle.pk_base.specs.Page.{Flash}
+use Rattle.pk_base.specs.Map.{Map, live}
+use Rattle.pk_nand.specs.BoardState.{BoardState}
+use Rattle.pk_nand.specs.declared.types.Fault.{Fault}
+use Rattle.pk_nand.specs.Calls.{IsReady}
+use Rattle.pk_model.specs.Steps.{Step}
+use Rattle.pk_law_steps.specs.Under.{places}
+use Rattle.pk_model.specs.Growth.{Reaches, Goes}
+use Rattle.pk_parts.specs.Parts.{Parts, frames_of}
+use Rattle.pk_model.specs.Crashes.{CrashFinds, change}
+use Rattle.pk_parts.specs.Moves.{StandsFor, KeepsAll}
+use Rattle.pk_background.specs.Emptying.{StepOrRead}
+
+-- A key may get a value: its value was at this place until now, or there was none, and the live pages are within their limit with the new one.
+pub record MayPut (d : Parts) (shape : Shape) (flash : Flash) (m : Map) (key : Key) (value : List ℕ) (old : Option Place) : Type 0 where
+  pub stands : StandsFor d shape flash m
+  pub old_is : find key_cmp key (places stands.found d.log.pending) ≡ old
+  pub bytes : AreBytes key
+  pub room : live shape (insert m key value) ≤ limit shape
+
+-- a key has its value at this place, and may lose it
+pub record MayTake (d : Parts) (shape : Shape) (flash : Flash) (m : Map) (key : Key) (old : Place) : Type 0 where
+  pub stands : StandsFor d shape flash m
+  pub old_is : find key_cmp key (places stands.found d.log.pending) ≡ Some old
+  pub bytes : AreBytes key
+
+-- The drive represents the map after the change. At every cut the flash holds what it held, or the map before it, or the one after it.
+pub record Changes (after : Parts) (shape : Shape) (m m' : Map) (old new : BoardState) : Type 0 where
+  pub stands : StandsFor after shape new.pages m'
+  pub cuts : Reaches shape old new (CrashFinds shape (change m') old.pages m)
+
+-- for every map in which the key may get the value
+abbrev pub PutsAll : Parts → Parts → BoardState → BoardState → Key → List ℕ → Option Place → Type 0
+PutsAll before after old new key value place =
+    (shape : Shape) (m : Map) → MayPut before shape old.pages m key value place → Changes after shape m (insert m key value) old new
+
+-- the same of a call that stopped the drive
+abbrev pub FailsToPut : Parts → BoardState → BoardState → Key → List ℕ → Option Place → Type 0
+FailsToPut before old new key value place =
+    (shape : Shape) (m : Map) → MayPut before shape old.pages m key value place → Goes shape old new (CrashFinds shape (change (insert m key value)) old.pages m)
+
+-- for every map from which the key may be taken
+abbrev pub TakesAll : Parts → Parts → BoardState → BoardState → Key → Place → Type 0
+TakesAll before after old new key place = (shape : Shape) (m : Map) → MayTake before shape old.pages m key place → Changes after shape m (remove m key) old new
+
+-- the same of a call that stopped the drive
+abbrev pub FailsToTake : Parts → BoardState → BoardState → Key → Place → Type 0
+FailsToTake before old new key place = (shape : Shape) (m : Map) → MayTake before shape old.pages m key place → Goes shape old new (CrashFinds shape (change (remove m key)) old.pages m)
+
+-- ---- steps
+
+-- what a put asks: the key may get the value, which is not too long
+pub record CanPut (d : Parts) (board : BoardState) (key : Key) (value : List ℕ) (place : Option Place) : Type 0 where
+  pub ready : IsReady board d.log.shape
+  pub may : (m : Map) × MayPut d d.log.shape board.pages m key value place
+  pub short : length value ≤ greatest d.log.shape
+  pub few : length d.log.pending < page_entries d.log.shape
+
+-- what a removal asks: the key may be taken
+pub record CanTake (d : Parts) (board : BoardState) (key : Key) (place : Place) : Type 0 where
+  pub ready : IsReady board d.log.shape
+  pub may : (m : Map) × MayTake d d.log.shape board.pages m key place
+  pub few : length d.log.pending < page_entries d.log.shape
+
+-- a step that gives the key its value
+abbrev pub StepPuts : Parts → Parts → ℕ → BoardState → BoardState → Key → List ℕ → Option Place → Result Unit Fault → Type 0
+StepPuts before after most old new key value place result =
+    Step (λ (u : Unit). PutsAll before after old new key value place) (FailsToPut before old new key value place) before.log.shape most old new result
+
+-- a step that takes it away
+abbrev pub StepTakes : Parts → Parts → ℕ → BoardState → BoardState → Key → Place → Result Unit Fault → Type 0
+StepTakes before after most old new key place result =
+    Step (λ (u : Unit). TakesAll before after old new key place) (FailsToTake before old new key place) before.log.shape most old new result
+
+-- Steps that give the key its value, or a read of them failed and the map is unchanged.
+abbrev pub PutsOrReads : Parts → Parts → ℕ → BoardState → BoardState → Key → List ℕ → Option Place → Result Unit Fault → Type 0
+PutsOrReads before after most old new key value place result =
+    StepOrRead (λ (u : Unit). PutsAll before after old new key value place) (KeepsAll before after old new) (FailsToPut before old new key value place) before.log.shape most old new result
+
+-- the same of steps that take it away
+abbrev pub TakesOrReads : Parts → Parts → ℕ → BoardState → BoardState → Key → Place → Result Unit Fault → Type 0
+TakesOrReads before after most old new key place result =
+    StepOrRead (λ (u : Unit). TakesAll before after old new key place) (KeepsAll before after old new) (FailsToTake before old new key place) before.log.shape most old new result
+
+-- the drive runs as before, and fewer entries are pending than a page of the journal takes
+pub record StaysBetween (before after : Parts) : Type 0 where
+  pub frames : frames_of after ≡ frames_of before
+  pub stopped : after.stopped ≡ before.stopped
+  pub same_shape : after.log.shape ≡ before.log.shape
+  pub few : length after.log.pending < page_entries before.log.shape

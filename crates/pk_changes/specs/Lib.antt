@@ -1,0 +1,4 @@
+pub mod Programming
+pub mod Placing
+pub mod Noting
+pub mod Changes
