@@ -17,6 +17,10 @@ none = record { number = 0; epoch = 0; newest = []; older = []; counts = 0 ∷ 0
 abbrev pub first : Root
 first = record { number = 1; epoch = 1; newest = ROOT_BLOCKS ∷ (ROOT_BLOCKS + 1) ∷ []; older = []; counts = 0 ∷ 0 ∷ 0 ∷ 0 ∷ []; runs = [] ∷ [] ∷ [] ∷ [] ∷ []; limits = [] }
 
+-- the first root of a flash with these limits
+abbrev pub first_with : List ℕ → Root
+first_with limits = record first { limits = limits }
+
 -- the sum of the sizes of runs
 abbrev pub total : List ℕ → ℕ
 total [] = 0

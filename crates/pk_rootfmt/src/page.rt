@@ -4,7 +4,7 @@ ghost use Rattle.std.specs.List.{flat_map};
 ghost use Rattle.pk_base.specs.Fields.{spelled, zeros as zeros_of, u16 as two_bytes, u32 as four_bytes, u64 as eight_bytes};
 ghost use Rattle.pk_rootfmt.specs.Root.{root_bytes, is_root, are_limits, limit_bytes, version_of};
 ghost use Rattle.pk_rootfmt.specs.Fault.{root_magic};
-ghost use Rattle.pk_rootfmt.specs.Held.{first as first_root, RootReadsBack};
+ghost use Rattle.pk_rootfmt.specs.Held.{first as first_root, first_with, RootReadsBack};
 
 use crate::check::MAGIC;
 use crate::copy::put_blocks;
@@ -139,8 +139,8 @@ fn known_first(shape: &Shape)
 pub fn first(shape: &Shape, into: &mut [u8], limits: &[u32])
     requires limits { are_limits shape.now limits.now ≡ true }
     requires sized { length into.old ≡ shape.now.page_bytes }
-    ensures bytes { into.new ≡ root_bytes shape.now (record first_root { limits = limits.now }) }
-    ensures grammar { is_root shape.now (record first_root { limits = limits.now }) ≡ true }
+    ensures bytes { into.new ≡ root_bytes shape.now (first_with limits.now) }
+    ensures grammar { is_root shape.now (first_with limits.now) ≡ true }
 {
     shape.known();
     known_first(shape);

@@ -43,7 +43,8 @@ use Rattle.pk_top.specs.Loads.{load_status, HasReason}
 use Rattle.pk_top.specs.Serves.{NotServed, behind_opening}
 use Rattle.pk_top.specs.Statuses.{GivesNothing, Untouched, Tells}
 use Rattle.pk_top.proofs.Asked.{input_still}
-use Rattle.pk_top.specs.PairRuns.{NotFound, KeepsPair, AskedPair, AsksPair, PairRun, PairTells, LacksPair, PairRefused, PairWhole, no_speaker, first_unopened, second_unopened, pair_asked, no_pair_memory, first_missing, second_missing, shapes_differ, pair_found}
+use Rattle.pk_top.specs.PairRuns.{NotFound, KeepsPair, AskedPair, AsksPair, PairRun, PairTells, LacksPair, PairRefused, PairWhole, no_speaker, first_unopened, second_unopened, pair_asked}
+use Rattle.pk_top.specs.PairRuns.{no_pair_memory, first_missing, second_missing, shapes_differ, pair_found}
 use Rattle.pk_top.proofs.Telling.{tells_refused, tells_not, tells_no_drive, wants_untouched, wants_sound, untouched_same, load_untouched, refused_untouched}
 
 names_len : (es : List (Key × List ℕ)) → length (map (λ e. e.0) es) ≡ length es
@@ -599,7 +600,7 @@ short_by words key value (ask (answer stat_one)) is e = absurd (cc)
 short_by words key value (ask (list_keys None)) is e = absurd (cc)
 short_by words key value (ask (list_keys (Some k))) is e = absurd (cc)
 short_by words key value (ask (generate begin count)) is e = absurd (cc)
-short_by words key value (make shape) is e = absurd (cc)
+short_by words key value (make shape limits) is e = absurd (cc)
 short_by words key value (serve frames) is e = absurd (cc)
 short_by words key value assemble is e = absurd (cc)
 short_by words key value show is e = absurd (cc)
