@@ -20,7 +20,7 @@ use Rattle.pk_parts.specs.Moves.{StandsFor, StandsBetween}
 use Rattle.pk_parts.specs.Staying.{StaysOrFrees}
 use Rattle.pk_background.specs.Reclaiming.{ReclaimHolds, HoldsAll, FailsAll}
 use Rattle.pk_background.specs.Ticking.{MayTick, Advances}
-use Rattle.pk_parts.proofs.Unchanging.{for_its_map, agrees_ready}
+use Rattle.pk_parts.proofs.Unchanging.{for_its_map, agrees_ready, limits_are}
 use Rattle.pk_parts.proofs.Halves.{stands as whole_stands}
 use Rattle.pk_parts.proofs.Standing.{agrees_so, agrees_between, reads_as, reads_between, stands_between}
 use Rattle.pk_background.proofs.Ticking.{worked_fine, stopped_fine, stopped_idle, stopped_worked, worked_idle}
@@ -64,7 +64,7 @@ module _ (d : Parts) (old : BoardState) (m : MayTick d old) where
         record {
           ticks = record {
             stands = λ _. for_its_map d old m.agrees (λ s f x. HoldsMap s f new (sight_of d') x)
-                (record { shape_is = ready.shape_is; frames_is = frames; map_is = reads_between d' d.log.shape new.pages m.agrees.all here.stands });
+                (record { shape_is = ready.shape_is; frames_is = frames; limits_is = limits_are d.log.shape new.pages; map_is = reads_between d' d.log.shape new.pages m.agrees.all here.stands });
             cuts = λ _. for_its_map d old m.agrees (λ s f x. Reaches s old new (CrashFinds s background old.pages x)) here.cuts;
             cuts_stopped = λ e. absurd (false_true e);
             idle_rests = λ e. absurd (worked_idle e);
@@ -105,7 +105,7 @@ module _ (d : Parts) (old : BoardState) (m : MayTick d old) where
         record {
           ticks = record {
             stands = λ _. for_its_map d old m.agrees (λ s f x. HoldsMap s f new (sight_of d') x)
-                (record { shape_is = ready.shape_is; frames_is = frames; map_is = reads_as d' d.log.shape new.pages m.agrees.all still });
+                (record { shape_is = ready.shape_is; frames_is = frames; limits_is = limits_are d.log.shape new.pages; map_is = reads_as d' d.log.shape new.pages m.agrees.all still });
             cuts = λ _. for_its_map d old m.agrees (λ s f x. Reaches s old new (CrashFinds s background old.pages x)) (
               [],
               Reached-start old new (CrashFinds d.log.shape background old.pages m.agrees.all) (ap (λ (b : BoardState). b.shape) only) pages_same

@@ -65,7 +65,7 @@ use Rattle.pk_background.proofs.Unread.{KeepsOwners, SameRead, same_top, still_w
 use Rattle.pk_background.proofs.Stills.{IsStill, SameStill, StillCut, read_still, still_end, went_end, still_erase, still_erase_failed}
 use Rattle.pk_background.proofs.Beside.{IsIndexed, spare_still, beside_still, same_roots}
 use Rattle.pk_parts.proofs.Halves.{with_settled, whole_of, whole_like, is_whole, counted_of, pool_same}
-use Rattle.pk_parts.proofs.Unchanging.{own, own_whole, for_its_map}
+use Rattle.pk_parts.proofs.Unchanging.{own, own_whole, for_its_map, limits_are}
 use Rattle.pk_base.proofs.Logic.{not_both, both_true}
 
 pub yes_no : (b : Bool) → b ≡ false → b ≡ true → ⊥
@@ -267,6 +267,7 @@ module _ (d : Parts) (old new : BoardState) (a : DriveOnFlash d old.shape old.pa
               (record {
                 shape_is = ready.shape_is;
                 frames_is = refl;
+                limits_is = limits_are d.log.shape new.pages;
                 map_is = under_reads d.log.shape new.pages d.log.pending a.top a.found a.all
                     (still_all d d.values d.pool d.log.shape old.pages new.pages a.top a.found a.without a.all (own_whole d old a whole) same);
               });

@@ -9,6 +9,7 @@ use Rattle.pk_nvme.specs.declared.status.TheConstants.{SUCCESSFUL_COMPLETION, UN
 use Rattle.pk_nand.specs.BoardState.{BoardState, shape_of}
 use Rattle.pk_nand.specs.Calls.{Rose}
 use Rattle.pk_nand.specs.Effects.{OnlyReading, NoFault}
+use Rattle.pk_model.specs.Spaces.{limits_at}
 use Rattle.pk_model.specs.Answer.{early}
 use Rattle.pk_model.specs.Sight.{Sight}
 use Rattle.pk_model.specs.Wear.{roots}
@@ -25,7 +26,7 @@ use Rattle.pk_call.specs.declared.types.Outcome.{Outcome}
 pub record AnswersCommand (old new : BoardState) (before after : Sight) (r : Request) (value : List ℕ) (o : Outcome) (buffer into : List ℕ) : Type 0 where
   pub stands : o.stopped ≡ false → ExecStands old new before after (command_of r value) (reply_of o into) o.reads
   pub stop_status : o.stopped ≡ true → o.status ≡ UNRECOVERED_ERROR
-  pub early : IsSome (early (shape_of old) (command_of r value)) → (o.stopped ≡ false) × (new ≡ old) × (after ≡ before)
+  pub early : IsSome (early (length (limits_at (shape_of old) old.pages)) (shape_of old) (command_of r value)) → (o.stopped ≡ false) × (new ≡ old) × (after ≡ before)
   pub looks : only_looks r.opcode ≡ true → (after ≡ before) × OnlyReading old new
   pub report : r.opcode ≡ REPORT → (o.status ≢ UNRECOVERED_ERROR) × (new ≡ old)
   pub report_data : r.opcode ≡ REPORT → o.status ≡ SUCCESSFUL_COMPLETION → take o.data_len into ≡ report_of after.counts

@@ -6,6 +6,7 @@ use Rattle.pk_nand.specs.BoardState.{BoardState}
 use Rattle.pk_nand.specs.Calls.{Rose}
 use Rattle.pk_nand.specs.Counts.{counted_by}
 use Rattle.pk_nand.specs.Effects.{NoFault}
+use Rattle.pk_model.specs.Spaces.{Terms}
 use Rattle.pk_model.specs.Sight.{Sight}
 use Rattle.pk_model.specs.Wear.{roots}
 use Rattle.pk_call.specs.Call.{KeepsMap}
@@ -25,7 +26,7 @@ pub record ProgramsOfCommit (least : ℕ) (old new : BoardState) : Type 0 where
 -- so if entries are pending
 abbrev pub CommitPrograms : ℕ → BoardState → BoardState → Sight → Type 0
 CommitPrograms least old new before =
-    (shape : Shape) (frames : ℕ) (m : Map) → HoldsMap shape frames old before m → before.pending ≢ [] → ProgramsOfCommit least old new
+    (shape : Shape) (terms : Terms) (m : Map) → HoldsMap shape terms old before m → before.pending ≢ [] → ProgramsOfCommit least old new
 
 -- What it leaves: the same map and nothing pending; if nothing was pending it did nothing.
 pub record AnswersCommit (old new : BoardState) (before after : Sight) (stopped : Bool) : Type 0 where

@@ -10,21 +10,22 @@ use Rattle.pk_nvme.specs.Reply.{Reply}
 use Rattle.pk_nand.specs.BoardState.{BoardState}
 use Rattle.pk_nvme.specs.Opcode.{op_of}
 use Rattle.pk_nvme.specs.declared.opcode.Opcode.TheVariants.{Retrieve}
+use Rattle.pk_model.specs.Spaces.{Terms}
 use Rattle.pk_model.specs.Run.{Step}
 use Rattle.pk_model.specs.Bounds.{most_reads}
 use Rattle.pk_model.specs.Sight.{Sight, Counts, numbers}
 use Rattle.pk_call.specs.Drive.{HoldsMap}
 
 -- a command that did not stop the drive
-pub record Executed (shape : Shape) (frames : ℕ) (new : BoardState) (drive : Sight) (m : Map) (c : Command) (reply : Reply) (reads : ℕ) : Type 0 where
+pub record Executed (shape : Shape) (terms : Terms) (new : BoardState) (drive : Sight) (m : Map) (c : Command) (reply : Reply) (reads : ℕ) : Type 0 where
   pub left : Map
-  pub stepped : Step shape frames m c reply left
-  pub stands : HoldsMap shape frames new drive left
-  pub bounded : op_of c.opcode ≡ Some Retrieve → reads ≤ most_reads shape frames m c
+  pub stepped : Step shape terms m c reply left
+  pub stands : HoldsMap shape terms new drive left
+  pub bounded : op_of c.opcode ≡ Some Retrieve → reads ≤ most_reads shape terms m c
 
 abbrev pub ExecStands : BoardState → BoardState → Sight → Sight → Command → Reply → ℕ → Type 0
 ExecStands old new before after c reply reads =
-    (shape : Shape) (frames : ℕ) (m : Map) → HoldsMap shape frames old before m → Executed shape frames new after m c reply reads
+    (shape : Shape) (terms : Terms) (m : Map) → HoldsMap shape terms old before m → Executed shape terms new after m c reply reads
 
 -- most roots of a Store: a reclaim and its entry may each need room, which takes four merges and a freeze, and each of these a root
 abbrev pub most_store_roots : ℕ

@@ -13,6 +13,7 @@ use Rattle.pk_nvme.specs.Command.{Command, key}
 use Rattle.pk_nvme.specs.declared.opcode.TheConstants.{STORE}
 use Rattle.pk_nand.specs.BoardState.{BoardState}
 use Rattle.pk_nand.specs.Counts.{counted_by}
+use Rattle.pk_model.specs.Spaces.{Terms}
 use Rattle.pk_model.specs.Found.{entries_in_order}
 use Rattle.pk_model.specs.Tree.{Tree, IsTree}
 use Rattle.pk_model.specs.Sight.{Sight, free_pages}
@@ -55,7 +56,7 @@ pub record StoresIn (shape : Shape) (old new : Flash) (before after : Sight) (c 
 
 -- for every map that the drive may represent
 abbrev pub Stores : BoardState → BoardState → Sight → Sight → Command → Type 0
-Stores old new before after c = (shape : Shape) (frames : ℕ) (m : Map) → HoldsMap shape frames old before m → StoresIn shape old.pages new.pages before after c
+Stores old new before after c = (shape : Shape) (terms : Terms) (m : Map) → HoldsMap shape terms old before m → StoresIn shape old.pages new.pages before after c
 
 -- ---- a Store or a Delete that waits for nothing
 

@@ -8,6 +8,7 @@ use Rattle.pk_base.specs.Firsts.{firsts}
 use Rattle.pk_base.specs.Map.{Map}
 use Rattle.pk_rootfmt.specs.Root.{Root, named, differ}
 use Rattle.pk_nand.specs.BoardState.{BoardState}
+use Rattle.pk_model.specs.Spaces.{Terms}
 use Rattle.pk_model.specs.Found.{Found, entries_in_order}
 use Rattle.pk_model.specs.Values.{placed, blocks_with, all_pages}
 use Rattle.pk_model.specs.Laws.{AnyByRecursion}
@@ -64,4 +65,4 @@ pub record IsSteady (shape : Shape) (flash : Flash) (drive : Sight) : Type 0 whe
 
 -- after a call that begins while the drive represents a map
 abbrev pub Steadies : BoardState → BoardState → Sight → Sight → Type 0
-Steadies old new before after = (shape : Shape) (frames : ℕ) (m : Map) → HoldsMap shape frames old before m → IsSteady shape new.pages after
+Steadies old new before after = (shape : Shape) (terms : Terms) (m : Map) → HoldsMap shape terms old before m → IsSteady shape new.pages after

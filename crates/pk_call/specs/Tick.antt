@@ -5,6 +5,7 @@ use Rattle.pk_base.specs.Map.{Map}
 use Rattle.pk_nand.specs.BoardState.{BoardState, shape_of}
 use Rattle.pk_nand.specs.Calls.{Rose}
 use Rattle.pk_nand.specs.Effects.{OnlyReading, NoFault, AtMostOneCall, OneProgram}
+use Rattle.pk_model.specs.Spaces.{Terms}
 use Rattle.pk_model.specs.Growth.{Grows}
 use Rattle.pk_model.specs.Sight.{Sight, IsIdle}
 use Rattle.pk_model.specs.Wear.{roots}
@@ -20,12 +21,12 @@ use Rattle.pk_call.specs.declared.types.Ticked.TheVariants.{Worked, Idle, Fault}
 -- it answers that the drive is idle exactly if it is
 abbrev pub TellsIdle : BoardState → Sight → Ticked → Type 0
 TellsIdle board drive answer =
-    (shape : Shape) (frames : ℕ) (m : Map) → HoldsMap shape frames board drive m → (answer ≡ Idle) ↔ IsIdle shape board.pages drive
+    (shape : Shape) (terms : Terms) (m : Map) → HoldsMap shape terms board drive m → (answer ≡ Idle) ↔ IsIdle shape board.pages drive
 
 -- a step that worked leaves less to do
 abbrev pub LowersWork : BoardState → Sight → Sight → Ticked → Type 0
 LowersWork board before after answer =
-    answer ≡ Worked → (shape : Shape) (frames : ℕ) (m : Map) → HoldsMap shape frames board before m → after.work < before.work
+    answer ≡ Worked → (shape : Shape) (terms : Terms) (m : Map) → HoldsMap shape terms board before m → after.work < before.work
 
 -- What it answers and leaves: the same map, and the root that is on the flash. A step that is idle or reads in vain does not change the drive.
 pub record AnswersStep (old new : BoardState) (before after : Sight) (answer : Ticked) : Type 0 where

@@ -32,7 +32,7 @@ use Rattle.pk_parts.specs.Agreeing.{DriveOnFlashWith, DriveOnFlash}
 use Rattle.pk_core.specs.Done.{Does}
 use Rattle.pk_core.specs.Quiet.{DoneWithout}
 use Rattle.pk_core.proofs.Unchanging.{same_early, does_reads, flush_step, report_step, ok_sound, AnswersAll}
-use Rattle.pk_parts.proofs.Unchanging.{own, for_its_map, reads_none, same_ok}
+use Rattle.pk_parts.proofs.Unchanging.{own, for_its_map, reads_none, same_ok, whole_all}
 use Rattle.pk_base.proofs.Logic.{some_same}
 
 pub numbers_more : (xs into new : List ℕ) (i d : ℕ) → i < length xs → take (4 * i + 4) new ≡ take (4 * i) into ++ u32 (get_or xs i d) → take (4 * i) into ≡ flat_map u32 (take i xs)
@@ -95,10 +95,10 @@ report_other e = cc
 pub flush_done : (d : Parts) (o : Outcome) (into : List ℕ) → o ≡ record { status = 0; result = 0; data_len = 0; reads = 0; stopped = false } → DoneWithout d 0x00 o into
 flush_done d o into told board r v a few op passed =
     let c = command_of r v in
-    let passes : early d.log.shape c ≡ None = same_early d.log.shape r v ∙ passed in
+    let passes : early 1 d.log.shape c ≡ None = same_early d.log.shape r v ∙ passed in
     let all : AnswersAll board (sight_of d) c (success 0 []) 0 =
     for_its_map d board a (λ s f m. Step s f m c (success 0 []) m × (op_of r.opcode ≡ Some Retrieve → 0 ≤ most_reads s f m c))
-    (flush_step d.log.shape (frames_of d) a.all c passes op, λ e. absurd (other_than Flush r.opcode (ap op_of op) flush_other e)) in
+    (flush_step d.log.shape (frames_of d) a.all c passes (whole_all d board a) op, λ e. absurd (other_than Flush r.opcode (ap op_of op) flush_other e)) in
     subst (λ (x : Outcome). Does board board (sight_of d) (sight_of d) c (reply_of x into) x.reads x.stopped) (sym told)
     (does_reads board board (sight_of d) c (success 0 []) 0 0 few few (reads_none board few) (omega arith) ok_sound all)
 
@@ -106,10 +106,10 @@ pub report_done : (d : Parts) (o : Outcome) (into : List ℕ) → o ≡ record {
     → take 64 into ≡ report_of (counts_of d) → DoneWithout d 0xC2 o into
 report_done d o into told bytes board r v a few op passed =
     let c = command_of r v in
-    let passes : early d.log.shape c ≡ None = same_early d.log.shape r v ∙ passed in
+    let passes : early 1 d.log.shape c ≡ None = same_early d.log.shape r v ∙ passed in
     let counted = counts_own d board a in
     let all : AnswersAll board (sight_of d) c (success 0 (take 64 into)) 0 =
     for_its_map d board a (λ s f m. Step s f m c (success 0 (take 64 into)) m × (op_of r.opcode ≡ Some Retrieve → 0 ≤ most_reads s f m c))
-    (report_step d.log.shape (frames_of d) a.all c passes (counts_of d) (take 64 into) op counted bytes, λ e. absurd (other_than Report r.opcode (ap op_of op) report_other e)) in
+    (report_step d.log.shape (frames_of d) a.all c passes (whole_all d board a) (counts_of d) (take 64 into) op counted bytes, λ e. absurd (other_than Report r.opcode (ap op_of op) report_other e)) in
     subst (λ (x : Outcome). Does board board (sight_of d) (sight_of d) c (reply_of x into) x.reads x.stopped) (sym told)
     (does_reads board board (sight_of d) c (success 0 (take 64 into)) 0 0 few few (reads_none board few) (omega arith) ok_sound all)

@@ -19,16 +19,17 @@ use Rattle.pk_model.specs.Run.{Step}
 use Rattle.pk_model.specs.Reading.{reading}
 use Rattle.pk_model.specs.Laws.{IsStorable}
 use Rattle.pk_model.proofs.HeldMap.{map_held}
-use Rattle.pk_model.proofs.Answering.{serves}
+use Rattle.pk_model.proofs.Answering.{serves, IsAlone, serves_alone}
 use Rattle.pk_law_steps.proofs.Untouched.{under_reads}
 use Rattle.pk_nand.specs.Effects.{OnlyFlash, OnlyReading}
+use Rattle.pk_call.specs.Call.{command_on}
 use Rattle.pk_call.specs.Exec.{ExecStands}
-use Rattle.pk_model.specs.Crashes.{CrashFinds, command}
+use Rattle.pk_model.specs.Crashes.{CrashFinds}
 use Rattle.pk_model.specs.Growth.{Reaches}
 use Rattle.pk_call.specs.Seen.{reply_of}
 use Rattle.pk_model.specs.Wear.{roots}
 use Rattle.pk_call.specs.declared.types.Outcome.{Outcome}
-use Rattle.pk_parts.specs.Parts.{Parts, sight_of, settled_parts}
+use Rattle.pk_parts.specs.Parts.{Parts, sight_of, settled_parts, terms_of, frames_of}
 use Rattle.pk_parts.specs.Agreeing.{DriveOnFlash}
 use Rattle.pk_base.specs.Shape.{most_calls}
 use Rattle.pk_call.specs.Calling.{FewCalls}
@@ -41,6 +42,9 @@ use Rattle.pk_index.specs.Keys.{keys_there}
 use Rattle.pk_core.specs.Listed.{first_listed, ListsInto}
 use Rattle.pk_core.proofs.Replies.{keys_begun, keys_listed}
 use Rattle.pk_base.proofs.Logic.{ok_same}
+use Rattle.pk_model.specs.Spaces.{one_space, limits_at}
+use Rattle.pk_model.proofs.SpaceLemmas.{is_whole}
+use Rattle.pk_parts.proofs.Unchanging.{for_its_map}
 
 some_same : (x y : Shape) → ◌≡◌ {A = Option Shape} (Some x) (Some y) → x ≡ y
 some_same x y e = cc
@@ -56,7 +60,7 @@ abbrev eleven : List ℕ
 eleven = 0 ∷ 0 ∷ 0 ∷ 0 ∷ 0 ∷ 0 ∷ 0 ∷ 0 ∷ 0 ∷ 0 ∷ 0 ∷ []
 
 module _ (d : Parts) (old new : BoardState) (r : Request) (o : Outcome) (into : List ℕ)
-    (a : DriveOnFlash d old.shape old.pages) (is : r.opcode ≡ 0x06) (passed : early d.log.shape (command_of r []) ≡ None)
+    (a : DriveOnFlash d old.shape old.pages) (is : r.opcode ≡ 0x06) (passed : early 1 d.log.shape (command_of r []) ≡ None)
     (lists : (ess : List (List Entry)) → RunsOnFlash old.pages d.arena d.levels.runs ess
     → ListsInto old new o into (list_bytes (fitting (min r.size 65536 - 4) (keys_there (first_listed (command_of r [])) (d.log.active.entries ∷ d.log.frozen.entries ∷ ess))))) where
   abbrev c : Command
@@ -68,24 +72,27 @@ module _ (d : Parts) (old new : BoardState) (r : Request) (o : Outcome) (into : 
   is_list : op_of c.opcode ≡ Some ListKeys
   is_list = ap op_of is
 
-  is_early : early a.shape c ≡ None
-  is_early = subst (λ (s : Shape). early s c ≡ None) a.with.shape_is passed
+  is_early : early 1 a.shape c ≡ None
+  is_early = subst (λ (s : Shape). early 1 s c ≡ None) a.with.shape_is passed
 
   -- each key of the map is one
   held : IsMap a.shape a.all
   held =
       (map_held a.shape old.pages d.log.pending a.all (subst IsShape a.with.shape_is a.with.index.logs.is_shape) a.with.is_flash
       (subst (λ (s : Shape). AllByRecursion (IsStorable s) d.log.pending) a.with.shape_is a.with.index.logs.pending_are)
-      (under_reads a.shape old.pages d.log.pending a.top a.found a.all a.with.pending)).0
+      (under_reads a.shape old.pages d.log.pending a.top a.found a.all a.with.pending)).is_map
 
   bytes_are : list_bytes (fitting (min r.size 65536 - 4) (keys_there (first_listed c) (d.log.active.entries ∷ d.log.frozen.entries ∷ a.found.runs)))
       ≡ list_bytes (fitting (min c.size 65536 - 4) (keys_from (key c) a.all))
   bytes_are = ap (λ ks. list_bytes (fitting (min r.size 65536 - 4) ks))
       (keys_listed (settled_parts d) a.shape old.pages a.top a.found a.without a.all (first_listed c) a.with ∙ keys_begun a.shape a.all c.namespace (take c.key_len c.key_bytes) held)
 
-  stepped : (frames : ℕ) → Step a.shape frames a.all c (reply_of o into) a.all
+  alone : (frames : ℕ) → IsAlone (one_space frames (limit a.shape)) (limit a.shape) a.all
+  alone frames = record { one = refl; whole = is_whole a.shape a.all held }
+
+  stepped : (frames : ℕ) → Step a.shape (one_space frames (limit a.shape)) a.all c (reply_of o into) a.all
   stepped frames =
-      let did = serves a.shape (limit a.shape) frames a.all eleven c ListKeys is_list is_early refl in
+      let did = serves_alone a.shape (one_space frames (limit a.shape)) (limit a.shape) a.all (alone frames) c eleven ListKeys is_list is_early refl in
       elim l.answered [
         | inl read ↦ inl (record {
           own = eleven;
@@ -107,25 +114,25 @@ module _ (d : Parts) (old new : BoardState) (r : Request) (o : Outcome) (into : 
   same_shape = ap (λ (b : BoardState). b.shape) l.board_is
 
   stands : ExecStands old new (sight_of d) (sight_of d) c (reply_of o into) o.reads
-  stands shape frames m st =
-      let shape_is : a.shape ≡ shape = some_same a.shape shape (sym a.told_is ∙ st.shape_is) in
-      let map_is : a.all ≡ m = ok_same a.all m
-      (sym (under_reads a.shape old.pages d.log.pending a.top a.found a.all a.with.pending) ∙ ap (λ (s : Shape). reading s old.pages d.log.pending) shape_is ∙ st.map_is) in
+  stands shape terms m st =
+      let here : Step d.log.shape (terms_of d) a.all c (reply_of o into) a.all =
+      subst (λ (s : Shape). Step s (one_space (frames_of d) (limit s)) a.all c (reply_of o into) a.all) (sym a.with.shape_is) (stepped (frames_of d)) in
       record {
         left = m;
-        stepped = subst (λ (s : Shape). Step s frames m c (reply_of o into) m) shape_is (subst (λ (x : Map). Step a.shape frames x c (reply_of o into) x) map_is (stepped frames));
+        stepped = for_its_map d old a (λ s t x. Step s t x c (reply_of o into) x) here shape terms m st;
         stands = record {
           shape_is = same_shape ∙ st.shape_is;
           frames_is = st.frames_is;
+          limits_is = ap (limits_at shape) same_pages ∙ st.limits_is;
           map_is = ap (λ (f : Flash). reading shape f d.log.pending) same_pages ∙ st.map_is;
         };
         bounded = λ other. absurd (not_retrieve (op_of c.opcode) is_list other);
       }
 
-  reaches : (shape : Shape) (m : Map) → Reaches shape old new (CrashFinds shape (command c) old.pages m)
+  reaches : (shape : Shape) (m : Map) → Reaches shape old new (CrashFinds shape (command_on old c) old.pages m)
   reaches shape m = (
     [],
-    Reached-start old new (CrashFinds shape (command c) old.pages m) same_shape same_pages
+    Reached-start old new (CrashFinds shape (command_on old c) old.pages m) same_shape same_pages
         (ap (λ (b : BoardState). b.trail) l.board_is) (ap (λ (b : BoardState). b.posted) l.board_is) (refl, inl refl),
     tt,
   )

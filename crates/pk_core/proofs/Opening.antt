@@ -19,6 +19,7 @@ use Rattle.pk_parts.specs.Opening.{OpenedOn}
 use Rattle.pk_parts.proofs.Halves.{between}
 use Rattle.pk_parts.proofs.Standing.{agrees_so}
 use Rattle.pk_core.proofs.Standing.{still_stands}
+use Rattle.pk_model.specs.Spaces.{terms_at}
 
 -- ---- what contracts say of it
 
@@ -37,12 +38,13 @@ module _ (shape : Shape) (frames reads : ℕ) (old new : BoardState) (d : Parts)
       let here : DriveOnFlash d new.shape old.pages = agrees_so d new.shape shape old.pages o.all told (record { top = o.top; found = o.found; without = o.all; with = o.with; whole = o.whole }) in
       (subst (DriveOnFlash d new.shape) (sym (ap (λ (s : BoardState). s.pages) done)) here, few_pending shape old.pages frames d is_shape o)
 
-  pub stands_behind : (m : Map) × HoldsMap shape frames new (sight_of d) m
+  pub stands_behind : (m : Map) × HoldsMap shape (terms_at shape new.pages frames) new (sight_of d) m
   stands_behind =
       let told : new.shape ≡ Some shape = ap (λ (s : BoardState). s.shape) done ∙ ready.shape_is in
       let here : StandsFor d shape old.pages o.all = record { top = o.top; found = o.found; without = o.all; with = o.with; whole = o.whole } in
       let there : StandsFor d shape new.pages o.all = subst (λ (f : Flash). StandsFor d shape f o.all) (sym (ap (λ (s : BoardState). s.pages) done)) here in
-      (o.all, still_stands d new shape frames o.all told o.frames_are (between d shape new.pages o.all there))
+      let stands = still_stands d new shape frames o.all told o.frames_are (between d shape new.pages o.all there) in
+      (o.all, record { shape_is = stands.shape_is; frames_is = stands.frames_is; limits_is = refl; map_is = stands.map_is })
 
   -- as many blocks are in use as have a page of a value
   pub blocks_behind : (tree : Tree) → IsTree shape new.pages tree → (sight_of d).counts.blocks ≡ live_blocks shape tree.found []

@@ -28,6 +28,7 @@ use Rattle.pk_core.proofs.Settling.{settles_there, rests_there}
 use Rattle.pk_core.proofs.Statuses.{early_refuses, early_sound, told_refused, told_sound, zero_runs}
 use Rattle.pk_core.proofs.Staying.{keeps_fresh, blocks_grow}
 use Rattle.pk_core.proofs.Steadying.{steadies}
+use Rattle.pk_model.specs.Spaces.{limits_at}
 
 -- what is known of it
 pub record HasEnded (d e : Parts) (old new : BoardState) (r : Request) (v : List ℕ) (o : Outcome) (into : List ℕ) : Type 0 where
@@ -39,7 +40,7 @@ pub record HasEnded (d e : Parts) (old new : BoardState) (r : Request) (v : List
 
 -- what is answered that its kind decides
 pub record AnswersBy (d e : Parts) (old new : BoardState) (r : Request) (v : List ℕ) (o : Outcome) (buffer into : List ℕ) : Type 0 where
-  pub refused : IsSome (early (shape_of old) (command_of r v)) → (o.stopped ≡ false) × (new ≡ old) × (e ≡ d)
+  pub refused : IsSome (early (length (limits_at (shape_of old) old.pages)) (shape_of old) (command_of r v)) → (o.stopped ≡ false) × (new ≡ old) × (e ≡ d)
   pub fine : r.opcode ≡ 0xC2 → (o.status ≢ 0x88) × (new ≡ old)
   pub bytes : r.opcode ≡ 0xC2 → o.status ≡ 0 → take o.data_len into ≡ report_of (sight_of e).counts
   pub fits : o.data_len ≤ length into
@@ -128,7 +129,7 @@ performs_none d old r v o refused = record {
 
 pub refused_ends : (d : Parts) (old : BoardState) (r : Request) (v : List ℕ) (o : Outcome) (into : List ℕ) (status : ℕ)
     → DriveOnFlashBetween d old.shape old.pages → d.stopped ≡ false → IsShared d.pool.shape d.pool.states → old.flash_faults ≤ last_count → old.reads ≤ last_count
-    → early d.log.shape (command_of r v) ≡ Some status → o ≡ record { status = status; result = 0; data_len = 0; reads = 0; stopped = false }
+    → early 1 d.log.shape (command_of r v) ≡ Some status → o ≡ record { status = status; result = 0; data_len = 0; reads = 0; stopped = false }
     → HasEnded d d old old r v o into
 refused_ends d old r v o into status agreed runs shared counted few is told = record {
   agreed = agreed;
@@ -143,7 +144,7 @@ refused_ends d old r v o into status agreed runs shared counted few is told = re
 }
 
 -- its reply is its status alone, which is neither a success nor that of a read that failed
-pub refused_answers : (d : Parts) (old : BoardState) (r : Request) (v : List ℕ) (o : Outcome) (into : List ℕ) (status : ℕ) → early d.log.shape (command_of r v) ≡ Some status
+pub refused_answers : (d : Parts) (old : BoardState) (r : Request) (v : List ℕ) (o : Outcome) (into : List ℕ) (status : ℕ) → early 1 d.log.shape (command_of r v) ≡ Some status
     → o ≡ record { status = status; result = 0; data_len = 0; reads = 0; stopped = false } → AnswersBy d d old old r v o into into
 refused_answers d old r v o into status is told =
     let bare : o.data_len ≡ 0 = ap (λ (x : Outcome). x.data_len) told in

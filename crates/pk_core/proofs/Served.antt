@@ -1,5 +1,6 @@
 -- The answers of commands that change the map.
 use Rattle.std.proofs.Common.{◌≡◌, ◌≢◌, inl, inr, ℕ, ◌+◌, ◌-◌, ◌/◌, ◌%◌, ◌<◌, ◌≤◌, refl, sym, ap, subst, ◌∙◌, arith, Bool, true, false, not, ◌&&◌, ◌||◌, ◌==◌, List, [], length, sum, nat_le, is_some}
+use Rattle.std.proofs.Common.{◌∷◌}
 use Rattle.std.proofs.Common.{min, Option, Some, None, Result, Ok, Err, leb-true}
 use Rattle.std.specs.Prelude.{MatchOption}
 use Rattle.std.specs.FinMap.{get, insert, remove, contains_key}
@@ -16,7 +17,7 @@ use Rattle.pk_nvme.specs.Seen.{command_of}
 use Rattle.pk_nvme.specs.declared.request.Request.{Request}
 use Rattle.pk_nand.specs.declared.types.Fault.{Fault}
 use Rattle.pk_nand.specs.declared.types.Fault.TheVariants.{Reading, Stopped}
-use Rattle.pk_nand.specs.BoardState.{BoardState}
+use Rattle.pk_nand.specs.BoardState.{BoardState, shape_of}
 use Rattle.pk_nand.specs.Calls.{last_count}
 use Rattle.pk_nvme.specs.Opcode.{op_of}
 use Rattle.pk_nvme.specs.declared.opcode.Opcode.{Opcode}
@@ -25,18 +26,19 @@ use Rattle.pk_model.specs.Answer.{early, check, late_of, success, map_after}
 use Rattle.pk_model.specs.Bounds.{most_reads}
 use Rattle.pk_model.specs.Run.{Step}
 use Rattle.pk_model.specs.Sight.{Sight}
-use Rattle.pk_model.proofs.Answering.{serves, refuses_late, store_sized}
+use Rattle.pk_model.proofs.Answering.{serves, refuses_late, store_sized, serves_alone, ServesAlone}
 use Rattle.pk_model.proofs.Machines.{store_check, store_late, live_stored}
 use Rattle.pk_nand.specs.Effects.{NoFault, OnlyFlash}
+use Rattle.pk_call.specs.Call.{command_on}
 use Rattle.pk_call.specs.Drive.{HoldsMap}
 use Rattle.pk_model.specs.Growth.{Reaches, Goes}
 use Rattle.pk_call.specs.Exec.{Executed, most_installs, most_store_roots}
-use Rattle.pk_model.specs.Crashes.{CrashFinds, commit, change, command}
+use Rattle.pk_model.specs.Crashes.{CrashFinds, commit, change}
 use Rattle.pk_call.specs.Seen.{reply_of as shown}
 use Rattle.pk_model.specs.Wear.{roots}
 use Rattle.pk_call.specs.declared.types.Outcome.{Outcome}
 use Rattle.pk_model.proofs.Growing.{weaken, weaken_went}
-use Rattle.pk_parts.specs.Parts.{Parts, sight_of, frames_of}
+use Rattle.pk_parts.specs.Parts.{Parts, sight_of, frames_of, terms_of}
 use Rattle.pk_parts.specs.Agreeing.{DriveOnFlash}
 use Rattle.pk_core.specs.Done.{Does, Executes}
 use Rattle.pk_parts.specs.Finding.{IsPlaceIn}
@@ -53,13 +55,15 @@ use Rattle.pk_core.specs.Serving.{IsServable, IsCounted, outcome_for, pages_at}
 use Rattle.pk_core.proofs.Standing.{stands_so}
 use Rattle.pk_parts.proofs.Standing.{agrees_so}
 use Rattle.pk_core.proofs.Counting.{counts_own}
-use Rattle.pk_core.proofs.Unchanging.{unread_step, value_of, same_early, does_reads, AnswersAll}
-use Rattle.pk_parts.proofs.Unchanging.{own, looked, for_its_map, reads_none, agrees_ready}
+use Rattle.pk_core.proofs.Early.{told_shape}
+use Rattle.pk_core.proofs.Unchanging.{unread_step, refused_step, alone, value_of, same_early, does_reads, AnswersAll}
+use Rattle.pk_parts.proofs.Unchanging.{own, looked, for_its_map, reads_none, agrees_ready, whole_all, limits_are}
+use Rattle.pk_model.specs.Spaces.{Terms, one_space, limits_at, in_space}
 
 -- ---- what a Store asks
 
-pub store_short : (shape : Shape) (r : Request) → r.opcode ≡ 0x01 → early shape (command_of r []) ≡ None → r.size ≤ greatest shape
-store_short shape r is passed = store_sized shape (command_of r []) (ap op_of is) passed
+pub store_short : (shape : Shape) (r : Request) → r.opcode ≡ 0x01 → early 1 shape (command_of r []) ≡ None → r.size ≤ greatest shape
+store_short shape r is passed = store_sized 1 shape (command_of r []) (ap op_of is) passed
 
 -- ---- no other kind
 
@@ -82,7 +86,7 @@ ok_sound e = cc
 
 module _ (d : Parts) (old new : BoardState) (a : DriveOnFlash d old.shape old.pages) (c : Command) (after : Map)
     (count : IsCounted old new) (few_roots : roots new ≤ roots old + most_store_roots) (one : most_installs c.opcode c.size ≡ most_store_roots)
-    (rest : OnlyFlash old new) (other : op_of c.opcode ≡ Some Retrieve → ⊥) (leaves : map_after d.log.shape (limit d.log.shape) a.all c ≡ after) where
+    (rest : OnlyFlash old new) (other : op_of c.opcode ≡ Some Retrieve → ⊥) (leaves : map_after d.log.shape (limit d.log.shape ∷ []) a.all c ≡ after) where
   told : old.shape ≡ Some d.log.shape
   told = a.told_is ∙ ap (λ s. Some s) (sym a.with.shape_is)
 
@@ -96,33 +100,36 @@ module _ (d : Parts) (old new : BoardState) (a : DriveOnFlash d old.shape old.pa
   counted : new.reads ≡ min (old.reads + made) last_count
   counted = let up = count.up in let few = count.few in omega (arith, up, few)
 
+  its_limits : limits_at (shape_of old) old.pages ≡ limit d.log.shape ∷ []
+  its_limits = limits_are (shape_of old) old.pages ∙ ap (λ (s : Shape). limit s ∷ []) (told_shape d old a)
+
   -- if the change is cut, the command is
-  exec_cut : (f : Flash) (q : List ℕ) → CrashFinds d.log.shape (change after) old.pages a.all f q → CrashFinds d.log.shape (command c) old.pages a.all f q
+  exec_cut : (f : Flash) (q : List ℕ) → CrashFinds d.log.shape (change after) old.pages a.all f q → CrashFinds d.log.shape (command_on old c) old.pages a.all f q
   exec_cut f q (quiet, inl same) = (quiet, inl same)
   exec_cut f q (quiet, inr (inl is)) = (quiet, inr (inl is))
-  exec_cut f q (quiet, inr (inr is)) = (quiet, inr (inr (is ∙ ap (λ m. Ok m) (sym leaves))))
+  exec_cut f q (quiet, inr (inr is)) = (quiet, inr (inr (is ∙ ap (λ m. Ok m) (sym (ap (λ (limits : List ℕ). map_after d.log.shape limits a.all c) its_limits ∙ leaves)))))
 
   -- so is it if the map is kept
-  kept_cut : (f : Flash) (q : List ℕ) → CrashFinds d.log.shape commit old.pages a.all f q → CrashFinds d.log.shape (command c) old.pages a.all f q
+  kept_cut : (f : Flash) (q : List ℕ) → CrashFinds d.log.shape commit old.pages a.all f q → CrashFinds d.log.shape (command_on old c) old.pages a.all f q
   kept_cut f q (quiet, inl same) = (quiet, inl same)
   kept_cut f q (quiet, inr is) = (quiet, inr (inl is))
 
   pub does_change : (e : Parts) (reply : Reply) → Changes e d.log.shape a.all after old new → frames_of e ≡ frames_of d
-      → NoFault old new → reply.status ≢ 0x88 → Step d.log.shape (frames_of d) a.all c reply after
+      → NoFault old new → reply.status ≢ 0x88 → Step d.log.shape (terms_of d) a.all c reply after
       → Does old new (sight_of d) (sight_of e) c reply (new.reads - old.reads) false
   does_change e reply changed same_frames none sound step = record {
     stands = λ _. for_its_map d old a (λ s f m. Executed s f new (sight_of e) m c reply made) (record {
       left = after;
       stepped = step;
-      stands = subst (λ (f : ℕ). HoldsMap d.log.shape f new (sight_of e) after) same_frames
+      stands = subst (λ (f : ℕ). HoldsMap d.log.shape (one_space f (limit d.log.shape)) new (sight_of e) after) same_frames
           (stands_so e new d.log.shape after (same_shape ∙ told) (between e d.log.shape new.pages after changed.stands));
       bounded = λ is. absurd (other is);
     });
     found = record {
-      cuts = λ _. for_its_map d old a (λ s f m. Reaches s old new (CrashFinds s (command c) old.pages m)) (
+      cuts = λ _. for_its_map d old a (λ s f m. Reaches s old new (CrashFinds s (command_on old c) old.pages m)) (
         changed.cuts.0,
         weaken changed.cuts.0 old new (CrashFinds d.log.shape (change after) old.pages a.all)
-            (CrashFinds d.log.shape (command c) old.pages a.all) exec_cut changed.cuts.1,
+            (CrashFinds d.log.shape (command_on old c) old.pages a.all) exec_cut changed.cuts.1,
         changed.cuts.2,
       );
       cuts_stopped = λ is. absurd (yes_no is);
@@ -141,17 +148,18 @@ module _ (d : Parts) (old new : BoardState) (a : DriveOnFlash d old.shape old.pa
 
   -- a read failed before the change
   pub does_keep : (e : Parts) → SameMap e d.log.shape a.all old new → frames_of e ≡ frames_of d → Unread old new
-      → early d.log.shape c ≡ None → Does old new (sight_of d) (sight_of e) c (refusal 0x88) (new.reads - old.reads) false
+      → early 1 d.log.shape c ≡ None → Does old new (sight_of d) (sight_of e) c (refusal 0x88) (new.reads - old.reads) false
   does_keep e kept same_frames unread passes = record {
     stands = λ _. for_its_map d old a (λ s f m. Executed s f new (sight_of e) m c (refusal 0x88) made) (record {
       left = a.all;
       stepped = unread_step d.log.shape (frames_of d) a.all c passes;
-      stands = subst (λ (f : ℕ). HoldsMap d.log.shape f new (sight_of e) a.all) same_frames (stands_so e new d.log.shape a.all (same_shape ∙ told) (between e d.log.shape new.pages a.all kept.stands));
+      stands = subst (λ (f : ℕ). HoldsMap d.log.shape (one_space f (limit d.log.shape)) new (sight_of e) a.all) same_frames
+          (stands_so e new d.log.shape a.all (same_shape ∙ told) (between e d.log.shape new.pages a.all kept.stands));
       bounded = λ is. absurd (other is);
     });
     found = record {
-      cuts = λ _. for_its_map d old a (λ s f m. Reaches s old new (CrashFinds s (command c) old.pages m))
-          (kept.cuts.0, weaken kept.cuts.0 old new (CrashFinds d.log.shape commit old.pages a.all) (CrashFinds d.log.shape (command c) old.pages a.all) kept_cut kept.cuts.1, kept.cuts.2);
+      cuts = λ _. for_its_map d old a (λ s f m. Reaches s old new (CrashFinds s (command_on old c) old.pages m))
+          (kept.cuts.0, weaken kept.cuts.0 old new (CrashFinds d.log.shape commit old.pages a.all) (CrashFinds d.log.shape (command_on old c) old.pages a.all) kept_cut kept.cuts.1, kept.cuts.2);
       cuts_stopped = λ is. absurd (yes_no is);
     };
     rest = rest;
@@ -172,8 +180,8 @@ module _ (d : Parts) (old new : BoardState) (a : DriveOnFlash d old.shape old.pa
     stands = λ is. absurd (no_yes is);
     found = record {
       cuts = λ is. absurd (no_yes is);
-      cuts_stopped = λ _. for_its_map d old a (λ s f m. Goes s old new (CrashFinds s (command c) old.pages m))
-          (went.0, weaken_went went.0 old new (CrashFinds d.log.shape (change after) old.pages a.all) (CrashFinds d.log.shape (command c) old.pages a.all) exec_cut went.1, went.2);
+      cuts_stopped = λ _. for_its_map d old a (λ s f m. Goes s old new (CrashFinds s (command_on old c) old.pages m))
+          (went.0, weaken_went went.0 old new (CrashFinds d.log.shape (change after) old.pages a.all) (CrashFinds d.log.shape (command_on old c) old.pages a.all) exec_cut went.1, went.2);
     };
     rest = rest;
     reads_are = counted;
@@ -204,27 +212,24 @@ few_same d e same few = subst (λ (s : Shape). length e.log.pending < page_entri
 
 -- ---- steps of the map
 
-module _ (shape : Shape) (frames : ℕ) (m : Map) (c : Command) (passed : early shape c ≡ None) where
-  refused_step : (k : Opcode) (status : ℕ) → op_of c.opcode ≡ Some k → late_of shape (limit shape) m c (Some k) ≡ Some status → Step shape frames m c (refusal status) m
-  refused_step k status is late =
-      let s = refuses_late shape (limit shape) frames m eleven c k status is passed late in
-      inl (record { own = eleven; eleven = refl; replied = sym s.replied; leaves = sym s.leaves })
+module _ (shape : Shape) (frames : ℕ) (m : Map) (c : Command) (passed : early 1 shape c ≡ None) (whole : in_space 1 m ≡ m) where
+  abbrev terms : Terms
+  terms = one_space frames (limit shape)
 
-  store_leaves : op_of c.opcode ≡ Some Store → late_of shape (limit shape) m c (Some Store) ≡ None → map_after shape (limit shape) m c ≡ insert m (key c) c.value
-  store_leaves is late = (serves shape (limit shape) frames m eleven c Store is passed late).leaves
+  served : (k : Opcode) → op_of c.opcode ≡ Some k → late_of shape (limit shape) m c (Some k) ≡ None → ServesAlone shape terms (limit shape) m (alone shape frames m c passed whole) c eleven k
+  served k is late = serves_alone shape terms (limit shape) m (alone shape frames m c passed whole) c eleven k is passed late
 
-  store_step : op_of c.opcode ≡ Some Store → late_of shape (limit shape) m c (Some Store) ≡ None → Step shape frames m c (success 0 []) (insert m (key c) c.value)
-  store_step is late =
-      let s = serves shape (limit shape) frames m eleven c Store is passed late in
-      inl (record { own = eleven; eleven = refl; replied = sym s.replied; leaves = sym s.leaves })
+  store_leaves : op_of c.opcode ≡ Some Store → late_of shape (limit shape) m c (Some Store) ≡ None → map_after shape (limit shape ∷ []) m c ≡ insert m (key c) c.value
+  store_leaves is late = (served Store is late).leaves
 
-  delete_leaves : op_of c.opcode ≡ Some Delete → late_of shape (limit shape) m c (Some Delete) ≡ None → map_after shape (limit shape) m c ≡ remove m (key c)
-  delete_leaves is late = (serves shape (limit shape) frames m eleven c Delete is passed late).leaves
+  store_step : op_of c.opcode ≡ Some Store → late_of shape (limit shape) m c (Some Store) ≡ None → Step shape terms m c (success 0 []) (insert m (key c) c.value)
+  store_step is late = let s = served Store is late in inl (record { own = eleven; eleven = refl; replied = sym s.replied; leaves = sym s.leaves })
 
-  delete_step : op_of c.opcode ≡ Some Delete → late_of shape (limit shape) m c (Some Delete) ≡ None → Step shape frames m c (success 0 []) (remove m (key c))
-  delete_step is late =
-      let s = serves shape (limit shape) frames m eleven c Delete is passed late in
-      inl (record { own = eleven; eleven = refl; replied = sym s.replied; leaves = sym s.leaves })
+  delete_leaves : op_of c.opcode ≡ Some Delete → late_of shape (limit shape) m c (Some Delete) ≡ None → map_after shape (limit shape ∷ []) m c ≡ remove m (key c)
+  delete_leaves is late = (served Delete is late).leaves
+
+  delete_step : op_of c.opcode ≡ Some Delete → late_of shape (limit shape) m c (Some Delete) ≡ None → Step shape terms m c (success 0 []) (remove m (key c))
+  delete_step is late = let s = served Delete is late in inl (record { own = eleven; eleven = refl; replied = sym s.replied; leaves = sym s.leaves })
 
 -- ---- the checks of a Store
 
@@ -294,7 +299,7 @@ module _ (d : Parts) (old : BoardState) (r : Request) (value : List ℕ) (k : Ke
   abbrev after_pages : ℕ
   after_pages = sum d.values.live.heads - pages_at d.log.shape o + charge d.log.shape r.size
 
-  passes : early d.log.shape c ≡ None
+  passes : early 1 d.log.shape c ≡ None
   passes = same_early d.log.shape r value ∙ s.passed
 
   live_is : sum d.values.live.heads ≡ live d.log.shape all
@@ -309,7 +314,7 @@ module _ (d : Parts) (old : BoardState) (r : Request) (value : List ℕ) (k : Ke
       → outcome ≡ record { status = status; result = 0; data_len = 0; reads = reads; stopped = false }
       → Does old old (sight_of d) (sight_of e) c (shown outcome into) 0 outcome.stopped
   store_refused status e into outcome reads failed same told_is =
-      let step = refused_step d.log.shape (frames_of d) all c passes Store status (ap op_of op) (sym late_is ∙ failed) in
+      let step = refused_step d.log.shape (frames_of d) all c passes (whole_all d old s.agrees) Store status (ap op_of op) (sym late_is ∙ failed) in
       let answers : AnswersAll old (sight_of d) c (refusal status) 0 =
       for_its_map d old s.agrees (λ x f m. Step x f m c (refusal status) m × (op_of r.opcode ≡ Some Retrieve → 0 ≤ most_reads x f m c)) (step, λ is. absurd (store_other r.opcode op is)) in
       let done = does_reads old old (sight_of d) c (refusal status) 0 0 s.counted s.counted (reads_none old s.counted)
@@ -345,8 +350,8 @@ module _ (d : Parts) (old : BoardState) (r : Request) (value : List ℕ) (k : Ke
     late_none : late_of d.log.shape (limit d.log.shape) all c (Some Store) ≡ None
     late_none = sym late_is ∙ passed
 
-    leaves_put : map_after d.log.shape (limit d.log.shape) all c ≡ insert all k value
-    leaves_put = store_leaves d.log.shape (frames_of d) all c passes (ap op_of op) late_none ∙ ap (λ q. insert all q value) (sym named)
+    leaves_put : map_after d.log.shape (limit d.log.shape ∷ []) all c ≡ insert all k value
+    leaves_put = store_leaves d.log.shape (frames_of d) all c passes (whole_all d old s.agrees) (ap op_of op) late_none ∙ ap (λ q. insert all q value) (sym named)
 
     one_root : most_installs r.opcode r.size ≡ most_store_roots
     one_root = ap (λ x. most_installs x r.size) op
@@ -358,8 +363,9 @@ module _ (d : Parts) (old : BoardState) (r : Request) (value : List ℕ) (k : Ke
     unfolding its_drive
     store_came (Ok u) e new most into outcome reads step few count stays stops told_is =
         let puts : Changes e d.log.shape all (insert all k value) old new = step.came.0 d.log.shape all may_store in
-        let stepped : Step d.log.shape (frames_of d) all c (success 0 []) (insert all k value) =
-        subst (λ q. Step d.log.shape (frames_of d) all c (success 0 []) (insert all q value)) (sym named) (store_step d.log.shape (frames_of d) all c passes (ap op_of op) late_none) in
+        let stepped : Step d.log.shape (terms_of d) all c (success 0 []) (insert all k value) =
+        subst (λ q. Step d.log.shape (terms_of d) all c (success 0 []) (insert all q value)) (sym named)
+        (store_step d.log.shape (frames_of d) all c passes (whole_all d old s.agrees) (ap op_of op) late_none) in
         let done = does_change d old new s.agrees c (insert all k value) count few one_root step.rest
         (store_other r.opcode op) leaves_put e (success 0 []) puts stays.frames step.came.1 ok_sound stepped in
         subst (λ (x : Outcome). Executes d e old new c x into (new.reads - old.reads)) (sym told_is) (record {
@@ -399,7 +405,7 @@ module _ (d : Parts) (old : BoardState) (r : Request) (v : List ℕ) (k : Key) (
   abbrev its_map : Map
   its_map = s.agrees.all
 
-  delete_passed : early d.log.shape dc ≡ None
+  delete_passed : early 1 d.log.shape dc ≡ None
   delete_passed = same_early d.log.shape r v ∙ s.passed
 
   pub delete_missing : (e : Parts) (into : List ℕ) (outcome : Outcome) (reads : ℕ) → Looks d old.pages k None → e ≡ d
@@ -407,7 +413,7 @@ module _ (d : Parts) (old : BoardState) (r : Request) (v : List ℕ) (k : Key) (
       → Does old old (sight_of d) (sight_of e) dc (shown outcome into) 0 outcome.stopped
   delete_missing e into outcome reads looks same told_is =
       let missing : get its_map (key dc) ≡ None = subst (λ q. get its_map q ≡ None) named (looked d old s.agrees k None looks).there in
-      let step = refused_step d.log.shape (frames_of d) its_map dc delete_passed Delete 0x87 (ap op_of op) (delete_fails its_map (key dc) missing) in
+      let step = refused_step d.log.shape (frames_of d) its_map dc delete_passed (whole_all d old s.agrees) Delete 0x87 (ap op_of op) (delete_fails its_map (key dc) missing) in
       let answers : AnswersAll old (sight_of d) dc (refusal 0x87) 0 =
       for_its_map d old s.agrees (λ x f m. Step x f m dc (refusal 0x87) m × (op_of r.opcode ≡ Some Retrieve → 0 ≤ most_reads x f m dc)) (step, λ is. absurd (delete_other r.opcode op is)) in
       let done = does_reads old old (sight_of d) dc (refusal 0x87) 0 0 s.counted s.counted (reads_none old s.counted) (omega arith) missing_sound answers in
@@ -427,8 +433,8 @@ module _ (d : Parts) (old : BoardState) (r : Request) (v : List ℕ) (k : Key) (
         let there = value_of d old s.agrees k p is_key looks in
         delete_passes its_map (key dc) there.value (subst (λ q. get its_map q ≡ Some there.value) named there.is_there)
 
-    leaves_gone : map_after d.log.shape (limit d.log.shape) its_map dc ≡ remove its_map k
-    leaves_gone = delete_leaves d.log.shape (frames_of d) its_map dc delete_passed (ap op_of op) gone_late ∙ ap (λ q. remove its_map q) (sym named)
+    leaves_gone : map_after d.log.shape (limit d.log.shape ∷ []) its_map dc ≡ remove its_map k
+    leaves_gone = delete_leaves d.log.shape (frames_of d) its_map dc delete_passed (whole_all d old s.agrees) (ap op_of op) gone_late ∙ ap (λ q. remove its_map q) (sym named)
 
     gone_root : most_installs r.opcode r.size ≡ most_store_roots
     gone_root = ap (λ x. most_installs x r.size) op
@@ -440,8 +446,9 @@ module _ (d : Parts) (old : BoardState) (r : Request) (v : List ℕ) (k : Key) (
     unfolding its_drive
     delete_came (Ok u) e new most into outcome reads step few count stays stops told_is =
         let takes : Changes e d.log.shape its_map (remove its_map k) old new = step.came.0 d.log.shape its_map may_take in
-        let stepped : Step d.log.shape (frames_of d) its_map dc (success 0 []) (remove its_map k) =
-        subst (λ q. Step d.log.shape (frames_of d) its_map dc (success 0 []) (remove its_map q)) (sym named) (delete_step d.log.shape (frames_of d) its_map dc delete_passed (ap op_of op) gone_late) in
+        let stepped : Step d.log.shape (terms_of d) its_map dc (success 0 []) (remove its_map k) =
+        subst (λ q. Step d.log.shape (terms_of d) its_map dc (success 0 []) (remove its_map q)) (sym named)
+        (delete_step d.log.shape (frames_of d) its_map dc delete_passed (whole_all d old s.agrees) (ap op_of op) gone_late) in
         let done = does_change d old new s.agrees dc (remove its_map k) count few gone_root step.rest
         (delete_other r.opcode op) leaves_gone e (success 0 []) takes stays.frames step.came.1 ok_sound stepped in
         subst (λ (x : Outcome). Executes d e old new dc x into (new.reads - old.reads)) (sym told_is) (record {
@@ -482,14 +489,14 @@ does_behind d e f old mid new most c into o same made other count told_is does =
     let last = count.few in
     record {
       stands = λ run shape frames m st.
-          let y = x.stands run shape frames m (record { shape_is = st.shape_is; frames_is = st.frames_is; map_is = st.map_is }) in
+          let y = x.stands run shape frames m (record { shape_is = st.shape_is; frames_is = st.frames_is; limits_is = st.limits_is; map_is = st.map_is }) in
           record { left = y.left; stepped = y.stepped; stands = y.stands; bounded = λ k. absurd (other k) };
       found = record {
         cuts = λ run shape frames m st.
-            let y = x.found.cuts run shape frames m (record { shape_is = st.shape_is; frames_is = st.frames_is; map_is = st.map_is }) in
+            let y = x.found.cuts run shape frames m (record { shape_is = st.shape_is; frames_is = st.frames_is; limits_is = st.limits_is; map_is = st.map_is }) in
             (y.0, record { trail = y.1.trail; posted = y.1.posted; same_shape = y.1.same_shape; cuts = y.1.cuts; stands = y.1.stands }, y.2);
         cuts_stopped = λ run shape frames m st.
-            let y = x.found.cuts_stopped run shape frames m (record { shape_is = st.shape_is; frames_is = st.frames_is; map_is = st.map_is }) in
+            let y = x.found.cuts_stopped run shape frames m (record { shape_is = st.shape_is; frames_is = st.frames_is; limits_is = st.limits_is; map_is = st.map_is }) in
             (y.0, record { trail = y.1.trail; posted = y.1.posted; same_shape = y.1.same_shape; cuts = y.1.cuts; stands = y.1.stands }, y.2);
       };
       rest = x.rest;

@@ -23,16 +23,17 @@ use Rattle.pk_model.proofs.Answering.{serves}
 use Rattle.pk_rootfmt.specs.Root.{Root}
 use Rattle.pk_rootfmt.specs.Newest.{newest_root}
 use Rattle.pk_model.specs.Wear.{number_of, root_number, roots, is_worn}
+use Rattle.pk_call.specs.Call.{command_on}
 use Rattle.pk_call.specs.Drive.{HoldsMap}
 use Rattle.pk_nand.specs.Effects.{NoFault, AtMostOneCall, made_no_call, made_read, made_program, made_erase}
-use Rattle.pk_model.specs.Crashes.{CrashFinds, background, command}
+use Rattle.pk_model.specs.Crashes.{CrashFinds, background}
 use Rattle.pk_call.specs.Exec.{most_installs}
 use Rattle.pk_call.specs.Seen.{stopped_by, reply_of}
 use Rattle.pk_call.specs.declared.types.Outcome.{Outcome}
 use Rattle.pk_call.specs.declared.types.Ticked.{Ticked}
 use Rattle.pk_call.specs.declared.types.Ticked.TheVariants.{Worked, Idle, Fault}
 use Rattle.pk_model.proofs.Growing.{weaken, weaken_went, at_end, Reaches-then, Goes-then}
-use Rattle.pk_parts.specs.Parts.{Parts, sight_of, frames_of}
+use Rattle.pk_parts.specs.Parts.{Parts, sight_of, frames_of, terms_of}
 use Rattle.pk_parts.specs.Agreeing.{DriveOnFlash}
 use Rattle.pk_core.specs.Done.{Does}
 use Rattle.pk_core.specs.Quiet.{eleven}
@@ -46,6 +47,7 @@ use Rattle.pk_parts.proofs.Staying.{stays_same, stays_frees}
 use Rattle.pk_background.proofs.Callings.{few_more, spends_same, spends_within}
 use Rattle.pk_background.proofs.Ticking.{yes_no}
 use Rattle.pk_nand.proofs.Effects.{only_then}
+use Rattle.pk_model.specs.Spaces.{Terms, one_space}
 
 -- the drive agrees with its board after this many steps, of which none failed
 pub record Ongoing (first : Parts) (old : BoardState) (d : Parts) (board : BoardState) (made : ℕ) : Type 0 where
@@ -106,7 +108,7 @@ sound_step a b s t (Fault stopped) ticks e = absurd (yes_no true e refl)
 
 module _ (s0 s1 : BoardState) (e0 e1 : Sight) (n : ℕ) (first : BackgroundSteps s0 s1 e0 e1 Worked n) where
   -- a cut after the steps so far is one after the first
-  seen : (shape : Shape) (frames : ℕ) (m : Map) (st : HoldsMap shape frames s0 e0 m) (f : Flash) (q : List ℕ)
+  seen : (shape : Shape) (frames : Terms) (m : Map) (st : HoldsMap shape frames s0 e0 m) (f : Flash) (q : List ℕ)
       → CrashFinds shape background s0.pages m f q → CrashFinds shape background s0.pages m f (all_posted (first.found.cuts refl shape frames m st).0 ++ q)
   seen shape frames m st f q cut =
       let run = first.found.cuts refl shape frames m st in
@@ -169,9 +171,9 @@ steps_within old new s t answer n k less w = record {
 
 -- ---- the answer of the command
 
-tick_step : (shape : Shape) (frames : ℕ) (m : Map) (c : Command) → early shape c ≡ None → c.opcode ≡ 0xC0 → Step shape frames m c (success 0 []) m
+tick_step : (shape : Shape) (frames : ℕ) (m : Map) (c : Command) → early 1 shape c ≡ None → c.opcode ≡ 0xC0 → Step shape (one_space frames (limit shape)) m c (success 0 []) m
 tick_step shape frames m c passed is =
-    let s = serves shape (limit shape) frames m eleven c Tick (ap op_of is) passed refl in
+    let s = serves shape (one_space frames (limit shape)) m eleven c Tick (ap op_of is) passed refl in
     inl (record { own = eleven; eleven = refl; replied = sym s.replied; leaves = sym s.leaves })
 
 other_kind : (x : ℕ) → x ≡ 0xC0 → op_of x ≡ Some Retrieve → ⊥
@@ -180,13 +182,13 @@ other_kind x is e = let f : ◌≡◌ {A = Option Opcode} (Some Tick) (Some Retr
 ok_sound : ◌≡◌ {A = ℕ} 0 0x88 → ⊥
 ok_sound e = cc
 
-module _ (old new : BoardState) (d d' : Parts) (r : Request) (v : List ℕ) (a : DriveOnFlash d old.shape old.pages) (passed : early d.log.shape (command_of r []) ≡ None) (op : r.opcode ≡ 0xC0) where
-  passes : early d.log.shape (command_of r v) ≡ None
+module _ (old new : BoardState) (d d' : Parts) (r : Request) (v : List ℕ) (a : DriveOnFlash d old.shape old.pages) (passed : early 1 d.log.shape (command_of r []) ≡ None) (op : r.opcode ≡ 0xC0) where
+  passes : early 1 d.log.shape (command_of r v) ≡ None
   passes = same_early d.log.shape r v ∙ passed
 
   -- the clauses that every answer has alike
   does_steps : (answer : Ticked) (reply : Reply) (reads : ℕ) → BackgroundSteps old new (sight_of d) (sight_of d') answer r.size → reads ≡ new.reads - old.reads
-      → Step d.log.shape (frames_of d) a.all (command_of r v) reply a.all
+      → Step d.log.shape (terms_of d) a.all (command_of r v) reply a.all
       → (reply.status ≡ 0x88 → stopped_by answer ≡ false → Rose old.read_faults new.read_faults)
       → (reply.status ≢ 0x88 → NoFault old new)
       → (stopped_by answer ≡ true → reply.status ≡ 0x88)
@@ -203,11 +205,19 @@ module _ (old new : BoardState) (d d' : Parts) (r : Request) (v : List ℕ) (a :
         };
         found = record {
           cuts = λ runs shape frames m st.
-              let run = w.found.cuts runs shape frames m st in
-              (run.0, weaken run.0 old new (CrashFinds shape background old.pages m) (CrashFinds shape (command (command_of r v)) old.pages m) (λ f q cut. (cut.0, inr (inl cut.1))) run.1, run.2);
+              let run = w.found.cuts runs shape frames m st in (
+                run.0,
+                weaken run.0 old new (CrashFinds shape background old.pages m)
+                    (CrashFinds shape (command_on old (command_of r v)) old.pages m) (λ f q cut. (cut.0, inr (inl cut.1))) run.1,
+                run.2,
+              );
           cuts_stopped = λ stops shape frames m st.
-              let run = w.found.cuts_stopped stops shape frames m st in
-              (run.0, weaken_went run.0 old new (CrashFinds shape background old.pages m) (CrashFinds shape (command (command_of r v)) old.pages m) (λ f q cut. (cut.0, inr (inl cut.1))) run.1, run.2);
+              let run = w.found.cuts_stopped stops shape frames m st in (
+                run.0,
+                weaken_went run.0 old new (CrashFinds shape background old.pages m)
+                    (CrashFinds shape (command_on old (command_of r v)) old.pages m) (λ f q cut. (cut.0, inr (inl cut.1))) run.1,
+                run.2,
+              );
         };
         rest = w.rest;
         reads_are = omega (arith, is, few, more);

@@ -35,20 +35,22 @@ use Rattle.pk_model.specs.Bounds.{most_reads, most_reads_of}
 use Rattle.pk_model.specs.Found.{Found}
 use Rattle.pk_model.specs.Run.{Step}
 use Rattle.pk_model.specs.Sight.{Sight, Counts}
-use Rattle.pk_model.proofs.Answering.{refuses_late, serves}
+use Rattle.pk_model.proofs.Answering.{refuses_late, serves, IsAlone, serves_alone, refuses_alone}
 use Rattle.pk_law_steps.specs.Under.{places}
+use Rattle.pk_call.specs.Call.{command_on}
 use Rattle.pk_call.specs.Drive.{HoldsMap, CountsMap}
 use Rattle.pk_call.specs.Seen.{reply_of as shown}
 use Rattle.pk_call.specs.declared.types.Outcome.{Outcome}
 use Rattle.pk_call.specs.Exec.{report_of}
-use Rattle.pk_model.specs.Crashes.{CrashFinds, command}
-use Rattle.pk_parts.specs.Parts.{Parts, sight_of, frames_of, settled_parts}
+use Rattle.pk_model.specs.Crashes.{CrashFinds}
+use Rattle.pk_parts.specs.Parts.{Parts, sight_of, frames_of, settled_parts, terms_of}
 use Rattle.pk_parts.specs.Agreeing.{DriveOnFlashWith, DriveOnFlash}
 use Rattle.pk_parts.specs.Finding.{IsPlaceIn}
 use Rattle.pk_core.specs.Done.{Does}
 use Rattle.pk_core.specs.Quiet.{ValueThere, eleven}
 use Rattle.pk_parts.specs.Quiet.{ReadsOnly, ReadsFailing, Looks}
-use Rattle.pk_parts.proofs.Unchanging.{reads_more, reads_break, own, for_its_map, looked}
+use Rattle.pk_parts.proofs.Unchanging.{reads_more, reads_break, own, for_its_map, looked, whole_all}
+use Rattle.pk_model.specs.Spaces.{Terms, one_space, in_space}
 
 -- ---- the clauses of a command that only reads
 
@@ -58,7 +60,7 @@ yes_no e = cc
 -- it may answer this on every map that the drive represents, and reads no more than it may
 abbrev pub AnswersAll : BoardState → Sight → Command → Reply → ℕ → Type 0
 AnswersAll old s c reply reads =
-    (shape : Shape) (frames : ℕ) (m : Map) → HoldsMap shape frames old s m → Step shape frames m c reply m × (op_of c.opcode ≡ Some Retrieve → reads ≤ most_reads shape frames m c)
+    (shape : Shape) (terms : Terms) (m : Map) → HoldsMap shape terms old s m → Step shape terms m c reply m × (op_of c.opcode ≡ Some Retrieve → reads ≤ most_reads shape terms m c)
 
 pub does_reads : (old new : BoardState) (s : Sight) (c : Command) (reply : Reply) (most reads : ℕ) → old.reads ≤ last_count → new.reads ≤ last_count
     → ReadsOnly old new most → reads ≡ new.reads - old.reads → reply.status ≢ 0x88 → AnswersAll old s c reply reads → Does old new s s c reply reads false
@@ -70,11 +72,11 @@ does_reads old new s c reply most reads few few' made is sound answers =
       stands = λ _ shape frames m st. let a = answers shape frames m st in record {
         left = m;
         stepped = a.0;
-        stands = record { shape_is = st.shape_is; frames_is = st.frames_is; map_is = st.map_is };
+        stands = record { shape_is = st.shape_is; frames_is = st.frames_is; limits_is = st.limits_is; map_is = st.map_is };
         bounded = a.1;
       };
       found = record {
-        cuts = λ _ shape frames m st. ([], Reached-start old (record old { reads = n }) (CrashFinds shape (command c) old.pages m) refl refl refl refl (refl, inl refl), tt);
+        cuts = λ _ shape frames m st. ([], Reached-start old (record old { reads = n }) (CrashFinds shape (command_on old c) old.pages m) refl refl refl refl (refl, inl refl), tt);
         cuts_stopped = λ e. absurd (yes_no e);
       };
       rest = refl;
@@ -104,14 +106,14 @@ does_unread old new s c most reads few few' faults made is answers =
       stands = λ _ shape frames m st. let a = answers shape frames m st in record {
         left = m;
         stepped = a.0;
-        stands = record { shape_is = st.shape_is; frames_is = st.frames_is; map_is = st.map_is };
+        stands = record { shape_is = st.shape_is; frames_is = st.frames_is; limits_is = st.limits_is; map_is = st.map_is };
         bounded = a.1;
       };
       found = record {
         cuts = λ _ shape frames m st. (
           [],
           Reached-start old (record old { reads = n; flash_faults = all; read_faults = unread; failed_at = at })
-              (CrashFinds shape (command c) old.pages m) refl refl refl refl (refl, inl refl),
+              (CrashFinds shape (command_on old c) old.pages m) refl refl refl refl (refl, inl refl),
           tt,
         );
         cuts_stopped = λ e. absurd (yes_no e);
@@ -160,60 +162,68 @@ value_there d flash top found without all k p is_key a is =
 
 -- ---- answers
 
-pub same_early : (shape : Shape) (r : Request) (v : List ℕ) → early shape (command_of r v) ≡ early shape (command_of r [])
-same_early shape r v = elim (op_of r.opcode) as (λ o. fault_of shape (command_of r v) o ≡ fault_of shape (command_of r []) o) [ None ↦ refl | Some k ↦ refl ]
+pub same_early : (shape : Shape) (r : Request) (v : List ℕ) → early 1 shape (command_of r v) ≡ early 1 shape (command_of r [])
+same_early shape r v = elim (op_of r.opcode) as (λ o. fault_of 1 shape (command_of r v) o ≡ fault_of 1 shape (command_of r []) o) [ None ↦ refl | Some k ↦ refl ]
 
-module _ (shape : Shape) (frames : ℕ) (m : Map) (c : Command) (passed : early shape c ≡ None) where
-  served : (k : Opcode) (own : List ℕ) (a : Reply) → length own ≡ 11 → op_of c.opcode ≡ Some k → late_of shape (limit shape) m c (Some k) ≡ None → effect m c (Some k) ≡ m
-      → a ≡ reply_of shape (limit shape) frames m own c (Some k) → Step shape frames m c a m
-  served k own a eleven is late left answer =
-      let s = serves shape (limit shape) frames m own c k is passed late in
-      inl (record { own = own; eleven = eleven; replied = answer ∙ sym s.replied; leaves = sym (s.leaves ∙ left) })
+module _ (shape : Shape) (frames : ℕ) (m : Map) (c : Command) (passed : early 1 shape c ≡ None) where
+  abbrev terms : Terms
+  terms = one_space frames (limit shape)
 
-  refused : (k : Opcode) (status : ℕ) → op_of c.opcode ≡ Some k → late_of shape (limit shape) m c (Some k) ≡ Some status → Step shape frames m c (refusal status) m
-  refused k status is late =
-      let s = refuses_late shape (limit shape) frames m eleven c k status is passed late in
-      inl (record { own = eleven; eleven = refl; replied = sym s.replied; leaves = sym s.leaves })
-
-  pub unread_step : Step shape frames m c (refusal 0x88) m
+  pub unread_step : Step shape terms m c (refusal 0x88) m
   unread_step = inr (record { not_early = passed; replied = refl; leaves = refl })
 
-  pub flush_step : c.opcode ≡ 0x00 → Step shape frames m c (success 0 []) m
-  flush_step is = served Flush eleven (success 0 []) refl (ap op_of is) refl refl refl
-
-  pub report_step : (n : Counts) (bytes : List ℕ) → c.opcode ≡ 0xC2 → CountsMap shape frames m n → bytes ≡ report_of n → Step shape frames m c (success 0 bytes) m
-  report_step n bytes is told same =
-      let more : List ℕ = n.leased ∷ n.active ∷ n.frozen ∷ n.run1 ∷ n.run2 ∷ n.run3 ∷ n.run4 ∷ n.epoch ∷ n.blocks ∷ n.ready ∷ n.merge ∷ [] in
-      served Report more (success 0 bytes) refl (ap op_of is) refl refl
-      (ap (success 0) same ∙ (λ i. success 0 (flat_map u32 (told.live_is i ∷ told.limit_is i ∷ told.keys_is i ∷ told.pinned_is i ∷ told.frames_is i ∷ more))))
-
-  pub exist_there : (v : List ℕ) → c.opcode ≡ 0x14 → get m (key c) ≡ Some v → Step shape frames m c (success 0 []) m
-  exist_there v is there = served Exist eleven (success 0 []) refl (ap op_of is) (ap (λ o. check (is_some o) 0x87) there) refl refl
-
-  pub exist_missing : c.opcode ≡ 0x14 → get m (key c) ≡ None → Step shape frames m c (refusal 0x87) m
-  exist_missing is missing = refused Exist 0x87 (ap op_of is) (ap (λ o. check (is_some o) 0x87) missing)
-
-  pub retrieve_missing : c.opcode ≡ 0x02 → get m (key c) ≡ None → Step shape frames m c (refusal 0x87) m
-  retrieve_missing is missing = refused Retrieve 0x87 (ap op_of is) (ap (λ o. check (is_some o) 0x87) missing)
-
-  pub retrieve_there : (v bytes : List ℕ) (len : ℕ) → c.opcode ≡ 0x02 → get m (key c) ≡ Some v → length v ≡ len → bytes ≡ take c.size v → Step shape frames m c (success len bytes) m
-  retrieve_there v bytes len is there size same =
-      served Retrieve eleven (success len bytes) refl (ap op_of is) (ap (λ o. check (is_some o) 0x87) there) refl
-      ((λ i. success (sym size i) (same i)) ∙ ap (λ o. success (length (unwrap_or o [])) (take c.size (unwrap_or o []))) (sym there))
-
   -- how many pages it may read
-  pub most_missing : get m (key c) ≡ None → most_reads shape frames m c ≡ 4 - pinned shape frames
+  pub most_missing : get m (key c) ≡ None → most_reads shape terms m c ≡ 4 - pinned shape frames
   most_missing missing = λ i. most_reads_of shape frames c (passed i) (missing i)
 
-  pub most_there : (v : List ℕ) → get m (key c) ≡ Some v → most_reads shape frames m c ≡ 4 - pinned shape frames + fetched shape (min (length v) c.size)
+  pub most_there : (v : List ℕ) → get m (key c) ≡ Some v → most_reads shape terms m c ≡ 4 - pinned shape frames + fetched shape (min (length v) c.size)
   most_there v there = λ i. most_reads_of shape frames c (passed i) (there i)
 
-  pub most_least : 4 - pinned shape frames ≤ most_reads shape frames m c
+  pub most_least : 4 - pinned shape frames ≤ most_reads shape terms m c
   most_least = subst (λ e. 4 - pinned shape frames ≤ most_reads_of shape frames c e (get m (key c))) (sym passed) (by_value (get m (key c)))
     where
       by_value : (o : Option (List ℕ)) → 4 - pinned shape frames ≤ most_reads_of shape frames c None o
       by_value None = omega arith
       by_value (Some v) = omega arith
+
+  -- a map of which each key is of the drive's only namespace
+  module _ (whole : in_space 1 m ≡ m) where
+    pub alone : IsAlone terms (limit shape) m
+    alone = record { one = refl; whole = whole }
+
+    served : (k : Opcode) (own : List ℕ) (a : Reply) → length own ≡ 11 → op_of c.opcode ≡ Some k → late_of shape (limit shape) m c (Some k) ≡ None → effect m c (Some k) ≡ m
+        → a ≡ reply_of shape (limit shape) frames m own c (Some k) → Step shape terms m c a m
+    served k own a eleven is late left answer =
+        let s = serves_alone shape terms (limit shape) m alone c own k is passed late in
+        inl (record { own = own; eleven = eleven; replied = answer ∙ sym s.replied; leaves = sym (s.leaves ∙ left) })
+
+    pub refused_step : (k : Opcode) (status : ℕ) → op_of c.opcode ≡ Some k → late_of shape (limit shape) m c (Some k) ≡ Some status → Step shape terms m c (refusal status) m
+    refused_step k status is late =
+        let s = refuses_alone shape terms (limit shape) m alone c eleven k status is passed late in
+        inl (record { own = eleven; eleven = refl; replied = sym s.replied; leaves = sym s.leaves })
+
+    pub flush_step : c.opcode ≡ 0x00 → Step shape terms m c (success 0 []) m
+    flush_step is = served Flush eleven (success 0 []) refl (ap op_of is) refl refl refl
+
+    pub report_step : (n : Counts) (bytes : List ℕ) → c.opcode ≡ 0xC2 → CountsMap shape frames m n → bytes ≡ report_of n → Step shape terms m c (success 0 bytes) m
+    report_step n bytes is told same =
+        let more : List ℕ = n.leased ∷ n.active ∷ n.frozen ∷ n.run1 ∷ n.run2 ∷ n.run3 ∷ n.run4 ∷ n.epoch ∷ n.blocks ∷ n.ready ∷ n.merge ∷ [] in
+        served Report more (success 0 bytes) refl (ap op_of is) refl refl
+        (ap (success 0) same ∙ (λ i. success 0 (flat_map u32 (told.live_is i ∷ told.limit_is i ∷ told.keys_is i ∷ told.pinned_is i ∷ told.frames_is i ∷ more))))
+
+    pub exist_there : (v : List ℕ) → c.opcode ≡ 0x14 → get m (key c) ≡ Some v → Step shape terms m c (success 0 []) m
+    exist_there v is there = served Exist eleven (success 0 []) refl (ap op_of is) (ap (λ o. check (is_some o) 0x87) there) refl refl
+
+    pub exist_missing : c.opcode ≡ 0x14 → get m (key c) ≡ None → Step shape terms m c (refusal 0x87) m
+    exist_missing is missing = refused_step Exist 0x87 (ap op_of is) (ap (λ o. check (is_some o) 0x87) missing)
+
+    pub retrieve_missing : c.opcode ≡ 0x02 → get m (key c) ≡ None → Step shape terms m c (refusal 0x87) m
+    retrieve_missing is missing = refused_step Retrieve 0x87 (ap op_of is) (ap (λ o. check (is_some o) 0x87) missing)
+
+    pub retrieve_there : (v bytes : List ℕ) (len : ℕ) → c.opcode ≡ 0x02 → get m (key c) ≡ Some v → length v ≡ len → bytes ≡ take c.size v → Step shape terms m c (success len bytes) m
+    retrieve_there v bytes len is there size same =
+        served Retrieve eleven (success len bytes) refl (ap op_of is) (ap (λ o. check (is_some o) 0x87) there) refl
+        ((λ i. success (sym size i) (same i)) ∙ ap (λ o. success (length (unwrap_or o [])) (take c.size (unwrap_or o []))) (sym there))
 
 -- ---- pages of a value
 
@@ -275,7 +285,7 @@ few_of d old a k p n size is_key looks is =
     let most = few_fetched d.log.shape n (own d old a).index.logs.is_shape (omega (arith, is, short)) in
     omega (arith, most)
 
-module _ (d d' : Parts) (old new : BoardState) (r : Request) (v into : List ℕ) (a : DriveOnFlash d old.shape old.pages) (same : d' ≡ d) (passed : early d.log.shape (command_of r []) ≡ None)
+module _ (d d' : Parts) (old new : BoardState) (r : Request) (v into : List ℕ) (a : DriveOnFlash d old.shape old.pages) (same : d' ≡ d) (passed : early 1 d.log.shape (command_of r []) ≡ None)
     (few : old.reads ≤ last_count) (few' : new.reads ≤ last_count) where
   shape : Shape
   shape = d.log.shape
@@ -287,7 +297,7 @@ module _ (d d' : Parts) (old new : BoardState) (r : Request) (v into : List ℕ)
   abbrev pub Done : Outcome → Type 0
   Done o = Does old new (sight_of d) (sight_of d') (command_of r v) (shown o into) o.reads o.stopped
 
-  passes : early d.log.shape (command_of r v) ≡ None
+  passes : early 1 d.log.shape (command_of r v) ≡ None
   passes = same_early d.log.shape r v ∙ passed
 
   same_sight : (reply : Reply) (reads : ℕ) → Does old new (sight_of d) (sight_of d) (command_of r v) reply reads false → Does old new (sight_of d) (sight_of d') (command_of r v) reply reads false
@@ -298,7 +308,7 @@ module _ (d d' : Parts) (old new : BoardState) (r : Request) (v into : List ℕ)
 
   -- the step and the bound on the map of the drive
   abbrev Allowed : Reply → ℕ → Type 0
-  Allowed reply reads = Step d.log.shape (frames_of d) a.all (command_of r v) reply a.all × (op_of r.opcode ≡ Some Retrieve → reads ≤ most_reads d.log.shape (frames_of d) a.all (command_of r v))
+  Allowed reply reads = Step d.log.shape (terms_of d) a.all (command_of r v) reply a.all × (op_of r.opcode ≡ Some Retrieve → reads ≤ most_reads d.log.shape (terms_of d) a.all (command_of r v))
 
   on_all : (reply : Reply) (reads : ℕ) → Allowed reply reads → AnswersAll old (sight_of d) (command_of r v) reply reads
   on_all reply reads here = for_its_map d old a (λ s f m. Step s f m (command_of r v) reply m × (op_of r.opcode ≡ Some Retrieve → reads ≤ most_reads s f m (command_of r v))) here
@@ -308,7 +318,7 @@ module _ (d d' : Parts) (old new : BoardState) (r : Request) (v into : List ℕ)
   by_reads most reads reply made is sound here = same_sight reply reads (does_reads old new (sight_of d) (command_of r v) reply most reads few few' made is sound (on_all reply reads here))
 
   by_unread : (most reads : ℕ) → old.read_faults ≤ last_count → ReadsFailing old new most → reads ≡ new.reads - old.reads
-      → (op_of r.opcode ≡ Some Retrieve → reads ≤ most_reads d.log.shape (frames_of d) a.all (command_of r v))
+      → (op_of r.opcode ≡ Some Retrieve → reads ≤ most_reads d.log.shape (terms_of d) a.all (command_of r v))
       → Does old new (sight_of d) (sight_of d') (command_of r v) (refusal 0x88) reads false
   by_unread most reads faults made is bound =
       same_sight (refusal 0x88) reads
@@ -330,7 +340,7 @@ module _ (d d' : Parts) (old new : BoardState) (r : Request) (v into : List ℕ)
       let there = (looked d old a k (Some p) looks).there in
       let here : get a.all (key (command_of r v)) ≡ Some there.0 = subst (λ q. get a.all q ≡ Some there.0) named there.2 in
       subst Done (sym told) (by_reads (4 - d.levels.pinned) reads (success 0 []) made is ok_sound
-      (exist_there d.log.shape (frames_of d) a.all (command_of r v) passes there.0 op here, λ e. absurd (other_kind r.opcode op e)))
+      (exist_there d.log.shape (frames_of d) a.all (command_of r v) passes (whole_all d old a) there.0 op here, λ e. absurd (other_kind r.opcode op e)))
 
   pub exist_none : (o : Outcome) (reads : ℕ) (k : Key) → r.opcode ≡ 0x14 → k ≡ key (command_of r v) → Looks d old.pages k None
       → o ≡ record { status = 0x87; result = 0; data_len = 0; reads = reads; stopped = false } → ReadsOnly old new (4 - d.levels.pinned) → reads ≡ new.reads - old.reads → Done o
@@ -338,7 +348,7 @@ module _ (d d' : Parts) (old new : BoardState) (r : Request) (v into : List ℕ)
       let there = (looked d old a k None looks).there in
       let here : get a.all (key (command_of r v)) ≡ None = subst (λ q. get a.all q ≡ None) named there in
       subst Done (sym told) (by_reads (4 - d.levels.pinned) reads (refusal 0x87) made is missing_sound
-      (exist_missing d.log.shape (frames_of d) a.all (command_of r v) passes op here, λ e. absurd (other_kind r.opcode op e)))
+      (exist_missing d.log.shape (frames_of d) a.all (command_of r v) passes (whole_all d old a) op here, λ e. absurd (other_kind r.opcode op e)))
 
   pub retrieve_none : (o : Outcome) (reads : ℕ) (k : Key) → r.opcode ≡ 0x02 → k ≡ key (command_of r v) → Looks d old.pages k None
       → o ≡ record { status = 0x87; result = 0; data_len = 0; reads = reads; stopped = false } → ReadsOnly old new (4 - d.levels.pinned) → reads ≡ new.reads - old.reads → Done o
@@ -349,11 +359,11 @@ module _ (d d' : Parts) (old new : BoardState) (r : Request) (v into : List ℕ)
       let within = made.within in
       let p = pinned_is in
       subst Done (sym told) (by_reads (4 - d.levels.pinned) reads (refusal 0x87) made is missing_sound
-      (retrieve_missing d.log.shape (frames_of d) a.all (command_of r v) passes op here, λ _. omega (arith, least, within, p, is)))
+      (retrieve_missing d.log.shape (frames_of d) a.all (command_of r v) passes (whole_all d old a) op here, λ _. omega (arith, least, within, p, is)))
 
   -- how much may be read of the value that was found
   most_found : (k : Key) (p : Place) (n : ℕ) → IsKey k → k ≡ key (command_of r v) → Looks d old.pages k (Some p) → n ≡ min p.len r.size
-      → most_reads d.log.shape (frames_of d) a.all (command_of r v) ≡ 4 - d.levels.pinned + fetched d.log.shape n
+      → most_reads d.log.shape (terms_of d) a.all (command_of r v) ≡ 4 - d.levels.pinned + fetched d.log.shape n
   most_found k p n is_key named looks size =
       let there = value_of d old a k p is_key looks in
       let here : get a.all (key (command_of r v)) ≡ Some there.value = subst (λ q. get a.all q ≡ Some there.value) named there.is_there in
@@ -375,7 +385,7 @@ module _ (d d' : Parts) (old new : BoardState) (r : Request) (v into : List ℕ)
       let most = most_found k p n is_key named looks size in
       let within = made.within in
       subst Done (sym told) (by_reads (4 - d.levels.pinned + fetched d.log.shape n) reads (success p.len (take n into)) made is ok_sound
-      (retrieve_there d.log.shape (frames_of d) a.all (command_of r v) passes w (take n into) p.len op here there.size bytes, λ _. omega (arith, most, within, is)))
+      (retrieve_there d.log.shape (frames_of d) a.all (command_of r v) passes (whole_all d old a) w (take n into) p.len op here there.size bytes, λ _. omega (arith, most, within, is)))
 
   pub unread_value : (o : Outcome) (reads : ℕ) (k : Key) (p : Place) (n : ℕ) → IsKey k → k ≡ key (command_of r v) → Looks d old.pages k (Some p) → n ≡ min p.len r.size
       → o ≡ record { status = 0x88; result = 0; data_len = 0; reads = reads; stopped = false } → old.read_faults ≤ last_count

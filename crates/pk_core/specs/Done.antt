@@ -8,10 +8,10 @@ use Rattle.pk_nand.specs.Calls.{Rose, last_count}
 use Rattle.pk_model.specs.Sight.{Sight}
 use Rattle.pk_model.specs.Wear.{roots}
 use Rattle.pk_nand.specs.Effects.{OnlyFlash, NoFault}
+use Rattle.pk_call.specs.Call.{command_on}
 use Rattle.pk_call.specs.Meter.{reads_after}
 use Rattle.pk_call.specs.Seen.{reply_of}
 use Rattle.pk_call.specs.declared.types.Outcome.{Outcome}
-use Rattle.pk_model.specs.Crashes.{command}
 use Rattle.pk_call.specs.Exec.{ExecStands, most_installs}
 use Rattle.pk_call.specs.Running.{FoundAfterCrash}
 use Rattle.pk_parts.specs.Parts.{Parts, sight_of}
@@ -20,7 +20,7 @@ use Rattle.pk_core.specs.Agreeing.{DriveOnFlashBetween}
 -- A command gave this reply after this many reads, or stopped the drive; drive and board are then what the contract of a drive requires.
 pub record Does (old new : BoardState) (before after : Sight) (c : Command) (reply : Reply) (reads : ℕ) (stopped : Bool) : Type 0 where
   pub stands : stopped ≡ false → ExecStands old new before after c reply reads
-  pub found : FoundAfterCrash old new before (command c) stopped
+  pub found : FoundAfterCrash old new before (command_on old c) stopped
   pub rest : OnlyFlash old new
   pub reads_are : new.reads ≡ reads_after old.reads reads
   pub up : old.read_faults ≤ new.read_faults

@@ -20,7 +20,7 @@ pub record IsServable (d : Parts) (board : BoardState) (r : Request) : Type 0 wh
   pub agrees : DriveOnFlash d board.shape board.pages
   pub runs : d.stopped ≡ false
   pub unworn : is_worn board ≡ false
-  pub passed : early d.log.shape (command_of r []) ≡ None
+  pub passed : early 1 d.log.shape (command_of r []) ≡ None
   pub few : length d.log.pending < page_entries d.log.shape
   pub counted : board.reads ≤ last_count
 

@@ -27,6 +27,9 @@ use pk_nvme::opcode::{DELETE, EXIST, FLUSH, LIST, REPORT, RETRIEVE, STORE, TICK}
 use pk_parts::Parts;
 use pk_region::Region;
 
+/// How many namespaces a drive has.
+const SPACES: u32 = 1;
+
 // Executes a command that passed the checks that read it alone.
 fn perform<B: Nand, A: Region>(
     parts: &mut Parts<A>,
@@ -86,7 +89,7 @@ impl<A: Region> Engine for Drive<A> {
     ) -> Outcome {
         // so that the board's counts are known to be of 64 bits
         let _ = board.read_count();
-        match early_fault(&self.parts.shape(), request) {
+        match early_fault(&self.parts.shape(), SPACES, request) {
             Some(status) => {
                 self.parts.known();
                 refusal(status, 0)

@@ -8,7 +8,7 @@ ghost use Rattle.pk_nand.specs.Pairs.{programs_of_pair};
 ghost use Rattle.pk_base.specs.Page.{page_at};
 ghost use Rattle.pk_rootfmt.specs.Held.{first_with};
 ghost use Rattle.pk_rootfmt.specs.Newest.{newest_root, limits_if};
-ghost use Rattle.pk_rootfmt.specs.Root.{root_bytes, are_limits, root_limits};
+ghost use Rattle.pk_rootfmt.specs.Root.{root_bytes, are_limits, written_limits};
 ghost use Rattle.pk_model.specs.Reading.{Holds};
 
 use pk_base::{MOST_PAGE_BYTES, Shape};
@@ -21,7 +21,7 @@ use pk_space::Limits;
 /// shape.
 fn limits_in_root<'a>(shape: &Shape, limits: &'a Limits) -> &'a [u32]
     requires { limits.now.shape ≡ shape.now }
-    ensures value { result.now ≡ root_limits shape.now limits.now.each }
+    ensures value { result.now ≡ written_limits shape.now limits.now.each }
     ensures grammar { are_limits shape.now result.now ≡ true }
 {
     let each = limits.each();
@@ -77,10 +77,10 @@ pub fn format<B: Nand>(board: &mut B, shape: Shape, limits: &Limits) -> Result<(
         (newest_root shape (page_at (B.state board.new).pages)) ≡ limits.now.each) }
     ensures programs { OnOk result (B.state board.new ≡ after_programs (B.state board.old)
         (programs_of_pair 0 (root_bytes shape
-        (first_with (root_limits shape limits.now.each))))) }
+        (first_with (written_limits shape limits.now.each))))) }
     ensures err { OnErr result (ProgramsFailed (B.state board.old) (B.state board.new)
         (programs_of_pair 0 (root_bytes shape
-        (first_with (root_limits shape limits.now.each))))) }
+        (first_with (written_limits shape limits.now.each))))) }
     ensures ready { IsReady (B.state board.new) shape }
 {
     shape.known();

@@ -4,6 +4,7 @@ ghost use Rattle.pk_base.specs.Shape.{page_entries};
 ghost use Rattle.pk_base.specs.Map.{Map};
 ghost use Rattle.pk_nand.specs.Calls.{IsReady};
 ghost use Rattle.pk_nand.specs.Counts.{after_reads};
+ghost use Rattle.pk_model.specs.Spaces.{terms_at};
 ghost use Rattle.pk_call.specs.Drive.{HoldsMap};
 ghost use Rattle.pk_scan.specs.Reads.{opening_reads};
 ghost use Rattle.pk_scan.specs.Opening.{NotOpened};
@@ -42,7 +43,8 @@ impl<A: Region> Drive<A> {
         ensures agrees { IfOk result (λ d. DriveOnFlash d (B.state board.new).shape
             (B.state board.new).pages × (length d.log.pending < page_entries d.log.shape)) }
         ensures stands { IfOk result (λ d. (m : Map)
-            × HoldsMap shape frames (B.state board.new) (sight_of d) m) }
+            × HoldsMap shape (terms_at shape (B.state board.new).pages frames) (B.state board.new)
+            (sight_of d) m) }
         ensures steady { IfOk result (λ d. IsSteady shape (B.state board.new).pages (sight_of d)) }
         ensures blocks { IfOk result (λ d. (tree : Tree)
             → IsTree shape (B.state board.new).pages tree

@@ -5,11 +5,12 @@ ghost use Rattle.pk_base.specs.Page.{Flash};
 ghost use Rattle.pk_base.specs.Map.{Map, live};
 ghost use Rattle.pk_nvme.specs.Seen.{command_of};
 ghost use Rattle.pk_nand.specs.BoardState.{shape_of};
-ghost use Rattle.pk_model.specs.Crashes.{background, commit, command};
+ghost use Rattle.pk_model.specs.Crashes.{background, commit};
 ghost use Rattle.pk_model.specs.Sight.{Sight, map_of};
 ghost use Rattle.pk_model.specs.Wear.{root_number};
 ghost use Rattle.pk_model.specs.declared.wear.TheConstants.{WORN_FROM};
 ghost use Rattle.pk_call.specs.Answering.{AnswersCommand, CountsCalls, SettlesBackground, ShowsItself, WaitsForNothing};
+ghost use Rattle.pk_call.specs.Call.{command_on};
 ghost use Rattle.pk_call.specs.Commit.{AnswersCommit, CountsPrograms, ShowsCommit};
 ghost use Rattle.pk_call.specs.Drive.{CountsMap};
 ghost use Rattle.pk_call.specs.Running.{DriveRuns, CanServe, CanExecute, PassesValue, HasRoomForData, LeavesDrive, FoundAfterCrash};
@@ -51,7 +52,7 @@ pub trait Engine {
         ensures answers { AnswersCommand (B.state board.old) (B.state board.new) (sight self.old)
             (sight self.new) request.now value.now result into.old into.new }
         ensures found { FoundAfterCrash (B.state board.old) (B.state board.new) (sight self.old)
-            (command (command_of request.now value.now)) result.stopped }
+            (command_on (B.state board.old) (command_of request.now value.now)) result.stopped }
 
         // What is counted, how the background settles, what is seen of the drive, and what waits
         // for nothing.

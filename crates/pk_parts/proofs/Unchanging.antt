@@ -1,9 +1,9 @@
 -- What a lookup reads.
-use Rattle.std.proofs.Common.{◌≡◌, ℕ, zero, suc, ◌+◌, ◌-◌, ◌<◌, ◌≤◌, refl, sym, ap, subst, ◌∙◌, arith, min, Option, Some, Ok, Result}
+use Rattle.std.proofs.Common.{◌≡◌, ℕ, zero, suc, ◌+◌, ◌-◌, ◌<◌, ◌≤◌, refl, sym, ap, subst, ◌∙◌, arith, min, List, [], ◌∷◌, Option, Some, Ok, Result}
 use Rattle.std.specs.Prelude.{OnOk, OnErr, Err}
 use Rattle.pk_base.specs.Key.{Key}
-use Rattle.pk_base.specs.Shape.{Shape}
-use Rattle.pk_base.specs.Page.{IsFlash}
+use Rattle.pk_base.specs.Shape.{Shape, limit}
+use Rattle.pk_base.specs.Page.{Flash, IsFlash}
 use Rattle.pk_base.specs.Entry.{Place}
 use Rattle.pk_base.specs.Map.{Map}
 use Rattle.pk_nand.specs.BoardState.{BoardState}
@@ -11,10 +11,13 @@ use Rattle.pk_nand.specs.Calls.{Rose, counted, last_count, IsReady}
 use Rattle.pk_nand.specs.Operations.{ReadFailed}
 use Rattle.pk_nand.specs.Counts.{counted_by, after_reads}
 use Rattle.pk_level.specs.Levels.{ReadsUpTo, ReadFailsWithin}
+use Rattle.pk_model.specs.Spaces.{Terms, in_space, limits_at}
 use Rattle.pk_model.specs.Reading.{reading}
+use Rattle.pk_model.proofs.HeldMap.{map_held}
+use Rattle.pk_model.proofs.SpaceLemmas.{is_whole}
 use Rattle.pk_law_steps.proofs.Untouched.{under_reads}
 use Rattle.pk_call.specs.Drive.{HoldsMap}
-use Rattle.pk_parts.specs.Parts.{Parts, sight_of, frames_of, settled_parts}
+use Rattle.pk_parts.specs.Parts.{Parts, sight_of, terms_of, settled_parts}
 use Rattle.pk_parts.specs.Agreeing.{DriveOnFlashWith, DriveOnFlash, IsWhole}
 use Rattle.pk_parts.specs.Finding.{IsPlaceIn}
 use Rattle.pk_parts.specs.Quiet.{ReadsOnly, ReadsFailing, Looks}
@@ -72,6 +75,11 @@ reads_break old mid new most k n at before less failed =
 
 -- ---- the map of a drive
 
+-- the limits on a flash: that of the shape alone
+pub limits_are : (shape : Shape) (flash : Flash) → limits_at shape flash ≡ limit shape ∷ []
+unfolding limits_at
+limits_are shape flash = refl
+
 pub same_ok : {E : Type 0} (x y : Map) → ◌≡◌ {A = Result Map E} (Ok x) (Ok y) → x ≡ y
 same_ok x y e = cc
 
@@ -85,16 +93,25 @@ module _ (d : Parts) (board : BoardState) (a : DriveOnFlash d board.shape board.
   own_whole whole = with_whole d d.log.shape board.pages a.top a.found a.without a.all whole.settles own
 
   -- what holds of its one map holds of every map that it represents
-  pub for_its_map : (P : Shape → ℕ → Map → Type 0) → P d.log.shape (frames_of d) a.all → (shape : Shape) (frames : ℕ) (m : Map) → HoldsMap shape frames board (sight_of d) m → P shape frames m
-  for_its_map P here shape frames m st =
+  pub for_its_map : (P : Shape → Terms → Map → Type 0) → P d.log.shape (terms_of d) a.all → (shape : Shape) (terms : Terms) (m : Map) → HoldsMap shape terms board (sight_of d) m → P shape terms m
+  for_its_map P here shape terms m st =
       let same_shape : d.log.shape ≡ shape = a.with.shape_is ∙ some_same a.shape shape (sym a.told_is ∙ st.shape_is) in
       let read = under_reads d.log.shape board.pages d.log.pending a.top a.found a.all own.pending in
-      let Q : Shape → Type 0 = λ s. P s frames m in
-      let R : ℕ → Type 0 = λ f. P d.log.shape f m in
-      let S : Map → Type 0 = λ x. P d.log.shape (frames_of d) x in
+      let same_limits : limit d.log.shape ∷ [] ≡ terms.limits = ap (λ (s : Shape). limit s ∷ []) same_shape ∙ sym (limits_are shape board.pages) ∙ st.limits_is in
+      let same_terms : terms_of d ≡ terms = λ i. record { frames = st.frames_is i; limits = same_limits i } in
+      let Q : Shape → Type 0 = λ s. P s terms m in
+      let R : Terms → Type 0 = λ t. P d.log.shape t m in
+      let S : Map → Type 0 = λ x. P d.log.shape (terms_of d) x in
       let U : Shape → Type 0 = λ s. reading s board.pages d.log.pending ≡ Ok m in
       let same_map : a.all ≡ m = same_ok a.all m (sym read ∙ subst U (sym same_shape) st.map_is) in
-      subst Q same_shape (subst R st.frames_is (subst S same_map here))
+      subst Q same_shape (subst R same_terms (subst S same_map here))
+
+  -- each key of its map is of its only namespace
+  pub whole_all : in_space 1 a.all ≡ a.all
+  whole_all =
+      let held = map_held d.log.shape board.pages d.log.pending a.all own.index.logs.is_shape own.is_flash own.index.logs.pending_are
+      (under_reads d.log.shape board.pages d.log.pending a.top a.found a.all own.pending) in
+      is_whole d.log.shape a.all held.is_map
 
   -- what a lookup says of this map
   pub looked : (k : Key) (p : Option Place) → Looks d board.pages k p → IsPlaceIn d.log.shape board.pages a.found d.log.pending a.all k p

@@ -5,6 +5,7 @@ use Rattle.pk_plan.specs.declared.owner.Owner.TheVariants.{Values}
 use Rattle.pk_pin.specs.Frames.{Frames, leased_frames}
 use Rattle.pk_pool.specs.Blocks.{Blocks, is_ready, used_by, freed}
 use Rattle.pk_level.specs.Levels.{Levels, run_of}
+use Rattle.pk_model.specs.Spaces.{Terms, one_space}
 use Rattle.pk_model.specs.Sight.{Sight, Counts}
 use Rattle.pk_log.specs.State.{LogState}
 use Rattle.pk_values.specs.State.{ValuesState, fits_open}
@@ -41,6 +42,10 @@ pub record Parts : Type 0 where
 -- how many frames there are
 abbrev pub frames_of : Parts → ℕ
 frames_of d = length d.arena.used
+
+-- its frames, and the limit of its only namespace
+abbrev pub terms_of : Parts → Terms
+terms_of d = one_space (frames_of d) (limit d.log.shape)
 
 -- the part that records where the value of each key is
 abbrev pub index_of : Parts → Index

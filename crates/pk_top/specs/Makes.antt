@@ -8,14 +8,14 @@ use Rattle.pk_nand.specs.Calls.{Loaded, Made, ProgramsFailed, after_programs}
 use Rattle.pk_nand.specs.Pairs.{programs_of_pair}
 use Rattle.pk_rootfmt.specs.Held.{first_with}
 use Rattle.pk_rootfmt.specs.Newest.{newest_root, limits_if}
-use Rattle.pk_rootfmt.specs.Root.{root_bytes, root_limits}
+use Rattle.pk_rootfmt.specs.Root.{root_bytes, written_limits}
 use Rattle.pk_model.specs.Reading.{Holds}
 use Rattle.pk_top.specs.declared.status.TheConstants.Status.{DONE, FLASH, IMAGE_EXISTS}
 use Rattle.pk_top.specs.Loads.{MakeRefused, WordRun}
 
 -- the first root of a drive whose namespaces have these limits
 abbrev pub made_root : Shape → List ℕ → List ℕ
-made_root shape limits = root_bytes shape (first_with (root_limits shape limits))
+made_root shape limits = root_bytes shape (first_with (written_limits shape limits))
 
 -- The flash of an image that was made holds the empty map and has these limits, by two programs with the same root.
 pub record Formatted (shape : Shape) (limits : List ℕ) (made new : BoardState) (status : ℕ) : Type 0 where

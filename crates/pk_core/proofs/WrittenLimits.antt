@@ -8,7 +8,7 @@ use Rattle.pk_base.specs.Page.{Flash, page_at}
 use Rattle.pk_base.specs.declared.sizes.TheConstants.{MOST_SPACES}
 use Rattle.pk_base.proofs.Logic.{is_true}
 use Rattle.pk_space.specs.Limits.{AcceptsLimits, has_zero, has_no_room}
-use Rattle.pk_rootfmt.specs.Root.{fit_in, has_limits_room, are_limits, limits_of, root_limits}
+use Rattle.pk_rootfmt.specs.Root.{fit_in, has_limits_room, are_limits, limits_of, written_limits}
 use Rattle.pk_rootfmt.specs.Held.{first_with}
 use Rattle.pk_rootfmt.specs.Newest.{newest_root, limits_if}
 use Rattle.pk_rootfmt.proofs.LimitLemmas.{by_test}
@@ -31,7 +31,7 @@ fits left (l ∷ ls) no_zero within =
     not_zero : (n : ℕ) → (n == 0) ≡ false → nat_le 1 n ≡ true
     not_zero n e = grind (arith, nat_tests)
 
-pub whole_limits : (shape : Shape) (limits : List ℕ) → length limits ≡ 1 → slice_index limits 0 ≡ limit shape → [] ≡ root_limits shape limits
+pub whole_limits : (shape : Shape) (limits : List ℕ) → length limits ≡ 1 → slice_index limits 0 ≡ limit shape → [] ≡ written_limits shape limits
 whole_limits shape [] one is = absurd (omega (arith, one))
 whole_limits shape (l ∷ []) one is = rw (bytes_same (limit shape ∷ []), is) refl
 whole_limits shape (l ∷ k ∷ ls) one is = absurd (omega (arith, one))
@@ -54,12 +54,12 @@ root_grammar shape (l ∷ ls) accepts other =
     has_room no same e f = cc
 
 -- a drive has the limits that its root says
-pub limits_again : (shape : Shape) (limits : List ℕ) → 1 ≤ length limits → limits_of shape (root_limits shape limits) ≡ limits
+pub limits_again : (shape : Shape) (limits : List ℕ) → 1 ≤ length limits → limits_of shape (written_limits shape limits) ≡ limits
 limits_again shape [] some = absurd (omega (arith, some))
-limits_again shape (l ∷ ls) some = by_test (bytes_eq (l ∷ ls) (limit shape ∷ [])) (limits_of shape (root_limits shape (l ∷ ls)) ≡ l ∷ ls)
+limits_again shape (l ∷ ls) some = by_test (bytes_eq (l ∷ ls) (limit shape ∷ [])) (limits_of shape (written_limits shape (l ∷ ls)) ≡ l ∷ ls)
     (λ yes. ap (λ (b : Bool). limits_of shape (if b then [] else l ∷ ls)) yes ∙ sym (same_bytes (l ∷ ls) (limit shape ∷ []) yes))
     (λ no. ap (λ (b : Bool). limits_of shape (if b then [] else l ∷ ls)) no)
 
-pub limits_read : (shape : Shape) (flash : Flash) (limits : List ℕ) → newest_root shape (page_at flash) ≡ Some (0, first_with (root_limits shape limits)) → 1 ≤ length limits
+pub limits_read : (shape : Shape) (flash : Flash) (limits : List ℕ) → newest_root shape (page_at flash) ≡ Some (0, first_with (written_limits shape limits)) → 1 ≤ length limits
     → limits_if shape (newest_root shape (page_at flash)) ≡ limits
 limits_read shape flash limits is some = ap (limits_if shape) is ∙ limits_again shape limits some

@@ -1,0 +1,11 @@
+pub mod Keys
+pub mod Lists
+pub mod Unfolded
+pub mod Parts
+pub mod Alone
+pub mod Isolating
+pub mod Fixing
+pub mod Together
+pub mod InParts
+pub mod Sums
+pub mod Within

@@ -1,0 +1,90 @@
+-- The live pages of a map are those of its namespaces together.
+use Rattle.std.proofs.Common.{◌≡◌, ℕ, zero, suc, ◌+◌, ◌-◌, ◌≤◌, ◌<◌, ◌∷◌, [], List, length, sum, slice_index, true, false, cond, refl, sym, ap, subst, ◌∙◌, arith, ◌==◌, None, eqb-true}
+use Rattle.std.proofs.Common.{ne_eqb}
+use Rattle.std.proofs.lemmas.Bool.{eqb-false}
+use Rattle.std.proofs.lemmas.List.Sums.{sum_by-cons}
+use Rattle.std.specs.FinMap.{get, entries}
+use Rattle.std.specs.FinMap.Entries.{where_key}
+use Rattle.std.specs.List.{AllByRecursion}
+use Rattle.pk_base.specs.Key.{Key, key_cmp, space_of, bytes_of}
+use Rattle.pk_base.specs.Shape.{Shape}
+use Rattle.pk_base.specs.Map.{pages_in, pages_of}
+use Rattle.pk_model.proofs.SpaceLemmas.{entries_in, by_keys, get_in_space}
+use Rattle.pk_law_isolation.specs.Sums.{WithinSum, FirstIsPart}
+use Rattle.pk_law_isolation.proofs.Keys.{is_in}
+use Rattle.pk_law_isolation.proofs.Lists.{Entries}
+use Rattle.pk_law_isolation.proofs.Parts.{get_alone}
+
+module _ (shape : Shape) where
+  abbrev part : ℕ → Entries → ℕ
+  part space es = pages_in shape (where_key key_cmp (λ k. space_of k == space) es)
+
+  -- the pages of so many namespaces from this one on
+  abbrev parts_sum : ℕ → ℕ → Entries → ℕ
+  parts_sum from zero es = 0
+  parts_sum from (suc n) es = part from es + parts_sum (from + 1) n es
+
+  none_sum : (from n : ℕ) → parts_sum from n [] ≡ 0
+  none_sum from zero = refl
+  none_sum from (suc n) = let more = none_sum (from + 1) n in omega (arith, more)
+
+  -- an entry of an earlier namespace adds nothing
+  other_part : (space : ℕ) (e : Key × List ℕ) (es : Entries) → (space_of e.0 == space) ≡ false → part space (e ∷ es) ≡ part space es
+  other_part space e es differ = ap (λ t. pages_in shape (cond t (e ∷ where_key key_cmp (λ k. space_of k == space) es) (where_key key_cmp (λ k. space_of k == space) es))) differ
+
+  own_part : (space : ℕ) (e : Key × List ℕ) (es : Entries) → (space_of e.0 == space) ≡ true → part space (e ∷ es) ≡ pages_of shape e.1 + part space es
+  own_part space e es is = ap (λ t. pages_in shape (cond t (e ∷ where_key key_cmp (λ k. space_of k == space) es) (where_key key_cmp (λ k. space_of k == space) es))) is
+
+  before : (from n : ℕ) (e : Key × List ℕ) (es : Entries) → space_of e.0 < from → parts_sum from n (e ∷ es) ≡ parts_sum from n es
+  before from zero e es less = refl
+  before from (suc n) e es less =
+      λ i. other_part from e es (ne_eqb (space_of e.0) from (λ is. omega (arith, less, is))) i + before (from + 1) n e es (omega (arith, less)) i
+
+  -- one of these namespaces adds its pages
+  within : (from n : ℕ) (e : Key × List ℕ) (es : Entries) → from ≤ space_of e.0 → space_of e.0 < from + n → parts_sum from n (e ∷ es) ≡ pages_of shape e.1 + parts_sum from n es
+  within from zero e es low high = absurd (omega (arith, low, high))
+  within from (suc n) e es low high = elim (space_of e.0 == from) as (λ t. (space_of e.0 == from) ≡ t → parts_sum from (suc n) (e ∷ es) ≡ pages_of shape e.1 + parts_sum from (suc n) es) [
+    | true ↦ λ is.
+        let own = own_part from e es is in
+        let rest = before (from + 1) n e es (let same = eqb-true (space_of e.0) from is in omega (arith, same)) in
+        omega (arith, own, rest)
+    | false ↦ λ is.
+        let other = other_part from e es is in
+        let apart = eqb-false (space_of e.0) from is in
+        let above : from < space_of e.0 = beyond from (space_of e.0) low (λ e. apart (sym e)) in
+        let rest = within (from + 1) n e es (omega (arith, above)) (omega (arith, high)) in
+        omega (arith, other, rest)
+  ] refl
+    where
+      beyond : (a b : ℕ) → a ≤ b → (a ≡ b → ⊥) → a < b
+      beyond a b low apart = grind (arith, low, apart)
+
+  pub all_parts : (n : ℕ) (es : Entries) → AllByRecursion (λ e. (1 ≤ space_of e.0) × (space_of e.0 ≤ n)) es → pages_in shape es ≡ parts_sum 1 n es
+  all_parts n [] all = sym (none_sum 1 n)
+  all_parts n (e ∷ es) all =
+      ap (λ k. pages_of shape e.1 + k) (all_parts n es all.1) ∙ sym (within 1 n e es all.0.0 (omega (arith, all.0.1)))
+
+  -- so many namespaces within their limits
+  bounded : (from : ℕ) (limits : List ℕ) (es : Entries) → ((i : ℕ) → i < length limits → part (from + i) es ≤ slice_index limits i) → parts_sum from (length limits) es ≤ sum limits
+  bounded from [] es each = omega arith
+  bounded from (l ∷ ls) es each =
+      let first : part from es ≤ l = subst (λ k. part k es ≤ l) (omega arith) (each 0 (omega arith)) in
+      let rest = bounded (from + 1) ls es (λ i less. subst (λ k. part k es ≤ slice_index ls i) (omega arith) (each (suc i) (omega (arith, less)))) in
+      omega (arith, first, rest, sum_by-cons (λ (x : ℕ). x) l ls)
+
+pub within_sum : WithinSum
+within_sum shape limits m all each =
+    let bound = bounded shape 1 limits (entries m) (λ i less.
+    let place : (1 + i) - 1 ≡ i = omega arith in
+    subst (λ k. pages_in shape (where_key key_cmp (λ key. space_of key == 1 + i) (entries m)) ≤ slice_index limits k) place
+    (subst (λ es. pages_in shape es ≤ slice_index limits ((1 + i) - 1)) (entries_in (1 + i) m) (each (1 + i) (omega arith) (omega (arith, less))))) in
+    subst (λ n. n ≤ sum limits) (sym (all_parts shape (length limits) (entries m) all)) bound
+
+pub first_is_part : FirstIsPart
+first_is_part m = by_keys _ _ (λ q.
+    get_alone 1 (omega arith) m q
+    ∙ elim (space_of q == 1) as (λ t. (space_of q == 1) ≡ t → cond t (get m (1 ∷ bytes_of q)) None ≡ cond t (get m q) None) [
+      | true ↦ λ is. ap (get m) (sym (is_in 1 q (omega arith) is))
+      | false ↦ λ is. refl
+    ] refl
+    ∙ sym (get_in_space 1 m q))
