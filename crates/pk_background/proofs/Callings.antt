@@ -1,5 +1,5 @@
 -- How many flash operations consecutive calls make, and how many roots they install.
-use Rattle.std.proofs.Common.{◌≡◌, ◌≢◌, ℕ, suc, ◌+◌, ◌≤◌, refl, sym, ap, subst, ◌∙◌, arith, List, [], ◌∷◌}
+use Rattle.std.proofs.Common.{◌≡◌, ◌≢◌, ℕ, zero, suc, ◌+◌, ◌≤◌, refl, sym, ap, subst, ◌∙◌, arith, List, [], ◌∷◌}
 use Rattle.pk_nand.specs.BoardState.{BoardState}
 use Rattle.pk_nand.specs.Calls.{counted}
 use Rattle.pk_nand.specs.Counts.{counted_by}
@@ -9,7 +9,14 @@ use Rattle.pk_law_work.specs.Calls.{commit_calls}
 use Rattle.pk_call.specs.Calling.{FewCalls}
 use Rattle.pk_call.specs.Commit.{ProgramsOfCommit}
 use Rattle.pk_background.specs.Costs.{Spends}
-use Rattle.std.proofs.Common.{◌≡◌, ℕ, zero, suc, ◌+◌, ap, ◌∙◌, arith}
+
+-- ---- counts
+
+pub counted_more : (m k n : ℕ) → counted_by m (counted_by k n) ≡ counted_by (k + m) n
+counted_more zero k n = let same : k ≡ k + zero = omega arith in ap (λ (x : ℕ). counted_by x n) same
+counted_more (suc m) k n = let same : suc (k + m) ≡ k + suc m = omega arith in ap counted (counted_more m k n) ∙ ap (λ (x : ℕ). counted_by x n) same
+
+-- ---- flash operations
 
 pub few_none : (old : BoardState) → FewCalls 0 old old
 few_none old = record { reads_made = 0; programs_made = 0; erases_made = 0; few = omega arith; reads = refl; programs = refl; erases = refl }
@@ -117,7 +124,3 @@ spends_then m n most p q all a b c less fewer first second = record {
   calls = few_within (m + n) most a c less (few_then m n a b c first.calls second.calls);
   installs = (let one = first.installs in let two = second.installs in omega (arith, one, two, fewer));
 }
-
-pub counted_more : (m k n : ℕ) → counted_by m (counted_by k n) ≡ counted_by (k + m) n
-counted_more zero k n = let same : k ≡ k + zero = omega arith in ap (λ (x : ℕ). counted_by x n) same
-counted_more (suc m) k n = let same : suc (k + m) ≡ k + suc m = omega arith in ap counted (counted_more m k n) ∙ ap (λ (x : ℕ). counted_by x n) same
