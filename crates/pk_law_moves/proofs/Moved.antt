@@ -1,5 +1,5 @@
 -- Keys whose values go to other places: what is read, and where the pages lie.
-use Rattle.std.proofs.Common.{◌≡◌, ◌⊎◌, inl, inr, ℕ, refl, sym, ap, ◌∙◌, arith, true, false, cond, T, List, [], ◌∷◌, ◌++◌, length, Option, Some, length-append, ◌==◌, ◌+◌}
+use Rattle.std.proofs.Common.{◌≡◌, ◌⊎◌, inl, inr, ℕ, refl, sym, ap, ◌∙◌, arith, true, false, cond, T, List, [], ◌∷◌, ◌++◌, length, Option, Some, length-append, ◌==◌, ◌+◌, if◌then◌else◌}
 use Rattle.std.specs.List.{AllByRecursion}
 use Rattle.std.specs.declared.cmp.Ordering.TheVariants.{Less, Equal, Greater}
 use Rattle.std.specs.Ordering.{is_eq, eq_by_cmp}

@@ -19,7 +19,7 @@ use Rattle.pk_model.specs.Values.{placed, fits, values_of, all_pages}
 use Rattle.pk_model.specs.Reading.{map_under, may_add}
 use Rattle.pk_model.proofs.StrangePages.{bind_ok}
 use Rattle.pk_model.proofs.Lookups.{Has, find-values, same_key}
-use Rattle.pk_model.proofs.ValueSets.{values_sound, values_complete, Reads, fits_parts, parts_fit, IsPlacedIn, fits_within, under_in_spaces}
+use Rattle.pk_model.proofs.ValueSets.{values_sound, values_complete, Reads, fits_parts, parts_fit, IsPlacedIn, under_in_spaces}
 use Rattle.pk_model.proofs.Stores.{placed-put, reads-put, entries_in_order-push}
 use Rattle.pk_model.proofs.Merges.{placed_sorted}
 use Rattle.pk_model.proofs.HeldMap.{nothing_fits}
@@ -34,7 +34,6 @@ use Rattle.pk_base.proofs.Logic.{is_true, left_part, right_part, passed, both}
 use Rattle.pk_base.proofs.KeyLemmas.{firsts_sorted}
 use Rattle.pk_model.specs.RootLimits.{root_limits, root_spaces}
 use Rattle.pk_space.specs.Entries.{in_spaces}
-use Rattle.pk_model.proofs.Entries.{all_put}
 use Rattle.std.specs.Ordering.{eq_by_cmp}
 use Rattle.pk_model.specs.Spaces.{limit_of}
 

@@ -16,7 +16,6 @@ use Rattle.pk_model.specs.Found.{entries_in_order}
 use Rattle.pk_model.specs.Values.{placed, values_of}
 use Rattle.pk_model.specs.Reading.{may_add, map_under}
 use Rattle.pk_model.proofs.RootLimits.{in_spaces_last}
-use Rattle.pk_model.proofs.Entries.{all_put}
 use Rattle.pk_model.proofs.MapLemmas.{key_total, key_antisymm, below_less}
 use Rattle.pk_model.proofs.ValueSets.{values_sound, values_complete, Reads}
 use Rattle.pk_model.proofs.Stores.{below_placed, reading-store, entries_in_order-push}
