@@ -128,7 +128,9 @@ def words(image):
     for given, text in [
         ('make 513 16 64', 'a page has 512, 1024,'), ('make 512 12 64', 'a block has 8, 16,'), ('make 512 32 64', 'fewer than 32 pages'),
         ('make 512 16 9', 'at least 21 blocks'), ('make 512 16 5000', 'at most 4096 blocks'), ('make 16384 256 65', 'at most 256 MiB'),
-        ('make 512 8 3000', 'does not fit a page'), ('make 4k 16 64', "'4k' is no number"), ('make 512 16', 'make takes P N M, and was given 2 words'),
+        ('make 512 8 3000', 'does not fit a page'), ('make 4k 16 64', "'4k' is no number"), ('make 512 16', 'make takes P N M and at most 8 limits, and was given 2 words'),
+        ('make 512 16 64 0', 'a limit of at least one page'), ('make 512 16 64 100 393', 'together 493 pages; this drive has 492'),
+        ('make 512 16 64 1 1 1 1 1 1 1 1 1', 'at most 8 namespaces, not 9'),
         ('get 6', 'even count of hexadecimal digits'), ('get zz', "the key 'zz'"), ('get ' + '61' * 17, 'the key has 17 bytes'),
         ('put hello world', "the key 'hello'"), ('put 61 6', 'the value is not'), ('serve 16385', 'at most 16384 frames'), ('serve 036', "'036' is no number"),
         ('PUT 61 62', "there is no word 'PUT'"), ('version', "there is no word 'version'"), ('list zz', "the key 'zz'"), ('stat x', 'stat takes no more words'),

@@ -14,6 +14,7 @@ import re
 import select
 import shutil
 import signal
+import struct
 import subprocess
 import sys
 import tempfile
@@ -663,6 +664,57 @@ class Shell(OnImage):
         self.change(STATES, b"\0\0")
         self.shell("list", status=8)
         self.assertIn("pinkctl check", self.said)
+
+
+class Namespaces(unittest.TestCase):
+    """Images by their bytes, as docs/FORMATS.md has them: roots with limits, and keys of several namespaces."""
+
+    P, N, M = 512, 16, 64
+
+    def image(self, limits, entries):
+        """A drive of namespaces with these limits, whose first commit has these Puts; without limits of version 2."""
+        pages, body, at = {}, b"", 64
+        words = struct.pack("<8I", *limits, *[0] * (8 - len(limits))) if limits else b""
+        version = 3 if limits else 2
+        head = struct.pack("<8sHHIHHIQQ4I8s", b"PINKROOT", version, self.N, self.P, self.M, 2, len(limits), 1, 1, 0, 0, 0, 0, bytes(8))
+        pages[0] = pages[1] = (head + words + struct.pack("<HH", 2, 3)).ljust(self.P, b"\0")
+        for space, key, value in entries:
+            count = 2 * -(-(32 + len(value)) // (2 * self.P))
+            body += struct.pack("<BBBB16sIII", len(key), 1, space - 1, 0, key, at, len(value), 0)
+            data = struct.pack("<BBBB16sI8s", len(key), 0x44, space - 1, 0, key, len(value), b"PINKDATA") + value
+            data = data.ljust(count * self.P, b"\0")
+            pages.update({at + i: data[i * self.P : (i + 1) * self.P] for i in range(count)})
+            at += count
+        commit = struct.pack("<8sQIH10s", b"PINKJRNL", 1, 0, len(entries), bytes(10)) + body
+        pages[2 * self.N] = pages[2 * self.N + 1] = commit.ljust(self.P, b"\0")
+        head = struct.pack("<8sIII12s", b"PINKIMG1", self.P, self.N, self.M, bytes(12))
+        every = range(self.N * self.M)
+        return head + bytes(page in pages for page in every) + b"".join(pages.get(page, bytes(self.P)) for page in every)
+
+    def read(self, limits, entries):
+        return image.read_flash(image.load_image(self.image(limits, entries)))
+
+    def test_keys_of_two_namespaces(self):
+        flash = self.read([100, 392], [(1, b"a", b"x" * 100), (2, b"a", b"y" * 600), (2, b"b", b"")])
+        self.assertTrue(flash.opens)
+        self.assertEqual(list(flash.map), [(1, b"a"), (2, b"a"), (2, b"b")])
+        self.assertEqual((flash.limits, flash.pages_of(1), flash.pages_of(2)), ((100, 392), 2, 4))
+
+    def test_without_limits(self):
+        flash = self.read([], [(1, b"a", b"x")])
+        self.assertEqual((flash.opens, flash.limits), (True, (492,)))
+
+    def test_a_namespace_that_the_drive_has_not(self):
+        for limits, space in ([100, 392], 3), ([492], 2), ([], 2):
+            self.assertEqual(self.read(limits, [(space, b"a", b"x")]).fault.page, 32)
+
+    def test_a_limit_that_is_passed(self):
+        flash = self.read([2, 392], [(1, b"a", b"x"), (2, b"a", b"x"), (1, b"b", b"x")])
+        self.assertEqual((flash.fault.page, flash.fault.key), (68, (1, b"b")))
+
+    def test_limits_outside_the_grammar(self):
+        for limits in [0], [493], [100, 393], [100, 0, 1]:
+            self.assertIsNone(self.read(limits, [(1, b"a", b"x")]).root)
 
 
 class Shapes(OnImage):

@@ -9,8 +9,8 @@ from typing import Any, BinaryIO, Optional
 from . import layout as it
 from .doubts import Doubt, doubts_of
 from .files import add_wait, locked
-from .image import Fault, Flash, Image, NotAnImage, open_image, read_flash, unknown_versions
-from .keys import shown
+from .image import Fault, Flash, Image, Key, NotAnImage, open_image, read_flash, unknown_versions
+from .keys import shown, shown_in
 from .program import dump_verdict
 from .status import Exit, ToolError
 
@@ -101,7 +101,7 @@ def judge(image: Image, flash: Flash) -> Verdict:
     keys = counted(len(flash.map), "key")
     if doubts:
         return Verdict("doubtful", Exit.DOUBTFUL, f"it opens with {keys}, but {doubts[0].text}", **found)
-    return Verdict("whole", Exit.OK, f"{keys}, {len(flash.taken):,} of {flash.layout.limit:,} pages for values", **found)
+    return Verdict("whole", Exit.OK, f"{keys}, {len(flash.taken):,} of {sum(flash.limits):,} pages for values", **found)
 
 
 def judge_without_root(image: Image, found: dict[str, Any]) -> Verdict:
@@ -119,10 +119,10 @@ def counted(count: int, what: str) -> str:
 
 def told(fault: Fault) -> str:
     """A fault in a line: the page, its key, what it is, what is wrong."""
-    key = f" of the key {shown(fault.key)}" if fault.key is not None else ""
+    key = f" of the key {shown_in(*fault.key)}" if fault.key is not None else ""
     text = f"page {fault.page} is wrong: {fault.part}{key}: {fault.why}"
     if fault.keys:
-        text += f"; it names {counted(len(fault.keys), 'key')}, {shown(min(fault.keys))} to {shown(max(fault.keys))}"
+        text += f"; it names {counted(len(fault.keys), 'key')}, {shown_in(*min(fault.keys))} to {shown_in(*max(fault.keys))}"
     return text
 
 
@@ -177,7 +177,7 @@ def limits_of(flash: Flash) -> dict[str, int]:
     return {
         "key_bytes": it.KEY_BYTES,
         "value_bytes": layout.greatest,
-        "value_pages": layout.limit,
+        "value_pages": sum(flash.limits),
         "page_bytes": layout.shape.page_bytes,
         "block_pages": layout.shape.block_pages,
         "blocks": layout.shape.blocks,
@@ -232,18 +232,37 @@ def doubts_told(verdict: Verdict) -> list[Doubt]:
 
 
 def use_text(use: dict[str, int], flash: Flash) -> list[str]:
-    percent = 100 * use["value_pages"] // flash.layout.limit
+    percent = 100 * use["value_pages"] // sum(flash.limits)
     part = "" if flash.opens else ", as far as it was read"
     return [
         f"use: {counted(use['keys'], 'key')}, values of {use['value_bytes']:,} bytes in {counted(use['value_pages'], 'page')} "
         f"({percent} % of the limit) and {counted(use['value_blocks'], 'block')}{part}",
+        *spaces_text(flash),
         f"layout: version {use['version']}, root {use['root']} in page {use['root_page']}, epoch {use['epoch']}, "
         f"{counted(use['index_blocks'], 'block')} of the index, {counted(use['pages_written'], 'page')} written, {use['pages_torn']} torn",
     ]
 
 
-def key_json(key: Optional[bytes]) -> Optional[dict[str, str]]:
-    return None if key is None else {"hex": key.hex(), "text": shown(key)}
+def spaces_of(flash: Flash) -> list[dict[str, int]]:
+    """What each namespace holds, as far as it was read."""
+    return [
+        {"namespace": space, "limit": limit, "value_pages": flash.pages_of(space), "keys": sum(key.space == space for key in flash.map)}
+        for space, limit in enumerate(flash.limits, 1)
+    ]
+
+
+def spaces_text(flash: Flash) -> list[str]:
+    """A line for each namespace of a drive that has limits."""
+    if not flash.root or not flash.root.limits:
+        return []
+    return [
+        f"namespace {held['namespace']}: {counted(held['keys'], 'key')}, {held['value_pages']:,} of {held['limit']:,} pages for values"
+        for held in spaces_of(flash)
+    ]
+
+
+def key_json(key: Optional[Key]) -> Optional[dict[str, Any]]:
+    return None if key is None else {"namespace": key.space, "hex": key.bytes.hex(), "text": shown(key.bytes)}
 
 
 def as_json(path: str, verdict: Verdict, size: int, on_disk: int) -> dict[str, Any]:
@@ -267,4 +286,5 @@ def as_json(path: str, verdict: Verdict, size: int, on_disk: int) -> dict[str, A
         found["limits"] = limits_of(flash)
     if flash and flash.root and verdict.image:
         found["use"] = use_of(verdict.image, flash)
+        found["namespaces"] = spaces_of(flash)
     return found

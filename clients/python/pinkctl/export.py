@@ -44,6 +44,7 @@ def add_parser(subparsers: Any) -> None:
     parser.add_argument("--format", choices=("asm", "json"), default="asm")
     parser.add_argument("--from", dest="start", metavar="KEY", help="only keys from this one on")
     parser.add_argument("--prefix", metavar="KEY", help="only keys that begin with this (text; hexadecimal after 0x)")
+    parser.add_argument("--namespace", type=int, default=1, metavar="N", help="the namespace of the keys (default 1)")
     add_wait(parser)
     progress.add_arguments(parser)
     parser.set_defaults(run=run)
@@ -97,7 +98,7 @@ def write_pairs(drive: pinkdrive.Drive, args: argparse.Namespace, out: BinaryIO)
 def run(args: argparse.Namespace) -> int:
     if args.output:
         refuse_existing(args.output, args.force)
-    with open_drive(args.image, wait=args.wait) as drive:
+    with open_drive(args.image, wait=args.wait, namespace=args.namespace) as drive:
         if args.output is None:
             count = write_pairs(drive, args, sys.stdout.buffer)
         else:

@@ -25,10 +25,17 @@ class Place(NamedTuple):
     length: int
 
 
+class Key(NamedTuple):
+    """A key: its namespace and its bytes, in the order of the index."""
+
+    space: int
+    bytes: bytes
+
+
 class Entry(NamedTuple):
     """An entry of the index; no place means that the key was deleted."""
 
-    key: bytes
+    key: Key
     place: Optional[Place]
 
 
@@ -43,6 +50,7 @@ class Root(NamedTuple):
     older: tuple[int, ...]
     counts: tuple[int, ...]
     runs: tuple[tuple[int, ...], ...]
+    limits: tuple[int, ...] = ()
 
     @property
     def named(self) -> tuple[int, ...]:
@@ -57,8 +65,8 @@ class Fault:
     page: int
     part: str
     why: str
-    key: Optional[bytes] = None
-    keys: tuple[bytes, ...] = ()
+    key: Optional[Key] = None
+    keys: tuple[Key, ...] = ()
 
 
 class Damaged(Exception):
@@ -156,10 +164,10 @@ def zeros_from(data: bytes, at: int) -> bool:
     return not data[at:].strip(b"\0")
 
 
-def key_of(length: int, padded: bytes) -> Optional[bytes]:
-    """A key of its length and sixteen bytes."""
-    if 1 <= length <= it.KEY_BYTES and zeros_from(padded, length):
-        return padded[:length]
+def key_of(length: int, space: int, padded: bytes) -> Optional[Key]:
+    """A key of its length, its namespace less one, and sixteen bytes."""
+    if 1 <= length <= it.KEY_BYTES and space < it.NAMESPACES and zeros_from(padded, length):
+        return Key(space + 1, padded[:length])
     return None
 
 
@@ -177,9 +185,9 @@ def is_place(layout: Layout, page: int, length: int) -> bool:
 
 def entry_of(layout: Layout, fields: tuple[Any, ...]) -> Optional[Entry]:
     """The entry of these fields of `ENTRY`, or None outside the grammar."""
-    size, kind, zeros, padded, page, length, tail = fields
-    key = key_of(size, padded)
-    if key is None or zeros or tail:
+    size, kind, space, padded, page, length, tail = fields
+    key = key_of(size, space, padded)
+    if key is None or tail:
         return None
     if kind == PUT and is_place(layout, page, length):
         return Entry(key, Place(page, length))
@@ -250,12 +258,13 @@ def root_version(data: bytes) -> Optional[int]:
 
 def root_in(shape: Shape, page: int, data: bytes) -> Optional[Root]:
     """The root of a page's bytes, or None outside the grammar of a known version."""
-    text, version, n, p, m, journal, zeros, number, epoch, *rest = it.ROOT_HEAD.unpack_from(data)
+    text, version, n, p, m, journal, spaces, number, epoch, *rest = it.ROOT_HEAD.unpack_from(data)
     counts, tail = tuple(rest[:4]), rest[4]
     if text != it.ROOT_TEXT or version not in it.RULES or (p, n, m) != dataclasses.astuple(shape):
         return None
     layout = Layout(shape, version)
-    if journal not in (2, 4) or zeros or tail.strip(b"\0"):
+    limits = limits_in(layout, spaces, data)
+    if not layout.has_room or limits is None or journal not in (2, 4) or tail.strip(b"\0"):
         return None
     if not 1 <= epoch <= number or epoch < journal // 2:
         return None
@@ -263,23 +272,35 @@ def root_in(shape: Shape, page: int, data: bytes) -> Optional[Root]:
         return None
     sizes = [journal, *map(layout.run_blocks, counts)]
     total = sum(sizes)
-    end = it.ROOT_LIST_FROM + 2 * total
+    end = layout.root_list_from + 2 * total
     if end > len(data) or not zeros_from(data, end):
         return None
-    blocks = struct.unpack_from(f"<{total}H", data, it.ROOT_LIST_FROM)
+    blocks = struct.unpack_from(f"<{total}H", data, layout.root_list_from)
     if len(set(blocks)) < total or not all(it.ROOT_BLOCKS <= b < m for b in blocks):
         return None
     parts = iter(blocks)
     journal_blocks, *runs = (tuple(next(parts) for _ in range(size)) for size in sizes)
-    return Root(page, version, number, epoch, journal_blocks[:2], journal_blocks[2:], counts, tuple(runs))
+    older = journal_blocks[2:]
+    return Root(page, version, number, epoch, journal_blocks[:2], older, counts, tuple(runs), limits)
 
 
-def head_fault(data: bytes, key: bytes, length: int) -> Optional[str]:
+def limits_in(layout: Layout, spaces: int, data: bytes) -> Optional[tuple[int, ...]]:
+    """The limits of a root page, none if its version has none; None outside the grammar."""
+    if not it.RULES[layout.version].has_limits:
+        return None if spaces else ()
+    words = struct.unpack_from(f"<{it.NAMESPACES}I", data, it.ROOT_LIST_FROM)
+    limits = words[:spaces]
+    if not 1 <= spaces <= it.NAMESPACES or 0 in limits or any(words[spaces:]) or sum(limits) > layout.limit:
+        return None
+    return limits
+
+
+def head_fault(data: bytes, key: Key, length: int) -> Optional[str]:
     """Why a value's first page has no head of this key and length, or None."""
-    size, mark, zeros, padded, found, text = it.VALUE_HEAD.unpack_from(data)
-    if text != it.VALUE_TEXT or mark != it.VALUE_MARK or zeros:
+    size, mark, space, padded, found, text = it.VALUE_HEAD.unpack_from(data)
+    if text != it.VALUE_TEXT or mark != it.VALUE_MARK or space >= it.NAMESPACES:
         return "it does not begin with the head of a value"
-    if key_of(size, padded) != key:
+    if key_of(size, space, padded) != key:
         return "its head names another key"
     if found != length:
         return f"its head names a length of {found}, and the index {length}"
@@ -313,14 +334,23 @@ class Flash:
     older: Optional[Epoch] = None
     newest: Optional[Epoch] = None
     runs: list[list[Entry]] = dataclasses.field(default_factory=list)
-    first: dict[bytes, Optional[Place]] = dataclasses.field(default_factory=dict)
-    map: dict[bytes, Place] = dataclasses.field(default_factory=dict)
+    first: dict[Key, Optional[Place]] = dataclasses.field(default_factory=dict)
+    map: dict[Key, Place] = dataclasses.field(default_factory=dict)
     taken: set[int] = dataclasses.field(default_factory=set)
     fault: Optional[Fault] = None
 
     @property
     def opens(self) -> bool:
         return self.root is not None and self.fault is None
+
+    @property
+    def limits(self) -> tuple[int, ...]:
+        """The limit of each namespace in pages."""
+        return self.root.limits if self.root and self.root.limits else (self.layout.limit,)
+
+    def pages_of(self, space: int) -> int:
+        """The pages of the values of a namespace that were read."""
+        return sum(self.layout.charge(place.length) for key, place in self.map.items() if key.space == space)
 
 
 def roots_of(image: Image) -> list[Root]:
@@ -339,7 +369,7 @@ def newest_of(roots: Sequence[Root]) -> Optional[Root]:
     return max(roots, key=lambda root: (root.number, -root.page)) if roots else None
 
 
-def keys_named(layout: Layout, data: bytes) -> tuple[bytes, ...]:
+def keys_named(layout: Layout, data: bytes) -> tuple[Key, ...]:
     """The keys of whatever entries a damaged page of the index still has."""
     return tuple(entry.key for entry in loose_entries(layout, data))
 
@@ -356,10 +386,12 @@ def page_of_commit(image: Image, pages: Sequence[int]) -> Optional[int]:
     return next((page for page in pages if image.states[page] == WHOLE), None)
 
 
-def read_epoch(image: Image, layout: Layout, part: str, number: int, blocks: tuple[int, ...]) -> Epoch:
-    """The commits of an epoch, up to the first that has no Whole page."""
+def read_epoch(
+    image: Image, layout: Layout, part: str, number: int, blocks: tuple[int, ...], spaces: int = it.NAMESPACES
+) -> Epoch:
+    """The commits of an epoch, up to the first that has no Whole page, of a drive with so many namespaces."""
     commits: list[Commit] = []
-    keys: set[bytes] = set()
+    keys: set[Key] = set()
     pages: set[int] = set()
     for index in range(layout.commits):
         own = layout.commit_pages(blocks, index)
@@ -371,6 +403,8 @@ def read_epoch(image: Image, layout: Layout, part: str, number: int, blocks: tup
         commit = commit_in(layout, data)
         if commit is None or (commit.epoch, commit.place) != (number, index):
             raise Damaged(Fault(page, what, "it is not the journal page of this place", keys=keys_named(layout, data)))
+        if any(entry.key.space > spaces for entry in commit.entries):
+            raise Damaged(Fault(page, what, "it has a key of a namespace that the drive has not", keys=keys_named(layout, data)))
         keys.update(entry.key for entry in commit.entries)
         if len(keys) > layout.buffer:
             raise Damaged(Fault(page, what, "the epoch has more keys than it may have", keys=keys_named(layout, data)))
@@ -382,7 +416,7 @@ def read_epoch(image: Image, layout: Layout, part: str, number: int, blocks: tup
 def read_older(image: Image, layout: Layout, root: Root) -> Optional[Epoch]:
     if not root.older:
         return None
-    epoch = read_epoch(image, layout, "the older", root.epoch - 1, root.older)
+    epoch = read_epoch(image, layout, "the older", root.epoch - 1, root.older, max(1, len(root.limits)))
     if not epoch.commits:
         page = root.older[0] * layout.shape.block_pages
         raise Damaged(Fault(page, "the first commit of the older epoch", "the epoch is named and has no commit"))
@@ -396,6 +430,8 @@ def read_run(image: Image, layout: Layout, root: Root, level: int) -> list[Entry
     for index in range(layout.run_pages(count)):
         page = layout.run_page(blocks, index)
         why, entries = run_page_fault(image, layout, page, level, index, count, found)
+        if not why and any(entry.key.space > max(1, len(root.limits)) for entry in entries):
+            why = "it has a key of a namespace that the drive has not"
         if why:
             keys = keys_named(layout, image.page(page))
             raise Damaged(Fault(page, f"page {index} of run {level} of the index", why, keys=keys))
@@ -421,9 +457,9 @@ def run_page_fault(
     return None, meta.entries
 
 
-def first_entries(flash: Flash) -> dict[bytes, Optional[Place]]:
+def first_entries(flash: Flash) -> dict[Key, Optional[Place]]:
     """The entry of each key that counts, in rising order of the keys."""
-    first: dict[bytes, Optional[Place]] = {}
+    first: dict[Key, Optional[Place]] = {}
     for entries in reversed(flash.runs):
         first.update(entries)
     for epoch in (flash.older, flash.newest):
@@ -438,17 +474,19 @@ def read_values(image: Image, flash: Flash) -> None:
     assert flash.root is not None
     named = set(flash.root.named)
     blocks: set[int] = set()
+    used = [0] * len(flash.limits)
     for key, place in flash.first.items():
         if place is None:
             continue
         pages = range(place.page, place.page + layout.charge(place.length))
         blocks.add(place.page // n)
+        used[key.space - 1] += len(pages)
         why = None
         if place.page // n in named:
             why = "the index says that a value is here, in a block of the index"
         elif not flash.taken.isdisjoint(pages):
             why = "the index says that two values are here"
-        elif len(flash.taken) + len(pages) > layout.limit:
+        elif used[key.space - 1] > flash.limits[key.space - 1]:
             why = "the values take more pages than the limit"
         elif len(blocks) > layout.data_blocks - 1:
             why = "the values lie in more blocks than they may"
@@ -459,7 +497,7 @@ def read_values(image: Image, flash: Flash) -> None:
         flash.map[key] = place
 
 
-def check_value(image: Image, layout: Layout, key: bytes, place: Place, pages: range) -> None:
+def check_value(image: Image, layout: Layout, key: Key, place: Place, pages: range) -> None:
     """Raises `Damaged` at the first page that is not the value's."""
     if image.states[pages.start : pages.stop] == b"\1" * len(pages):
         data = image.pages(pages.start, len(pages))
@@ -499,12 +537,12 @@ def read_flash(image: Image) -> Flash:
     """Reads a flash as opening does. `fault` has the first page that is wrong; without a root it has no `root`."""
     roots = roots_of(image)
     root = newest_of(roots)
-    flash = Flash(roots, Layout(image.shape, root.version if root else max(it.RULES)), root)
+    flash = Flash(roots, Layout(image.shape, root.version if root else min(it.RULES)), root)
     if root is None:
         return flash
     try:
         flash.older = read_older(image, flash.layout, root)
-        flash.newest = read_epoch(image, flash.layout, "the newest", root.epoch, root.newest)
+        flash.newest = read_epoch(image, flash.layout, "the newest", root.epoch, root.newest, len(flash.limits))
         for level in range(1, it.LEVELS + 1):
             flash.runs.append(read_run(image, flash.layout, root, level))
         flash.first = first_entries(flash)

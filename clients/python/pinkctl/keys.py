@@ -114,6 +114,11 @@ def shown(data: bytes) -> str:
     return f'"{quoted}"' if quoted.isprintable() else "0x" + data.hex()
 
 
+def shown_in(space: int, data: bytes) -> str:
+    """A key with its namespace before it, unless that is the first."""
+    return shown(data) if space == 1 else f"{space}:{shown(data)}"
+
+
 def read_value(name: str) -> bytes:
     """The bytes of a file, or of standard input for `-`."""
     if name == "-":

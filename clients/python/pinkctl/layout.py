@@ -17,6 +17,8 @@ KEY_BYTES = 16
 ROOT_BLOCKS = 2
 EPOCH_BLOCKS = 2
 LEVELS = 4
+NAMESPACES = 8
+"""The most namespaces of a drive."""
 CAPS = (4, 16, 64)
 """Most pages of runs 1 to 3."""
 PAGE_BYTES = (512, 1024, 2048, 4096, 8192, 16384)
@@ -24,7 +26,9 @@ BLOCK_PAGES = (8, 16, 32, 64, 128, 256)
 MOST_BLOCKS = 4096
 MOST_FLASH_BYTES = 2**28
 ROOT_LIST_FROM = 64
-"""Where the list of blocks begins in a root page."""
+"""Where the list of blocks begins in a root page, or the limits before it."""
+LIMIT_BYTES = 4 * NAMESPACES
+"""Bytes of the limits in a root page that has them."""
 ERASED, WHOLE, TORN = 0, 1, 2
 """The state bytes of pages."""
 
@@ -37,16 +41,16 @@ VALUE_MARK = 0x44
 
 IMAGE_HEADER = struct.Struct("<8sIII12s")
 ENTRY = struct.Struct("<BBH16sIII")
-"""Key length, kind, zeros, key, page, length, zeros."""
+"""Key length, kind, namespace less one, key, page, length, zeros."""
 PUT, GONE = 1, 2
 VALUE_HEAD = struct.Struct("<BBH16sI8s")
-"""Key length, mark, zeros, key, length, text."""
+"""Key length, mark, namespace less one, key, length, text."""
 JOURNAL_HEAD = struct.Struct("<8sQIH10s")
 """Text, epoch, index of the commit, count of entries, zeros."""
 META_HEAD = struct.Struct("<8sBBHI16s")
 """Text, level, zero, count of entries, index of the page, zeros."""
 ROOT_HEAD = struct.Struct("<8sHHIHHIQQ4I8s")
-"""Text, version, N, P, M, journal blocks, zeros, number, epoch, entries of runs 1 to 4, zeros."""
+"""Text, version, N, P, M, journal blocks, namespaces, number, epoch, entries of runs 1 to 4, zeros."""
 
 
 @dataclasses.dataclass(frozen=True)
@@ -54,13 +58,15 @@ class Rules:
     """What a version of the layout says.
 
     `step` pages form a unit: a commit, a place of a root, and the pages of a value are whole units. A commit and a root have the
-    same bytes in each page of theirs, and the first one that is Whole counts.
+    same bytes in each page of theirs, and the first one that is Whole counts. If it `has_limits`, a root page has the limits of the
+    namespaces before its list of blocks.
     """
 
     step: int
+    has_limits: bool = False
 
 
-RULES: dict[int, Rules] = {2: Rules(step=2)}
+RULES: dict[int, Rules] = {2: Rules(step=2), 3: Rules(step=2, has_limits=True)}
 """The versions that are known: those that the program opens."""
 
 
@@ -99,11 +105,21 @@ class Layout:
     """The numbers of a shape under a version of the layout, as docs/FORMATS.md names them."""
 
     shape: Shape
-    version: int = max(RULES)
+    version: int = min(RULES)
 
     @property
     def step(self) -> int:
         return RULES[self.version].step
+
+    @property
+    def root_list_from(self) -> int:
+        """Where the list of blocks begins in a root page."""
+        return ROOT_LIST_FROM + (LIMIT_BYTES if RULES[self.version].has_limits else 0)
+
+    @property
+    def has_room(self) -> bool:
+        """Whether a root page has room for what its version keeps in it, whatever blocks it lists."""
+        return self.root_list_from + 2 * (self.meta_blocks + 2 * EPOCH_BLOCKS) <= self.shape.page_bytes
 
     @cached_property
     def page_entries(self) -> int:
@@ -188,7 +204,7 @@ def shape_fault(shape: Shape) -> Optional[str]:
         return f"{shape.blocks} blocks: at most {MOST_BLOCKS} are allowed"
     if shape.flash_bytes > MOST_FLASH_BYTES:
         return f"a flash of {shape.flash_bytes} bytes: at most {MOST_FLASH_BYTES} are allowed"
-    if ROOT_LIST_FROM + 2 * (layout.meta_blocks + 4) > shape.page_bytes:
+    if not layout.has_room:
         return "a root page has no room for the list of blocks: take larger pages or fewer blocks"
     if shape.blocks < 9 + layout.meta_blocks:
         return f"{shape.blocks} blocks: at least {9 + layout.meta_blocks} are needed"

@@ -63,6 +63,7 @@ def add_parser(subparsers: Any) -> None:
     parser.add_argument("--overwrite", action="store_true", help="replace the values of keys that exist")
     parser.add_argument("--make", nargs=3, type=int, metavar=("P", "N", "M"), help="make the image first, as pink IMAGE make P N M")
     parser.add_argument("--dry-run", "-n", action="store_true", help="read the lines, and store nothing")
+    parser.add_argument("--namespace", type=int, default=1, metavar="N", help="the namespace of the keys (default 1)")
     add_wait(parser)
     progress.add_arguments(parser)
     parser.set_defaults(run=run)
@@ -222,7 +223,7 @@ def make_first(args: argparse.Namespace) -> None:
 
 
 def store_all(args: argparse.Namespace, lines: BinaryIO, total: Optional[int]) -> Import:
-    with open_drive(args.image, wait=args.wait) as drive:
+    with open_drive(args.image, wait=args.wait, namespace=args.namespace) as drive:
         running = Import(drive, args.overwrite)
         with progress.Progress("import: pairs", total, progress.shown(args)) as shown:
             try:

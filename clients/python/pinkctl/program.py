@@ -4,6 +4,7 @@ import os
 import shutil
 import subprocess
 import sys
+from collections.abc import Sequence
 from typing import NamedTuple, Optional
 
 CLIENTS = os.path.dirname(os.path.dirname(os.path.realpath(__file__)))
@@ -22,8 +23,8 @@ def pink() -> str:
     return os.environ.get("PINK_PROGRAM", pinkdrive.PROGRAM)
 
 
-def open_drive(image: str, frames: int = 148, wait: float = 0) -> pinkdrive.Drive:
-    """A session of the drive in an image; what keeps it from opening is raised with its cause.
+def open_drive(image: str, frames: int = 148, wait: float = 0, namespace: int = 1) -> pinkdrive.Drive:
+    """A session of the drive in an image, for a namespace; what keeps it from opening is raised with its cause.
 
     What the launcher says is not shown: the exception says it.
     """
@@ -34,7 +35,7 @@ def open_drive(image: str, frames: int = 148, wait: float = 0) -> pinkdrive.Driv
     except OSError as error:
         raise ToolError(f"{cause(image, error)} to write, which the program needs to open it", Exit.FILE) from None
     try:
-        return pinkdrive.Drive(image, frames=frames, program=pink(), stderr=subprocess.DEVNULL)
+        return pinkdrive.Drive(image, frames=frames, program=pink(), stderr=subprocess.DEVNULL, namespace=namespace)
     except OSError as error:
         raise not_started(error) from None
 
@@ -43,10 +44,10 @@ def not_started(error: OSError) -> ToolError:
     return ToolError(f"the program {pink()} cannot be started: {error.strerror}", Exit.PROGRAM)
 
 
-def make_image(image: str, shape: tuple[int, int, int]) -> None:
-    """Makes the image of a drive without keys."""
+def make_image(image: str, shape: tuple[int, int, int], limits: Sequence[int] = ()) -> None:
+    """Makes the image of a drive without keys, of namespaces with these limits."""
     try:
-        pinkdrive.make(image, *shape, program=pink(), stderr=subprocess.DEVNULL)
+        pinkdrive.make(image, *shape, program=pink(), stderr=subprocess.DEVNULL, limits=limits)
     except OSError as error:
         raise not_started(error) from None
 

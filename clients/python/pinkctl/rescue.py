@@ -17,6 +17,7 @@ from .image import (
     Entry,
     Flash,
     Image,
+    Key,
     NotAnImage,
     Place,
     Root,
@@ -57,7 +58,7 @@ class Candidate(NamedTuple):
 class Saved(NamedTuple):
     """A pair that reads: the place of its value, and why it is doubtful, if it is."""
 
-    key: bytes
+    key: Key
     place: Place
     why: Optional[str]
 
@@ -68,8 +69,9 @@ class Rescue:
 
     image: Image
     layout: Layout
+    limits: tuple[int, ...] = ()
     saved: list[Saved] = dataclasses.field(default_factory=list)
-    lost: list[bytes] = dataclasses.field(default_factory=list)
+    lost: list[Key] = dataclasses.field(default_factory=list)
     notes: list[str] = dataclasses.field(default_factory=list)
 
     def value(self, saved: Saved) -> bytes:
@@ -171,10 +173,10 @@ def has_text(data: bytes, text: bytes) -> bool:
 class Gap(NamedTuple):
     """Keys of which an entry may be missing: those between two keys, or beyond one."""
 
-    after: Optional[bytes] = None
-    before: Optional[bytes] = None
+    after: Optional[Key] = None
+    before: Optional[Key] = None
 
-    def covers(self, key: bytes) -> bool:
+    def covers(self, key: Key) -> bool:
         return (self.after is None or self.after < key) and (self.before is None or key < self.before)
 
 
@@ -182,7 +184,7 @@ class Gap(NamedTuple):
 class Index:
     """The entries of each key, those that count more first, and which parts of the index are missing."""
 
-    candidates: dict[bytes, list[Candidate]] = dataclasses.field(default_factory=dict)
+    candidates: dict[Key, list[Candidate]] = dataclasses.field(default_factory=dict)
     damaged: list[str] = dataclasses.field(default_factory=list)
     gaps: list[Gap] = dataclasses.field(default_factory=list)
 
@@ -192,9 +194,9 @@ class Index:
             hidden = key not in self.candidates and any(gap.covers(key) for gap in self.gaps)
             self.candidates.setdefault(key, []).append(Candidate(place, why or (BELOW_GAP if hidden else None)))
 
-    def named(self) -> dict[int, set[tuple[bytes, Place]]]:
+    def named(self) -> dict[int, set[tuple[Key, Place]]]:
         """The keys and places that entries name, by the first page."""
-        found: dict[int, set[tuple[bytes, Place]]] = {}
+        found: dict[int, set[tuple[Key, Place]]] = {}
         for key, candidates in self.candidates.items():
             for place, _ in candidates:
                 if place:
@@ -313,7 +315,7 @@ def former_entries(image: Image, layout: Layout) -> Index:
 # Values.
 
 
-def reads_exactly(image: Image, layout: Layout, key: bytes, place: Place) -> bool:
+def reads_exactly(image: Image, layout: Layout, key: Key, place: Place) -> bool:
     try:
         check_value(image, layout, key, place, range(place.page, place.page + layout.charge(place.length)))
     except Damaged:
@@ -321,29 +323,29 @@ def reads_exactly(image: Image, layout: Layout, key: bytes, place: Place) -> boo
     return True
 
 
-def reads_somehow(image: Image, place: Place, key: bytes) -> bool:
+def reads_somehow(image: Image, place: Place, key: Key) -> bool:
     """Whether the head of a value has the key and the length, whatever its other bytes and the states of its pages are."""
-    size, _, _, padded, length, _ = it.VALUE_HEAD.unpack_from(image.page(place.page))
-    return key_of(size, padded) == key and length == place.length
+    size, _, space, padded, length, _ = it.VALUE_HEAD.unpack_from(image.page(place.page))
+    return key_of(size, space, padded) == key and length == place.length
 
 
-def loose_values(image: Image, layout: Layout) -> dict[bytes, list[Place]]:
+def loose_values(image: Image, layout: Layout) -> dict[Key, list[Place]]:
     """All values that lie whole on the flash, by their keys, those of later pages first."""
-    found: dict[bytes, list[Place]] = {}
+    found: dict[Key, list[Place]] = {}
     for page in range(image.shape.pages - 1, it.ROOT_BLOCKS * image.shape.block_pages - 1, -1):
         if image.states[page] != WHOLE:
             continue
-        size, _, _, padded, length, text = it.VALUE_HEAD.unpack_from(image.page(page))
-        key = key_of(size, padded) if text == it.VALUE_TEXT else None
+        size, _, space, padded, length, text = it.VALUE_HEAD.unpack_from(image.page(page))
+        key = key_of(size, space, padded) if text == it.VALUE_TEXT else None
         if key and is_place(layout, page, length) and reads_exactly(image, layout, key, Place(page, length)):
             found.setdefault(key, []).append(Place(page, length))
     return found
 
 
-def agreed_values(image: Image, layout: Layout, index: Index) -> dict[bytes, list[Place]]:
+def agreed_values(image: Image, layout: Layout, index: Index) -> dict[Key, list[Place]]:
     """The values on the flash, without those whose entry has another key or length than their head: such a head was changed."""
     named = index.named()
-    found: dict[bytes, list[Place]] = {}
+    found: dict[Key, list[Place]] = {}
     for key, places in loose_values(image, layout).items():
         agreed = [place for place in places if (key, place) in named.get(place.page, {(key, place)})]
         if agreed:
@@ -351,7 +353,7 @@ def agreed_values(image: Image, layout: Layout, index: Index) -> dict[bytes, lis
     return found
 
 
-def decide(rescue: Rescue, key: bytes, candidates: Sequence[Candidate], trusted: bool) -> Optional[Saved]:
+def decide(rescue: Rescue, key: Key, candidates: Sequence[Candidate], trusted: bool) -> Optional[Saved]:
     """The value of a key by its entries: that of the first entry that reads, up to a deletion."""
     for number, (place, why) in enumerate(candidates):
         if place is None and why == COPIES_DIFFER:
@@ -365,13 +367,13 @@ def decide(rescue: Rescue, key: bytes, candidates: Sequence[Candidate], trusted:
     return None
 
 
-def misnamed(rescue: Rescue, candidates: dict[bytes, list[Candidate]]) -> set[bytes]:
+def misnamed(rescue: Rescue, candidates: dict[Key, list[Candidate]]) -> set[Key]:
     """The keys of values to which the first entry of another key leads: that entry, or the head, was changed."""
     found = set()
     for key, ((place, _), *_) in candidates.items():
         if place:
-            size, _, _, padded, length, text = it.VALUE_HEAD.unpack_from(rescue.image.page(place.page))
-            other = key_of(size, padded)
+            size, _, space, padded, length, text = it.VALUE_HEAD.unpack_from(rescue.image.page(place.page))
+            other = key_of(size, space, padded)
             if other and other != key and (length, text) == (place.length, it.VALUE_TEXT):
                 found.add(other)
     return found
@@ -381,7 +383,7 @@ def is_deleted(candidates: Sequence[Candidate]) -> bool:
     return candidates[0].place is None
 
 
-def without_index(rescue: Rescue, keys: Sequence[bytes], index: Index) -> None:
+def without_index(rescue: Rescue, keys: Sequence[Key], index: Index) -> None:
     """Looks for values of lost keys, and of keys that no entry names, by what former pages of the index say, and by the values alone."""
     image, layout = rescue.image, rescue.layout
     values = agreed_values(image, layout, index)
@@ -402,7 +404,7 @@ def rescue_image(data: Buffer) -> Optional[Rescue]:
     if image is None:
         return None
     root, trusted = choose_root(image)
-    rescue = Rescue(image, Layout(image.shape, root.version if root else max(it.RULES)))
+    rescue = Rescue(image, Layout(image.shape, root.version if root else min(it.RULES)), root.limits if root else ())
     rescue.notes += [f"the file: {wrong}"] if wrong else []
     index = index_of(rescue, root, trusted)
     lost = []

@@ -9,8 +9,9 @@ from typing import Any, Optional, TextIO
 from . import progress
 from .check import check_file, counted
 from .files import add_wait, file_error, locked
-from .keys import shown as shown_key
-from .layout import Shape, shape_fault
+from .image import Key
+from .keys import shown, shown_in
+from .layout import Layout, Shape, shape_fault
 from .program import make_image, open_drive, pinkdrive
 from .rescue import Rescue, Saved, read_all, rescue_image
 from .status import Exit, ToolError
@@ -58,35 +59,48 @@ def in_order(rescue: Rescue, sure_only: bool) -> list[Saved]:
     return sure if sure_only else sure + [saved for saved in rescue.saved if saved.why]
 
 
-def store_all(args: argparse.Namespace, rescue: Rescue, wanted: list[Saved]) -> dict[bytes, str]:
+def limits_for(shape: Shape, rescue: Rescue, wanted: list[Saved]) -> tuple[int, ...]:
+    """The limits of the new drive: those of the damaged one, if the new one has room; else equal ones, for as many namespaces."""
+    spaces = max([saved.key.space for saved in wanted] + [len(rescue.limits)])
+    all_pages = Layout(shape).limit
+    if sum(rescue.limits) <= all_pages and len(rescue.limits) == spaces:
+        return rescue.limits
+    return (all_pages // spaces,) * spaces if spaces > 1 else ()
+
+
+def store_all(args: argparse.Namespace, rescue: Rescue, wanted: list[Saved]) -> dict[Key, str]:
     """Stores the pairs in the new image; answers the keys that were refused, and why."""
     shape = Shape(*args.shape) if args.shape else rescue.image.shape
-    make_image(args.new, (shape.page_bytes, shape.block_pages, shape.blocks))
-    refused: dict[bytes, str] = {}
-    with open_drive(args.new) as drive, progress.Progress("salvage: pairs", len(wanted), progress.shown(args)) as shown:
+    make_image(args.new, (shape.page_bytes, shape.block_pages, shape.blocks), limits_for(shape, rescue, wanted))
+    refused: dict[Key, str] = {}
+    with open_drive(args.new) as drive, progress.Progress("salvage: pairs", len(wanted), progress.shown(args)) as bar:
         for first in range(0, len(wanted), 500):
             part = wanted[first : first + 500]
-            sent = [drive.send(pinkdrive.Opcode.STORE, saved.key, value=rescue.value(saved)) for saved in part]
+            sent = [
+                drive.send(pinkdrive.Opcode.STORE, saved.key.bytes, value=rescue.value(saved), namespace=saved.key.space)
+                for saved in part
+            ]
             drive.flush()
             for pending in sent:
                 try:
                     pending.result()
                 except pinkdrive.StatusError as error:
-                    refused[pending.key] = str(error)
-                shown.add()
+                    refused[Key(pending.namespace, pending.key)] = str(error)
+                bar.add()
     return refused
 
 
-def list_keys(file: TextIO, rescue: Rescue, refused: dict[bytes, str]) -> None:
+def list_keys(file: TextIO, rescue: Rescue, refused: dict[Key, str]) -> None:
     """A line of JSON for each key that is doubtful, lost or was refused."""
     lines = [(saved.key, "doubtful", saved.why) for saved in rescue.saved if saved.why]
     lines += [(key, "lost", "its value does not read") for key in rescue.lost]
     lines += [(key, "refused", why) for key, why in refused.items()]
     for key, what, why in sorted(lines):
-        print(json.dumps({"key_hex": key.hex(), "key": shown_key(key), "is": what, "why": why}, ensure_ascii=False), file=file)
+        line = {"namespace": key.space, "key_hex": key.bytes.hex(), "key": shown(key.bytes), "is": what, "why": why}
+        print(json.dumps(line, ensure_ascii=False), file=file)
 
 
-def report(args: argparse.Namespace, rescue: Rescue, copied: int, refused: dict[bytes, str]) -> None:
+def report(args: argparse.Namespace, rescue: Rescue, copied: int, refused: dict[Key, str]) -> None:
     """What was found, for people."""
     doubtful = collections.Counter(saved.why for saved in rescue.saved if saved.why)
     sure = len(rescue.saved) - sum(doubtful.values())
@@ -98,10 +112,10 @@ def report(args: argparse.Namespace, rescue: Rescue, copied: int, refused: dict[
     for why, count in doubtful.most_common():
         print(f"  {count:,} doubtful: {why}")
     for key in rescue.lost[:10]:
-        print(f"  lost: {shown_key(key)}")
+        print(f"  lost: {shown_in(*key)}")
     if refused:
         key = min(refused)
-        print(f"refused by the new drive: {len(refused):,}, such as {shown_key(key)}: {refused[key]}; take a larger --shape")
+        print(f"refused by the new drive: {len(refused):,}, such as {shown_in(*key)}: {refused[key]}; take a larger --shape")
     if not args.dry_run:
         print(f"{args.new}: {counted(copied, 'key')}")
 
@@ -127,7 +141,7 @@ def check_arguments(args: argparse.Namespace) -> None:
         raise ToolError(f"{args.new}: there is no folder {folder}", Exit.FILE)
 
 
-def write_list(path: Optional[str], rescue: Rescue, refused: dict[bytes, str]) -> None:
+def write_list(path: Optional[str], rescue: Rescue, refused: dict[Key, str]) -> None:
     if path is None:
         return
     try:

@@ -3,8 +3,8 @@
 
 /// The most bytes of a key.
 pub const KEY_BYTES: usize = 16;
-/// The most namespaces of a drive: for now it has one.
-pub const MOST_SPACES: u8 = 1;
+/// The most namespaces of a drive.
+pub const MOST_SPACES: u8 = 8;
 /// An entry in a journal or meta page.
 pub const ENTRY_BYTES: usize = 32;
 /// The head of a journal page, of a meta page, and of the first page of a value.

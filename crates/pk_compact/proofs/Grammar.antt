@@ -3,13 +3,13 @@ use Rattle.std.proofs.Common.{◌≡◌, inl, inr, ℕ, ◌+◌, ◌<◌, ◌≤
 use Rattle.std.proofs.Common.{eqb→eq, append-nil}
 use Rattle.std.specs.List.{list_any, list_all, concat}
 use Rattle.pk_base.specs.Shape.{Shape}
-use Rattle.pk_rootfmt.specs.Root.{Root, named, is_root, is_number, has_runs, differ}
+use Rattle.pk_rootfmt.specs.Root.{Root, named, is_root, is_number, has_runs, differ, is_laid_out, are_limits}
 use Rattle.pk_model.proofs.Commits.{any_behind}
 use Rattle.pk_model.proofs.RootAlone.{all_back}
 use Rattle.pk_law_steps.proofs.Places.{In, not_of, any_in, differ_back}
 use Rattle.pk_compact.specs.Freezing.{AreTwo}
 use Rattle.pk_compact.specs.Steps.{next_root}
-use Rattle.pk_base.proofs.Logic.{both}
+use Rattle.pk_base.proofs.Logic.{both, left_part, right_part}
 
 -- ---- tests one after another
 
@@ -54,7 +54,8 @@ pub record Known (shape : Shape) (root : Root) : Type 0 where
 pub known : (shape : Shape) (root : Root) → T (is_root shape root) → Known shape root
 known shape root is =
     let p = parts (is_number root.number) (nat_le 1 root.epoch) (nat_le root.epoch root.number) (length root.newest == 2) (length root.older == 0 || (length root.older == 2 && nat_le 2 root.epoch))
-    (has_runs shape root) (list_all (in_flash shape) (named root)) (differ (named root)) is in
+    (has_runs shape root) (list_all (in_flash shape) (named root)) (differ (named root))
+    (left_part (is_laid_out shape root) (are_limits shape root.limits) is) in
     record {
       epoch_least = leb→le 1 root.epoch p.1;
       epoch_most = leb→le root.epoch root.number p.2;
@@ -107,8 +108,8 @@ module _ (shape : Shape) (root : Root) (first second : ℕ) (is : T (is_root sha
   number_small = both (nat_le 1 (root.number + 1)) (nat_lt (root.number + 1) 18446744073709551616)
       (le→leb 1 (root.number + 1) (omega arith)) (less (root.number + 1) 18446744073709551616 (omega (arith, small)))
 
-  pub next_is_root : (b : Bool) → T (is_root shape (next_root root (first ∷ second ∷ []) b))
-  next_is_root true =
+  next_is_laid_out : (b : Bool) → T (is_laid_out shape (next_root root (first ∷ second ∷ []) b))
+  next_is_laid_out true =
       let k = was in
       all_parts (is_number (root.number + 1)) (nat_le 1 (root.epoch + 1)) (nat_le (root.epoch + 1) (root.number + 1)) true
       (length root.newest == 0 || (length root.newest == 2 && nat_le 2 (root.epoch + 1)))
@@ -120,7 +121,7 @@ module _ (shape : Shape) (root : Root) (first second : ℕ) (is : T (is_root sha
     where
       older_two : (n epoch : ℕ) → n ≡ 2 → 2 ≤ epoch → T (n == 0 || (n == 2 && nat_le 2 epoch))
       older_two n epoch e least = rw e (le→leb 2 epoch least)
-  next_is_root false =
+  next_is_laid_out false =
       let k = was in
       let runs = concat root.runs in
       all_parts (is_number (root.number + 1)) (nat_le 1 (root.epoch + 1)) (nat_le (root.epoch + 1) (root.number + 1)) true true
@@ -130,3 +131,7 @@ module _ (shape : Shape) (root : Root) (first second : ℕ) (is : T (is_root sha
       (two_differ shape first second two runs (λ h. first_new (in_named first (any_behind (λ y. first ≡ y) root.newest runs h)))
       (λ h. second_new (in_named second (any_behind (λ y. second ≡ y) root.newest runs h)))
       (differ_back root.newest runs rest_differs))
+
+  pub next_is_root : (b : Bool) → T (is_root shape (next_root root (first ∷ second ∷ []) b))
+  next_is_root b = both (is_laid_out shape (next_root root (first ∷ second ∷ []) b)) (are_limits shape root.limits) (next_is_laid_out b)
+      (right_part (is_laid_out shape root) (are_limits shape root.limits) is)

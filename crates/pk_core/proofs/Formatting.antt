@@ -1,4 +1,4 @@
--- A flash with the first root in pages 0 and 1 and all other pages Erased holds the empty map.
+-- A flash with a first root in pages 0 and 1 and all other pages Erased holds the empty map, and this root is its newest.
 use Rattle.std.proofs.Common.{◌≡◌, ◌⊎◌, inr, ℕ, zero, suc, ◌+◌, ◌*◌, ◌/◌, ◌%◌, ◌<◌, ◌≤◌, refl, sym, ap, subst, ◌∙◌, arith, true, List, [], ◌∷◌, length, length-set, nat_le, min, slice_index, slice_set}
 use Rattle.std.proofs.Common.{Some, None, Ok, le→leb, zero-mul, mul-le-mul_right}
 use Rattle.std.proofs.Math.Nat.{zero-div, zero-mod}
@@ -12,7 +12,7 @@ use Rattle.pk_nand.specs.Calls.{IsReady, ProgramsFailed, after_programs}
 use Rattle.pk_nand.specs.Pairs.{programs_of_pair}
 use Rattle.pk_nand.proofs.Leaving.{page_at-slice_set, page_at-slice_set_same}
 use Rattle.pk_rootfmt.specs.Root.{Root, root_bytes, is_root}
-use Rattle.pk_rootfmt.specs.Held.{first}
+use Rattle.pk_rootfmt.specs.Held.{first_with}
 use Rattle.pk_rootfmt.specs.Newest.{newest_root, root_of}
 use Rattle.pk_rootfmt.proofs.AgainLemmas.{reads_back}
 use Rattle.pk_model.specs.Found.{Found, found_under, older_epoch, newest_epoch, runs_from}
@@ -40,12 +40,15 @@ none_whole : (first : ℕ) (x y : Page) → x ≡ erased → y ≡ erased → Is
 none_whole first x y is_x is_y there = subst IsWholePage (ap (λ (p : Page). (page_of_pair first p y).1) is_x ∙ is_y) there
 
 module _ (shape : Shape) (flash : Flash) (is_shape : IsShape shape) (size : length flash ≡ page_count shape)
-    (are_erased : (q : ℕ) → q < page_count shape → page_at flash q ≡ erased) (grammar : is_root shape first ≡ true) where
+    (are_erased : (q : ℕ) → q < page_count shape → page_at flash q ≡ erased) (limits : List ℕ) (grammar : is_root shape (first_with limits) ≡ true) where
+  abbrev top : Root
+  top = first_with limits
+
   abbrev half_made : Flash
-  half_made = slice_set flash 0 (whole (root_bytes shape first))
+  half_made = slice_set flash 0 (whole (root_bytes shape top))
 
   abbrev made : Flash
-  made = slice_set half_made 1 (whole (root_bytes shape first))
+  made = slice_set half_made 1 (whole (root_bytes shape top))
 
   some_pages : 8 ≤ shape.block_pages
   some_pages = is_shape.block_least
@@ -57,35 +60,35 @@ module _ (shape : Shape) (flash : Flash) (is_shape : IsShape shape) (size : leng
       let thrice = mul-le-mul_right shape.block_pages blocks in
       omega (arith, thrice)
 
-  spelled_back : root_of shape (whole (root_bytes shape first)) ≡ Some first
-  spelled_back = reads_back shape first is_shape grammar
+  spelled_back : root_of shape (whole (root_bytes shape top)) ≡ Some top
+  spelled_back = reads_back shape top is_shape grammar
 
-  first_there : root_of shape (page_at made 0) ≡ Some first
+  first_there : root_of shape (page_at made 0) ≡ Some top
   first_there =
       let inside : 0 < length flash = let some = some_pages in let exists = roots_exist in omega (arith, size, some, exists) in
-      ap (root_of shape) (page_at-slice_set half_made 1 0 (whole (root_bytes shape first)) (λ e. cc) ∙ page_at-slice_set_same flash 0 (whole (root_bytes shape first)) inside) ∙ spelled_back
+      ap (root_of shape) (page_at-slice_set half_made 1 0 (whole (root_bytes shape top)) (λ e. cc) ∙ page_at-slice_set_same flash 0 (whole (root_bytes shape top)) inside) ∙ spelled_back
 
-  second_there : root_of shape (page_at made 1) ≡ Some first
+  second_there : root_of shape (page_at made 1) ≡ Some top
   second_there =
-      let same = length-set flash 0 (whole (root_bytes shape first)) in
+      let same = length-set flash 0 (whole (root_bytes shape top)) in
       let inside : 1 < length half_made = let some = some_pages in let exists = roots_exist in omega (arith, size, some, exists, same) in
-      ap (root_of shape) (page_at-slice_set_same half_made 1 (whole (root_bytes shape first)) inside) ∙ spelled_back
+      ap (root_of shape) (page_at-slice_set_same half_made 1 (whole (root_bytes shape top)) inside) ∙ spelled_back
 
   others_erased : (q : ℕ) → 2 ≤ q → q < page_count shape → page_at made q ≡ erased
   others_erased q other inside =
-      page_at-slice_set half_made 1 q (whole (root_bytes shape first)) (λ e. omega (arith, other, e))
-      ∙ (page_at-slice_set flash 0 q (whole (root_bytes shape first)) (λ e. omega (arith, other, e)) ∙ are_erased q inside)
+      page_at-slice_set half_made 1 q (whole (root_bytes shape top)) (λ e. omega (arith, other, e))
+      ∙ (page_at-slice_set flash 0 q (whole (root_bytes shape top)) (λ e. omega (arith, other, e)) ∙ are_erased q inside)
 
-  only_first : (q : ℕ) (s : Root) → 0 ≤ q → q < 0 + 2 * shape.block_pages → root_of shape (page_at made q) ≡ Some s → (s.number < first.number) ⊎ ((s.number ≡ first.number) × (0 ≤ q))
-  only_first zero s low high is = inr (ap (λ (r : Root). r.number) (inside s first (sym is ∙ first_there)), omega arith)
-  only_first (suc zero) s low high is = inr (ap (λ (r : Root). r.number) (inside s first (sym is ∙ second_there)), omega arith)
+  only_first : (q : ℕ) (s : Root) → 0 ≤ q → q < 0 + 2 * shape.block_pages → root_of shape (page_at made q) ≡ Some s → (s.number < top.number) ⊎ ((s.number ≡ top.number) × (0 ≤ q))
+  only_first zero s low high is = inr (ap (λ (r : Root). r.number) (inside s top (sym is ∙ first_there)), omega arith)
+  only_first (suc zero) s low high is = inr (ap (λ (r : Root). r.number) (inside s top (sym is ∙ second_there)), omega arith)
   only_first (suc (suc q)) s low high is =
       let exists = roots_exist in
       let clash : None ≡ Some s = ap (root_of shape) (sym (others_erased (suc (suc q)) (omega arith) (omega (arith, high, exists)))) ∙ is in
       cc
 
-  is_top : newest_root shape (page_at made) ≡ Some (0, first)
-  is_top = newest_complete shape (page_at made) (0, first) (record {
+  pub is_top : newest_root shape (page_at made) ≡ Some (0, top)
+  is_top = newest_complete shape (page_at made) (0, top) (record {
     low = omega arith;
     high = let some = some_pages in omega (arith, some);
     there = first_there;
@@ -110,41 +113,48 @@ module _ (shape : Shape) (flash : Flash) (is_shape : IsShape shape) (size : leng
       let other : page_at made (page_in shape (2 ∷ 3 ∷ []) 0 + 1) ≡ erased = ap (page_at made) next ∙ others_erased (2 * shape.block_pages + 1) (omega (arith, some)) (omega (arith, some, exists)) in
       none_whole (page_in shape (2 ∷ 3 ∷ []) 0) (page_at made (page_in shape (2 ∷ 3 ∷ []) 0)) (page_at made (page_in shape (2 ∷ 3 ∷ []) 0 + 1)) one other
 
-  newest_empty : newest_epoch shape (page_at made) first ≡ Ok []
+  newest_empty : newest_epoch shape (page_at made) top ≡ Ok []
   unfolding epoch
-  newest_empty = ends shape (page_at made) (2 ∷ 3 ∷ []) (root_spaces shape first) 1 0 [] (2 * (shape.block_pages / 2)) not_written
+  newest_empty = ends shape (page_at made) (2 ∷ 3 ∷ []) (root_spaces shape top) 1 0 [] (2 * (shape.block_pages / 2)) not_written
 
-  older_empty : older_epoch shape (page_at made) first ≡ Ok []
+  older_empty : older_epoch shape (page_at made) top ≡ Ok []
   unfolding epoch
   older_empty = rw (zero-mul (shape.block_pages / 2)) refl
 
-  runs_empty : runs_from shape (root_spaces shape first) (page_at made) 1 first.counts first.runs ≡ Ok nothing.runs
+  runs_empty : runs_from shape (root_spaces shape top) (page_at made) 1 top.counts top.runs ≡ Ok nothing.runs
   unfolding runs_from
   runs_empty =
-      let one = no_entries shape (root_spaces shape first) (page_at made) 1 in
-      let two = no_entries shape (root_spaces shape first) (page_at made) 2 in
-      let three = no_entries shape (root_spaces shape first) (page_at made) 3 in
-      let four = no_entries shape (root_spaces shape first) (page_at made) 4 in
+      let one = no_entries shape (root_spaces shape top) (page_at made) 1 in
+      let two = no_entries shape (root_spaces shape top) (page_at made) 2 in
+      let three = no_entries shape (root_spaces shape top) (page_at made) 3 in
+      let four = no_entries shape (root_spaces shape top) (page_at made) 4 in
       rw (one, two, three, four) refl
 
-  is_found : found_under shape (page_at made) first ≡ Ok nothing
+  is_found : found_under shape (page_at made) top ≡ Ok nothing
   unfolding found_under
   is_found = let older = older_empty in let newest = newest_empty in let runs = runs_empty in rw (older, newest, runs) refl
 
-  is_map : map_under shape (page_at made) first nothing [] ≡ Ok empty
+  is_map : map_under shape (page_at made) top nothing [] ≡ Ok empty
   unfolding map_under values_of
   is_map = let room : nat_le 0 (buffer shape) ≡ true = is_true _ (le→leb 0 (buffer shape) (omega arith)) in rw room refl
 
   pub holds_nothing : Holds shape made empty
   unfolding reading_of
-  holds_nothing = let top = is_top in let found = is_found in let map = is_map in rw (top, found, map) refl
+  holds_nothing = let newest = is_top in let found = is_found in let map = is_map in rw (newest, found, map) refl
 
--- so does the board after the programs of these bytes
-pub programs_hold : (board new : BoardState) (shape : Shape) (bytes : List ℕ) → IsShape shape → IsReady board shape → ((q : ℕ) → q < page_count shape → page_at board.pages q ≡ erased)
-    → bytes ≡ root_bytes shape first → is_root shape first ≡ true → new ≡ after_programs board (programs_of_pair 0 bytes) → Holds shape new.pages empty
-programs_hold board new shape bytes is_shape ready are_erased spelled grammar is =
-    let P : List ℕ → Type 0 = λ x. Holds shape (slice_set (slice_set board.pages 0 (whole x)) 1 (whole x)) empty in
-    subst (λ (s : BoardState). Holds shape s.pages empty) (sym is) (subst P (sym spelled) (holds_nothing shape board.pages is_shape ready.flash.size are_erased grammar))
+-- so does the board after the programs of these bytes, and the root with these limits is its newest
+pub record Formed (shape : Shape) (flash : Flash) (limits : List ℕ) : Type 0 where
+  pub holds : Holds shape flash empty
+  pub newest : newest_root shape (page_at flash) ≡ Some (0, first_with limits)
+
+pub programs_form : (board new : BoardState) (shape : Shape) (limits bytes : List ℕ) → IsShape shape → IsReady board shape → ((q : ℕ) → q < page_count shape → page_at board.pages q ≡ erased)
+    → bytes ≡ root_bytes shape (first_with limits) → is_root shape (first_with limits) ≡ true → new ≡ after_programs board (programs_of_pair 0 bytes) → Formed shape new.pages limits
+programs_form board new shape limits bytes is_shape ready are_erased spelled grammar is =
+    let P : List ℕ → Type 0 = λ x. Formed shape (slice_set (slice_set board.pages 0 (whole x)) 1 (whole x)) limits in
+    subst (λ (s : BoardState). Formed shape s.pages limits) (sym is) (subst P (sym spelled) (record {
+      holds = holds_nothing shape board.pages is_shape ready.flash.size are_erased limits grammar;
+      newest = is_top shape board.pages is_shape ready.flash.size are_erased limits grammar;
+    }))
 
 pub programs_of : (board new : BoardState) (bytes written : List ℕ) → bytes ≡ written → new ≡ after_programs board (programs_of_pair 0 bytes) → new ≡ after_programs board (programs_of_pair 0 written)
 programs_of board new bytes written same is = is ∙ ap (λ (x : List ℕ). after_programs board (programs_of_pair 0 x)) same

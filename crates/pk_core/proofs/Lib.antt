@@ -16,6 +16,7 @@ pub mod Doing
 pub mod Early
 pub mod Opening
 pub mod Formatting
+pub mod WrittenLimits
 pub mod Executing
 pub mod Places
 pub mod Callings

@@ -7,7 +7,7 @@ ghost use Rattle.pk_dump.specs.Readings.{IsReadingOf};
 
 use crate::errors::DumpError;
 use crate::form::Form;
-use pk_base::Shape;
+use pk_base::{MOST_SPACES, Shape};
 use pk_nand::Nand;
 use pk_scan::{Found, OpenError, scan};
 use std::alloc::{AllocError, Global};
@@ -39,11 +39,42 @@ pub fn reading_of<B: Nand>(alloc: Global, board: &mut B, shape: Shape) -> Result
     }
 }
 
+/// The keys of all namespaces.
+fn all_keys(found: &Found<Global>) -> u64 {
+    let mut keys = 0u64;
+    for space in 1..=MOST_SPACES {
+        keys = keys.saturating_add(found.spaces.keys(space) as u64);
+    }
+    keys
+}
+
+/// Prints what each namespace uses of its limit.
+fn tell_spaces(out: &mut String, form: Form, found: &Found<Global>) -> Result<(), AllocError> {
+    let count = found.root.spaces();
+    for space in 1..=count {
+        let keys = found.spaces.keys(space);
+        let live = found.spaces.live(space);
+        let limit = found.root.space_limit(space);
+        match form {
+            Form::People => writeln!(
+                out,
+                "namespace {space}: {keys} keys in {live} of {limit} pages"
+            )?,
+            Form::Programs => writeln!(
+                out,
+                "space number={space} keys={keys} live={live} limit={limit}"
+            )?,
+        }
+    }
+    Ok(())
+}
+
 /// Prints how reading the flash ends.
 pub fn tell_reading(out: &mut String, form: Form, reading: &Reading) -> Result<(), AllocError> {
     match (form, reading) {
         (Form::People, Reading::Map(found)) => {
-            let keys = found.spaces.keys(1);
+            tell_spaces(out, form, found)?;
+            let keys = all_keys(found);
             writeln!(out, "the flash holds a map of {keys} keys")
         }
         (Form::People, Reading::NoRoot) => writeln!(out, "the flash has no root"),
@@ -51,7 +82,8 @@ pub fn tell_reading(out: &mut String, form: Form, reading: &Reading) -> Result<(
             writeln!(out, "reading the flash fails at page {page}")
         }
         (Form::Programs, Reading::Map(found)) => {
-            let keys = found.spaces.keys(1);
+            tell_spaces(out, form, found)?;
+            let keys = all_keys(found);
             writeln!(out, "map keys={keys}")
         }
         (Form::Programs, Reading::NoRoot) => writeln!(out, "no-root"),

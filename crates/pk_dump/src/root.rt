@@ -68,6 +68,31 @@ fn tell_older(out: &mut String, form: Form, older: Option<[u16; 2]>) -> Result<(
     }
 }
 
+/// Prints the limits of the namespaces of a root; for people not if it has one namespace with the limit
+/// of the shape.
+fn tell_limits<A: Allocator>(
+    out: &mut String,
+    form: Form,
+    root: &Root<A>,
+) -> Result<(), AllocError> {
+    let is_whole = root.spaces() == 1 && root.space_limit(1) == root.shape().limit();
+    match form {
+        Form::People if is_whole => return Ok(()),
+        Form::People => out.push_str("; limits of ")?,
+        Form::Programs => out.push_str(" limits=")?,
+    }
+    for space in 1..=root.spaces() {
+        if space > 1 {
+            out.push_str(",")?;
+        }
+        write!(out, "{}", root.space_limit(space))?;
+    }
+    match form {
+        Form::People => out.push_str(" pages"),
+        Form::Programs => Ok(()),
+    }
+}
+
 /// Prints whether a root is the newest, at the end of its line.
 fn tell_newest(out: &mut String, form: Form, is_newest: bool) -> Result<(), AllocError> {
     out.push_str(match (form, is_newest) {
@@ -91,6 +116,7 @@ fn tell_root<A: Allocator>(
     for level in 1..=LEVELS {
         tell_level(out, form, level, root)?;
     }
+    tell_limits(out, form, root)?;
     tell_newest(out, form, newest == Some(page))
 }
 

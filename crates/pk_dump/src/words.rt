@@ -32,11 +32,26 @@ pub fn tell_key(out: &mut String, key: &Key) -> Result<(), AllocError> {
     Ok(())
 }
 
+/// Prints the namespace of a key, before it; for people not if it is the first one.
+pub fn tell_space(out: &mut String, form: Form, key: &Key) -> Result<(), AllocError> {
+    let space = key.space();
+    match form {
+        Form::People if space == 1 => Ok(()),
+        Form::People => write!(out, "{space}:"),
+        Form::Programs => write!(out, "space={space} "),
+    }
+}
+
 /// Prints an entry.
 pub fn tell_entry(out: &mut String, form: Form, entry: &Entry) -> Result<(), AllocError> {
     out.push_str(match form {
         Form::People => "  ",
-        Form::Programs => "entry key=",
+        Form::Programs => "entry ",
+    })?;
+    tell_space(out, form, entry.key())?;
+    out.push_str(match form {
+        Form::People => "",
+        Form::Programs => "key=",
     })?;
     tell_key(out, entry.key())?;
     match entry.place() {

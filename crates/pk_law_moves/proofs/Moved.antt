@@ -1,16 +1,16 @@
 -- Keys whose values go to other places: what is read, and where the pages lie.
-use Rattle.std.proofs.Common.{◌≡◌, ◌⊎◌, inl, inr, ℕ, refl, sym, ap, ◌∙◌, arith, true, false, cond, T, List, [], ◌∷◌, ◌++◌, length, Option, Some, length-append}
+use Rattle.std.proofs.Common.{◌≡◌, ◌⊎◌, inl, inr, ℕ, refl, sym, ap, ◌∙◌, arith, true, false, cond, T, List, [], ◌∷◌, ◌++◌, length, Option, Some, length-append, ◌==◌, ◌+◌, if◌then◌else◌}
 use Rattle.std.specs.List.{AllByRecursion}
 use Rattle.std.specs.declared.cmp.Ordering.TheVariants.{Less, Equal, Greater}
 use Rattle.std.specs.Ordering.{is_eq, eq_by_cmp}
 use Rattle.std.specs.FinMap.Entries.{put, find, is_sorted, below_all, by_order, find-put, is_sorted-put}
 use Rattle.std.proofs.lemmas.List.FromFn.{length-range_with_len}
-use Rattle.pk_base.specs.Key.{Key, key_cmp}
+use Rattle.pk_base.specs.Key.{Key, key_cmp, space_of}
 use Rattle.pk_base.specs.Shape.{Shape, charge}
 use Rattle.pk_base.specs.Entry.{Place}
 use Rattle.pk_segfmt.specs.Value.{value_pages}
 use Rattle.pk_rootfmt.specs.Root.{differ}
-use Rattle.pk_model.specs.Values.{all_pages}
+use Rattle.pk_model.specs.Values.{all_pages, pages_of_space}
 use Rattle.pk_model.specs.Laws.{IsPageOf}
 use Rattle.pk_model.proofs.MapLemmas.{key_total, missing, below_less}
 use Rattle.pk_model.proofs.Commits.{apart, rest_differs}
@@ -138,3 +138,25 @@ module _ (shape : Shape) where
   length_moved (m ∷ moves) es rising have =
       length_moved moves (put key_cmp m.0 m.1 es) (is_sorted-put key_cmp key_total m.0 m.1 es rising) (have_put m.0 m.1 have.0.0 es moves have.0.1 have.0.2 have.1)
       ∙ length_put m.0 have.0.0 m.1 es rising have.0.1 have.0.2
+
+  -- and as many of each namespace
+  pub space_put : (space : ℕ) (k : Key) (old new : Place) (es : List (Key × Place)) → T (is_sorted key_cmp es) → find key_cmp k es ≡ Some old
+      → new.len ≡ old.len → pages_of_space shape space (put key_cmp k new es) ≡ pages_of_space shape space es
+  space_put space k old new [] rising found same = cc
+  space_put space k old new (e ∷ es) rising found same =
+      elim (key_cmp k e.0) as (λ r. key_cmp k e.0 ≡ r → cond (is_eq r) (Some e.1) (find key_cmp k es) ≡ Some old
+      → pages_of_space shape space (by_order r ((k, new) ∷ e ∷ es) ((e.0, new) ∷ es) (e ∷ put key_cmp k new es)) ≡ pages_of_space shape space (e ∷ es)) [
+        | Less ↦ λ p f. let none = missing k es (below_less k e.0 es p (left_part _ _ rising)) in cc
+        | Equal ↦ λ p f.
+            let is : e.1 ≡ old = cc in
+            let len : new.len ≡ e.1.len = same ∙ ap (λ (x : Place). x.len) (sym is) in
+            ap (λ n. (if space_of e.0 == space then charge shape n else 0) + pages_of_space shape space es) len
+        | Greater ↦ λ p f.
+            ap (λ n. (if space_of e.0 == space then charge shape e.1.len else 0) + n) (space_put space k old new es (right_part (below_all key_cmp e.0 es) (is_sorted key_cmp es) rising) f same)
+      ] refl found
+
+  pub space_moved : (space : ℕ) (moves es : List (Key × Place)) → T (is_sorted key_cmp es) → HaveLength es moves → pages_of_space shape space (moved moves es) ≡ pages_of_space shape space es
+  space_moved space [] es rising have = refl
+  space_moved space (m ∷ moves) es rising have =
+      space_moved space moves (put key_cmp m.0 m.1 es) (is_sorted-put key_cmp key_total m.0 m.1 es rising) (have_put m.0 m.1 have.0.0 es moves have.0.1 have.0.2 have.1)
+      ∙ space_put space m.0 have.0.0 m.1 es rising have.0.1 have.0.2

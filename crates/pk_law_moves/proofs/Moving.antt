@@ -19,7 +19,7 @@ use Rattle.pk_model.specs.Values.{placed, fits, values_of, all_pages}
 use Rattle.pk_model.specs.Reading.{map_under, may_add}
 use Rattle.pk_model.proofs.StrangePages.{bind_ok}
 use Rattle.pk_model.proofs.Lookups.{Has, find-values, same_key}
-use Rattle.pk_model.proofs.ValueSets.{values_sound, values_complete, Reads, fits_parts, parts_fit, IsPlacedIn, fits_within, under_in_spaces}
+use Rattle.pk_model.proofs.ValueSets.{values_sound, values_complete, Reads, fits_parts, parts_fit, IsPlacedIn, under_in_spaces}
 use Rattle.pk_model.proofs.Stores.{placed-put, reads-put, entries_in_order-push}
 use Rattle.pk_model.proofs.Merges.{placed_sorted}
 use Rattle.pk_model.proofs.HeldMap.{nothing_fits}
@@ -29,13 +29,13 @@ use Rattle.pk_law_steps.proofs.Places.{In, in_value, value_in, not_of, any_in_ba
 use Rattle.pk_law_steps.proofs.Committing.{commits, commits_pair, commit_done}
 use Rattle.pk_law_moves.specs.Moves.{entries_of, moved, AreCopies, CanMove, MovesLeaveMap, PlacesMove, MovesCommit, MovesPair, MovesCommitted, Copies}
 use Rattle.pk_law_steps.proofs.Counting.{sorted_read}
-use Rattle.pk_law_moves.proofs.Moved.{put_same, page_moved, differ_moved, HaveLength, length_moved}
+use Rattle.pk_law_moves.proofs.Moved.{put_same, page_moved, differ_moved, HaveLength, length_moved, space_moved}
 use Rattle.pk_base.proofs.Logic.{is_true, left_part, right_part, passed, both}
 use Rattle.pk_base.proofs.KeyLemmas.{firsts_sorted}
 use Rattle.pk_model.specs.RootLimits.{root_limits, root_spaces}
 use Rattle.pk_space.specs.Entries.{in_spaces}
-use Rattle.pk_model.proofs.Entries.{all_put}
 use Rattle.std.specs.Ordering.{eq_by_cmp}
+use Rattle.pk_model.specs.Spaces.{limit_of}
 
 -- ---- a copy is read as the value
 
@@ -152,11 +152,6 @@ copies_in_spaces shape flash spaces es [] all copies = tt
 copies_in_spaces shape flash spaces es (m ∷ moves) all copies =
     (found_in_spaces spaces m.0 copies.0.0 es all copies.0.1, copies_in_spaces shape flash spaces es moves all copies.1)
 
-moved_in_spaces : (spaces : ℕ) (moves es : List (Key × Place)) → AllByRecursion (IsPlacedIn spaces) es → AllByRecursion (IsPlacedIn spaces) moves
-    → AllByRecursion (IsPlacedIn spaces) (moved moves es)
-moved_in_spaces spaces [] es all copies = all
-moved_in_spaces spaces (m ∷ moves) es all copies = moved_in_spaces spaces moves (put key_cmp m.0 m.1 es) (all_put (IsPlacedIn spaces) m.0 m.1 es copies.0 all) copies.1
-
 entries_in_spaces : (spaces : ℕ) (extra : List Entry) (moves : List (Key × Place)) → T (in_spaces spaces extra) → AllByRecursion (IsPlacedIn spaces) moves
     → T (in_spaces spaces (extra ++ entries_of moves))
 entries_in_spaces spaces (e ∷ extra) moves more copies =
@@ -182,10 +177,9 @@ moves_stay shape flash extra top found m moves blocks under can = record { is_to
         let lies = fits_moved shape flash extra top.1 found moves blocks can (subst T (sym before.placed_well) tt) in
         let all = under_in_spaces shape at top.1 found extra under.is_found values.spaced in
         let copies_are = copies_in_spaces shape flash spaces es moves all can.copies in
-        let all_moved = moved_in_spaces spaces moves es all copies_are in
         let after : values_of shape at limits (named top.1) [] (places found (extra ++ entries_of moves)) ≡ Ok values.values =
         ap (values_of shape at limits (named top.1) []) (places_move found extra moves) ∙ values_complete shape (named top.1) at limits (moved moves es) values.values
-        (record { placed_well = is_true _ lies; within = fits_within shape top.1 (named top.1) (moved moves es) lies all_moved; read = reads_moved shape at (named top.1) moves es values.values rises stand before.read }) in
+        (record { placed_well = is_true _ lies; within = λ space. subst (λ n. n ≤ limit_of limits space) (sym (space_moved shape space moves es (rising found extra) (same_lengths shape flash es moves can.copies))) (before.within space); read = reads_moved shape at (named top.1) moves es values.values rises stand before.read }) in
         let enough : may_add shape top.1 found (extra ++ entries_of moves) ≡ true = is_true _
         (both _ _ (le→leb _ _ can.room) (entries_in_spaces spaces extra moves values.spaced copies_are)) in
         rw (enough, after) (λ i. Ok (values.whole_map i))

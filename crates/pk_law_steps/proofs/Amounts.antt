@@ -17,7 +17,7 @@ use Rattle.pk_jrnfmt.specs.Page.{journal_entries}
 use Rattle.pk_jrnfmt.specs.Epoch.{may_follow, journal, epoch}
 use Rattle.pk_meta.specs.Page.{meta_entries}
 use Rattle.pk_meta.specs.Run.{may_hold, meta, run}
-use Rattle.pk_rootfmt.specs.Root.{Root, is_root, is_number, has_runs, named, differ}
+use Rattle.pk_rootfmt.specs.Root.{Root, is_root, is_number, has_runs, named, differ, is_laid_out, are_limits}
 use Rattle.pk_model.proofs.StrangePages.{bind_ok, some_ok}
 use Rattle.pk_base.proofs.Sound.{if_some}
 use Rattle.pk_model.proofs.Live.{ceil_room}
@@ -100,7 +100,8 @@ pub counted_of : (shape : Shape) (root : Root) → T (is_root shape root) → Co
 counted_of shape root is =
     let has = runs_part (is_number root.number) (nat_le 1 root.epoch) (nat_le root.epoch root.number)
     (length root.newest == 2) (length root.older == 0 || (length root.older == 2 && nat_le 2 root.epoch))
-    (has_runs shape root) (list_all (λ b. nat_le 2 b && nat_lt b shape.blocks) (named root)) (differ (named root)) is in
+    (has_runs shape root) (list_all (λ b. nat_le 2 b && nat_lt b shape.blocks) (named root)) (differ (named root))
+    (left_part (is_laid_out shape root) (are_limits shape root.limits) is) in
     record {
       fit = second_of (length root.counts == 4) (list_all (λ p. nat_le p.0 (p.1 * page_entries shape)) (zip root.counts (caps shape)))
           (bytes_eq (map length root.runs) (map (run_blocks shape) root.counts)) has;

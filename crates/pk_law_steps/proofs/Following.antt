@@ -98,5 +98,5 @@ merged_next shape flash extra top found m level count taken is_shape before is =
       room = leb→le _ _ (values shape flash extra top found m level count taken is_shape before is).room;
       same_places = same_places found.newest extra found.older found.runs four.r1 four.r2 four.r3 four.r4 four.lists_are level level_is;
       outside = outside shape flash extra top found m level count taken is_shape before is;
-      step = inr (record { level = level; taken = taken; number = refl; next = is.next; epoch = refl; newest = (refl, refl); older = (refl, refl); blocks = refl; runs = refl });
+      step = inr (record { level = level; taken = taken; number = refl; next = is.next; epoch = refl; newest = (refl, refl); older = (refl, refl); limits = refl; blocks = refl; runs = refl });
     }

@@ -188,6 +188,6 @@ freezes shape flash new top page found m first second is_shape before none_older
         to = record { root = root'; found = frozen found };
         was = record { page_of_root = top.0; is_newest = before.is_top; is_found = before.is_found };
         is = record { page_of_root = page; is_newest = is_top; is_found = found_there };
-        step = inl (record { number = refl; none_frozen = none_older; epoch = refl; empty = refl; older = refl; frozen = refl; blocks = refl; runs = refl });
+        step = inl (record { number = refl; none_frozen = none_older; epoch = refl; empty = refl; older = refl; frozen = refl; blocks = refl; runs = refl; limits = refl });
       },
     )

@@ -128,5 +128,5 @@ frozen_next shape flash extra top found m first second is_shape before is = reco
   room = room shape flash extra top found m first second is_shape before is;
   same_places = ap (λ es. placed (firsts es)) (same_entries shape flash extra top found m first second is_shape before is);
   outside = outside shape flash extra top found m first second is_shape before is;
-  step = inl (record { number = refl; none_frozen = is.none_older; epoch = refl; empty = refl; older = refl; frozen = refl; blocks = refl; runs = refl });
+  step = inl (record { number = refl; none_frozen = is.none_older; epoch = refl; empty = refl; older = refl; frozen = refl; blocks = refl; runs = refl; limits = refl });
 }

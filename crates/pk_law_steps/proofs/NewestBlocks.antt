@@ -4,11 +4,11 @@ use Rattle.std.specs.List.{list_all, concat}
 use Rattle.std.proofs.lemmas.Bool.{ltb-true}
 use Rattle.pk_base.specs.Shape.{Shape}
 use Rattle.pk_base.specs.Page.{Page}
-use Rattle.pk_rootfmt.specs.Root.{Root, named, is_root, is_number, has_runs, differ}
+use Rattle.pk_rootfmt.specs.Root.{Root, named, is_root, is_number, has_runs, differ, is_laid_out, are_limits}
 use Rattle.pk_rootfmt.specs.Newest.{newest_root}
 use Rattle.pk_model.proofs.Roots.{newest_sound}
 use Rattle.pk_model.proofs.Commits.{all_at, all_front, root_valid, blocks_of_root, differ_front, injective}
-use Rattle.pk_base.proofs.Logic.{is_true, right_part}
+use Rattle.pk_base.proofs.Logic.{is_true, right_part, left_part}
 
 all_of_root : (a b c d e f g h : Bool) → T (a && b && c && d && e && f && g && h) → T g
 all_of_root true true true true true true true true is = tt
@@ -28,7 +28,8 @@ newest_exist shape root is n small =
     let two : length root.newest ≡ 2 = (blocks_of_root shape root is).two in
     let every : T (list_all in_flash (named root)) = all_of_root (is_number root.number) (nat_le 1 root.epoch)
     (nat_le root.epoch root.number) (length root.newest == 2) (length root.older == 0 || (length root.older == 2 && nat_le 2 root.epoch))
-    (has_runs shape root) (list_all in_flash (named root)) (differ (named root)) is in
+    (has_runs shape root) (list_all in_flash (named root)) (differ (named root))
+    (left_part (is_laid_out shape root) (are_limits shape root.limits) is) in
     let newest : T (list_all in_flash root.newest) = all_front in_flash root.newest root.older (all_front in_flash (root.newest ++ root.older) (concat root.runs) every) in
     ltb-true (slice_index root.newest n) shape.blocks
     (is_true (nat_lt (slice_index root.newest n) shape.blocks) (right_part (nat_le 2 (slice_index root.newest n)) (nat_lt (slice_index root.newest n) shape.blocks)

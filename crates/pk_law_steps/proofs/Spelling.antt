@@ -7,7 +7,7 @@ use Rattle.std.proofs.lemmas.Slice.Eq.{bytes_eq-Decides}
 use Rattle.std.specs.List.{list_all, list_any, concat}
 use Rattle.pk_base.specs.Shape.{Shape, page_entries, caps, deepest, run_pages, run_blocks}
 use Rattle.pk_base.specs.Merge.{room}
-use Rattle.pk_rootfmt.specs.Root.{Root, named, is_root, is_number, has_runs, differ}
+use Rattle.pk_rootfmt.specs.Root.{Root, named, is_root, is_number, has_runs, differ, is_laid_out, are_limits}
 use Rattle.pk_model.specs.Tree.{blocks_after}
 use Rattle.pk_model.proofs.SamePages.{any_front, any_back}
 use Rattle.pk_model.proofs.RootAlone.{head_same, tail_same}
@@ -176,7 +176,8 @@ module _ (shape : Shape) (root : Root) (level count : ℕ) (taken : List ℕ) (i
   was : Eight (is_number root.number) (nat_le 1 root.epoch) (nat_le root.epoch root.number) (length root.newest == 2)
       (length root.older == 0 || (length root.older == 2 && nat_le 2 root.epoch)) (has_runs shape root) (list_all in_flash (named root)) (differ (named root))
   was = parts (is_number root.number) (nat_le 1 root.epoch) (nat_le root.epoch root.number) (length root.newest == 2)
-      (length root.older == 0 || (length root.older == 2 && nat_le 2 root.epoch)) (has_runs shape root) (list_all in_flash (named root)) (differ (named root)) is
+      (length root.older == 0 || (length root.older == 2 && nat_le 2 root.epoch)) (has_runs shape root) (list_all in_flash (named root)) (differ (named root))
+      (left_part (is_laid_out shape root) (are_limits shape root.limits) is)
 
   older_in : (one : Bool) (b : ℕ) → In b (if one then [] else root.older) → In b root.older
   older_in true b is_in = absurd is_in
@@ -257,6 +258,7 @@ module _ (shape : Shape) (root : Root) (level count : ℕ) (taken : List ℕ) (i
   pub merged_is_root : T (is_root shape (merged_root root level count taken))
   merged_is_root =
       let most = leb→le root.epoch root.number was.three in
+      let laid : T (is_laid_out shape (merged_root root level count taken)) =
       all_parts (is_number (root.number + 1)) (nat_le 1 root.epoch) (nat_le root.epoch (root.number + 1))
       (length root.newest == 2) (length then_older == 0 || (length then_older == 2 && nat_le 2 root.epoch))
       (has_runs shape (merged_root root level count taken)) (list_all in_flash (named (merged_root root level count taken))) (differ (named (merged_root root level count taken)))
@@ -269,7 +271,8 @@ module _ (shape : Shape) (root : Root) (level count : ℕ) (taken : List ℕ) (i
         six = runs_fit;
         seven = inside;
         eight = different;
-      })
+      }) in
+      both (is_laid_out shape (merged_root root level count taken)) (are_limits shape root.limits) laid (right_part (is_laid_out shape root) (are_limits shape root.limits) is)
 
 pub merged_grammar : MergedGrammar
 merged_grammar shape root level count taken is low high few size fresh place new small = is_true _

@@ -1,5 +1,5 @@
 -- A valid successor does not change the map, at any cut of its install.
-use Rattle.std.proofs.Common.{◌≡◌, inl, inr, ℕ, ◌/◌, ◌<◌, sym, ap, subst, ◌∙◌, T, true, List, [], ◌++◌, length, nat_le, ◌==◌, not, Some, Ok, le→leb}
+use Rattle.std.proofs.Common.{◌≡◌, inl, inr, ℕ, ◌/◌, ◌<◌, sym, ap, subst, ◌∙◌, T, true, List, [], ◌++◌, length, nat_le, ◌==◌, not, Some, Ok, le→leb, ◌⊎◌}
 use Rattle.std.specs.List.{AllByRecursion, list_any}
 use Rattle.pk_base.specs.Shape.{Shape, IsShape, buffer}
 use Rattle.pk_base.specs.Page.{Flash, page_at, SameBehind}
@@ -30,6 +30,7 @@ use Rattle.pk_law_steps.proofs.Untouched.{Values, values_under}
 use Rattle.pk_law_steps.proofs.Places.{In, all_of, any_in_back, in_value, not_of}
 use Rattle.pk_law_steps.specs.Next.{IsNext, Installed, Installs, tree_of}
 use Rattle.pk_base.proofs.Logic.{is_true, both}
+use Rattle.pk_model.specs.Tree.{TreeFreezes, Merges}
 
 module _ (shape : Shape) (flash new : Flash) (extra : List Entry) (top : ℕ × Root) (found : Found) (m : Map) (is_shape : IsShape shape) (entries : AllByRecursion (IsEntry shape) extra)
     (before : IsUnder shape flash extra top found m) (behind : SameBehind shape flash new) where
@@ -60,7 +61,11 @@ module _ (shape : Shape) (flash new : Flash) (extra : List Entry) (top : ℕ × 
     values = values_under shape flash extra top.1 found m before.is_map
 
     same_limits : root_limits shape root ≡ root_limits shape top.1
-    same_limits = limits_alike shape top.1 root
+    same_limits = limits_alike shape top.1 root (kept_limits next.step)
+      where
+        kept_limits : TreeFreezes (tree_of top.1 found) (tree_of root then_found) ⊎ Merges shape (tree_of top.1 found) (tree_of root then_found) → root.limits ≡ top.1.limits
+        kept_limits (inl step) = step.limits
+        kept_limits (inr step) = step.limits
 
     still : found_under shape (page_at new) root ≡ Ok then_found
     still = found_alone shape is_shape (page_at flash) (page_at new) behind root (subst T (sym next.grammar) tt) ∙ next.is_found

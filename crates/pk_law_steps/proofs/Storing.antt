@@ -16,9 +16,8 @@ use Rattle.pk_model.specs.Found.{entries_in_order}
 use Rattle.pk_model.specs.Values.{placed, values_of}
 use Rattle.pk_model.specs.Reading.{may_add, map_under}
 use Rattle.pk_model.proofs.RootLimits.{in_spaces_last}
-use Rattle.pk_model.proofs.Entries.{all_put}
 use Rattle.pk_model.proofs.MapLemmas.{key_total, key_antisymm, below_less}
-use Rattle.pk_model.proofs.ValueSets.{values_sound, values_complete, Reads, IsPlacedIn, fits_within, under_in_spaces}
+use Rattle.pk_model.proofs.ValueSets.{values_sound, values_complete, Reads}
 use Rattle.pk_model.proofs.Stores.{below_placed, reading-store, entries_in_order-push}
 use Rattle.pk_model.proofs.HeldMap.{nothing_fits}
 use Rattle.pk_law_steps.specs.Under.{counting, places}
@@ -29,17 +28,16 @@ use Rattle.pk_base.proofs.Logic.{is_true, left_part, right_part, both, less}
 use Rattle.pk_base.proofs.KeyLemmas.{firsts_sorted}
 
 pub stores : Stores
-stores shape flash pending top found m key place value under own stands room fit =
+stores shape flash pending top found m key place value under own stands room fit within =
     let values = values_under shape flash pending top.1 found m under.is_map in
     let spaces = root_spaces shape top.1 in
     let added = in_spaces_last spaces pending (key, Some place) values.spaced own in
-    let all = all_put (IsPlacedIn spaces) key place (places found pending) (le→leb (space_of key) spaces own) (under_in_spaces shape (page_at flash) top.1 found pending under.is_found values.spaced) in
     let fitting = subst T (sym fit) tt in
     record {
       is_top = under.is_top;
       is_found = under.is_found;
       is_map = reading-store shape (page_at flash) top.1 found pending m key place value (nothing_fits shape (named top.1)) under.is_map stands
-          (both _ _ (le→leb _ _ room) added) fitting (fits_within shape top.1 (named top.1) (put key_cmp key place (places found pending)) fitting all);
+          (both _ _ (le→leb _ _ room) added) fitting within;
     }
 
 -- ---- a key less

@@ -10,19 +10,21 @@ use Rattle.pk_base.specs.Firsts.{firsts}
 use Rattle.pk_base.specs.Map.{Map}
 use Rattle.pk_segfmt.specs.Value.{value_at}
 use Rattle.pk_rootfmt.specs.Root.{Root, named}
-use Rattle.pk_model.specs.RootLimits.{root_spaces}
+use Rattle.pk_model.specs.RootLimits.{root_limits, root_spaces}
 use Rattle.pk_model.specs.Found.{Found}
-use Rattle.pk_model.specs.Values.{fits, all_pages}
+use Rattle.pk_model.specs.Values.{fits, all_pages, KeepsWithin}
 use Rattle.pk_model.specs.Laws.{AnyByRecursion, IsPageOf}
 use Rattle.pk_law_steps.specs.Under.{IsUnder, IsValuePage, places}
 
--- the value of a further entry is at its place, its key is of a namespace of the drive, the buffer has room for it, and the values are well placed
+-- the value of a further entry is at its place, its key is of a namespace of the drive, the buffer has room for it, and the values are well placed and within the
+-- limits of their namespaces
 abbrev pub Stores : Type 0
 Stores =
     (shape : Shape) (flash : Flash) (pending : List Entry) (top : ℕ × Root) (found : Found) (m : Map) (key : Key) (place : Place) (value : List ℕ)
     → IsUnder shape flash pending top found m → space_of key ≤ root_spaces shape top.1 → value_at shape (page_at flash) key place ≡ Ok value
     → length (firsts (found.newest ++ (pending ++ (key, Some place) ∷ []))) ≤ buffer shape
     → fits shape (named top.1) (all_pages shape (put key_cmp key place (places found pending))) ≡ true
+    → KeepsWithin shape (root_limits shape top.1) (put key_cmp key place (places found pending))
     → IsUnder shape flash (pending ++ (key, Some place) ∷ []) top found (insert m key value)
 
 -- a further entry deletes its key

@@ -4,10 +4,8 @@ use Rattle.std.specs.List.{AllByRecursion}
 use Rattle.std.specs.Ordering.{eq_by_cmp}
 use Rattle.std.specs.FinMap.{FinMap, get, insert, remove, empty, entries, entries_sorted, entries-from_sorted, get-entries, get-insert, get-remove, get-empty, same_map}
 use Rattle.std.specs.FinMap.Entries.{find, where_key, find-where_key, is_sorted-where_key}
-use Rattle.pk_base.specs.Fields.{AreBytes}
-use Rattle.pk_base.specs.Key.{Key, IsKey, key_cmp, space_of}
-use Rattle.pk_base.specs.Map.{Map, IsMap}
-use Rattle.pk_base.specs.Shape.{Shape}
+use Rattle.pk_base.specs.Key.{Key, key_cmp, space_of}
+use Rattle.pk_base.specs.Map.{Map}
 use Rattle.pk_base.proofs.Logic.{equal}
 use Rattle.pk_base.proofs.KeyLemmas.{same_key}
 use Rattle.pk_model.specs.Spaces.{in_space}
@@ -44,14 +42,6 @@ pub whole_map : (space : ℕ) (m : Map) → AllByRecursion (λ e. (space_of e.0 
 whole_map space m all = by_keys (in_space space m) m (λ q.
     get-entries (in_space space m) q ∙ ap (find key_cmp q) (entries_in space m ∙ all_pass (λ k. space_of k == space) (entries m) all) ∙ sym (get-entries m q))
 
--- so it is of a map of a drive, of which there is one namespace
-pub is_whole : (shape : Shape) (m : Map) → IsMap shape m → in_space 1 m ≡ m
-is_whole shape m is = whole_map 1 m (all_weaker (entries m) is.keys)
-  where
-    all_weaker : (es : List (Key × List ℕ)) → AllByRecursion (λ e. IsKey e.0 × AreBytes e.0) es → AllByRecursion (λ e. (space_of e.0 == 1) ≡ true) es
-    all_weaker [] all = tt
-    all_weaker (e ∷ es) all = (let some = all.0.0.space_some in let most = all.0.0.space_most in eq-eqb (space_of e.0) 1 (omega (arith, some, most)), all_weaker es all.1)
-
 pub in_space-empty : (space : ℕ) → in_space space empty ≡ empty
 in_space-empty space = by_keys (in_space space empty) empty (λ q. get_in_space space empty q ∙ ap (λ x. cond (space_of q == space) x None) (get-empty key_cmp q) ∙ same_both (space_of q == space) ∙ sym (get-empty key_cmp q))
   where
@@ -80,3 +70,23 @@ module _ (space : ℕ) (m : Map) (k : Key) (own : space_of k ≡ space) where
       get_in_space space (remove m k) q ∙ ap (λ x. cond (space_of q == space) x None) (get-remove key_total m k q)
       ∙ put_both (eq_by_cmp key_cmp q k) (space_of q == space) None (get m q) (tied_own q)
       ∙ ap (cond (eq_by_cmp key_cmp q k) None) (sym (get_in_space space m q)) ∙ sym (get-remove key_total (in_space space m) k q))
+
+-- ---- a change in another namespace
+
+module _ (space : ℕ) (m : Map) (k : Key) (other : (space_of k == space) ≡ false) where
+  put_other : (own tie : Bool) (v g : Option (List ℕ)) → (tie ≡ true → own ≡ false) → cond own (cond tie v g) None ≡ cond own g None
+  put_other own true v g apart = ap (λ t. cond t v None) (apart refl) ∙ ap (λ t. cond t g None) (sym (apart refl))
+  put_other own false v g apart = refl
+
+  tied_other : (q : Key) → eq_by_cmp key_cmp q k ≡ true → (space_of q == space) ≡ false
+  tied_other q tie = ap (λ x. space_of x == space) (same_tied q k tie) ∙ other
+
+  pub in_space-insert-other : (v : List ℕ) → in_space space (insert m k v) ≡ in_space space m
+  in_space-insert-other v = by_keys _ _ (λ q.
+      get_in_space space (insert m k v) q ∙ ap (λ x. cond (space_of q == space) x None) (get-insert key_total m k v q)
+      ∙ put_other (space_of q == space) (eq_by_cmp key_cmp q k) (Some v) (get m q) (tied_other q) ∙ sym (get_in_space space m q))
+
+  pub in_space-remove-other : in_space space (remove m k) ≡ in_space space m
+  in_space-remove-other = by_keys _ _ (λ q.
+      get_in_space space (remove m k) q ∙ ap (λ x. cond (space_of q == space) x None) (get-remove key_total m k q)
+      ∙ put_other (space_of q == space) (eq_by_cmp key_cmp q k) None (get m q) (tied_other q) ∙ sym (get_in_space space m q))

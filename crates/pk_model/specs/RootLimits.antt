@@ -1,11 +1,11 @@
 -- The namespaces of a drive with a root.
-use Rattle.std.specs.Prelude.{ℕ, List, [], ◌∷◌, length}
-use Rattle.pk_base.specs.Shape.{Shape, limit}
-use Rattle.pk_rootfmt.specs.Root.{Root}
+use Rattle.std.specs.Prelude.{ℕ, List, length}
+use Rattle.pk_base.specs.Shape.{Shape}
+use Rattle.pk_rootfmt.specs.Root.{Root, limits_of}
 
--- The limit of each namespace, in pages: there is one namespace, which has the limit of the shape.
+-- the limit of each namespace, in pages
 unfoldable pub root_limits : Shape → Root → List ℕ
-root_limits shape root = limit shape ∷ []
+root_limits shape root = limits_of shape root.limits
 
 -- how many there are
 abbrev pub root_spaces : Shape → Root → ℕ

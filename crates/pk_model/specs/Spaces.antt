@@ -4,8 +4,9 @@ use Rattle.std.specs.FinMap.{entries, from_sorted}
 use Rattle.std.specs.List.{AllByRecursion}
 use Rattle.pk_base.specs.Key.{space_of}
 use Rattle.pk_base.specs.Map.{Map}
-use Rattle.pk_base.specs.Page.{Flash}
-use Rattle.pk_base.specs.Shape.{Shape, limit}
+use Rattle.pk_base.specs.Page.{Flash, page_at}
+use Rattle.pk_base.specs.Shape.{Shape}
+use Rattle.pk_rootfmt.specs.Newest.{newest_root, limits_if}
 
 -- What a drive has: frames, and the limits of its namespaces 1, 2 and so on.
 pub record Terms : Type 0 where
@@ -32,9 +33,9 @@ in_space space m = from_sorted (filter (λ e. space_of e.0 == space) (entries m)
 abbrev pub AreInSpaces : ℕ → Map → Type 0
 AreInSpaces spaces m = AllByRecursion (λ e. (1 ≤ space_of e.0) × (space_of e.0 ≤ spaces)) (entries m)
 
--- the limits on a flash: of its only namespace, that of the shape
+-- the limits on a flash: those of its newest root
 unfoldable pub limits_at : Shape → Flash → List ℕ
-limits_at shape flash = limit shape ∷ []
+limits_at shape flash = limits_if shape (newest_root shape (page_at flash))
 
 -- what a drive with so many frames has on a flash
 abbrev pub terms_at : Shape → Flash → ℕ → Terms

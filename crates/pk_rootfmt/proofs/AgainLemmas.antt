@@ -1,20 +1,21 @@
 -- The page of a root passes the check, and is read as the root.
-use Rattle.std.proofs.Common.{◌≡◌, ℕ, ◌+◌, ◌-◌, ◌*◌, ◌^◌, ◌<◌, ◌≤◌, Bool, true, false, List, [], ◌∷◌, ◌++◌, length, drop, map, refl, sym, ap, subst, ◌∙◌, arith, length-append, Some, None}
+use Rattle.std.proofs.Common.{◌≡◌, ℕ, ◌+◌, ◌-◌, ◌*◌, ◌^◌, ◌<◌, ◌≤◌, Bool, true, false, List, [], ◌∷◌, ◌++◌, length, drop, map, refl, sym, ap, subst, ◌∙◌, arith, length-append, Some, None, lit<}
 use Rattle.std.specs.Prelude.{nat_eq, nat_le, nat_lt, ◌&&◌, ◌||◌, if◌then◌else◌, bytes_eq, sum, zip}
 use Rattle.std.specs.List.{list_all, concat}
 use Rattle.std.proofs.lemmas.Bool.Decides.{nat_tests}
 use Rattle.std.proofs.lemmas.List.{append_assoc, length-replicate}
 use Rattle.pk_base.specs.Fields.{u16_at, u32_at, zeros}
 use Rattle.pk_base.specs.FieldFaults.{u64_at, unlike, unless}
-use Rattle.pk_base.specs.Shape.{Shape, IsShape, page_entries, cap, caps, run_blocks}
+use Rattle.pk_base.specs.Shape.{Shape, IsShape, page_entries, cap, caps, run_blocks, limit}
 use Rattle.pk_base.proofs.Tables.{◌⊕◌, first_none, true_unless, stands_unlike, stands_number, Stand, AreSized, spelled_stand}
-use Rattle.pk_rootfmt.specs.Root.{Root, root_bytes, root_at, root_page, is_root, u16s_at, parts}
-use Rattle.pk_rootfmt.specs.Fault.{root_magic, is_epoch, is_run_count, shape_checks, number_checks, list_checks, listed, blocks_fault, shape_fault, number_fault, list_fault, root_fault}
+use Rattle.pk_rootfmt.specs.Root.{Root, root_bytes, root_at, root_page, is_root, u16s_at, parts, version_of, limit_bytes, are_limits, fit_in, has_limits_room, list_from}
+use Rattle.pk_rootfmt.specs.Fault.{root_magic, is_epoch, is_run_count, shape_checks, number_checks, list_checks, listed, blocks_fault, shape_fault, number_fault, space_fault, list_fault, root_fault}
 use Rattle.pk_rootfmt.specs.Held.{total}
 use Rattle.pk_rootfmt.proofs.BlockLemmas.{length-numbers, numbers_again, parts_again, are_blocks, are_other, check_from_others}
-use Rattle.pk_rootfmt.proofs.RoomLemmas.{page_room, runs_most, entries_small}
-use Rattle.pk_rootfmt.proofs.PageLemmas.{Parts, root_parts, by_test, bytes_same, same_bytes, rows, rows_root, journal_is, older_at, sum_four}
 use Rattle.pk_base.proofs.Logic.{both_true}
+use Rattle.pk_rootfmt.proofs.RoomLemmas.{runs_most, entries_small}
+use Rattle.pk_rootfmt.proofs.LimitLemmas.{by_test, Passes, passes, limits_room}
+use Rattle.pk_rootfmt.proofs.PageLemmas.{Parts, root_parts, bytes_same, same_bytes, rows, rows_root, journal_is, older_at, sum_four}
 
 append_same : (xs ys zs ws : List ℕ) → xs ++ ys ≡ zs ++ ws → length xs ≡ length zs → (xs ≡ zs) × (ys ≡ ws)
 append_same [] ys [] ws e f = (refl, e)
@@ -75,12 +76,13 @@ run_tests false q r s t e = cc
 pub record Read (g : Shape) (page : List ℕ) (root : Root) : Type 0 where
   pub front : shape_fault g page ≡ None
   pub middle : number_fault g page ≡ None
+  pub spaces : space_fault g page ≡ None
   pub back : list_fault g page ≡ None
   pub value : root_at g page ≡ root
 
-module _ (g : Shape) (shape : IsShape g) (number epoch : ℕ) (newest older : List ℕ) (a b c d : ℕ) (runs : List (List ℕ)) where
+module _ (g : Shape) (shape : IsShape g) (number epoch : ℕ) (newest older : List ℕ) (a b c d : ℕ) (runs : List (List ℕ)) (limits : List ℕ) where
   abbrev root : Root
-  root = record { number = number; epoch = epoch; newest = newest; older = older; counts = a ∷ b ∷ c ∷ d ∷ []; runs = runs }
+  root = record { number = number; epoch = epoch; newest = newest; older = older; counts = a ∷ b ∷ c ∷ d ∷ []; runs = runs; limits = limits }
 
   abbrev page : List ℕ
   page = root_bytes g root
@@ -93,6 +95,13 @@ module _ (g : Shape) (shape : IsShape g) (number epoch : ℕ) (newest older : Li
 
   abbrev j : ℕ
   j = length newest + length older
+
+  abbrev words : List ℕ
+  words = limit_bytes limits
+
+  -- the place of the list
+  abbrev f : ℕ
+  f = 64 + length words
 
   module _ (h : Parts g root) where
     run_own : Runs (is_run_count g 1 a) (is_run_count g 2 b) (is_run_count g 3 c) (is_run_count g 4 d) (bytes_eq (map length runs) (map (run_blocks g) (a ∷ b ∷ c ∷ d ∷ [])))
@@ -110,17 +119,35 @@ module _ (g : Shape) (shape : IsShape g) (number epoch : ℕ) (newest older : Li
         let is : 2 + length older ≡ j = omega (arith, two) in
         subst (λ (k : ℕ). ((nat_eq k 2 || nat_eq k 4) ≡ true) × ((nat_eq k 2 || nat_le 2 epoch) ≡ true)) is own
 
-    row : Stand 0 (rows g j number epoch a b c d n blocks) page
+    row : Stand 0 (rows g (version_of limits) (length limits) words j number epoch a b c d n blocks) page
     row =
-        let sized : AreSized (rows g j number epoch a b c d n blocks) =
-        refl ⊕ refl ⊕ refl ⊕ refl ⊕ refl ⊕ refl ⊕ refl ⊕ refl ⊕ refl ⊕ refl ⊕ refl ⊕ refl ⊕ refl ⊕ refl ⊕ length-numbers blocks ⊕ length-replicate _ 0 ⊕ tt in
-        spelled_stand 0 (rows g j number epoch a b c d n blocks) page sized (sym (rows_root g number epoch newest older a b c d runs))
+        let sized : AreSized (rows g (version_of limits) (length limits) words j number epoch a b c d n blocks) =
+        refl ⊕ refl ⊕ refl ⊕ refl ⊕ refl ⊕ refl ⊕ refl ⊕ refl ⊕ refl ⊕ refl ⊕ refl ⊕ refl ⊕ refl ⊕ refl ⊕ refl ⊕ length-numbers blocks ⊕ length-replicate _ 0 ⊕ tt in
+        spelled_stand 0 (rows g (version_of limits) (length limits) words j number epoch a b c d n blocks) page sized (sym (rows_root g number epoch newest older a b c d runs limits))
 
     count_small : (x y : ℕ) → nat_le x y ≡ true → y < 4294967296 → x < 256 ^ 4
     count_small x y e f = grind (arith, nat_tests)
 
+    version_small : (ls : List ℕ) → version_of ls < 256 ^ 2
+    version_small [] = lit< tt
+    version_small (l ∷ ls) = lit< tt
+
+    spaces_small : (ls : List ℕ) → are_limits g ls ≡ true → length ls < 256 ^ 4
+    spaces_small [] e = lit< tt
+    spaces_small (l ∷ ls) e =
+        let tests = both_true (has_limits_room g && nat_le (length (l ∷ ls)) 8) (fit_in (limit g) (l ∷ ls)) e in
+        let few = (both_true (has_limits_room g) (nat_le (length (l ∷ ls)) 8) tests.0).1 in
+        grind (arith, nat_tests)
+
+    limits_pass : Passes g shape page limits
+    limits_pass = passes g shape page limits h.limits (stands_number 2 8 (version_of limits) (drop 10 page) page row.1.0 (version_small limits))
+        (stands_number 4 20 (length limits) (drop 24 page) page row.1.1.1.1.1.1.0 (spaces_small limits h.limits)) row.1.1.1.1.1.1.1.1.1.1.1.1.1.1.0
+
+    from_read : list_from page ≡ f
+    from_read = limits_pass.from
+
     journal_read : u16_at page 18 ≡ j
-    journal_read = let most = (journal_is page j epoch journal_tests.0).most in stands_number 2 18 j (drop 20 page) page row.1.1.1.1.1.0 (omega arith)
+    journal_read = let most = (journal_is page f j epoch journal_tests.0).most in stands_number 2 18 j (drop 20 page) page row.1.1.1.1.1.0 (omega arith)
 
     number_read : u64_at page 24 ≡ number
     number_read = let t = h.number in let small : number < 256 ^ 8 = grind (arith, nat_tests) in stands_number 8 24 number (drop 32 page) page row.1.1.1.1.1.1.1.0 small
@@ -165,31 +192,34 @@ module _ (g : Shape) (shape : IsShape g) (number epoch : ℕ) (newest older : Li
         ∙ ap (λ (k : ℕ). k + length (concat runs)) journal_read
         ∙ length_three newest older (concat runs)
 
-    blocks_read : u16s_at n (drop 64 page) ≡ blocks
-    blocks_read = ap (u16s_at n) row.1.1.1.1.1.1.1.1.1.1.1.1.1.1.0 ∙ numbers_again blocks (drop (64 + 2 * n) page) (small_blocks g blocks shape h.blocks)
+    blocks_read : u16s_at n (drop (list_from page) page) ≡ blocks
+    blocks_read =
+        ap (λ (k : ℕ). u16s_at n (drop k page)) from_read
+        ∙ ap (u16s_at n) row.1.1.1.1.1.1.1.1.1.1.1.1.1.1.1.0 ∙ numbers_again blocks (drop (f + 2 * n) page) (small_blocks g blocks shape h.blocks)
 
     -- the lists of the page are those of the root
     record Lists : Type 0 where
-      pub newest_is : u16s_at 2 (drop 64 page) ≡ newest
-      pub older_is : older_at page (u16_at page 18) ≡ older
-      pub runs_is : u16s_at (sum (map (run_blocks g) (u32_at page 40 ∷ u32_at page 44 ∷ u32_at page 48 ∷ u32_at page 52 ∷ []))) (drop (64 + 2 * u16_at page 18) page) ≡ concat runs
+      pub newest_is : u16s_at 2 (drop (list_from page) page) ≡ newest
+      pub older_is : older_at page (list_from page) (u16_at page 18) ≡ older
+      pub runs_is : u16s_at (sum (map (run_blocks g) (u32_at page 40 ∷ u32_at page 44 ∷ u32_at page 48 ∷ u32_at page 52 ∷ []))) (drop (list_from page + 2 * u16_at page 18) page) ≡ concat runs
 
     lists : Lists
     lists =
         let k : ℕ = u16_at page 18 in
         let s : ℕ = sum (map (run_blocks g) (u32_at page 40 ∷ u32_at page 44 ∷ u32_at page 48 ∷ u32_at page 52 ∷ [])) in
         let test : (nat_eq k 2 || nat_eq k 4) ≡ true = ap (λ (x : ℕ). nat_eq x 2 || nat_eq x 4) journal_read ∙ journal_tests.0 in
-        let own = journal_is page k epoch test in
+        let own = journal_is page (list_from page) k epoch test in
         let all : k + s ≡ n =
         ap (λ (x : ℕ). x + s) journal_read ∙ ap (λ (x : ℕ). j + x) sum_read
         ∙ length_three newest older (concat runs) in
-        let joined = own.named s ∙ ap (λ (x : ℕ). u16s_at x (drop 64 page)) all ∙ blocks_read ∙ append_assoc newest older (concat runs) in
-        let first = append_same (u16s_at 2 (drop 64 page)) (older_at page k ++ u16s_at s (drop (64 + 2 * k) page)) newest (older ++ concat runs) joined (sym two) in
-        let second = append_same (older_at page k) (u16s_at s (drop (64 + 2 * k) page)) older (concat runs) first.1 (omega (arith, own.len, journal_read, two)) in
+        let joined = own.named s ∙ ap (λ (x : ℕ). u16s_at x (drop (list_from page) page)) all ∙ blocks_read ∙ append_assoc newest older (concat runs) in
+        let first = append_same (u16s_at 2 (drop (list_from page) page))
+        (older_at page (list_from page) k ++ u16s_at s (drop (list_from page + 2 * k) page)) newest (older ++ concat runs) joined (sym two) in
+        let second = append_same (older_at page (list_from page) k) (u16s_at s (drop (list_from page + 2 * k) page)) older (concat runs) first.1 (omega (arith, own.len, journal_read, two)) in
         record { newest_is = first.0; older_is = second.0; runs_is = second.1 }
 
     runs_read : parts (map (run_blocks g) (u32_at page 40 ∷ u32_at page 44 ∷ u32_at page 48 ∷ u32_at page 52 ∷ []))
-        (u16s_at (sum (map (run_blocks g) (u32_at page 40 ∷ u32_at page 44 ∷ u32_at page 48 ∷ u32_at page 52 ∷ []))) (drop (64 + 2 * u16_at page 18) page)) ≡ runs
+        (u16s_at (sum (map (run_blocks g) (u32_at page 40 ∷ u32_at page 44 ∷ u32_at page 48 ∷ u32_at page 52 ∷ []))) (drop (list_from page + 2 * u16_at page 18) page)) ≡ runs
     runs_read =
         ap (parts (map (run_blocks g) (u32_at page 40 ∷ u32_at page 44 ∷ u32_at page 48 ∷ u32_at page 52 ∷ []))) lists.runs_is
         ∙ ap (λ (l : List ℕ). parts l (concat runs)) (sizes_read ∙ sym sizes) ∙ parts_again runs
@@ -202,6 +232,7 @@ module _ (g : Shape) (shape : IsShape g) (number epoch : ℕ) (newest older : Li
       older = lists.older_is i;
       counts = a_read i ∷ b_read i ∷ c_read i ∷ d_read i ∷ [];
       runs = runs_read i;
+      limits = limits_pass.read i;
     }
 
     front_read : shape_fault g page ≡ None
@@ -212,12 +243,12 @@ module _ (g : Shape) (shape : IsShape g) (number epoch : ℕ) (newest older : Li
         let blocks_most = shape.blocks_most in
         first_none (shape_checks g page) (
         stands_unlike 0 root_magic (drop 8 page) page row.0
-        ⊕ equal_unless 8 (u16_at page 8) 2 (stands_number 2 8 2 (drop 10 page) page row.1.0 (omega arith))
+        ⊕ true_unless 8 _ limits_pass.version
         ⊕ equal_unless 10 (u16_at page 10) g.block_pages (stands_number 2 10 g.block_pages (drop 12 page) page row.1.1.0 (omega arith))
         ⊕ equal_unless 12 (u32_at page 12) g.page_bytes (stands_number 4 12 g.page_bytes (drop 16 page) page row.1.1.1.0 (omega arith))
         ⊕ equal_unless 16 (u16_at page 16) g.blocks (stands_number 2 16 g.blocks (drop 18 page) page row.1.1.1.1.0 (omega arith))
         ⊕ true_unless 18 _ (ap (λ (x : ℕ). nat_eq x 2 || nat_eq x 4) journal_read ∙ journal_tests.0)
-        ⊕ stands_unlike 20 (zeros 4) (drop 24 page) page row.1.1.1.1.1.1.0
+        ⊕ true_unless 20 _ limits_pass.count
         ⊕ tt)
       where
         equal_unless : (at x y : ℕ) → x ≡ y → unless at (nat_eq x y) ≡ None
@@ -243,26 +274,27 @@ module _ (g : Shape) (shape : IsShape g) (number epoch : ℕ) (newest older : Li
     unfolding list_fault
     back_read =
         first_none (list_checks g page) (
-        (ap (λ (x : ℕ). blocks_fault g 64 [] (u16s_at x (drop 64 page))) listed_read ∙ ap (blocks_fault g 64 []) blocks_read
-        ∙ check_from_others g 64 [] blocks (record { blocks = h.blocks; differs = h.differs; others = none_before blocks }))
-        ⊕ (ap (λ (x : ℕ). unlike (64 + 2 * x) (zeros (g.page_bytes - (64 + 2 * x))) page) listed_read
-        ∙ stands_unlike (64 + 2 * n) (zeros (g.page_bytes - (64 + 2 * n))) (drop ((64 + 2 * n) + (g.page_bytes - (64 + 2 * n))) page) page row.1.1.1.1.1.1.1.1.1.1.1.1.1.1.1.0)
+        (ap (λ (x : ℕ). blocks_fault g (list_from page) [] (u16s_at x (drop (list_from page) page))) listed_read ∙ ap (blocks_fault g (list_from page) []) blocks_read
+        ∙ check_from_others g (list_from page) [] blocks (record { blocks = h.blocks; differs = h.differs; others = none_before blocks }))
+        ⊕ (ap (λ (x : ℕ). unlike (list_from page + 2 * x) (zeros (g.page_bytes - (list_from page + 2 * x))) page) listed_read
+        ∙ ap (λ (k : ℕ). unlike (k + 2 * n) (zeros (g.page_bytes - (k + 2 * n))) page) from_read
+        ∙ stands_unlike (f + 2 * n) (zeros (g.page_bytes - (f + 2 * n))) (drop ((f + 2 * n) + (g.page_bytes - (f + 2 * n))) page) page row.1.1.1.1.1.1.1.1.1.1.1.1.1.1.1.1.0)
         ⊕ tt)
 
     -- the page has room for its blocks
-    pub blocks_room : 64 + 2 * j + 2 * length (concat runs) ≤ g.page_bytes
+    pub blocks_room : f + 2 * j + 2 * length (concat runs) ≤ g.page_bytes
     blocks_room =
         let few = runs_most g a b c d shape (at_most a (cap g 1 * page_entries g) run_own.p1) (at_most b (cap g 2 * page_entries g) run_own.p2)
         (at_most c (cap g 3 * page_entries g) run_own.p3) (at_most d (cap g 4 * page_entries g) run_own.p4) in
         let all : length (concat runs) ≡ run_blocks g a + (run_blocks g b + (run_blocks g c + run_blocks g d)) = omega (arith, length_concat runs, ap total sizes) in
-        let most = (journal_is page j epoch journal_tests.0).most in
-        omega (arith, page_room g shape, few, all, most)
+        let most = (journal_is page f j epoch journal_tests.0).most in
+        omega (arith, limits_room g shape limits h.limits, few, all, most)
       where
         at_most : (x y : ℕ) → nat_le x y ≡ true → x ≤ y
         at_most x y e = grind (arith, nat_tests)
 
     pub read : Read g page root
-    read = record { front = front_read; middle = middle_read; back = back_read; value = value_read }
+    read = record { front = front_read; middle = middle_read; spaces = limits_pass.fault; back = back_read; value = value_read }
 
 -- four numbers
 pub record Four (xs : List ℕ) : Type 0 where
@@ -296,19 +328,20 @@ pub root_read : (g : Shape) (root : Root) → IsShape g → is_root g root ≡ t
 root_read g root shape e =
     let h = root_parts g root e in
     let counts = four root.counts (four_counts g root h) in
-    let whole : List ℕ → Root = λ (cs : List ℕ). record { number = root.number; epoch = root.epoch; newest = root.newest; older = root.older; counts = cs; runs = root.runs } in
+    let whole : List ℕ → Root = λ (cs : List ℕ). record { number = root.number; epoch = root.epoch; newest = root.newest; older = root.older; counts = cs; runs = root.runs; limits = root.limits } in
     let same : Parts g (whole (counts.a ∷ counts.b ∷ counts.c ∷ counts.d ∷ [])) = subst (λ (cs : List ℕ). Parts g (whole cs)) counts.is h in
     subst (λ (cs : List ℕ). Read g (root_bytes g (whole cs)) (whole cs)) (sym counts.is)
-    (read g shape root.number root.epoch root.newest root.older counts.a counts.b counts.c counts.d root.runs same)
+    (read g shape root.number root.epoch root.newest root.older counts.a counts.b counts.c counts.d root.runs root.limits same)
 
 -- a page has room for the blocks of a root of the grammar
-pub root_room : (g : Shape) (root : Root) → IsShape g → is_root g root ≡ true → 64 + 2 * (length root.newest + length root.older) + 2 * length (concat root.runs) ≤ g.page_bytes
+pub root_room : (g : Shape) (root : Root) → IsShape g → is_root g root ≡ true
+    → (64 + length (limit_bytes root.limits)) + 2 * (length root.newest + length root.older) + 2 * length (concat root.runs) ≤ g.page_bytes
 root_room g root shape e =
     let h = root_parts g root e in
     let counts = four root.counts (four_counts g root h) in
-    let whole : List ℕ → Root = λ (cs : List ℕ). record { number = root.number; epoch = root.epoch; newest = root.newest; older = root.older; counts = cs; runs = root.runs } in
+    let whole : List ℕ → Root = λ (cs : List ℕ). record { number = root.number; epoch = root.epoch; newest = root.newest; older = root.older; counts = cs; runs = root.runs; limits = root.limits } in
     let same : Parts g (whole (counts.a ∷ counts.b ∷ counts.c ∷ counts.d ∷ [])) = subst (λ (cs : List ℕ). Parts g (whole cs)) counts.is h in
-    blocks_room g shape root.number root.epoch root.newest root.older counts.a counts.b counts.c counts.d root.runs same
+    blocks_room g shape root.number root.epoch root.newest root.older counts.a counts.b counts.c counts.d root.runs root.limits same
 
 -- so the page that it spells is its page
 pub reads_back : (g : Shape) (root : Root) → IsShape g → is_root g root ≡ true → root_page g (root_bytes g root) ≡ Some root
@@ -329,8 +362,8 @@ page_root g page root shape e =
     let tests = some_tests (is_root g (root_at g page)) (bytes_eq page (root_bytes g (root_at g page))) e in
     let own = root_read g (root_at g page) shape tests.0 in
     let same : page ≡ root_bytes g (root_at g page) = same_bytes page (root_bytes g (root_at g page)) tests.1 in
-    first_none (shape_fault g page ∷ number_fault g page ∷ list_fault g page ∷ []) (
-    (ap (shape_fault g) same ∙ own.front) ⊕ (ap (number_fault g) same ∙ own.middle) ⊕ (ap (list_fault g) same ∙ own.back) ⊕ tt)
+    first_none (shape_fault g page ∷ number_fault g page ∷ space_fault g page ∷ list_fault g page ∷ []) (
+    (ap (shape_fault g) same ∙ own.front) ⊕ (ap (number_fault g) same ∙ own.middle) ⊕ (ap (space_fault g) same ∙ own.spaces) ⊕ (ap (list_fault g) same ∙ own.back) ⊕ tt)
   where
     some_tests : (p q : Bool) → (if p && q then Some (root_at g page) else None) ≡ Some root → (p ≡ true) × (q ≡ true)
     some_tests true true e = (refl, refl)

@@ -4,7 +4,7 @@ use Rattle.std.specs.List.{flat_map, concat}
 use Rattle.std.proofs.lemmas.List.{append_assoc, append-nil, take_all, take-append-drop, length-take-le}
 use Rattle.pk_base.specs.Fields.{u16, u32, u64, spelled, zeros}
 use Rattle.pk_base.specs.Shape.{Shape, IsShape}
-use Rattle.pk_rootfmt.specs.Root.{Root, root_bytes, is_root, parts}
+use Rattle.pk_rootfmt.specs.Root.{Root, root_bytes, is_root, parts, version_of, limit_bytes}
 use Rattle.pk_rootfmt.specs.Fault.{root_magic}
 use Rattle.pk_rootfmt.specs.Held.{total}
 use Rattle.pk_rootfmt.proofs.BlockLemmas.{parts_same, parts_joined}
@@ -15,21 +15,27 @@ flat_append : (xs ys : List ℕ) → flat_map u16 (xs ++ ys) ≡ flat_map u16 xs
 flat_append [] ys = refl
 flat_append (x ∷ xs) ys = ap (λ (r : List ℕ). u16 x ++ r) (flat_append xs ys) ∙ sym (append_assoc (u16 x) (flat_map u16 xs) (flat_map u16 ys))
 
-pub encoded : (g : Shape) (number epoch : ℕ) (newest older : List ℕ) (a b c d : ℕ) (runs : List (List ℕ))
-    → spelled (root_magic ∷ u16 2 ∷ u16 g.block_pages ∷ u32 g.page_bytes ∷ u16 g.blocks ∷ u16
-    (length (newest ++ older)) ∷ zeros 4 ∷ u64 number ∷ u64 epoch ∷ flat_map u32 (a ∷ b ∷ c ∷ d ∷ []) ∷ zeros 8 ∷ [])
-    ++ flat_map u16 (newest ++ older) ++ flat_map u16 (concat runs) ++ zeros (g.page_bytes - (64 + 2 * length (newest ++ older) + 2 * length (concat runs)))
-    ≡ root_bytes g (record { number = number; epoch = epoch; newest = newest; older = older; counts = a ∷ b ∷ c ∷ d ∷ []; runs = runs })
-encoded g number epoch newest older a b c d runs =
+pub encoded : (g : Shape) (number epoch : ℕ) (newest older : List ℕ) (a b c d : ℕ) (runs : List (List ℕ)) (limits : List ℕ)
+    → spelled (root_magic ∷ u16 (version_of limits) ∷ u16 g.block_pages ∷ u32 g.page_bytes ∷ u16 g.blocks ∷ u16
+    (length (newest ++ older)) ∷ u32 (length limits) ∷ u64 number ∷ u64 epoch ∷ flat_map u32 (a ∷ b ∷ c ∷ d ∷ []) ∷ zeros 8 ∷ [])
+    ++ limit_bytes limits ++ flat_map u16 (newest ++ older) ++ flat_map u16 (concat runs) ++ zeros
+    (g.page_bytes - ((64 + length (limit_bytes limits)) + 2 * length (newest ++ older) + 2 * length (concat runs)))
+    ≡ root_bytes g (record { number = number; epoch = epoch; newest = newest; older = older; counts = a ∷ b ∷ c ∷ d ∷ []; runs = runs; limits = limits })
+encoded g number epoch newest older a b c d runs limits =
     let e : List ℕ = newest ++ older in
     let r : List ℕ = concat runs in
-    let k : ℕ = g.page_bytes - (64 + 2 * length e + 2 * length r) in
-    let size : k ≡ g.page_bytes - (64 + 2 * length (e ++ r)) = omega (arith, length-append e r) in
-    ap (λ (x : List ℕ). before_blocks g (length e) number epoch a b c d (x ++ zeros k)) (sym (flat_append e r))
-    ∙ ap (λ (n : ℕ). before_blocks g (length e) number epoch a b c d (flat_map u16 (e ++ r) ++ zeros n)) size
-    ∙ ap (λ (x : List ℕ). before_blocks g (length e) number epoch a b c d (flat_map u16 (e ++ r) ++ x)) (sym (append-nil (zeros (g.page_bytes - (64 + 2 * length (e ++ r))))))
-    ∙ ap (λ (j : ℕ). before_blocks g j number epoch a b c d (flat_map u16 (e ++ r) ++ (zeros (g.page_bytes - (64 + 2 * length (e ++ r))) ++ []))) (length-append newest older)
-    ∙ rows_root g number epoch newest older a b c d runs
+    let w : List ℕ = limit_bytes limits in
+    let k : ℕ = g.page_bytes - ((64 + length w) + 2 * length e + 2 * length r) in
+    let size : k ≡ g.page_bytes - ((64 + length w) + 2 * length (e ++ r)) = omega (arith, length-append e r) in
+    let plain : List ℕ → List ℕ = before_blocks g (version_of limits) (length limits) [] (length e) number epoch a b c d in
+    let front : ℕ → List ℕ → List ℕ = λ j. before_blocks g (version_of limits) (length limits) w j number epoch a b c d in
+    ap (λ (x : List ℕ). plain (x ++ zeros k)) (append_assoc w (flat_map u16 e) (flat_map u16 r))
+    ∙ ap plain (append_assoc w (flat_map u16 e ++ flat_map u16 r) (zeros k))
+    ∙ ap (λ (x : List ℕ). front (length e) (x ++ zeros k)) (sym (flat_append e r))
+    ∙ ap (λ (n : ℕ). front (length e) (flat_map u16 (e ++ r) ++ zeros n)) size
+    ∙ ap (λ (x : List ℕ). front (length e) (flat_map u16 (e ++ r) ++ x)) (sym (append-nil (zeros (g.page_bytes - ((64 + length w) + 2 * length (e ++ r))))))
+    ∙ ap (λ (j : ℕ). front j (flat_map u16 (e ++ r) ++ (zeros (g.page_bytes - ((64 + length w) + 2 * length (e ++ r))) ++ []))) (length-append newest older)
+    ∙ rows_root g number epoch newest older a b c d runs limits
 
 -- the runs are cut from the start of the list of blocks
 pub runs_joined : (sizes items : List ℕ) → total sizes ≤ length items → concat (parts sizes items) ≡ take (total sizes) items
@@ -43,26 +49,27 @@ runs_joined sizes items room =
 length_two : (xs : List ℕ) → length (take 2 xs) + length (drop 2 xs) ≡ length xs
 length_two xs = omega (arith, length-append (take 2 xs) (drop 2 xs), ap length (take-append-drop 2 xs))
 
--- what is written of epochs and runs into this many bytes
-abbrev pub written : Shape → ℕ → ℕ → ℕ → List ℕ → List ℕ → List ℕ → List ℕ
-written g size number epoch epochs counts runs =
-    spelled (root_magic ∷ u16 2 ∷ u16 g.block_pages ∷ u32 g.page_bytes ∷ u16 g.blocks ∷ u16 (length epochs) ∷ zeros 4 ∷ u64 number ∷ u64 epoch ∷ flat_map u32 counts ∷ zeros 8 ∷ [])
-    ++ flat_map u16 epochs ++ flat_map u16 runs ++ zeros (size - (64 + 2 * length epochs + 2 * length runs))
+-- what is written of limits, epochs and runs into this many bytes
+abbrev pub written : Shape → ℕ → ℕ → ℕ → List ℕ → List ℕ → List ℕ → List ℕ → List ℕ
+written g size number epoch epochs counts runs limits =
+    spelled (root_magic ∷ u16 (version_of limits) ∷ u16 g.block_pages ∷ u32 g.page_bytes ∷ u16 g.blocks ∷ u16
+    (length epochs) ∷ u32 (length limits) ∷ u64 number ∷ u64 epoch ∷ flat_map u32 counts ∷ zeros 8 ∷ [])
+    ++ limit_bytes limits ++ flat_map u16 epochs ++ flat_map u16 runs ++ zeros (size - ((64 + length (limit_bytes limits)) + 2 * length epochs + 2 * length runs))
 
-module _ (g : Shape) (number epoch : ℕ) (epochs counts sizes items : List ℕ) where
+module _ (g : Shape) (number epoch : ℕ) (epochs counts sizes items limits : List ℕ) where
   -- the root that is held in these lists
   abbrev pub held : Root
-  held = record { number = number; epoch = epoch; newest = take 2 epochs; older = drop 2 epochs; counts = counts; runs = parts sizes items }
+  held = record { number = number; epoch = epoch; newest = take 2 epochs; older = drop 2 epochs; counts = counts; runs = parts sizes items; limits = limits }
 
-  pub held_room : IsShape g → is_root g held ≡ true → total sizes ≤ length items → 64 + 2 * length epochs + 2 * length (take (total sizes) items) ≤ g.page_bytes
+  pub held_room : IsShape g → is_root g held ≡ true → total sizes ≤ length items → (64 + length (limit_bytes limits)) + 2 * length epochs + 2 * length (take (total sizes) items) ≤ g.page_bytes
   held_room shape e room = omega (arith, root_room g held shape e, length_two epochs, ap length (runs_joined sizes items room))
 
   -- it is written as its page
-  pub held_bytes : length counts ≡ 4 → total sizes ≤ length items → written g g.page_bytes number epoch epochs counts (take (total sizes) items) ≡ root_bytes g held
+  pub held_bytes : length counts ≡ 4 → total sizes ≤ length items → written g g.page_bytes number epoch epochs counts (take (total sizes) items) limits ≡ root_bytes g held
   held_bytes sized room =
       let own = four counts sized in
-      let page : List ℕ → Root = λ (cs : List ℕ). record { number = number; epoch = epoch; newest = take 2 epochs; older = drop 2 epochs; counts = cs; runs = parts sizes items } in
-      ap (λ (es : List ℕ). written g g.page_bytes number epoch es counts (take (total sizes) items)) (sym (take-append-drop 2 epochs))
-      ∙ ap (λ (rs : List ℕ). written g g.page_bytes number epoch (take 2 epochs ++ drop 2 epochs) counts rs) (sym (runs_joined sizes items room))
-      ∙ subst (λ (cs : List ℕ). written g g.page_bytes number epoch (take 2 epochs ++ drop 2 epochs) cs (concat (parts sizes items)) ≡ root_bytes g (page cs)) (sym own.is)
-      (encoded g number epoch (take 2 epochs) (drop 2 epochs) own.a own.b own.c own.d (parts sizes items))
+      let page : List ℕ → Root = λ (cs : List ℕ). record { number = number; epoch = epoch; newest = take 2 epochs; older = drop 2 epochs; counts = cs; runs = parts sizes items; limits = limits } in
+      ap (λ (es : List ℕ). written g g.page_bytes number epoch es counts (take (total sizes) items) limits) (sym (take-append-drop 2 epochs))
+      ∙ ap (λ (rs : List ℕ). written g g.page_bytes number epoch (take 2 epochs ++ drop 2 epochs) counts rs limits) (sym (runs_joined sizes items room))
+      ∙ subst (λ (cs : List ℕ). written g g.page_bytes number epoch (take 2 epochs ++ drop 2 epochs) cs (concat (parts sizes items)) limits ≡ root_bytes g (page cs)) (sym own.is)
+      (encoded g number epoch (take 2 epochs) (drop 2 epochs) own.a own.b own.c own.d (parts sizes items) limits)

@@ -12,48 +12,49 @@ use Rattle.pk_rootfmt.specs.Fault.{is_other_block, blocks_fault}
 use Rattle.pk_rootfmt.proofs.BlockLemmas.{numbers_split}
 
 -- the numbers that remain begin with the one here
-pub left_more : (page : List ℕ) (i count : ℕ) → i < count
-    → u16s_at (count - i) (drop (64 + 2 * i) page) ≡ u16_at page (64 + 2 * i) ∷ u16s_at (count - (i + 1)) (drop (64 + 2 * (i + 1)) page)
-left_more page i count less =
+pub left_more : (page : List ℕ) (from i count : ℕ) → i < count
+    → u16s_at (count - i) (drop (from + 2 * i) page) ≡ u16_at page (from + 2 * i) ∷ u16s_at (count - (i + 1)) (drop (from + 2 * (i + 1)) page)
+left_more page from i count less =
     let e : count - i ≡ suc (count - (i + 1)) = omega arith in
-    let next : (64 + 2 * i) + 2 ≡ 64 + 2 * (i + 1) = omega arith in
-    ap (λ (k : ℕ). u16s_at k (drop (64 + 2 * i) page)) e
-    ∙ ap (λ (r : List ℕ). u16_at page (64 + 2 * i) ∷ u16s_at (count - (i + 1)) r) (drop-drop 2 (64 + 2 * i) page ∙ ap (λ (k : ℕ). drop k page) next)
+    let next : (from + 2 * i) + 2 ≡ from + 2 * (i + 1) = omega arith in
+    ap (λ (k : ℕ). u16s_at k (drop (from + 2 * i) page)) e
+    ∙ ap (λ (r : List ℕ). u16_at page (from + 2 * i) ∷ u16s_at (count - (i + 1)) r) (drop-drop 2 (from + 2 * i) page ∙ ap (λ (k : ℕ). drop k page) next)
 
 -- the numbers that were read end with the one here
 pub read_more : (page : List ℕ) (at i : ℕ) → u16s_at (i + 1) (drop at page) ≡ u16s_at i (drop at page) ++ u16_at page (at + 2 * i) ∷ []
 read_more page at i =
     numbers_split i 1 (drop at page) ∙ ap (λ (r : List ℕ). u16s_at i (drop at page) ++ u16_at r 0 ∷ []) (drop-drop (2 * i) at page)
 
-pub any_stop : (page : List ℕ) (block i count : ℕ) → i < count → u16_at page (64 + 2 * i) ≡ block
-    → list_any (λ other. block == other) (u16s_at (count - i) (drop (64 + 2 * i) page)) ≡ true
-any_stop page block i count less same =
-    let back : nat_eq block (u16_at page (64 + 2 * i)) ≡ true = grind (arith, nat_tests) in
-    ap (list_any (λ other. block == other)) (left_more page i count less) ∙ rw back refl
+pub any_stop : (page : List ℕ) (from block i count : ℕ) → i < count → u16_at page (from + 2 * i) ≡ block
+    → list_any (λ other. block == other) (u16s_at (count - i) (drop (from + 2 * i) page)) ≡ true
+any_stop page from block i count less same =
+    let back : nat_eq block (u16_at page (from + 2 * i)) ≡ true = grind (arith, nat_tests) in
+    ap (list_any (λ other. block == other)) (left_more page from i count less) ∙ rw back refl
 
-pub any_more : (page : List ℕ) (block i count : ℕ) → i < count → (u16_at page (64 + 2 * i) ≡ block → ⊥)
-    → list_any (λ other. block == other) (u16s_at (count - i) (drop (64 + 2 * i) page)) ≡ list_any (λ other. block == other) (u16s_at (count - (i + 1)) (drop (64 + 2 * (i + 1)) page))
-any_more page block i count less other =
-    let back : nat_eq block (u16_at page (64 + 2 * i)) ≡ false = grind (arith, nat_tests) in
-    ap (list_any (λ other. block == other)) (left_more page i count less) ∙ rw back refl
+pub any_more : (page : List ℕ) (from block i count : ℕ) → i < count → (u16_at page (from + 2 * i) ≡ block → ⊥)
+    → list_any (λ other. block == other) (u16s_at (count - i) (drop (from + 2 * i) page)) ≡ list_any (λ other. block == other) (u16s_at (count - (i + 1)) (drop (from + 2 * (i + 1)) page))
+any_more page from block i count less other =
+    let back : nat_eq block (u16_at page (from + 2 * i)) ≡ false = grind (arith, nat_tests) in
+    ap (list_any (λ other. block == other)) (left_more page from i count less) ∙ rw back refl
 
-pub fault_stop : (g : Shape) (page : List ℕ) (i count : ℕ) → i < count → is_other_block g (u16s_at i (drop 64 page)) (u16_at page (64 + 2 * i)) ≡ false
-    → blocks_fault g (64 + 2 * i) (u16s_at i (drop 64 page)) (u16s_at (count - i) (drop (64 + 2 * i) page)) ≡ Some (64 + 2 * i)
-fault_stop g page i count less e =
-    ap (blocks_fault g (64 + 2 * i) (u16s_at i (drop 64 page))) (left_more page i count less) ∙ stop _ (is_other_block g (u16s_at i (drop 64 page)) (u16_at page (64 + 2 * i))) _ e
+pub fault_stop : (g : Shape) (page : List ℕ) (from i count : ℕ) → i < count → is_other_block g (u16s_at i (drop from page)) (u16_at page (from + 2 * i)) ≡ false
+    → blocks_fault g (from + 2 * i) (u16s_at i (drop from page)) (u16s_at (count - i) (drop (from + 2 * i) page)) ≡ Some (from + 2 * i)
+fault_stop g page from i count less e =
+    ap (blocks_fault g (from + 2 * i) (u16s_at i (drop from page))) (left_more page from i count less) ∙ stop _ (is_other_block g (u16s_at i (drop from page)) (u16_at page (from + 2 * i))) _ e
   where
     stop : (at : ℕ) (test : Bool) (rest : Option ℕ) → test ≡ false → first_fault (unless at test ∷ rest ∷ []) ≡ Some at
     stop at test rest e = rw e refl
 
-pub fault_more : (g : Shape) (page : List ℕ) (i count : ℕ) → i < count → is_other_block g (u16s_at i (drop 64 page)) (u16_at page (64 + 2 * i)) ≡ true
-    → blocks_fault g (64 + 2 * (i + 1)) (u16s_at (i + 1) (drop 64 page)) (u16s_at (count - (i + 1)) (drop (64 + 2 * (i + 1)) page))
-    ≡ blocks_fault g (64 + 2 * i) (u16s_at i (drop 64 page)) (u16s_at (count - i) (drop (64 + 2 * i) page))
-fault_more g page i count less e =
-    let next : 64 + 2 * (i + 1) ≡ (64 + 2 * i) + 2 = omega arith in
-    let rest : List ℕ = u16s_at (count - (i + 1)) (drop (64 + 2 * (i + 1)) page) in
-    ap (λ (k : ℕ). blocks_fault g k (u16s_at (i + 1) (drop 64 page)) rest) next
-    ∙ ap (λ (r : List ℕ). blocks_fault g ((64 + 2 * i) + 2) r rest) (read_more page 64 i)
-    ∙ sym (ap (blocks_fault g (64 + 2 * i) (u16s_at i (drop 64 page))) (left_more page i count less) ∙ on (64 + 2 * i) (is_other_block g (u16s_at i (drop 64 page)) (u16_at page (64 + 2 * i))) _ e)
+pub fault_more : (g : Shape) (page : List ℕ) (from i count : ℕ) → i < count → is_other_block g (u16s_at i (drop from page)) (u16_at page (from + 2 * i)) ≡ true
+    → blocks_fault g (from + 2 * (i + 1)) (u16s_at (i + 1) (drop from page)) (u16s_at (count - (i + 1)) (drop (from + 2 * (i + 1)) page))
+    ≡ blocks_fault g (from + 2 * i) (u16s_at i (drop from page)) (u16s_at (count - i) (drop (from + 2 * i) page))
+fault_more g page from i count less e =
+    let next : from + 2 * (i + 1) ≡ (from + 2 * i) + 2 = omega arith in
+    let rest : List ℕ = u16s_at (count - (i + 1)) (drop (from + 2 * (i + 1)) page) in
+    ap (λ (k : ℕ). blocks_fault g k (u16s_at (i + 1) (drop from page)) rest) next
+    ∙ ap (λ (r : List ℕ). blocks_fault g ((from + 2 * i) + 2) r rest) (read_more page from i)
+    ∙ sym (ap (blocks_fault g (from + 2 * i) (u16s_at i (drop from page))) (left_more page from i count less)
+    ∙ on (from + 2 * i) (is_other_block g (u16s_at i (drop from page)) (u16_at page (from + 2 * i))) _ e)
   where
     on : (at : ℕ) (test : Bool) (rest : Option ℕ) → test ≡ true → first_fault (unless at test ∷ rest ∷ []) ≡ rest
     on at test None e = rw e refl

@@ -1,14 +1,15 @@
 //! A root in memory.
 ghost use Rattle.std.specs.Prelude.{◌≡◌, ◌+◌, ◌-◌, ◌≤◌, ◌==◌, ◌||◌, length, take, drop, map, slice_index, slice_get, slice_set, true, Some, None, IfOk, IfErr, OnOk, OnErr};
 ghost use Rattle.std.specs.List.{concat};
+ghost use Rattle.pk_base.specs.declared.sizes.TheConstants.{MOST_SPACES};
 ghost use Rattle.pk_base.specs.Shape.{meta_blocks, run_blocks};
-ghost use Rattle.pk_rootfmt.specs.Root.{root_bytes, root_page, is_root, parts};
+ghost use Rattle.pk_rootfmt.specs.Root.{root_bytes, root_page, is_root, parts, are_limits, limits_of, page_limits, u32s_at};
 ghost use Rattle.pk_rootfmt.specs.Fault.{root_fault};
 ghost use Rattle.pk_rootfmt.specs.Held.{Held, none, total as total_of, two_of, older_of, blocks_or_none};
 
-use crate::check::{checked, run_size};
+use crate::check::{checked, list_from, run_size};
 use crate::copy::{read_blocks, replace_blocks};
-use crate::layout::LIST_FROM;
+use crate::layout::{LIMITS_BYTES, LIMITS_VERSION, LIST_FROM, SPACES};
 use crate::page::put_page;
 use pk_base::{EPOCH_BLOCKS, Shape, get_u16, get_u32, get_u64};
 use std::alloc::{AllocError, Allocator};
@@ -39,6 +40,10 @@ pub struct Root<A: Allocator> {
     sizes: [usize; 4],
     /// The blocks of the runs in their order.
     blocks: Vec<u16, A>,
+    /// The live limits of namespaces, of which the first `spaces` count; 0 if there is one namespace
+    /// with the limit of the shape.
+    limits: [u32; SPACES],
+    spaces: usize,
 }
 
 impl<A: Allocator> Model for Root<A> {
@@ -58,10 +63,11 @@ impl<A: Allocator> Model for Root<A> {
             r.epochs);
         counts = r.entries;
         runs = parts r.sizes r.blocks.items;
+        limits = take r.spaces r.limits;
       };
     } };
 
-    ghost invariant = { λ r. HasRoom r.shape r.journal r.epochs r.entries r.sizes r.blocks.items };
+    ghost invariant = { λ r. HasRoom r.shape r.journal r.spaces r.epochs r.entries r.sizes r.blocks.items r.limits };
 }
 
 impl<A: Allocator + Clone> Root<A> {
@@ -79,6 +85,8 @@ impl<A: Allocator + Clone> Root<A> {
             entries: [0, 0, 0, 0],
             sizes: [0, 0, 0, 0],
             blocks,
+            limits: [0; SPACES],
+            spaces: 0,
         })
     }
 }
@@ -142,6 +150,45 @@ impl<A: Allocator> Root<A> {
         run_at(&self.sizes, &self.blocks, level)
     }
 
+    /// The number of namespaces.
+    pub fn spaces(&self) -> u8
+        ensures value { result ≡ length (limits_of self.now.shape self.now.root.limits) }
+        ensures some { 1 ≤ result }
+        ensures most { result ≤ MOST_SPACES }
+    {
+        if self.spaces == 0 {
+            return 1;
+        }
+        self.spaces as u8
+    }
+
+    /// The live limit of this namespace in pages; namespaces are numbered from 1 on.
+    pub fn space_limit(&self, space: u8) -> u32
+        requires { 1 ≤ space
+            × space ≤ length (limits_of self.now.shape self.now.root.limits) }
+        ensures { result ≡ slice_index (limits_of self.now.shape self.now.root.limits) (space - 1) }
+    {
+        if self.spaces == 0 {
+            return self.shape.limit();
+        }
+        self.limits[space as usize - 1]
+    }
+
+    /// Gives the root namespaces with these limits, so that it is written with the version that has
+    /// limits.
+    pub fn set_spaces(&mut self, limits: &[u32])
+        requires limits { are_limits self.old.shape limits.now ≡ true }
+        requires some { 1 ≤ length limits.now }
+        ensures { self.new ≡ record self.old {
+          root = record self.old.root { limits = limits.now };
+        } }
+    {
+        let mut each = [0u32; SPACES];
+        each[..limits.len()].copy_from_slice(limits);
+        self.limits = each;
+        self.spaces = limits.len();
+    }
+
     /// Numbers the root anew.
     pub fn set_number(&mut self, number: u64)
         ensures { self.new ≡ record self.old { root = record self.old.root { number = number } } }
@@ -195,6 +242,7 @@ impl<A: Allocator> Root<A> {
         let count = total(&self.sizes);
         put_page(
             &self.shape,
+            &self.limits[..self.spaces],
             &self.epochs[..self.journal],
             self.number,
             self.epoch,
@@ -244,19 +292,46 @@ impl<A: Allocator> Root<A> {
         ];
         let sizes = sizes_of(&self.shape, &entries);
         let journal = get_u16(page, 18) as usize;
-        read_blocks(page, LIST_FROM, journal, &mut self.epochs);
-        read_blocks(
-            page,
-            LIST_FROM + 2 * journal,
-            total(&sizes),
-            &mut self.blocks,
-        );
+        let from = list_from(page);
+        self.spaces = spaces_of(page);
+        self.limits = limits_in(page);
+        read_blocks(page, from, journal, &mut self.epochs);
+        read_blocks(page, from + 2 * journal, total(&sizes), &mut self.blocks);
         self.number = get_u64(page, 24);
         self.epoch = get_u64(page, 32);
         self.journal = journal;
         self.entries = entries;
         self.sizes = sizes;
     }
+}
+
+/// The number of limits of a page.
+fn spaces_of(page: &[u8]) -> usize
+    requires { LIST_FROM ≤ length page.now }
+    ensures { result ≡ length (page_limits page.now) }
+{
+    if get_u16(page, 8) == LIMITS_VERSION {
+        get_u32(page, 20) as usize
+    } else {
+        0
+    }
+}
+
+/// The eight numbers at the place of the limits.
+fn limits_in(page: &[u8]) -> [u32; SPACES]
+    requires { LIST_FROM + LIMITS_BYTES ≤ length page.now }
+    ensures { result ≡ u32s_at SPACES (drop LIST_FROM page.now) }
+{
+    [
+        get_u32(page, 64),
+        get_u32(page, 68),
+        get_u32(page, 72),
+        get_u32(page, 76),
+        get_u32(page, 80),
+        get_u32(page, 84),
+        get_u32(page, 88),
+        get_u32(page, 92),
+    ]
 }
 
 /// The blocks of all runs.

@@ -415,7 +415,7 @@ module _ (x : Index) (frames : ℕ) (old : BoardState) (top : ℕ × Root) (foun
               to = tree_of then_root (frozen found);
               was = record { page_of_root = top.0; is_newest = may.under.is_top; is_found = may.under.is_found };
               is = record { page_of_root = f.page; is_newest = under.is_top; is_found = under.is_found };
-              step = inl (record { number = refl; none_frozen = none_older; epoch = refl; empty = refl; older = refl; frozen = refl; blocks = refl; runs = refl });
+              step = inl (record { number = refl; none_frozen = none_older; epoch = refl; empty = refl; older = refl; frozen = refl; blocks = refl; runs = refl; limits = refl });
             });
             cuts = f.cuts;
           }

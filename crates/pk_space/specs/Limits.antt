@@ -1,5 +1,5 @@
 -- Live limits of namespaces, and the first rule that other numbers break.
-use Rattle.std.specs.Prelude.{◌≡◌, ℕ, ◌+◌, ◌*◌, ◌≤◌, List, take, length, sum, Bool, false, ◌||◌, not, ◌&&◌, ◌==◌, nat_le, nat_lt, if◌then◌else◌, Result, Ok, Err}
+use Rattle.std.specs.Prelude.{◌≡◌, ℕ, ◌+◌, ◌*◌, ◌≤◌, List, [], ◌∷◌, take, length, sum, bytes_eq, Bool, true, false, ◌||◌, not, ◌&&◌, ◌==◌, nat_le, nat_lt, if◌then◌else◌, Result, Ok, Err}
 use Rattle.std.specs.List.{list_any}
 use Rattle.pk_base.specs.Shape.{Shape, meta_blocks, limit}
 use Rattle.pk_space.specs.declared.limits.LimitsError.{LimitsError}
@@ -36,12 +36,14 @@ limits_checked shape limits =
     else if has_no_room shape then Err NoRoom
     else Ok limits
 
--- limits of a drive: not too many, none of them zero, and together no more than the limit of the shape
+-- limits of a drive: not too many, none of them zero, and together no more than the limit of the shape; a root page has room for
+-- them, or they are the one limit of the shape, which no root page has
 pub record AcceptsLimits (shape : Shape) (limits : List ℕ) : Type 0 where
   pub some : 1 ≤ length limits
   pub most : length limits ≤ MOST_SPACES
   pub no_zero : has_zero limits ≡ false
   pub within : sum limits ≤ limit shape
+  pub room : (not (has_no_room shape) || bytes_eq limits (limit shape ∷ [])) ≡ true
 
 -- the first `count` of these numbers are limits of a drive
 pub record AreLimits (shape : Shape) (count : ℕ) (each : List ℕ) : Type 0 where

@@ -78,6 +78,13 @@ impl Limits {
         of_each(shape, &[shape.limit()])
     }
 
+    /// The shape that they are limits of.
+    pub fn shape(&self) -> &Shape
+        ensures { result.now ≡ self.now.shape }
+    {
+        &self.shape
+    }
+
     /// How many namespaces there are.
     pub fn count(&self) -> u8
         ensures value { result ≡ length self.now.each }
@@ -85,6 +92,14 @@ impl Limits {
         ensures most { result ≤ MOST_SPACES }
     {
         self.count as u8
+    }
+
+    /// The limits of namespaces 1, 2 and so on.
+    pub fn each(&self) -> &[u32]
+        ensures value { result.now ≡ self.now.each }
+        ensures accepted { spec.AcceptsLimits self.now.shape self.now.each }
+    {
+        &self.each[..self.count]
     }
 
     /// The limit of this namespace, from 1 on.

@@ -109,7 +109,7 @@ pub fn put_root(shape: &Shape, number: u64, into: &mut [u8])
     ensures { length into.new ≡ length into.old }
 {
     shape.known();
-    first(shape, into);
+    first(shape, into, &[]);
     put_u64(into, 24, number);
 }
 

@@ -29,6 +29,16 @@ fn later_page() -> [u8; 512] {
     page
 }
 
+/// The first root of a drive with two namespaces, which have limits of 100 and 392 pages.
+fn limits_page() -> [u8; 512] {
+    let mut page = first_page();
+    page[8] = 3;
+    page[20] = 2;
+    page[64..70].copy_from_slice(&[100, 0, 0, 0, 136, 1]);
+    page[96..100].copy_from_slice(&[2, 0, 3, 0]);
+    page
+}
+
 /// The page with another byte at this place.
 fn changed(page: [u8; 512], place: usize, byte: u8) -> [u8; 512] {
     let mut page = page;
@@ -66,7 +76,7 @@ fn writes_first(shape: &Shape) -> bool {
         return false;
     }
     let mut page = [0xffu8; 512];
-    first(shape, &mut page);
+    first(shape, &mut page, &[]);
     page == first_page()
 }
 
@@ -105,6 +115,28 @@ fn later_goes_both_ways<A: Allocator>(root: &mut Root<A>, shape: &Shape) -> bool
     page == later_page() && is_refused && is_later(root)
 }
 
+/// A root without numbers becomes the one with limits, which is written again; then the first one, which
+/// has none.
+fn limits_go_both_ways<A: Allocator>(root: &mut Root<A>, shape: &Shape) -> bool
+    requires { root.old.shape ≡ shape.now }
+{
+    if shape.page_bytes() != 512 {
+        return false;
+    }
+    match root.decode(&limits_page()) {
+        Ok(()) => {}
+        Err(_) => return false,
+    }
+    let mut page = [0xffu8; 512];
+    root.encode(&mut page);
+    let spaces = root.spaces();
+    let last = root.space_limit(spaces);
+    let first = root.space_limit(1);
+    let is_without = root.decode(&first_page()).is_ok()
+        && (root.spaces(), root.space_limit(1)) == (1, 492);
+    page == limits_page() && (spaces, first, last) == (2, 100, 392) && is_without
+}
+
 /// The numbers and blocks of a root whose parts were set.
 fn is_set<A: Allocator>(root: &Root<A>) -> bool {
     (root.number(), root.epoch(), root.newest()) == (9, 4, [7, 8])
@@ -138,7 +170,8 @@ const FIRST_WRONG: &[Row] = &[
     (0, 0, 0),
     (7, 0, 0),
     (8, 1, 8),
-    (8, 3, 8),
+    (8, 3, 20),
+    (8, 4, 8),
     (9, 1, 8),
     (10, 8, 10),
     (12, 1, 12),
@@ -178,6 +211,26 @@ const LATER_WRONG: &[Row] = &[
     (75, 1, 74),
 ];
 
+/// Counts and limits: two of them, together as many pages as the drive has, and zeros after them.
+const LIMITS_WRONG: &[Row] = &[
+    (8, 2, 20),
+    (20, 0, 20),
+    (20, 1, 68),
+    (20, 3, 72),
+    (20, 8, 72),
+    (20, 9, 20),
+    (21, 1, 20),
+    (64, 0, 64),
+    (64, 101, 68),
+    (65, 2, 64),
+    (68, 137, 68),
+    (72, 1, 72),
+    (95, 1, 92),
+    (96, 1, 96),
+    (98, 2, 98),
+    (100, 1, 100),
+];
+
 /// Whether each of these changes of a page is found.
 fn are_found<A: Allocator + Copy>(alloc: A, shape: &Shape, page: &[u8; 512], rows: &[Row]) -> bool {
     for (place, byte, at) in rows {
@@ -199,14 +252,24 @@ fn reads<A: Allocator + Clone>(alloc: A, shape: &Shape, is_first: bool) -> bool 
     later_goes_both_ways(&mut root, shape)
 }
 
+/// A root without numbers is read with limits.
+fn reads_limits<A: Allocator + Clone>(alloc: A, shape: &Shape) -> bool {
+    match Root::new(alloc, *shape) {
+        Ok(mut root) => limits_go_both_ways(&mut root, shape),
+        Err(_) => false,
+    }
+}
+
 /// Roots are written and read, their parts are set, and each field in turn is wrong.
 fn are_roots<A: Allocator + Copy>(alloc: A, shape: &Shape) -> bool {
     writes_first(shape)
         && reads(alloc, shape, true)
         && reads(alloc, shape, false)
+        && reads_limits(alloc, shape)
         && sets_parts(alloc, shape)
         && are_found(alloc, shape, &first_page(), FIRST_WRONG)
         && are_found(alloc, shape, &later_page(), LATER_WRONG)
+        && are_found(alloc, shape, &limits_page(), LIMITS_WRONG)
 }
 
 #[test]

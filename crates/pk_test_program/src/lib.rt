@@ -42,6 +42,8 @@ mod sessions;
 #[cfg(test)]
 mod space;
 #[cfg(test)]
+mod spaces;
+#[cfg(test)]
 mod steps;
 #[cfg(test)]
 mod ways;

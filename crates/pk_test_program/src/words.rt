@@ -30,16 +30,29 @@ fn run_words(rt: &impl Abort, alloc: Global, text: &str, mut flash: Flash) -> Se
 // ---- on a board without an image
 
 // Words that need no image.
-const WELL: [&str; 3] = ["make 512 16 64", "asm", "show"];
+const WELL: [&str; 6] = [
+    "make 512 16 64",
+    "make 512 16 64 100 392",
+    "make 512 16 64 492",
+    "make 512 16 64 1 1 1 1 1 1 1 485",
+    "asm",
+    "show",
+];
 
 // Words outside the table.
-const OUTSIDE: [&str; 20] = [
+const OUTSIDE: [&str; 26] = [
     "make 512 32 64",
     "make 512 16 4096",
     "make 512 16 16",
     "make 500 16 64",
     "make 0512 16 64",
     "make 512 16",
+    "make 512 16 64 0",
+    "make 512 16 64 100 0392",
+    "make 512 16 64 100 393",
+    "make 512 16 64 4294967295 493",
+    "make 512 16 64 1 1 1 1 1 1 1 1 1",
+    "make 512 8 1861 2",
     "serve",
     "serve 16385",
     "serve 36 36",

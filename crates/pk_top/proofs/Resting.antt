@@ -16,7 +16,7 @@ use Rattle.pk_top.specs.Words.{Word, make, serve, ask, assemble, show}
 
 -- nothing was done
 pub rests-same_word : (word : Word) (old new : BoardState) → new ≡ old → RestsIn word old new
-rests-same_word (make shape) old new same = λ some. Rests-same old new same
+rests-same_word (make shape limits) old new same = λ some. Rests-same old new same
 rests-same_word (serve frames) old new same = tt
 rests-same_word (ask task) old new same = λ only some. Rests-same old new same
 rests-same_word assemble old new same = Rests-same old new same
@@ -51,11 +51,11 @@ rests-ask task old new status (has_image run) only some =
     Rests-then old run.loaded new (run.found.held some).0 (rests-loaded old run.loaded (Some run.shape) some run.found) (run.asks.rests only)
 
 -- an image is there
-pub rests-make : (shape : Shape) (old new : BoardState) (status : ℕ) → MakeRun shape old new status → IsSome old.shape → RestsFlash old new
-rests-make shape old new status (no_memory is same) some = Rests-same old new same
-rests-make shape old new status (not_loaded refused) some = rests-refused old new some refused.failed
-rests-make shape old new status (has_image there) some = rests-loaded old new (Some there.shape) some there.found
-rests-make shape old new status (no_image run) some =
+pub rests-make : (shape : Shape) (limits : List ℕ) (old new : BoardState) (status : ℕ) → MakeRun shape limits old new status → IsSome old.shape → RestsFlash old new
+rests-make shape limits old new status (no_memory is same) some = Rests-same old new same
+rests-make shape limits old new status (not_loaded refused) some = rests-refused old new some refused.failed
+rests-make shape limits old new status (has_image there) some = rests-loaded old new (Some there.shape) some there.found
+rests-make shape limits old new status (no_image run) some =
     let none : old.shape ≡ None = sym (run.none.held some).1 ∙ run.none.shape_is in
     absurd (never old.shape none some)
   where

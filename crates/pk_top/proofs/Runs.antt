@@ -192,7 +192,7 @@ module _ (shape : Shape) (r : ProgramRun) (is : IsRun shape r) where
 
   left_by : (word : Option Word) → word_of r.words ≡ word → Rests word r.old r.new → (m : Map) → Holds shape r.old.pages m → Left word m
   left_by None of rests m holds = left_resting None (λ m. refl) rests m holds
-  left_by (Some (make other)) of rests m holds = left_resting (Some (make other)) (λ m. refl) (rests some_shape) m holds
+  left_by (Some (make other limits)) of rests m holds = left_resting (Some (make other limits)) (λ m. refl) (rests some_shape) m holds
   left_by (Some assemble) of rests m holds = left_resting (Some assemble) (λ m. refl) rests m holds
   left_by (Some show) of rests m holds = left_resting (Some show) (λ m. refl) rests m holds
   left_by (Some (serve frames)) of rests m holds =
@@ -215,4 +215,4 @@ kept_through shape start (r ∷ runs) end run m holds =
     (rest.0, rest.1, (one.0, one.1, one.2, rest.2))
 
 pub kept_through_runs : KeptThroughRuns
-kept_through_runs shape made runs end is run = kept_through shape made.pages runs end run empty is.holds
+kept_through_runs shape limits made runs end is run = kept_through shape made.pages runs end run empty is.holds

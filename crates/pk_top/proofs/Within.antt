@@ -8,11 +8,12 @@ use Rattle.pk_asm.specs.Words.{key_of}
 use Rattle.pk_words.specs.Question.{put, get, delete, has, stat}
 use Rattle.pk_wordrun.specs.Seen.{IsShortTask}
 use Rattle.pk_wordrun.specs.Tasks.{Task, list, generate}
-use Rattle.pk_top.specs.Words.{Word, make, serve, ask, question, assemble, show, make_if, make_of, serve_with, serve_of, put_with, put_of, only_key, list_word, alone, generate_of, plain_of, word_of}
+use Rattle.pk_top.specs.Words.{Word, make, serve, ask, question, assemble, show, limits_in_words, make_if, make_of, serve_with, serve_of, put_with, put_of, only_key, list_word, alone, generate_of}
+use Rattle.pk_top.specs.Words.{plain_of, word_of}
 
 -- the frames of a word are not too many
 abbrev WordWithin : Word → Type 0
-WordWithin (make shape) = Unit {0}
+WordWithin (make shape limits) = Unit {0}
 WordWithin (serve frames) = frames ≤ 16384
 WordWithin (ask task) = IsShortTask task
 WordWithin assemble = Unit {0}
@@ -36,18 +37,17 @@ within_bind (Some a) f all = all a
 
 -- ---- the forms
 
-make_if-within : (p n m : Option ℕ) → Within (make_if p n m)
-make_if-within (Some p) (Some n) (Some m) = within_map make _ (λ shape. tt)
-make_if-within (Some p) (Some n) None = tt
-make_if-within (Some p) None m = tt
-make_if-within None n m = tt
+make_if-within : (words : List (List ℕ)) (p n m : Option ℕ) → Within (make_if words p n m)
+make_if-within words (Some p) (Some n) (Some m) = within_bind _ _ (λ shape. within_bind (limits_in_words shape words) _ (λ limits. tt))
+make_if-within words (Some p) (Some n) None = tt
+make_if-within words (Some p) None m = tt
+make_if-within words None n m = tt
 
 make-within : (operands : List (List ℕ)) → Within (make_of operands)
 make-within [] = tt
 make-within (p ∷ []) = tt
 make-within (p ∷ n ∷ []) = tt
-make-within (p ∷ n ∷ m ∷ []) = make_if-within (number_of p) (number_of n) (number_of m)
-make-within (p ∷ n ∷ m ∷ x ∷ more) = tt
+make-within (p ∷ n ∷ m ∷ words) = make_if-within words (number_of p) (number_of n) (number_of m)
 
 serve_if-within : (frames : ℕ) (b : Bool) → nat_le frames 16384 ≡ b → Within (if b then Some (serve frames) else None)
 serve_if-within frames true few = grind (arith, nat_tests, few)

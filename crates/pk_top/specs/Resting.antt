@@ -7,7 +7,7 @@ use Rattle.pk_top.specs.Words.{Word, make, serve, ask, assemble, show}
 
 -- `make` and the words that only ask do so on a board that has an image, and the words that serve or ask no drive do on each board.
 abbrev pub RestsIn : Word → BoardState → BoardState → Type 0
-RestsIn (make shape) old new = IsSome old.shape → RestsFlash old new
+RestsIn (make shape limits) old new = IsSome old.shape → RestsFlash old new
 RestsIn (serve frames) old new = Unit {0}
 RestsIn (ask task) old new = only_asks task ≡ true → IsSome old.shape → RestsFlash old new
 RestsIn assemble old new = RestsFlash old new

@@ -50,7 +50,7 @@ abbrev pub LeavesMap : Option Word → Shape → ProgramRun → Map → Map → 
 LeavesMap (Some (serve frames)) shape r m m' =
     (kept : Kept shape (terms_at shape r.old.pages frames) m (script r.input).0 (rise r.old.read_faults r.new.read_faults) r.posted r.left) × (m' ≡ kept.map_left)
 LeavesMap (Some (ask task)) shape r m m' = KeptTask task (meter (behind_opening shape WORD_FRAMES r.old)) (meter r.new) shape (terms_at shape r.old.pages WORD_FRAMES) m r.left r.posted
-LeavesMap (Some (make other)) shape r m m' = m' ≡ m
+LeavesMap (Some (make other limits)) shape r m m' = m' ≡ m
 LeavesMap (Some assemble) shape r m m' = m' ≡ m
 LeavesMap (Some show) shape r m m' = m' ≡ m
 LeavesMap None shape r m m' = m' ≡ m
@@ -69,5 +69,5 @@ RunOn shape start (r ∷ runs) end = IsRun shape r × (r.old.pages ≡ start) ×
 -- last map.
 abbrev pub KeptThroughRuns : Type 0
 KeptThroughRuns =
-    (shape : Shape) (made : BoardState) (runs : List ProgramRun) (end : Flash) → IsMade shape made → RunOn shape made.pages runs end
+    (shape : Shape) (limits : List ℕ) (made : BoardState) (runs : List ProgramRun) (end : Flash) → IsMade shape limits made → RunOn shape made.pages runs end
     → (m : Map) × Holds shape end m × KeptThrough shape empty runs m

@@ -5,7 +5,7 @@ use Rattle.pk_top.specs.declared.word.Word.{Word}
 use Rattle.pk_top.specs.declared.word.Word.TheVariants.{Make, Serve, Ask, Assemble, Show}
 
 abbrev pub seen : Word → spec.Word
-seen (Make shape) = spec.make shape
+seen (Make limits) = spec.make limits.shape limits.each
 seen (Serve frames) = spec.serve frames
 seen (Ask task) = spec.ask (seen_task task)
 seen Assemble = spec.assemble

@@ -1,7 +1,8 @@
 -- The words of the program, and what each form of them asks for.
 use Rattle.std.specs.Prelude.{ℕ, Bool, true, false, nat_le, nat_lt, length, if◌then◌else◌, List, [], ◌∷◌, Option, Some, None, option_map, option_and_then, codes, bytes_eq}
 use Rattle.std.specs.Result.{result_ok}
-use Rattle.pk_base.specs.Shape.{Shape, checked}
+use Rattle.pk_base.specs.Shape.{Shape, checked, limit}
+use Rattle.pk_space.specs.Limits.{limits_checked}
 use Rattle.pk_nvme.specs.Text.{number_of, bytes_of}
 use Rattle.pk_asm.specs.Words.{key_of}
 use Rattle.pk_words.specs.Question.{Question, put, get, delete, has, stat}
@@ -10,7 +11,8 @@ use Rattle.pk_top.specs.declared.words.TheConstants.{MOST_FRAMES, VALUE_LENGTHS}
 
 -- what the words ask for
 pub data Word : Type 0 where
-  make : Shape → Word
+  -- an image of this shape, and the limits of its namespaces
+  make : Shape → List ℕ → Word
   serve : ℕ → Word
   ask : Task → Word
   assemble : Word
@@ -24,19 +26,35 @@ infixl 10 ◌>>=◌
 abbrev pub ◌>>=◌ : {A B : Type 0} → Option A → (A → Option B) → Option B
 o >>= f = option_and_then f o
 
--- an allowed shape
-abbrev pub make_with : ℕ → ℕ → ℕ → Option Word
-make_with page_bytes block_pages blocks =
-    option_map make (result_ok (checked (record { page_bytes = page_bytes; block_pages = block_pages; blocks = blocks })))
+-- the numbers that these words are
+abbrev pub numbers_of : List (List ℕ) → Option (List ℕ)
+numbers_of [] = Some []
+numbers_of (w ∷ ws) = do
+  n ← number_of w
+  ns ← numbers_of ws
+  Some (n ∷ ns)
 
-abbrev pub make_if : Option ℕ → Option ℕ → Option ℕ → Option Word
-make_if (Some page_bytes) (Some block_pages) (Some blocks) = make_with page_bytes block_pages blocks
-make_if (Some page_bytes) (Some block_pages) None = None
-make_if (Some page_bytes) None blocks = None
-make_if None block_pages blocks = None
+-- the limits of namespaces that these words are, if a drive of the shape may have them; the one limit of the shape if there is no word
+abbrev pub limits_in_words : Shape → List (List ℕ) → Option (List ℕ)
+limits_in_words shape [] = Some (limit shape ∷ [])
+limits_in_words shape (w ∷ ws) = numbers_of (w ∷ ws) >>= λ limits. result_ok (limits_checked shape limits)
+
+module _ (words : List (List ℕ)) where
+  -- an allowed shape, and the limits that these words are
+  abbrev pub make_with : ℕ → ℕ → ℕ → Option Word
+  make_with page_bytes block_pages blocks = do
+    shape ← result_ok (checked (record { page_bytes = page_bytes; block_pages = block_pages; blocks = blocks }))
+    limits ← limits_in_words shape words
+    Some (make shape limits)
+
+  abbrev pub make_if : Option ℕ → Option ℕ → Option ℕ → Option Word
+  make_if (Some page_bytes) (Some block_pages) (Some blocks) = make_with page_bytes block_pages blocks
+  make_if (Some page_bytes) (Some block_pages) None = None
+  make_if (Some page_bytes) None blocks = None
+  make_if None block_pages blocks = None
 
 abbrev pub make_of : List (List ℕ) → Option Word
-make_of (p ∷ n ∷ m ∷ []) = make_if (number_of p) (number_of n) (number_of m)
+make_of (p ∷ n ∷ m ∷ limits) = make_if limits (number_of p) (number_of n) (number_of m)
 make_of _ = None
 
 abbrev pub serve_with : ℕ → Option Word
@@ -100,7 +118,7 @@ word_of (name ∷ operands) = if bytes_eq name (codes "put") then put_of operand
 
 -- with how many frames a word serves an input, if it serves one
 abbrev pub frames_in : Word → Option ℕ
-frames_in (make shape) = None
+frames_in (make shape limits) = None
 frames_in (serve frames) = Some frames
 frames_in (ask task) = None
 frames_in assemble = None

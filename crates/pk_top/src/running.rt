@@ -1,5 +1,5 @@
 //! The run of the program.
-ghost use Rattle.std.specs.Prelude.{◌≡◌, ◌≢◌, ◌≤◌, ◌⊎◌, ℕ, None, Some, map};
+ghost use Rattle.std.specs.Prelude.{◌≡◌, ◌≢◌, ◌≤◌, ◌⊎◌, ℕ, List, None, Some, map};
 ghost use Rattle.pk_base.specs.Shape.{Shape as Form};
 ghost use Rattle.pk_top.specs.Words as spec;
 ghost use Rattle.pk_top.specs.declared.status.TheConstants.Status.{DONE, WORDS, MEMORY};
@@ -42,17 +42,17 @@ pub fn run<B: Board>(alloc: Global, words: &[&str], board: &mut B) -> Status
     ensures no_words { spec.word_of (map (λ w. w.now) words.now) ≡ None
         → (B.state board.new ≡ B.state board.old) × ((result.0 ≡ WORDS.0) ⊎ (result.0 ≡ MEMORY.0)) }
     ensures tells { (result.0 ≡ WORDS.0) ⊎ Tells (B.state board.old) (B.state board.new) result.0 }
-    ensures memory { ((shape : Form)
-        → spec.word_of (map (λ w. w.now) words.now) ≢ Some (spec.make shape)) → result.0 ≡ MEMORY.0
-        → Untouched (B.state board.old) (B.state board.new) }
+    ensures memory { ((shape : Form) → (limits : List ℕ)
+        → spec.word_of (map (λ w. w.now) words.now) ≢ Some (spec.make shape limits))
+        → result.0 ≡ MEMORY.0 → Untouched (B.state board.old) (B.state board.new) }
 
     // The words that touch the flash.
-    ensures makes { (shape : Form)
-        → spec.word_of (map (λ w. w.now) words.now) ≡ Some (spec.make shape)
-        → MakeRun shape (B.state board.old) (B.state board.new) result.0 }
-    ensures made { (shape : Form)
-        → spec.word_of (map (λ w. w.now) words.now) ≡ Some (spec.make shape) → result.0 ≡ DONE.0
-        → IsMade shape (B.state board.new) }
+    ensures makes { (shape : Form) → (limits : List ℕ)
+        → spec.word_of (map (λ w. w.now) words.now) ≡ Some (spec.make shape limits)
+        → MakeRun shape limits (B.state board.old) (B.state board.new) result.0 }
+    ensures made { (shape : Form) → (limits : List ℕ)
+        → spec.word_of (map (λ w. w.now) words.now) ≡ Some (spec.make shape limits)
+        → result.0 ≡ DONE.0 → IsMade shape limits (B.state board.new) }
     ensures serves { (frames : ℕ)
         → spec.word_of (map (λ w. w.now) words.now) ≡ Some (spec.serve frames)
         → ServeRun frames (B.state board.old) (B.state board.new) result.0 }
@@ -92,12 +92,12 @@ fn obey<B: Board>(alloc: Global, word: Word, board: &mut B) -> Status
 
     // The status and its cause.
     ensures tells { Tells (B.state board.old) (B.state board.new) result.0 }
-    ensures memory { ((shape : Form) → seen word ≢ spec.make shape) → result.0 ≡ MEMORY.0
-        → Untouched (B.state board.old) (B.state board.new) }
+    ensures memory { ((shape : Form) → (limits : List ℕ) → seen word ≢ spec.make shape limits)
+        → result.0 ≡ MEMORY.0 → Untouched (B.state board.old) (B.state board.new) }
 
     // The words that touch the flash.
-    ensures makes { (shape : Form) → seen word ≡ spec.make shape
-        → MakeRun shape (B.state board.old) (B.state board.new) result.0 }
+    ensures makes { (shape : Form) → (limits : List ℕ) → seen word ≡ spec.make shape limits
+        → MakeRun shape limits (B.state board.old) (B.state board.new) result.0 }
     ensures serves { (frames : ℕ) → seen word ≡ spec.serve frames
         → ServeRun frames (B.state board.old) (B.state board.new) result.0 }
     ensures asks { (task : Task) → seen word ≡ spec.ask task
@@ -111,7 +111,7 @@ fn obey<B: Board>(alloc: Global, word: Word, board: &mut B) -> Status
     ensures rests { RestsIn (seen word) (B.state board.old) (B.state board.new) }
 {
     match word {
-        Word::Make(shape) => make(alloc, shape, board),
+        Word::Make(limits) => make(alloc, &limits, board),
         Word::Serve(frames) => serve(alloc, frames, board),
         Word::Ask(task) => ask(alloc, task, board),
         Word::Assemble => assemble(alloc, board),

@@ -1,13 +1,14 @@
 //! The words of the program.
-ghost use Rattle.std.specs.Prelude.{◌≡◌, IfOk, map, option_map, bytes_eq};
+ghost use Rattle.std.specs.Prelude.{◌≡◌, ◌≤◌, Some, None, IfOk, IfSome, length, take, map, option_map, bytes_eq, if◌then◌else◌};
 ghost use Rattle.pk_top.specs.Words as spec;
 ghost use Rattle.pk_top.specs.Texts.{seen};
 ghost use Rattle.pk_words.specs.Question.{get, delete, has, seen as seen_question};
 
 use crate::word::Word;
 use pk_asm::{bytes_word, key, number};
-use pk_base::{Key, Shape};
+use pk_base::{Key, MOST_SPACES, Shape};
 use pk_nvme::Bytes;
+use pk_space::Limits;
 use pk_wordrun::{Series, Task};
 use pk_words::Question;
 use std::alloc::{AllocError, Global};
@@ -21,23 +22,74 @@ pub fn is(word: &[u8], text: &[u8]) -> bool
 /// Most frames of a drive.
 pub const MOST_FRAMES: u32 = 16384;
 
-/// The image of a shape that is allowed.
-fn make_with(page_bytes: u32, block_pages: u32, blocks: u32) -> Option<Word>
-    ensures { option_map seen result ≡ spec.make_with page_bytes block_pages blocks }
+/// The most words of limits.
+const MOST_LIMITS: usize = MOST_SPACES as usize;
+
+/// Reads words as numbers; false if one of them is none.
+fn read_numbers(words: &[&str], into: &mut [u32]) -> bool
+    requires { length words.now ≤ length into.old }
+    ensures numbers { (if result then Some (take (length words.now) into.new) else None)
+        ≡ spec.numbers_of (map (λ w. w.now) words.now) }
+    ensures len { length into.new ≡ length into.old }
 {
-    match Shape::new(page_bytes, block_pages, blocks) {
-        Ok(shape) => Some(Word::Make(shape)),
+    for i in 0..words.len() {
+        match number(words[i].as_bytes()) {
+            Some(n) => into[i] = n,
+            None => return false,
+        }
+    }
+    true
+}
+
+/// The limits of namespaces that these words are; the one limit of the shape if there is no word.
+fn limits(shape: &Shape, words: &[&str]) -> Option<Limits>
+    ensures each { option_map (λ l. l.each) result
+        ≡ spec.limits_in_words shape.now (map (λ w. w.now) words.now) }
+    ensures shape { IfSome result (λ l. l.shape ≡ shape.now) }
+{
+    if words.is_empty() {
+        return Some(Limits::whole(shape));
+    }
+    if words.len() > MOST_LIMITS {
+        return None;
+    }
+    let mut each = [0u32; MOST_LIMITS];
+    if !read_numbers(words, &mut each) {
+        return None;
+    }
+    match Limits::new(shape, &each[..words.len()]) {
+        Ok(limits) => Some(limits),
         Err(_) => None,
     }
 }
 
-fn make_if(page_bytes: Option<u32>, block_pages: Option<u32>, blocks: Option<u32>) -> Option<Word>
-    ensures { option_map seen result ≡ spec.make_if page_bytes block_pages blocks }
+/// The image of a shape that is allowed, with the limits of its namespaces.
+fn make_with(page_bytes: u32, block_pages: u32, blocks: u32, words: &[&str]) -> Option<Word>
+    ensures { option_map seen result
+        ≡ spec.make_with (map (λ w. w.now) words.now) page_bytes block_pages blocks }
+{
+    match Shape::new(page_bytes, block_pages, blocks) {
+        Ok(shape) => match limits(&shape, words) {
+            Some(limits) => Some(Word::Make(limits)),
+            None => None,
+        },
+        Err(_) => None,
+    }
+}
+
+fn make_if(
+    page_bytes: Option<u32>,
+    block_pages: Option<u32>,
+    blocks: Option<u32>,
+    words: &[&str],
+) -> Option<Word>
+    ensures { option_map seen result
+        ≡ spec.make_if (map (λ w. w.now) words.now) page_bytes block_pages blocks }
 {
     match page_bytes {
         Some(page_bytes) => match block_pages {
             Some(block_pages) => match blocks {
-                Some(blocks) => make_with(page_bytes, block_pages, blocks),
+                Some(blocks) => make_with(page_bytes, block_pages, blocks, words),
                 None => None,
             },
             None => None,
@@ -46,17 +98,19 @@ fn make_if(page_bytes: Option<u32>, block_pages: Option<u32>, blocks: Option<u32
     }
 }
 
+/// An image: three numbers of its shape, and after them the limits of its namespaces, if any.
 fn make(operands: &[&str]) -> Option<Word>
     ensures { option_map seen result ≡ spec.make_of (map (λ w. w.now) operands.now) }
 {
-    if operands.len() != 3 {
-        return None;
+    match operands {
+        [page_bytes, block_pages, blocks, words @ ..] => make_if(
+            number(page_bytes.as_bytes()),
+            number(block_pages.as_bytes()),
+            number(blocks.as_bytes()),
+            words,
+        ),
+        _ => None,
     }
-    make_if(
-        number(operands[0].as_bytes()),
-        number(operands[1].as_bytes()),
-        number(operands[2].as_bytes()),
-    )
 }
 
 fn serve(operands: &[&str]) -> Option<Word>

@@ -26,9 +26,9 @@ pub returns-in-Ok-Some-clause-made : goal.returns-in-Ok-Some-clause-made
 returns-in-Ok-Some-clause-made g c =
     let words = map (λ w. w.now) c.args.words.now in
     let T : Option Word → Type 0 = λ o. option_map seen o ≡ spec.word_of words in
-    λ shape asked.
-    let same : Some (seen c.in-Ok-Some.word) ≡ Some (spec.make shape) = subst T c.in-Ok-Some.field-0-is c.in-Ok-Some.ensures ∙ asked in
-    made_drive shape (g.B.Nand.state c.args.board.now) (g.B.Nand.state c.obey.new.board) c.obey.result.0 (c.obey.ensures.makes shape (cc))
+    λ shape limits asked.
+    let same : Some (seen c.in-Ok-Some.word) ≡ Some (spec.make shape limits) = subst T c.in-Ok-Some.field-0-is c.in-Ok-Some.ensures ∙ asked in
+    made_drive shape limits (g.B.Nand.state c.args.board.now) (g.B.Nand.state c.obey.new.board) c.obey.result.0 (c.obey.ensures.makes shape limits (cc))
 
 pub returns-in-Ok-Some-clause-serves_whole : goal.returns-in-Ok-Some-clause-serves_whole
 returns-in-Ok-Some-clause-serves_whole g c =

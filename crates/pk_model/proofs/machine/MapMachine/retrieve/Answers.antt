@@ -1,4 +1,4 @@
-use Rattle.std.proofs.Common.{◌≡◌, ◌∙◌, sym, ap, refl, List, [], ℕ, length, min, take, true, false, subst}
+use Rattle.std.proofs.Common.{◌≡◌, ◌∙◌, sym, ap, refl, List, [], ℕ, length, min, take, true, false, subst, arith}
 use Rattle.std.proofs.lemmas.Result.{IfOk-weaker}
 use Rattle.std.specs.Option.{option_copied}
 use Rattle.std.specs.FinMap.{get, contains_key}
@@ -24,7 +24,7 @@ key-requires-clause-most c = (key_sized 1 c.args.self.now.shape (command_of c.ar
 pub key-requires-clause-space : goal.key-requires-clause-space
 key-requires-clause-space c =
     let spaced = key_spaced 1 c.args.self.now.shape (command_of c.args.request.now []) Retrieve (λ n k. refl) (ap op_of c.requires.opcode) (c.requires.passed []) in
-    (spaced.some, spaced.most)
+    (spaced.some, omega (arith, spaced.most))
 
 pub returns-in-Some : goal.returns-in-Some
 returns-in-Some c =

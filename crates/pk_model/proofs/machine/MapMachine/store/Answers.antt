@@ -24,7 +24,7 @@ key-key-requires-clause-most c = (key_sized 1 c.args.self.now.shape (command_of 
 pub key-key-requires-clause-space : goal.key-key-requires-clause-space
 key-key-requires-clause-space c =
     let spaced = key_spaced 1 c.args.self.now.shape (command_of c.args.request.now []) Store (λ n k. refl) (ap op_of c.requires.opcode) (c.requires.passed []) in
-    (spaced.some, spaced.most)
+    (spaced.some, omega (arith, spaced.most))
 
 pub charge-requires : goal.charge-requires
 charge-requires c =

@@ -1,10 +1,20 @@
 use Rattle.std.proofs.Common.{◌≡◌, ◌∙◌, ◌+◌, ◌*◌, ◌<◌, ◌∷◌, [], List, ℕ, map, ap, sym, subst, arith, length, take, drop, get_or, refl, Some}
 use Rattle.pk_base.specs.Shape.{Shape, IsShape, run_blocks, meta_blocks}
-use Rattle.pk_rootfmt.specs.Root.{parts, u16s_at}
+use Rattle.pk_rootfmt.specs.Root.{parts, u16s_at, page_limits}
+use Rattle.pk_base.specs.Fields.{u16_at}
 use Rattle.pk_rootfmt.specs.Held.{Held, total}
 use Rattle.pk_rootfmt.proofs.RunLemmas.{total_small, whole}
-use Rattle.pk_rootfmt.proofs.FillLemmas.{sizes_at, journal_facts, sizes_fit, sizes_room, filled}
+use Rattle.pk_rootfmt.proofs.FillLemmas.{sizes_at, journal_facts, sizes_fit, sizes_room, filled, limit_facts, limits_few}
 use Rattle.pk_rootfmt.proofs.root.Root.fill.Goals as goal
+
+pub overflow_add-from : goal.overflow_add-from
+overflow_add-from g c =
+    let shape : Shape = c.args.self.now.shape in
+    let page : List ℕ = c.args.page.now in
+    let same : c.self.inside.shape ≡ shape = ap (λ (h : Held). h.shape) c.self.view_is in
+    let is : IsShape shape = subst IsShape same c.known.ensures in
+    let fits : (i : ℕ) → get_or page i 0 < 256 = λ i. omega (arith, c.type_inv.page i) in
+    omega (arith, sizes_room shape page fits c.requires.sized is c.requires.passes, c.get_u16-journal.ensures, c.list_from-from.ensures, c.requires.sized, is.page_most)
 
 pub read_blocks-requires-clause-there : goal.read_blocks-requires-clause-there
 read_blocks-requires-clause-there g c =
@@ -13,7 +23,7 @@ read_blocks-requires-clause-there g c =
     let same : c.self.inside.shape ≡ shape = ap (λ (h : Held). h.shape) c.self.view_is in
     let is : IsShape shape = subst IsShape same c.known.ensures in
     let fits : (i : ℕ) → get_or page i 0 < 256 = λ i. omega (arith, c.type_inv.page i) in
-    omega (arith, sizes_room shape page fits c.requires.sized is c.requires.passes, c.get_u16-journal.ensures)
+    omega (arith, sizes_room shape page fits c.requires.sized is c.requires.passes, c.get_u16-journal.ensures, c.list_from-from.ensures)
 
 pub read_blocks-requires-clause-room : goal.read_blocks-requires-clause-room
 read_blocks-requires-clause-room g c =
@@ -44,7 +54,7 @@ read_blocks-requires-2-clause-there g c =
     let fits : (i : ℕ) → get_or page i 0 < 256 = λ i. omega (arith, c.type_inv.page i) in
     let sizes_is : c.sizes_of-sizes.result ≡ sizes_at shape page = c.sizes_of-sizes.ensures
     ∙ (λ i. map (run_blocks (same i)) (c.get_u32.ensures i ∷ c.get_u32-2.ensures i ∷ c.get_u32-3.ensures i ∷ c.get_u32-4.ensures i ∷ [])) in
-    omega (arith, sizes_room shape page fits c.requires.sized is c.requires.passes, c.get_u16-journal.ensures, c.total.ensures, ap total sizes_is)
+    omega (arith, sizes_room shape page fits c.requires.sized is c.requires.passes, c.get_u16-journal.ensures, c.total.ensures, ap total sizes_is, c.list_from-from.ensures)
 
 pub read_blocks-requires-2-clause-room : goal.read_blocks-requires-2-clause-room
 read_blocks-requires-2-clause-room g c =
@@ -75,6 +85,8 @@ invariant_of-self g c =
       four = ap length sizes_is;
       room = ap length (whole c.self.inside.blocks.len c.read_blocks-2.new.into c.self.inside.blocks.items sized (omega arith)) ∙ sized ∙ c.self.invariant.room;
       fits = omega (arith, sizes_fit shape page fits c.requires.sized is c.requires.passes, ap total sizes_is, ap meta_blocks same);
+      limits_room = ap length c.limits_in-self-inside.ensures;
+      limits_fit = omega (arith, limits_few shape page fits c.requires.sized is c.requires.passes, c.spaces_of-self-inside.ensures);
     }
 
 pub returns-clause-root : goal.returns-clause-root
@@ -90,9 +102,14 @@ returns-clause-root g c =
     let kept = whole c.self.inside.blocks.len c.read_blocks-2.new.into c.self.inside.blocks.items sized (omega arith) in
     let journal_is = c.get_u16-journal.ensures in
     let count : c.total.result ≡ total (sizes_at shape page) = c.total.ensures ∙ ap total sizes_is in
-    let epochs_read = subst (λ (k : ℕ). take k c.read_blocks.new.into ≡ u16s_at k (drop 64 page)) journal_is c.read_blocks.ensures.front in
-    let blocks_read = subst (λ (n : ℕ). take n c.read_blocks-2.new.into ≡ u16s_at n (drop (64 + 2 * c.get_u16-journal.result) page)) count c.read_blocks-2.ensures.front in
-    let runs_read = subst (λ (k : ℕ). take (total (sizes_at shape page)) c.read_blocks-2.new.into ≡ u16s_at (total (sizes_at shape page)) (drop (64 + 2 * k) page)) journal_is blocks_read in
+    let from_is = c.list_from-from.ensures in
+    let epochs_read = subst (λ (f : ℕ). take (u16_at page 18) c.read_blocks.new.into ≡ u16s_at (u16_at page 18) (drop f page)) from_is
+    (subst (λ (k : ℕ). take k c.read_blocks.new.into ≡ u16s_at k (drop c.list_from-from.result page)) journal_is c.read_blocks.ensures.front) in
+    let blocks_read = subst (λ (n : ℕ). take n c.read_blocks-2.new.into ≡ u16s_at n (drop (c.list_from-from.result + 2 * c.get_u16-journal.result) page)) count c.read_blocks-2.ensures.front in
+    let runs_read = subst (λ (f : ℕ). take (total (sizes_at shape page)) c.read_blocks-2.new.into ≡ u16s_at (total (sizes_at shape page)) (drop (f + 2 * u16_at page 18) page)) from_is
+    (subst (λ (k : ℕ). take (total (sizes_at shape page)) c.read_blocks-2.new.into ≡ u16s_at (total (sizes_at shape page)) (drop (c.list_from-from.result + 2 * k) page)) journal_is blocks_read) in
+    let limits_read : take c.spaces_of-self-inside.result c.limits_in-self-inside.result ≡ page_limits page =
+    (λ i. take (c.spaces_of-self-inside.ensures i) (c.limits_in-self-inside.ensures i)) ∙ (limit_facts shape page fits c.requires.sized is c.requires.passes).kept in
     filled shape page fits c.requires.sized is c.requires.passes c.read_blocks.new.into c.read_blocks-2.new.into epochs_read runs_read
     ∙ (λ i. Some (record {
       number = sym c.get_u64-self-inside.ensures i;
@@ -101,4 +118,5 @@ returns-clause-root g c =
       older = drop 2 (take (sym journal_is i) c.read_blocks.new.into);
       counts = sym c.get_u32.ensures i ∷ sym c.get_u32-2.ensures i ∷ sym c.get_u32-3.ensures i ∷ sym c.get_u32-4.ensures i ∷ [];
       runs = parts (sym sizes_is i) (sym kept i);
+      limits = sym limits_read i;
     }))

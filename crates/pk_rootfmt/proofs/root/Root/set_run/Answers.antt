@@ -33,4 +33,6 @@ invariant_of-self g c =
       four = ap length c.put_run.ensures.sizes ∙ length-set inside.sizes i (length new) ∙ c.self.invariant.four;
       room = ap length (whole inside.blocks.len c.put_run.new.items inside.blocks.items sized (omega arith)) ∙ sized ∙ c.self.invariant.room;
       fits = omega (arith, ap total c.put_run.ensures.sizes, own, joined);
+      limits_room = c.self.invariant.limits_room;
+      limits_fit = c.self.invariant.limits_fit;
     }

@@ -1,0 +1,65 @@
+-- The limits that the root of a drive has.
+use Rattle.std.proofs.Common.{◌≡◌, ℕ, ◌+◌, ◌-◌, ◌*◌, ◌≤◌, refl, sym, ap, ◌∙◌, arith, Bool, true, false, List, [], ◌∷◌, length, slice_index, nat_le, nat_lt, ◌==◌, ◌||◌, not, sum, le→leb, if◌then◌else◌}
+use Rattle.std.proofs.Common.{Some}
+use Rattle.std.specs.Prelude.{bytes_eq}
+use Rattle.std.proofs.lemmas.Bool.Decides.{nat_tests}
+use Rattle.pk_base.specs.Shape.{Shape, limit}
+use Rattle.pk_base.specs.Page.{Flash, page_at}
+use Rattle.pk_base.specs.declared.sizes.TheConstants.{MOST_SPACES}
+use Rattle.pk_base.proofs.Logic.{is_true}
+use Rattle.pk_space.specs.Limits.{AcceptsLimits, has_zero, has_no_room}
+use Rattle.pk_rootfmt.specs.Root.{fit_in, has_limits_room, are_limits, limits_of, written_limits}
+use Rattle.pk_rootfmt.specs.Held.{first_with}
+use Rattle.pk_rootfmt.specs.Newest.{newest_root, limits_if}
+use Rattle.pk_rootfmt.proofs.LimitLemmas.{by_test}
+use Rattle.pk_rootfmt.proofs.PageLemmas.{bytes_same, same_bytes}
+
+-- limits that a drive may have are those of a root, unless they are the one limit of the shape
+fits : (left : ℕ) (ls : List ℕ) → has_zero ls ≡ false → sum ls ≤ left → fit_in left ls ≡ true
+fits left [] no_zero within = refl
+fits left (l ∷ ls) no_zero within =
+    let parts = neither (l == 0) (has_zero ls) no_zero in
+    let some : nat_le 1 l ≡ true = not_zero l parts.0 in
+    let less : nat_le l left ≡ true = is_true (nat_le l left) (le→leb l left (omega (arith, within))) in
+    let rest : fit_in (left - l) ls ≡ true = fits (left - l) ls parts.1 (omega (arith, within)) in
+    rw (some, less, rest) refl
+  where
+    neither : (a b : Bool) → (a || b) ≡ false → (a ≡ false) × (b ≡ false)
+    neither true b e = cc
+    neither false b e = (refl, e)
+
+    not_zero : (n : ℕ) → (n == 0) ≡ false → nat_le 1 n ≡ true
+    not_zero n e = grind (arith, nat_tests)
+
+pub whole_limits : (shape : Shape) (limits : List ℕ) → length limits ≡ 1 → slice_index limits 0 ≡ limit shape → [] ≡ written_limits shape limits
+whole_limits shape [] one is = absurd (omega (arith, one))
+whole_limits shape (l ∷ []) one is = rw (bytes_same (limit shape ∷ []), is) refl
+whole_limits shape (l ∷ k ∷ ls) one is = absurd (omega (arith, one))
+
+pub other_limits : (shape : Shape) (limits : List ℕ) → (length limits ≡ 1 → slice_index limits 0 ≡ limit shape → ⊥) → bytes_eq limits (limit shape ∷ []) ≡ false
+other_limits shape limits other = by_test (bytes_eq limits (limit shape ∷ [])) (bytes_eq limits (limit shape ∷ []) ≡ false)
+    (λ yes. let same = same_bytes limits (limit shape ∷ []) yes in absurd (other (ap length same) (ap (λ (ls : List ℕ). slice_index ls 0) same)))
+    (λ no. no)
+
+pub root_grammar : (shape : Shape) (limits : List ℕ) → AcceptsLimits shape limits → bytes_eq limits (limit shape ∷ []) ≡ false → are_limits shape limits ≡ true
+root_grammar shape [] accepts other = absurd (let some = accepts.some in omega (arith, some))
+root_grammar shape (l ∷ ls) accepts other =
+    let all : List ℕ = l ∷ ls in
+    let room : has_limits_room shape ≡ true = has_room (has_no_room shape) (bytes_eq all (limit shape ∷ [])) accepts.room other in
+    let few : nat_le (length all) MOST_SPACES ≡ true = is_true _ (le→leb (length all) MOST_SPACES accepts.most) in
+    let fit = fits (limit shape) all accepts.no_zero accepts.within in
+    rw (room, few, fit) refl
+  where
+    has_room : (no same : Bool) → (not no || same) ≡ true → same ≡ false → has_limits_room shape ≡ true
+    has_room no same e f = cc
+
+-- a drive has the limits that its root says
+pub limits_again : (shape : Shape) (limits : List ℕ) → 1 ≤ length limits → limits_of shape (written_limits shape limits) ≡ limits
+limits_again shape [] some = absurd (omega (arith, some))
+limits_again shape (l ∷ ls) some = by_test (bytes_eq (l ∷ ls) (limit shape ∷ [])) (limits_of shape (written_limits shape (l ∷ ls)) ≡ l ∷ ls)
+    (λ yes. ap (λ (b : Bool). limits_of shape (if b then [] else l ∷ ls)) yes ∙ sym (same_bytes (l ∷ ls) (limit shape ∷ []) yes))
+    (λ no. ap (λ (b : Bool). limits_of shape (if b then [] else l ∷ ls)) no)
+
+pub limits_read : (shape : Shape) (flash : Flash) (limits : List ℕ) → newest_root shape (page_at flash) ≡ Some (0, first_with (written_limits shape limits)) → 1 ≤ length limits
+    → limits_if shape (newest_root shape (page_at flash)) ≡ limits
+limits_read shape flash limits is some = ap (limits_if shape) is ∙ limits_again shape limits some
