@@ -15,7 +15,7 @@ use Rattle.pk_nand.specs.Calls.{Rose}
 use Rattle.pk_nand.specs.Effects.{OnlyFlash, OnlyReading}
 use Rattle.pk_call.specs.Calling.{only_looks}
 use Rattle.pk_model.specs.Reading.{reading, Holds}
-use Rattle.pk_model.specs.Sight.{Sight}
+use Rattle.pk_call.specs.Sight.{Sight}
 use Rattle.pk_model.specs.Wear.{root_number, roots, is_worn}
 use Rattle.pk_call.specs.Exec.{most_installs, IsValue}
 use Rattle.pk_call.specs.Meter.{reads_after}

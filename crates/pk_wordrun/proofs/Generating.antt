@@ -21,8 +21,8 @@ use Rattle.pk_call.specs.Exec.{most_installs}
 use Rattle.pk_call.specs.Meter.{Meter, meter, MeteredAll}
 use Rattle.pk_call.specs.Seen.{counts_of}
 use Rattle.pk_call.specs.declared.types.Counts.{Counts}
-use Rattle.pk_model.specs.Sight as model
-use Rattle.pk_model.specs.Sight.{Sight, map_of}
+use Rattle.pk_call.specs.Sight as model
+use Rattle.pk_call.specs.Sight.{Sight, map_of}
 use Rattle.pk_model.specs.Growth.{Goes}
 use Rattle.pk_model.specs.Kept.{rise}
 use Rattle.pk_model.specs.Wear.{is_worn, roots}
