@@ -7,7 +7,7 @@ use Rattle.pk_base.specs.Fields.{u32}
 use Rattle.pk_base.specs.Shape.{Shape, limit, pinned}
 use Rattle.pk_base.specs.Page.{Flash, page_at}
 use Rattle.pk_base.specs.Map.{Map, live}
-use Rattle.pk_model.specs.Laws.{IsStorable}
+use Rattle.pk_model.specs.Laws.{IsHeldMap, IsStorable}
 use Rattle.pk_nand.specs.BoardState.{BoardState}
 use Rattle.pk_nvme.specs.Seen.{command_of}
 use Rattle.pk_rootfmt.specs.Root.{Root}
@@ -25,7 +25,7 @@ use Rattle.pk_law_steps.proofs.Untouched.{under_reads}
 use Rattle.pk_law_steps.proofs.Counting.{counts}
 use Rattle.pk_values.proofs.Standing.{total_of}
 use Rattle.pk_model.specs.Wear.{root_number, number_of}
-use Rattle.pk_model.specs.Spaces.{Terms, in_space, one_space, terms_at}
+use Rattle.pk_model.specs.Spaces.{Terms, AreInSpaces, in_space, limits_at, one_space, terms_at}
 use Rattle.pk_model.proofs.HeldMap.{map_held}
 use Rattle.pk_model.proofs.SpaceLemmas.{is_whole}
 use Rattle.pk_call.specs.Sight.{InSpace, in_space_at}
@@ -57,31 +57,32 @@ first_of d = in_space_at (spaces_of d) 1
 pub first_here : (d : Parts) (space : ℕ) → 1 ≤ space → space ≤ 1 → in_space_at (spaces_of d) space ≡ first_of d
 first_here d space some most = let is : space ≡ 1 = omega (arith, some, most) in ap (in_space_at (spaces_of d)) is
 
--- each key of the map is of it
-alone_with : (d : Parts) (shape : Shape) (flash : Flash) (top : ℕ × Root) (found : Found) (without all : Map)
-    → DriveOnFlashWith d shape flash top found without all → in_space 1 all ≡ all
-alone_with d shape flash top found without all a =
+-- its map may be a drive's
+held_with : (d : Parts) (shape : Shape) (flash : Flash) (top : ℕ × Root) (found : Found) (without all : Map)
+    → DriveOnFlashWith d shape flash top found without all → IsHeldMap shape (limits_at shape flash) all
+held_with d shape flash top found without all a =
     let storable = subst (λ (s : Shape). AllByRecursion (IsStorable s) d.log.pending) a.shape_is a.index.logs.pending_are in
-    let held = map_held shape flash d.log.pending all a.placed.is_shape a.is_flash storable (under_reads shape flash d.log.pending top found all a.pending) in
-    is_whole shape all held.is_map
+    map_held shape flash d.log.pending all a.placed.is_shape a.is_flash storable (under_reads shape flash d.log.pending top found all a.pending)
 
 counts_map : (d : Parts) (shape : Shape) (flash : Flash) (top : ℕ × Root) (found : Found) (without all : Map)
     → DriveOnFlashWith d shape flash top found without all → CountsMap shape (one_space (frames_of d) (limit shape)) 1 all (first_of d) (counts_of d)
 counts_map d shape flash top found without all a =
     let c = counts shape flash d.log.pending top found all a.placed.is_shape a.is_flash a.pending in
-    let whole : all ≡ in_space 1 all = sym (alone_with d shape flash top found without all a) in
+    let held = held_with d shape flash top found without all a in
+    let whole : all ≡ in_space 1 all = sym (is_whole shape all held.is_map) in
     record {
       live_is = total_of shape d.values d.pool (outputs_of d) flash (places found d.log.pending) a.placed ∙ sym c.live_is ∙ ap (live shape) whole;
       limit_is = ap (λ s. limit s) a.shape_is;
       keys_is = a.keys_are ∙ sym c.len_is ∙ ap len whole;
       pinned_is = a.index.levels_pinned ∙ ap (λ s. pinned s (frames_of d)) a.shape_is;
       frames_is = refl;
+      in_spaces = subst (λ (limits : List ℕ). AreInSpaces (length limits) all) (limits_are shape flash) held.in_spaces;
     }
 
 -- they are the same as if the blocks that leave were free
 counts_settled : (d : Parts) (shape : Shape) (terms : Terms) (m : Map)
     → CountsMap shape terms 1 m (first_of (settled_parts d)) (counts_of (settled_parts d)) → CountsMap shape terms 1 m (first_of d) (counts_of d)
-counts_settled d shape terms m c = record { live_is = c.live_is; limit_is = c.limit_is; keys_is = c.keys_is; pinned_is = c.pinned_is; frames_is = c.frames_is }
+counts_settled d shape terms m c = record { live_is = c.live_is; limit_is = c.limit_is; keys_is = c.keys_is; pinned_is = c.pinned_is; frames_is = c.frames_is; in_spaces = c.in_spaces }
 
 -- on the drive's own shape
 pub counts_own : (d : Parts) (board : BoardState) (a : DriveOnFlash d board.shape board.pages) → CountsMap d.log.shape (terms_of d) 1 a.all (first_of d) (counts_of d)
@@ -108,7 +109,7 @@ agrees_counts d shape flash m a read =
 -- its live pages are those of the map
 pub agrees_live : (d : Parts) (shape : Shape) (flash : Flash) (m : Map) → DriveOnFlash d (Some shape) flash → reading shape flash d.log.pending ≡ Ok m → sum d.values.live.heads ≡ live shape m
 agrees_live d shape flash m a read =
-    let one : in_space 1 m ≡ m = subst (λ (x : Map). in_space 1 x ≡ x) (read_is d shape flash m a read) (alone_with (settled_parts d) a.shape flash a.top a.found a.without a.all a.with) in
+    let one : in_space 1 m ≡ m = subst (λ (x : Map). in_space 1 x ≡ x) (read_is d shape flash m a read) (is_whole a.shape a.all (held_with (settled_parts d) a.shape flash a.top a.found a.without a.all a.with).is_map) in
     (agrees_counts d shape flash m a read).live_is ∙ ap (live shape) one
 
 -- ---- roots

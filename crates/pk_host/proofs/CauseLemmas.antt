@@ -29,7 +29,7 @@ list_cause old new from page e short (inl (a, x, is)) =
         refused = ap (λ b. if b then Ok false else Err (Refused a.status)) z;
         unread = x.unread;
         told = λ m told.
-            let s = x.answers m told in only_fault old.shape old.limit s.frames m (list_of from) ListKeys a s.left refl (list_by old.shape old.limit m from short) (λ own. refl) z s.stepped;
+            let s = x.answers m told in only_fault old.shape old.limit s.frames m (list_of from) ListKeys refl s.within.alone a s.left refl (list_by old.shape old.limit m from short) (λ own. refl) z s.stepped;
       })
     ] refl is
 
@@ -49,7 +49,7 @@ retrieve_cause old new k size e key (inl (a, x, is)) =
               unread = x.unread;
               told = λ m told.
                   let s = x.answers m told in keyed_fault old.shape old.limit s.frames m
-                  (retrieve_of k size) Retrieve a s.left refl (retrieve_by old.shape old.limit m k key size) (λ own. refl) z y s.stepped;
+                  (retrieve_of k size) Retrieve refl s.within.alone a s.left refl (retrieve_by old.shape old.limit m k key s.within.alone size) (λ own. refl) z y s.stepped;
             })
           ] refl g
     ] refl is

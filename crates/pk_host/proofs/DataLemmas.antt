@@ -19,6 +19,7 @@ use Rattle.pk_nvme.specs.Command.{Command, key, must_exist, must_be_new}
 use Rattle.pk_nvme.specs.Reply.{Reply}
 use Rattle.pk_model.specs.Answer.{check, is_namespace, is_key_length, size_fault, fault_of, early, late_of, live_after, refused, reply, reply_of, listed, fitting, list_bytes}
 use Rattle.pk_model.specs.Machine.{no_numbers}
+use Rattle.pk_model.specs.Spaces.{Terms, limit_of, in_space}
 use Rattle.pk_model.proofs.Answering.{refuses_with, serves, list_sized}
 use Rattle.pk_host.specs.Port.{room_for, room_of}
 use Rattle.pk_host.proofs.LeftLemmas.{first_none}
@@ -47,32 +48,42 @@ list_fits size ks least =
     let whole = length-append (u32 (length (fitting (min size 65536 - 4) ks))) (flat_map listed (fitting (min size 65536 - 4) ks)) in
     omega (arith, keys, whole, least)
 
-module _ (shape : Shape) (most frames : ℕ) (m : Map) (own : List ℕ) (eleven : length own ≡ 11) (c : Command) where
+-- the data of a command that is served
+served_fits : (spaces : ℕ) (shape : Shape) (most frames : ℕ) (m : Map) (own : List ℕ) → length own ≡ 11 → (c : Command) (k : Opcode) → op_of c.opcode ≡ Some k → early spaces shape c ≡ None
+    → length (reply_of shape most frames m own c (Some k)).data_bytes ≤ room_for c.size (Some k)
+served_fits spaces shape most frames m own eleven c Retrieve is passed = let n = length-take c.size (unwrap_or (get m (key c)) []) in omega (arith, n)
+served_fits spaces shape most frames m own eleven c ListKeys is passed = list_fits c.size (keys_from (key c) m) (list_sized spaces shape c is passed).least
+served_fits spaces shape most frames m own eleven c Report is passed =
+    let n = length-numbers (live shape m ∷ most ∷ len m ∷ pinned shape frames ∷ frames ∷ own) in omega (arith, n, eleven)
+served_fits spaces shape most frames m own eleven c Flush is passed = omega arith
+served_fits spaces shape most frames m own eleven c Store is passed = omega arith
+served_fits spaces shape most frames m own eleven c Delete is passed = omega arith
+served_fits spaces shape most frames m own eleven c Exist is passed = omega arith
+served_fits spaces shape most frames m own eleven c Tick is passed = omega arith
+
+module _ (shape : Shape) (terms : Terms) (m : Map) (own : List ℕ) (eleven : length own ≡ 11) (c : Command) where
   -- the reply of the definition
   abbrev answer : Reply
-  answer = reply shape most frames m own c
+  answer = reply shape terms m own c
 
-  served_fits : (k : Opcode) → op_of c.opcode ≡ Some k → early shape c ≡ None → length (reply_of shape most frames m own c (Some k)).data_bytes ≤ room_for c.size (Some k)
-  served_fits Retrieve is passed = let n = length-take c.size (unwrap_or (get m (key c)) []) in omega (arith, n)
-  served_fits ListKeys is passed = list_fits c.size (keys_from (key c) m) (list_sized shape c is passed).least
-  served_fits Report is passed =
-      let n = length-numbers (live shape m ∷ most ∷ len m ∷ pinned shape frames ∷ frames ∷ own) in omega (arith, n, eleven)
-  served_fits Flush is passed = omega arith
-  served_fits Store is passed = omega arith
-  served_fits Delete is passed = omega arith
-  served_fits Exist is passed = omega arith
-  served_fits Tick is passed = omega arith
+  -- the part of the map that it reads, and its limit
+  abbrev part : Map
+  part = in_space c.namespace m
 
-  fits_by : (o : Option Opcode) → op_of c.opcode ≡ o → early shape c ≡ None → late_of shape most m c o ≡ None → length answer.data_bytes ≤ room_of c
-  fits_by None is passed late = absurd (let clash : ◌≡◌ {A = Option ℕ} (Some 1) None = sym (ap (λ (o : Option Opcode). fault_of shape c o) is) ∙ passed in cc)
+  abbrev most : ℕ
+  most = limit_of terms.limits c.namespace
+
+  fits_by : (o : Option Opcode) → op_of c.opcode ≡ o → early (length terms.limits) shape c ≡ None → late_of shape most part c o ≡ None → length answer.data_bytes ≤ room_of c
+  fits_by None is passed late = absurd (let clash : ◌≡◌ {A = Option ℕ} (Some 1) None = sym (ap (λ (o : Option Opcode). fault_of (length terms.limits) shape c o) is) ∙ passed in cc)
   fits_by (Some k) is passed late =
-      subst (λ (a : Reply). length a.data_bytes ≤ room_of c) (sym (serves shape most frames m own c k is passed late).replied)
-      (subst (λ (o : Option Opcode). length (reply_of shape most frames m own c (Some k)).data_bytes ≤ room_for c.size o) (sym is) (served_fits k is passed))
+      subst (λ (a : Reply). length a.data_bytes ≤ room_of c) (sym (serves shape terms m own c k is passed late).replied)
+      (subst (λ (o : Option Opcode). length (reply_of shape most terms.frames part own c (Some k)).data_bytes ≤ room_for c.size o) (sym is)
+      (served_fits (length terms.limits) shape most terms.frames part own eleven c k is passed))
 
   pub data_fit : length answer.data_bytes ≤ room_of c
-  data_fit = elim (refused shape most m c) as (λ r. refused shape most m c ≡ r → length answer.data_bytes ≤ room_of c) [
-    | Some status ↦ λ e. subst (λ (a : Reply). length a.data_bytes ≤ room_of c) (sym (refuses_with shape most frames m own c status e).replied) (omega arith)
-    | None ↦ λ e. let both = first_none (early shape c) (late_of shape most m c (op_of c.opcode)) e in fits_by (op_of c.opcode) refl both.0 both.1
+  data_fit = elim (refused shape terms.limits m c) as (λ r. refused shape terms.limits m c ≡ r → length answer.data_bytes ≤ room_of c) [
+    | Some status ↦ λ e. subst (λ (a : Reply). length a.data_bytes ≤ room_of c) (sym (refuses_with shape terms m own c status e).replied) (omega arith)
+    | None ↦ λ e. let both = first_none (early (length terms.limits) shape c) (late_of shape most part c (op_of c.opcode)) e in fits_by (op_of c.opcode) refl both.0 both.1
   ] refl
 
 -- ---- no read error
@@ -103,10 +114,10 @@ other_size shape Exist size = tt
 other_size shape Tick size = tt
 other_size shape Report size = tt
 
-other_early : (shape : Shape) (c : Command) (o : Option Opcode) → IsOther (fault_of shape c o)
-other_early shape c None = differs INVALID_COMMAND_OPCODE refl
-other_early shape c (Some k) =
-    other_first (check (is_namespace k c.namespace) INVALID_NAMESPACE_OR_FORMAT) _ (other_check (is_namespace k c.namespace) INVALID_NAMESPACE_OR_FORMAT (differs INVALID_NAMESPACE_OR_FORMAT refl))
+other_early : (spaces : ℕ) (shape : Shape) (c : Command) (o : Option Opcode) → IsOther (fault_of spaces shape c o)
+other_early spaces shape c None = differs INVALID_COMMAND_OPCODE refl
+other_early spaces shape c (Some k) =
+    other_first (check (is_namespace spaces k c.namespace) INVALID_NAMESPACE_OR_FORMAT) _ (other_check (is_namespace spaces k c.namespace) INVALID_NAMESPACE_OR_FORMAT (differs INVALID_NAMESPACE_OR_FORMAT refl))
     (other_first (check (is_key_length k c.key_len) INVALID_KEY_SIZE) _ (other_check (is_key_length k c.key_len) INVALID_KEY_SIZE (differs INVALID_KEY_SIZE refl)) (other_size shape k c.size))
 
 module _ (shape : Shape) (most : ℕ) (m : Map) (c : Command) where
@@ -128,10 +139,17 @@ module _ (shape : Shape) (most : ℕ) (m : Map) (c : Command) where
   other_late (Some Tick) = tt
   other_late (Some Report) = tt
 
-  other_refused : IsOther (refused shape most m c)
-  other_refused = other_first (early shape c) _ (other_early shape c (op_of c.opcode)) (other_late (op_of c.opcode))
+module _ (shape : Shape) (terms : Terms) (m : Map) (c : Command) where
+  abbrev part_of : Map
+  part_of = in_space c.namespace m
 
-  success_of : (k : Opcode) → (reply_of shape most 0 m no_numbers c (Some k)).status ≡ SUCCESSFUL_COMPLETION
+  abbrev most_of : ℕ
+  most_of = limit_of terms.limits c.namespace
+
+  other_refused : IsOther (refused shape terms.limits m c)
+  other_refused = other_first (early (length terms.limits) shape c) _ (other_early (length terms.limits) shape c (op_of c.opcode)) (other_late shape most_of part_of c (op_of c.opcode))
+
+  success_of : (k : Opcode) → (reply_of shape most_of terms.frames part_of no_numbers c (Some k)).status ≡ SUCCESSFUL_COMPLETION
   success_of Flush = refl
   success_of Store = refl
   success_of Retrieve = refl
@@ -141,14 +159,15 @@ module _ (shape : Shape) (most : ℕ) (m : Map) (c : Command) where
   success_of Tick = refl
   success_of Report = refl
 
-  served_well : (o : Option Opcode) → op_of c.opcode ≡ o → early shape c ≡ None → late_of shape most m c o ≡ None → (reply shape most 0 m no_numbers c).status ≢ UNRECOVERED_ERROR
-  served_well None is passed late = absurd (let clash : ◌≡◌ {A = Option ℕ} (Some 1) None = sym (ap (λ (o : Option Opcode). fault_of shape c o) is) ∙ passed in cc)
+  served_well : (o : Option Opcode) → op_of c.opcode ≡ o → early (length terms.limits) shape c ≡ None → late_of shape most_of part_of c o ≡ None
+      → (reply shape terms m no_numbers c).status ≢ UNRECOVERED_ERROR
+  served_well None is passed late = absurd (let clash : ◌≡◌ {A = Option ℕ} (Some 1) None = sym (ap (λ (o : Option Opcode). fault_of (length terms.limits) shape c o) is) ∙ passed in cc)
   served_well (Some k) is passed late = λ e. differs SUCCESSFUL_COMPLETION refl
-      (sym (success_of k) ∙ sym (ap (λ (a : Reply). a.status) (serves shape most 0 m no_numbers c k is passed late).replied) ∙ e)
+      (sym (success_of k) ∙ sym (ap (λ (a : Reply). a.status) (serves shape terms m no_numbers c k is passed late).replied) ∙ e)
 
   -- the machine never answers so
-  pub no_read_error : (reply shape most 0 m no_numbers c).status ≢ UNRECOVERED_ERROR
-  no_read_error = elim (refused shape most m c) as (λ r. refused shape most m c ≡ r → (reply shape most 0 m no_numbers c).status ≢ UNRECOVERED_ERROR) [
-    | Some status ↦ λ e f. subst IsOther e other_refused (sym (ap (λ (a : Reply). a.status) (refuses_with shape most 0 m no_numbers c status e).replied) ∙ f)
-    | None ↦ λ e. let both = first_none (early shape c) (late_of shape most m c (op_of c.opcode)) e in served_well (op_of c.opcode) refl both.0 both.1
+  pub no_read_error : (reply shape terms m no_numbers c).status ≢ UNRECOVERED_ERROR
+  no_read_error = elim (refused shape terms.limits m c) as (λ r. refused shape terms.limits m c ≡ r → (reply shape terms m no_numbers c).status ≢ UNRECOVERED_ERROR) [
+    | Some status ↦ λ e f. subst IsOther e other_refused (sym (ap (λ (a : Reply). a.status) (refuses_with shape terms m no_numbers c status e).replied) ∙ f)
+    | None ↦ λ e. let both = first_none (early (length terms.limits) shape c) (late_of shape most_of part_of c (op_of c.opcode)) e in served_well (op_of c.opcode) refl both.0 both.1
   ] refl

@@ -1,11 +1,11 @@
 -- The map that a command leaves: keys and values of their sizes, within the limit of live pages.
-use Rattle.std.proofs.Common.{◌≡◌, ℕ, refl, sym, ap, subst, ◌∙◌, arith, Bool, true, false, not, ◌&&◌, ◌||◌, ◌==◌, nat_le, if◌then◌else◌, [], length, Option, Some, None}
+use Rattle.std.proofs.Common.{◌≡◌, ℕ, refl, sym, ap, subst, ◌∙◌, arith, Bool, true, false, not, ◌&&◌, ◌||◌, ◌==◌, nat_le, if◌then◌else◌, [], ◌∷◌, length, Option, Some, None}
 use Rattle.std.proofs.lemmas.Bool.{leb-true}
 use Rattle.std.proofs.lemmas.List.{length-take-le}
 use Rattle.std.specs.FinMap.{get, contains_key, insert, remove, empty}
 use Rattle.pk_base.specs.Choices.{or_else}
 use Rattle.pk_base.specs.Shape.{Shape, limit, charge}
-use Rattle.pk_base.specs.Key.{IsKey, bytes_of}
+use Rattle.pk_base.specs.Key.{IsKey, bytes_of, space_of}
 use Rattle.pk_base.specs.Map.{Map, live, pages_if_some}
 use Rattle.pk_nvme.specs.declared.opcode.TheConstants.{FLUSH, STORE, RETRIEVE, LIST, DELETE, EXIST, TICK, REPORT}
 use Rattle.pk_nvme.specs.declared.opcode.Opcode.{Opcode}
@@ -14,10 +14,12 @@ use Rattle.pk_nvme.specs.declared.status.TheConstants.{CAPACITY_EXCEEDED, KEY_DO
 use Rattle.pk_nvme.specs.Opcode.{op_of}
 use Rattle.pk_nvme.specs.Command.{Command, key, must_exist, must_be_new}
 use Rattle.pk_model.specs.Answer.{check, fault_of, early, late_of, live_after, refused, map_after, effect}
-use Rattle.pk_model.proofs.Answering.{refuses_with, serves, key_sized, key_spaced, store_sized}
+use Rattle.pk_model.proofs.Answering.{NamesSpace, refuses_with, serves, key_sized, key_spaced, store_sized}
 use Rattle.pk_model.proofs.HeldMap.{key_is_bytes}
 use Rattle.pk_model.proofs.Machines.{live-empty, live-remove, live_stored}
 use Rattle.pk_host.specs.Good.{IsGood, IsHanded, holding}
+use Rattle.pk_model.specs.Spaces.{limit_of, in_space, one_space}
+use Rattle.pk_model.proofs.SpaceLemmas.{is_whole, in_space-insert, in_space-remove}
 use Rattle.pk_host.proofs.EntryLemmas.{map_empty, map_insert, map_remove}
 
 -- ---- checks that passed
@@ -70,14 +72,24 @@ pub good_empty : (shape : Shape) → IsGood (holding shape empty)
 good_empty shape = let none = live-empty shape in record { sized = map_empty shape; few = omega (arith, none) }
 
 module _ (shape : Shape) (m : Map) (c : Command) (good : IsGood (holding shape m)) (handed : IsHanded c) where
+  -- the checks on the namespace, which is the only one, are those on the map
+  own_late : op_of c.opcode ≡ Some Store → early 1 shape c ≡ None
+      → late_of shape (limit_of (limit shape ∷ []) c.namespace) (in_space c.namespace m) c (Some Store) ≡ late_of shape (limit shape) m c (Some Store)
+  own_late is passed =
+      let spaced = key_spaced 1 shape c Store (λ n k. refl) is passed in
+      let one : c.namespace ≡ 1 = omega (arith, spaced.some, spaced.most) in
+      ap (λ (n : ℕ). late_of shape (limit_of (limit shape ∷ []) n) (in_space n m) c (Some Store)) one
+      ∙ ap (λ (n : Map). late_of shape (limit shape) n c (Some Store)) (is_whole shape m good.sized)
+
   -- a Store that passed all checks
-  good_store : op_of c.opcode ≡ Some Store → early shape c ≡ None → late_of shape (limit shape) m c (Some Store) ≡ None → IsGood (holding shape (insert m (key c) c.value))
-  good_store is passed late =
-      let sized = key_sized shape c Store (λ n. refl) is passed in
-      let spaced = key_spaced shape c Store (λ n. refl) is passed in
+  good_store : op_of c.opcode ≡ Some Store → early 1 shape c ≡ None → late_of shape (limit_of (limit shape ∷ []) c.namespace) (in_space c.namespace m) c (Some Store) ≡ None → IsGood (holding shape (insert m (key c) c.value))
+  good_store is passed there =
+      let late : late_of shape (limit shape) m c (Some Store) ≡ None = sym (own_late is passed) ∙ there in
+      let sized = key_sized 1 shape c Store (λ n. refl) is passed in
+      let spaced = key_spaced 1 shape c Store (λ n k. refl) is passed in
       let key_length : length (bytes_of (key c)) ≡ c.key_len = length-take-le c.key_len c.key_bytes (omega (arith, sized.most, handed.place_size)) in
       let whole : length c.value ≡ c.size = handed.whole.whole ∙ ap (λ b. if b then c.size else 0) (store_alone c.opcode is) in
-      let small = store_sized shape c is passed in
+      let small = store_sized 1 shape c is passed in
       let behind = first_none (check (not (must_be_new c && contains_key m (key c))) KEY_EXISTS) (check (nat_le (live_after shape m c) (limit shape)) CAPACITY_EXCEEDED)
       (first_none (check (not (must_exist c) || contains_key m (key c)) KEY_DOES_NOT_EXIST)
       (or_else (check (not (must_be_new c && contains_key m (key c))) KEY_EXISTS) (check (nat_le (live_after shape m c) (limit shape)) CAPACITY_EXCEEDED)) late).1 in
@@ -98,7 +110,7 @@ module _ (shape : Shape) (m : Map) (c : Command) (good : IsGood (holding shape m
       let few = good.few in
       record { sized = map_remove shape m (key c) good.sized; few = omega (arith, whole, few) }
 
-  good_effect : (k : Opcode) → op_of c.opcode ≡ Some k → early shape c ≡ None → late_of shape (limit shape) m c (Some k) ≡ None → IsGood (holding shape (effect m c (Some k)))
+  good_effect : (k : Opcode) → op_of c.opcode ≡ Some k → early 1 shape c ≡ None → late_of shape (limit_of (limit shape ∷ []) c.namespace) (in_space c.namespace m) c (Some k) ≡ None → IsGood (holding shape (effect m c (Some k)))
   good_effect Store is passed late = good_store is passed late
   good_effect Delete is passed late = good_delete
   good_effect Flush is passed late = good
@@ -108,12 +120,42 @@ module _ (shape : Shape) (m : Map) (c : Command) (good : IsGood (holding shape m
   good_effect Tick is passed late = good
   good_effect Report is passed late = good
 
-  good_served : (o : Option Opcode) → op_of c.opcode ≡ o → early shape c ≡ None → late_of shape (limit shape) m c o ≡ None → IsGood (holding shape (map_after shape (limit shape) m c))
-  good_served None is passed late = absurd (let clash : ◌≡◌ {A = Option ℕ} (Some 1) None = sym (ap (λ (o : Option Opcode). fault_of shape c o) is) ∙ passed in cc)
-  good_served (Some k) is passed late = subst (λ (x : Map). IsGood (holding shape x)) (sym (serves shape (limit shape) 0 m [] c k is passed late).leaves) (good_effect k is passed late)
+  good_served : (o : Option Opcode) → op_of c.opcode ≡ o → early 1 shape c ≡ None → late_of shape (limit_of (limit shape ∷ []) c.namespace) (in_space c.namespace m) c o ≡ None → IsGood (holding shape (map_after shape (limit shape ∷ []) m c))
+  good_served None is passed late = absurd (let clash : ◌≡◌ {A = Option ℕ} (Some 1) None = sym (ap (λ (o : Option Opcode). fault_of 1 shape c o) is) ∙ passed in cc)
+  good_served (Some k) is passed late = subst (λ (x : Map). IsGood (holding shape x)) (sym (serves shape (one_space 0 (limit shape)) m [] c k is passed late).leaves) (good_effect k is passed late)
 
-  pub good_left : IsGood (holding shape (map_after shape (limit shape) m c))
-  good_left = elim (refused shape (limit shape) m c) as (λ r. refused shape (limit shape) m c ≡ r → IsGood (holding shape (map_after shape (limit shape) m c))) [
-    | Some status ↦ λ e. subst (λ (x : Map). IsGood (holding shape x)) (sym (refuses_with shape (limit shape) 0 m [] c status e).leaves) good
-    | None ↦ λ e. let both = first_none (early shape c) (late_of shape (limit shape) m c (op_of c.opcode)) e in good_served (op_of c.opcode) refl both.0 both.1
+  pub good_left : IsGood (holding shape (map_after shape (limit shape ∷ []) m c))
+  good_left = elim (refused shape (limit shape ∷ []) m c) as (λ r. refused shape (limit shape ∷ []) m c ≡ r → IsGood (holding shape (map_after shape (limit shape ∷ []) m c))) [
+    | Some status ↦ λ e. subst (λ (x : Map). IsGood (holding shape x)) (sym (refuses_with shape (one_space 0 (limit shape)) m [] c status e).leaves) good
+    | None ↦ λ e. let both = first_none (early 1 shape c) (late_of shape (limit_of (limit shape ∷ []) c.namespace) (in_space c.namespace m) c (op_of c.opcode)) e in good_served (op_of c.opcode) refl both.0 both.1
+  ] refl
+
+-- ---- a map of the first namespace alone
+
+module _ (shape : Shape) (most : ℕ) (m : Map) (c : Command) (alone : in_space 1 m ≡ m) where
+  first_key : (k : Opcode) → NamesSpace k → op_of c.opcode ≡ Some k → early 1 shape c ≡ None → space_of (key c) ≡ 1
+  first_key k names is passed = let spaced = key_spaced 1 shape c k names is passed in omega (arith, spaced.some, spaced.most)
+
+  alone_effect : (k : Opcode) → op_of c.opcode ≡ Some k → early 1 shape c ≡ None → in_space 1 (effect m c (Some k)) ≡ effect m c (Some k)
+  alone_effect Store is passed = in_space-insert 1 m (key c) (first_key Store (λ n k. refl) is passed) c.value ∙ ap (λ (n : Map). insert n (key c) c.value) alone
+  alone_effect Delete is passed = in_space-remove 1 m (key c) (first_key Delete (λ n k. refl) is passed) ∙ ap (λ (n : Map). remove n (key c)) alone
+  alone_effect Flush is passed = alone
+  alone_effect Retrieve is passed = alone
+  alone_effect ListKeys is passed = alone
+  alone_effect Exist is passed = alone
+  alone_effect Tick is passed = alone
+  alone_effect Report is passed = alone
+
+  abbrev left_alone : Type 0
+  left_alone = in_space 1 (map_after shape (most ∷ []) m c) ≡ map_after shape (most ∷ []) m c
+
+  alone_served : (o : Option Opcode) → op_of c.opcode ≡ o → early 1 shape c ≡ None → late_of shape (limit_of (most ∷ []) c.namespace) (in_space c.namespace m) c o ≡ None → left_alone
+  alone_served None is passed late = absurd (let clash : ◌≡◌ {A = Option ℕ} (Some 1) None = sym (ap (λ (o : Option Opcode). fault_of 1 shape c o) is) ∙ passed in cc)
+  alone_served (Some k) is passed late = subst (λ (n : Map). in_space 1 n ≡ n) (sym (serves shape (one_space 0 most) m [] c k is passed late).leaves) (alone_effect k is passed)
+
+  pub alone_left : left_alone
+  alone_left = elim (refused shape (most ∷ []) m c) as (λ r. refused shape (most ∷ []) m c ≡ r → left_alone) [
+    | Some status ↦ λ e. subst (λ (n : Map). in_space 1 n ≡ n) (sym (refuses_with shape (one_space 0 most) m [] c status e).leaves) alone
+    | None ↦ λ e.
+        let both = first_none (early 1 shape c) (late_of shape (limit_of (most ∷ []) c.namespace) (in_space c.namespace m) c (op_of c.opcode)) e in alone_served (op_of c.opcode) refl both.0 both.1
   ] refl

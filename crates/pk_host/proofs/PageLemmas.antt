@@ -30,10 +30,10 @@ use Rattle.pk_host.proofs.RisingLemmas.{above-append, above_split, above_above, 
 
 -- ---- Lists leave the map
 
-pub map_after_same : (shape : Shape) (most : ℕ) (m : Map) (c : Command) (k : Opcode) → op_of c.opcode ≡ Some k → effect m c (Some k) ≡ m → map_after shape most m c ≡ m
+pub map_after_same : (shape : Shape) (most : ℕ) (m : Map) (c : Command) (k : Opcode) → op_of c.opcode ≡ Some k → effect m c (Some k) ≡ m → map_after shape (most ∷ []) m c ≡ m
 unfolding map_after
-map_after_same shape most m c k is stays = elim (refused shape most m c) as (λ r. refused shape most m c ≡ r → map_after shape most m c ≡ m) [
-  | None ↦ λ e. (let left : map_after shape most m c ≡ effect m c (Some k) = rw (e, is) refl in left ∙ stays)
+map_after_same shape most m c k is stays = elim (refused shape (most ∷ []) m c) as (λ r. refused shape (most ∷ []) m c ≡ r → map_after shape (most ∷ []) m c ≡ m) [
+  | None ↦ λ e. (let left : map_after shape (most ∷ []) m c ≡ effect m c (Some k) = rw (e, is) refl in left ∙ stays)
   | Some s ↦ λ e. rw e refl
 ] refl
 
@@ -41,7 +41,7 @@ lists_leave : (shape : Shape) (most : ℕ) (m : Map) (cs : List Command) (m' : M
 lists_leave shape most m [] m' h l = l
 lists_leave shape most m (c ∷ cs) m' h (inl l) = lists_leave shape most m cs m' h.1 l
 lists_leave shape most m (c ∷ cs) m' h (inr l) =
-    lists_leave shape most (map_after shape most m c) cs m' h.1 l ∙ ap (map_after shape most m) h.0.1 ∙ map_after_same shape most m (list_of h.0.0) ListKeys refl refl
+    lists_leave shape most (map_after shape (most ∷ []) m c) cs m' h.1 l ∙ ap (map_after shape (most ∷ []) m) h.0.1 ∙ map_after_same shape most m (list_of h.0.0) ListKeys refl refl
 
 pub took_lists : (old new : PortState) (cs : List Command) → Took old new cs → AreLists cs → Leaves old new (λ m. m)
 took_lists old new cs h are m told = let t = h.told m told in t.1 ∙ ap (λ (n : Map). Some n) (lists_leave old.shape old.limit m cs t.0 are t.2)
@@ -92,8 +92,8 @@ pub page_read : (old new : PortState) (from : Key) (a : Reply) (each : List Key)
     → each ≡ above from (keys_of a.data_bytes) → Pages old from each
 page_read old new from a each short start x zero read m told =
     let s = x.answers m told in
-    let none = not_refused (refused old.shape old.limit m (list_of from)) (list_by old.shape old.limit m from short) in
-    let served = success_served old.shape old.limit s.frames m (list_of from) ListKeys a s.left refl none zero s.stepped in
+    let none = not_refused (refused old.shape (old.limit ∷ []) m (list_of from)) (list_by old.shape old.limit m from short) in
+    let served = success_served old.shape old.limit s.frames m (list_of from) ListKeys refl s.within.alone a s.left refl none zero s.stepped in
     let bytes : a.data_bytes ≡ list_bytes (fitting list_room (keys_from (key (list_of from)) m)) = ap (λ (r : Reply). r.data_bytes) served.replied in
     read ∙ ap (λ (xs : List ℕ). above from (keys_of xs)) (bytes ∙ ap (λ (q : Key). list_bytes (fitting list_room (keys_from q m))) (key_named LIST from MOST_LIST_BYTES 0 [])
     ∙ ap (λ (ks : List Key). list_bytes (fitting list_room ks)) (keys_started old.shape m from start s.within.sized))

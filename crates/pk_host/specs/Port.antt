@@ -4,6 +4,7 @@ use Rattle.std.specs.Option.{IfSome}
 use Rattle.pk_base.specs.Shape.{Shape}
 use Rattle.pk_base.specs.Map.{Map, IsMap, live}
 use Rattle.pk_nvme.specs.declared.sizes.TheConstants.{REPORT_BYTES}
+use Rattle.pk_nvme.specs.declared.limits.TheConstants.{NAMESPACE}
 use Rattle.pk_nvme.specs.declared.opcode.Opcode.{Opcode}
 use Rattle.pk_nvme.specs.declared.opcode.Opcode.TheVariants.{Retrieve, List as ListKeys, Report}
 use Rattle.pk_nvme.specs.declared.status.TheConstants.{UNRECOVERED_ERROR}
@@ -12,11 +13,12 @@ use Rattle.pk_nvme.specs.Command.{Command}
 use Rattle.pk_nvme.specs.Reply.{Reply, completion}
 use Rattle.pk_nand.specs.Calls.{Rose}
 use Rattle.pk_model.specs.Answer.{map_after}
-use Rattle.pk_model.specs.Run.{StepIn}
+use Rattle.pk_model.specs.Run.{Step}
+use Rattle.pk_model.specs.Spaces.{one_space, in_space}
 use Rattle.pk_host.specs.declared.types.Completed.{Completed}
 
--- the map of the drive, if it is known; its shape, its limit of live pages and its page frames, if their number is known; and the counts of failed
--- calls and failed reads
+-- the map of the namespace in which commands are passed, if it is known; the shape of the drive, the namespace's limit of live pages and the page
+-- frames, if their number is known; and the counts of failed calls and failed reads
 pub record PortState : Type 0 where
   pub map : Option Map
   pub shape : Shape
@@ -25,9 +27,10 @@ pub record PortState : Type 0 where
   pub port_faults : ℕ
   pub read_faults : ℕ
 
--- a map of the drive's shape, and its values are within the limit
+-- a map of the drive's shape, of this namespace alone, and its values are within the limit
 pub record IsWithin (p : PortState) (m : Map) : Type 0 where
   pub sized : IsMap p.shape m
+  pub alone : in_space NAMESPACE m ≡ m
   pub few : live p.shape m ≤ p.limit
 
 -- ---- one command
@@ -48,7 +51,7 @@ pub record PortSteps (old new : PortState) (c : Command) (a : Reply) (m : Map) :
   pub frames : ℕ
   pub frames_is : IfSome old.frames (λ f. frames ≡ f)
   pub left : Map
-  pub stepped : StepIn old.shape old.limit frames m c a left
+  pub stepped : Step old.shape (one_space frames old.limit) m c a left
   pub told : new.map ≡ Some left
 
 -- the command was answered so
@@ -72,7 +75,7 @@ pub record Completes (old new : PortState) (c : Command) (done : Completed) (int
 -- the map after some of these commands, in their order
 abbrev pub LeftBySome : Shape → ℕ → Map → List Command → Map → Type 0
 LeftBySome shape most m [] m' = m' ≡ m
-LeftBySome shape most m (c ∷ cs) m' = LeftBySome shape most m cs m' ⊎ LeftBySome shape most (map_after shape most m c) cs m'
+LeftBySome shape most m (c ∷ cs) m' = LeftBySome shape most m cs m' ⊎ LeftBySome shape most (map_after shape (most ∷ []) m c) cs m'
 
 -- what is unchanged, and what may have changed, if these commands took a port to another
 pub record Took (old new : PortState) (cs : List Command) : Type 0 where

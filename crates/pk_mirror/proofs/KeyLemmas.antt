@@ -14,6 +14,7 @@ use Rattle.pk_nvme.specs.declared.opcode.Opcode.TheVariants.{Store, Retrieve, De
 use Rattle.pk_nvme.specs.declared.opcode.TheConstants.{STORE}
 use Rattle.pk_nvme.specs.declared.status.TheConstants.{CAPACITY_EXCEEDED, INVALID_VALUE_SIZE, INVALID_KEY_SIZE, KEY_DOES_NOT_EXIST}
 use Rattle.pk_model.specs.Answer.{check, late_of, live_after, refused}
+use Rattle.pk_model.specs.Spaces.{in_space}
 use Rattle.pk_model.proofs.Machines.{live_stored}
 use Rattle.pk_host.specs.declared.types.HostError.{HostError}
 use Rattle.pk_host.specs.declared.types.HostError.TheVariants.{Refused as HostRefused, Port as HostPort}
@@ -178,27 +179,28 @@ pub delete_unread : (k : Key) → IsKey k → OnlyUnread (delete_of k) existed
 delete_unread k is old new a e r err m told =
     let s = r.answers m told in
     let neither = no_there (a.status == 0) (a.status == KEY_DOES_NOT_EXIST) a.status e err in
-    keyed_fault old.shape old.limit s.frames m (delete_of k) Delete a s.left refl (delete_by old.shape old.limit m k is) (λ own. refl) neither.0 neither.1 s.stepped
+    keyed_fault old.shape old.limit s.frames m (delete_of k) Delete refl s.within.alone a s.left refl (delete_by old.shape old.limit m k is s.within.alone) (λ own. refl) neither.0 neither.1 s.stepped
 
 pub exist_unread : (k : Key) → IsKey k → OnlyUnread (exist_of k) existed
 exist_unread k is old new a e r err m told =
     let s = r.answers m told in
     let neither = no_there (a.status == 0) (a.status == KEY_DOES_NOT_EXIST) a.status e err in
-    keyed_fault old.shape old.limit s.frames m (exist_of k) Exist a s.left refl (exist_by old.shape old.limit m k is) (λ own. refl) neither.0 neither.1 s.stepped
+    keyed_fault old.shape old.limit s.frames m (exist_of k) Exist refl s.within.alone a s.left refl (exist_by old.shape old.limit m k is s.within.alone) (λ own. refl) neither.0 neither.1 s.stepped
 
 -- ---- a Store that fits is not refused
 
 key_length : (k : Key) → IsKey k → (nat_le 1 (length (bytes_of k)) && nat_le (length (bytes_of k)) 16) ≡ true
 key_length k h = rw (le-leb 1 (length (bytes_of k)) h.some, le-leb (length (bytes_of k)) 16 h.most) refl
 
-store_fits : (shape : Shape) (most : ℕ) (m : Map) (k : Key) (v : List ℕ) → IsKey k → length v ≤ greatest shape → live shape (insert m k v) ≤ most → refused shape most m (store_of k v Any) ≡ None
-store_fits shape most m k v is small fits =
+store_fits : (shape : Shape) (most : ℕ) (m : Map) (k : Key) (v : List ℕ) → in_space 1 m ≡ m → IsKey k → length v ≤ greatest shape → live shape (insert m k v) ≤ most → refused shape (most ∷ []) m (store_of k v Any) ≡ None
+store_fits shape most m k v alone is small fits =
     let c : Command = store_of k v Any in
     let named : key c ≡ k = key-of_key STORE k (length v) 0 v is in
     let pages : live_after shape m c ≡ live shape (insert m k v) =
     live_stored shape m k v (live shape m) (pages_if_some shape (get m (key c))) (charge shape (length v)) refl (ap (λ (q : Key). pages_if_some shape (get m q)) named) refl in
-    let first : refused shape most m c ≡ or_else (check (nat_le (length v) (greatest shape)) INVALID_VALUE_SIZE) (late_of shape most m c (Some Store)) =
-    ap (λ b. or_else (or_else (check b INVALID_KEY_SIZE) (check (nat_le (length v) (greatest shape)) INVALID_VALUE_SIZE)) (late_of shape most m c (Some Store))) (key_length k is) in
+    let first : refused shape (most ∷ []) m c ≡ or_else (check (nat_le (length v) (greatest shape)) INVALID_VALUE_SIZE) (late_of shape most m c (Some Store)) =
+    ap (λ b. or_else (or_else (check b INVALID_KEY_SIZE) (check (nat_le (length v) (greatest shape)) INVALID_VALUE_SIZE)) (late_of shape most (in_space 1 m) c (Some Store))) (key_length k is)
+    ∙ ap (λ (n : Map). or_else (check (nat_le (length v) (greatest shape)) INVALID_VALUE_SIZE) (late_of shape most n c (Some Store))) alone in
     first
     ∙ ap (λ b. or_else (check b INVALID_VALUE_SIZE) (late_of shape most m c (Some Store))) (le-leb (length v) (greatest shape) small)
     ∙ ap (λ b. check b CAPACITY_EXCEEDED) (le-leb (live_after shape m c) most (omega (arith, pages, fits)))
@@ -212,7 +214,7 @@ store_unread p p1 q q' k into value len size x error e is alike found wide f fro
     (λ r replies err same fails.
     let s = replies.answers b eb in
     subst IsReadError (sym (on_refused Second error r.status e same on))
-    (unless_refused q.shape q.limit b (store_of k value Any) Store refl s.frames r s.left (λ frames own. refl) fits fails s.stepped))
+    (unless_refused q.shape q.limit b (store_of k value Any) Store refl s.frames r s.left (λ most frames m own. refl) (fits s.within.alone) fails s.stepped))
     (λ same rose. subst IsReadError (sym (on_port Second error e same on)) tt)
   where
     room : (v : List ℕ) → get a k ≡ Some v → length v ≤ length into
@@ -233,8 +235,8 @@ store_unread p p1 q q' k into value len size x error e is alike found wide f fro
         let here : live p.shape (insert b k value) ≤ q.limit = omega (arith, most, less, alike.limit) in
         subst (λ (z : Shape). live z (insert b k value) ≤ q.limit) (sym alike.shape) here
 
-    fits : refused q.shape q.limit b (store_of k value Any) ≡ None
-    fits = store_fits q.shape q.limit b k value is small few
+    fits : in_space 1 b ≡ b → refused q.shape (q.limit ∷ []) b (store_of k value Any) ≡ None
+    fits alone = store_fits q.shape q.limit b k value alone is small few
 
 -- ---- the same from states that have the same map
 

@@ -1,5 +1,5 @@
 -- What comes of a Store or a Delete on both drives, from how each of them answered it.
-use Rattle.std.proofs.Common.{◌≡◌, inl, inr, ◌==◌, ℕ, List, [], Bool, true, false, Some, Result, Ok, Err, IfOk, IfErr, OnOk, refl, sym, ap, subst, ◌∙◌}
+use Rattle.std.proofs.Common.{◌≡◌, inl, inr, ◌==◌, ℕ, List, [], Bool, true, false, Some, Result, Ok, Err, IfOk, IfErr, OnOk, refl, sym, ap, subst, ◌∙◌, ◌∷◌}
 use Rattle.pk_base.specs.Shape.{Shape}
 use Rattle.pk_base.specs.Map.{Map}
 use Rattle.pk_nvme.specs.Command.{Command}
@@ -9,7 +9,8 @@ use Rattle.pk_nvme.specs.declared.opcode.Opcode.{Opcode}
 use Rattle.pk_nvme.specs.declared.status.TheConstants.{UNRECOVERED_ERROR}
 use Rattle.pk_nand.specs.Calls.{Rose}
 use Rattle.pk_model.specs.Answer.{reply_of, success, map_after}
-use Rattle.pk_model.specs.Run.{StepIn}
+use Rattle.pk_model.specs.Run.{Step}
+use Rattle.pk_model.specs.Spaces.{one_space}
 use Rattle.pk_host.specs.declared.types.HostError.{HostError}
 use Rattle.pk_host.specs.declared.types.HostError.TheVariants.{Refused as HostRefused, Port as HostPort, Memory}
 use Rattle.pk_host.specs.Port.{PortState, Replies, Took}
@@ -28,7 +29,7 @@ use Rattle.pk_mirror.proofs.PairLemmas.{by_map, still_pair, one_leaves, ok_by, o
 -- ---- one drive
 
 module _ {X : Type 0} (of : Reply → Result X HostError) (tells : Tells of) (old new : PortState) (c : Command) where
-  pub done_leaves : (x : X) → Gives old new c of (Ok x) → (m : Map) → old.map ≡ Some m → new.map ≡ Some (map_after old.shape old.limit m c)
+  pub done_leaves : (x : X) → Gives old new c of (Ok x) → (m : Map) → old.map ≡ Some m → new.map ≡ Some (map_after old.shape (old.limit ∷ []) m c)
   done_leaves x (inr fault) m told = absurd (let clash : ◌≡◌ {A = Result X HostError} (Ok x) (Err HostPort) = fault.0 in cc)
   done_leaves x (inl (a, r, e)) m told =
       let s = r.answers m told in s.told ∙ ap (λ (n : Map). Some n) (answer_leaves of old.shape old.limit s.frames m c a s.left x tells (sym e) s.stepped)
@@ -72,13 +73,13 @@ module _ {X : Type 0} (old new : Mirrored) (p p' q q' : PortState) (c : Command)
     (tells : Tells of) (is : op_of c.opcode ≡ Some k) (plain : (shape : Shape) (most frames : ℕ) (m : Map) (own : List ℕ) → reply_of shape most frames m own c (Some k) ≡ success 0 [])
     (pair : IsPair old p q) (cs ds : List Command) (one : AtMostOne c cs) (two : AtMostOne c ds) (t : Took p p' cs) (u : Took q q' ds) (w : Writes old new p p' q q' c of result) where
   after : Map → Map
-  after m = map_after p.shape p.limit m c
+  after m = map_after p.shape (p.limit ∷ []) m c
 
   same_shape : q.shape ≡ p.shape
   same_shape = pair.second_shape ∙ sym pair.first_shape
 
-  same_after : (m : Map) → map_after q.shape q.limit m c ≡ map_after p.shape p.limit m c
-  same_after m = ap (λ (s : Shape). map_after s q.limit m c) same_shape ∙ ap (λ (n : ℕ). map_after p.shape n m c) pair.limit
+  same_after : (m : Map) → map_after q.shape (q.limit ∷ []) m c ≡ map_after p.shape (p.limit ∷ []) m c
+  same_after m = ap (λ (s : Shape). map_after s (q.limit ∷ []) m c) same_shape ∙ ap (λ (n : ℕ). map_after p.shape (n ∷ []) m c) pair.limit
 
   second_told : old.split ≡ false → (m : Map) → p.map ≡ Some m → q.map ≡ Some m
   second_told step m told = pair.in_step step ∙ told
@@ -89,12 +90,12 @@ module _ {X : Type 0} (old new : Mirrored) (p p' q q' : PortState) (c : Command)
       (λ a r e same fails. by_map p.map (p'.map ≡ p.map)
       (λ none. t.untold none ∙ sym none)
       (λ m told. let s = r.answers m told in
-      s.told ∙ ap (λ (n : Map). Some n) (refusal_leaves p.shape p.limit m c k is s.frames a s.left (λ frames own. ap (λ (b : Reply). b.status) (plain p.shape p.limit frames m own)) fails s.stepped)
+      s.told ∙ ap (λ (n : Map). Some n) (refusal_leaves p.shape p.limit m c k is s.frames a s.left (λ most frames m own. ap (λ (b : Reply). b.status) (plain p.shape most frames m own)) fails s.stepped)
       ∙ sym told))
       (λ same rose. true_false (is_port error) (port_is error same) off)
 
   both_done : (x y : X) → old.split ≡ false → Gives p p' c of (Ok x) → Gives q q' c of (Ok y) → (m : Map) → p.map ≡ Some m
-      → (p'.map ≡ Some (map_after p.shape p.limit m c)) × (q'.map ≡ Some (map_after p.shape p.limit m c))
+      → (p'.map ≡ Some (map_after p.shape (p.limit ∷ []) m c)) × (q'.map ≡ Some (map_after p.shape (p.limit ∷ []) m c))
   both_done x y step g h m told = (
     done_leaves of tells p p' c x g m told,
     done_leaves of tells q q' c y h m (second_told step m told) ∙ ap (λ (n : Map). Some n) (same_after m),
@@ -162,7 +163,7 @@ module _ {X : Type 0} (old new : Mirrored) (p p' q q' : PortState) (c : Command)
     second_done = both.1;
   }
     where
-      both : OnOk result (p'.map ≡ Some (map_after p.shape p.limit m c)) × OnOk result (q'.map ≡ Some (map_after p.shape p.limit m c))
+      both : OnOk result (p'.map ≡ Some (map_after p.shape (p.limit ∷ []) m c)) × OnOk result (q'.map ≡ Some (map_after p.shape (p.limit ∷ []) m c))
       both = elim w [
         | inl s ↦ (ok_never result Split _ s.answer, ok_never result Split _ s.answer)
         | inr (inl f) ↦ (ok_never result f.decides.0 _ f.decides.1, ok_never result f.decides.0 _ f.decides.1)
@@ -210,9 +211,9 @@ module _ {X : Type 0} (old new : Mirrored) (p p' q q' : PortState) (c : Command)
   unread_second x a b error step r ok s err m told =
       let f = r.answers m told in
       let g = s.answers m (second_told step m told) in
-      let moved : StepIn p.shape p.limit g.frames m c b g.left =
-      subst (λ (n : ℕ). StepIn p.shape n g.frames m c b g.left) pair.limit (subst (λ (x : Shape). StepIn x q.limit g.frames m c b g.left) same_shape g.stepped) in
-      second_unread p.shape p.limit m c k is of (λ frames other own others. plain p.shape p.limit frames m own ∙ sym (plain p.shape p.limit other m others))
+      let moved : Step p.shape (one_space g.frames p.limit) m c b g.left =
+      subst (λ (n : ℕ). Step p.shape (one_space g.frames n) m c b g.left) pair.limit (subst (λ (x : Shape). Step x (one_space g.frames q.limit) m c b g.left) same_shape g.stepped) in
+      second_unread p.shape p.limit m c k is of (λ most frames other m own others. plain p.shape most frames m own ∙ sym (plain p.shape most other m others))
       f.frames g.frames a b f.left g.left x error tells ok err f.stepped moved
 
   pub write_second_unread : (m : Map) → p.map ≡ Some m → IfErr result SecondReadFailed

@@ -22,22 +22,33 @@ use Rattle.pk_mirrorwords.specs.PairTasks.{PairTask, put, get, delete, list, res
 use Rattle.pk_mirrorwords.specs.PairAnswers.{AreChange, AreOfFirst, AreOfPair, AreOfSecond}
 use Rattle.pk_mirrorrun.specs.PairTold.{map_left_by, most_pair_roots}
 use Rattle.pk_host.proofs.PageLemmas.{map_after_same}
+use Rattle.pk_host.proofs.LeftLemmas.{alone_left}
+use Rattle.pk_model.specs.Spaces.{Terms, in_space}
 
 -- ---- maps
 
 -- a run of commands leaves the map after some of them
-ran_left : (shape : Shape) (frames : ℕ) (xs : List Exchange) (m m' : Map) → RunWithin shape frames m xs m' → LeftBySome shape (limit shape) m (commands xs) m'
-ran_left shape frames [] m m' e = sym e
-ran_left shape frames (x ∷ xs) m m' (next, step, rest) = elim step.0 [
-  | inl answer ↦ inr (subst (λ (n : Map). LeftBySome shape (limit shape) n (commands xs) m') answer.leaves (ran_left shape frames xs next m' rest))
-  | inr unread ↦ inl (subst (λ (n : Map). LeftBySome shape (limit shape) n (commands xs) m') unread.leaves (ran_left shape frames xs next m' rest))
+ran_left : (shape : Shape) (terms : Terms) (most : ℕ) → terms.limits ≡ most ∷ [] → (xs : List Exchange) (m m' : Map) → RunWithin shape terms m xs m' → LeftBySome shape most m (commands xs) m'
+ran_left shape terms most one [] m m' e = sym e
+ran_left shape terms most one (x ∷ xs) m m' (next, step, rest) = elim step.0 [
+  | inl answer ↦ inr (subst (λ (n : Map). LeftBySome shape most n (commands xs) m')
+      (answer.leaves ∙ ap (λ (limits : List ℕ). map_after shape limits m x.command) one) (ran_left shape terms most one xs next m' rest))
+  | inr unread ↦ inl (subst (λ (n : Map). LeftBySome shape most n (commands xs) m') unread.leaves (ran_left shape terms most one xs next m' rest))
 ]
+
+-- a map of the first namespace stays one
+pub ran_alone : (shape : Shape) (terms : Terms) (most : ℕ) → terms.limits ≡ most ∷ [] → (xs : List Exchange) (m m' : Map) → in_space 1 m ≡ m → RunWithin shape terms m xs m' → in_space 1 m' ≡ m'
+ran_alone shape terms most one [] m m' alone e = subst (λ (n : Map). in_space 1 n ≡ n) e alone
+ran_alone shape terms most one (x ∷ xs) m m' alone (next, step, rest) = ran_alone shape terms most one xs next m' (elim step.0 [
+  | inl answer ↦ subst (λ (n : Map). in_space 1 n ≡ n) (sym (answer.leaves ∙ ap (λ (limits : List ℕ). map_after shape limits m x.command) one)) (alone_left shape most m x.command alone)
+  | inr unread ↦ subst (λ (n : Map). in_space 1 n ≡ n) (sym unread.leaves) alone
+]) rest
 
 none_left : (shape : Shape) (most : ℕ) (m : Map) (cs : List Command) → LeftBySome shape most m cs m
 none_left shape most m [] = refl
 none_left shape most m (c ∷ cs) = inl (none_left shape most m cs)
 
-asks_keep : (shape : Shape) (most : ℕ) (m : Map) (c : Command) → OnlyAsks c → map_after shape most m c ≡ m
+asks_keep : (shape : Shape) (most : ℕ) (m : Map) (c : Command) → OnlyAsks c → map_after shape (most ∷ []) m c ≡ m
 asks_keep shape most m c (inl (from, e)) = map_after_same shape most m c ListKeys (ap (λ (d : Command). op_of d.opcode) e) refl
 asks_keep shape most m c (inr (key, size, e)) = map_after_same shape most m c Retrieve (ap (λ (d : Command). op_of d.opcode) e) refl
 
@@ -54,10 +65,11 @@ change_left shape most m m' (Some c) change (inl none) h = inl (subst (λ (cs : 
 change_left shape most m m' (Some c) change (inr one) h = subst (λ (cs : List Command). LeftBySome shape most m cs m') one h
 
 -- what is kept of a word's commands is the map before it or the one after it
-pub kept_first : (task : PairTask) (shape : Shape) (frames : ℕ) (m : Map) (cs : List Command) (n : Option ℕ) (posted : List ℕ) (f : Flash) → AreOfFirst task cs → Kept shape frames m cs n posted f
+pub kept_first : (task : PairTask) (shape : Shape) (terms : Terms) → terms.limits ≡ limit shape ∷ [] → (m : Map) (cs : List Command) (n : Option ℕ) (posted : List ℕ) (f : Flash) → AreOfFirst task cs
+    → Kept shape terms m cs n posted f
     → Holds shape f m ⊎ Holds shape f (map_left_by shape task m)
-kept_first task shape frames m cs n posted f are k =
-    let served = ran_left shape frames k.served m k.map_left k.ran in
+kept_first task shape terms one m cs n posted f are k =
+    let served = ran_left shape terms (limit shape) one k.served m k.map_left k.ran in
     let more = left_both shape (limit shape) m (commands k.served) k.map_left k.unserved k.map_left served (none_left shape (limit shape) k.map_left k.unserved) in
     let whole = subst (λ (ds : List Command). LeftBySome shape (limit shape) m ds k.map_left) (k.from_front ∙ are.are) more in
     let last = asks_left shape (limit shape) m k.map_left are.asks are.change are.asking whole in

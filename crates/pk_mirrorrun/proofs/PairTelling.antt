@@ -1,7 +1,6 @@
 -- What a word of a pair makes of both boards.
-use Rattle.std.proofs.Common.{◌≡◌, ◌⊎◌, inl, inr, ℕ, ◌+◌, ◌≤◌, List, [], Option, Some, None, refl, sym, ap, subst, ◌∙◌, true, false, arith}
-use Rattle.std.specs.Result.{result_ok}
-use Rattle.pk_base.specs.Shape.{Shape}
+use Rattle.std.proofs.Common.{◌≡◌, ◌⊎◌, inl, inr, ℕ, ◌+◌, ◌≤◌, List, [], Option, Some, None, refl, sym, ap, subst, ◌∙◌, true, false, arith, ◌∷◌}
+use Rattle.pk_base.specs.Shape.{Shape, limit}
 use Rattle.pk_base.specs.Page.{Flash}
 use Rattle.pk_base.specs.Map.{Map}
 use Rattle.pk_nvme.specs.Command.{Command}
@@ -11,7 +10,9 @@ use Rattle.pk_nand.specs.Operations.{after_post, PostFailed}
 use Rattle.pk_nand.specs.Effects.{OnlyFlash}
 use Rattle.pk_model.specs.Growth.{Goes}
 use Rattle.pk_model.specs.Kept.{rise}
-use Rattle.pk_model.specs.Reading.{Holds}
+use Rattle.pk_model.specs.Reading.{reading, Holds}
+use Rattle.pk_call.specs.Sight.{Sight}
+use Rattle.pk_model.specs.Spaces.{limits_at, limit_of, in_space}
 use Rattle.pk_model.specs.Wear.{roots, is_worn}
 use Rattle.pk_model.proofs.Growing.{weaken_went, Goes-reaches}
 use Rattle.pk_words.specs.Lines.{failed_line}
@@ -20,7 +21,10 @@ use Rattle.pk_model.specs.Run.{Exchange, commands}
 use Rattle.pk_serve.proofs.Counting.{metered-unworn, few_unworn}
 use Rattle.pk_mirror.specs.Causes.{NotEmpty}
 use Rattle.pk_port.specs.Asking.{KeptSilently, KeptWord}
-use Rattle.pk_port.specs.Steps.{Standing, HasCause, seen}
+use Rattle.pk_port.specs.Steps.{Standing, HasCause, standing, seen}
+use Rattle.pk_port.proofs.Stepping.{part_of, part_held}
+use Rattle.pk_port.proofs.Serving.{mounted_limits}
+use Rattle.pk_serve.proofs.Limiting.{limits_one}
 use Rattle.pk_port.specs.Chained.{installs, AllServed, HaltedAt, Chained}
 use Rattle.pk_port.specs.declared.halt.Halt.{Halt}
 use Rattle.pk_port.specs.declared.halt.Halt.TheVariants.{Stopped, Worn as UsedUp}
@@ -30,18 +34,40 @@ use Rattle.pk_wordrun.specs.Ends.{end_of}
 use Rattle.pk_wordrun.specs.declared.end.WordEnd.{WordEnd}
 use Rattle.pk_wordrun.specs.declared.end.WordEnd.TheVariants.{Done, Output}
 use Rattle.pk_wordrun.proofs.Telling.{keeps-flash}
-use Rattle.pk_mirrorwords.specs.PairTasks.{PairTask}
+use Rattle.pk_mirrorwords.specs.PairTasks.{PairTask, map_left, text_of}
 use Rattle.pk_mirrorwords.specs.PairAnswers.{PairSaid, PairFault, AreOfFirst, AreOfSecond}
-use Rattle.pk_mirrorrun.specs.PairTold.{EitherUnread, map_left_by, text_by, Walk, BothWalked, end_by, KeptFirst, KeptSecond, PairAnswered, PairEnds, most_pair_roots, UsedRoots, PairTold}
-use Rattle.pk_mirrorrun.proofs.Commands.{kept_first, first_installs, second_installs}
-use Rattle.pk_base.proofs.Logic.{some_same}
+use Rattle.pk_mirrorrun.specs.PairTold.{IsServing, EitherUnread, map_left_by, text_by, Walk, BothWalked, end_by, KeptFirst, KeptSecond, PairAnswered, PairEnds, most_pair_roots, UsedRoots, PairTold}
+use Rattle.pk_mirrorrun.proofs.Commands.{ran_alone, kept_first, first_installs, second_installs}
+use Rattle.pk_base.proofs.Logic.{ok_same, some_same}
 
 -- ---- one drive
 
+-- its limits are those of its flash, and its map is of the first namespace alone
+pub record Begins (shape : Shape) (start : Map) (p : Standing) : Type 0 where
+  pub within : limits_at shape p.on.board.pages ≡ p.on.terms.limits
+  pub alone : in_space 1 start ≡ start
+
+pub begins_as : (shape : Shape) (start : Map) (board : BoardState) (drive : Sight) (faults : ℕ) (halt : Option Halt) → IsServing shape board drive → Holds shape board.pages start
+    → Begins shape start (standing board drive faults halt)
+begins_as shape start board drive faults halt s holds = record {
+  within = mounted_limits shape board drive s.shape_is;
+  alone = (let same : s.map ≡ start = ok_same s.map start (sym s.holds ∙ holds) in subst (λ (m : Map). in_space 1 m ≡ m) same s.alone);
+}
+
+one_limit : (shape : Shape) (start : Map) (p : Standing) → Begins shape start p → p.on.terms.limits ≡ limit shape ∷ []
+one_limit shape start p begun = sym begun.within ∙ limits_one shape p.on.board.pages
+
+-- what the port tells is the map that was left
+left_is : (shape : Shape) (start : Map) (cs : List Command) (p q : Standing) (begun : Begins shape start p) (w : AllServed shape start cs p q) (m : Map)
+    → part_of (reading shape q.on.board.pages []) ≡ Some m → w.asked.left ≡ m
+left_is shape start cs p q begun w m told =
+    sym (ran_alone shape p.on.terms (limit shape) (one_limit shape start p begun) w.asked.answered.all start w.asked.left begun.alone w.asked.answered.ran)
+    ∙ part_held (reading shape q.on.board.pages []) w.asked.left m w.asked.held told
+
 module _ (shape : Shape) (start : Map) (cs : List Command) (p q : Standing) where
   -- if the board was cut, the commands were kept
-  kept_by : Chained shape start cs p q → Goes shape p.on.board q.on.board (KeptSilently shape p.on.frames start cs (rise p.on.board.read_faults q.on.board.read_faults))
-  kept_by (inl w) = Goes-reaches shape p.on.board q.on.board (KeptSilently shape p.on.frames start cs (rise p.on.board.read_faults q.on.board.read_faults)) w.asked.reached
+  kept_by : Chained shape start cs p q → Goes shape p.on.board q.on.board (KeptSilently shape p.on.terms start cs (rise p.on.board.read_faults q.on.board.read_faults))
+  kept_by (inl w) = Goes-reaches shape p.on.board q.on.board (KeptSilently shape p.on.terms start cs (rise p.on.board.read_faults q.on.board.read_faults)) w.asked.reached
   kept_by (inr h) = h.kept
 
   only_flash : Chained shape start cs p q → OnlyFlash p.on.board q.on.board
@@ -76,17 +102,17 @@ module _ (shape : Shape) (start : Map) (cs : List Command) (p q : Standing) wher
   second_kept w =
       let run = kept_by w in (
         run.0,
-        weaken_went run.0 p.on.board q.on.board (KeptSilently shape p.on.frames start cs (rise p.on.board.read_faults q.on.board.read_faults))
+        weaken_went run.0 p.on.board q.on.board (KeptSilently shape p.on.terms start cs (rise p.on.board.read_faults q.on.board.read_faults))
             (KeptSecond shape) (λ f posted k. record { map = k.1.map_left; held = k.1.held; silent = k.0 }) run.1,
         run.2,
       )
 
 -- a drive that served a command was not worn before it
 unworn_by : (shape : Shape) (start : Map) (p q : Standing) → p.on.board.shape ≡ Some shape
-    → Holds shape p.on.board.pages start → p.on.stopped ≡ false → p.halt ≡ None → q.halt ≡ None → Walk shape NotEmpty p q
+    → Holds shape p.on.board.pages start → Begins shape start p → p.on.stopped ≡ false → p.halt ≡ None → q.halt ≡ None → Walk shape NotEmpty p q
     → is_worn p.on.board ≡ false
-unworn_by shape start p q has holds going before none walk =
-    let w = all_served shape start walk.0 p q before none (chained shape start p walk.0 q has holds going walk.2) in
+unworn_by shape start p q has holds begun going before none walk =
+    let w = all_served shape start walk.0 p q before none (chained shape start p walk.0 q has holds begun.within going walk.2) in
     let run = w.asked.answered in
     few_unworn p.on.board (metered-unworn run.all (meter p.on.board) (meter q.on.board) (λ nothing. walk.1 (sym run.are ∙ ap commands nothing)) run.metered)
 
@@ -97,7 +123,7 @@ BothUnworn a c = (is_worn a ≡ false) × (is_worn c ≡ false)
 -- ---- both
 
 module _ (task : PairTask) (shape : Shape) (m other : Map) (cs ds : List Command) (p p' q q' : Standing) (are : AreOfFirst task cs)
-    (few : installs ds ≤ most_pair_roots m other) (walk : Chained shape m cs p p') (too : Chained shape other ds q q') where
+    (few : installs ds ≤ most_pair_roots m other) (begun : Begins shape m p) (begun' : Begins shape other q) (walk : Chained shape m cs p p') (too : Chained shape other ds q q') where
   abbrev a : BoardState
   a = p.on.board
 
@@ -111,14 +137,14 @@ module _ (task : PairTask) (shape : Shape) (m other : Map) (cs ds : List Command
   d = q'.on.board
 
   -- without a post
-  silent : (failed : Type 0) (n : Option ℕ) (f : Flash) (posted : List ℕ) → KeptSilently shape p.on.frames m cs n f posted → KeptFirst task failed shape m f posted
-  silent failed n f posted k = record { held = kept_first task shape p.on.frames m cs n [] f are k.1; said = inl k.0 }
+  silent : (failed : Type 0) (n : Option ℕ) (f : Flash) (posted : List ℕ) → KeptSilently shape p.on.terms m cs n f posted → KeptFirst task failed shape m f posted
+  silent failed n f posted k = record { held = kept_first task shape p.on.terms (one_limit shape m p begun) m cs n [] f are k.1; said = inl k.0 }
 
   first_silent : (failed : Type 0) → Goes shape a b (KeptFirst task failed shape m)
   first_silent failed =
       let run = kept_by shape m cs p p' walk in (
         run.0,
-        weaken_went run.0 a b (KeptSilently shape p.on.frames m cs (rise a.read_faults b.read_faults))
+        weaken_went run.0 a b (KeptSilently shape p.on.terms m cs (rise a.read_faults b.read_faults))
             (KeptFirst task failed shape m) (silent failed (rise a.read_faults b.read_faults)) run.1,
         run.2,
       )
@@ -165,21 +191,28 @@ module _ (task : PairTask) (shape : Shape) (m other : Map) (cs ds : List Command
   -- ---- the text
 
   module _ (w : AllServed shape m cs p p') (v : AllServed shape other ds q q') (text : List ℕ)
-      (said : PairSaid (BothUnworn a c) task (seen shape p.on p.faults) (seen shape p'.on p'.faults) (seen shape q.on q.faults) (seen shape q'.on q'.faults) m text) where
+      (said : PairSaid (BothUnworn a c) task (seen shape p.on p.faults) (seen shape p'.on p'.faults) (seen shape q.on q.faults) (seen shape q'.on q'.faults) (in_space 1 m) text) where
     -- what the text says of the map that the first drive holds
     abbrev Says : List Exchange → List ℕ → Map → Type 0
     Says all t left = ((left ≡ map_left_by shape task m) × (t ≡ text_by shape task m)) ⊎ (EitherUnread a b c d × (t ≡ failed_line))
 
+    -- the first namespace is all, and its limit is that of the shape
+    left_whole : map_left shape (limit_of p.on.terms.limits 1) task (in_space 1 m) ≡ map_left_by shape task m
+    left_whole = λ i. map_left shape (limit_of (one_limit shape m p begun i) 1) task (begun.alone i)
+
+    text_whole : text_of shape (limit_of p.on.terms.limits 1) task (in_space 1 m) ≡ text_by shape task m
+    text_whole = λ i. text_of shape (limit_of (one_limit shape m p begun i) 1) task (begun.alone i)
+
     says : Says w.asked.answered.all text w.asked.left
     says = elim said [
-      | inl (unworn, done) ↦ inl (some_same w.asked.left (map_left_by shape task m) (sym (ap result_ok w.asked.held) ∙ done.first_left), done.spelled)
+      | inl (unworn, done) ↦ inl (left_is shape m cs p p' begun w (map_left_by shape task m) (done.first_left ∙ ap (λ (n : Map). Some n) left_whole), done.spelled ∙ text_whole)
       | inr unread ↦ inr unread
     ]
 
-    posting : (from to : Meter) (f : Flash) (posted : List ℕ) → KeptWord Says shape p.on.frames m cs from to f posted → KeptFirst task (EitherUnread a b c d) shape m f posted
-    posting from to f posted (k, inl none) = record { held = kept_first task shape p.on.frames m cs (rise from.read_faults to.read_faults) [] f are k; said = inl none }
+    posting : (from to : Meter) (f : Flash) (posted : List ℕ) → KeptWord Says shape p.on.terms m cs from to f posted → KeptFirst task (EitherUnread a b c d) shape m f posted
+    posting from to f posted (k, inl none) = record { held = kept_first task shape p.on.terms (one_limit shape m p begun) m cs (rise from.read_faults to.read_faults) [] f are k; said = inl none }
     posting from to f posted (k, inr s) = record {
-      held = kept_first task shape p.on.frames m cs (rise from.read_faults to.read_faults) [] f are k;
+      held = kept_first task shape p.on.terms (one_limit shape m p begun) m cs (rise from.read_faults to.read_faults) [] f are k;
       said = elim s.says [
         | inl (left, spelled) ↦ inr (inl (subst (λ (x : Map). Holds shape f x) left s.held, (s.unposted, s.front ∙ spelled)))
         | inr (failed, spelled) ↦ inr (inr (failed, (s.unposted, s.front ∙ spelled)))
@@ -188,15 +221,16 @@ module _ (task : PairTask) (shape : Shape) (m other : Map) (cs ds : List Command
 
     -- what every cut of the first board keeps
     abbrev word : Flash → List ℕ → Type 0
-    word = KeptWord Says shape p.on.frames m cs (meter a) (meter b)
+    word = KeptWord Says shape p.on.terms m cs (meter a) (meter b)
 
     -- what holds at the end
     finished_says : PairAnswered task shape m a (after_post b text) c d text ⊎ (EitherUnread a b c d × (text ≡ failed_line))
     finished_says = elim said [
       | inl (unworn, done) ↦ inl (record {
-        text_is = done.spelled;
-        first_holds = subst (λ (x : Map). Holds shape b.pages x) (some_same w.asked.left (map_left_by shape task m) (sym (ap result_ok w.asked.held) ∙ done.first_left)) w.asked.held;
-        second_holds = subst (λ (x : Map). Holds shape d.pages x) (some_same v.asked.left (map_left_by shape task m) (sym (ap result_ok v.asked.held) ∙ done.second_left)) v.asked.held;
+        text_is = done.spelled ∙ text_whole;
+        first_holds = subst (λ (x : Map). Holds shape b.pages x) (left_is shape m cs p p' begun w (map_left_by shape task m) (done.first_left ∙ ap (λ (n : Map). Some n) left_whole)) w.asked.held;
+        second_holds = subst (λ (x : Map). Holds shape d.pages x)
+            (left_is shape other ds q q' begun' v (map_left_by shape task m) (done.second_left ∙ ap (λ (n : Map). Some n) left_whole)) v.asked.held;
         first_unworn = unworn.0;
         second_unworn = unworn.1;
       })
@@ -209,7 +243,7 @@ module _ (task : PairTask) (shape : Shape) (m other : Map) (cs ds : List Command
     -- it was posted
     posted : PairTold task shape m other a (after_post b text) c d Done
     posted =
-        let run = asked-posts Says shape p.on.frames m cs a b w.asked text says in
+        let run = asked-posts Says shape p.on.terms m cs a b w.asked text says in
         let goes = Goes-reaches shape a (after_post b text) word run in
         record {
           first_kept = (goes.0, weaken_went goes.0 a (after_post b text) word (KeptFirst task (EitherUnread a b c d) shape m) (posting (meter a) (meter b)) goes.1, goes.2);
@@ -234,7 +268,7 @@ module _ (task : PairTask) (shape : Shape) (m other : Map) (cs ds : List Command
     -- the output failed
     pub told-unposted : (last : BoardState) → PostFailed b last text → PairTold task shape m other a last c d Output
     told-unposted last failed =
-        let run = asked-post_failed Says shape p.on.frames m cs a b w.asked text says last failed in
+        let run = asked-post_failed Says shape p.on.terms m cs a b w.asked text says last failed in
         let same : last.read_faults ≡ b.read_faults = ap (λ (s : BoardState). s.read_faults) failed.rest in
         let same_stop : last.stop_faults ≡ b.stop_faults = ap (λ (s : BoardState). s.stop_faults) failed.rest in
         let F : ℕ → Type 0 = λ k. Goes shape a last (KeptFirst task (Rose a.read_faults k ⊎ Rose c.read_faults d.read_faults) shape m) in
@@ -264,44 +298,45 @@ both_none None (Some halt) e = let clash : ◌≡◌ {A = Option WordEnd} (Some 
 both_none (Some halt) two e = let clash : ◌≡◌ {A = Option WordEnd} (Some (end_of halt)) None = e in absurd (cc)
 
 module _ (task : PairTask) (shape : Shape) (m other : Map) (p p' q q' : Standing) (has : p.on.board.shape ≡ Some shape) (has' : q.on.board.shape ≡ Some shape) (holds : Holds shape p.on.board.pages m)
-    (holds' : Holds shape q.on.board.pages other) (going : p.on.stopped ≡ false) (going' : q.on.stopped ≡ false) (walk : Walk shape (AreOfFirst task) p p')
+    (holds' : Holds shape q.on.board.pages other) (begun : Begins shape m p) (begun' : Begins shape other q) (going : p.on.stopped ≡ false) (going' : q.on.stopped ≡ false) (walk : Walk shape (AreOfFirst task) p p')
     (too : Walk shape (AreOfSecond (seen shape p.on p.faults) (seen shape q.on q.faults)) q q') (first : p.halt ≡ None) (second : q.halt ≡ None) where
   one : Chained shape m walk.0 p p'
-  one = chained shape m p walk.0 p' has holds going walk.2
+  one = chained shape m p walk.0 p' has holds begun.within going walk.2
 
   two : Chained shape other too.0 q q'
-  two = chained shape other q too.0 q' has' holds' going' too.2
+  two = chained shape other q too.0 q' has' holds' begun'.within going' too.2
 
   few_roots : installs too.0 ≤ most_pair_roots m other
-  few_roots = second_installs (seen shape p.on p.faults) (seen shape q.on q.faults) m other too.0 (ap result_ok holds) (ap result_ok holds') too.1
+  few_roots = second_installs (seen shape p.on p.faults) (seen shape q.on q.faults) m other too.0
+      (ap part_of holds ∙ ap (λ (n : Map). Some n) begun.alone) (ap part_of holds' ∙ ap (λ (n : Map). Some n) begun'.alone) too.1
 
   pub tells-halted : (end : WordEnd) → Some end ≡ end_by p'.halt q'.halt → PairTold task shape m other p.on.board p'.on.board q.on.board q'.on.board end
-  tells-halted end by = told-halted task shape m other walk.0 too.0 p p' q q' walk.1 few_roots one two p'.halt q'.halt end first second refl refl (sym by)
+  tells-halted end by = told-halted task shape m other walk.0 too.0 p p' q q' walk.1 few_roots begun begun' one two p'.halt q'.halt end first second refl refl (sym by)
 
   -- what was said after commands was said of drives that were not worn
   unworn : p'.halt ≡ None → q'.halt ≡ None → (text : List ℕ)
-      → PairSaid (BothWalked shape p p' q q') task (seen shape p.on p.faults) (seen shape p'.on p'.faults) (seen shape q.on q.faults) (seen shape q'.on q'.faults) m text
-      → PairSaid (BothUnworn p.on.board q.on.board) task (seen shape p.on p.faults) (seen shape p'.on p'.faults) (seen shape q.on q.faults) (seen shape q'.on q'.faults) m text
-  unworn none nor text (inl (asked, done)) = inl ((unworn_by shape m p p' has holds going first none asked.0, unworn_by shape other q q' has' holds' going' second nor asked.1), done)
+      → PairSaid (BothWalked shape p p' q q') task (seen shape p.on p.faults) (seen shape p'.on p'.faults) (seen shape q.on q.faults) (seen shape q'.on q'.faults) (in_space 1 m) text
+      → PairSaid (BothUnworn p.on.board q.on.board) task (seen shape p.on p.faults) (seen shape p'.on p'.faults) (seen shape q.on q.faults) (seen shape q'.on q'.faults) (in_space 1 m) text
+  unworn none nor text (inl (asked, done)) = inl ((unworn_by shape m p p' has holds begun going first none asked.0, unworn_by shape other q q' has' holds' begun' going' second nor asked.1), done)
   unworn none nor text (inr unread) = inr unread
 
   pub tells-posted : end_by p'.halt q'.halt ≡ None → (text : List ℕ)
-      → PairSaid (BothWalked shape p p' q q') task (seen shape p.on p.faults) (seen shape p'.on p'.faults) (seen shape q.on q.faults) (seen shape q'.on q'.faults) m text
+      → PairSaid (BothWalked shape p p' q q') task (seen shape p.on p.faults) (seen shape p'.on p'.faults) (seen shape q.on q.faults) (seen shape q'.on q'.faults) (in_space 1 m) text
       → (last : BoardState) → last ≡ after_post p'.on.board text → PairTold task shape m other p.on.board last q.on.board q'.on.board Done
   tells-posted by text said last is =
       let (none, nor) = both_none p'.halt q'.halt by in
-      told-posted task shape m other walk.0 too.0 p p' q q' walk.1 few_roots one two (all_served shape m walk.0 p p' first none one)
+      told-posted task shape m other walk.0 too.0 p p' q q' walk.1 few_roots begun begun' one two (all_served shape m walk.0 p p' first none one)
       (all_served shape other too.0 q q' second nor two) text (unworn none nor text said) last is
 
   pub tells-unposted : end_by p'.halt q'.halt ≡ None → (text : List ℕ)
-      → PairSaid (BothWalked shape p p' q q') task (seen shape p.on p.faults) (seen shape p'.on p'.faults) (seen shape q.on q.faults) (seen shape q'.on q'.faults) m text
+      → PairSaid (BothWalked shape p p' q q') task (seen shape p.on p.faults) (seen shape p'.on p'.faults) (seen shape q.on q.faults) (seen shape q'.on q'.faults) (in_space 1 m) text
       → (last : BoardState) → PostFailed p'.on.board last text → PairTold task shape m other p.on.board last q.on.board q'.on.board Output
   tells-unposted by text said last failed =
       let (none, nor) = both_none p'.halt q'.halt by in
-      told-unposted task shape m other walk.0 too.0 p p' q q' walk.1 few_roots one two (all_served shape m walk.0 p p' first none one)
+      told-unposted task shape m other walk.0 too.0 p p' q q' walk.1 few_roots begun begun' one two (all_served shape m walk.0 p p' first none one)
       (all_served shape other too.0 q q' second nor two) text (unworn none nor text said) last failed
 
   pub faults-never : end_by p'.halt q'.halt ≡ None → p.faults ≡ 0 → q.faults ≡ 0
       → PairFault (seen shape p.on p.faults) (seen shape p'.on p'.faults) (seen shape q.on q.faults) (seen shape q'.on q'.faults) → ⊥
   faults-never by zero zero' fault =
-      let (none, nor) = both_none p'.halt q'.halt by in no_fault task shape m other walk.0 too.0 p p' q q' walk.1 few_roots one two first second none nor zero zero' fault
+      let (none, nor) = both_none p'.halt q'.halt by in no_fault task shape m other walk.0 too.0 p p' q q' walk.1 few_roots begun begun' one two first second none nor zero zero' fault

@@ -8,6 +8,8 @@ use Rattle.pk_nand.specs.BoardState.{BoardState}
 use Rattle.pk_nvme.specs.Command.{Command}
 use Rattle.pk_nand.specs.Calls.{Rose, longer}
 use Rattle.pk_model.specs.Growth.{Goes}
+use Rattle.pk_nvme.specs.declared.limits.TheConstants.{NAMESPACE}
+use Rattle.pk_model.specs.Spaces.{in_space}
 use Rattle.pk_model.specs.Reading.{Holds}
 use Rattle.pk_call.specs.Sight.{Sight}
 use Rattle.pk_model.specs.Wear.{is_worn, roots}
@@ -46,12 +48,13 @@ end_by None None = None
 end_by None (Some halt) = Some (end_of halt)
 end_by (Some halt) second = Some (end_of halt)
 
--- a drive that is not stopped, on a board of this shape that holds a map
+-- a drive that is not stopped, on a board of this shape that holds a map, of which the first namespace is all
 pub record IsServing (shape : Shape) (board : BoardState) (drive : Sight) : Type 0 where
   pub shape_is : board.shape ≡ Some shape
   pub runs : drive.stopped ≡ false
   pub map : Map
   pub holds : Holds shape board.pages map
+  pub alone : in_space NAMESPACE map ≡ map
 
 -- ---- at every cut
 

@@ -1,7 +1,9 @@
 //! A word of a pair over two drives on their boards.
 ghost use Rattle.std.specs.Prelude.{◌≡◌, true, OnOk, OnErr};
 ghost use Rattle.pk_base.specs.Map.{Map};
+ghost use Rattle.pk_nvme.specs.declared.limits.TheConstants.{NAMESPACE};
 ghost use Rattle.pk_model.specs.Reading.{Holds};
+ghost use Rattle.pk_model.specs.Spaces.{in_space};
 ghost use Rattle.pk_mirror.specs.Pair.{Mirrored};
 ghost use Rattle.pk_call.specs.Running.{HasRoomForData};
 ghost use Rattle.pk_port.specs.Ready.{Fits};
@@ -9,7 +11,7 @@ ghost use Rattle.pk_port.specs.Steps.{mount, standing, seen as seen_on};
 ghost use Rattle.pk_words.specs.Said.{Spoken};
 ghost use Rattle.pk_mirrorwords.specs.PairTasks.{seen, IsShort};
 ghost use Rattle.pk_mirrorwords.specs.PairAnswers.{PairSaid, PairFault, AreOfFirst, AreOfSecond};
-ghost use Rattle.pk_mirrorrun.specs.PairTold.{Walk, BothWalked};
+ghost use Rattle.pk_mirrorrun.specs.PairTold.{IsServing, Walk, BothWalked};
 
 use pk_base::Shape;
 use pk_drive::Engine;
@@ -43,8 +45,8 @@ pub fn ask<D: Engine, B: Nand, E: Engine, C: Nand>(
     requires second_room { HasRoomForData shape second_buffer.old }
 
     // The maps, the words and the memory.
-    requires first_map { (m : Map) × Holds shape (B.state first.old).pages m }
-    requires second_map { (m : Map) × Holds shape (C.state second.old).pages m }
+    requires first_runs { IsServing shape (B.state first.old) (D.sight first_drive.old) }
+    requires second_runs { IsServing shape (C.state second.old) (E.sight second_drive.old) }
     requires mirror { mirror.old ≡ record { shape = shape; split = true } }
     requires shape { room.old.shape ≡ shape }
     requires short { IsShort (seen task.now) }
@@ -77,7 +79,8 @@ pub fn ask<D: Engine, B: Nand, E: Engine, C: Nand>(
         (seen task.now) (seen_on shape (mount (B.state first.old) (D.sight first_drive.old)) first_tally.old.faults)
         (seen_on shape (mount (B.state first.new) (D.sight first_drive.new)) first_tally.new.faults)
         (seen_on shape (mount (C.state second.old) (E.sight second_drive.old)) second_tally.old.faults)
-        (seen_on shape (mount (C.state second.new) (E.sight second_drive.new)) second_tally.new.faults) m room.new.text) }
+        (seen_on shape (mount (C.state second.new) (E.sight second_drive.new)) second_tally.new.faults)
+        (in_space NAMESPACE m) room.new.text) }
     ensures fault { OnErr result
         (PairFault (seen_on shape (mount (B.state first.old) (D.sight first_drive.old)) first_tally.old.faults)
         (seen_on shape (mount (B.state first.new) (D.sight first_drive.new)) first_tally.new.faults)

@@ -4,6 +4,7 @@ ghost use Rattle.pk_base.specs.Map.{Map};
 ghost use Rattle.pk_nand.specs.Calls.{IsReady};
 ghost use Rattle.pk_call.specs.Drive.{HoldsMap};
 ghost use Rattle.pk_model.specs.Reading.{Holds};
+ghost use Rattle.pk_port.specs.Steps.{mount};
 ghost use Rattle.pk_mirrorwords.specs.PairTasks.{seen, IsShort};
 ghost use Rattle.pk_mirrorrun.specs.PairTold.{PairTold};
 
@@ -89,8 +90,9 @@ impl PairSpeaker {
         requires first_runs { (D.sight first_drive.old).stopped ≡ false }
         requires first_none { (D.sight first_drive.old).pending ≡ [] }
         requires first_ready { IsReady (B.state first.old) self }
-        requires first_stands { (m : Map) × HoldsMap self (D.sight first_drive.old).counts.frames
-            (B.state first.old) (D.sight first_drive.old) m }
+        requires first_stands { (m : Map) × HoldsMap self
+            (mount (B.state first.old) (D.sight first_drive.old)).terms (B.state first.old)
+            (D.sight first_drive.old) m }
 
         // The same of the second.
         requires second_agrees { E.agrees second_drive.old (C.state second.old).shape
@@ -98,8 +100,9 @@ impl PairSpeaker {
         requires second_runs { (E.sight second_drive.old).stopped ≡ false }
         requires second_none { (E.sight second_drive.old).pending ≡ [] }
         requires second_ready { IsReady (C.state second.old) self }
-        requires second_stands { (m : Map) × HoldsMap self (E.sight second_drive.old).counts.frames
-            (C.state second.old) (E.sight second_drive.old) m }
+        requires second_stands { (m : Map) × HoldsMap self
+            (mount (C.state second.old) (E.sight second_drive.old)).terms (C.state second.old)
+            (E.sight second_drive.old) m }
 
         // The word.
         requires short { IsShort (seen task) }

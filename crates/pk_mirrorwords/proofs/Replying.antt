@@ -1,5 +1,5 @@
 -- What a pair's word says, from how each drive answered its command.
-use Rattle.std.proofs.Common.{◌≡◌, ◌≢◌, inl, inr, ℕ, ◌≤◌, ◌==◌, if◌then◌else◌, List, length, take, Bool, true, false, Option, Some, None, Result, Ok, Err, refl, sym, ap, subst, ◌∙◌}
+use Rattle.std.proofs.Common.{◌≡◌, ◌≢◌, inl, inr, ℕ, ◌≤◌, ◌==◌, if◌then◌else◌, List, length, take, Bool, true, false, Option, Some, None, Result, Ok, Err, refl, sym, ap, subst, ◌∙◌, [], ◌∷◌}
 use Rattle.std.proofs.lemmas.Bool.{eqb-true}
 use Rattle.std.specs.FinMap.{get}
 use Rattle.pk_base.specs.Key.{Key}
@@ -10,6 +10,7 @@ use Rattle.pk_nvme.specs.Reply.{Reply, refusal}
 use Rattle.pk_nvme.specs.Opcode.{op_of}
 use Rattle.pk_nvme.specs.declared.opcode.Opcode.{Opcode}
 use Rattle.pk_nvme.specs.declared.status.TheConstants.{SUCCESSFUL_COMPLETION, KEY_DOES_NOT_EXIST, UNRECOVERED_ERROR}
+use Rattle.pk_model.specs.Spaces.{one_space, limit_of, in_space}
 use Rattle.pk_model.specs.Answer.{refused, reply, reply_of, map_after, Answer}
 use Rattle.pk_host.specs.declared.types.HostError.{HostError}
 use Rattle.pk_host.specs.declared.types.HostError.TheVariants.{Refused as HostRefused, Port as HostPort, Memory}
@@ -37,12 +38,14 @@ refused_same s t n k e = cc
 -- ---- the status of a reply
 
 module _ (shape : Shape) (most : ℕ) (m : Map) (c : Command) (k : Opcode) (is : op_of c.opcode ≡ Some k)
-    (zero : (frames : ℕ) (own : List ℕ) → (reply_of shape most frames m own c (Some k)).status ≡ 0) where
-  answer_status : (frames : ℕ) (a : Reply) (left : Map) → Answer shape most frames m c a left → a.status ≡ status_by (refused shape most m c)
+    (zero : (most frames : ℕ) (m : Map) (own : List ℕ) → (reply_of shape most frames m own c (Some k)).status ≡ 0) where
+  answer_status : (frames : ℕ) (a : Reply) (left : Map) → Answer shape (one_space frames most) m c a left → a.status ≡ status_by (refused shape (most ∷ []) m c)
   unfolding reply
-  answer_status frames a left x = elim (refused shape most m c) as (λ r. refused shape most m c ≡ r → a.status ≡ status_by r) [
+  answer_status frames a left x = elim (refused shape (most ∷ []) m c) as (λ r. refused shape (most ∷ []) m c ≡ r → a.status ≡ status_by r) [
     | Some s ↦ λ e. (let replied : a ≡ refusal s = x.replied ∙ rw e refl in ap (λ (b : Reply). b.status) replied)
-    | None ↦ λ e. (let replied : a ≡ reply_of shape most frames m x.own c (Some k) = x.replied ∙ rw (e, is) refl in ap (λ (b : Reply). b.status) replied ∙ zero frames x.own)
+    | None ↦ λ e. (
+        let replied : a ≡ reply_of shape (limit_of (most ∷ []) c.namespace) frames (in_space c.namespace m) x.own c (Some k) = x.replied ∙ rw (e, is) refl in
+        ap (λ (b : Reply). b.status) replied ∙ zero (limit_of (most ∷ []) c.namespace) frames (in_space c.namespace m) x.own)
   ] refl
 
 -- ---- a command that changes the maps
@@ -76,21 +79,21 @@ existed_line a there e =
 module _ {X : Type 0} (old new : Mirrored) (p p' q q' : PortState) (c : Command) (k : Opcode) (of : Reply → Result X HostError) (tells : Tells of) (is : op_of c.opcode ≡ Some k)
     (plain : (shape : Shape) (most frames : ℕ) (m : Map) (own : List ℕ) → (reply_of shape most frames m own c (Some k)).status ≡ 0)
     (step : old.split ≡ false) (pair : IsPair old p q) (m : Map) (told : p.map ≡ Some m)
-    (task : PairTask) (text_is : text_of p.shape p.limit task m ≡ answered_line p.shape p.limit m c) (left_is : map_left p.shape p.limit task m ≡ map_after p.shape p.limit m c) where
+    (task : PairTask) (text_is : text_of p.shape p.limit task m ≡ answered_line p.shape p.limit m c) (left_is : map_left p.shape p.limit task m ≡ map_after p.shape (p.limit ∷ []) m c) where
   -- the first's answer, if both did it
-  done_reply : (x : X) → Writes old new p p' q q' c of (Ok x) → (a : Reply) × (of a ≡ Ok x) × (a.status ≡ status_by (refused p.shape p.limit m c))
+  done_reply : (x : X) → Writes old new p p' q q' c of (Ok x) → (a : Reply) × (of a ≡ Ok x) × (a.status ≡ status_by (refused p.shape (p.limit ∷ []) m c))
   done_reply x w = elim w [
     | inl s ↦ true_false old.split s.split step
     | inr (inl f) ↦ absurd (let clash : ◌≡◌ {A = Result X MirrorError} (Ok x) (Err f.decides.0) = f.decides.1 in cc)
     | inr (inr (inl f)) ↦ absurd (let clash : ◌≡◌ {A = Result X MirrorError} (Ok x) (Err f.decides.0) = f.decides.1 in cc)
     | inr (inr (inr b)) ↦
         let same : b.done ≡ x = (let h = b.answer in cc) in
-        elim b.gives_first as (λ g. (a : Reply) × (of a ≡ Ok x) × (a.status ≡ status_by (refused p.shape p.limit m c))) [
+        elim b.gives_first as (λ g. (a : Reply) × (of a ≡ Ok x) × (a.status ≡ status_by (refused p.shape (p.limit ∷ []) m c))) [
           | inl (a, r, e) ↦
               let ok : of a ≡ Ok x = sym e ∙ ap (λ (y : X). Ok y) same in
               let s = r.answers m told in
-              elim s.stepped as (λ t. (a : Reply) × (of a ≡ Ok x) × (a.status ≡ status_by (refused p.shape p.limit m c))) [
-                | inl t ↦ (a, ok, answer_status p.shape p.limit m c k is (λ frames own. plain p.shape p.limit frames m own) s.frames a s.left t)
+              elim s.stepped as (λ t. (a : Reply) × (of a ≡ Ok x) × (a.status ≡ status_by (refused p.shape (p.limit ∷ []) m c))) [
+                | inl t ↦ (a, ok, answer_status p.shape p.limit m c k is (λ most frames m own. plain p.shape most frames m own) s.frames a s.left t)
                 | inr u ↦ absurd (tells.answer a x ok (ap (λ (b : Reply). b.status) u.replied))
               ]
           | inr fault ↦ absurd (let clash : ◌≡◌ {A = Result X HostError} (Ok b.done) (Err HostPort) = fault.0 in cc)
@@ -117,8 +120,8 @@ module _ {X : Type 0} (old new : Mirrored) (p p' q q' : PortState) (c : Command)
         let s = r.answers m told in
         elim s.stepped as (λ t. PairFails task p p' q q' m (Refused First status)) [
           | inl t ↦
-              let after : p'.map ≡ Some (map_after p.shape p.limit m c) = s.told ∙ ap (λ (x : Map). Some x) t.leaves in inl (record {
-                spelled = ap status_line (n ∙ answer_status p.shape p.limit m c k is (λ frames own. plain p.shape p.limit frames m own) s.frames a s.left t) ∙ sym text_is;
+              let after : p'.map ≡ Some (map_after p.shape (p.limit ∷ []) m c) = s.told ∙ ap (λ (x : Map). Some x) t.leaves in inl (record {
+                spelled = ap status_line (n ∙ answer_status p.shape p.limit m c k is (λ most frames m own. plain p.shape most frames m own) s.frames a s.left t) ∙ sym text_is;
                 first_left = after ∙ ap (λ (x : Map). Some x) (sym left_is);
                 second_left = ap (λ (x : PortState). x.map) same ∙ pair.in_step step ∙ sym kept ∙ after ∙ ap (λ (x : Map). Some x) (sym left_is);
               })

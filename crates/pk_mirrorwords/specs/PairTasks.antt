@@ -1,5 +1,5 @@
 -- The words of a pair of drives: what each says of the first drive's map, and which map it leaves.
-use Rattle.std.specs.Prelude.{ℕ, ◌<◌, ◌^◌, List, length, codes, Option, Some, None}
+use Rattle.std.specs.Prelude.{ℕ, ◌<◌, ◌^◌, List, length, codes, Option, Some, None, [], ◌∷◌}
 use Rattle.std.specs.FinMap.{get as value_at, keys}
 use Rattle.pk_base.specs.Key.{Key}
 use Rattle.pk_base.specs.Shape.{Shape}
@@ -45,7 +45,7 @@ change_of resync = None
 
 abbrev pub after_change : Shape → ℕ → Map → Option Command → Map
 after_change shape most m None = m
-after_change shape most m (Some c) = map_after shape most m c
+after_change shape most m (Some c) = map_after shape (most ∷ []) m c
 
 -- the map that a word leaves, on drives with this limit of live pages
 abbrev pub map_left : Shape → ℕ → PairTask → Map → Map
@@ -57,7 +57,7 @@ status_by None = SUCCESSFUL_COMPLETION
 status_by (Some status) = status
 
 abbrev pub answered_line : Shape → ℕ → Map → Command → List ℕ
-answered_line shape most m c = status_line (status_by (refused shape most m c))
+answered_line shape most m c = status_line (status_by (refused shape (most ∷ []) m c))
 
 -- what a word says if no read fails
 abbrev pub text_of : Shape → ℕ → PairTask → Map → List ℕ

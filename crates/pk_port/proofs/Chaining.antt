@@ -13,6 +13,7 @@ use Rattle.pk_model.specs.Wear.{roots}
 use Rattle.pk_model.proofs.Growing.{weaken_went, Goes-reaches}
 use Rattle.pk_call.specs.Calling.{only_looks}
 use Rattle.pk_call.specs.Exec.{most_installs}
+use Rattle.pk_model.specs.Spaces.{Terms, limits_at}
 use Rattle.pk_port.specs.Asking.{KeptSilently, Asked}
 use Rattle.pk_port.specs.Steps.{Mounted, Standing, Runs, Serves, Stops, HasCause, Chain}
 use Rattle.pk_port.specs.Chained.{installs_of, installs, AllServed, HaltedAt, Chained}
@@ -62,8 +63,8 @@ stays shape p (c ∷ cs) q (h, is, cause) (mid, s, more) = elim s.ended [
 
 module _ (shape : Shape) (start : Map) (p : Standing) where
   -- the same frames all the time
-  asked_at : (mid : Standing) (done : List Command) → AllServed shape start done p mid → Asked shape mid.on.frames start p.on.board mid.on.board done
-  asked_at mid done w = subst (λ (n : ℕ). Asked shape n start p.on.board mid.on.board done) (sym w.same_frames) w.asked
+  asked_at : (mid : Standing) (done : List Command) → AllServed shape start done p mid → Asked shape mid.on.terms start p.on.board mid.on.board done
+  asked_at mid done w = subst (λ (n : Terms). Asked shape n start p.on.board mid.on.board done) (sym w.same_terms) w.asked
 
   -- one more was served
   served_next : (mid next : Standing) (done : List Command) (c : Command) (x : Exchange) → AllServed shape start done p mid
@@ -74,9 +75,9 @@ module _ (shape : Shape) (start : Map) (p : Standing) where
       let few = w.few in
       let sum = installs_both done (c ∷ []) in
       record {
-        asked = subst (λ (n : ℕ). Asked shape n start p.on.board next.on.board (done ++ c ∷ [])) w.same_frames more;
+        asked = subst (λ (n : Terms). Asked shape n start p.on.board next.on.board (done ++ c ∷ [])) w.same_terms more;
         going = ap (λ (on : Mounted). on.stopped) s.new_is ∙ w.going;
-        same_frames = ap (λ (on : Mounted). on.frames) s.new_is ∙ w.same_frames;
+        same_terms = ap (λ (on : Mounted). on.terms) s.new_is ∙ w.same_terms;
         same_faults = faults ∙ w.same_faults;
         same_halt = halt ∙ w.same_halt;
         few = omega (arith, one, few, sum);
@@ -90,9 +91,9 @@ module _ (shape : Shape) (start : Map) (p : Standing) where
     cause = h.cause;
     kept = (
       h.kept.0,
-      weaken_went h.kept.0 p.on.board q.on.board (KeptSilently shape p.on.frames start done (rise p.on.board.read_faults q.on.board.read_faults))
-          (KeptSilently shape p.on.frames start (done ++ more) (rise p.on.board.read_faults q.on.board.read_faults))
-          (silent-more shape p.on.frames start done more (rise p.on.board.read_faults q.on.board.read_faults) (rise p.on.board.read_faults q.on.board.read_faults) (λ k few. few)) h.kept.1,
+      weaken_went h.kept.0 p.on.board q.on.board (KeptSilently shape p.on.terms start done (rise p.on.board.read_faults q.on.board.read_faults))
+          (KeptSilently shape p.on.terms start (done ++ more) (rise p.on.board.read_faults q.on.board.read_faults))
+          (silent-more shape p.on.terms start done more (rise p.on.board.read_faults q.on.board.read_faults) (rise p.on.board.read_faults q.on.board.read_faults) (λ k few. few)) h.kept.1,
       h.kept.2,
     );
     rose = h.rose;
@@ -110,7 +111,7 @@ module _ (shape : Shape) (start : Map) (p : Standing) where
     halt = halt;
     is = is;
     cause = cause;
-    kept = subst (λ (on : Mounted). Goes shape p.on.board on.board (KeptSilently shape p.on.frames start done (rise p.on.board.read_faults on.board.read_faults))) (sym same) h.kept;
+    kept = subst (λ (on : Mounted). Goes shape p.on.board on.board (KeptSilently shape p.on.terms start done (rise p.on.board.read_faults on.board.read_faults))) (sym same) h.kept;
     rose = subst (λ (on : Mounted). p.on.board.read_faults ≤ on.board.read_faults) (sym same) h.rose;
     why = subst (λ (on : Mounted). Rose p.on.board.stop_faults on.board.stop_faults
         ⊎ ((on.board.stop_faults ≡ p.on.board.stop_faults) × (on.stopped ≡ false) × (roots on.board ≤ roots p.on.board + installs done))) (sym same) h.why;
@@ -127,7 +128,7 @@ module _ (shape : Shape) (start : Map) (p : Standing) where
         halt = Stopped;
         is = is;
         cause = s.stopped;
-        kept = subst (λ (n : ℕ). Goes shape p.on.board next.on.board (KeptSilently shape n start (done ++ c ∷ []) (rise p.on.board.read_faults next.on.board.read_faults))) w.same_frames
+        kept = subst (λ (n : Terms). Goes shape p.on.board next.on.board (KeptSilently shape n start (done ++ c ∷ []) (rise p.on.board.read_faults next.on.board.read_faults))) w.same_terms
             (asked-stops shape start p.on.board done mid.on next.on c (asked_at mid done w) s);
         rose = omega (arith, up, before);
         why = inl (subst (λ (n : ℕ). Rose n next.on.board.stop_faults) w.asked.no_stop s.stop);
@@ -142,7 +143,7 @@ module _ (shape : Shape) (start : Map) (p : Standing) where
         halt = halt;
         is = refl;
         cause = cause;
-        kept = Goes-reaches shape p.on.board mid.on.board (KeptSilently shape p.on.frames start done (rise p.on.board.read_faults mid.on.board.read_faults)) w.asked.reached;
+        kept = Goes-reaches shape p.on.board mid.on.board (KeptSilently shape p.on.terms start done (rise p.on.board.read_faults mid.on.board.read_faults)) w.asked.reached;
         rose = w.asked.rose;
         why = inr (w.asked.no_stop, w.going, w.few);
         rest = w.asked.rest;
@@ -166,11 +167,11 @@ module _ (shape : Shape) (start : Map) (p : Standing) where
 
 -- What a chain of commands did, from a drive that runs on a board that holds a map.
 pub chained : (shape : Shape) (start : Map) (p : Standing) (cs : List Command) (q : Standing) → p.on.board.shape ≡ Some shape
-    → Holds shape p.on.board.pages start → p.on.stopped ≡ false → Chain shape p cs q → Chained shape start cs p q
-chained shape start p cs q has holds going chain = chained_from shape start p p [] (record {
-  asked = asked-none shape p.on.frames start p.on.board has holds;
+    → Holds shape p.on.board.pages start → limits_at shape p.on.board.pages ≡ p.on.terms.limits → p.on.stopped ≡ false → Chain shape p cs q → Chained shape start cs p q
+chained shape start p cs q has holds within going chain = chained_from shape start p p [] (record {
+  asked = asked-none shape p.on.terms start p.on.board has holds within;
   going = going;
-  same_frames = refl;
+  same_terms = refl;
   same_faults = refl;
   same_halt = refl;
   few = omega arith;

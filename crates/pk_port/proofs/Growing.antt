@@ -1,7 +1,7 @@
 -- Commands one after another through a port, and a text after them.
 use Rattle.std.proofs.Common.{◌≡◌, inl, inr, ℕ, ◌+◌, ◌≤◌, List, [], ◌∷◌, ◌++◌, Option, Some, refl, sym, ap, subst, ◌∙◌, arith, append-nil, append_assoc, replicate}
 use Rattle.std.proofs.lemmas.Fn.{FoldsTo-push}
-use Rattle.pk_base.specs.Shape.{Shape, limit}
+use Rattle.pk_base.specs.Shape.{Shape}
 use Rattle.pk_base.specs.Page.{Flash}
 use Rattle.pk_base.specs.Mark.{all_posted, post}
 use Rattle.pk_base.specs.Map.{Map}
@@ -24,11 +24,13 @@ use Rattle.pk_port.specs.Asking.{KeptSilently, KeptWord, Asked, Ran}
 use Rattle.pk_port.specs.Steps.{Mounted, Serves, Stops}
 use Rattle.pk_base.proofs.Logic.{ok_same}
 use Rattle.pk_nand.proofs.Effects.{only_then}
+use Rattle.pk_model.specs.Spaces.{Terms, limits_at}
+use Rattle.pk_serve.proofs.Limiting.{limits_same}
 
 -- more commands, and more faults
-pub silent-more : (shape : Shape) (frames : ℕ) (start : Map) (cs more : List Command) (n later : Option ℕ) → ((k : ℕ) → AtMost n k → AtMost later k)
-    → (f : Flash) (q : List ℕ) → KeptSilently shape frames start cs n f q → KeptSilently shape frames start (cs ++ more) later f q
-silent-more shape frames start cs more n later up f q (none, k) = (
+pub silent-more : (shape : Shape) (terms : Terms) (start : Map) (cs more : List Command) (n later : Option ℕ) → ((k : ℕ) → AtMost n k → AtMost later k)
+    → (f : Flash) (q : List ℕ) → KeptSilently shape terms start cs n f q → KeptSilently shape terms start (cs ++ more) later f q
+silent-more shape terms start cs more n later up f q (none, k) = (
   none,
   record {
     served = k.served;
@@ -37,6 +39,7 @@ silent-more shape frames start cs more n later up f q (none, k) = (
     map_left = k.map_left;
     ran = k.ran;
     held = k.held;
+    same_limits = k.same_limits;
     unposted = k.unposted;
     begins = k.begins;
     few_faults = up (faults k.served) k.few_faults;
@@ -44,15 +47,16 @@ silent-more shape frames start cs more n later up f q (none, k) = (
 )
 
 -- nothing was asked
-pub asked-none : (shape : Shape) (frames : ℕ) (start : Map) (a : BoardState) → a.shape ≡ Some shape → Holds shape a.pages start → Asked shape frames start a a []
-asked-none shape frames start a has holds = record {
+pub asked-none : (shape : Shape) (terms : Terms) (start : Map) (a : BoardState) → a.shape ≡ Some shape → Holds shape a.pages start → limits_at shape a.pages ≡ terms.limits → Asked shape terms start a a []
+asked-none shape terms start a has holds within = record {
   left = start;
   answered = record { all = []; are = refl; ran = refl; few = at_most-zero (rise a.read_faults a.read_faults); metered = refl };
   held = holds;
+  same_limits = within;
   shape_is = has;
   reached = (
     [],
-    Reached-start a a (KeptSilently shape frames start [] (rise a.read_faults a.read_faults)) refl refl refl refl (
+    Reached-start a a (KeptSilently shape terms start [] (rise a.read_faults a.read_faults)) refl refl refl refl (
       refl,
       record {
         served = [];
@@ -61,6 +65,7 @@ asked-none shape frames start a has holds = record {
         map_left = start;
         ran = refl;
         held = holds;
+        same_limits = within;
         unposted = [];
         begins = refl;
         few_faults = at_most-zero (rise a.read_faults a.read_faults);
@@ -80,19 +85,19 @@ few_more n xs x k e h = let T : ℕ → Type 0 = λ f. AtMost n f in subst T (sy
 pub few_same : (n : Option ℕ) (xs : List Exchange) → AtMost n (faults xs) → AtMost n (faults xs + 0)
 few_same n xs h = let T : ℕ → Type 0 = λ k. AtMost n k in let e : faults xs ≡ faults xs + 0 = omega arith in subst T e h
 
-module _ (shape : Shape) (frames : ℕ) (start : Map) (cs : List Command) (from mid : Meter) (m : Map) (r : Ran shape frames start cs from mid m) where
+module _ (shape : Shape) (terms : Terms) (start : Map) (cs : List Command) (from mid : Meter) (m : Map) (r : Ran shape terms start cs from mid m) where
   pushed : (x : Exchange) (c : Command) → x.command ≡ c → commands (r.all ++ x ∷ []) ≡ cs ++ c ∷ []
   pushed x c is = commands-push r.all x ∙ (ap (λ l. l ++ x.command ∷ []) r.are ∙ ap (λ k. cs ++ k ∷ []) is)
 
   -- one more command was answered
   pub ran-next : (to : Meter) (c : Command) (x : Exchange) (left : Map) → from.read_faults ≤ mid.read_faults → mid.read_faults ≤ to.read_faults → x.command ≡ c
-      → StepWithin shape frames m x left → Metered mid x to → Ran shape frames start (cs ++ c ∷ []) from to left
+      → StepWithin shape terms m x left → Metered mid x to → Ran shape terms start (cs ++ c ∷ []) from to left
   ran-next to c x left rose up is step metered =
       let n = rise from.read_faults to.read_faults in
       record {
         all = r.all ++ x ∷ [];
         are = pushed x c is;
-        ran = FoldsTo-push (StepWithin shape frames) start r.all m x left r.ran step;
+        ran = FoldsTo-push (StepWithin shape terms) start r.all m x left r.ran step;
         few = elim (faults-one x) [
           | inl good ↦ few_more n r.all x 0 good.1 (few_same n r.all (at_most-more from.read_faults mid.read_faults to.read_faults (faults r.all) up r.few))
           | inr bad ↦ few_more n r.all x 1 bad.1 (at_most-one from.read_faults mid.read_faults to.read_faults (faults r.all) rose (metered.failed bad.0) r.few)
@@ -100,7 +105,7 @@ module _ (shape : Shape) (frames : ℕ) (start : Map) (cs : List Command) (from 
         metered = FoldsTo-push Metered from r.all mid x to r.metered metered;
       }
 
-module _ (shape : Shape) (frames : ℕ) (start : Map) (a b : BoardState) (cs : List Command) (w : Asked shape frames start a b cs) where
+module _ (shape : Shape) (terms : Terms) (start : Map) (a b : BoardState) (cs : List Command) (w : Asked shape terms start a b cs) where
   module _ (c : Command) (later : ℕ) (up : b.read_faults ≤ later) where
     abbrev now : Option ℕ
     now = rise a.read_faults later
@@ -109,11 +114,11 @@ module _ (shape : Shape) (frames : ℕ) (start : Map) (a b : BoardState) (cs : L
     few_now = at_most-more a.read_faults b.read_faults later (faults w.answered.all) up w.answered.few
 
     -- a cut of one more command
-    cut_more : (f : Flash) (q : List ℕ) → StepCut shape w.left c f q → KeptSilently shape frames start (cs ++ c ∷ []) now f (all_posted w.reached.0 ++ q)
+    cut_more : (f : Flash) (q : List ℕ) → StepCut shape terms.limits w.left c f q → KeptSilently shape terms start (cs ++ c ∷ []) now f (all_posted w.reached.0 ++ q)
     cut_more f q cut =
-        let quiet : all_posted w.reached.0 ≡ [] = (at_end w.reached.0 a b (KeptSilently shape frames start cs (rise a.read_faults b.read_faults)) w.reached.1).0 in
-        let x : Exchange = record { command = c; reply = reply shape (limit shape) frames w.left (replicate 11 0) c; reads = 0 } in
-        let other : faults (x ∷ []) ≡ 0 = elim (faults-one x) [ inl good ↦ good.1 | inr bad ↦ absurd (reply_other shape (limit shape) frames w.left (replicate 11 0) c bad.0) ] in (
+        let quiet : all_posted w.reached.0 ≡ [] = (at_end w.reached.0 a b (KeptSilently shape terms start cs (rise a.read_faults b.read_faults)) w.reached.1).0 in
+        let x : Exchange = record { command = c; reply = reply shape terms w.left (replicate 11 0) c; reads = 0 } in
+        let other : faults (x ∷ []) ≡ 0 = elim (faults-one x) [ inl good ↦ good.1 | inr bad ↦ absurd (reply_other shape terms w.left (replicate 11 0) c bad.0) ] in (
           ap (λ t. t ++ q) quiet ∙ cut.0,
           elim cut.1 [
             | inl before ↦ record {
@@ -123,6 +128,7 @@ module _ (shape : Shape) (frames : ℕ) (start : Map) (a b : BoardState) (cs : L
               map_left = w.left;
               ran = w.answered.ran;
               held = before;
+              same_limits = limits_same shape f b.pages ∙ w.same_limits;
               unposted = records 0 w.answered.all;
               begins = refl;
               few_faults = few_now;
@@ -130,11 +136,12 @@ module _ (shape : Shape) (frames : ℕ) (start : Map) (a b : BoardState) (cs : L
             | inr behind ↦ record {
               served = w.answered.all ++ x ∷ [];
               unserved = [];
-              from_front = append-nil (commands (w.answered.all ++ x ∷ [])) ∙ pushed shape frames start cs (meter a) (meter b) w.left w.answered x c refl;
-              map_left = map_after shape (limit shape) w.left c;
-              ran = FoldsTo-push (StepWithin shape frames) start w.answered.all w.left x
-                  (map_after shape (limit shape) w.left c) w.answered.ran (inl (answers shape (limit shape) frames w.left c), λ _. omega arith);
+              from_front = append-nil (commands (w.answered.all ++ x ∷ [])) ∙ pushed shape terms start cs (meter a) (meter b) w.left w.answered x c refl;
+              map_left = map_after shape terms.limits w.left c;
+              ran = FoldsTo-push (StepWithin shape terms) start w.answered.all w.left x
+                  (map_after shape terms.limits w.left c) w.answered.ran (inl (answers shape terms w.left c), λ _. omega arith);
               held = behind;
+              same_limits = limits_same shape f b.pages ∙ w.same_limits;
               unposted = records 0 (w.answered.all ++ x ∷ []);
               begins = refl;
               few_faults = few_more now w.answered.all x 0 other (few_same now w.answered.all few_now);
@@ -142,73 +149,74 @@ module _ (shape : Shape) (frames : ℕ) (start : Map) (a b : BoardState) (cs : L
           ],
         )
 
-    abbrev before_more : Reaches shape a b (KeptSilently shape frames start (cs ++ c ∷ []) now)
+    abbrev before_more : Reaches shape a b (KeptSilently shape terms start (cs ++ c ∷ []) now)
     before_more = (
       w.reached.0,
-      weaken w.reached.0 a b (KeptSilently shape frames start cs (rise a.read_faults b.read_faults)) (KeptSilently shape frames start (cs ++ c ∷ []) now)
-          (silent-more shape frames start cs (c ∷ []) (rise a.read_faults b.read_faults) now (λ k h. at_most-more a.read_faults b.read_faults later k up h)) w.reached.1,
+      weaken w.reached.0 a b (KeptSilently shape terms start cs (rise a.read_faults b.read_faults)) (KeptSilently shape terms start (cs ++ c ∷ []) now)
+          (silent-more shape terms start cs (c ∷ []) (rise a.read_faults b.read_faults) now (λ k h. at_most-more a.read_faults b.read_faults later k up h)) w.reached.1,
       w.reached.2,
     )
 
-module _ (shape : Shape) (start : Map) (a : BoardState) (cs : List Command) (old new : Mounted) (c : Command) (w : Asked shape old.frames start a old.board cs) where
+module _ (shape : Shape) (start : Map) (a : BoardState) (cs : List Command) (old new : Mounted) (c : Command) (w : Asked shape old.terms start a old.board cs) where
   -- the map that the flash held is the one that was left
   same_map : (map : Map) → Holds shape old.board.pages map → map ≡ w.left
   same_map map h = ok_same map w.left (sym h ∙ w.held)
 
-  seen_cut : (map : Map) → map ≡ w.left → old.board.read_faults ≤ new.board.read_faults → (f : Flash) (q : List ℕ) → StepCut shape map c f q
-      → KeptSilently shape old.frames start (cs ++ c ∷ []) (rise a.read_faults new.board.read_faults) f (all_posted w.reached.0 ++ q)
+  seen_cut : (map : Map) → map ≡ w.left → old.board.read_faults ≤ new.board.read_faults → (f : Flash) (q : List ℕ) → StepCut shape old.terms.limits map c f q
+      → KeptSilently shape old.terms start (cs ++ c ∷ []) (rise a.read_faults new.board.read_faults) f (all_posted w.reached.0 ++ q)
   seen_cut map same up f q cut =
-      let T : Map → Type 0 = λ m. StepCut shape m c f q in cut_more shape old.frames start a old.board cs w c new.board.read_faults up f q (subst T same cut)
+      let T : Map → Type 0 = λ m. StepCut shape old.terms.limits m c f q in cut_more shape old.terms start a old.board cs w c new.board.read_faults up f q (subst T same cut)
 
   -- one more command was served
-  pub asked-next : (x : Exchange) → Serves shape old new c x → Asked shape old.frames start a new.board (cs ++ c ∷ [])
+  pub asked-next : (x : Exchange) → Serves shape old new c x → Asked shape old.terms start a new.board (cs ++ c ∷ [])
   asked-next x s =
       let n = rise a.read_faults new.board.read_faults in
-      let more = before_more shape old.frames start a old.board cs w c new.board.read_faults s.up in
+      let more = before_more shape old.terms start a old.board cs w c new.board.read_faults s.up in
       let same = same_map s.map s.held in
-      let W : Map → Type 0 = λ m. StepWithin shape old.frames m x s.left in
+      let W : Map → Type 0 = λ m. StepWithin shape old.terms m x s.left in
       record {
         left = s.left;
-        answered = ran-next shape old.frames start cs (meter a) (meter old.board) w.left w.answered (meter new.board) c x s.left w.rose s.up s.is (subst W same s.step) s.metered;
+        answered = ran-next shape old.terms start cs (meter a) (meter old.board) w.left w.answered (meter new.board) c x s.left w.rose s.up s.is (subst W same s.step) s.metered;
         held = s.holds;
+        same_limits = limits_same shape new.board.pages old.board.pages ∙ w.same_limits;
         shape_is = w.shape_is;
-        reached = Reaches-then shape more.0 a old.board (KeptSilently shape old.frames start (cs ++ c ∷ []) n) w.shape_is more.1 more.2 new.board
-            (StepCut shape s.map c) (seen_cut s.map same s.up) s.reached;
+        reached = Reaches-then shape more.0 a old.board (KeptSilently shape old.terms start (cs ++ c ∷ []) n) w.shape_is more.1 more.2 new.board
+            (StepCut shape old.terms.limits s.map c) (seen_cut s.map same s.up) s.reached;
         rose = (let up = s.up in let rose = w.rose in omega (arith, up, rose));
         no_stop = s.no_stop ∙ w.no_stop;
         rest = only_then a old.board new.board w.rest s.rest;
       }
 
   -- one more command stopped the drive
-  pub asked-stops : Stops shape old new c → Goes shape a new.board (KeptSilently shape old.frames start (cs ++ c ∷ []) (rise a.read_faults new.board.read_faults))
+  pub asked-stops : Stops shape old new c → Goes shape a new.board (KeptSilently shape old.terms start (cs ++ c ∷ []) (rise a.read_faults new.board.read_faults))
   asked-stops s =
-      let more = before_more shape old.frames start a old.board cs w c new.board.read_faults s.up in
-      Goes-then shape more.0 a old.board (KeptSilently shape old.frames start (cs ++ c ∷ []) (rise a.read_faults new.board.read_faults)) w.shape_is more.1 more.2 new.board (StepCut shape s.map c)
+      let more = before_more shape old.terms start a old.board cs w c new.board.read_faults s.up in
+      Goes-then shape more.0 a old.board (KeptSilently shape old.terms start (cs ++ c ∷ []) (rise a.read_faults new.board.read_faults)) w.shape_is more.1 more.2 new.board (StepCut shape old.terms.limits s.map c)
       (seen_cut s.map (same_map s.map s.held) s.up) s.went
 
 -- ---- what is said after the commands
 
-module _ (Says : List Exchange → List ℕ → Map → Type 0) (shape : Shape) (frames : ℕ) (start : Map) (cs : List Command) where
+module _ (Says : List Exchange → List ℕ → Map → Type 0) (shape : Shape) (terms : Terms) (start : Map) (cs : List Command) where
   -- no byte was posted
-  silent_word : (from to : Meter) (f : Flash) (q : List ℕ) → KeptSilently shape frames start cs (rise from.read_faults to.read_faults) f q → KeptWord Says shape frames start cs from to f q
+  silent_word : (from to : Meter) (f : Flash) (q : List ℕ) → KeptSilently shape terms start cs (rise from.read_faults to.read_faults) f q → KeptWord Says shape terms start cs from to f q
   silent_word from to f q (none, k) = (k, inl none)
 
-  pub went-silent : (from to : Meter) (a b : BoardState) → Goes shape a b (KeptSilently shape frames start cs (rise from.read_faults to.read_faults))
-      → Goes shape a b (KeptWord Says shape frames start cs from to)
+  pub went-silent : (from to : Meter) (a b : BoardState) → Goes shape a b (KeptSilently shape terms start cs (rise from.read_faults to.read_faults))
+      → Goes shape a b (KeptWord Says shape terms start cs from to)
   went-silent from to a b went = (
     went.0,
-    weaken_went went.0 a b (KeptSilently shape frames start cs (rise from.read_faults to.read_faults)) (KeptWord Says shape frames start cs from to) (silent_word from to) went.1,
+    weaken_went went.0 a b (KeptSilently shape terms start cs (rise from.read_faults to.read_faults)) (KeptWord Says shape terms start cs from to) (silent_word from to) went.1,
     went.2,
   )
 
-  module _ (a b : BoardState) (w : Asked shape frames start a b cs) where
+  module _ (a b : BoardState) (w : Asked shape terms start a b cs) where
     abbrev said_at : Flash → List ℕ → Type 0
-    said_at = KeptWord Says shape frames start cs (meter a) (meter b)
+    said_at = KeptWord Says shape terms start cs (meter a) (meter b)
 
     abbrev asked_before : Reaches shape a b said_at
     asked_before = (
       w.reached.0,
-      weaken w.reached.0 a b (KeptSilently shape frames start cs (rise a.read_faults b.read_faults)) said_at (silent_word (meter a) (meter b)) w.reached.1,
+      weaken w.reached.0 a b (KeptSilently shape terms start cs (rise a.read_faults b.read_faults)) said_at (silent_word (meter a) (meter b)) w.reached.1,
       w.reached.2,
     )
 
@@ -216,7 +224,7 @@ module _ (Says : List Exchange → List ℕ → Map → Type 0) (shape : Shape) 
       -- a prefix of the text was posted
       fronts : (out rest : List ℕ) → out ++ rest ≡ text → said_at b.pages (all_posted w.reached.0 ++ out)
       fronts out rest e =
-          let last = at_end w.reached.0 a b (KeptSilently shape frames start cs (rise a.read_faults b.read_faults)) w.reached.1 in (
+          let last = at_end w.reached.0 a b (KeptSilently shape terms start cs (rise a.read_faults b.read_faults)) w.reached.1 in (
             last.1,
             inr (record {
               left = w.left;

@@ -1,3 +1,4 @@
+pub mod Isolating
 pub mod Serving
 pub mod Stepping
 pub mod Lifting

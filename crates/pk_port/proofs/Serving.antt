@@ -1,37 +1,37 @@
 -- What a command that was served leaves of a drive on its board, and what it reports to a host.
-use Rattle.std.proofs.Common.{◌≡◌, ◌≢◌, inl, inr, ℕ, ◌+◌, ◌≤◌, ◌<◌, ◌^◌, refl, sym, ap, subst, ◌∙◌, arith, List, [], length, take, Bool, true, false, nat_le, Option, Some, Result, Ok, Err}
+use Rattle.std.proofs.Common.{◌≡◌, ◌≢◌, inl, inr, ℕ, ◌+◌, ◌≤◌, ◌<◌, ◌^◌, refl, sym, ap, subst, ◌∙◌, arith, List, [], ◌∷◌, length, take, Bool, true, false, nat_le, Option, Some, Result, Ok, Err}
 use Rattle.std.proofs.lemmas.Bool.Decides.{nat_tests}
 use Rattle.std.proofs.lemmas.List.{length-take-le}
-use Rattle.std.specs.Result.{result_ok}
 use Rattle.pk_base.specs.Shape.{Shape, limit}
 use Rattle.pk_base.specs.Page.{Flash}
 use Rattle.pk_base.specs.Entry.{Entry}
-use Rattle.pk_base.specs.Map.{Map}
-use Rattle.pk_base.specs.Refusal.{Refusal}
+use Rattle.pk_base.specs.Map.{Map, IsMap, live}
 use Rattle.pk_nvme.specs.Command.{Command}
 use Rattle.pk_nvme.specs.Reply.{Reply}
 use Rattle.pk_nand.specs.BoardState.{BoardState, shape_of, shape_or_none}
 use Rattle.pk_nand.specs.Calls.{Rose}
 use Rattle.pk_nand.specs.Effects.{OnlyFlash, OnlyReading}
 use Rattle.pk_call.specs.Calling.{only_looks}
+use Rattle.pk_model.specs.Answer.{map_after}
 use Rattle.pk_model.specs.Reading.{reading, Holds}
+use Rattle.pk_model.specs.Spaces.{Terms, limits_at, limit_of, in_space}
+use Rattle.pk_model.proofs.SpaceLemmas.{is_whole}
+use Rattle.pk_call.specs.Drive.{HoldsMap}
 use Rattle.pk_call.specs.Sight.{Sight}
 use Rattle.pk_model.specs.Wear.{root_number, roots, is_worn}
 use Rattle.pk_call.specs.Exec.{most_installs, IsValue}
 use Rattle.pk_call.specs.Meter.{reads_after}
 use Rattle.pk_serve.specs.Port.{Submitted, Submits, SubmitStops}
 use Rattle.pk_host.specs.Good.{IsGood, IsHanded, holding}
-use Rattle.pk_host.specs.Port.{PortSteps, Replies, room_of}
+use Rattle.pk_host.specs.Port.{IsWithin, PortSteps, Replies, room_of}
 use Rattle.pk_host.proofs.LeftLemmas.{good_left}
 use Rattle.pk_host.proofs.DataLemmas.{data_fit}
 use Rattle.pk_port.specs.Ready.{Ready, Fits}
 use Rattle.pk_port.specs.Steps.{mount, seen, Serves, Fails}
 use Rattle.pk_port.specs.declared.halt.Halt.TheVariants.{Stopped}
-use Rattle.pk_base.proofs.Logic.{ok_same}
-
-ok_told : (r : Result Map Refusal) (m : Map) → result_ok r ≡ Some m → r ≡ Ok m
-ok_told (Ok x) m e = cc
-ok_told (Err refusal) m e = cc
+use Rattle.pk_port.proofs.Isolating.{first_step}
+use Rattle.pk_port.proofs.Stepping.{part_of, part_held}
+use Rattle.pk_serve.proofs.Limiting.{limits_same, limits_one, limits_held}
 
 -- what is passed, of a board of this shape
 pub value_on : (shape : Shape) (board : BoardState) (opcode size : ℕ) (handed value : List ℕ)
@@ -45,21 +45,44 @@ unworn_on agrees shape board worn has agreed says not_worn =
     let T : Option Shape → Type 0 = λ o. agrees o board.pages in
     ap (λ o. nat_le 9223372036854775808 (root_number (shape_or_none o) board.pages)) has ∙ (sym (says shape board.pages (subst T has agreed)) ∙ not_worn)
 
+-- the limits of a drive on a board of this shape
+pub mounted_limits : (shape : Shape) (board : BoardState) (drive : Sight) → board.shape ≡ Some shape → limits_at shape board.pages ≡ (mount board drive).terms.limits
+mounted_limits shape board drive has = sym (ap (λ s. limits_at (shape_or_none s) board.pages) has)
+
+-- they are one
+pub mounted_one : (shape : Shape) (board : BoardState) (drive : Sight) → board.shape ≡ Some shape → (mount board drive).terms.limits ≡ limit shape ∷ []
+mounted_one shape board drive has = sym (mounted_limits shape board drive has) ∙ limits_one shape board.pages
+
+-- the frames and the limits of a drive on its board
+pub mounted_terms : (shape : Shape) (terms : Terms) (board : BoardState) (drive : Sight) (m : Map) → HoldsMap shape terms board drive m → (mount board drive).terms ≡ terms
+mounted_terms shape terms board drive m stands = λ k. record { frames = stands.frames_is k; limits = limits_held shape terms board drive m stands k }
+
 module _ (agrees : Option Shape → Flash → Type 0) (shape : Shape) (old : BoardState) (d : Sight) (ready : Ready agrees shape old d) where
   -- the flash holds the map
   pub ready_holds : Holds shape old.pages ready.map
   ready_holds = let M : List Entry → Type 0 = λ p. reading shape old.pages p ≡ Ok ready.map in subst M ready.none ready.stands.map_is
 
+  -- its limits are one, that of the shape
+  one_limit : (mount old d).terms.limits ≡ limit shape ∷ []
+  one_limit = ap (λ s. limits_at (shape_or_none s) old.pages) ready.stands.shape_is ∙ limits_one shape old.pages
+
+  some_limit : 1 ≤ length (mount old d).terms.limits
+  some_limit = subst (λ (limits : List ℕ). 1 ≤ length limits) (sym one_limit) (omega arith)
+
   module _ (new : BoardState) (e : Sight) (c : Command) where
     -- ---- a command that was served
 
     module _ (rep : Reply) (reads : ℕ) (submits : Submits old new d e c rep reads) where
-      abbrev done : Submitted shape d.counts.frames old new e ready.map c rep reads
-      done = submits shape d.counts.frames ready.map ready.stands ready.none
+      abbrev done : Submitted shape (mount old d).terms old new e ready.map c rep reads
+      done = submits shape (mount old d).terms ready.map ready.stands ready.none
+
+      -- the frames and the limits are the same
+      same_terms : (mount new e).terms ≡ (mount old d).terms
+      same_terms = mounted_terms shape (mount old d).terms new e done.left done.stands
 
       good_now : IsHanded c → IsGood (holding shape done.left)
       good_now handed = elim done.stepped [
-        | inl answer ↦ subst (λ (m : Map). IsGood (holding shape m)) (sym answer.leaves) (good_left shape ready.map c ready.good handed)
+        | inl answer ↦ subst (λ (m : Map). IsGood (holding shape m)) (sym (answer.leaves ∙ ap (λ (limits : List ℕ). map_after shape limits ready.map c) one_limit)) (good_left shape ready.map c ready.good handed)
         | inr fault ↦ subst (λ (m : Map). IsGood (holding shape m)) (sym fault.leaves) ready.good
       ]
 
@@ -71,7 +94,7 @@ module _ (agrees : Option Shape → Flash → Type 0) (shape : Shape) (old : Boa
           agreed = agreed;
           none = none;
           map = done.left;
-          stands = record { shape_is = done.stands.shape_is; frames_is = refl; map_is = done.stands.map_is };
+          stands = subst (λ (t : Terms). HoldsMap shape t new e done.left) (sym same_terms) done.stands;
           good = good_now handed;
         };
       }
@@ -94,24 +117,35 @@ module _ (agrees : Option Shape → Flash → Type 0) (shape : Shape) (old : Boa
         no_stop = no_stop;
         looks = looks;
         rest = rest;
-        new_is = λ k. record { board = new; stopped = (goes_on ∙ sym going) k; frames = done.stands.frames_is k };
+        new_is = λ k. record { board = new; stopped = (goes_on ∙ sym going) k; terms = same_terms k };
+      }
+
+      -- the first namespace is the whole map
+      whole : in_space 1 ready.map ≡ ready.map
+      whole = is_whole shape ready.map ready.good.sized
+
+      within : (before : ℕ) → IsWithin (seen shape (mount old d) before) (in_space 1 ready.map)
+      within before = record {
+        sized = subst (λ (m : Map). IsMap shape m) (sym whole) ready.good.sized;
+        alone = ap (in_space 1) whole;
+        few = subst (λ (limits : List ℕ). live shape (in_space 1 ready.map) ≤ limit_of limits 1) (sym one_limit) (subst (λ (m : Map). live shape m ≤ limit shape) (sym whole) ready.good.few);
       }
 
       pub replies_so : rep.status < 256 → rep.result < 2 ^ 32 → (rep.status ≡ 0x88 → Rose old.read_faults new.read_faults)
-          → (before behind : ℕ) → Replies (seen shape (mount old d) before) (seen shape (mount new e) behind) c rep
-      replies_so small field unread before behind = record {
+          → c.namespace ≡ 1 → (before behind : ℕ) → Replies (seen shape (mount old d) before) (seen shape (mount new e) behind) c rep
+      replies_so small field unread first before behind = record {
         status_size = small;
         result_size = field;
         answers = λ m told.
-            let same : ready.map ≡ m = ok_same ready.map m (sym ready_holds ∙ ok_told _ m told) in
+            let same = part_held (reading shape old.pages []) ready.map m ready_holds told in
             let T : Map → Type 0 = λ x. PortSteps (seen shape (mount old d) before) (seen shape (mount new e) behind) c rep x in
             subst T same (record {
-              within = record { sized = ready.good.sized; few = ready.good.few };
+              within = within before;
               frames = d.counts.frames;
               frames_is = refl;
-              left = done.left;
-              stepped = done.stepped;
-              told = ap result_ok done.holds;
+              left = in_space 1 done.left;
+              stepped = first_step shape (mount old d).terms some_limit c first ready.map rep done.left done.stepped;
+              told = ap part_of done.holds;
             });
         unread = unread;
       }
@@ -119,7 +153,7 @@ module _ (agrees : Option Shape → Flash → Type 0) (shape : Shape) (old : Boa
       -- the data have room in the buffer that was asked for
       pub data_so : length rep.data_bytes ≤ room_of c
       data_so = elim done.stepped [
-        | inl answer ↦ subst (λ (a : Reply). length a.data_bytes ≤ room_of c) (sym answer.replied) (data_fit shape (limit shape) d.counts.frames ready.map answer.own answer.eleven c)
+        | inl answer ↦ subst (λ (a : Reply). length a.data_bytes ≤ room_of c) (sym answer.replied) (data_fit shape (mount old d).terms ready.map answer.own answer.eleven c)
         | inr fault ↦ subst (λ (a : Reply). length a.data_bytes ≤ room_of c) (sym fault.replied) (omega arith)
       ]
 
@@ -133,8 +167,10 @@ module _ (agrees : Option Shape → Flash → Type 0) (shape : Shape) (old : Boa
         runs = record { going = going; unworn = unworn };
         map = ready.map;
         held = ready_holds;
-        went = stops shape d.counts.frames ready.map ready.stands ready.none;
+        went = stops shape (mount old d).terms ready.map ready.stands ready.none;
         stopped = stopped;
+        same_limits =
+            ap (λ s. limits_at (shape_or_none s) new.pages) (ap (λ b. b.shape) rest) ∙ limits_same (shape_or_none old.shape) new.pages old.pages;
         stop = stop;
         up = up;
         looks = looks;

@@ -24,9 +24,9 @@ installs (c ∷ cs) = installs_of c + installs cs
 
 -- All of the commands were served.
 pub record AllServed (shape : Shape) (start : Map) (cs : List Command) (p q : Standing) : Type 0 where
-  pub asked : Asked shape p.on.frames start p.on.board q.on.board cs
+  pub asked : Asked shape p.on.terms start p.on.board q.on.board cs
   pub going : q.on.stopped ≡ false
-  pub same_frames : q.on.frames ≡ p.on.frames
+  pub same_terms : q.on.terms ≡ p.on.terms
   pub same_faults : q.faults ≡ p.faults
   pub same_halt : q.halt ≡ p.halt
   pub few : roots q.on.board ≤ roots p.on.board + installs cs
@@ -42,7 +42,7 @@ pub record HaltedAt (shape : Shape) (start : Map) (cs : List Command) (p q : Sta
   pub halt : Halt
   pub is : q.halt ≡ Some halt
   pub cause : HasCause q.on halt
-  pub kept : Goes shape p.on.board q.on.board (KeptSilently shape p.on.frames start cs (rise p.on.board.read_faults q.on.board.read_faults))
+  pub kept : Goes shape p.on.board q.on.board (KeptSilently shape p.on.terms start cs (rise p.on.board.read_faults q.on.board.read_faults))
   pub rose : p.on.board.read_faults ≤ q.on.board.read_faults
   pub why : WhyHalted cs p q
   pub rest : OnlyFlash p.on.board q.on.board

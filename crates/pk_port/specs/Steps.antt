@@ -1,12 +1,15 @@
 -- A drive with its board as a port: what each command does to both.
 use Rattle.std.specs.Prelude.{◌≡◌, ◌⊎◌, ℕ, ◌≤◌, List, [], ◌∷◌, Bool, true, false, Option, Some, Result, Ok, Err}
 use Rattle.std.specs.Result.{result_ok}
-use Rattle.pk_base.specs.Shape.{Shape, limit}
+use Rattle.std.specs.Option.{option_map}
+use Rattle.pk_base.specs.Shape.{Shape}
 use Rattle.pk_base.specs.Map.{Map}
 use Rattle.pk_nvme.specs.Command.{Command}
-use Rattle.pk_nand.specs.BoardState.{BoardState}
+use Rattle.pk_nand.specs.BoardState.{BoardState, shape_of}
 use Rattle.pk_nand.specs.Calls.{Rose}
 use Rattle.pk_nand.specs.Effects.{OnlyFlash, OnlyReading}
+use Rattle.pk_nvme.specs.declared.limits.TheConstants.{NAMESPACE}
+use Rattle.pk_model.specs.Spaces.{Terms, terms_at, limit_of, in_space}
 use Rattle.pk_model.specs.Growth.{Reaches, Goes}
 use Rattle.pk_model.specs.Reading.{reading, Holds}
 use Rattle.pk_model.specs.Run.{Exchange}
@@ -18,19 +21,19 @@ use Rattle.pk_call.specs.Seen.{reply_of}
 use Rattle.pk_call.specs.declared.types.Outcome.{Outcome}
 use Rattle.pk_serve.specs.Port.{StepCut}
 use Rattle.pk_serve.specs.Serving.{StepWithin}
-use Rattle.pk_host.specs.Port.{PortState}
+use Rattle.pk_host.specs.Port.{PortState, Took}
 use Rattle.pk_port.specs.declared.halt.Halt.{Halt}
 use Rattle.pk_port.specs.declared.halt.Halt.TheVariants.{Stopped, Worn}
 
--- What is known of a drive on its board: the board, whether the drive is stopped, and its frames.
+-- What is known of a drive on its board: the board, whether the drive is stopped, and its frames and limits.
 pub record Mounted : Type 0 where
   pub board : BoardState
   pub stopped : Bool
-  pub frames : ℕ
+  pub terms : Terms
 
 -- what is known of a drive that is seen so, on this board
 abbrev pub mount : BoardState → Sight → Mounted
-mount board drive = record { board = board; stopped = drive.stopped; frames = drive.counts.frames }
+mount board drive = record { board = board; stopped = drive.stopped; terms = terms_at (shape_of board) board.pages drive.counts.frames }
 
 -- What is known of a port: the drive on its board, the count of the port's faults, and why the last of them came.
 pub record Standing : Type 0 where
@@ -42,13 +45,13 @@ pub record Standing : Type 0 where
 abbrev pub standing : BoardState → Sight → ℕ → Option Halt → Standing
 standing board drive faults halt = record { on = mount board drive; faults = faults; halt = halt }
 
--- what a host sees of a drive on a board of this shape, after this many faults of the port
+-- what a host sees of the first namespace of a drive on a board of this shape, after this many faults of the port
 abbrev pub seen : Shape → Mounted → ℕ → PortState
 seen shape on faults = record {
-  map = result_ok (reading shape on.board.pages []);
+  map = option_map (in_space NAMESPACE) (result_ok (reading shape on.board.pages []));
   shape = shape;
-  limit = limit shape;
-  frames = Some on.frames;
+  limit = limit_of on.terms.limits NAMESPACE;
+  frames = Some on.terms.frames;
   port_faults = faults;
   read_faults = on.board.read_faults;
 }
@@ -67,9 +70,9 @@ pub record Serves (shape : Shape) (old new : Mounted) (c : Command) (x : Exchang
   pub map : Map
   pub held : Holds shape old.board.pages map
   pub left : Map
-  pub step : StepWithin shape old.frames map x left
+  pub step : StepWithin shape old.terms map x left
   pub holds : Holds shape new.board.pages left
-  pub reached : Reaches shape old.board new.board (StepCut shape map c)
+  pub reached : Reaches shape old.board new.board (StepCut shape old.terms.limits map c)
   pub metered : Metered (meter old.board) x (meter new.board)
   pub up : old.board.read_faults ≤ new.board.read_faults
   pub no_stop : new.board.stop_faults ≡ old.board.stop_faults
@@ -82,8 +85,9 @@ pub record Stops (shape : Shape) (old new : Mounted) (c : Command) : Type 0 wher
   pub runs : Runs old
   pub map : Map
   pub held : Holds shape old.board.pages map
-  pub went : Goes shape old.board new.board (StepCut shape map c)
+  pub went : Goes shape old.board new.board (StepCut shape old.terms.limits map c)
   pub stopped : new.stopped ≡ true
+  pub same_limits : new.terms.limits ≡ old.terms.limits
   pub stop : Rose old.board.stop_faults new.board.stop_faults
   pub up : old.board.read_faults ≤ new.board.read_faults
   pub looks : only_looks c.opcode ≡ true → OnlyReading old.board new.board
@@ -103,13 +107,14 @@ abbrev pub Makes : Shape → Mounted → Mounted → Command → Result Outcome 
 Makes shape old new c (Ok o) into = Serves shape old new c (record { command = c; reply = reply_of o into; reads = o.reads })
 Makes shape old new c (Err halt) into = Fails shape old new c halt
 
--- One command through the port: it was served, or the port failed and says why.
+-- One command through the port: it was served, or the port failed and says why. A host sees what it took.
 pub record Stepped (shape : Shape) (old new : Standing) (c : Command) : Type 0 where
   pub shape_is : old.on.board.shape ≡ Some shape
   pub up : old.faults ≤ new.faults
   pub ended :
       ((x : Exchange) × Serves shape old.on new.on c x × (new.faults ≡ old.faults) × (new.halt ≡ old.halt))
       ⊎ ((halt : Halt) × Fails shape old.on new.on c halt × Rose old.faults new.faults × (new.halt ≡ Some halt))
+  pub took : Took (seen shape old.on old.faults) (seen shape new.on new.faults) (c ∷ [])
 
 -- Commands one after another.
 abbrev pub Chain : Shape → Standing → List Command → Standing → Type 0

@@ -1,7 +1,8 @@
 //! One command on a drive with its board.
-ghost use Rattle.std.specs.Prelude.{◌≤◌, ℕ, length, IfOk};
+ghost use Rattle.std.specs.Prelude.{◌≡◌, ◌≤◌, ℕ, length, IfOk};
 ghost use Rattle.pk_nvme.specs.Seen.{command_of};
 ghost use Rattle.pk_nvme.specs.Command.{IsWhole};
+ghost use Rattle.pk_nvme.specs.declared.limits.TheConstants.{NAMESPACE};
 ghost use Rattle.pk_call.specs.Exec.{IsValue};
 ghost use Rattle.pk_call.specs.Seen.{reply_of};
 ghost use Rattle.pk_host.specs.Good.{IsHanded};
@@ -52,9 +53,9 @@ pub fn serve<D: Engine, B: Nand>(
         (mount (B.state board.new) (D.sight drive.new)) (command_of request.now value.now) result
         into.new }
 
-    // The reply to a host.
-    ensures replies { IfOk result (λ o. (before behind : ℕ)
-        → Replies (seen shape.now (mount (B.state board.old) (D.sight drive.old)) before)
+    // The reply to a host, which passes commands in the first namespace.
+    ensures replies { IfOk result (λ o. (command_of request.now value.now).namespace ≡ NAMESPACE
+        → (before behind : ℕ) → Replies (seen shape.now (mount (B.state board.old) (D.sight drive.old)) before)
         (seen shape.now (mount (B.state board.new) (D.sight drive.new)) behind) (command_of request.now value.now)
         (reply_of o into.new)) }
     ensures data { IfOk result (λ o. o.data_len ≤ room_of (command_of request.now value.now)) }
@@ -96,9 +97,9 @@ pub fn serve_lent<D: Engine, B: Nand>(
         (mount (B.state board.new) (D.sight drive.new)) (command_of request.now value.now) result
         into.new }
 
-    // The reply to a host.
-    ensures replies { IfOk result (λ o. (before behind : ℕ)
-        → Replies (seen shape.now (mount (B.state board.old) (D.sight drive.old)) before)
+    // The reply to a host, which passes commands in the first namespace.
+    ensures replies { IfOk result (λ o. (command_of request.now value.now).namespace ≡ NAMESPACE
+        → (before behind : ℕ) → Replies (seen shape.now (mount (B.state board.old) (D.sight drive.old)) before)
         (seen shape.now (mount (B.state board.new) (D.sight drive.new)) behind) (command_of request.now value.now)
         (reply_of o into.new)) }
     ensures data { IfOk result (λ o. o.data_len ≤ room_of (command_of request.now value.now)) }

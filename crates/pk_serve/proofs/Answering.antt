@@ -1,5 +1,5 @@
 -- No answer on a map is an unrecovered read error.
-use Rattle.std.proofs.Common.{arith, unwrap_or, ◌≡◌, ◌≢◌, ℕ, List, Option, Some, None, refl, ap, Bool, true, false, nat_le, replicate, ◌&&◌, ◌||◌, not}
+use Rattle.std.proofs.Common.{arith, unwrap_or, ◌≡◌, ◌≢◌, ℕ, List, length, Option, Some, None, refl, ap, Bool, true, false, nat_le, replicate, ◌&&◌, ◌||◌, not}
 use Rattle.std.specs.FinMap.{contains_key}
 use Rattle.pk_base.specs.Choices.{or_else}
 use Rattle.pk_base.specs.Shape.{Shape, greatest}
@@ -9,6 +9,7 @@ use Rattle.pk_nvme.specs.Opcode.{op_of}
 use Rattle.pk_nvme.specs.declared.opcode.Opcode.{Opcode}
 use Rattle.pk_nvme.specs.declared.opcode.Opcode.TheVariants.{Flush, Store, Retrieve, List as ListKeys, Delete, Exist, Tick, Report}
 use Rattle.pk_model.specs.Answer.{check, is_namespace, is_key_length, size_fault, fault_of, early, late_of, live_after, refused, reply, reply_of, Answer, map_after}
+use Rattle.pk_model.specs.Spaces.{Terms, limit_of, in_space}
 
 -- not this status
 abbrev Other : Option ℕ → Type 0
@@ -35,10 +36,10 @@ size_other shape Exist size = λ e. cc
 size_other shape Tick size = λ e. cc
 size_other shape Report size = λ e. cc
 
-fault_other : (shape : Shape) (c : Command) (k : Option Opcode) → Other (fault_of shape c k)
-fault_other shape c None = differ 0x01 0x88 (omega arith)
-fault_other shape c (Some k) =
-    first_other (check (is_namespace k c.namespace) 0x0B) _ (check_other (is_namespace k c.namespace) 0x0B (differ 0x0B 0x88 (omega arith)))
+fault_other : (spaces : ℕ) (shape : Shape) (c : Command) (k : Option Opcode) → Other (fault_of spaces shape c k)
+fault_other spaces shape c None = differ 0x01 0x88 (omega arith)
+fault_other spaces shape c (Some k) =
+    first_other (check (is_namespace spaces k c.namespace) 0x0B) _ (check_other (is_namespace spaces k c.namespace) 0x0B (differ 0x0B 0x88 (omega arith)))
     (first_other (check (is_key_length k c.key_len) 0x86) _ (check_other (is_key_length k c.key_len) 0x86 (differ 0x86 0x88 (omega arith))) (size_other shape k c.size))
 
 missing : (b : Bool) → Other (check b 0x87)
@@ -73,15 +74,16 @@ differ_from_success : {n : ℕ} → n ≡ 0 → n ≢ 0x88
 differ_from_success e x = omega arith
 
 -- the reply of the definition is no unrecovered read error
-pub reply_other : (shape : Shape) (most frames : ℕ) (m : Map) (own : List ℕ) (c : Command) → (reply shape most frames m own c).status ≢ 0x88
+pub reply_other : (shape : Shape) (terms : Terms) (m : Map) (own : List ℕ) (c : Command) → (reply shape terms m own c).status ≢ 0x88
 unfolding reply
-reply_other shape most frames m own c = by (refused shape most m c) refl
-    (first_other (early shape c) (late_of shape most m c (op_of c.opcode)) (fault_other shape c (op_of c.opcode)) (late_other shape most m c (op_of c.opcode)))
+reply_other shape terms m own c = by (refused shape terms.limits m c) refl
+    (first_other (early (length terms.limits) shape c) (late_of shape (limit_of terms.limits c.namespace) (in_space c.namespace m) c (op_of c.opcode))
+    (fault_other (length terms.limits) shape c (op_of c.opcode)) (late_other shape (limit_of terms.limits c.namespace) (in_space c.namespace m) c (op_of c.opcode)))
   where
-    by : (o : Option ℕ) → refused shape most m c ≡ o → Other o → (reply shape most frames m own c).status ≢ 0x88
+    by : (o : Option ℕ) → refused shape terms.limits m c ≡ o → Other o → (reply shape terms m own c).status ≢ 0x88
     by (Some s) e h = rw e (λ x. h (ap (λ n. Some n) x))
-    by None e h = rw e (λ x. differ_from_success (success_of shape most frames m own c (op_of c.opcode)) x)
+    by None e h = rw e (λ x. differ_from_success (success_of shape (limit_of terms.limits c.namespace) terms.frames (in_space c.namespace m) own c (op_of c.opcode)) x)
 
 -- the map after a command, by the definition
-pub answers : (shape : Shape) (most frames : ℕ) (m : Map) (c : Command) → Answer shape most frames m c (reply shape most frames m (replicate 11 0) c) (map_after shape most m c)
-answers shape most frames m c = record { own = replicate 11 0; eleven = refl; replied = refl; leaves = refl }
+pub answers : (shape : Shape) (terms : Terms) (m : Map) (c : Command) → Answer shape terms m c (reply shape terms m (replicate 11 0) c) (map_after shape terms.limits m c)
+answers shape terms m c = record { own = replicate 11 0; eleven = refl; replied = refl; leaves = refl }

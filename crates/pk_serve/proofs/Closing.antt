@@ -32,24 +32,25 @@ use Rattle.pk_serve.proofs.Serves.{kept-more}
 use Rattle.pk_serve.proofs.Commanding.{answered-more}
 use Rattle.pk_serve.proofs.Calling.{most_calls-append, most_calls-front}
 use Rattle.pk_serve.proofs.Scripts.{IsPart-entry}
+use Rattle.pk_model.specs.Spaces.{Terms}
 
 -- ---- what is held is posted at the end
 
-module _ (shape : Shape) (frames : ℕ) (start : Map) (a b c : BoardState) (d e : Sight) (held : List ℕ) (input : c.input ≡ b.input) (in_faults : c.in_faults ≡ b.in_faults) where
-  closed : (part : List ℕ) → Flushed b c d e held → Finished shape frames start a b d held part → Finished shape frames start a c e [] part
+module _ (shape : Shape) (terms : Terms) (start : Map) (a b c : BoardState) (d e : Sight) (held : List ℕ) (input : c.input ≡ b.input) (in_faults : c.in_faults ≡ b.in_faults) where
+  closed : (part : List ℕ) → Flushed b c d e held → Finished shape terms start a b d held part → Finished shape terms start a c e [] part
   closed part flushed f =
-      let T : List ℕ → Type 0 = λ t. Serving shape frames start a b d t f.all f.m in
+      let T : List ℕ → Type 0 = λ t. Serving shape terms start a b d t f.all f.m in
       record {
         all = f.all;
         m = f.m;
         bytes = f.bytes;
         few = f.few;
-        serving = flushed shape frames start a [] f.all f.m (subst T (sym (append-nil held)) f.serving);
+        serving = flushed shape terms start a [] f.all f.m (subst T (sym (append-nil held)) f.serving);
         input = f.input ∙ ap (put_back (f.bytes ++ part)) (sym input);
         spells = f.spells;
       }
 
-  pub Finish-closed : (end : End) → Flushed b c d e held → is_worn c ≡ is_worn b → (IsFault end → ⊥) → Finish shape frames start a b d held end → Finish shape frames start a c e [] end
+  pub Finish-closed : (end : End) → Flushed b c d e held → is_worn c ≡ is_worn b → (IsFault end → ⊥) → Finish shape terms start a b d held end → Finish shape terms start a c e [] end
   unfolding closed
   Finish-closed Done flushed worn sound f = record { finished = closed [] flushed f.finished; at_end = subst AtEnd (sym input) f.at_end; same = in_faults ∙ f.same }
   Finish-closed Truncated flushed worn sound f = record {
@@ -78,10 +79,10 @@ module _ (shape : Shape) (frames : ℕ) (start : Map) (a b c : BoardState) (d e 
   Finish-closed Output flushed worn sound f = absurd (sound tt)
   Finish-closed Flash flushed worn sound f = absurd (sound tt)
 
-  broken : (part : List ℕ) (fault : End) → ServingBroken b c d held fault → Finished shape frames start a b d held part → Failed shape frames start a c fault
+  broken : (part : List ℕ) (fault : End) → ServingBroken b c d held fault → Finished shape terms start a b d held part → Failed shape terms start a c fault
   broken part fault breaks f =
-      let T : List ℕ → Type 0 = λ t. Serving shape frames start a b d t f.all f.m in
-      let r = breaks shape frames start a [] f.all f.m (subst T (sym (append-nil held)) f.serving) in
+      let T : List ℕ → Type 0 = λ t. Serving shape terms start a b d t f.all f.m in
+      let r = breaks shape terms start a [] f.all f.m (subst T (sym (append-nil held)) f.serving) in
       record {
         cs = commands f.all;
         bytes = f.bytes;
@@ -92,7 +93,7 @@ module _ (shape : Shape) (frames : ℕ) (start : Map) (a b c : BoardState) (d e 
         cause = r.1;
       }
 
-  as_finish : (fault : End) → Failed shape frames start a c fault → Finish shape frames start a c e [] fault
+  as_finish : (fault : End) → Failed shape terms start a c fault → Finish shape terms start a c e [] fault
   as_finish Done f = absurd f.cause
   as_finish Truncated f = absurd f.cause
   as_finish Input f = absurd f.cause
@@ -100,7 +101,7 @@ module _ (shape : Shape) (frames : ℕ) (start : Map) (a b c : BoardState) (d e 
   as_finish Output f = f
   as_finish Flash f = f
 
-  pub Finish-broken : (end fault : End) → ServingBroken b c d held fault → (IsFault end → ⊥) → Finish shape frames start a b d held end → Finish shape frames start a c e [] fault
+  pub Finish-broken : (end fault : End) → ServingBroken b c d held fault → (IsFault end → ⊥) → Finish shape terms start a b d held end → Finish shape terms start a c e [] fault
   Finish-broken Done fault breaks sound f = as_finish fault (broken [] fault breaks f.finished)
   Finish-broken Truncated fault breaks sound f = as_finish fault (broken f.part fault breaks f.finished)
   Finish-broken Input fault breaks sound f = as_finish fault (broken f.part fault breaks f.finished)
@@ -141,13 +142,13 @@ script_of cs part rest s e same is = e ∙ (ap (λ r. script_after cs (script r)
 pub script_whole : (bytes : List ℕ) (cs : List Command) → Spells bytes cs → script bytes ≡ (cs, [])
 script_whole bytes cs spells = ap script (sym (append-nil bytes)) ∙ script_of cs [] [] (script (bytes ++ [])) (spells []) refl script_none
 
-module _ (shape : Shape) (frames : ℕ) (start : Map) (a b : BoardState) (d : Sight) where
+module _ (shape : Shape) (terms : Terms) (start : Map) (a b : BoardState) (d : Sight) where
   -- as many exchanges as commands
-  pub size_of : (part : List ℕ) (f : Finished shape frames start a b d [] part) → length (commands f.all) ≡ length f.all
+  pub size_of : (part : List ℕ) (f : Finished shape terms start a b d [] part) → length (commands f.all) ≡ length f.all
   size_of part f = length-map f.all (λ (x : Exchange). x.command)
 
   -- what was served
-  served_of : (part : List ℕ) (f : Finished shape frames start a b d [] part) → d.pending ≡ [] → Served shape frames start a b (commands f.all)
+  served_of : (part : List ℕ) (f : Finished shape terms start a b d [] part) → d.pending ≡ [] → Served shape terms start a b (commands f.all)
   served_of part f none =
       let w = f.serving in
       let M : List Entry → Type 0 = λ p. reading shape b.pages p ≡ Ok f.m in
@@ -167,7 +168,7 @@ module _ (shape : Shape) (frames : ℕ) (start : Map) (a b : BoardState) (d : Si
         unworn = λ some. few_unworn a (metered-unworn f.all (meter a) (meter b) (λ none. some (ap commands none)) w.metered);
       }
 
-  served_as : (cs ds : List Command) → cs ≡ ds → Served shape frames start a b cs → Served shape frames start a b ds
+  served_as : (cs ds : List Command) → cs ≡ ds → Served shape terms start a b cs → Served shape terms start a b ds
   served_as cs ds e h = record {
     served = h.served;
     are = h.are ∙ e;
@@ -194,14 +195,14 @@ module _ (shape : Shape) (frames : ℕ) (start : Map) (a b : BoardState) (d : Si
 
     -- what was answered of these commands is so of the script
     answered_script : (cs : List Command) (bytes part : List ℕ) → Spells bytes cs → a.input ≡ put_back (bytes ++ part) b.input
-        → Answered shape frames start a b cs → Answered shape frames start a b (script input).0
+        → Answered shape terms start a b cs → Answered shape terms start a b (script input).0
     answered_script cs bytes part spells e answered =
         let i = input_of (bytes ++ part) e in
         let s : (script input).0 ≡ cs ++ (script (part ++ i.0)).0 = ap (λ r. r.0) (script_is bytes part i.0 input cs spells i.2) in
-        let T : List Command → Type 0 = λ l. Answered shape frames start a b l in
-        subst T (sym s) (answered-more shape frames start a b cs (script (part ++ i.0)).0 answered)
+        let T : List Command → Type 0 = λ l. Answered shape terms start a b l in
+        subst T (sym s) (answered-more shape terms start a b cs (script (part ++ i.0)).0 answered)
 
-    pub served_by : (end : End) → IsFault end ⊎ (d.pending ≡ []) → Finish shape frames start a b d [] end → ServedBy shape frames start a b input end
+    pub served_by : (end : End) → IsFault end ⊎ (d.pending ≡ []) → Finish shape terms start a b d [] end → ServedBy shape terms start a b input end
     unfolding served_of served_as
     served_by Done (inl f) x = absurd f
     served_by Done (inr none) x =
@@ -255,15 +256,15 @@ module _ (shape : Shape) (frames : ℕ) (start : Map) (a b : BoardState) (d : Si
 
     -- a run of these commands is one of the script
     went_script : (cs : List Command) (bytes part : List ℕ) → Spells bytes cs → a.input ≡ put_back (bytes ++ part) b.input
-        → Goes shape a b (KeptAt shape frames start cs (rise a.read_faults b.read_faults)) → Goes shape a b (KeptAt shape frames start (script input).0 (rise a.read_faults b.read_faults))
+        → Goes shape a b (KeptAt shape terms start cs (rise a.read_faults b.read_faults)) → Goes shape a b (KeptAt shape terms start (script input).0 (rise a.read_faults b.read_faults))
     went_script cs bytes part spells e went =
         let i = input_of (bytes ++ part) e in
         let s : (script input).0 ≡ cs ++ (script (part ++ i.0)).0 = ap (λ r. r.0) (script_is bytes part i.0 input cs spells i.2) in
-        let T : List Command → Type 0 = λ l. Goes shape a b (KeptAt shape frames start l (rise a.read_faults b.read_faults)) in
+        let T : List Command → Type 0 = λ l. Goes shape a b (KeptAt shape terms start l (rise a.read_faults b.read_faults)) in
         subst T (sym s) (
           went.0,
-          weaken_went went.0 a b (KeptAt shape frames start cs (rise a.read_faults b.read_faults)) (KeptAt shape frames start (cs ++ (script (part ++ i.0)).0) (rise a.read_faults b.read_faults))
-              (kept-more shape frames start cs (script (part ++ i.0)).0 (rise a.read_faults b.read_faults) (rise a.read_faults b.read_faults) (λ k h. h)) went.1,
+          weaken_went went.0 a b (KeptAt shape terms start cs (rise a.read_faults b.read_faults)) (KeptAt shape terms start (cs ++ (script (part ++ i.0)).0) (rise a.read_faults b.read_faults))
+              (kept-more shape terms start cs (script (part ++ i.0)).0 (rise a.read_faults b.read_faults) (rise a.read_faults b.read_faults) (λ k h. h)) went.1,
           went.2,
         )
 
@@ -274,21 +275,21 @@ module _ (shape : Shape) (frames : ℕ) (start : Map) (a b : BoardState) (d : Si
     pub part : List ℕ
     pub spells : Spells bytes cs
     pub input : a.input ≡ put_back (bytes ++ part) b.input
-    pub went : Goes shape a b (KeptAt shape frames start cs (rise a.read_faults b.read_faults))
+    pub went : Goes shape a b (KeptAt shape terms start cs (rise a.read_faults b.read_faults))
     pub few_calls : calls_of b ≤ calls_of a + most_calls_of_all shape cs
 
-  trail_finished : (part : List ℕ) → Finished shape frames start a b d [] part → Trail
+  trail_finished : (part : List ℕ) → Finished shape terms start a b d [] part → Trail
   trail_finished part f = record {
     cs = commands f.all;
     bytes = f.bytes;
     part = part;
     spells = f.spells;
     input = f.input;
-    went = Goes-reaches shape a b (KeptAt shape frames start (commands f.all) (rise a.read_faults b.read_faults)) (f.serving.marks, f.serving.run, f.serving.grows);
+    went = Goes-reaches shape a b (KeptAt shape terms start (commands f.all) (rise a.read_faults b.read_faults)) (f.serving.marks, f.serving.run, f.serving.grows);
     few_calls = (let so_far = f.serving.few_calls in omega (arith, so_far));
   }
 
-  trail_failed : (end : End) → Failed shape frames start a b end → Trail
+  trail_failed : (end : End) → Failed shape terms start a b end → Trail
   trail_failed end f =
       let h = f.cutoff.answered in
       let C : List Command → Type 0 = λ l. calls_of b ≤ calls_of a + most_calls_of_all shape l in
@@ -296,7 +297,7 @@ module _ (shape : Shape) (frames : ℕ) (start : Map) (a b : BoardState) (d : Si
       h.few_calls in let less = most_calls-front shape (commands h.served) h.unserved in omega (arith, so_far, less) in
       record { cs = f.cs; bytes = f.bytes; part = f.part; spells = f.spells; input = f.input; went = f.cutoff.went; few_calls = subst C h.from_front within }
 
-  pub trail_of : (end : End) → Finish shape frames start a b d [] end → Trail
+  pub trail_of : (end : End) → Finish shape terms start a b d [] end → Trail
   trail_of Done x = trail_finished [] x.finished
   trail_of Truncated x = trail_finished x.part x.finished
   trail_of Input x = trail_finished x.part x.finished
@@ -306,18 +307,18 @@ module _ (shape : Shape) (frames : ℕ) (start : Map) (a b : BoardState) (d : Si
 
 module _ (a b : BoardState) (before after : Sight) (end : End) (h : Ends a b before after [] end) where
   pub keeps_script : KeepsScript a b before
-  keeps_script shape frames start stands none input is =
-      let g = trail_of shape frames start a b after end (h shape frames start stands none) in
-      went_script shape frames start a b after input is g.cs g.bytes g.part g.spells g.input g.went
+  keeps_script shape terms start stands none input is =
+      let g = trail_of shape terms start a b after end (h shape terms start stands none) in
+      went_script shape terms start a b after input is g.cs g.bytes g.part g.spells g.input g.went
 
   pub keeps_some : KeepsSome a b before
-  keeps_some shape frames start stands none =
-      let g = trail_of shape frames start a b after end (h shape frames start stands none) in (g.cs, g.went)
+  keeps_some shape terms start stands none =
+      let g = trail_of shape terms start a b after end (h shape terms start stands none) in (g.cs, g.went)
 
   pub calls_within : CallsWithin a b before
-  calls_within shape frames start stands none input is =
-      let g = trail_of shape frames start a b after end (h shape frames start stands none) in
-      let i = input_of shape frames start a b after input is (g.bytes ++ g.part) g.input in
+  calls_within shape terms start stands none input is =
+      let g = trail_of shape terms start a b after end (h shape terms start stands none) in
+      let i = input_of shape terms start a b after input is (g.bytes ++ g.part) g.input in
       let s = ap (λ r. r.0) (script_is g.bytes g.part i.0 input g.cs g.spells i.2) in
       let more = most_calls-append shape g.cs (script (g.part ++ i.0)).0 in
       let whole = ap (most_calls_of_all shape) s in
@@ -325,7 +326,7 @@ module _ (a b : BoardState) (before after : Sight) (end : End) (h : Ends a b bef
       omega (arith, few, more, whole)
 
   pub answers_all : IsFault end ⊎ (after.pending ≡ []) → Answers a b before end
-  answers_all closed shape frames start stands none input is = served_by shape frames start a b after input is end closed (h shape frames start stands none)
+  answers_all closed shape terms start stands none input is = served_by shape terms start a b after input is end closed (h shape terms start stands none)
 
 -- if it is no fault, nothing is pending
 pub none_left : (end : End) (None_pending Agrees : Type 0) → IsFault end ⊎ (None_pending × Agrees) → IsFault end ⊎ None_pending
@@ -333,22 +334,22 @@ none_left end None_pending Agrees (inl fault) = inl fault
 none_left end None_pending Agrees (inr ok) = inr ok.0
 
 -- what was served, whether the input is recorded or not
-served_some : (shape : Shape) (frames : ℕ) (start : Map) (a b : BoardState) (d : Sight) (end : End) → IsFault end ⊎ (d.pending ≡ []) → Finish shape frames start a b d [] end
-    → ServedSome shape frames start a b end
+served_some : (shape : Shape) (terms : Terms) (start : Map) (a b : BoardState) (d : Sight) (end : End) → IsFault end ⊎ (d.pending ≡ []) → Finish shape terms start a b d [] end
+    → ServedSome shape terms start a b end
 unfolding served_of
-served_some shape frames start a b d Done (inr none) x = (commands x.finished.all, served_of shape frames start a b d [] x.finished none, x.same)
-served_some shape frames start a b d Truncated (inr none) x =
-    (commands x.finished.all, (omega (arith, x.goes_on.0, size_of shape frames start a b d x.part x.finished), x.goes_on.1), served_of shape frames start a b d x.part x.finished none, x.same)
-served_some shape frames start a b d Input (inr none) x = (commands x.finished.all, served_of shape frames start a b d x.part x.finished none, x.rose)
-served_some shape frames start a b d Worn (inr none) x =
-    let n = size_of shape frames start a b d x.part x.finished in
-    (commands x.finished.all, served_of shape frames start a b d x.part x.finished none, elim x.cause [ inl full ↦ inl (n ∙ full) | inr worn ↦ inr worn ], x.same)
-served_some shape frames start a b d Done (inl f) x = absurd f
-served_some shape frames start a b d Truncated (inl f) x = absurd f
-served_some shape frames start a b d Input (inl f) x = absurd f
-served_some shape frames start a b d Worn (inl f) x = absurd f
-served_some shape frames start a b d Output closed x = (x.cs, x.cutoff.answered, x.cause)
-served_some shape frames start a b d Flash closed x = (x.cs, x.cutoff.answered, x.cause)
+served_some shape terms start a b d Done (inr none) x = (commands x.finished.all, served_of shape terms start a b d [] x.finished none, x.same)
+served_some shape terms start a b d Truncated (inr none) x =
+    (commands x.finished.all, (omega (arith, x.goes_on.0, size_of shape terms start a b d x.part x.finished), x.goes_on.1), served_of shape terms start a b d x.part x.finished none, x.same)
+served_some shape terms start a b d Input (inr none) x = (commands x.finished.all, served_of shape terms start a b d x.part x.finished none, x.rose)
+served_some shape terms start a b d Worn (inr none) x =
+    let n = size_of shape terms start a b d x.part x.finished in
+    (commands x.finished.all, served_of shape terms start a b d x.part x.finished none, elim x.cause [ inl full ↦ inl (n ∙ full) | inr worn ↦ inr worn ], x.same)
+served_some shape terms start a b d Done (inl f) x = absurd f
+served_some shape terms start a b d Truncated (inl f) x = absurd f
+served_some shape terms start a b d Input (inl f) x = absurd f
+served_some shape terms start a b d Worn (inl f) x = absurd f
+served_some shape terms start a b d Output closed x = (x.cs, x.cutoff.answered, x.cause)
+served_some shape terms start a b d Flash closed x = (x.cs, x.cutoff.answered, x.cause)
 
 pub causes_all : (a b : BoardState) (before after : Sight) (end : End) → Ends a b before after [] end → IsFault end ⊎ (after.pending ≡ []) → Causes a b before end
-causes_all a b before after end h closed shape frames start stands none = served_some shape frames start a b after end closed (h shape frames start stands none)
+causes_all a b before after end h closed shape terms start stands none = served_some shape terms start a b after end closed (h shape terms start stands none)

@@ -3,7 +3,7 @@ use Rattle.std.proofs.Common.{◌≡◌, ◌≢◌, ◌⊎◌, inl, inr, ℕ, ze
 use Rattle.std.proofs.Common.{false, ◌==◌, if◌then◌else◌, nat_le, Ok}
 use Rattle.std.proofs.lemmas.Bool.Decides.{nat_tests}
 use Rattle.std.specs.List.{FoldsTo}
-use Rattle.pk_base.specs.Shape.{Shape, limit}
+use Rattle.pk_base.specs.Shape.{Shape}
 use Rattle.pk_base.specs.Map.{Map}
 use Rattle.pk_nvme.specs.Command.{Command}
 use Rattle.pk_nvme.specs.Reply.{Reply}
@@ -31,30 +31,31 @@ use Rattle.pk_serve.specs.Ends.{IsFault}
 use Rattle.pk_serve.specs.Input.{script_after}
 use Rattle.pk_serve.specs.Loop.{Ends, Finish}
 use Rattle.pk_serve.proofs.Closing.{told, script_is, front_none, served_by, size_of}
+use Rattle.pk_model.specs.Spaces.{Terms}
 
 -- ---- answers without a read error
 
-module _ (shape : Shape) (frames : ℕ) where
+module _ (shape : Shape) (terms : Terms) where
   -- if no reply reports a read error, each is an answer, and the map is known
   answered : (xs : List Exchange) (m m' : Map) → faults xs ≡ 0
-      → FoldsTo (λ m x m'. Step shape frames m x.command x.reply m' × (op_of x.command.opcode ≡ Some Retrieve → x.reads ≤ most_reads shape frames m x.command)) m xs m'
-      → FoldsTo (λ m x m'. Answer shape (limit shape) frames m x.command x.reply m') m xs m' × (m' ≡ map_after_all shape m (commands xs))
+      → FoldsTo (λ m x m'. Step shape terms m x.command x.reply m' × (op_of x.command.opcode ≡ Some Retrieve → x.reads ≤ most_reads shape terms m x.command)) m xs m'
+      → FoldsTo (λ m x m'. Answer shape terms m x.command x.reply m') m xs m' × (m' ≡ map_after_all shape terms.limits m (commands xs))
   answered [] m m' none ran = (ran, sym ran)
   answered (x ∷ xs) m m' none ran =
       let first : faults (x ∷ []) ≡ 0 = omega arith in
       let rest : faults xs ≡ 0 = omega arith in
       let more = answered xs ran.0 m' rest ran.2 in
-      let one : Answer shape (limit shape) frames m x.command x.reply ran.0 = elim ran.1.0 [
+      let one : Answer shape terms m x.command x.reply ran.0 = elim ran.1.0 [
         | inl a ↦ a
         | inr u ↦ elim (faults-one x) [
           | inl good ↦ absurd (good.0 (ap (λ (r : Reply). r.status) u.replied))
           | inr bad ↦ absurd (let z : 0 ≡ 1 = sym first ∙ bad.1 in omega (arith, z))
         ]
       ] in
-      ((ran.0, one, more.0), more.1 ∙ ap (λ n. map_after_all shape n (commands xs)) one.leaves)
+      ((ran.0, one, more.0), more.1 ∙ ap (λ n. map_after_all shape terms.limits n (commands xs)) one.leaves)
 
 -- no fault was counted
-none_counted : (before now k : ℕ) → (Rose before now → ⊥) → AtMost (rise before now) k → k ≡ 0
+pub none_counted : (before now k : ℕ) → (Rose before now → ⊥) → AtMost (rise before now) k → k ≡ 0
 none_counted before now k none h = by (nat_le last_count now) refl h
   where
     by : (b : Bool) → nat_le last_count now ≡ b → AtMost (if b then None else Some (now - before)) k → k ≡ 0
@@ -106,13 +107,13 @@ nothing_in bytes none = nothing_taken (length bytes) bytes none
 
 -- ---- the end
 
-module _ (shape : Shape) (frames : ℕ) (start : Map) (a b : BoardState) (d : Sight) (input : List ℕ) (is : a.input ≡ Some input) (ok : IsServable a b (script input).0 (script input).1) where
-  complete_of : Served shape frames start a b (script input).0 → Complete shape frames start a b (script input).0
+module _ (shape : Shape) (terms : Terms) (start : Map) (a b : BoardState) (d : Sight) (input : List ℕ) (is : a.input ≡ Some input) (ok : IsServable a b (script input).0 (script input).1) where
+  complete_of : Served shape terms start a b (script input).0 → Complete shape terms start a b (script input).0
   complete_of s =
       let none : faults s.served ≡ 0 = none_counted a.read_faults b.read_faults (faults s.served) ok.none_rose.reads s.few_faults in
-      let r = answered shape frames s.served start s.left none s.ran in
-      let e : s.left ≡ map_after_all shape start (script input).0 = r.1 ∙ ap (map_after_all shape start) s.are in
-      let R : Map → Type 0 = λ m. FoldsTo (λ m x m'. Answer shape (limit shape) frames m x.command x.reply m') start s.served m in
+      let r = answered shape terms s.served start s.left none s.ran in
+      let e : s.left ≡ map_after_all shape terms.limits start (script input).0 = r.1 ∙ ap (map_after_all shape terms.limits start) s.are in
+      let R : Map → Type 0 = λ m. FoldsTo (λ m x m'. Answer shape terms m x.command x.reply m') start s.served m in
       let H : Map → Type 0 = λ m. reading shape b.pages [] ≡ Ok m in
       record { served = s.served; are = s.are; ran = subst R e r.0; posted = s.posted; holds = subst H e s.holds }
 
@@ -128,9 +129,9 @@ module _ (shape : Shape) (frames : ℕ) (start : Map) (a b : BoardState) (d : Si
       by [] none whole n = absurd (some (front_none part left (sym (nothing_in (part ++ left) none) ∙ whole)))
       by (c ∷ more) is_more whole n = omega (arith, n, ap (λ l. length l) is_more)
 
-  pub completed : (end : End) → IsFault end ⊎ (d.pending ≡ []) → Finish shape frames start a b d [] end → (end ≡ Done) × Complete shape frames start a b (script input).0
-  completed Done closed x = let s = served_by shape frames start a b d input is Done closed x in (refl, complete_of s.1)
-  completed Truncated closed x = let s = served_by shape frames start a b d input is Truncated closed x in absurd (s.0 ok.whole)
+  pub completed : (end : End) → IsFault end ⊎ (d.pending ≡ []) → Finish shape terms start a b d [] end → (end ≡ Done) × Complete shape terms start a b (script input).0
+  completed Done closed x = let s = served_by shape terms start a b d input is Done closed x in (refl, complete_of s.1)
+  completed Truncated closed x = let s = served_by shape terms start a b d input is Truncated closed x in absurd (s.0 ok.whole)
   completed Input closed x = absurd (ok.none_rose.input x.rose)
   completed Output closed x = absurd (ok.none_rose.output x.cause)
   completed Flash closed x = absurd (ok.none_rose.stops x.cause)
@@ -139,7 +140,7 @@ module _ (shape : Shape) (frames : ℕ) (start : Map) (a b : BoardState) (d : Si
       let i = told b.input (f.bytes ++ x.part) input (sym is ∙ f.input) in
       let e : script input ≡ script_after (commands f.all) (script (x.part ++ i.0)) = script_is f.bytes x.part i.0 input (commands f.all) f.spells i.2 in
       let more = one_more f.bytes x.part i.0 (commands f.all) x.some e in
-      let n : length (commands f.all) ≡ length f.all = size_of shape frames start a b d x.part f in
+      let n : length (commands f.all) ≡ length f.all = size_of shape terms start a b d x.part f in
       let t : ticks (script input).0 ≡ ticks (commands f.all) + ticks (script (x.part ++ i.0)).0 = ap (λ s. ticks s.0) e ∙ ticks-append (commands f.all) (script (x.part ++ i.0)).0 in
       absurd (elim x.cause [
         | inl full ↦ omega (arith, full, n, more, ok.few)
@@ -147,4 +148,4 @@ module _ (shape : Shape) (frames : ℕ) (start : Map) (a b : BoardState) (d : Si
       ])
 
 pub completes : (a b : BoardState) (before after : Sight) (end : End) → Ends a b before after [] end → IsFault end ⊎ (after.pending ≡ []) → RunCompletes a b before end
-completes a b before after end h closed shape frames start stands none input is ok = completed shape frames start a b after input is ok end closed (h shape frames start stands none)
+completes a b before after end h closed shape terms start stands none input is ok = completed shape terms start a b after input is ok end closed (h shape terms start stands none)

@@ -12,6 +12,7 @@ use Rattle.pk_call.specs.Seen.{reply_of}
 use Rattle.pk_call.specs.declared.types.Outcome.{Outcome}
 use Rattle.pk_serve.specs.Serving.{Serving, Flushed, ServingBroken, Posts, PostBreaks, Keeps}
 use Rattle.pk_serve.specs.declared.end.End.{End}
+use Rattle.pk_model.specs.Spaces.{Terms}
 
 pub bytes_of-push : (heads : List (List ℕ)) (head : List ℕ) → bytes_of (heads ++ head ∷ []) ≡ bytes_of heads ++ head
 bytes_of-push [] head = append-nil head
@@ -29,8 +30,8 @@ record_is count cid o into entry head is_entry is_head fits =
 -- the record is held
 pub keeps_held : (b : BoardState) (d : Sight) (heads now_heads : List (List ℕ)) (head more : List ℕ) → more ≡ []
     → now_heads ≡ heads ++ head ∷ [] → Keeps b b d d (bytes_of heads ++ (head ++ more)) (bytes_of now_heads)
-keeps_held b d heads now_heads head more none is shape frames start a all m w =
-    let T : List ℕ → Type 0 = λ t. Serving shape frames start a b d t all m in
+keeps_held b d heads now_heads head more none is shape terms start a all m w =
+    let T : List ℕ → Type 0 = λ t. Serving shape terms start a b d t all m in
     let e : bytes_of heads ++ (head ++ more) ≡ bytes_of now_heads =
     ap (λ t. bytes_of heads ++ t) (ap (λ t. head ++ t) none ∙ append-nil head) ∙ (sym (bytes_of-push heads head) ∙ ap bytes_of (sym is)) in
     subst T e w
@@ -38,32 +39,32 @@ keeps_held b d heads now_heads head more none is shape frames start a all m w =
 module _ (b c : BoardState) (d e : Sight) (heads head more : List ℕ) where
   -- the commit, or a post of what is held, failed
   pub breaks_held : (end : End) → ServingBroken b c d heads end → ServingBroken b c d (heads ++ (head ++ more)) end
-  breaks_held end breaks shape frames start a behind all m w =
-      let T : List ℕ → Type 0 = λ t. Serving shape frames start a b d t all m in
-      breaks shape frames start a ((head ++ more) ++ behind) all m (subst T (append_assoc heads (head ++ more) behind) w)
+  breaks_held end breaks shape terms start a behind all m w =
+      let T : List ℕ → Type 0 = λ t. Serving shape terms start a b d t all m in
+      breaks shape terms start a ((head ++ more) ++ behind) all m (subst T (append_assoc heads (head ++ more) behind) w)
 
   module _ (flushed : Flushed b c d e heads) (none : e.pending ≡ []) where
     -- the head and the data are posted too
     pub posts_all : (f g : BoardState) → Posts c f head → Posts f g more → (left : List (List ℕ)) → left ≡ [] → Keeps b g d e (heads ++ (head ++ more)) (bytes_of left)
-    posts_all f g p q left empty shape frames start a all m w =
-        let V : List ℕ → Type 0 = λ t. Serving shape frames start a f e t all m in
-        let L : List (List ℕ) → Type 0 = λ l. Serving shape frames start a g e (bytes_of l) all m in
-        subst L (sym empty) (q e none shape frames start a [] all m (subst V (sym (append-nil more)) (p e none shape frames start a more all m (flushed shape frames start a (head ++ more) all m w))))
+    posts_all f g p q left empty shape terms start a all m w =
+        let V : List ℕ → Type 0 = λ t. Serving shape terms start a f e t all m in
+        let L : List (List ℕ) → Type 0 = λ l. Serving shape terms start a g e (bytes_of l) all m in
+        subst L (sym empty) (q e none shape terms start a [] all m (subst V (sym (append-nil more)) (p e none shape terms start a more all m (flushed shape terms start a (head ++ more) all m w))))
 
     -- what was held is posted
-    behind_held : (shape : Shape) (frames : ℕ) (start : Map) (a : BoardState) (behind : List ℕ) (all : List Exchange) (m : Map)
-        → Serving shape frames start a b d ((heads ++ (head ++ more)) ++ behind) all m → Serving shape frames start a c e (head ++ (more ++ behind)) all m
-    behind_held shape frames start a behind all m w =
-        let T : List ℕ → Type 0 = λ t. Serving shape frames start a b d t all m in
-        let U : List ℕ → Type 0 = λ t. Serving shape frames start a c e t all m in
-        subst U (append_assoc head more behind) (flushed shape frames start a ((head ++ more) ++ behind) all m (subst T (append_assoc heads (head ++ more) behind) w))
+    behind_held : (shape : Shape) (terms : Terms) (start : Map) (a : BoardState) (behind : List ℕ) (all : List Exchange) (m : Map)
+        → Serving shape terms start a b d ((heads ++ (head ++ more)) ++ behind) all m → Serving shape terms start a c e (head ++ (more ++ behind)) all m
+    behind_held shape terms start a behind all m w =
+        let T : List ℕ → Type 0 = λ t. Serving shape terms start a b d t all m in
+        let U : List ℕ → Type 0 = λ t. Serving shape terms start a c e t all m in
+        subst U (append_assoc head more behind) (flushed shape terms start a ((head ++ more) ++ behind) all m (subst T (append_assoc heads (head ++ more) behind) w))
 
     pub breaks_head : (f : BoardState) (end : End) → PostBreaks c f head end → ServingBroken b f d (heads ++ (head ++ more)) end
-    breaks_head f end breaks shape frames start a behind all m w = breaks e none shape frames start a (more ++ behind) all m (behind_held shape frames start a behind all m w)
+    breaks_head f end breaks shape terms start a behind all m w = breaks e none shape terms start a (more ++ behind) all m (behind_held shape terms start a behind all m w)
 
     pub breaks_data : (f g : BoardState) (end : End) → Posts c f head → PostBreaks f g more end → ServingBroken b g d (heads ++ (head ++ more)) end
-    breaks_data f g end p breaks shape frames start a behind all m w =
-        breaks e none shape frames start a behind all m (p e none shape frames start a (more ++ behind) all m (behind_held shape frames start a behind all m w))
+    breaks_data f g end p breaks shape terms start a behind all m w =
+        breaks e none shape terms start a behind all m (p e none shape terms start a (more ++ behind) all m (behind_held shape terms start a behind all m w))
 
 -- ---- a record, and its head with the data
 

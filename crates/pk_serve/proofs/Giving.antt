@@ -19,57 +19,58 @@ use Rattle.pk_serve.specs.declared.end.End.TheVariants.{Output, Flash}
 use Rattle.pk_serve.proofs.Calling.{commit_calls}
 use Rattle.pk_serve.proofs.Serves.{Serving-commit, Cutoff-commit, Serving-post, Cutoff-post}
 use Rattle.pk_nand.proofs.Effects.{rose_from}
+use Rattle.pk_model.specs.Spaces.{Terms}
 
 -- ---- posts
 
 pub posts_none : (b : BoardState) (bytes : List ℕ) → bytes ≡ [] → Posts b b bytes
-posts_none b bytes none drive idle shape frames start a behind all m w =
-    let T : List ℕ → Type 0 = λ t. Serving shape frames start a b drive (t ++ behind) all m in subst T none w
+posts_none b bytes none drive idle shape terms start a behind all m w =
+    let T : List ℕ → Type 0 = λ t. Serving shape terms start a b drive (t ++ behind) all m in subst T none w
 
 pub posts_one : (b c : BoardState) (bytes : List ℕ) → c ≡ after_post b bytes → Posts b c bytes
-posts_one b c bytes is drive idle shape frames start a behind all m w =
-    let T : BoardState → Type 0 = λ s. Serving shape frames start a s drive behind all m in
-    subst T (sym is) (Serving-post shape frames start a b drive (bytes ++ behind) all m w bytes behind idle refl)
+posts_one b c bytes is drive idle shape terms start a behind all m w =
+    let T : BoardState → Type 0 = λ s. Serving shape terms start a s drive behind all m in
+    subst T (sym is) (Serving-post shape terms start a b drive (bytes ++ behind) all m w bytes behind idle refl)
 
 pub post-breaks : (b c : BoardState) (bytes : List ℕ) → PostFailed b c bytes → PostBreaks b c bytes Output
-post-breaks b c bytes failed drive idle shape frames start a behind all m w =
-    (Cutoff-post shape frames start a b drive (bytes ++ behind) all m w c bytes behind idle refl failed, rose_from w.no_faults.output failed.faults)
+post-breaks b c bytes failed drive idle shape terms start a behind all m w =
+    (Cutoff-post shape terms start a b drive (bytes ++ behind) all m w c bytes behind idle refl failed, rose_from w.no_faults.output failed.faults)
 
 -- two consecutive posts
 pub posts_both : (b c d : BoardState) (xs ys whole : List ℕ) → whole ≡ xs ++ ys → Posts b c xs → Posts c d ys → Posts b d whole
-posts_both b c d xs ys whole is p q drive idle shape frames start a behind all m w =
-    let T : List ℕ → Type 0 = λ t. Serving shape frames start a b drive t all m in
-    q drive idle shape frames start a behind all m (p drive idle shape frames start a (ys ++ behind) all m (subst T (ap (λ t. t ++ behind) is ∙ append_assoc xs ys behind) w))
+posts_both b c d xs ys whole is p q drive idle shape terms start a behind all m w =
+    let T : List ℕ → Type 0 = λ t. Serving shape terms start a b drive t all m in
+    q drive idle shape terms start a behind all m (p drive idle shape terms start a (ys ++ behind) all m (subst T (ap (λ t. t ++ behind) is ∙ append_assoc xs ys behind) w))
 
 -- the second failed
 pub breaks_second : (b c d : BoardState) (xs ys more whole : List ℕ) (end : End) → whole ≡ xs ++ (ys ++ more) → Posts b c xs → PostBreaks c d ys end → PostBreaks b d whole end
-breaks_second b c d xs ys more whole end is p q drive idle shape frames start a behind all m w =
-    let T : List ℕ → Type 0 = λ t. Serving shape frames start a b drive t all m in
-    let U : List ℕ → Type 0 = λ t. Serving shape frames start a c drive t all m in
-    q drive idle shape frames start a (more ++ behind) all m
-    (subst U (append_assoc ys more behind) (p drive idle shape frames start a ((ys ++ more) ++ behind) all m (subst T (ap (λ t. t ++ behind) is ∙ append_assoc xs (ys ++ more) behind) w)))
+breaks_second b c d xs ys more whole end is p q drive idle shape terms start a behind all m w =
+    let T : List ℕ → Type 0 = λ t. Serving shape terms start a b drive t all m in
+    let U : List ℕ → Type 0 = λ t. Serving shape terms start a c drive t all m in
+    q drive idle shape terms start a (more ++ behind) all m
+    (subst U (append_assoc ys more behind) (p drive idle shape terms start a ((ys ++ more) ++ behind) all m (subst T (ap (λ t. t ++ behind) is ∙ append_assoc xs (ys ++ more) behind) w)))
 
 -- ---- a commit
 
 pub commit-breaks : (b c : BoardState) (drive : Sight) (heads : List ℕ) → CallGoes b c drive commit → c.read_faults ≡ b.read_faults → c.reads ≡ b.reads → Rose b.stop_faults c.stop_faults
     → (drive.pending ≡ [] → c ≡ b) → CommitPrograms 1 b c drive → ServingBroken b c drive heads Flash
-commit-breaks b c drive heads went reading read rose idle programs shape frames start a behind all m w =
-    let calls = commit_calls b c drive.pending idle (programs shape frames m w.stands) in
-    (Cutoff-commit shape frames start a b drive (heads ++ behind) all m w c (went shape frames m w.stands) reading read calls, rose_from w.no_faults.stop rose)
+commit-breaks b c drive heads went reading read rose idle programs shape terms start a behind all m w =
+    let calls = commit_calls b c drive.pending idle (programs shape terms m w.stands) in
+    (Cutoff-commit shape terms start a b drive (heads ++ behind) all m w c (went shape terms m w.stands) reading read calls, rose_from w.no_faults.stop rose)
 
 module _ (b c : BoardState) (drive after : Sight) (reaches : CallReaches b c drive commit) (stands : KeepsMap b c drive after)
     (rest : OnlyFlash b c) (reading : c.read_faults ≡ b.read_faults) (no_stop : c.stop_faults ≡ b.stop_faults) (read : c.reads ≡ b.reads) (same : roots c ≡ roots b)
     (idle : drive.pending ≡ [] → c ≡ b) (programs : CommitPrograms 1 b c drive) (none : after.pending ≡ []) where
-  committed : (shape : Shape) (frames : ℕ) (start : Map) (a : BoardState) (unposted : List ℕ) (all : List Exchange) (m : Map)
-      → Serving shape frames start a b drive unposted all m → Serving shape frames start a c after unposted all m
-  committed shape frames start a unposted all m w =
-      let calls = commit_calls b c drive.pending idle (programs shape frames m w.stands) in
+  committed : (shape : Shape) (terms : Terms) (start : Map) (a : BoardState) (unposted : List ℕ) (all : List Exchange) (m : Map)
+      → Serving shape terms start a b drive unposted all m → Serving shape terms start a c after unposted all m
+  committed shape terms start a unposted all m w =
+      let calls = commit_calls b c drive.pending idle (programs shape terms m w.stands) in
       let nothing = ap owed none in
-      Serving-commit shape frames start a b drive unposted all m w c after (reaches shape frames m w.stands)
-      (stands shape frames m w.stands) rest reading no_stop read same (omega (arith, calls, nothing))
+      Serving-commit shape terms start a b drive unposted all m w c after (reaches shape terms m w.stands)
+      (stands shape terms m w.stands) rest reading no_stop read same (omega (arith, calls, nothing))
 
   pub flushes : (d : BoardState) (heads : List ℕ) → Posts c d heads → Flushed b d drive after heads
-  flushes d heads posts shape frames start a behind all m w = posts after none shape frames start a behind all m (committed shape frames start a (heads ++ behind) all m w)
+  flushes d heads posts shape terms start a behind all m w = posts after none shape terms start a behind all m (committed shape terms start a (heads ++ behind) all m w)
 
   pub flush-breaks : (d : BoardState) (heads : List ℕ) (end : End) → PostBreaks c d heads end → ServingBroken b d drive heads end
-  flush-breaks d heads end breaks shape frames start a behind all m w = breaks after none shape frames start a behind all m (committed shape frames start a (heads ++ behind) all m w)
+  flush-breaks d heads end breaks shape terms start a behind all m w = breaks after none shape terms start a behind all m (committed shape terms start a (heads ++ behind) all m w)

@@ -1,3 +1,4 @@
+pub mod Limiting
 pub mod Counting
 pub mod Answering
 pub mod Calling

@@ -1,5 +1,5 @@
 -- The loop over the commands of the input.
-use Rattle.std.proofs.Common.{◌≡◌, ◌⊎◌, inl, inr, ℕ, ◌+◌, ◌<◌, List, [], ◌∷◌, ◌++◌, refl, sym, ◌∙◌, ap, subst, arith, append-nil, length-append, true, false, Bool}
+use Rattle.std.proofs.Common.{◌≡◌, ◌⊎◌, inl, inr, ℕ, ◌+◌, ◌<◌, List, [], ◌∷◌, ◌++◌, refl, sym, ◌∙◌, ap, subst, arith, append-nil, length-append, true, false, Bool, length}
 use Rattle.pk_base.specs.Shape.{Shape}
 use Rattle.pk_base.specs.Map.{Map}
 use Rattle.pk_nvme.specs.Command.{Command}
@@ -20,26 +20,27 @@ use Rattle.pk_serve.specs.declared.end.End.TheVariants.{Done, Truncated, Input, 
 use Rattle.pk_serve.proofs.Serves.{Serving-start, Serving-inputs}
 use Rattle.pk_serve.proofs.Scripts.{taken-append, put_back-nil, Spells-none, Spells-append}
 use Rattle.pk_serve.proofs.Counting.{commands-push}
+use Rattle.pk_model.specs.Spaces.{Terms}
 
-pub Looping-start : (shape : Shape) (frames : ℕ) (start : Map) (a : BoardState) (drive : Sight) (held : List ℕ)
-    → held ≡ [] → HoldsMap shape frames a drive start → drive.pending ≡ [] → Looping shape frames start a a drive held 0
-Looping-start shape frames start a drive held empty stands none =
-    let T : List ℕ → Type 0 = λ t. Serving shape frames start a a drive t [] start in
+pub Looping-start : (shape : Shape) (terms : Terms) (start : Map) (a : BoardState) (drive : Sight) (held : List ℕ)
+    → held ≡ [] → HoldsMap shape terms a drive start → drive.pending ≡ [] → Looping shape terms start a a drive held 0
+Looping-start shape terms start a drive held empty stands none =
+    let T : List ℕ → Type 0 = λ t. Serving shape terms start a a drive t [] start in
     record {
       all = [];
       m = start;
       bytes = [];
-      serving = subst T (sym empty) (Serving-start shape frames start a drive stands none);
+      serving = subst T (sym empty) (Serving-start shape terms start a drive stands none);
       count = refl;
       few = omega arith;
       input = put_back-nil a.input;
       spells = Spells-none;
     }
 
-module _ (shape : Shape) (frames : ℕ) (start : Map) (a b c : BoardState) (d e : Sight) (held now_held : List ℕ) (taken : ℕ) (w : Looping shape frames start a b d held taken) where
-  pub Looping-next : taken < most_entries → InputAdvances b c d e held now_held taken → Looping shape frames start a c e now_held (taken + 1)
+module _ (shape : Shape) (terms : Terms) (start : Map) (a b c : BoardState) (d e : Sight) (held now_held : List ℕ) (taken : ℕ) (w : Looping shape terms start a b d held taken) where
+  pub Looping-next : taken < most_entries → InputAdvances b c d e held now_held taken → Looping shape terms start a c e now_held (taken + 1)
   Looping-next few n =
-      let x = n.serves shape frames start a w.all w.m w.count w.serving in
+      let x = n.serves shape terms start a w.all w.m w.count w.serving in
       let S : List Command → Type 0 = λ l. Spells (w.bytes ++ n.bytes) l in
       record {
         all = w.all ++ x.x ∷ [];
@@ -53,25 +54,25 @@ module _ (shape : Shape) (frames : ℕ) (start : Map) (a b c : BoardState) (d e 
       }
 
   -- bytes after the commands were taken
-  finished : (part : List ℕ) → b.input ≡ put_back part c.input → c ≡ record b { input = c.input; in_faults = c.in_faults } → e ≡ d → now_held ≡ held → Finished shape frames start a c e now_held part
+  finished : (part : List ℕ) → b.input ≡ put_back part c.input → c ≡ record b { input = c.input; in_faults = c.in_faults } → e ≡ d → now_held ≡ held → Finished shape terms start a c e now_held part
   finished part more rest same_drive same_held =
-      let T : BoardState → Type 0 = λ s. Serving shape frames start a s d held w.all w.m in
-      let U : Sight → Type 0 = λ s. Serving shape frames start a c s held w.all w.m in
-      let V : List ℕ → Type 0 = λ h. Serving shape frames start a c e h w.all w.m in
+      let T : BoardState → Type 0 = λ s. Serving shape terms start a s d held w.all w.m in
+      let U : Sight → Type 0 = λ s. Serving shape terms start a c s held w.all w.m in
+      let V : List ℕ → Type 0 = λ h. Serving shape terms start a c e h w.all w.m in
       record {
         all = w.all;
         m = w.m;
         bytes = w.bytes;
         few = omega (arith, w.count, w.few);
-        serving = subst V (sym same_held) (subst U (sym same_drive) (subst T (sym rest) (Serving-inputs shape frames start a b d held w.all w.m w.serving c.input c.in_faults)));
+        serving = subst V (sym same_held) (subst U (sym same_drive) (subst T (sym rest) (Serving-inputs shape terms start a b d held w.all w.m w.serving c.input c.in_faults)));
         input = taken-append a.input b.input c.input w.bytes part w.input more;
         spells = w.spells;
       }
 
   -- it fails in a command
-  failed : (end : End) → InputFails b c d held taken end → Failed shape frames start a c end
+  failed : (end : End) → InputFails b c d held taken end → Failed shape terms start a c end
   failed end f =
-      let r = f.stops shape frames start a w.all w.m w.count w.serving in
+      let r = f.stops shape terms start a w.all w.m w.count w.serving in
       record {
         cs = commands w.all ++ f.c ∷ [];
         bytes = w.bytes ++ f.bytes;
@@ -92,7 +93,7 @@ module _ (shape : Shape) (frames : ℕ) (start : Map) (a b c : BoardState) (d e 
 
   -- nothing was left open if the input ends
   pub none_taken : (no_more : Bool) (why : no_more ≡ true → (taken ≡ most_entries) ⊎ (is_worn b ≡ true)) (go : no_more ≡ false → (taken < most_entries) × (is_worn b ≡ false)) (end : End)
-      → b.in_faults ≡ a.in_faults → e ≡ d → now_held ≡ held → NoEntry b c no_more end → Finish shape frames start a c e now_held end
+      → b.in_faults ≡ a.in_faults → e ≡ d → now_held ≡ held → NoEntry b c no_more end → Finish shape terms start a c e now_held end
   unfolding finished
   none_taken no_more why go Done same sd sh n = record { finished = finished [] n.left.input n.left.rest sd sh; at_end = n.at_end; same = n.same ∙ same }
   none_taken no_more why go Truncated same sd sh k = let n = k.0 in let f = go k.1 in record {
@@ -124,7 +125,7 @@ module _ (shape : Shape) (frames : ℕ) (start : Map) (a b c : BoardState) (d e 
         same = ap (λ s. s.in_faults) k.rest ∙ same;
       }
 
-  command_failed : (end : End) → InputFails b c d held taken end → Finish shape frames start a c e now_held end
+  command_failed : (end : End) → InputFails b c d held taken end → Finish shape terms start a c e now_held end
   command_failed Done f = absurd (failed Done f).cause
   command_failed Truncated f = absurd (failed Truncated f).cause
   command_failed Input f = absurd (failed Input f).cause
@@ -134,7 +135,7 @@ module _ (shape : Shape) (frames : ℕ) (start : Map) (a b c : BoardState) (d e 
 
   -- a command was not served
   pub Finish-quits : taken < most_entries → (end : End) → b.in_faults ≡ a.in_faults
-      → IsFault end ⊎ ((e ≡ d) × (now_held ≡ held)) → Quits b c d held taken end → Finish shape frames start a c e now_held end
+      → IsFault end ⊎ ((e ≡ d) × (now_held ≡ held)) → Quits b c d held taken end → Finish shape terms start a c e now_held end
   Finish-quits few end same idle (inr f) = command_failed end f
   Finish-quits few end same (inr o) (inl n) = none_taken (is_worn b) (λ h. inr h) (λ h. (few, h)) end same o.0 o.1 n
   Finish-quits few Output same (inl o) (inl n) = absurd n

@@ -21,6 +21,7 @@ use Rattle.pk_nand.specs.Calls.{put_back}
 use Rattle.pk_serve.proofs.Serves.{Serving-inputs}
 use Rattle.pk_serve.proofs.Scripts.{taken-append, Spells-one, IsPart-value}
 use Rattle.pk_serve.proofs.Entering.{input_too, failed_too, both_too}
+use Rattle.pk_model.specs.Spaces.{Terms}
 
 -- the bytes of the value, by the entry and by the request
 value_size : (entry : List ℕ) (r : Request) → ((v : List ℕ) → command_seen r v ≡ command entry v) → value_bytes entry ≡ (if r.opcode == 0x01 then r.size else 0)
@@ -30,17 +31,17 @@ value_size entry r parsed =
     sym (λ k. if opcode k == 0x01 then size k else 0)
 
 module _ (a m b : BoardState) (before : Sight) (same : m ≡ record a { input = m.input }) where
-  serving_too : (shape : Shape) (frames : ℕ) (start : Map) (s : BoardState) (held : List ℕ) (all : List Exchange) (map : Map)
-      → Serving shape frames start s a before held all map → Serving shape frames start s m before held all map
-  serving_too shape frames start s held all map w =
-      let T : BoardState → Type 0 = λ x. Serving shape frames start s x before held all map in
-      subst T (sym same) (Serving-inputs shape frames start s a before held all map w m.input a.in_faults)
+  serving_too : (shape : Shape) (terms : Terms) (start : Map) (s : BoardState) (held : List ℕ) (all : List Exchange) (map : Map)
+      → Serving shape terms start s a before held all map → Serving shape terms start s m before held all map
+  serving_too shape terms start s held all map w =
+      let T : BoardState → Type 0 = λ x. Serving shape terms start s x before held all map in
+      subst T (sym same) (Serving-inputs shape terms start s a before held all map w m.input a.in_faults)
 
   serves_too : (after : Sight) (held now_held : List ℕ) (taken : ℕ) (c : Command) → CommandServed m b before after held now_held taken c → CommandServed a b before after held now_held taken c
-  serves_too after held now_held taken c h shape frames start s all map size w = h shape frames start s all map size (serving_too shape frames start s held all map w)
+  serves_too after held now_held taken c h shape terms start s all map size w = h shape terms start s all map size (serving_too shape terms start s held all map w)
 
   stops_too : (held : List ℕ) (taken : ℕ) (end : End) (c : Command) → CommandStops m b before held taken end c → CommandStops a b before held taken end c
-  stops_too held taken end c h shape frames start s all map size w = h shape frames start s all map size (serving_too shape frames start s held all map w)
+  stops_too held taken end c h shape terms start s all map size w = h shape terms start s all map size (serving_too shape terms start s held all map w)
 
 module _ (a m n : BoardState) (entry : List ℕ) (entered : Entered a m entry) (size : length entry ≡ 64) (r : Request) (parsed : (v : List ℕ) → command_seen r v ≡ command entry v) where
   module _ (shape : Shape) (handed : List ℕ) (valued : Valued m n shape r.opcode r.size handed) (b : BoardState) (before : Sight) (held : List ℕ) (taken : ℕ) (same : b.input ≡ n.input) where

@@ -2,7 +2,7 @@
 use Rattle.std.proofs.Common.{◌≡◌, ◌≢◌, ◌⊎◌, inl, inr, ℕ, suc, ◌+◌, ◌≤◌, ◌<◌, List, [], ◌∷◌, ◌++◌, length, take, Option, Some, None, Ok, refl, sym, ◌∙◌, ap, subst, arith, append_assoc, append-nil}
 use Rattle.std.proofs.Common.{replicate}
 use Rattle.std.proofs.lemmas.Fn.{FoldsTo-push}
-use Rattle.pk_base.specs.Shape.{Shape, limit, commit_programs}
+use Rattle.pk_base.specs.Shape.{Shape, commit_programs}
 use Rattle.pk_base.specs.Page.{Flash}
 use Rattle.pk_base.specs.Entry.{Entry}
 use Rattle.pk_base.specs.Mark.{Mark, post, all_posted}
@@ -35,17 +35,20 @@ use Rattle.pk_serve.specs.Answered.{Answered}
 use Rattle.pk_serve.proofs.Calling.{owed_most, most_calls-append}
 use Rattle.pk_serve.proofs.Counting.{at_most-zero, at_most-more, at_most-one, commands-push, records-push, faults-push, faults-one}
 use Rattle.pk_serve.proofs.Answering.{reply_other, answers}
+use Rattle.pk_model.specs.Spaces.{Terms}
+use Rattle.pk_serve.proofs.Limiting.{limits_same}
 
 -- more commands and more faults
-pub kept-more : (shape : Shape) (frames : ℕ) (start : Map) (cs more : List Command) (n later : Option ℕ) → ((k : ℕ) → AtMost n k → AtMost later k)
-    → (f : Flash) (q : List ℕ) → KeptAt shape frames start cs n f q → KeptAt shape frames start (cs ++ more) later f q
-kept-more shape frames start cs more n later up f q k = record {
+pub kept-more : (shape : Shape) (terms : Terms) (start : Map) (cs more : List Command) (n later : Option ℕ) → ((k : ℕ) → AtMost n k → AtMost later k)
+    → (f : Flash) (q : List ℕ) → KeptAt shape terms start cs n f q → KeptAt shape terms start (cs ++ more) later f q
+kept-more shape terms start cs more n later up f q k = record {
   served = k.served;
   unserved = k.unserved ++ more;
   from_front = sym (append_assoc (commands k.served) k.unserved more) ∙ ap (λ l. l ++ more) k.from_front;
   map_left = k.map_left;
   ran = k.ran;
   held = k.held;
+  same_limits = k.same_limits;
   unposted = k.unposted;
   begins = k.begins;
   few_faults = up (faults k.served) k.few_faults;
@@ -68,14 +71,14 @@ none_more P out q e h = subst P (sym (ap (λ t. out ++ t) e ∙ append-nil out))
 few_more : (n : Option ℕ) (xs : List Exchange) (x : Exchange) (k : ℕ) → faults (x ∷ []) ≡ k → AtMost n (faults xs + k) → AtMost n (faults (xs ++ x ∷ []))
 few_more n xs x k e h = let T : ℕ → Type 0 = λ f. AtMost n f in subst T (sym (faults-push xs x ∙ ap (λ f. faults xs + f) e)) h
 
-module _ (shape : Shape) (frames : ℕ) (start : Map) (a b : BoardState) (drive : Sight) (unposted : List ℕ) (all : List Exchange) (m : Map)
-    (w : Serving shape frames start a b drive unposted all m) where
+module _ (shape : Shape) (terms : Terms) (start : Map) (a b : BoardState) (drive : Sight) (unposted : List ℕ) (all : List Exchange) (m : Map)
+    (w : Serving shape terms start a b drive unposted all m) where
   -- what exists now is kept
-  present : KeptAt shape frames start (commands all) (rise a.read_faults b.read_faults) b.pages (all_posted w.marks)
-  present = at_end w.marks a b (KeptAt shape frames start (commands all) (rise a.read_faults b.read_faults)) w.run
+  present : KeptAt shape terms start (commands all) (rise a.read_faults b.read_faults) b.pages (all_posted w.marks)
+  present = at_end w.marks a b (KeptAt shape terms start (commands all) (rise a.read_faults b.read_faults)) w.run
 
   -- a flash that holds what this one holds
-  kept_same : (f : Flash) → reading shape f [] ≡ reading shape b.pages [] → KeptAt shape frames start (commands all) (rise a.read_faults b.read_faults) f (all_posted w.marks)
+  kept_same : (f : Flash) → reading shape f [] ≡ reading shape b.pages [] → KeptAt shape terms start (commands all) (rise a.read_faults b.read_faults) f (all_posted w.marks)
   kept_same f e = let k = present in record {
     served = k.served;
     unserved = k.unserved;
@@ -83,6 +86,7 @@ module _ (shape : Shape) (frames : ℕ) (start : Map) (a b : BoardState) (drive 
     map_left = k.map_left;
     ran = k.ran;
     held = e ∙ k.held;
+    same_limits = limits_same shape f b.pages ∙ k.same_limits;
     unposted = k.unposted;
     begins = k.begins;
     few_faults = k.few_faults;
@@ -90,7 +94,7 @@ module _ (shape : Shape) (frames : ℕ) (start : Map) (a b : BoardState) (drive 
 
   -- a flash that holds all that was served, if a prefix of what is not posted was sent
   kept_all : (f : Flash) → reading shape f [] ≡ Ok m → (out rest : List ℕ) → out ++ rest ≡ unposted
-      → KeptAt shape frames start (commands all) (rise a.read_faults b.read_faults) f (all_posted w.marks ++ out)
+      → KeptAt shape terms start (commands all) (rise a.read_faults b.read_faults) f (all_posted w.marks ++ out)
   kept_all f e out rest front = record {
     served = all;
     unserved = [];
@@ -98,47 +102,49 @@ module _ (shape : Shape) (frames : ℕ) (start : Map) (a b : BoardState) (drive 
     map_left = m;
     ran = w.ran;
     held = e;
+    same_limits = limits_same shape f b.pages ∙ w.stands.limits_is;
     unposted = rest;
     begins = append_assoc (all_posted w.marks) out rest ∙ (ap (λ t. all_posted w.marks ++ t) front ∙ w.records_are);
     few_faults = w.few_faults;
   }
 
   -- a flash that holds the map after one more command
-  kept_next : (c : Command) (f : Flash) → reading shape f [] ≡ Ok (map_after shape (limit shape) m c)
-      → KeptAt shape frames start (commands all ++ c ∷ []) (rise a.read_faults b.read_faults) f (all_posted w.marks)
+  kept_next : (c : Command) (f : Flash) → reading shape f [] ≡ Ok (map_after shape terms.limits m c)
+      → KeptAt shape terms start (commands all ++ c ∷ []) (rise a.read_faults b.read_faults) f (all_posted w.marks)
   kept_next c f e =
-      let x : Exchange = record { command = c; reply = reply shape (limit shape) frames m (replicate 11 0) c; reads = 0 } in
-      let r : List ℕ = reply_record (suc (length all)) c.cid (reply shape (limit shape) frames m (replicate 11 0) c) 0 in
+      let x : Exchange = record { command = c; reply = reply shape terms m (replicate 11 0) c; reads = 0 } in
+      let r : List ℕ = reply_record (suc (length all)) c.cid (reply shape terms m (replicate 11 0) c) 0 in
       record {
         served = all ++ x ∷ [];
         unserved = [];
         from_front = append-nil (commands (all ++ x ∷ [])) ∙ commands-push all x;
-        map_left = map_after shape (limit shape) m c;
-        ran = FoldsTo-push (StepWithin shape frames) start all m x (map_after shape (limit shape) m c) w.ran (inl (answers shape (limit shape) frames m c), λ _. omega arith);
+        map_left = map_after shape terms.limits m c;
+        ran = FoldsTo-push (StepWithin shape terms) start all m x (map_after shape terms.limits m c) w.ran (inl (answers shape terms m c), λ _. omega arith);
         held = e;
+        same_limits = limits_same shape f b.pages ∙ w.stands.limits_is;
         unposted = unposted ++ r;
         begins = sym (append_assoc (all_posted w.marks) unposted r) ∙ (ap (λ t. t ++ r) w.records_are ∙ sym (records-push 0 all x (length all) (omega arith)));
         few_faults = elim (faults-one x) [
           | inl good ↦ few_more (rise a.read_faults b.read_faults) all x 0 good.1
               (let T : ℕ → Type 0 = λ k. AtMost (rise a.read_faults b.read_faults) k in let e : faults all ≡ faults all + 0 = omega arith in subst T e w.few_faults)
-          | inr bad ↦ absurd (reply_other shape (limit shape) frames m (replicate 11 0) c bad.0)
+          | inr bad ↦ absurd (reply_other shape terms m (replicate 11 0) c bad.0)
         ];
       }
 
   -- ---- a command
 
   -- every cut of a command
-  exec_cut : (c : Command) (later : ℕ) → b.read_faults ≤ later → (f : Flash) (q : List ℕ) → CrashFinds shape (command c) b.pages m f q
-      → KeptAt shape frames start (commands all ++ c ∷ []) (rise a.read_faults later) f (all_posted w.marks ++ q)
+  exec_cut : (c : Command) (later : ℕ) → b.read_faults ≤ later → (f : Flash) (q : List ℕ) → CrashFinds shape (command terms.limits c) b.pages m f q
+      → KeptAt shape terms start (commands all ++ c ∷ []) (rise a.read_faults later) f (all_posted w.marks ++ q)
   exec_cut c later up f q cut =
-      let P : List ℕ → Type 0 = λ t. KeptAt shape frames start (commands all ++ c ∷ []) (rise a.read_faults later) f t in
+      let P : List ℕ → Type 0 = λ t. KeptAt shape terms start (commands all ++ c ∷ []) (rise a.read_faults later) f t in
       none_more P (all_posted w.marks) q cut.0 (elim cut.1 [
-        | inl same ↦ kept-more shape frames start (commands all) (c ∷ []) (rise a.read_faults b.read_faults)
+        | inl same ↦ kept-more shape terms start (commands all) (c ∷ []) (rise a.read_faults b.read_faults)
             (rise a.read_faults later) (λ k h. at_most-more a.read_faults b.read_faults later k up h) f (all_posted w.marks) (kept_same f same)
         | inr more ↦ elim more [
           | inl held ↦
               subst P (append-nil (all_posted w.marks))
-              (kept-more shape frames start (commands all) (c ∷ []) (rise a.read_faults b.read_faults) (rise a.read_faults later)
+              (kept-more shape terms start (commands all) (c ∷ []) (rise a.read_faults b.read_faults) (rise a.read_faults later)
               (λ k h. at_most-more a.read_faults b.read_faults later k up h) f (all_posted w.marks ++ []) (kept_all f held [] unposted refl))
           | inr next ↦
               let k = kept_next c f next in
@@ -149,6 +155,7 @@ module _ (shape : Shape) (frames : ℕ) (start : Map) (a b : BoardState) (drive 
                 map_left = k.map_left;
                 ran = k.ran;
                 held = k.held;
+                same_limits = k.same_limits;
                 unposted = k.unposted;
                 begins = k.begins;
                 few_faults = at_most-more a.read_faults b.read_faults later (faults k.served) up k.few_faults;
@@ -157,24 +164,24 @@ module _ (shape : Shape) (frames : ℕ) (start : Map) (a b : BoardState) (drive 
       ])
 
   -- what was kept so far, with more commands and more faults
-  before : (more : List Command) (later : ℕ) → b.read_faults ≤ later → ReachedBy w.marks a b (KeptAt shape frames start (commands all ++ more) (rise a.read_faults later))
-  before more later up = weaken w.marks a b (KeptAt shape frames start (commands all) (rise a.read_faults b.read_faults)) (KeptAt shape frames start (commands all ++ more) (rise a.read_faults later))
-      (kept-more shape frames start (commands all) more (rise a.read_faults b.read_faults) (rise a.read_faults later) (λ k h. at_most-more a.read_faults b.read_faults later k up h)) w.run
+  before : (more : List Command) (later : ℕ) → b.read_faults ≤ later → ReachedBy w.marks a b (KeptAt shape terms start (commands all ++ more) (rise a.read_faults later))
+  before more later up = weaken w.marks a b (KeptAt shape terms start (commands all) (rise a.read_faults b.read_faults)) (KeptAt shape terms start (commands all ++ more) (rise a.read_faults later))
+      (kept-more shape terms start (commands all) more (rise a.read_faults b.read_faults) (rise a.read_faults later) (λ k h. at_most-more a.read_faults b.read_faults later k up h)) w.run
 
   -- the marks so far, and those of a call whose cuts are kept, with more commands
   extend : (more : List Command) (c : BoardState) (P : Flash → List ℕ → Type 0) → b.read_faults ≤ c.read_faults
-      → ((f : Flash) (q : List ℕ) → P f q → KeptAt shape frames start (commands all ++ more) (rise a.read_faults c.read_faults) f (all_posted w.marks ++ q))
-      → (ms : List Mark) → ReachedBy ms b c P → ReachedBy (w.marks ++ ms) a c (KeptAt shape frames start (commands all ++ more) (rise a.read_faults c.read_faults))
+      → ((f : Flash) (q : List ℕ) → P f q → KeptAt shape terms start (commands all ++ more) (rise a.read_faults c.read_faults) f (all_posted w.marks ++ q))
+      → (ms : List Mark) → ReachedBy ms b c P → ReachedBy (w.marks ++ ms) a c (KeptAt shape terms start (commands all ++ more) (rise a.read_faults c.read_faults))
   extend more c P up kept ms run =
-      let K : Flash → List ℕ → Type 0 = KeptAt shape frames start (commands all ++ more) (rise a.read_faults c.read_faults) in
+      let K : Flash → List ℕ → Type 0 = KeptAt shape terms start (commands all ++ more) (rise a.read_faults c.read_faults) in
       Reached-then w.marks ms a b c K (before more c.read_faults up) (weaken ms b c P (λ f q. K f (all_posted w.marks ++ q)) kept run)
 
   grown : (ms : List Mark) → GrowsAlong shape b.pages ms → GrowsAlong shape a.pages (w.marks ++ ms)
-  grown ms more = grows_behind shape w.marks a b (KeptAt shape frames start (commands all) (rise a.read_faults b.read_faults)) w.shape_is w.run w.grows ms more
+  grown ms more = grows_behind shape w.marks a b (KeptAt shape terms start (commands all) (rise a.read_faults b.read_faults)) w.shape_is w.run w.grows ms more
 
   -- what was answered, if these bytes were posted after it
   answered_by : (c : BoardState) (more : List Command) (out rest : List ℕ) → out ++ rest ≡ unposted → c.posted ≡ longer b.posted out → b.read_faults ≤ c.read_faults → ReadBehind b c more
-      → calls_of c ≤ calls_of a + most_calls_of_all shape (commands all ++ take 1 more) → Answered shape frames start a c (commands all ++ more)
+      → calls_of c ≤ calls_of a + most_calls_of_all shape (commands all ++ take 1 more) → Answered shape terms start a c (commands all ++ more)
   answered_by c more out rest front is up read few_calls = record {
     served = all;
     unserved = more;
@@ -193,14 +200,14 @@ module _ (shape : Shape) (frames : ℕ) (start : Map) (a b : BoardState) (drive 
   }
 
   extend_went : (more : List Command) (c : BoardState) (P : Flash → List ℕ → Type 0) → b.read_faults ≤ c.read_faults
-      → ((f : Flash) (q : List ℕ) → P f q → KeptAt shape frames start (commands all ++ more) (rise a.read_faults c.read_faults) f (all_posted w.marks ++ q))
+      → ((f : Flash) (q : List ℕ) → P f q → KeptAt shape terms start (commands all ++ more) (rise a.read_faults c.read_faults) f (all_posted w.marks ++ q))
       → ((f : Flash) (q : List ℕ) → P f q → (rest : List ℕ) × (q ++ rest ≡ unposted)) → ReadBehind b c more → calls_of c ≤ calls_of a + most_calls_of_all shape (commands all ++ take 1 more)
-      → Goes shape b c P → Cutoff shape frames start a c (commands all ++ more)
+      → Goes shape b c P → Cutoff shape terms start a c (commands all ++ more)
   extend_went more c P up kept fronts read few_calls went =
       let out = all_posted went.0 in
       let front = fronts c.pages out (went.1.cuts c.pages out went.1.stands) in
       record {
-        went = Goes-then shape w.marks a b (KeptAt shape frames start (commands all ++ more) (rise a.read_faults c.read_faults)) w.shape_is (before more c.read_faults up) w.grows c P kept went;
+        went = Goes-then shape w.marks a b (KeptAt shape terms start (commands all ++ more) (rise a.read_faults c.read_faults)) w.shape_is (before more c.read_faults up) w.grows c P kept went;
         answered = answered_by c more out front.0 front.1 went.1.posted up read few_calls;
       }
 
@@ -214,15 +221,15 @@ module _ (shape : Shape) (frames : ℕ) (start : Map) (a b : BoardState) (drive 
 
   -- a command was served
   pub Serving-exec : (c : BoardState) (e : Sight) (cmd : Command) (rep : Reply) (reads taken : ℕ) → taken ≡ length all
-      → Reaches shape b c (CrashFinds shape (command cmd) b.pages m) → Executed shape frames c e m cmd rep reads → OnlyFlash b c
+      → Reaches shape b c (CrashFinds shape (command terms.limits cmd) b.pages m) → Executed shape terms c e m cmd rep reads → OnlyFlash b c
       → b.read_faults ≤ c.read_faults → (rep.status ≡ 0x88 → Rose b.read_faults c.read_faults) → (rep.status ≢ 0x88 → c.read_faults ≡ b.read_faults)
       → c.stop_faults ≡ b.stop_faults → c.reads ≡ reads_after b.reads reads → roots b < 9223372036854775808 → roots c ≤ roots b + most_installs cmd.opcode cmd.size
-      → calls_of c ≤ calls_of b + most_calls_of shape cmd.opcode cmd.size → Next shape frames start a c e (unposted ++ reply_record (suc taken) cmd.cid rep reads) all m cmd
+      → calls_of c ≤ calls_of b + most_calls_of shape cmd.opcode cmd.size → Next shape terms start a c e (unposted ++ reply_record (suc taken) cmd.cid rep reads) all m cmd
   Serving-exec c e cmd rep reads taken size reached done rest up unread sound no_stop read unworn few_roots few_calls =
       let x : Exchange = record { command = cmd; reply = rep; reads = reads } in
-      let silent : all_posted reached.0 ≡ [] = (at_end reached.0 b c (CrashFinds shape (command cmd) b.pages m) reached.1).0 in
-      let more = extend (cmd ∷ []) c (CrashFinds shape (command cmd) b.pages m) up (exec_cut cmd c.read_faults up) reached.0 reached.1 in
-      let R : List Command → Type 0 = λ l. ReachedBy (w.marks ++ reached.0) a c (KeptAt shape frames start l (rise a.read_faults c.read_faults)) in
+      let silent : all_posted reached.0 ≡ [] = (at_end reached.0 b c (CrashFinds shape (command terms.limits cmd) b.pages m) reached.1).0 in
+      let more = extend (cmd ∷ []) c (CrashFinds shape (command terms.limits cmd) b.pages m) up (exec_cut cmd c.read_faults up) reached.0 reached.1 in
+      let R : List Command → Type 0 = λ l. ReachedBy (w.marks ++ reached.0) a c (KeptAt shape terms start l (rise a.read_faults c.read_faults)) in
       let C : List Command → Type 0 = λ l. calls_of c + owed e.pending ≤ calls_of a + most_calls_of_all shape l in
       record {
         x = x;
@@ -230,7 +237,7 @@ module _ (shape : Shape) (frames : ℕ) (start : Map) (a b : BoardState) (drive 
         m = done.left;
         step = (done.stepped, done.bounded);
         serving = record {
-          ran = FoldsTo-push (StepWithin shape frames) start all m x done.left w.ran (done.stepped, done.bounded);
+          ran = FoldsTo-push (StepWithin shape terms) start all m x done.left w.ran (done.stepped, done.bounded);
           stands = done.stands;
           marks = w.marks ++ reached.0;
           run = subst R (sym (commands-push all x)) more;
@@ -257,24 +264,24 @@ module _ (shape : Shape) (frames : ℕ) (start : Map) (a b : BoardState) (drive 
       }
 
   -- a command stopped the drive
-  pub Cutoff-exec : (c : BoardState) (cmd : Command) → Goes shape b c (CrashFinds shape (command cmd) b.pages m) → b.read_faults ≤ c.read_faults → (reads : ℕ) → c.reads ≡ reads_after b.reads reads
-      → calls_of c ≤ calls_of b + most_calls_of shape cmd.opcode cmd.size → Cutoff shape frames start a c (commands all ++ cmd ∷ [])
+  pub Cutoff-exec : (c : BoardState) (cmd : Command) → Goes shape b c (CrashFinds shape (command terms.limits cmd) b.pages m) → b.read_faults ≤ c.read_faults → (reads : ℕ) → c.reads ≡ reads_after b.reads reads
+      → calls_of c ≤ calls_of b + most_calls_of shape cmd.opcode cmd.size → Cutoff shape terms start a c (commands all ++ cmd ∷ [])
   Cutoff-exec c cmd went up reads read few_calls =
       let next = calls_next c cmd 0 (omega arith) few_calls in
-      extend_went (cmd ∷ []) c (CrashFinds shape (command cmd) b.pages m) up (exec_cut cmd c.read_faults up)
+      extend_went (cmd ∷ []) c (CrashFinds shape (command terms.limits cmd) b.pages m) up (exec_cut cmd c.read_faults up)
       (λ f q cut. (unposted, ap (λ t. t ++ unposted) cut.0)) (inr (reads, read, λ e. cc)) (omega (arith, next)) went
 
   -- ---- a commit
 
   commit_cut : (later : ℕ) → b.read_faults ≤ later → (f : Flash) (q : List ℕ) → CrashFinds shape commit b.pages m f q
-      → KeptAt shape frames start (commands all ++ []) (rise a.read_faults later) f (all_posted w.marks ++ q)
+      → KeptAt shape terms start (commands all ++ []) (rise a.read_faults later) f (all_posted w.marks ++ q)
   commit_cut later up f q cut =
-      let P : List ℕ → Type 0 = λ t. KeptAt shape frames start (commands all ++ []) (rise a.read_faults later) f t in
+      let P : List ℕ → Type 0 = λ t. KeptAt shape terms start (commands all ++ []) (rise a.read_faults later) f t in
       none_more P (all_posted w.marks) q cut.0 (elim cut.1 [
-        | inl same ↦ kept-more shape frames start (commands all) [] (rise a.read_faults b.read_faults) (rise a.read_faults later)
+        | inl same ↦ kept-more shape terms start (commands all) [] (rise a.read_faults b.read_faults) (rise a.read_faults later)
             (λ k h. at_most-more a.read_faults b.read_faults later k up h) f (all_posted w.marks) (kept_same f same)
         | inr held ↦ subst P (append-nil (all_posted w.marks))
-            (kept-more shape frames start (commands all) [] (rise a.read_faults b.read_faults) (rise a.read_faults later)
+            (kept-more shape terms start (commands all) [] (rise a.read_faults b.read_faults) (rise a.read_faults later)
             (λ k h. at_most-more a.read_faults b.read_faults later k up h) f (all_posted w.marks ++ []) (kept_all f held [] unposted refl))
       ])
 
@@ -286,14 +293,14 @@ module _ (shape : Shape) (frames : ℕ) (start : Map) (a b : BoardState) (drive 
       omega (arith, few, so_far, whole)
 
   -- what was pending is on the flash
-  pub Serving-commit : (c : BoardState) (e : Sight) → Reaches shape b c (CrashFinds shape commit b.pages m) → HoldsMap shape frames c e m → OnlyFlash b c
+  pub Serving-commit : (c : BoardState) (e : Sight) → Reaches shape b c (CrashFinds shape commit b.pages m) → HoldsMap shape terms c e m → OnlyFlash b c
       → c.read_faults ≡ b.read_faults → c.stop_faults ≡ b.stop_faults → c.reads ≡ b.reads → roots c ≡ roots b → calls_of c + owed e.pending ≤ calls_of b + owed drive.pending
-      → Serving shape frames start a c e unposted all m
+      → Serving shape terms start a c e unposted all m
   Serving-commit c e reached stands rest same_reads no_stop read same_roots few_calls =
       let up : b.read_faults ≤ c.read_faults = omega (arith, same_reads) in
       let silent : all_posted reached.0 ≡ [] = (at_end reached.0 b c (CrashFinds shape commit b.pages m) reached.1).0 in
       let more = extend [] c (CrashFinds shape commit b.pages m) up (commit_cut c.read_faults up) reached.0 reached.1 in
-      let R : List Command → Type 0 = λ l. ReachedBy (w.marks ++ reached.0) a c (KeptAt shape frames start l (rise a.read_faults c.read_faults)) in
+      let R : List Command → Type 0 = λ l. ReachedBy (w.marks ++ reached.0) a c (KeptAt shape terms start l (rise a.read_faults c.read_faults)) in
       let same : meter b ≡ meter c = λ k. record { reads = sym read k; read_faults = sym same_reads k; roots = sym same_roots k } in
       let M : Meter → Type 0 = λ t. MeteredAll (meter a) all t in
       record {
@@ -315,10 +322,10 @@ module _ (shape : Shape) (frames : ℕ) (start : Map) (a b : BoardState) (drive 
       }
 
   pub Cutoff-commit : (c : BoardState) → Goes shape b c (CrashFinds shape commit b.pages m) → c.read_faults ≡ b.read_faults → c.reads ≡ b.reads → calls_of c ≤ calls_of b + owed drive.pending
-      → Cutoff shape frames start a c (commands all)
+      → Cutoff shape terms start a c (commands all)
   Cutoff-commit c went same_reads read few_calls =
       let up : b.read_faults ≤ c.read_faults = omega (arith, same_reads) in
-      let R : List Command → Type 0 = λ l. Cutoff shape frames start a c l in
+      let R : List Command → Type 0 = λ l. Cutoff shape terms start a c l in
       subst R (append-nil (commands all))
       (extend_went [] c (CrashFinds shape commit b.pages m) up (commit_cut c.read_faults up) (λ f q cut. (unposted, ap (λ t. t ++ unposted) cut.0)) (inl read) (calls_here c few_calls) went)
 
@@ -329,16 +336,16 @@ module _ (shape : Shape) (frames : ℕ) (start : Map) (a b : BoardState) (drive 
   held_now none = let M : List Entry → Type 0 = λ p. reading shape b.pages p ≡ Ok m in subst M none w.stands.map_is
 
   post_cut : reading shape b.pages [] ≡ Ok m → (bytes behind : List ℕ) → bytes ++ behind ≡ unposted → (out rest : List ℕ) → out ++ rest ≡ bytes
-      → KeptAt shape frames start (commands all ++ []) (rise a.read_faults b.read_faults) b.pages (all_posted w.marks ++ out)
-  post_cut held bytes behind front out rest is = kept-more shape frames start (commands all) []
+      → KeptAt shape terms start (commands all ++ []) (rise a.read_faults b.read_faults) b.pages (all_posted w.marks ++ out)
+  post_cut held bytes behind front out rest is = kept-more shape terms start (commands all) []
       (rise a.read_faults b.read_faults) (rise a.read_faults b.read_faults) (λ k h. h) b.pages (all_posted w.marks ++ out)
       (kept_all b.pages held out (rest ++ behind) (sym (append_assoc out rest behind) ∙ (ap (λ t. t ++ behind) is ∙ front)))
 
-  pub Serving-post : (bytes behind : List ℕ) → drive.pending ≡ [] → bytes ++ behind ≡ unposted → Serving shape frames start a (after_post b bytes) drive behind all m
+  pub Serving-post : (bytes behind : List ℕ) → drive.pending ≡ [] → bytes ++ behind ≡ unposted → Serving shape terms start a (after_post b bytes) drive behind all m
   Serving-post bytes behind none front =
-      let P : Flash → List ℕ → Type 0 = λ f q. KeptAt shape frames start (commands all ++ []) (rise a.read_faults b.read_faults) f (all_posted w.marks ++ q) in
+      let P : Flash → List ℕ → Type 0 = λ f q. KeptAt shape terms start (commands all ++ []) (rise a.read_faults b.read_faults) f (all_posted w.marks ++ q) in
       let more = extend [] (after_post b bytes) P (omega arith) (λ f q h. h) (post bytes ∷ []) (Reached-post b bytes P (post_cut (held_now none) bytes behind front)) in
-      let R : List Command → Type 0 = λ l. ReachedBy (w.marks ++ post bytes ∷ []) a (after_post b bytes) (KeptAt shape frames start l (rise a.read_faults b.read_faults)) in
+      let R : List Command → Type 0 = λ l. ReachedBy (w.marks ++ post bytes ∷ []) a (after_post b bytes) (KeptAt shape terms start l (rise a.read_faults b.read_faults)) in
       record {
         ran = w.ran;
         stands = record { shape_is = w.stands.shape_is; frames_is = w.stands.frames_is; map_is = w.stands.map_is };
@@ -355,14 +362,14 @@ module _ (shape : Shape) (frames : ℕ) (start : Map) (a b : BoardState) (drive 
         no_faults = record { output = w.no_faults.output; stop = w.no_faults.stop };
       }
 
-  pub Cutoff-post : (c : BoardState) (bytes behind : List ℕ) → drive.pending ≡ [] → bytes ++ behind ≡ unposted → PostFailed b c bytes → Cutoff shape frames start a c (commands all)
+  pub Cutoff-post : (c : BoardState) (bytes behind : List ℕ) → drive.pending ≡ [] → bytes ++ behind ≡ unposted → PostFailed b c bytes → Cutoff shape terms start a c (commands all)
   Cutoff-post c bytes behind none front failed =
       let same : c.read_faults ≡ b.read_faults = ap (λ s. s.read_faults) failed.rest in
-      let K : Flash → List ℕ → Type 0 = λ f q. KeptAt shape frames start (commands all ++ []) (rise a.read_faults b.read_faults) f (all_posted w.marks ++ q) in
+      let K : Flash → List ℕ → Type 0 = λ f q. KeptAt shape terms start (commands all ++ []) (rise a.read_faults b.read_faults) f (all_posted w.marks ++ q) in
       let P : Flash → List ℕ → Type 0 = λ f q. K f q × ((rest : List ℕ) × (q ++ rest ≡ unposted)) in
       let up : b.read_faults ≤ c.read_faults = omega (arith, same) in
-      let R : List Command → Type 0 = λ l. Cutoff shape frames start a c l in
-      let N : ℕ → Type 0 = λ n. (f : Flash) (q : List ℕ) → P f q → KeptAt shape frames start (commands all ++ []) (rise a.read_faults n) f (all_posted w.marks ++ q) in
+      let R : List Command → Type 0 = λ l. Cutoff shape terms start a c l in
+      let N : ℕ → Type 0 = λ n. (f : Flash) (q : List ℕ) → P f q → KeptAt shape terms start (commands all ++ []) (rise a.read_faults n) f (all_posted w.marks ++ q) in
       subst R (append-nil (commands all))
       (extend_went [] c P up (subst N (sym same) (λ f q h. h.0)) (λ f q h. h.1) (inl (ap (λ s. s.reads) failed.rest)) (calls_here c (let none = ap calls_of failed.rest in omega (arith, none)))
       (Goes-post_failed shape b bytes P
@@ -371,7 +378,7 @@ module _ (shape : Shape) (frames : ℕ) (start : Map) (a b : BoardState) (drive 
   -- ---- calls that leave the flash and the host's bytes
 
   -- an input that may have failed
-  pub Serving-inputs : (left : Option (List ℕ)) (count : ℕ) → Serving shape frames start a (record b { input = left; in_faults = count }) drive unposted all m
+  pub Serving-inputs : (left : Option (List ℕ)) (count : ℕ) → Serving shape terms start a (record b { input = left; in_faults = count }) drive unposted all m
   Serving-inputs left count = record {
     ran = w.ran;
     stands = record { shape_is = w.stands.shape_is; frames_is = w.stands.frames_is; map_is = w.stands.map_is };
@@ -388,22 +395,23 @@ module _ (shape : Shape) (frames : ℕ) (start : Map) (a b : BoardState) (drive 
   }
 
 -- nothing was served yet
-pub Serving-start : (shape : Shape) (frames : ℕ) (start : Map) (a : BoardState) (drive : Sight)
-    → HoldsMap shape frames a drive start → drive.pending ≡ [] → Serving shape frames start a a drive [] [] start
-Serving-start shape frames start a drive stands none =
+pub Serving-start : (shape : Shape) (terms : Terms) (start : Map) (a : BoardState) (drive : Sight)
+    → HoldsMap shape terms a drive start → drive.pending ≡ [] → Serving shape terms start a a drive [] [] start
+Serving-start shape terms start a drive stands none =
     let M : List Entry → Type 0 = λ p. reading shape a.pages p ≡ Ok start in
     let held : reading shape a.pages [] ≡ Ok start = subst M none stands.map_is in
     record {
       ran = refl;
       stands = stands;
       marks = [];
-      run = Reached-start a a (KeptAt shape frames start [] (rise a.read_faults a.read_faults)) refl refl refl refl (record {
+      run = Reached-start a a (KeptAt shape terms start [] (rise a.read_faults a.read_faults)) refl refl refl refl (record {
         served = [];
         unserved = [];
         from_front = refl;
         map_left = start;
         ran = refl;
         held = held;
+        same_limits = stands.limits_is;
         unposted = [];
         begins = refl;
         few_faults = at_most-zero (rise a.read_faults a.read_faults);

@@ -1,8 +1,8 @@
 -- A Store that is too large is refused whatever its value is.
-use Rattle.std.proofs.Common.{◌≡◌, ◌≢◌, inl, inr, ℕ, ◌<◌, List, [], Option, Some, None, refl, sym, ◌∙◌, ap, subst, arith, false, nat_le, Ok}
+use Rattle.std.proofs.Common.{◌≡◌, ◌≢◌, inl, inr, ℕ, ◌<◌, List, [], length, Option, Some, None, refl, sym, ◌∙◌, ap, subst, arith, false, nat_le, Ok}
 use Rattle.std.proofs.lemmas.Bool.Decides.{nat_tests}
 use Rattle.pk_base.specs.Choices.{or_else}
-use Rattle.pk_base.specs.Shape.{Shape, greatest, limit}
+use Rattle.pk_base.specs.Shape.{Shape, greatest}
 use Rattle.pk_base.specs.Page.{Flash}
 use Rattle.pk_nvme.specs.Command.{Command}
 use Rattle.pk_nvme.specs.Reply.{Reply, refusal}
@@ -18,56 +18,57 @@ use Rattle.pk_model.specs.Crashes.{CrashFinds, command}
 use Rattle.pk_call.specs.Call.{CallReaches, CallGoes}
 use Rattle.pk_call.specs.Exec.{Executed, ExecStands, IsValue}
 use Rattle.pk_model.proofs.Growing.{weaken, weaken_went}
+use Rattle.pk_model.specs.Spaces.{Terms, limit_of, in_space}
 
-abbrev store_early : Shape → ℕ → ℕ → ℕ → Option ℕ
-store_early shape namespace key_len size =
-    or_else (check (is_namespace Store namespace) 0x0B) (or_else (check (is_key_length Store key_len) 0x86) (check (nat_le size (greatest shape)) 0x85))
+abbrev store_early : ℕ → Shape → ℕ → ℕ → ℕ → Option ℕ
+store_early spaces shape namespace key_len size =
+    or_else (check (is_namespace spaces Store namespace) 0x0B) (or_else (check (is_key_length Store key_len) 0x86) (check (nat_le size (greatest shape)) 0x85))
 
-early_is : (shape : Shape) (c : Command) → c.opcode ≡ 0x01 → early shape c ≡ store_early shape c.namespace c.key_len c.size
-early_is shape c e = ap (λ o. fault_of shape c (op_of o)) e
+early_is : (spaces : ℕ) (shape : Shape) (c : Command) → c.opcode ≡ 0x01 → early spaces shape c ≡ store_early spaces shape c.namespace c.key_len c.size
+early_is spaces shape c e = ap (λ o. fault_of spaces shape c (op_of o)) e
 
 first_some : (p q : Option ℕ) → (s : ℕ) × (q ≡ Some s) → (s : ℕ) × (or_else p q ≡ Some s)
 first_some (Some t) q h = (t, refl)
 first_some None q h = h
 
-too_large : (shape : Shape) (namespace key_len size : ℕ) → greatest shape < size → (s : ℕ) × (store_early shape namespace key_len size ≡ Some s)
-too_large shape namespace key_len size large =
+too_large : (spaces : ℕ) (shape : Shape) (namespace key_len size : ℕ) → greatest shape < size → (s : ℕ) × (store_early spaces shape namespace key_len size ≡ Some s)
+too_large spaces shape namespace key_len size large =
     let e : nat_le size (greatest shape) ≡ false = grind (arith, nat_tests) in
-    first_some (check (is_namespace Store namespace) 0x0B) (or_else (check (is_key_length Store key_len) 0x86) (check (nat_le size (greatest shape)) 0x85))
+    first_some (check (is_namespace spaces Store namespace) 0x0B) (or_else (check (is_key_length Store key_len) 0x86) (check (nat_le size (greatest shape)) 0x85))
     (first_some (check (is_key_length Store key_len) 0x86) (check (nat_le size (greatest shape)) 0x85) (0x85, ap (λ b. check b 0x85) e))
 
 -- a command that is refused early
-module _ (shape : Shape) (most frames : ℕ) (m : Map) (own : List ℕ) (c : Command) (s : ℕ) (e : early shape c ≡ Some s) where
-  refused_is : refused shape most m c ≡ Some s
-  refused_is = ap (λ o. or_else o (late_of shape most m c (op_of c.opcode))) e
+module _ (shape : Shape) (terms : Terms) (m : Map) (own : List ℕ) (c : Command) (s : ℕ) (e : early (length terms.limits) shape c ≡ Some s) where
+  refused_is : refused shape terms.limits m c ≡ Some s
+  refused_is = ap (λ o. or_else o (late_of shape (limit_of terms.limits c.namespace) (in_space c.namespace m) c (op_of c.opcode))) e
 
-  leaves : map_after shape most m c ≡ m
+  leaves : map_after shape terms.limits m c ≡ m
   unfolding map_after
   leaves = rw refused_is refl
 
-  replies : reply shape most frames m own c ≡ refusal s
+  replies : reply shape terms m own c ≡ refusal s
   unfolding reply
   replies = rw refused_is refl
 
 -- two commands that are refused early alike
-module _ (shape : Shape) (frames : ℕ) (c d : Command) (s : ℕ) (ec : early shape c ≡ Some s) (ed : early shape d ≡ Some s) where
-  step_too : (m : Map) (a : Reply) (m' : Map) → Step shape frames m c a m' → Step shape frames m d a m'
+module _ (shape : Shape) (terms : Terms) (c d : Command) (s : ℕ) (ec : early (length terms.limits) shape c ≡ Some s) (ed : early (length terms.limits) shape d ≡ Some s) where
+  step_too : (m : Map) (a : Reply) (m' : Map) → Step shape terms m c a m' → Step shape terms m d a m'
   step_too m a m' (inl x) = inl (record {
     own = x.own;
     eleven = x.eleven;
-    replied = x.replied ∙ (replies shape (limit shape) frames m x.own c s ec ∙ sym (replies shape (limit shape) frames m x.own d s ed));
-    leaves = x.leaves ∙ (leaves shape (limit shape) frames m x.own c s ec ∙ sym (leaves shape (limit shape) frames m x.own d s ed));
+    replied = x.replied ∙ (replies shape terms m x.own c s ec ∙ sym (replies shape terms m x.own d s ed));
+    leaves = x.leaves ∙ (leaves shape terms m x.own c s ec ∙ sym (leaves shape terms m x.own d s ed));
   })
   step_too m a m' (inr x) = absurd (let h : None ≡ Some s = sym x.not_early ∙ ec in cc)
 
-  cut_too : (start : Flash) (m : Map) (f : Flash) (q : List ℕ) → CrashFinds shape (command c) start m f q → CrashFinds shape (command d) start m f q
+  cut_too : (start : Flash) (m : Map) (f : Flash) (q : List ℕ) → CrashFinds shape (command terms.limits c) start m f q → CrashFinds shape (command terms.limits d) start m f q
   cut_too start m f q cut = (
     cut.0,
     elim cut.1 [
       | inl same ↦ inl same
       | inr more ↦ elim more [
         | inl all ↦ inr (inl all)
-        | inr next ↦ inr (inl (next ∙ ap (λ x. Ok x) (leaves shape (limit shape) frames m [] c s ec)))
+        | inr next ↦ inr (inl (next ∙ ap (λ x. Ok x) (leaves shape terms m [] c s ec)))
       ]
     ],
   )
@@ -78,42 +79,42 @@ no_retrieve opcode e h = let g : Some Store ≡ Some Retrieve = sym (ap op_of e)
 
 module _ (old new : BoardState) (before after : Sight) (c : Command) (v : List ℕ) (is : IsValue (shape_or_none old.shape) c.opcode c.size c.value v) where
   -- the two refusals
-  refused_both : (shape : Shape) → old.shape ≡ Some shape → (c.opcode ≡ 0x01) × (greatest (shape_or_none old.shape) < c.size)
-      → (s : ℕ) × (early shape c ≡ Some s) × (early shape (record c { value = v }) ≡ Some s)
-  refused_both shape same large =
+  refused_both : (spaces : ℕ) (shape : Shape) → old.shape ≡ Some shape → (c.opcode ≡ 0x01) × (greatest (shape_or_none old.shape) < c.size)
+      → (s : ℕ) × (early spaces shape c ≡ Some s) × (early spaces shape (record c { value = v }) ≡ Some s)
+  refused_both spaces shape same large =
       let T : Shape → Type 0 = λ s. greatest s < c.size in
-      let r = too_large shape c.namespace c.key_len c.size (subst T (ap shape_or_none same) large.1) in
-      (r.0, early_is shape c large.0 ∙ r.1, early_is shape (record c { value = v }) large.0 ∙ r.1)
+      let r = too_large spaces shape c.namespace c.key_len c.size (subst T (ap shape_or_none same) large.1) in
+      (r.0, early_is spaces shape c large.0 ∙ r.1, early_is spaces shape (record c { value = v }) large.0 ∙ r.1)
 
   pub stands_value : (rep : Reply) (reads : ℕ) → ExecStands old new before after c rep reads → ExecStands old new before after (record c { value = v }) rep reads
-  stands_value rep reads h shape frames m s = elim is [
-    | inl same ↦ (let T : List ℕ → Type 0 = λ x. Executed shape frames new after m (record c { value = x }) rep reads in subst T (sym same) (h shape frames m s))
-    | inr large ↦ (let r = refused_both shape s.shape_is large in let x = h shape frames m s in record {
+  stands_value rep reads h shape terms m s = elim is [
+    | inl same ↦ (let T : List ℕ → Type 0 = λ x. Executed shape terms new after m (record c { value = x }) rep reads in subst T (sym same) (h shape terms m s))
+    | inr large ↦ (let r = refused_both (length terms.limits) shape s.shape_is large in let x = h shape terms m s in record {
       left = x.left;
-      stepped = step_too shape frames c (record c { value = v }) r.0 r.1 r.2 m rep x.left x.stepped;
+      stepped = step_too shape terms c (record c { value = v }) r.0 r.1 r.2 m rep x.left x.stepped;
       stands = x.stands;
       bounded = λ k. absurd (no_retrieve c.opcode large.0 k);
     })
   ]
 
-  pub reaches_value : CallReaches old new before (command c) → CallReaches old new before (command (record c { value = v }))
-  reaches_value h shape frames m s = elim is [
-    | inl same ↦ (let T : List ℕ → Type 0 = λ x. Reaches shape old new (CrashFinds shape (command (record c { value = x })) old.pages m) in subst T (sym same) (h shape frames m s))
-    | inr large ↦ (let r = refused_both shape s.shape_is large in let x = h shape frames m s in (
+  pub reaches_value : (limits : List ℕ) → CallReaches old new before (command limits c) → CallReaches old new before (command limits (record c { value = v }))
+  reaches_value limits h shape terms m s = elim is [
+    | inl same ↦ (let T : List ℕ → Type 0 = λ x. Reaches shape old new (CrashFinds shape (command limits (record c { value = x })) old.pages m) in subst T (sym same) (h shape terms m s))
+    | inr large ↦ (let r = refused_both (length limits) shape s.shape_is large in let x = h shape terms m s in (
       x.0,
-      weaken x.0 old new (CrashFinds shape (command c) old.pages m) (CrashFinds shape (command (record c { value = v })) old.pages m)
-          (cut_too shape frames c (record c { value = v }) r.0 r.1 r.2 old.pages m) x.1,
+      weaken x.0 old new (CrashFinds shape (command limits c) old.pages m) (CrashFinds shape (command limits (record c { value = v })) old.pages m)
+          (cut_too shape (record { frames = terms.frames; limits = limits }) c (record c { value = v }) r.0 r.1 r.2 old.pages m) x.1,
       x.2,
     ))
   ]
 
-  pub went_value : CallGoes old new before (command c) → CallGoes old new before (command (record c { value = v }))
-  went_value h shape frames m s = elim is [
-    | inl same ↦ (let T : List ℕ → Type 0 = λ x. Goes shape old new (CrashFinds shape (command (record c { value = x })) old.pages m) in subst T (sym same) (h shape frames m s))
-    | inr large ↦ (let r = refused_both shape s.shape_is large in let x = h shape frames m s in (
+  pub went_value : (limits : List ℕ) → CallGoes old new before (command limits c) → CallGoes old new before (command limits (record c { value = v }))
+  went_value limits h shape terms m s = elim is [
+    | inl same ↦ (let T : List ℕ → Type 0 = λ x. Goes shape old new (CrashFinds shape (command limits (record c { value = x })) old.pages m) in subst T (sym same) (h shape terms m s))
+    | inr large ↦ (let r = refused_both (length limits) shape s.shape_is large in let x = h shape terms m s in (
       x.0,
-      weaken_went x.0 old new (CrashFinds shape (command c) old.pages m) (CrashFinds shape (command (record c { value = v })) old.pages m)
-          (cut_too shape frames c (record c { value = v }) r.0 r.1 r.2 old.pages m) x.1,
+      weaken_went x.0 old new (CrashFinds shape (command limits c) old.pages m) (CrashFinds shape (command limits (record c { value = v })) old.pages m)
+          (cut_too shape (record { frames = terms.frames; limits = limits }) c (record c { value = v }) r.0 r.1 r.2 old.pages m) x.1,
       x.2,
     ))
   ]

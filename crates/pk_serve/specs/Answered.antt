@@ -9,6 +9,7 @@ use Rattle.pk_model.specs.Run.{Exchange, RunWithin, commands, records}
 use Rattle.pk_call.specs.Meter.{Meter, meter, MeteredAll, reads_after}
 use Rattle.pk_call.specs.Exec.{most_installs}
 use Rattle.pk_serve.specs.Calling.{calls_of, most_calls_of_all}
+use Rattle.pk_model.specs.Spaces.{Terms}
 
 -- most roots that these commands install
 abbrev pub installs : List Command → ℕ
@@ -17,12 +18,12 @@ installs (c ∷ cs) = most_installs c.opcode c.size + installs cs
 
 -- A prefix of these commands was answered, each with its number of reads, and what was posted is a prefix of their records. After them nothing
 -- was read, but by the command in which the run ended; that one, at most, made calls in addition to those that were answered.
-pub record Answered (shape : Shape) (frames : ℕ) (start : Map) (a b : BoardState) (cs : List Command) : Type 0 where
+pub record Answered (shape : Shape) (terms : Terms) (start : Map) (a b : BoardState) (cs : List Command) : Type 0 where
   pub served : List Exchange
   pub unserved : List Command
   pub from_front : commands served ++ unserved ≡ cs
   pub left : Map
-  pub ran : RunWithin shape frames start served left
+  pub ran : RunWithin shape terms start served left
   pub last : Meter
   pub metered : MeteredAll (meter a) served last
   pub behind : (b.reads ≡ last.reads) ⊎ ((more : ℕ) × (b.reads ≡ reads_after last.reads more) × (unserved ≢ []))

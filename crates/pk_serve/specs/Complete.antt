@@ -2,7 +2,7 @@
 use Rattle.std.specs.Prelude.{◌≡◌, ◌<◌, ◌+◌, ℕ, List, [], ◌∷◌, length, Some, ◌==◌, if◌then◌else◌}
 use Rattle.std.specs.List.{FoldsTo}
 use Rattle.pk_nvme.specs.declared.opcode.TheConstants.{TICK}
-use Rattle.pk_base.specs.Shape.{Shape, limit}
+use Rattle.pk_base.specs.Shape.{Shape}
 use Rattle.pk_base.specs.Map.{Map}
 use Rattle.pk_nvme.specs.Command.{Command}
 use Rattle.pk_nand.specs.BoardState.{BoardState}
@@ -16,6 +16,7 @@ use Rattle.pk_call.specs.Drive.{HoldsMap}
 use Rattle.pk_model.specs.Wear.{roots}
 use Rattle.pk_serve.specs.declared.end.End.{End}
 use Rattle.pk_serve.specs.declared.end.End.TheVariants.{Done}
+use Rattle.pk_model.specs.Spaces.{Terms}
 
 -- the steps that the Ticks of these commands ask for
 abbrev pub ticks : List Command → ℕ
@@ -30,12 +31,12 @@ pub record NoneRose (a b : BoardState) : Type 0 where
   pub output : Rose a.out_faults b.out_faults → ⊥
 
 -- Every command was answered by the definition, and its record posted; the flash holds the map after all of them.
-pub record Complete (shape : Shape) (frames : ℕ) (start : Map) (a b : BoardState) (cs : List Command) : Type 0 where
+pub record Complete (shape : Shape) (terms : Terms) (start : Map) (a b : BoardState) (cs : List Command) : Type 0 where
   pub served : List Exchange
   pub are : commands served ≡ cs
-  pub ran : FoldsTo (λ m x m'. Answer shape (limit shape) frames m x.command x.reply m') start served (map_after_all shape start cs)
+  pub ran : FoldsTo (λ m x m'. Answer shape terms m x.command x.reply m') start served (map_after_all shape terms.limits start cs)
   pub posted : b.posted ≡ longer a.posted (records 0 served)
-  pub holds : Holds shape b.pages (map_after_all shape start cs)
+  pub holds : Holds shape b.pages (map_after_all shape terms.limits start cs)
 
 -- The newest root's number of a drive that is far from worn is below 2^62: half of the numbers before 2^63, from which on a drive is worn.
 abbrev pub far_below : ℕ
@@ -56,6 +57,6 @@ pub record IsServable (a b : BoardState) (cs : List Command) (rest : List ℕ) :
 
 abbrev pub RunCompletes : BoardState → BoardState → Sight → End → Type 0
 RunCompletes a b before end =
-    (shape : Shape) (frames : ℕ) (start : Map) → HoldsMap shape frames a before start → before.pending ≡ []
+    (shape : Shape) (terms : Terms) (start : Map) → HoldsMap shape terms a before start → before.pending ≡ []
     → (input : List ℕ) → a.input ≡ Some input → IsServable a b (script input).0 (script input).1
-    → (end ≡ Done) × Complete shape frames start a b (script input).0
+    → (end ≡ Done) × Complete shape terms start a b (script input).0

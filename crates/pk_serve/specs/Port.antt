@@ -1,6 +1,6 @@
 -- One command on a drive with nothing pending.
 use Rattle.std.specs.Prelude.{◌≡◌, ◌≢◌, ◌⊎◌, ◌+◌, ◌≤◌, ℕ, List, [], Some, Result, OnOk, OnErr, IfOk}
-use Rattle.pk_base.specs.Shape.{Shape, limit}
+use Rattle.pk_base.specs.Shape.{Shape}
 use Rattle.pk_base.specs.Page.{Flash}
 use Rattle.pk_base.specs.Map.{Map}
 use Rattle.pk_nvme.specs.Command.{Command}
@@ -23,27 +23,28 @@ use Rattle.pk_call.specs.Exec.{most_installs}
 use Rattle.pk_call.specs.Meter.{reads_after}
 use Rattle.pk_call.specs.declared.types.Outcome.{Outcome}
 use Rattle.pk_model.specs.Growth.{Reaches, Goes}
+use Rattle.pk_model.specs.Spaces.{Terms}
 
--- wherever it is cut the flash holds the map before the command or the one after it
-abbrev pub StepCut : Shape → Map → Command → Flash → List ℕ → Type 0
-StepCut shape m c flash posted = (posted ≡ []) × (Holds shape flash m ⊎ Holds shape flash (map_after shape (limit shape) m c))
+-- wherever it is cut the flash holds the map before the command or the one after it within these limits
+abbrev pub StepCut : Shape → List ℕ → Map → Command → Flash → List ℕ → Type 0
+StepCut shape limits m c flash posted = (posted ≡ []) × (Holds shape flash m ⊎ Holds shape flash (map_after shape limits m c))
 
 -- a command that was answered, with this many pages read for it
-pub record Submitted (shape : Shape) (frames : ℕ) (old new : BoardState) (after : Sight) (m : Map) (c : Command) (reply : Reply) (reads : ℕ) : Type 0 where
+pub record Submitted (shape : Shape) (terms : Terms) (old new : BoardState) (after : Sight) (m : Map) (c : Command) (reply : Reply) (reads : ℕ) : Type 0 where
   pub left : Map
-  pub stepped : Step shape frames m c reply left
-  pub bounded : op_of c.opcode ≡ Some Retrieve → reads ≤ most_reads shape frames m c
-  pub stands : HoldsMap shape frames new after left
+  pub stepped : Step shape terms m c reply left
+  pub bounded : op_of c.opcode ≡ Some Retrieve → reads ≤ most_reads shape terms m c
+  pub stands : HoldsMap shape terms new after left
   pub holds : Holds shape new.pages left
-  pub reached : Reaches shape old new (StepCut shape m c)
+  pub reached : Reaches shape old new (StepCut shape terms.limits m c)
 
 abbrev pub Submits : BoardState → BoardState → Sight → Sight → Command → Reply → ℕ → Type 0
 Submits old new before after c reply reads =
-    (shape : Shape) (frames : ℕ) (m : Map) → HoldsMap shape frames old before m → before.pending ≡ [] → Submitted shape frames old new after m c reply reads
+    (shape : Shape) (terms : Terms) (m : Map) → HoldsMap shape terms old before m → before.pending ≡ [] → Submitted shape terms old new after m c reply reads
 
 -- a command that stopped the drive
 abbrev pub SubmitStops : BoardState → BoardState → Sight → Command → Type 0
-SubmitStops old new before c = (shape : Shape) (frames : ℕ) (m : Map) → HoldsMap shape frames old before m → before.pending ≡ [] → Goes shape old new (StepCut shape m c)
+SubmitStops old new before c = (shape : Shape) (terms : Terms) (m : Map) → HoldsMap shape terms old before m → before.pending ≡ [] → Goes shape old new (StepCut shape terms.limits m c)
 
 -- What the command and its commit count: reads, faults and roots.
 pub record CountsSubmit (old new : BoardState) (r : Request) (result : Result Outcome NandFault) : Type 0 where

@@ -21,17 +21,18 @@ use Rattle.pk_serve.specs.Part.{Faulted}
 use Rattle.pk_serve.specs.Calling.{calls_of, owed, most_calls_of_all}
 use Rattle.pk_serve.specs.declared.end.End.{End}
 use Rattle.pk_serve.specs.Answered.{Answered}
+use Rattle.pk_model.specs.Spaces.{Terms}
 
 -- what every cut keeps, of these commands
-abbrev pub KeptAt : Shape → ℕ → Map → List Command → Option ℕ → Flash → List ℕ → Type 0
-KeptAt shape frames start cs n flash posted = Kept shape frames start cs n posted flash
+abbrev pub KeptAt : Shape → Terms → Map → List Command → Option ℕ → Flash → List ℕ → Type 0
+KeptAt shape terms start cs n flash posted = Kept shape terms start cs n posted flash
 
 -- These were served from one map to another, and their records were posted but for these bytes. Wherever it was cut, it was kept.
-pub record Serving (shape : Shape) (frames : ℕ) (start : Map) (a b : BoardState) (drive : Sight) (unposted : List ℕ) (all : List Exchange) (m : Map) : Type 0 where
-  pub ran : RunWithin shape frames start all m
-  pub stands : HoldsMap shape frames b drive m
+pub record Serving (shape : Shape) (terms : Terms) (start : Map) (a b : BoardState) (drive : Sight) (unposted : List ℕ) (all : List Exchange) (m : Map) : Type 0 where
+  pub ran : RunWithin shape terms start all m
+  pub stands : HoldsMap shape terms b drive m
   pub marks : List Mark
-  pub run : ReachedBy marks a b (KeptAt shape frames start (commands all) (rise a.read_faults b.read_faults))
+  pub run : ReachedBy marks a b (KeptAt shape terms start (commands all) (rise a.read_faults b.read_faults))
   pub grows : GrowsAlong shape a.pages marks
   pub shape_is : a.shape ≡ Some shape
   pub records_are : all_posted marks ++ unposted ≡ records 0 all
@@ -42,21 +43,21 @@ pub record Serving (shape : Shape) (frames : ℕ) (start : Map) (a b : BoardStat
   pub no_faults : NoFaults a b
 
 -- It ended in a fault, or may have. Wherever it was cut, it was kept.
-pub record Cutoff (shape : Shape) (frames : ℕ) (start : Map) (a b : BoardState) (cs : List Command) : Type 0 where
-  pub went : Goes shape a b (KeptAt shape frames start cs (rise a.read_faults b.read_faults))
-  pub answered : Answered shape frames start a b cs
+pub record Cutoff (shape : Shape) (terms : Terms) (start : Map) (a b : BoardState) (cs : List Command) : Type 0 where
+  pub went : Goes shape a b (KeptAt shape terms start cs (rise a.read_faults b.read_faults))
+  pub answered : Answered shape terms start a b cs
 
 -- A call posts these bytes: what was served is unchanged, and those after them remain.
 abbrev pub Flushed : BoardState → BoardState → Sight → Sight → List ℕ → Type 0
 Flushed old new before after bytes =
-    (shape : Shape) (frames : ℕ) (start : Map) (a : BoardState) (behind : List ℕ) (all : List Exchange) (m : Map)
-    → Serving shape frames start a old before (bytes ++ behind) all m → Serving shape frames start a new after behind all m
+    (shape : Shape) (terms : Terms) (start : Map) (a : BoardState) (behind : List ℕ) (all : List Exchange) (m : Map)
+    → Serving shape terms start a old before (bytes ++ behind) all m → Serving shape terms start a new after behind all m
 
 -- A call ends the run while these bytes are held: what was served is kept.
 abbrev pub ServingBroken : BoardState → BoardState → Sight → List ℕ → End → Type 0
 ServingBroken old new before bytes end =
-    (shape : Shape) (frames : ℕ) (start : Map) (a : BoardState) (behind : List ℕ) (all : List Exchange) (m : Map)
-    → Serving shape frames start a old before (bytes ++ behind) all m → Cutoff shape frames start a new (commands all) × HasCause a new end
+    (shape : Shape) (terms : Terms) (start : Map) (a : BoardState) (behind : List ℕ) (all : List Exchange) (m : Map)
+    → Serving shape terms start a old before (bytes ++ behind) all m → Cutoff shape terms start a new (commands all) × HasCause a new end
 
 -- The output or the flash failed while these bytes were held: its count of faults shows it, and what was served is kept.
 pub record FailsHolding (old new : BoardState) (before : Sight) (held : List ℕ) (end : End) : Type 0 where
@@ -73,29 +74,29 @@ PostBreaks old new bytes end = (drive : Sight) → drive.pending ≡ [] → Serv
 -- A call changes what is held from one to the other: what was served is unchanged.
 abbrev pub Keeps : BoardState → BoardState → Sight → Sight → List ℕ → List ℕ → Type 0
 Keeps old new before after held now_held =
-    (shape : Shape) (frames : ℕ) (start : Map) (a : BoardState) (all : List Exchange) (m : Map)
-    → Serving shape frames start a old before held all m → Serving shape frames start a new after now_held all m
+    (shape : Shape) (terms : Terms) (start : Map) (a : BoardState) (all : List Exchange) (m : Map)
+    → Serving shape terms start a old before held all m → Serving shape terms start a new after now_held all m
 
 -- one command, with the bound of a Retrieve's reads
-abbrev pub StepWithin : Shape → ℕ → Map → Exchange → Map → Type 0
-StepWithin shape frames m x m' = Step shape frames m x.command x.reply m' × (op_of x.command.opcode ≡ Some Retrieve → x.reads ≤ most_reads shape frames m x.command)
+abbrev pub StepWithin : Shape → Terms → Map → Exchange → Map → Type 0
+StepWithin shape terms m x m' = Step shape terms m x.command x.reply m' × (op_of x.command.opcode ≡ Some Retrieve → x.reads ≤ most_reads shape terms m x.command)
 
 -- one more command was served
-pub record Next (shape : Shape) (frames : ℕ) (start : Map) (a b : BoardState) (drive : Sight) (unposted : List ℕ) (all : List Exchange) (before : Map) (c : Command) : Type 0 where
+pub record Next (shape : Shape) (terms : Terms) (start : Map) (a b : BoardState) (drive : Sight) (unposted : List ℕ) (all : List Exchange) (before : Map) (c : Command) : Type 0 where
   pub x : Exchange
   pub is : x.command ≡ c
   pub m : Map
-  pub step : StepWithin shape frames before x m
-  pub serving : Serving shape frames start a b drive unposted (all ++ x ∷ []) m
+  pub step : StepWithin shape terms before x m
+  pub serving : Serving shape terms start a b drive unposted (all ++ x ∷ []) m
 
 -- A call serves a command after this many were taken.
 abbrev pub CommandServed : BoardState → BoardState → Sight → Sight → List ℕ → List ℕ → ℕ → Command → Type 0
 CommandServed old new before after held now_held taken c =
-    (shape : Shape) (frames : ℕ) (start : Map) (a : BoardState) (all : List Exchange) (m : Map)
-    → taken ≡ length all → Serving shape frames start a old before held all m → Next shape frames start a new after now_held all m c
+    (shape : Shape) (terms : Terms) (start : Map) (a : BoardState) (all : List Exchange) (m : Map)
+    → taken ≡ length all → Serving shape terms start a old before held all m → Next shape terms start a new after now_held all m c
 
 -- A call ends the run in a command after this many were taken.
 abbrev pub CommandStops : BoardState → BoardState → Sight → List ℕ → ℕ → End → Command → Type 0
 CommandStops old new before held taken end c =
-    (shape : Shape) (frames : ℕ) (start : Map) (a : BoardState) (all : List Exchange) (m : Map)
-    → taken ≡ length all → Serving shape frames start a old before held all m → Cutoff shape frames start a new (commands all ++ c ∷ []) × HasCause a new end
+    (shape : Shape) (terms : Terms) (start : Map) (a : BoardState) (all : List Exchange) (m : Map)
+    → taken ≡ length all → Serving shape terms start a old before held all m → Cutoff shape terms start a new (commands all ++ c ∷ []) × HasCause a new end

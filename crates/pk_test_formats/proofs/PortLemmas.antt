@@ -5,7 +5,8 @@ use Rattle.pk_base.specs.Map.{Map}
 use Rattle.pk_nvme.specs.Command.{Command}
 use Rattle.pk_nvme.specs.Reply.{Reply, completion}
 use Rattle.pk_model.specs.Answer.{map_after}
-use Rattle.pk_model.specs.Machine.{Machine, Answers, no_numbers, replied}
+use Rattle.pk_model.specs.Machine.{Machine, Answers, no_numbers, replied, machine_terms}
+use Rattle.pk_model.proofs.SpaceLemmas.{is_whole}
 use Rattle.pk_model.specs.declared.answer.Answer.{Answer}
 use Rattle.pk_host.specs.Port.{PortState, PortSteps, Replies, Completes, Took, room_of}
 use Rattle.pk_host.specs.declared.types.Completed.{Completed}
@@ -18,7 +19,7 @@ module _ (old new : Machine) (faults : ℕ) (c : Command) (a : Answer) (h : Answ
   some_map : (m n : Map) → ◌≡◌ {A = Option Map} (Some m) (Some n) → m ≡ n
   some_map m n e = cc
 
-  map_is : new.map ≡ map_after old.shape (limit old.shape) old.map c
+  map_is : new.map ≡ map_after old.shape (limit old.shape ∷ []) old.map c
   map_is = ap (λ (x : Machine). x.map) h.map_is
 
   shape_is : new.shape ≡ old.shape
@@ -30,21 +31,21 @@ module _ (old new : Machine) (faults : ℕ) (c : Command) (a : Answer) (h : Answ
 
   -- the data of the answer fit the buffer
   pub answer_fits : length a.bytes.items ≤ room_of c
-  answer_fits = subst (λ (r : Reply). length r.data_bytes ≤ room_of c) (sym h.reply_is) (data_fit old.shape (limit old.shape) 0 old.map no_numbers refl c)
+  answer_fits = subst (λ (r : Reply). length r.data_bytes ≤ room_of c) (sym h.reply_is) (data_fit old.shape (machine_terms old.shape) old.map no_numbers refl c)
 
   pub replies_so : IsGood old → a.status < 256 → a.result < 2 ^ 32 → Replies (seen old faults) (seen new faults) c (replied a)
   replies_so good status field = record {
     status_size = status;
     result_size = field;
     answers = λ m told. subst (λ (x : Map). PortSteps (seen old faults) (seen new faults) c (replied a) x) (some_map old.map m told) (record {
-      within = record { sized = good.sized; few = good.few };
+      within = record { sized = good.sized; alone = is_whole old.shape old.map good.sized; few = good.few };
       frames = 0;
       frames_is = tt;
-      left = map_after old.shape (limit old.shape) old.map c;
+      left = map_after old.shape (limit old.shape ∷ []) old.map c;
       stepped = inl (record { own = no_numbers; eleven = refl; replied = h.reply_is; leaves = refl });
       told = ap (λ (x : Map). Some x) map_is;
     });
-    unread = λ e. absurd (no_read_error old.shape (limit old.shape) old.map c (sym (ap (λ (r : Reply). r.status) h.reply_is) ∙ e));
+    unread = λ e. absurd (no_read_error old.shape (machine_terms old.shape) old.map c (sym (ap (λ (r : Reply). r.status) h.reply_is) ∙ e));
   }
 
   pub took_one : Took (seen old faults) (seen new faults) (c ∷ [])
@@ -54,7 +55,7 @@ module _ (old new : Machine) (faults : ℕ) (c : Command) (a : Answer) (h : Answ
     port_faults = omega arith;
     read_faults = omega arith;
     untold = λ e. cc;
-    told = λ m told. (new.map, refl, inr (map_is ∙ ap (λ (x : Map). map_after old.shape (limit old.shape) x c) (some_map old.map m told)));
+    told = λ m told. (new.map, refl, inr (map_is ∙ ap (λ (x : Map). map_after old.shape (limit old.shape ∷ []) x c) (some_map old.map m told)));
   }
 
 -- the machine is good again, whether the command was answered or memory was missing

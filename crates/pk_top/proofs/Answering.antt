@@ -8,6 +8,7 @@ use Rattle.pk_nand.specs.BoardState.{BoardState, shape_or_none}
 use Rattle.pk_nand.specs.Calls.{Rose, Loaded, longer}
 use Rattle.pk_nand.specs.declared.types.LoadFault.{LoadFault}
 use Rattle.pk_nand.specs.declared.types.LoadFault.TheVariants.{Fault, BadImage, Memory}
+use Rattle.pk_model.specs.Spaces.{terms_at}
 use Rattle.pk_model.specs.Kept.{AtMost, rise}
 use Rattle.pk_model.specs.Reading.{Holds}
 use Rattle.pk_model.specs.Run.{faults}
@@ -50,7 +51,7 @@ module _ (task : Task) (few : most_roots task < 4611686018427387904) (shape : Sh
   by_end status Done is asked start holds far none sound =
       let held : Holds shape loaded.pages asked.start = asked.holds in
       let same : asked.start ≡ start = cc in
-      let T : Map → Type 0 = λ s. WordDone task shape WORD_FRAMES s (behind_opening shape WORD_FRAMES loaded) new in
+      let T : Map → Type 0 = λ s. WordDone task shape (terms_at shape loaded.pages WORD_FRAMES) s (behind_opening shape WORD_FRAMES loaded) new in
       inl (is, subst T same asked.ends)
   by_end status Output is asked start holds far none sound = absurd (none.output asked.ends)
   by_end status FlashFailed is asked start holds far none sound = absurd (none.stops asked.ends)
@@ -83,14 +84,15 @@ module _ (task : Task) (few : most_roots task < 4611686018427387904) (old new : 
     same_roots : roots old ≡ roots loaded
     same_roots = λ k. root_number (shape_or_none (sym same_shape k)) (sym same_pages k)
 
-    finished_loaded : (start : Map) → WordDone task shape WORD_FRAMES start (behind_opening shape WORD_FRAMES loaded) new
-        → WordDone task shape WORD_FRAMES start (behind_opening shape WORD_FRAMES old) new
+    finished_loaded : (start : Map) → WordDone task shape (terms_at shape loaded.pages WORD_FRAMES) start (behind_opening shape WORD_FRAMES loaded) new
+        → WordDone task shape (terms_at shape old.pages WORD_FRAMES) start (behind_opening shape WORD_FRAMES old) new
     finished_loaded start f =
-        let R : ℕ → Type 0 = λ n. SaysTask task n new.read_faults shape WORD_FRAMES start f.answered.all f.text f.left in
+        let R : ℕ → Type 0 = λ n. SaysTask task n new.read_faults shape (terms_at shape loaded.pages WORD_FRAMES) start f.answered.all f.text f.left in
         let F : ℕ → Type 0 = λ n. AtMost (rise n new.read_faults) (faults f.answered.all) in
         let M : Meter → Type 0 = λ t. MeteredAll t f.answered.all (meter new) in
         let same_faults : loaded.read_faults ≡ old.read_faults = ap (λ (s : BoardState). s.read_faults) found.rest in
-        record {
+        let D : Flash → Type 0 = λ p. WordDone task shape (terms_at shape p WORD_FRAMES) start (behind_opening shape WORD_FRAMES old) new in
+        subst D same_pages (record {
           left = f.left;
           asked = f.asked;
           are = f.are;
@@ -107,7 +109,7 @@ module _ (task : Task) (few : most_roots task < 4611686018427387904) (old new : 
           holds = f.holds;
           sound = record { output = f.sound.output ∙ ap (λ (s : BoardState). s.out_faults) found.rest; stop = f.sound.stop ∙ ap (λ (s : BoardState). s.stop_faults) found.rest };
           unworn = λ begins. ap (λ n. nat_le 9223372036854775808 n) same_roots ∙ f.unworn begins;
-        }
+        })
 
     none_loaded : NoneRose old new → NoneRose loaded new
     none_loaded none =

@@ -14,6 +14,9 @@ use Rattle.pk_nand.specs.Resting.{RestsFlash}
 use Rattle.pk_nand.proofs.Reaching.{Reached-start, Went-reached}
 use Rattle.pk_nand.proofs.Resting.{Rests-start}
 use Rattle.pk_model.specs.Growth.{Goes}
+use Rattle.pk_model.specs.Spaces.{Terms, limits_at, terms_at, in_space}
+use Rattle.pk_port.specs.Steps.{mount}
+use Rattle.pk_port.proofs.Serving.{mounted_terms}
 use Rattle.pk_model.specs.Kept.{Kept, rise}
 use Rattle.pk_model.specs.Reading.{reading, Holds}
 use Rattle.pk_call.specs.Sight.{Sight}
@@ -41,32 +44,35 @@ use Rattle.pk_top.proofs.Telling.{load_untouched, refused_untouched}
 
 -- ---- nothing was done
 
-kept-none : (shape : Shape) (frames : ℕ) (start : Map) (cs : List Command) (before behind : ℕ) (flash : Flash) → Holds shape flash start → Kept shape frames start cs (rise before behind) [] flash
-kept-none shape frames start cs before behind flash holds = record {
+kept-none : (shape : Shape) (terms : Terms) (start : Map) (cs : List Command) (before behind : ℕ) (flash : Flash) → Holds shape flash start → limits_at shape flash ≡ terms.limits
+    → Kept shape terms start cs (rise before behind) [] flash
+kept-none shape terms start cs before behind flash holds within = record {
   served = [];
   unserved = cs;
   from_front = refl;
   map_left = start;
   ran = refl;
   held = holds;
+  same_limits = within;
   unposted = [];
   begins = refl;
   few_faults = at_most-zero (rise before behind);
 }
 
 -- a flash that holds the map, before any byte was posted
-pub silent : (task : Task) (from to : Meter) (shape : Shape) (frames : ℕ) (start : Map) (flash : Flash) → Holds shape flash start → KeptTask task from to shape frames start flash []
-silent (answer q) from to shape frames start flash holds = (kept-none shape frames start _ from.read_faults to.read_faults flash holds, inl refl)
-silent (list key) from to shape frames start flash holds =
-    let lines = key_lines (wanted_keys key start) in record { held = holds; text = lines; says = (refl, inl refl); unposted = lines; front = refl }
-silent (generate begin count) from to shape frames start flash holds = (kept-none shape frames start _ from.read_faults to.read_faults flash holds, inl refl)
+pub silent : (task : Task) (from to : Meter) (shape : Shape) (terms : Terms) (start : Map) (flash : Flash) → Holds shape flash start → limits_at shape flash ≡ terms.limits
+    → KeptTask task from to shape terms start flash []
+silent (answer q) from to shape terms start flash holds within = (kept-none shape terms start _ from.read_faults to.read_faults flash holds within, inl refl)
+silent (list key) from to shape terms start flash holds within =
+    let lines = key_lines (wanted_keys key (in_space 1 start)) in record { held = holds; text = lines; says = (refl, inl refl); unposted = lines; front = refl }
+silent (generate begin count) from to shape terms start flash holds within = (kept-none shape terms start _ from.read_faults to.read_faults flash holds within, inl refl)
 
 -- what a word keeps is a flash that holds a map
-pub task_holds : (task : Task) (from to : Meter) (shape : Shape) (frames : ℕ) (start : Map) (flash : Flash) (posted : List ℕ) → KeptTask task from to shape frames start flash posted
+pub task_holds : (task : Task) (from to : Meter) (shape : Shape) (terms : Terms) (start : Map) (flash : Flash) (posted : List ℕ) → KeptTask task from to shape terms start flash posted
     → (m : Map) × Holds shape flash m
-task_holds (answer q) from to shape frames start flash posted kept = (kept.0.map_left, kept.0.held)
-task_holds (list key) from to shape frames start flash posted kept = (start, kept.held)
-task_holds (generate begin count) from to shape frames start flash posted kept = (kept.0.map_left, kept.0.held)
+task_holds (answer q) from to shape terms start flash posted kept = (kept.0.map_left, kept.0.held)
+task_holds (list key) from to shape terms start flash posted kept = (start, kept.held)
+task_holds (generate begin count) from to shape terms start flash posted kept = (kept.0.map_left, kept.0.held)
 
 -- reads do not touch the input
 pub input_still : (a b : BoardState) → OnlyReading a b → KeepsInput a b
@@ -91,7 +97,7 @@ module _ (task : Task) (shape : Shape) (loaded new : BoardState) where
   from = meter (behind_opening shape WORD_FRAMES loaded)
 
   abbrev KeptFrom : Flash → List ℕ → Type 0
-  KeptFrom flash posted = (start : Map) → Holds shape loaded.pages start → KeptTask task from (meter new) shape WORD_FRAMES start flash posted
+  KeptFrom flash posted = (start : Map) → Holds shape loaded.pages start → KeptTask task from (meter new) shape (terms_at shape loaded.pages WORD_FRAMES) start flash posted
 
   keeps-none : OnlyReading loaded new → KeepsTask task shape loaded new
   keeps-none only = (
@@ -99,7 +105,7 @@ module _ (task : Task) (shape : Shape) (loaded new : BoardState) where
     Went-reached [] loaded new KeptFrom
         (Reached-start loaded new KeptFrom (ap (λ (s : BoardState). s.shape) only)
         (ap (λ (s : BoardState). s.pages) only) (ap (λ (s : BoardState). s.trail) only) (ap (λ (s : BoardState). s.posted) only)
-        (λ start holds. silent task from (meter new) shape WORD_FRAMES start loaded.pages holds)),
+        (λ start holds. silent task from (meter new) shape (terms_at shape loaded.pages WORD_FRAMES) start loaded.pages holds refl)),
     tt,
   )
 
@@ -124,19 +130,19 @@ module _ (task : Task) (shape : Shape) (loaded new : BoardState) where
   }
 
   -- it was
-  module _ (drive : Sight) (start : Map) (stands : HoldsMap shape WORD_FRAMES (behind_opening shape WORD_FRAMES loaded) drive start) (none : drive.pending ≡ []) where
+  module _ (drive : Sight) (start : Map) (stands : HoldsMap shape (terms_at shape loaded.pages WORD_FRAMES) (behind_opening shape WORD_FRAMES loaded) drive start) (none : drive.pending ≡ []) where
     start-held : Holds shape loaded.pages start
     start-held = let T : List Entry → Type 0 = λ p. reading shape loaded.pages p ≡ Ok start in subst T none stands.map_is
 
     -- a flash holds one map
-    kept-from : (flash : Flash) (posted : List ℕ) → KeptTask task from (meter new) shape WORD_FRAMES start flash posted → KeptFrom flash posted
+    kept-from : (flash : Flash) (posted : List ℕ) → KeptTask task from (meter new) shape (terms_at shape loaded.pages WORD_FRAMES) start flash posted → KeptFrom flash posted
     kept-from flash posted kept m holds =
         let held : Holds shape loaded.pages start = start-held in
         let same : start ≡ m = cc in
-        let T : Map → Type 0 = λ s. KeptTask task from (meter new) shape WORD_FRAMES s flash posted in
+        let T : Map → Type 0 = λ s. KeptTask task from (meter new) shape (terms_at shape loaded.pages WORD_FRAMES) s flash posted in
         subst T same kept
 
-    told-by : (status : ℕ) (end : WordEnd) → status ≡ word_status end → Told task shape WORD_FRAMES start (behind_opening shape WORD_FRAMES loaded) new end → Asks task shape loaded new status
+    told-by : (status : ℕ) (end : WordEnd) → status ≡ word_status end → Told task shape (terms_at shape loaded.pages WORD_FRAMES) start (behind_opening shape WORD_FRAMES loaded) new end → Asks task shape loaded new status
     told-by status end tells told = record {
       kept = (
         told.kept.0,
@@ -155,20 +161,23 @@ module _ (task : Task) (shape : Shape) (loaded new : BoardState) where
     }
 
   pub Asks-opened : (opened_board : BoardState) (drive : Sight) (status : ℕ) (end : WordEnd)
-      → opened_board ≡ behind_opening shape WORD_FRAMES loaded → ((m : Map) × HoldsMap shape WORD_FRAMES opened_board drive m) → drive.pending ≡ []
-      → status ≡ word_status end → ((start : Map) → Holds shape opened_board.pages start → Told task shape drive.counts.frames start opened_board new end) → Asks task shape loaded new status
+      → opened_board ≡ behind_opening shape WORD_FRAMES loaded → ((m : Map) × HoldsMap shape (terms_at shape opened_board.pages WORD_FRAMES) opened_board drive m) → drive.pending ≡ []
+      → status ≡ word_status end → ((start : Map) → Holds shape opened_board.pages start → Told task shape (mount opened_board drive).terms start opened_board new end) → Asks task shape loaded new status
   Asks-opened opened_board drive status end is stands none tells told =
-      let T : BoardState → Type 0 = λ b. (m : Map) × HoldsMap shape WORD_FRAMES b drive m in
-      let S : BoardState → Type 0 = λ b. (start : Map) → Holds shape b.pages start → Told task shape drive.counts.frames start b new end in
+      let T : BoardState → Type 0 = λ b. (m : Map) × HoldsMap shape (terms_at shape b.pages WORD_FRAMES) b drive m in
+      let S : BoardState → Type 0 = λ b. (start : Map) → Holds shape b.pages start → Told task shape (mount b drive).terms start b new end in
       let at : T (behind_opening shape WORD_FRAMES loaded) = subst T is stands in
-      let F : ℕ → Type 0 = λ frames. Told task shape frames at.0 (behind_opening shape WORD_FRAMES loaded) new end in
-      told-by drive at.0 at.1 none status end tells (subst F at.1.frames_is (subst S is told at.0 (start-held drive at.0 at.1 none)))
+      let F : Terms → Type 0 = λ terms. Told task shape terms at.0 (behind_opening shape WORD_FRAMES loaded) new end in
+      told-by drive at.0 at.1 none status end tells (subst F (mounted_terms shape _ _ drive at.0 at.1) (subst S is told at.0 (start-held drive at.0 at.1 none)))
 
 -- a drive of some frames is one of its own number of frames
-pub own_frames : (shape shape' : Shape) (frames : ℕ) (b : BoardState) (d : Sight) → shape' ≡ shape → (m : Map) × HoldsMap shape frames b d m → (m : Map) × HoldsMap shape' d.counts.frames b d m
+pub own_frames : (shape shape' : Shape) (frames : ℕ) (b : BoardState) (d : Sight) → shape' ≡ shape → (m : Map) × HoldsMap shape (terms_at shape b.pages frames) b d m
+    → (m : Map) × HoldsMap shape' (mount b d).terms b d m
 own_frames shape shape' frames b d same stands =
-    let T : Shape → Type 0 = λ s. (m : Map) × HoldsMap s d.counts.frames b d m in
-    subst T (sym same) (stands.0, record { shape_is = stands.1.shape_is; frames_is = refl; map_is = stands.1.map_is })
+    let T : Shape → Type 0 = λ s. (m : Map) × HoldsMap s (mount b d).terms b d m in
+    let own : HoldsMap shape (mount b d).terms b d stands.0 =
+    subst (λ (t : Terms). HoldsMap shape t b d stands.0) (sym (mounted_terms shape (terms_at shape b.pages frames) b d stands.0 stands.1)) stands.1 in
+    subst T (sym same) (stands.0, own)
 
 -- a board that was only read is as ready as before
 pub ready_behind : (shape shape' : Shape) (a b : BoardState) → shape' ≡ shape → IsReady a shape → OnlyReading a b → IsReady b shape'
@@ -182,7 +191,7 @@ ready_behind shape shape' a b same ready only =
 -- ---- what the status says
 
 module _ (shape : Shape) (old loaded new : BoardState) (found : Loaded old loaded (Some shape)) where
-  tells_end : (task : Task) (start : Map) (end : WordEnd) → EndsBy task shape WORD_FRAMES start (behind_opening shape WORD_FRAMES loaded) new end → Tells old new (word_status end)
+  tells_end : (task : Task) (start : Map) (end : WordEnd) → EndsBy task shape (terms_at shape loaded.pages WORD_FRAMES) start (behind_opening shape WORD_FRAMES loaded) new end → Tells old new (word_status end)
   tells_end task start Done ends = tells_good old new 0 (inl refl)
   tells_end task start Output ends = let T : ℕ → Type 0 = λ n. Rose n new.out_faults in tells_output old new (subst T (ap (λ (s : BoardState). s.out_faults) found.rest) ends)
   tells_end task start FlashFailed ends = let T : ℕ → Type 0 = λ n. Rose n new.stop_faults in tells_flash old new 6 refl (inl (subst T (ap (λ (s : BoardState). s.stop_faults) found.rest) ends))

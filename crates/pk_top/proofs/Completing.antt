@@ -8,6 +8,7 @@ use Rattle.pk_nand.specs.BoardState.{BoardState, shape_or_none}
 use Rattle.pk_nand.specs.Calls.{Rose, Loaded, longer}
 use Rattle.pk_nand.specs.declared.types.LoadFault.{LoadFault}
 use Rattle.pk_nand.specs.declared.types.LoadFault.TheVariants.{Fault, BadImage, Memory}
+use Rattle.pk_model.specs.Spaces.{terms_at}
 use Rattle.pk_model.specs.Reading.{Holds}
 use Rattle.pk_model.specs.Run.{records}
 use Rattle.pk_model.specs.Script.{script}
@@ -52,9 +53,9 @@ module _ (shape : Shape) (frames : ℕ) (loaded new : BoardState) (cs : List Com
     none_rose = record { reads = ok.none_rose.reads; stops = ok.none_rose.stops; input = ok.none_rose.input; output = ok.none_rose.output };
   }
 
-  pub complete_before : (start m : Map) → start ≡ m → Complete shape frames start (behind_opening shape frames loaded) new cs → Complete shape frames m loaded new cs
+  pub complete_before : (start m : Map) → start ≡ m → Complete shape (terms_at shape loaded.pages frames) start (behind_opening shape frames loaded) new cs → Complete shape (terms_at shape loaded.pages frames) m loaded new cs
   complete_before start m same c =
-      let T : Map → Type 0 = λ s. Complete shape frames s loaded new cs in
+      let T : Map → Type 0 = λ s. Complete shape (terms_at shape loaded.pages frames) s loaded new cs in
       subst T same (record { served = c.served; are = c.are; ran = c.ran; posted = c.posted; holds = c.holds })
 
 -- ---- a board that holds its pages from the start
@@ -96,14 +97,16 @@ module _ (frames : ℕ) (old new : BoardState) (status : ℕ) where
           };
         }
 
-    complete_loaded : (start : Map) (cs : List Command) → Complete shape frames start loaded new cs → Complete shape frames start old new cs
-    complete_loaded start cs c = record {
-      served = c.served;
-      are = c.are;
-      ran = c.ran;
-      posted = c.posted ∙ ap (λ (o : Option (List ℕ)). longer o (records 0 c.served)) (ap (λ (s : BoardState). s.posted) found.rest);
-      holds = c.holds;
-    }
+    complete_loaded : (start : Map) (cs : List Command) → Complete shape (terms_at shape loaded.pages frames) start loaded new cs → Complete shape (terms_at shape old.pages frames) start old new cs
+    complete_loaded start cs c =
+        let T : Flash → Type 0 = λ f. Complete shape (terms_at shape f frames) start old new cs in
+        subst T same_pages (record {
+          served = c.served;
+          are = c.are;
+          ran = c.ran;
+          posted = c.posted ∙ ap (λ (o : Option (List ℕ)). longer o (records 0 c.served)) (ap (λ (s : BoardState). s.posted) found.rest);
+          holds = c.holds;
+        })
 
     pub untouched_loaded : Untouched loaded new → Untouched old new
     untouched_loaded u =

@@ -15,6 +15,7 @@ use Rattle.pk_nand.specs.Effects.{OnlyReading}
 use Rattle.pk_nand.specs.declared.types.LoadFault.{LoadFault}
 use Rattle.pk_nand.specs.declared.types.LoadFault.TheVariants.{Fault, BadImage, Memory}
 use Rattle.pk_nand.proofs.Reaching.{Reached-start, Went-reached}
+use Rattle.pk_model.specs.Spaces.{terms_at}
 use Rattle.pk_model.specs.Growth.{Goes}
 use Rattle.pk_model.specs.Laws.{MapHeld}
 use Rattle.pk_model.specs.Reading.{reading, Holds, Refuses}
@@ -56,7 +57,7 @@ few_keys shape b m is law ready held =
     let good = law shape b.pages [] m is ready.flash tt held in
     let most = limit_few shape is in
     let pages = keys_few shape m is in
-    let few = good.1 in
+    let few = good.few in
     let size = len-entries m in
     let names = names_len (entries m) in
     omega (arith, most, pages, few, size, names)
@@ -124,8 +125,8 @@ module _ (task : PairTask) (shape : Shape) (loaded new loaded' new' : BoardState
   }
 
   -- both were opened
-  module _ (drive : Sight) (start : Map) (stands : HoldsMap shape WORD_FRAMES (behind_opening shape WORD_FRAMES loaded) drive start) (none : drive.pending ≡ [])
-      (drive' : Sight) (other : Map) (stands' : HoldsMap shape WORD_FRAMES (behind_opening shape WORD_FRAMES loaded') drive' other) (none' : drive'.pending ≡ []) where
+  module _ (drive : Sight) (start : Map) (stands : HoldsMap shape (terms_at shape loaded.pages WORD_FRAMES) (behind_opening shape WORD_FRAMES loaded) drive start) (none : drive.pending ≡ [])
+      (drive' : Sight) (other : Map) (stands' : HoldsMap shape (terms_at shape loaded'.pages WORD_FRAMES) (behind_opening shape WORD_FRAMES loaded') drive' other) (none' : drive'.pending ≡ []) where
     start-held : Holds shape loaded.pages start
     start-held = let T : List Entry → Type 0 = λ p. reading shape loaded.pages p ≡ Ok start in subst T none stands.map_is
 
@@ -183,13 +184,13 @@ module _ (task : PairTask) (shape : Shape) (loaded new loaded' new' : BoardState
 
 module _ (task : PairTask) (shape : Shape) (loaded new loaded' new' : BoardState) where
   pub AsksPair-opened : (one two : BoardState) (d e : Sight) (status : ℕ) (end : WordEnd) → one ≡ behind_opening shape WORD_FRAMES loaded → two ≡ behind_opening shape WORD_FRAMES loaded'
-      → ((m : Map) × HoldsMap shape WORD_FRAMES one d m) → ((m : Map) × HoldsMap shape WORD_FRAMES two e m) → d.pending ≡ [] → e.pending ≡ [] → status ≡ word_status end
+      → ((m : Map) × HoldsMap shape (terms_at shape one.pages WORD_FRAMES) one d m) → ((m : Map) × HoldsMap shape (terms_at shape two.pages WORD_FRAMES) two e m) → d.pending ≡ [] → e.pending ≡ [] → status ≡ word_status end
       → ((m other : Map) → Holds shape one.pages m → Holds shape two.pages other → PairTold task shape m other one new two new' end)
       → IsShape shape → MapHeld → IsReady loaded shape → IsReady loaded' shape
       → AsksPair task shape loaded new loaded' new' status
   AsksPair-opened one two d e status end is is' stands stands' none none' tells told is_shape law ready ready' =
-      let T : BoardState → Type 0 = λ b. (m : Map) × HoldsMap shape WORD_FRAMES b d m in
-      let U : BoardState → Type 0 = λ b. (m : Map) × HoldsMap shape WORD_FRAMES b e m in
+      let T : BoardState → Type 0 = λ b. (m : Map) × HoldsMap shape (terms_at shape b.pages WORD_FRAMES) b d m in
+      let U : BoardState → Type 0 = λ b. (m : Map) × HoldsMap shape (terms_at shape b.pages WORD_FRAMES) b e m in
       let at : T (behind_opening shape WORD_FRAMES loaded) = subst T is stands in
       let also : U (behind_opening shape WORD_FRAMES loaded') = subst U is' stands' in
       let S : BoardState → Type 0 = λ b. (m other : Map) → Holds shape b.pages m → Holds shape two.pages other → PairTold task shape m other b new two new' end in

@@ -10,6 +10,7 @@ use Rattle.pk_nand.specs.Calls.{longer}
 use Rattle.pk_nand.specs.Resting.{Standing, RestsFlash}
 use Rattle.pk_nand.proofs.Reaching.{Went-reached, longer-nil}
 use Rattle.pk_nand.specs.Cut.{Cut}
+use Rattle.pk_model.specs.Spaces.{limits_at, terms_at}
 use Rattle.pk_model.specs.Kept.{Kept, rise}
 use Rattle.pk_base.specs.Map.{Map}
 use Rattle.pk_nand.specs.Crash.{EveryCut}
@@ -51,10 +52,10 @@ module _ (shape : Shape) (r : ProgramRun) (is : IsRun shape r) where
   -- what every cut keeps: of a run that serves, of one that asks, and of another
   abbrev ServesCut : ℕ → Type 0
   ServesCut frames =
-      (m : Map) → Holds shape r.old.pages m → EveryCut shape r.old.pages r.marks (λ flash posted. Kept shape frames m (script r.input).0 (rise r.old.read_faults r.new.read_faults) posted flash)
+      (m : Map) → Holds shape r.old.pages m → EveryCut shape r.old.pages r.marks (λ flash posted. Kept shape (terms_at shape r.old.pages frames) m (script r.input).0 (rise r.old.read_faults r.new.read_faults) posted flash)
 
   abbrev AsksCut : Task → Type 0
-  AsksCut task = (m : Map) → Holds shape r.old.pages m → EveryCut shape r.old.pages r.marks (KeptTask task (opened shape) (meter r.new) shape WORD_FRAMES m)
+  AsksCut task = (m : Map) → Holds shape r.old.pages m → EveryCut shape r.old.pages r.marks (KeptTask task (opened shape) (meter r.new) shape (terms_at shape r.old.pages WORD_FRAMES) m)
 
   abbrev RestsCut : Type 0
   RestsCut = EveryCut shape r.old.pages r.marks (Standing r.old.pages)
@@ -76,6 +77,7 @@ module _ (shape : Shape) (r : ProgramRun) (is : IsRun shape r) where
               map_left = m;
               ran = refl;
               held = subst H (sym here.0) holds;
+              same_limits = ap (limits_at shape) here.0;
               unposted = [];
               begins = append-nil posted ∙ here.1;
               few_faults = at_most-zero (rise r.old.read_faults r.new.read_faults);
@@ -103,9 +105,10 @@ module _ (shape : Shape) (r : ProgramRun) (is : IsRun shape r) where
             let H : Flash → Type 0 = λ f. Holds found.shape f m in
             let G : Shape → Type 0 = λ s. Holds s r.old.pages m in
             let kept = goes.1.cuts cut posted at m (subst H (sym held.0) (subst G (sym same) holds)) in
-            let K : Shape → Type 0 = λ s. Kept s frames m (script r.input).0 (rise r.old.read_faults r.new.read_faults) posted cut in
-            let R : ℕ → Type 0 = λ n. Kept found.shape frames m (script r.input).0 (rise n r.new.read_faults) posted cut in
-            subst K same (subst R (ap (λ (s : BoardState). s.read_faults) found.found.rest) kept),
+            let K : Shape → Type 0 = λ s. Kept s (terms_at s r.old.pages frames) m (script r.input).0 (rise r.old.read_faults r.new.read_faults) posted cut in
+            let R : ℕ → Type 0 = λ n. Kept found.shape (terms_at found.shape r.old.pages frames) m (script r.input).0 (rise n r.new.read_faults) posted cut in
+            let P : Flash → Type 0 = λ f. Kept found.shape (terms_at found.shape f frames) m (script r.input).0 (rise found.loaded.read_faults r.new.read_faults) posted cut in
+            subst K same (subst R (ap (λ (s : BoardState). s.read_faults) found.found.rest) (subst P held.0 kept)),
         (
             let F : Flash → Type 0 = λ f. Cut shape f r.marks r.new.pages (all_posted r.marks) in
             let M : List Mark → Type 0 = λ ms. Cut shape found.loaded.pages ms r.new.pages (all_posted ms) in
@@ -145,9 +148,9 @@ module _ (shape : Shape) (r : ProgramRun) (is : IsRun shape r) where
       let none : r.marks ≡ [] = same_marks r.old.trail is.before r.marks [] is.trail (longer-nil r.old.trail ∙ (sym same ∙ is.more)) in
       let T : List Mark → Type 0 = λ marks. Cut shape r.old.pages marks cut posted in
       let here : (cut ≡ r.old.pages) × (posted ≡ []) = subst T none stands in
-      let F : Flash → Type 0 = λ f. KeptTask task (opened shape) (meter r.new) shape WORD_FRAMES m f posted in
-      let P : List ℕ → Type 0 = λ q. KeptTask task (opened shape) (meter r.new) shape WORD_FRAMES m r.old.pages q in
-      subst F (sym here.0) (subst P (sym here.1) (silent task (opened shape) (meter r.new) shape WORD_FRAMES m r.old.pages holds))
+      let F : Flash → Type 0 = λ f. KeptTask task (opened shape) (meter r.new) shape (terms_at shape r.old.pages WORD_FRAMES) m f posted in
+      let P : List ℕ → Type 0 = λ q. KeptTask task (opened shape) (meter r.new) shape (terms_at shape r.old.pages WORD_FRAMES) m r.old.pages q in
+      subst F (sym here.0) (subst P (sym here.1) (silent task (opened shape) (meter r.new) shape (terms_at shape r.old.pages WORD_FRAMES) m r.old.pages holds refl))
 
   asks_found : (task : Task) → AsksFound task r.old r.new r.status → AsksCut task
   asks_found task found m holds cut posted stands =
@@ -165,9 +168,11 @@ module _ (shape : Shape) (r : ProgramRun) (is : IsRun shape r) where
       let H : Flash → Type 0 = λ f. Holds found.shape f m in
       let G : Shape → Type 0 = λ s. Holds s r.old.pages m in
       let kept = goes.1.cuts cut posted at m (subst H (sym held.0) (subst G (sym same) holds)) in
-      let K : Shape → Type 0 = λ s. KeptTask task (opened s) (meter r.new) s WORD_FRAMES m cut posted in
-      let R : Meter → Type 0 = λ t. KeptTask task t (meter r.new) found.shape WORD_FRAMES m cut posted in
-      subst K same (subst R (same_meter found.shape r.old found.loaded found.found some_shape) kept)
+      let K : Shape → Type 0 = λ s. KeptTask task (opened s) (meter r.new) s (terms_at s r.old.pages WORD_FRAMES) m cut posted in
+      let R : Meter → Type 0 = λ t. KeptTask task t (meter r.new) found.shape (terms_at found.shape r.old.pages WORD_FRAMES) m cut posted in
+      let P : Flash → Type 0 =
+      λ f. KeptTask task (meter (behind_opening found.shape WORD_FRAMES found.loaded)) (meter r.new) found.shape (terms_at found.shape f WORD_FRAMES) m cut posted in
+      subst K same (subst R (same_meter found.shape r.old found.loaded found.found some_shape) (subst P held.0 kept))
 
   asks_cut : (task : Task) → AskRun task r.old r.new r.status → AsksCut task
   asks_cut task (no_memory is same) = quiet_untouched task (ap (λ (s : BoardState). s.trail) same)
@@ -194,7 +199,7 @@ module _ (shape : Shape) (r : ProgramRun) (is : IsRun shape r) where
       (kept.map_left, (kept, refl), kept.held)
   left_by (Some (ask task)) of rests m holds =
       let kept = asks_cut task (is.asks task of) m holds r.left r.posted is.cut in
-      let held = task_holds task (opened shape) (meter r.new) shape WORD_FRAMES m r.left r.posted kept in
+      let held = task_holds task (opened shape) (meter r.new) shape (terms_at shape r.old.pages WORD_FRAMES) m r.left r.posted kept in
       (held.0, kept, held.1)
 
   left : (m : Map) → Holds shape r.old.pages m → Left (word_of r.words) m

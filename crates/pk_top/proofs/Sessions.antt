@@ -7,6 +7,7 @@ use Rattle.pk_base.specs.Entry.{Entry}
 use Rattle.pk_nvme.specs.Command.{Command}
 use Rattle.pk_nand.specs.BoardState.{BoardState}
 use Rattle.pk_nand.proofs.Reaching.{Reached-start, Went-reached}
+use Rattle.pk_model.specs.Spaces.{terms_at}
 use Rattle.pk_model.specs.Kept.{rise}
 use Rattle.pk_model.specs.Reading.{reading, Holds}
 use Rattle.pk_model.specs.Script.{script}
@@ -26,6 +27,7 @@ use Rattle.pk_scan.specs.declared.errors.OpenError.{OpenError}
 use Rattle.pk_top.specs.Ends.{end_status, open_status}
 use Rattle.pk_top.specs.Serves.{KeptFrom, RunServes, ServesAll, behind_opening}
 use Rattle.pk_top.proofs.Completing.{all_not, servable_behind, complete_before}
+use Rattle.pk_top.proofs.Isolating.{isolates_end, isolates_not}
 
 -- ---- a drive that was not opened
 
@@ -38,6 +40,7 @@ kept-none shape frames loaded new cs start holds = record {
   map_left = start;
   ran = refl;
   held = holds;
+  same_limits = refl;
   unposted = [];
   begins = refl;
   few_faults = at_most-zero (rise loaded.read_faults new.read_faults);
@@ -58,26 +61,27 @@ RunServes-not shape frames loaded new status error tells reason only = record {
   kept = λ input told. goes-none shape frames loaded new (script input).0 only;
   kept_untold = ([], goes-none shape frames loaded new [] only);
   complete = all_not shape frames loaded new status error tells reason;
+  isolated = isolates_not shape frames loaded new status error tells;
   outcome = inl (record { error = error; tells = tells; reason = reason; only_reads = only });
 }
 
 -- ---- a drive that was opened
 
 module _ (shape : Shape) (frames : ℕ) (loaded new : BoardState) (drive : Sight) (start : Map)
-    (stands : HoldsMap shape frames (behind_opening shape frames loaded) drive start) (none : drive.pending ≡ []) where
+    (stands : HoldsMap shape (terms_at shape loaded.pages frames) (behind_opening shape frames loaded) drive start) (none : drive.pending ≡ []) where
   start-held : Holds shape loaded.pages start
   start-held = let T : List Entry → Type 0 = λ p. reading shape loaded.pages p ≡ Ok start in subst T none stands.map_is
 
   -- a flash holds one map
   kept-from : (cs : List Command) (flash : Flash) (posted : List ℕ)
-      → KeptAt shape frames start cs (rise loaded.read_faults new.read_faults) flash posted → KeptFrom shape frames loaded new cs flash posted
+      → KeptAt shape (terms_at shape loaded.pages frames) start cs (rise loaded.read_faults new.read_faults) flash posted → KeptFrom shape frames loaded new cs flash posted
   kept-from cs flash posted kept m holds =
       let held : Holds shape loaded.pages start = start-held in
       let same : start ≡ m = cc in
-      let T : Map → Type 0 = λ s. KeptAt shape frames s cs (rise loaded.read_faults new.read_faults) flash posted in
+      let T : Map → Type 0 = λ s. KeptAt shape (terms_at shape loaded.pages frames) s cs (rise loaded.read_faults new.read_faults) flash posted in
       subst T same kept
 
-  goes-from : (cs : List Command) → Goes shape (behind_opening shape frames loaded) new (KeptAt shape frames start cs (rise loaded.read_faults new.read_faults))
+  goes-from : (cs : List Command) → Goes shape (behind_opening shape frames loaded) new (KeptAt shape (terms_at shape loaded.pages frames) start cs (rise loaded.read_faults new.read_faults))
       → Goes shape loaded new (KeptFrom shape frames loaded new cs)
   goes-from cs goes = (
     goes.0,
@@ -95,7 +99,7 @@ module _ (shape : Shape) (frames : ℕ) (loaded new : BoardState) (drive : Sight
   all-opened status end tells complete m holds input told ok sound =
       let held : Holds shape loaded.pages start = start-held in
       let same : start ≡ m = cc in
-      let done = complete shape frames start stands none input told (servable_behind shape frames loaded new (script input).0 (script input).1 ok) in
+      let done = complete shape (terms_at shape loaded.pages frames) start stands none input told (servable_behind shape frames loaded new (script input).0 (script input).1 ok) in
       inl (tells ∙ ap end_status done.0, complete_before shape frames loaded new (script input).0 start m same done.1)
 
   serves-to : (status : ℕ) (end : End) → status ≡ end_status end
@@ -104,11 +108,12 @@ module _ (shape : Shape) (frames : ℕ) (loaded new : BoardState) (drive : Sight
       → Answers (behind_opening shape frames loaded) new drive end → Causes (behind_opening shape frames loaded) new drive end
       → RunCompletes (behind_opening shape frames loaded) new drive end → RunServes shape frames loaded new status
   serves-to status end tells blames says kept kept_untold served causes complete =
-      let some = kept_untold shape frames start stands none in
+      let some = kept_untold shape (terms_at shape loaded.pages frames) start stands none in
       record {
-        kept = λ input told. goes-from (script input).0 (kept shape frames start stands none input told);
+        kept = λ input told. goes-from (script input).0 (kept shape (terms_at shape loaded.pages frames) start stands none input told);
         kept_untold = (some.0, goes-from some.0 some.1);
         complete = all-opened status end tells complete;
+        isolated = isolates_end shape frames loaded new start status end tells start-held (served shape (terms_at shape loaded.pages frames) start stands none);
         outcome = inr (
           end,
           tells,
@@ -117,19 +122,19 @@ module _ (shape : Shape) (frames : ℕ) (loaded new : BoardState) (drive : Sight
             holds = start-held;
             blames = blames;
             says = says;
-            served = served shape frames start stands none;
-            served_some = causes shape frames start stands none;
+            served = served shape (terms_at shape loaded.pages frames) start stands none;
+            served_some = causes shape (terms_at shape loaded.pages frames) start stands none;
           },
         );
       }
 
 pub RunServes-opened : (shape : Shape) (frames : ℕ) (loaded opened_board new : BoardState) (drive : Sight) (status : ℕ) (end : End)
-    → opened_board ≡ behind_opening shape frames loaded → ((m : Map) × HoldsMap shape frames opened_board drive m) → drive.pending ≡ [] → status ≡ end_status end
+    → opened_board ≡ behind_opening shape frames loaded → ((m : Map) × HoldsMap shape (terms_at shape opened_board.pages frames) opened_board drive m) → drive.pending ≡ [] → status ≡ end_status end
     → Blames opened_board new end → SaysOfScript opened_board new end → KeepsScriptOf opened_board new drive → KeepsSomeOf opened_board new drive
     → Answers opened_board new drive end → Causes opened_board new drive end
     → RunCompletes opened_board new drive end → RunServes shape frames loaded new status
 RunServes-opened shape frames loaded opened_board new drive status end is stands none tells blames says kept kept_untold served causes complete =
-    let T : BoardState → Type 0 = λ b. (m : Map) × HoldsMap shape frames b drive m in
+    let T : BoardState → Type 0 = λ b. (m : Map) × HoldsMap shape (terms_at shape b.pages frames) b drive m in
     let B : BoardState → Type 0 = λ b. Blames b new end in
     let S : BoardState → Type 0 = λ b. SaysOfScript b new end in
     let K : BoardState → Type 0 = λ b. KeepsScriptOf b new drive in

@@ -6,6 +6,7 @@ use Rattle.pk_base.specs.Map.{Map}
 use Rattle.pk_nand.specs.BoardState.{BoardState}
 use Rattle.pk_nand.specs.Calls.{Rose, Loaded}
 use Rattle.pk_nand.specs.Resting.{RestsFlash}
+use Rattle.pk_model.specs.Spaces.{terms_at}
 use Rattle.pk_model.specs.Growth.{Goes}
 use Rattle.pk_model.specs.Reading.{Holds}
 use Rattle.pk_model.specs.Wear.{roots}
@@ -32,13 +33,13 @@ word_status Worn = WORN.0
 abbrev pub KeepsTask : Task → Shape → BoardState → BoardState → Type 0
 KeepsTask task shape loaded new =
     Goes shape loaded new (λ flash posted. (start : Map) → Holds shape loaded.pages start
-    → KeptTask task (meter (behind_opening shape WORD_FRAMES loaded)) (meter new) shape WORD_FRAMES start flash posted)
+    → KeptTask task (meter (behind_opening shape WORD_FRAMES loaded)) (meter new) shape (terms_at shape loaded.pages WORD_FRAMES) start flash posted)
 
 -- The drive was opened, and this is the end of the word.
 pub record AskedTo (task : Task) (shape : Shape) (loaded new : BoardState) (end : WordEnd) : Type 0 where
   pub start : Map
   pub holds : Holds shape loaded.pages start
-  pub ends : EndsBy task shape WORD_FRAMES start (behind_opening shape WORD_FRAMES loaded) new end
+  pub ends : EndsBy task shape (terms_at shape loaded.pages WORD_FRAMES) start (behind_opening shape WORD_FRAMES loaded) new end
   pub used : end ≡ Worn → roots new ≤ roots loaded + most_roots task
 
 -- What was done on an image of this shape, from its load on. A word that only asks leaves each page, and none of these words reads the input.
@@ -66,7 +67,7 @@ AskRun task old new status = WordRun (NoImage old new status) (AsksFound task ol
 abbrev pub AsksAll : Task → Shape → BoardState → BoardState → ℕ → Type 0
 AsksAll task shape loaded new status =
     (start : Map) → Holds shape loaded.pages start → roots loaded < far_below → NoneRose loaded new → (Rose loaded.flash_faults new.flash_faults → ⊥)
-    → ((status ≡ DONE.0) × WordDone task shape WORD_FRAMES start (behind_opening shape WORD_FRAMES loaded) new) ⊎ ((status ≡ MEMORY.0) × Untouched loaded new)
+    → ((status ≡ DONE.0) × WordDone task shape (terms_at shape loaded.pages WORD_FRAMES) start (behind_opening shape WORD_FRAMES loaded) new) ⊎ ((status ≡ MEMORY.0) × Untouched loaded new)
 
 -- the same of a board that holds its pages from the start
 abbrev pub AsksWhole : Task → BoardState → BoardState → ℕ → Type 0

@@ -5,6 +5,7 @@ pub mod Loads
 pub mod Ends
 pub mod TextRuns
 pub mod Resting
+pub mod Isolates
 pub mod Serves
 pub mod Asks
 pub mod Makes

@@ -7,6 +7,7 @@ use Rattle.pk_nvme.specs.Command.{Command}
 use Rattle.pk_nand.specs.BoardState.{BoardState}
 use Rattle.pk_nand.specs.Calls.{Loaded, Rose}
 use Rattle.pk_nand.specs.Counts.{after_reads}
+use Rattle.pk_model.specs.Spaces.{terms_at}
 use Rattle.pk_model.specs.Kept.{Kept, rise}
 use Rattle.pk_model.specs.Reading.{Holds}
 use Rattle.pk_model.specs.Script.{script}
@@ -22,6 +23,7 @@ use Rattle.pk_nand.specs.Effects.{OnlyReading}
 use Rattle.pk_scan.specs.declared.errors.OpenError.{OpenError}
 use Rattle.pk_top.specs.declared.status.TheConstants.Status.{DONE, MEMORY}
 use Rattle.pk_top.specs.Ends.{end_status, open_status}
+use Rattle.pk_top.specs.Isolates.{IsolatesAll}
 use Rattle.pk_top.specs.Loads.{NoImage, WordRun}
 use Rattle.pk_top.specs.Statuses.{Untouched}
 
@@ -30,7 +32,7 @@ use Rattle.pk_top.specs.Statuses.{Untouched}
 -- Whatever map the flash held at first: a prefix of these commands was served, and what was served is kept.
 abbrev pub KeptFrom : Shape → ℕ → BoardState → BoardState → List Command → Flash → List ℕ → Type 0
 KeptFrom shape frames loaded new cs flash posted =
-    (start : Map) → Holds shape loaded.pages start → Kept shape frames start cs (rise loaded.read_faults new.read_faults) posted flash
+    (start : Map) → Holds shape loaded.pages start → Kept shape (terms_at shape loaded.pages frames) start cs (rise loaded.read_faults new.read_faults) posted flash
 
 -- So at every cut of the marks since the load, of the script's commands; and from each state of the trail to the next the tree grows.
 abbrev pub KeepsScript : Shape → ℕ → BoardState → BoardState → Type 0
@@ -60,8 +62,8 @@ pub record ServedTo (shape : Shape) (frames : ℕ) (loaded new : BoardState) (en
   pub holds : Holds shape loaded.pages start
   pub blames : Blames (behind_opening shape frames loaded) new end
   pub says : (input : List ℕ) → loaded.input ≡ Some input → Says new input end
-  pub served : (input : List ℕ) → loaded.input ≡ Some input → ServedBy shape frames start (behind_opening shape frames loaded) new input end
-  pub served_some : ServedSome shape frames start (behind_opening shape frames loaded) new end
+  pub served : (input : List ℕ) → loaded.input ≡ Some input → ServedBy shape (terms_at shape loaded.pages frames) start (behind_opening shape frames loaded) new input end
+  pub served_some : ServedSome shape (terms_at shape loaded.pages frames) start (behind_opening shape frames loaded) new end
 
 -- ---- completeness
 
@@ -71,7 +73,7 @@ abbrev pub ServesAll : Shape → ℕ → BoardState → BoardState → ℕ → T
 ServesAll shape frames loaded new status =
     (start : Map) → Holds shape loaded.pages start → (input : List ℕ) → loaded.input ≡ Some input
     → IsServable loaded new (script input).0 (script input).1 → (Rose loaded.flash_faults new.flash_faults → ⊥)
-    → ((status ≡ DONE.0) × Complete shape frames start loaded new (script input).0) ⊎ ((status ≡ MEMORY.0) × Untouched loaded new)
+    → ((status ≡ DONE.0) × Complete shape (terms_at shape loaded.pages frames) start loaded new (script input).0) ⊎ ((status ≡ MEMORY.0) × Untouched loaded new)
 
 -- the same of a board that holds its pages from the start
 abbrev pub ServesWhole : ℕ → BoardState → BoardState → ℕ → Type 0
@@ -84,6 +86,7 @@ pub record RunServes (shape : Shape) (frames : ℕ) (loaded new : BoardState) (s
   pub kept : KeepsScript shape frames loaded new
   pub kept_untold : KeepsSome shape frames loaded new
   pub complete : ServesAll shape frames loaded new status
+  pub isolated : IsolatesAll shape frames loaded new status
   pub outcome : NotServed shape loaded new status ⊎ ((end : End) × (status ≡ end_status end) × ServedTo shape frames loaded new end)
 
 -- an image of this shape was found

@@ -7,6 +7,7 @@ use Rattle.pk_base.specs.Mark.{Mark}
 use Rattle.pk_base.specs.Map.{Map}
 use Rattle.pk_nand.specs.BoardState.{BoardState}
 use Rattle.pk_nand.specs.Cut.{Cut}
+use Rattle.pk_model.specs.Spaces.{terms_at}
 use Rattle.pk_model.specs.Kept.{Kept, rise}
 use Rattle.pk_model.specs.Reading.{Holds}
 use Rattle.pk_top.specs.Makes.{IsMade}
@@ -47,8 +48,8 @@ pub record IsRun (shape : Shape) (r : ProgramRun) : Type 0 where
 -- was posted. One that asks: a map that the flash holds, and what its word keeps. Another one does not change the map.
 abbrev pub LeavesMap : Option Word → Shape → ProgramRun → Map → Map → Type 0
 LeavesMap (Some (serve frames)) shape r m m' =
-    (kept : Kept shape frames m (script r.input).0 (rise r.old.read_faults r.new.read_faults) r.posted r.left) × (m' ≡ kept.map_left)
-LeavesMap (Some (ask task)) shape r m m' = KeptTask task (meter (behind_opening shape WORD_FRAMES r.old)) (meter r.new) shape WORD_FRAMES m r.left r.posted
+    (kept : Kept shape (terms_at shape r.old.pages frames) m (script r.input).0 (rise r.old.read_faults r.new.read_faults) r.posted r.left) × (m' ≡ kept.map_left)
+LeavesMap (Some (ask task)) shape r m m' = KeptTask task (meter (behind_opening shape WORD_FRAMES r.old)) (meter r.new) shape (terms_at shape r.old.pages WORD_FRAMES) m r.left r.posted
 LeavesMap (Some (make other)) shape r m m' = m' ≡ m
 LeavesMap (Some assemble) shape r m m' = m' ≡ m
 LeavesMap (Some show) shape r m m' = m' ≡ m

@@ -11,6 +11,7 @@ ghost use Rattle.pk_top.specs.TextRuns.{TextRun};
 ghost use Rattle.pk_wordrun.specs.Seen.{IsShortTask};
 ghost use Rattle.pk_wordrun.specs.Tasks.{Task};
 ghost use Rattle.pk_top.specs.Asks.{AskRun, AsksWhole};
+ghost use Rattle.pk_top.specs.Isolates.{IsolatesWhole};
 ghost use Rattle.pk_top.specs.Serves.{ServeRun, ServesWhole};
 ghost use Rattle.pk_top.specs.Makes.{MakeRun, IsMade};
 ghost use Rattle.pk_text.specs.Assembled.{assembled};
@@ -64,6 +65,11 @@ pub fn run<B: Board>(alloc: Global, words: &[&str], board: &mut B) -> Status
     ensures serves_whole { (frames : ℕ)
         → spec.word_of (map (λ w. w.now) words.now) ≡ Some (spec.serve frames)
         → ServesWhole frames (B.state board.old) (B.state board.new) result.0 }
+
+    // Each namespace is answered as a drive answers that has it alone.
+    ensures isolated { (frames : ℕ)
+        → spec.word_of (map (λ w. w.now) words.now) ≡ Some (spec.serve frames)
+        → IsolatesWhole frames (B.state board.old) (B.state board.new) result.0 }
 
     // Those that touch no flash, and what any word leaves of it.
     ensures assembles { spec.word_of (map (λ w. w.now) words.now) ≡ Some spec.assemble

@@ -1,12 +1,15 @@
 -- A workload, one command after another, and its summary.
 use Rattle.std.proofs.Common.{◌≡◌, ℕ, zero, suc, ◌+◌, ◌*◌, ◌%◌, ◌<◌, ◌≤◌, ◌==◌, nat_le, nat_lt, if◌then◌else◌, List, [], ◌∷◌, ◌++◌, length, Option, Some, Ok, Bool, true, false, not, refl, sym, ◌∙◌}
 use Rattle.std.proofs.Common.{ap, subst, arith, append-nil, append_assoc, length-append}
-use Rattle.std.specs.FinMap.{len}
+use Rattle.std.specs.FinMap.{entries, len}
+use Rattle.std.specs.List.{AllByRecursion}
 use Rattle.std.proofs.lemmas.List.{length-map}
+use Rattle.std.proofs.lemmas.Bool.{eq-eqb}
 use Rattle.std.proofs.lemmas.Bool.Decides.{nat_tests}
 use Rattle.pk_base.specs.Shape.{Shape}
 use Rattle.pk_base.specs.Page.{Flash as Pages}
 use Rattle.pk_base.specs.Entry.{Entry}
+use Rattle.pk_base.specs.Key.{Key, space_of}
 use Rattle.pk_base.specs.Map.{Map, live}
 use Rattle.pk_nvme.specs.Command.{Command}
 use Rattle.pk_nvme.specs.Seen.{command_of}
@@ -19,10 +22,9 @@ use Rattle.pk_gen.specs.Workload.{Generator, workload, generator, request_of, va
 use Rattle.pk_call.specs.Drive.{CountsMap}
 use Rattle.pk_call.specs.Exec.{most_installs}
 use Rattle.pk_call.specs.Meter.{Meter, meter, MeteredAll}
-use Rattle.pk_call.specs.Seen.{counts_of}
+use Rattle.pk_call.specs.Seen.{in_space_of}
 use Rattle.pk_call.specs.declared.types.Counts.{Counts}
-use Rattle.pk_call.specs.Sight as model
-use Rattle.pk_call.specs.Sight.{Sight, map_of}
+use Rattle.pk_call.specs.Sight.{InSpace, Sight, in_space_at, map_of}
 use Rattle.pk_model.specs.Growth.{Goes}
 use Rattle.pk_model.specs.Kept.{rise}
 use Rattle.pk_model.specs.Wear.{is_worn, roots}
@@ -48,6 +50,10 @@ use Rattle.pk_wordrun.specs.declared.summary.Summary.{Summary}
 use Rattle.pk_wordrun.proofs.Grouping.{grouped_none, grouped_asked}
 use Rattle.pk_wordrun.proofs.Resting.{never_both}
 use Rattle.pk_wordrun.proofs.Telling.{keeps-flash, done_unworn, output_unworn, flash_unworn}
+use Rattle.pk_model.specs.Spaces.{Terms, AreInSpaces, in_space, limits_at, terms_at}
+use Rattle.pk_model.proofs.SpaceLemmas.{whole_map}
+use Rattle.pk_port.specs.Steps.{mount}
+use Rattle.pk_port.proofs.Serving.{mounted_limits}
 
 -- ---- the commands of a workload
 
@@ -111,8 +117,8 @@ front begin turn (suc n) few = by (nat_le turn n) refl (λ small. front begin tu
         ([], subst (λ t. workload begin (suc n) ≡ workload begin t ++ []) (sym is) (sym (append-nil (workload begin (suc n)))))
 
 -- what is kept of some commands is kept of all
-module _ (shape : Shape) (frames : ℕ) (start : Map) (cs more all : List Command) (is : all ≡ cs ++ more) (n : Option ℕ) where
-  silent_all : (f : Pages) (q : List ℕ) → KeptSilently shape frames start cs n f q → KeptSilently shape frames start all n f q
+module _ (shape : Shape) (terms : Terms) (start : Map) (cs more all : List Command) (is : all ≡ cs ++ more) (n : Option ℕ) where
+  silent_all : (f : Pages) (q : List ℕ) → KeptSilently shape terms start cs n f q → KeptSilently shape terms start all n f q
   silent_all f q (none, k) = (
     none,
     record {
@@ -122,30 +128,32 @@ module _ (shape : Shape) (frames : ℕ) (start : Map) (cs more all : List Comman
       map_left = k.map_left;
       ran = k.ran;
       held = k.held;
+      same_limits = k.same_limits;
       unposted = k.unposted;
       begins = k.begins;
       few_faults = k.few_faults;
     },
   )
 
-  goes_all : (a b : BoardState) → Goes shape a b (KeptSilently shape frames start cs n) → Goes shape a b (KeptSilently shape frames start all n)
-  goes_all a b went = (went.0, weaken_went went.0 a b (KeptSilently shape frames start cs n) (KeptSilently shape frames start all n) silent_all went.1, went.2)
+  goes_all : (a b : BoardState) → Goes shape a b (KeptSilently shape terms start cs n) → Goes shape a b (KeptSilently shape terms start all n)
+  goes_all a b went = (went.0, weaken_went went.0 a b (KeptSilently shape terms start cs n) (KeptSilently shape terms start all n) silent_all went.1, went.2)
 
 -- ---- turns
 
 -- before the first
 pub generating_none : (begin : ℕ) (shape : Shape) (start : Map) (a : BoardState) (d : Sight) (s : Summary) → a.shape ≡ Some shape → d.pending ≡ [] → Holds shape a.pages start → Sums s []
-    → Generating begin 0 shape d.counts.frames start a a d s
+    → Generating begin 0 shape (mount a d).terms start a a d s
 generating_none begin shape start a d s has none holds sums =
     let M : List Entry → Type 0 = λ p. reading shape a.pages p ≡ Ok start in
     record {
       all = [];
       are = refl;
-      grouped = grouped_none shape d.counts.frames start a d (record { shape_is = has; frames_is = refl; map_is = subst M (sym none) holds }) holds;
+      grouped = grouped_none shape (mount a d).terms start a d
+          (record { shape_is = has; frames_is = refl; limits_is = mounted_limits shape a d has; map_is = subst M (sym none) holds }) holds;
       sums = sums;
     }
 
-module _ (begin turn : ℕ) (shape : Shape) (frames : ℕ) (start : Map) (a b : BoardState) (d : Sight) (counts : Summary) (w : Generating begin turn shape frames start a b d counts) where
+module _ (begin turn : ℕ) (shape : Shape) (terms : Terms) (start : Map) (a b : BoardState) (d : Sight) (counts : Summary) (w : Generating begin turn shape terms start a b d counts) where
   -- as many were answered
   turns_are : length w.all ≡ turn
   turns_are = sym (length-map w.all (λ (x : Exchange). x.command)) ∙ (ap (λ (l : List Command). length l) w.are ∙ workload-length begin turn)
@@ -154,24 +162,24 @@ module _ (begin turn : ℕ) (shape : Shape) (frames : ℕ) (start : Map) (a b : 
   pub generating_next : (c : BoardState) (e : Sight) (count : ℕ) → turn < count → count < 4294967296 → (g : Generator) → g ≡ generator begin turn → (counted : Summary)
       → (x : Exchange) × (x.command ≡ command_of (request_of g) (value_of g)) × AddsToGroup b c d e x
       × ((all : List Exchange) → length all < 4294967295 → Sums counts all → Sums counted (all ++ x ∷ []))
-      → Generating begin (turn + 1) shape frames start a c e counted
+      → Generating begin (turn + 1) shape terms start a c e counted
   generating_next c e count small few g at counted (x, is, adds, sums) =
       let is_at : x.command ≡ command_at begin turn = is ∙ ap (λ (v : Generator). command_of (request_of v) (value_of v)) at in
       let next : suc turn ≡ turn + 1 = omega arith in
-      let T : ℕ → Type 0 = λ n. Generating begin n shape frames start a c e counted in
+      let T : ℕ → Type 0 = λ n. Generating begin n shape terms start a c e counted in
       let size = turns_are in
       subst T next (record {
         all = w.all ++ x ∷ [];
         are = commands-push w.all x ∙ (ap (λ (l : List Command). l ++ x.command ∷ []) w.are ∙ ap (λ (k : Command). workload begin turn ++ k ∷ []) is_at);
-        grouped = adds shape frames start a w.all w.grouped;
+        grouped = adds shape terms start a w.all w.grouped;
         sums = sums w.all (omega (arith, size, small, few)) w.sums;
       })
 
   -- the drive was stopped in or before these commands
   unfinished_in : (count : ℕ) (cs more : List Command) (c : BoardState) → workload begin count ≡ cs ++ more
-      → StoppedIn shape frames start a c cs → Unfinished begin count shape frames start a c Stopped
+      → StoppedIn shape terms start a c cs → Unfinished begin count shape terms start a c Stopped
   unfinished_in count cs more c is s = record {
-    kept = goes_all shape frames start cs more (workload begin count) is (rise a.read_faults c.read_faults) a c s.kept;
+    kept = goes_all shape terms start cs more (workload begin count) is (rise a.read_faults c.read_faults) a c s.kept;
     ends = s.stop;
     used = λ e. absurd (flash_unworn e);
     input = keeps-flash a c s.rest;
@@ -179,20 +187,20 @@ module _ (begin turn : ℕ) (shape : Shape) (frames : ℕ) (start : Map) (a b : 
 
   -- in the command of this turn or before it
   pub unfinished_turn : (count : ℕ) (c : BoardState) → turn < count → (g : Generator) → g ≡ generator begin turn → StopsGroup b c d (command_of (request_of g) (value_of g) ∷ [])
-      → Unfinished begin count shape frames start a c Stopped
+      → Unfinished begin count shape terms start a c Stopped
   unfinished_turn count c small g at h =
       let G : Generator → Type 0 = λ v. StopsGroup b c d (command_of (request_of v) (value_of v) ∷ []) in
       let stopped = subst G at h in
       let more = front begin (suc turn) count (omega (arith, small)) in
-      let S : List Command → Type 0 = λ l. StoppedIn shape frames start a c (l ++ command_at begin turn ∷ []) in
-      unfinished_in count (workload begin turn ++ command_at begin turn ∷ []) more.0 c more.1 (subst S w.are (stopped shape frames start a w.all w.grouped))
+      let S : List Command → Type 0 = λ l. StoppedIn shape terms start a c (l ++ command_at begin turn ∷ []) in
+      unfinished_in count (workload begin turn ++ command_at begin turn ∷ []) more.0 c more.1 (subst S w.are (stopped shape terms start a w.all w.grouped))
 
   -- in a commit
-  pub unfinished_commit : (count : ℕ) (c : BoardState) → turn ≤ count → StopsGroup b c d [] → Unfinished begin count shape frames start a c Stopped
+  pub unfinished_commit : (count : ℕ) (c : BoardState) → turn ≤ count → StopsGroup b c d [] → Unfinished begin count shape terms start a c Stopped
   unfinished_commit count c small h =
       let more = front begin turn count small in
-      let S : List Command → Type 0 = λ l. StoppedIn shape frames start a c l in
-      unfinished_in count (workload begin turn) more.0 c more.1 (subst S (append-nil (commands w.all) ∙ w.are) (h shape frames start a w.all w.grouped))
+      let S : List Command → Type 0 = λ l. StoppedIn shape terms start a c l in
+      unfinished_in count (workload begin turn) more.0 c more.1 (subst S (append-nil (commands w.all) ∙ w.are) (h shape terms start a w.all w.grouped))
 
   -- the roots that were installed are few
   roots_few : (c : BoardState) (count : ℕ) → MeteredAll (meter a) w.all (meter c) → turn ≤ count → roots c ≤ roots a + turn_roots * count
@@ -205,49 +213,62 @@ module _ (begin turn : ℕ) (shape : Shape) (frames : ℕ) (start : Map) (a b : 
 
   -- no more roots are installed
   pub unfinished_worn : (count : ℕ) (c : BoardState) (e : Sight) → turn < count → KeepsGroup b c d e → e.pending ≡ [] → roots c ≡ roots b → is_worn b ≡ true
-      → Unfinished begin count shape frames start a c UsedUp
+      → Unfinished begin count shape terms start a c UsedUp
   unfinished_worn count c e small keeps none same worn =
-      let g = keeps shape frames start a w.all w.grouped in
+      let g = keeps shape terms start a w.all w.grouped in
       let more = front begin turn count (omega (arith, small)) in
-      let R : List Command → Type 0 = λ l. Goes shape a c (KeptSilently shape frames start l (rise a.read_faults c.read_faults)) in
+      let R : List Command → Type 0 = λ l. Goes shape a c (KeptSilently shape terms start l (rise a.read_faults c.read_faults)) in
       record {
-        kept = goes_all shape frames start (workload begin turn) more.0 (workload begin count) more.1 (rise a.read_faults c.read_faults) a c
-            (subst R w.are (Goes-reaches shape a c (KeptSilently shape frames start (commands w.all) (rise a.read_faults c.read_faults)) g.reached));
+        kept = goes_all shape terms start (workload begin turn) more.0 (workload begin count) more.1 (rise a.read_faults c.read_faults) a c
+            (subst R w.are (Goes-reaches shape a c (KeptSilently shape terms start (commands w.all) (rise a.read_faults c.read_faults)) g.reached));
         ends = (
           ap (λ n. nat_le 9223372036854775808 n) same ∙ worn,
           record { output = ap (λ (x : BoardState). x.out_faults) g.rest; stop = g.no_stop },
-          (turn, small, (grouped_asked shape frames start a c e w.all g none (workload begin turn) w.are).0),
+          (turn, small, (grouped_asked shape terms start a c e w.all g none (workload begin turn) w.are).0),
         );
         used = λ _. roots_few c count g.metered (omega (arith, small));
         input = keeps-flash a c g.rest;
       }
 
   -- all was committed
-  pub generated_all : (c : BoardState) (e : Sight) → KeepsGroup b c d e → e.pending ≡ [] → Generated begin turn shape frames start a c counts
+  pub generated_all : (c : BoardState) (e : Sight) → KeepsGroup b c d e → e.pending ≡ [] → Generated begin turn shape terms start a c counts
   generated_all c e keeps none =
-      let w' = grouped_asked shape frames start a c e w.all (keeps shape frames start a w.all w.grouped) none (workload begin turn) w.are in
+      let w' = grouped_asked shape terms start a c e w.all (keeps shape terms start a w.all w.grouped) none (workload begin turn) w.are in
       record { asked = w'.0; sums = subst (Sums counts) (sym w'.1) w.sums }
 
 -- ---- the summary
 
+-- the map of a drive with one namespace is that namespace of itself
+one_space_whole : (m : Map) → AreInSpaces 1 m → in_space 1 m ≡ m
+one_space_whole m are = whole_map 1 m (only (entries m) are)
+  where
+    only : (es : List (Key × List ℕ)) → AllByRecursion (λ e. (1 ≤ space_of e.0) × (space_of e.0 ≤ 1)) es → AllByRecursion (λ e. (space_of e.0 == 1) ≡ true) es
+    only [] all = tt
+    only (e ∷ es) all = (eq-eqb (space_of e.0) 1 (omega (arith, all.0.0, all.0.1)), only es all.1)
+
+one_limit : (shape : Shape) (flash : Pages) → length (limits_at shape flash) ≡ 1
+unfolding limits_at
+one_limit shape flash = refl
+
 -- the numbers that a drive counts are those of the map that the flash holds
 pub counted : (agrees : Option Shape → Pages → Type 0) (shape : Shape) (b : BoardState) (d : Sight) (counts : Counts)
-    → b.shape ≡ Some shape → DriveRuns agrees d b → d.pending ≡ [] → counts_of counts ≡ d.counts
-    → ((s : Shape) (f : Pages) (m : Map) → agrees (Some s) f → d.stopped ≡ false → map_of s f d ≡ Ok m → CountsMap s d.counts.frames m d.counts)
+    → b.shape ≡ Some shape → DriveRuns agrees d b → d.pending ≡ [] → in_space_of counts ≡ in_space_at d.spaces 1
+    → ((s : Shape) (f : Pages) (m : Map) → agrees (Some s) f → d.stopped ≡ false → map_of s f d ≡ Ok m → CountsMap s (terms_at s f d.counts.frames) 1 m (in_space_at d.spaces 1) d.counts)
     → (m : Map) → Holds shape b.pages m → (counts.keys ≡ len m) × (counts.live ≡ live shape m)
 counted agrees shape b d counts has running none numbers told m held =
     let A : Option Shape → Type 0 = λ o. agrees o b.pages in
     let R : List Entry → Type 0 = λ p. reading shape b.pages p ≡ Ok m in
     let is = told shape b.pages m (subst A has running.agrees) running.runs (subst R (sym none) held) in
-    (ap (λ (c : model.Counts). c.keys) numbers ∙ is.keys_is, ap (λ (c : model.Counts). c.live) numbers ∙ is.live_is)
+    let all : in_space 1 m ≡ m = one_space_whole m (subst (λ (n : ℕ). AreInSpaces n m) (one_limit shape b.pages) is.in_spaces) in
+    (ap (λ (c : InSpace). c.keys) numbers ∙ is.keys_is ∙ ap len all, ap (λ (c : InSpace). c.live) numbers ∙ is.live_is ∙ ap (live shape) all)
 
-module _ (begin count : ℕ) (shape : Shape) (frames : ℕ) (start : Map) (a b : BoardState) (s : Summary) (w : Generated begin count shape frames start a b s) (keys pages : ℕ)
+module _ (begin count : ℕ) (shape : Shape) (terms : Terms) (start : Map) (a b : BoardState) (s : Summary) (w : Generated begin count shape terms start a b s) (keys pages : ℕ)
     (are : (keys ≡ len w.asked.left) × (pages ≡ live shape w.asked.left)) where
   abbrev text : List ℕ
   text = summary_lines w.asked.answered.all keys pages
 
   abbrev Says : List Exchange → List ℕ → Map → Type 0
-  Says = SaysTask (generate begin count) a.read_faults b.read_faults shape frames start
+  Says = SaysTask (generate begin count) a.read_faults b.read_faults shape terms start
 
   says_left : Says w.asked.answered.all text w.asked.left
   says_left = ap (λ k. summary_lines w.asked.answered.all k pages) are.0 ∙ ap (λ p. summary_lines w.asked.answered.all (len w.asked.left) p) are.1
@@ -263,10 +284,10 @@ module _ (begin count : ℕ) (shape : Shape) (frames : ℕ) (start : Map) (a b :
       never_both (subst T is some) in
       few_unworn a (metered-unworn all (meter a) (meter b) none w.asked.answered.metered)
 
-  told_posted : Told (generate begin count) shape frames start a (after_post b text) Done
+  told_posted : Told (generate begin count) shape terms start a (after_post b text) Done
   told_posted = record {
-    kept = Goes-reaches shape a (after_post b text) (KeptTask (generate begin count) (meter a) (meter b) shape frames start)
-        (asked-posts Says shape frames start (workload begin count) a b w.asked text says_left);
+    kept = Goes-reaches shape a (after_post b text) (KeptTask (generate begin count) (meter a) (meter b) shape terms start)
+        (asked-posts Says shape terms start (workload begin count) a b w.asked text says_left);
     rests = λ e. never_both e;
     ends = record {
       left = w.asked.left;
@@ -284,17 +305,17 @@ module _ (begin count : ℕ) (shape : Shape) (frames : ℕ) (start : Map) (a b :
     input = record { input = ap (λ (x : BoardState). x.input) w.asked.rest; in_faults = ap (λ (x : BoardState). x.in_faults) w.asked.rest };
   }
 
-  pub told_summary : (last : BoardState) → last ≡ after_post b text → Told (generate begin count) shape frames start a last Done
-  told_summary last is = let T : BoardState → Type 0 = λ x. Told (generate begin count) shape frames start a x Done in subst T (sym is) told_posted
+  pub told_summary : (last : BoardState) → last ≡ after_post b text → Told (generate begin count) shape terms start a last Done
+  told_summary last is = let T : BoardState → Type 0 = λ x. Told (generate begin count) shape terms start a x Done in subst T (sym is) told_posted
 
   -- the output failed
-  pub told_unposted : (last : BoardState) → PostFailed b last text → Told (generate begin count) shape frames start a last Output
+  pub told_unposted : (last : BoardState) → PostFailed b last text → Told (generate begin count) shape terms start a last Output
   told_unposted last failed =
       let same : meter last ≡ meter b = ap meter failed.rest in
-      let G : Meter → Type 0 = λ t. Goes shape a last (KeptTask (generate begin count) (meter a) t shape frames start) in
+      let G : Meter → Type 0 = λ t. Goes shape a last (KeptTask (generate begin count) (meter a) t shape terms start) in
       let R : ℕ → Type 0 = λ n. Rose n last.out_faults in
       record {
-        kept = subst G (sym same) (asked-post_failed Says shape frames start (workload begin count) a b w.asked text says_left last failed);
+        kept = subst G (sym same) (asked-post_failed Says shape terms start (workload begin count) a b w.asked text says_left last failed);
         rests = λ e. never_both e;
         ends = subst R (ap (λ (x : BoardState). x.out_faults) w.asked.rest) failed.faults;
         used = λ e. absurd (output_unworn e);
@@ -305,10 +326,10 @@ module _ (begin count : ℕ) (shape : Shape) (frames : ℕ) (start : Map) (a b :
       }
 
 -- a command was not answered
-pub told_unfinished : (begin count : ℕ) (shape : Shape) (frames : ℕ) (start : Map) (a b : BoardState) (halt : Halt) → Unfinished begin count shape frames start a b halt
-    → Told (generate begin count) shape frames start a b (end_of halt)
-told_unfinished begin count shape frames start a b halt u = record {
-  kept = went-silent (SaysTask (generate begin count) a.read_faults b.read_faults shape frames start) shape frames start (workload begin count) (meter a) (meter b) a b u.kept;
+pub told_unfinished : (begin count : ℕ) (shape : Shape) (terms : Terms) (start : Map) (a b : BoardState) (halt : Halt) → Unfinished begin count shape terms start a b halt
+    → Told (generate begin count) shape terms start a b (end_of halt)
+told_unfinished begin count shape terms start a b halt u = record {
+  kept = went-silent (SaysTask (generate begin count) a.read_faults b.read_faults shape terms start) shape terms start (workload begin count) (meter a) (meter b) a b u.kept;
   rests = λ e. never_both e;
   ends = u.ends;
   used = u.used;

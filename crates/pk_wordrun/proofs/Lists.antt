@@ -1,10 +1,9 @@
 -- A list that goes out piece by piece.
 use Rattle.std.proofs.Common.{◌≡◌, ◌⊎◌, inl, inr, ℕ, ◌≤◌, nat_le, true, false, List, [], ◌∷◌, ◌++◌, Option, Some, None, refl, sym, ◌∙◌, ap, subst, append-nil, append_assoc, arith}
 use Rattle.std.proofs.lemmas.Grind.{flat_map-append}
-use Rattle.std.specs.Result.{result_ok}
 use Rattle.std.specs.List.{AllByRecursion}
 use Rattle.pk_base.specs.Key.{Key}
-use Rattle.pk_base.specs.Shape.{Shape, limit}
+use Rattle.pk_base.specs.Shape.{Shape}
 use Rattle.pk_base.specs.Page.{Flash}
 use Rattle.pk_base.specs.Map.{Map}
 use Rattle.pk_base.specs.Mark.{Mark, all_posted, post}
@@ -39,19 +38,21 @@ use Rattle.pk_wordrun.specs.Tasks.{list, KeptTask, KeptList}
 use Rattle.pk_wordrun.specs.Told.{Told, AreOf}
 use Rattle.pk_wordrun.specs.declared.end.WordEnd.{WordEnd}
 use Rattle.pk_wordrun.specs.declared.end.WordEnd.TheVariants.{Done, Output, Flash as FlashFailed, Worn}
+use Rattle.pk_model.specs.Spaces.{Terms, limit_of, in_space}
+use Rattle.pk_port.proofs.Stepping.{part_of}
 
 -- the map is unchanged, and what was posted begins these lines
 abbrev FrontOf : Shape → Map → List ℕ → Flash → List ℕ → Type 0
 FrontOf shape start lines flash posted = Holds shape flash start × ((rest : List ℕ) × (posted ++ rest ≡ lines))
 
 -- So far: nothing was done but reads, and the lines of the first keys were posted; the others remain at this place.
-pub record IsSaying (from : Option Key) (shape : Shape) (frames : ℕ) (start : Map) (a b : BoardState) (place : ListPosition) : Type 0 where
+pub record IsSaying (from : Option Key) (shape : Shape) (terms : Terms) (start : Map) (a b : BoardState) (place : ListPosition) : Type 0 where
   pub has : a.shape ≡ Some shape
   pub holds : Holds shape a.pages start
-  pub reached : Reaches shape a b (FrontOf shape start (key_lines (wanted_keys from start)))
+  pub reached : Reaches shape a b (FrontOf shape start (key_lines (wanted_keys from (in_space 1 start))))
   pub front : List Key
   pub said : all_posted reached.0 ≡ key_lines front
-  pub split : wanted_keys from start ≡ front ++ keys_left place start
+  pub split : wanted_keys from (in_space 1 start) ≡ front ++ keys_left place (in_space 1 start)
   pub pages : b.pages ≡ a.pages
   pub rests : RestsFlash a b
   pub up : a.read_faults ≤ b.read_faults
@@ -60,22 +61,22 @@ pub record IsSaying (from : Option Key) (shape : Shape) (frames : ℕ) (start : 
   pub input : b.input ≡ a.input
   pub in_faults : b.in_faults ≡ a.in_faults
   pub done : List Command
-  pub answered : Ran shape frames start done (meter a) (meter b) start
+  pub answered : Ran shape terms start done (meter a) (meter b) start
   pub begun : ((done ≡ []) × (b ≡ a) × (place ≡ start_at from)) ⊎ AreOf (list from) shape done
 
 wanted_at : (from : Option Key) (m : Map) → wanted_keys from m ≡ keys_left (start_at from) m
 wanted_at None m = refl
 wanted_at (Some key) m = refl
 
-pub saying_none : (from : Option Key) (shape : Shape) (frames : ℕ) (start : Map) (a : BoardState) → a.shape ≡ Some shape → Holds shape a.pages start
-    → IsSaying from shape frames start a a (start_at from)
-saying_none from shape frames start a has holds = record {
+pub saying_none : (from : Option Key) (shape : Shape) (terms : Terms) (start : Map) (a : BoardState) → a.shape ≡ Some shape → Holds shape a.pages start
+    → IsSaying from shape terms start a a (start_at from)
+saying_none from shape terms start a has holds = record {
   has = has;
   holds = holds;
-  reached = ([], Reached-start a a (FrontOf shape start (key_lines (wanted_keys from start))) refl refl refl refl (holds, (key_lines (wanted_keys from start), refl)), tt);
+  reached = ([], Reached-start a a (FrontOf shape start (key_lines (wanted_keys from (in_space 1 start)))) refl refl refl refl (holds, (key_lines (wanted_keys from (in_space 1 start)), refl)), tt);
   front = [];
   said = refl;
-  split = wanted_at from start;
+  split = wanted_at from (in_space 1 start);
   pages = refl;
   rests = Rests-same a a refl;
   up = omega arith;
@@ -97,9 +98,9 @@ pieces_push place [] all = ((place, refl), tt)
 pieces_push place (c ∷ cs) all = (all.0, pieces_push place cs all.1)
 
 -- a drive that answered a command of a list was not worn before it
-unworn_before : (from : Option Key) (shape : Shape) (frames : ℕ) (start : Map) (a b : BoardState) (cs : List Command) → AreOf (list from) shape cs → Ran shape frames start cs (meter a) (meter b) start
+unworn_before : (from : Option Key) (shape : Shape) (terms : Terms) (start : Map) (a b : BoardState) (cs : List Command) → AreOf (list from) shape cs → Ran shape terms start cs (meter a) (meter b) start
     → is_worn a ≡ false
-unworn_before from shape frames start a b cs are r =
+unworn_before from shape terms start a b cs are r =
     few_unworn a (metered-unworn r.all (meter a) (meter b) (λ none. let clash : asked_at (start_at from) ∷ are.0 ≡ [] = sym are.1 ∙ (sym r.are ∙ ap commands none) in cc) r.metered)
 
 rose_later : (x y z : ℕ) → Rose y z → x ≤ y → Rose x z
@@ -115,9 +116,9 @@ reads_on marks a b c P only run = record {
   stands = ap (λ (s : BoardState). s.pages) only ∙ run.stands;
 }
 
-module _ (from : Option Key) (shape : Shape) (frames : ℕ) (start : Map) (a b : BoardState) (place : ListPosition) (so_far : IsSaying from shape frames start a b place) where
+module _ (from : Option Key) (shape : Shape) (terms : Terms) (start : Map) (a b : BoardState) (place : ListPosition) (so_far : IsSaying from shape terms start a b place) where
   abbrev lines : List ℕ
-  lines = key_lines (wanted_keys from start)
+  lines = key_lines (wanted_keys from (in_space 1 start))
 
   abbrev marks : List Mark
   marks = so_far.reached.0
@@ -125,8 +126,8 @@ module _ (from : Option Key) (shape : Shape) (frames : ℕ) (start : Map) (a b :
   held : Holds shape b.pages start
   held = ap (λ f. reading shape f []) so_far.pages ∙ so_far.holds
 
-  told : result_ok (reading shape b.pages []) ≡ Some start
-  told = ap result_ok held
+  told : part_of (reading shape b.pages []) ≡ Some (in_space 1 start)
+  told = ap part_of held
 
   -- the flash rests on
   rests_on : (c : BoardState) → RestsFlash b c → RestsFlash a c
@@ -162,10 +163,10 @@ module _ (from : Option Key) (shape : Shape) (frames : ℕ) (start : Map) (a b :
   -- ---- one more piece
 
   -- its command was answered
-  answered_next : (asked : BoardState) (next : Option ListPosition) (text : List ℕ) → PieceAsked shape frames b asked place next text
-      → Ran shape frames start (so_far.done ++ asked_at place ∷ []) (meter a) (meter asked) start
+  answered_next : (asked : BoardState) (next : Option ListPosition) (text : List ℕ) → PieceAsked shape terms b asked place next text
+      → Ran shape terms start (so_far.done ++ asked_at place ∷ []) (meter a) (meter asked) start
   answered_next asked next text is =
-      ran-next shape frames start so_far.done (meter a) (meter b) start so_far.answered (meter asked) (asked_at place) is.x start so_far.up is.up is.is (is.step start held) is.metered
+      ran-next shape terms start so_far.done (meter a) (meter b) start so_far.answered (meter asked) (asked_at place) is.x start so_far.up is.up is.is (is.step start held) is.metered
 
   are_next : AreOf (list from) shape (so_far.done ++ asked_at place ∷ [])
   are_next = elim so_far.begun [
@@ -174,25 +175,25 @@ module _ (from : Option Key) (shape : Shape) (frames : ℕ) (start : Map) (a b :
   ]
 
   -- the lines of the next keys, and those after them
-  pieces : (page left : List Key) → keys_left place start ≡ page ++ left → lines ≡ key_lines so_far.front ++ (key_lines page ++ key_lines left)
+  pieces : (page left : List Key) → keys_left place (in_space 1 start) ≡ page ++ left → lines ≡ key_lines so_far.front ++ (key_lines page ++ key_lines left)
   pieces page left e =
       ap key_lines (so_far.split ∙ ap (λ (ks : List Key). so_far.front ++ ks) e)
       ∙ (flat_map-append key_line so_far.front (page ++ left) ∙ ap (λ t. key_lines so_far.front ++ t) (flat_map-append key_line page left))
 
-  pub saying_more : (asked : BoardState) (next : ListPosition) (text : List ℕ) → PieceAsked shape frames b asked place (Some next) text
-      → (c : BoardState) → c ≡ after_post asked text → IsSaying from shape frames start a c next
-  saying_more asked next text is c posted = let T : BoardState → Type 0 = λ x. IsSaying from shape frames start a x next in subst T (sym posted) (goes_on (is.piece.lines start told))
+  pub saying_more : (asked : BoardState) (next : ListPosition) (text : List ℕ) → PieceAsked shape terms b asked place (Some next) text
+      → (c : BoardState) → c ≡ after_post asked text → IsSaying from shape terms start a c next
+  saying_more asked next text is c posted = let T : BoardState → Type 0 = λ x. IsSaying from shape terms start a x next in subst T (sym posted) (goes_on (is.piece.lines (in_space 1 start) told))
     where
-      goes_on : (page : List Key) × (keys_left place start ≡ page ++ keys_left next start) × (text ≡ key_lines page) → IsSaying from shape frames start a (after_post asked text) next
+      goes_on : (page : List Key) × (keys_left place (in_space 1 start) ≡ page ++ keys_left next (in_space 1 start)) × (text ≡ key_lines page) → IsSaying from shape terms start a (after_post asked text) next
       goes_on (page, split, spelled) =
           let begins : (out rest : List ℕ) → out ++ rest ≡ text → (f : Flash) → Holds shape f start → FrontOf shape start lines f (key_lines so_far.front ++ out) =
           λ out rest e f h. (
             h,
             (
-              rest ++ key_lines (keys_left next start),
-              append_assoc (key_lines so_far.front) out (rest ++ key_lines (keys_left next start))
-                  ∙ (ap (λ t. key_lines so_far.front ++ t) (sym (append_assoc out rest (key_lines (keys_left next start))) ∙ ap (λ t. t ++ key_lines (keys_left next start)) (e ∙ spelled))
-                  ∙ sym (pieces page (keys_left next start) split)),
+              rest ++ key_lines (keys_left next (in_space 1 start)),
+              append_assoc (key_lines so_far.front) out (rest ++ key_lines (keys_left next (in_space 1 start)))
+                  ∙ (ap (λ t. key_lines so_far.front ++ t) (sym (append_assoc out rest (key_lines (keys_left next (in_space 1 start)))) ∙ ap (λ t. t ++ key_lines (keys_left next (in_space 1 start))) (e ∙ spelled))
+                  ∙ sym (pieces page (keys_left next (in_space 1 start)) split)),
             ),
           ) in
           record {
@@ -202,7 +203,7 @@ module _ (from : Option Key) (shape : Shape) (frames : ℕ) (start : Map) (a b :
             front = so_far.front ++ page;
             said = posted-append marks (post text ∷ []) ∙ (ap (λ t. t ++ (text ++ [])) so_far.said
                 ∙ (ap (λ t. key_lines so_far.front ++ t) (append-nil text ∙ spelled) ∙ sym (flat_map-append key_line so_far.front page)));
-            split = so_far.split ∙ (ap (λ (ks : List Key). so_far.front ++ ks) split ∙ sym (append_assoc so_far.front page (keys_left next start)));
+            split = so_far.split ∙ (ap (λ (ks : List Key). so_far.front ++ ks) split ∙ sym (append_assoc so_far.front page (keys_left next (in_space 1 start))));
             pages = ap (λ (s : BoardState). s.pages) is.reads ∙ so_far.pages;
             rests = rests_on (after_post asked text) (rests-posted b asked (after_post asked text) text is.reads refl);
             up = (let first = so_far.up in let second = is.up in omega (arith, first, second));
@@ -219,18 +220,18 @@ module _ (from : Option Key) (shape : Shape) (frames : ℕ) (start : Map) (a b :
 
   -- what every cut keeps up to this state of the board
   abbrev kept_to : BoardState → Flash → List ℕ → Type 0
-  kept_to c = KeptTask (list from) (meter a) (meter c) shape frames start
+  kept_to c = KeptTask (list from) (meter a) (meter c) shape terms start
 
   -- every cut so far begins the lines of all keys
-  all_lines : (x y : ℕ) (f : Flash) (q : List ℕ) → FrontOf shape start lines f q → KeptList from x y shape frames start f q
+  all_lines : (x y : ℕ) (f : Flash) (q : List ℕ) → FrontOf shape start lines f q → KeptList from x y shape terms start f q
   all_lines x y f q (h, (rest, e)) = record { held = h; text = lines; says = (refl, inl refl); unposted = rest; front = e }
 
   -- the whole text with this piece, whatever the piece is
   abbrev Ending : List ℕ → ℕ → ℕ → Type 0
-  Ending text x y = SaysKeys from (Rose x y) shape (limit shape) frames start (key_lines so_far.front ++ text) start
+  Ending text x y = SaysKeys from (Rose x y) shape (limit_of terms.limits 1) terms.frames (in_space 1 start) (key_lines so_far.front ++ text) (in_space 1 start)
 
-  last_piece : (asked : BoardState) (text : List ℕ) → PieceAsked shape frames b asked place None text → (y : ℕ) → asked.read_faults ≤ y → Ending text a.read_faults y
-  last_piece asked text is y later = elim (is.piece start told) [
+  last_piece : (asked : BoardState) (text : List ℕ) → PieceAsked shape terms b asked place None text → (y : ℕ) → asked.read_faults ≤ y → Ending text a.read_faults y
+  last_piece asked text is y later = elim (is.piece (in_space 1 start) told) [
     | inl none ↦ (
       refl,
       inl (ap (λ t. key_lines so_far.front ++ t) none.0
@@ -238,12 +239,12 @@ module _ (from : Option Key) (shape : Shape) (frames : ℕ) (start : Map) (a b :
     )
     | inr failed ↦ (
       refl,
-      inr (so_far.front, keys_left place start, so_far.split, (let rose = failed.0 in let first = so_far.up in omega (arith, rose, first, later)), ap (λ t. key_lines so_far.front ++ t) failed.1),
+      inr (so_far.front, keys_left place (in_space 1 start), so_far.split, (let rose = failed.0 in let first = so_far.up in omega (arith, rose, first, later)), ap (λ t. key_lines so_far.front ++ t) failed.1),
     )
   ]
 
   begins_ending : (text : List ℕ) (x y : ℕ) → Ending text x y → (out rest : List ℕ) → out ++ rest ≡ text → (f : Flash) → Holds shape f start
-      → KeptList from x y shape frames start f (key_lines so_far.front ++ out)
+      → KeptList from x y shape terms start f (key_lines so_far.front ++ out)
   begins_ending text x y says out rest e f h = record {
     held = h;
     text = key_lines so_far.front ++ text;
@@ -252,8 +253,8 @@ module _ (from : Option Key) (shape : Shape) (frames : ℕ) (start : Map) (a b :
     front = append_assoc (key_lines so_far.front) out rest ∙ ap (λ t. key_lines so_far.front ++ t) e;
   }
 
-  module _ (asked : BoardState) (text : List ℕ) (is : PieceAsked shape frames b asked place None text) where
-    ended : Told (list from) shape frames start a (after_post asked text) Done
+  module _ (asked : BoardState) (text : List ℕ) (is : PieceAsked shape terms b asked place None text) where
+    ended : Told (list from) shape terms start a (after_post asked text) Done
     ended =
         let says = last_piece asked text is asked.read_faults (omega arith) in
         let run = posts_more asked is.reads text (kept_to asked) (all_lines a.read_faults asked.read_faults) (begins_ending text a.read_faults asked.read_faults says) in
@@ -271,19 +272,19 @@ module _ (from : Option Key) (shape : Shape) (frames : ℕ) (start : Map) (a b :
                 (posted-append marks (post text ∷ []) ∙ (ap (λ t. t ++ (text ++ [])) so_far.said ∙ ap (λ t. key_lines so_far.front ++ t) (append-nil text)));
             holds = held_asked asked is.reads text (kept_to asked) (all_lines a.read_faults asked.read_faults) (begins_ending text a.read_faults asked.read_faults says);
             sound = record { output = ap (λ (s : BoardState). s.out_faults) is.reads ∙ so_far.output; stop = ap (λ (s : BoardState). s.stop_faults) is.reads ∙ so_far.stop };
-            unworn = λ _. unworn_before from shape frames start a asked (so_far.done ++ asked_at place ∷ []) are_next (answered_next asked None text is);
+            unworn = λ _. unworn_before from shape terms start a asked (so_far.done ++ asked_at place ∷ []) are_next (answered_next asked None text is);
           };
           used = λ e. absurd (done_unworn e);
           input = record { input = ap (λ (s : BoardState). s.input) is.reads ∙ so_far.input; in_faults = ap (λ (s : BoardState). s.in_faults) is.reads ∙ so_far.in_faults };
         }
 
-  pub saying_done : (c : BoardState) → PieceTold shape frames b c place None → Told (list from) shape frames start a c Done
-  saying_done c t = let T : BoardState → Type 0 = λ x. Told (list from) shape frames start a x Done in subst T (sym t.posted) (ended t.asked t.text t.is)
+  pub saying_done : (c : BoardState) → PieceTold shape terms b c place None → Told (list from) shape terms start a c Done
+  saying_done c t = let T : BoardState → Type 0 = λ x. Told (list from) shape terms start a x Done in subst T (sym t.posted) (ended t.asked t.text t.is)
 
   -- the output failed in this piece
   unposted : (asked : BoardState) (text : List ℕ) → OnlyReading b asked → (c : BoardState) → PostFailed asked c text
-      → ((out rest : List ℕ) → out ++ rest ≡ text → (f : Flash) → Holds shape f start → KeptList from a.read_faults c.read_faults shape frames start f (key_lines so_far.front ++ out))
-      → Told (list from) shape frames start a c Output
+      → ((out rest : List ℕ) → out ++ rest ≡ text → (f : Flash) → Holds shape f start → KeptList from a.read_faults c.read_faults shape terms start f (key_lines so_far.front ++ out))
+      → Told (list from) shape terms start a c Output
   unposted asked text only c failed begins =
       let R : ℕ → Type 0 = λ n. Rose n c.out_faults in
       record {
@@ -298,22 +299,22 @@ module _ (from : Option Key) (shape : Shape) (frames : ℕ) (start : Map) (a b :
       }
 
   -- a prefix of the lines of the next keys
-  begins_lines : (next : ListPosition) (asked : BoardState) (text : List ℕ) → PieceAsked shape frames b asked place (Some next) text → (x y : ℕ)
-      → (out rest : List ℕ) → out ++ rest ≡ text → (f : Flash) → Holds shape f start → KeptList from x y shape frames start f (key_lines so_far.front ++ out)
+  begins_lines : (next : ListPosition) (asked : BoardState) (text : List ℕ) → PieceAsked shape terms b asked place (Some next) text → (x y : ℕ)
+      → (out rest : List ℕ) → out ++ rest ≡ text → (f : Flash) → Holds shape f start → KeptList from x y shape terms start f (key_lines so_far.front ++ out)
   begins_lines next asked text is x y out rest e f h =
-      let p = is.piece.lines start told in
+      let p = is.piece.lines (in_space 1 start) told in
       all_lines x y f (key_lines so_far.front ++ out) (
         h,
         (
-          rest ++ key_lines (keys_left next start),
-          append_assoc (key_lines so_far.front) out (rest ++ key_lines (keys_left next start))
-              ∙ (ap (λ t. key_lines so_far.front ++ t) (sym (append_assoc out rest (key_lines (keys_left next start))) ∙ ap (λ t. t ++ key_lines (keys_left next start)) (e ∙ p.2))
-              ∙ sym (pieces p.0 (keys_left next start) p.1)),
+          rest ++ key_lines (keys_left next (in_space 1 start)),
+          append_assoc (key_lines so_far.front) out (rest ++ key_lines (keys_left next (in_space 1 start)))
+              ∙ (ap (λ t. key_lines so_far.front ++ t) (sym (append_assoc out rest (key_lines (keys_left next (in_space 1 start)))) ∙ ap (λ t. t ++ key_lines (keys_left next (in_space 1 start))) (e ∙ p.2))
+              ∙ sym (pieces p.0 (keys_left next (in_space 1 start)) p.1)),
         ),
       )
 
-  ends_output : (c : BoardState) (asked : BoardState) (text : List ℕ) (next : Option ListPosition) → PieceAsked shape frames b asked place next text
-      → PostFailed asked c text → Told (list from) shape frames start a c Output
+  ends_output : (c : BoardState) (asked : BoardState) (text : List ℕ) (next : Option ListPosition) → PieceAsked shape terms b asked place next text
+      → PostFailed asked c text → Told (list from) shape terms start a c Output
   ends_output c asked text (Some next) is failed = unposted asked text is.reads c failed (begins_lines next asked text is a.read_faults c.read_faults)
   ends_output c asked text None is failed =
       let same : c.read_faults ≡ asked.read_faults = ap (λ (s : BoardState). s.read_faults) failed.rest in
@@ -336,12 +337,12 @@ module _ (from : Option Key) (shape : Shape) (frames : ℕ) (start : Map) (a b :
   none_done worn = elim so_far.begun [
     | inl first ↦ first.1
     | inr are ↦ absurd (
-        let unworn = unworn_before from shape frames start a b so_far.done are so_far.answered in
+        let unworn = unworn_before from shape terms start a b so_far.done are so_far.answered in
         let clash : true ≡ false = sym worn ∙ (ap (λ n. nat_le 9223372036854775808 n) same_roots ∙ unworn) in cc
         )
   ]
 
-  pub saying_ends : (c : BoardState) (end : WordEnd) → PieceEnds shape frames b c place end → Told (list from) shape frames start a c end
+  pub saying_ends : (c : BoardState) (end : WordEnd) → PieceEnds shape terms b c place end → Told (list from) shape terms start a c end
   saying_ends c Done never = absurd never
   saying_ends c Output u = ends_output c u.asked u.text u.next u.is u.failed
   saying_ends c FlashFailed s =
@@ -354,7 +355,7 @@ module _ (from : Option Key) (shape : Shape) (frames : ℕ) (start : Map) (a b :
         input = record { input = ap (λ (s : BoardState). s.input) s.0 ∙ so_far.input; in_faults = ap (λ (s : BoardState). s.in_faults) s.0 ∙ so_far.in_faults };
       }
   saying_ends c Worn w =
-      let T : BoardState → Type 0 = λ x. Told (list from) shape frames start a x Worn in
+      let T : BoardState → Type 0 = λ x. Told (list from) shape terms start a x Worn in
       subst T (sym w.0) (record {
         kept = stands_still b refl;
         rests = λ _. so_far.rests;

@@ -20,16 +20,16 @@ piece_looks (After key) = refl
 
 module _ (shape : Shape) (old new : Mounted) (place : ListPosition) (x : Exchange) (s : Serves shape old new (asked_at place) x) where
   -- the map is unchanged
-  step_same : (m : Map) → Holds shape old.board.pages m → StepWithin shape old.frames m x m
+  step_same : (m : Map) → Holds shape old.board.pages m → StepWithin shape old.terms m x m
   step_same m holds =
       let held : Holds shape old.board.pages s.map = s.held in
       let before : s.map ≡ m = cc in
       let left : Holds shape old.board.pages s.left = ap (λ f. reading shape f []) (sym (ap (λ (b : BoardState). b.pages) (s.looks (piece_looks place)))) ∙ s.holds in
       let after : s.left ≡ m = cc in
-      subst (λ (l : Map). StepWithin shape old.frames m x l) after (subst (λ (k : Map). StepWithin shape old.frames k x s.left) before s.step)
+      subst (λ (l : Map). StepWithin shape old.terms m x l) after (subst (λ (k : Map). StepWithin shape old.terms k x s.left) before s.step)
 
   pub piece_asked : (next : Option ListPosition) (text : List ℕ) → Piece (seen shape old 0) (seen shape new 0) place next text
-      → PieceAsked shape old.frames old.board new.board place next text
+      → PieceAsked shape old.terms old.board new.board place next text
   piece_asked next text piece =
       let T : Mounted → Type 0 = λ m. Piece (seen shape old 0) (seen shape m 0) place next text in
       record { piece = subst T s.new_is piece; x = x; is = s.is; step = step_same; metered = s.metered; reads = s.looks (piece_looks place); up = s.up }

@@ -1,7 +1,6 @@
 -- A question that was answered, and what its answer makes of a board.
 use Rattle.std.proofs.Common.{◌≡◌, inl, inr, ℕ, List, [], ◌∷◌, Option, Some, refl, sym, ◌∙◌, ap, subst, true, false, arith}
-use Rattle.std.specs.Result.{result_ok}
-use Rattle.pk_base.specs.Shape.{Shape, limit}
+use Rattle.pk_base.specs.Shape.{Shape}
 use Rattle.pk_base.specs.Map.{Map}
 use Rattle.pk_nvme.specs.Command.{Command}
 use Rattle.pk_nand.specs.BoardState.{BoardState}
@@ -31,6 +30,8 @@ use Rattle.pk_wordrun.specs.declared.end.WordEnd.{WordEnd}
 use Rattle.pk_wordrun.specs.declared.end.WordEnd.TheVariants.{Done, Output, Flash as FlashFailed, Worn}
 use Rattle.pk_nand.proofs.Resting.{Rests-same}
 use Rattle.pk_wordrun.proofs.Resting.{asked_looks, rests-reading, rests-posted, rests-unposted}
+use Rattle.pk_model.specs.Spaces.{Terms, limits_at, limit_of, in_space}
+use Rattle.pk_port.proofs.Stepping.{part_of}
 
 pub some_same : (x y : Map) → ◌≡◌ {A = Option Map} (Some x) (Some y) → x ≡ y
 some_same x y e = cc
@@ -51,11 +52,11 @@ pub keeps-flash : (a b : BoardState) → OnlyFlash a b → KeepsInput a b
 keeps-flash a b only = record { input = ap (λ (s : BoardState). s.input) only; in_faults = ap (λ (s : BoardState). s.in_faults) only }
 
 -- no command was made
-pub kept-none : (Says : List Exchange → List ℕ → Map → Type 0) (shape : Shape) (frames : ℕ) (start : Map) (cs : List Command) (from to : Meter) (a : BoardState)
-    → Holds shape a.pages start → Goes shape a a (KeptWord Says shape frames start cs from to)
-kept-none Says shape frames start cs from to a holds = (
+pub kept-none : (Says : List Exchange → List ℕ → Map → Type 0) (shape : Shape) (terms : Terms) (start : Map) (cs : List Command) (from to : Meter) (a : BoardState)
+    → Holds shape a.pages start → limits_at shape a.pages ≡ terms.limits → Goes shape a a (KeptWord Says shape terms start cs from to)
+kept-none Says shape terms start cs from to a holds within = (
   [],
-  Went-reached [] a a (KeptWord Says shape frames start cs from to) (Reached-start a a (KeptWord Says shape frames start cs from to) refl refl refl refl (
+  Went-reached [] a a (KeptWord Says shape terms start cs from to) (Reached-start a a (KeptWord Says shape terms start cs from to) refl refl refl refl (
     record {
       served = [];
       unserved = cs;
@@ -63,6 +64,7 @@ kept-none Says shape frames start cs from to a holds = (
       map_left = start;
       ran = refl;
       held = holds;
+      same_limits = within;
       unposted = [];
       begins = refl;
       few_faults = at_most-zero (rise from.read_faults to.read_faults);
@@ -81,9 +83,10 @@ said_back q shape one a b last f g text same back said m told =
     let s = (subst F same said) m told in
     subst T (sym back) (record { frames = s.frames; frames_is = s.frames_is; left = s.left; says = s.says; told = s.told })
 
-module _ (q : Question) (shape : Shape) (start : Map) (old new : Mounted) (has : old.board.shape ≡ Some shape) (holds : Holds shape old.board.pages start) where
+module _ (q : Question) (shape : Shape) (start : Map) (old new : Mounted) (has : old.board.shape ≡ Some shape) (holds : Holds shape old.board.pages start)
+    (within : limits_at shape old.board.pages ≡ old.terms.limits) where
   abbrev Says : ℕ → ℕ → List Exchange → List ℕ → Map → Type 0
-  Says before behind = SaysTask (answer q) before behind shape old.frames start
+  Says before behind = SaysTask (answer q) before behind shape old.terms start
 
   abbrev says_now : List Exchange → List ℕ → Map → Type 0
   says_now = Says old.board.read_faults new.board.read_faults
@@ -91,27 +94,28 @@ module _ (q : Question) (shape : Shape) (start : Map) (old new : Mounted) (has :
   abbrev cs : List Command
   cs = command_of shape q ∷ []
 
-  asked : (x : Exchange) → Serves shape old new (command_of shape q) x → Asked shape old.frames start old.board new.board cs
-  asked x s = asked-next shape start old.board [] old new (command_of shape q) (asked-none shape old.frames start old.board has holds) x s
+  asked : (x : Exchange) → Serves shape old new (command_of shape q) x → Asked shape old.terms start old.board new.board cs
+  asked x s = asked-next shape start old.board [] old new (command_of shape q) (asked-none shape old.terms start old.board has holds within) x s
 
-  says-left : (w : Asked shape old.frames start old.board new.board cs) (text : List ℕ)
+  says-left : (w : Asked shape old.terms start old.board new.board cs) (text : List ℕ)
       → Said (QuestionAnswers q) (seen shape old 0) (seen shape new 0) text → says_now w.answered.all text w.left
   says-left w text said =
-      let s = said start (ap result_ok holds) in
-      let same : s.left ≡ w.left = some_same s.left w.left (sym s.told ∙ ap result_ok w.held) in
-      let F : ℕ → Type 0 = λ n. QuestionAnswers q (Rose old.board.read_faults new.board.read_faults) shape (limit shape) n start text s.left in
-      let T : Map → Type 0 = λ m. QuestionAnswers q (Rose old.board.read_faults new.board.read_faults) shape (limit shape) old.frames start text m in
+      let s = said (in_space 1 start) (ap part_of holds) in
+      let same : s.left ≡ in_space 1 w.left = some_same s.left (in_space 1 w.left) (sym s.told ∙ ap part_of w.held) in
+      let F : ℕ → Type 0 = λ n. QuestionAnswers q (Rose old.board.read_faults new.board.read_faults) shape (limit_of old.terms.limits 1) n (in_space 1 start) text s.left in
+      let T : Map → Type 0 =
+      λ m. QuestionAnswers q (Rose old.board.read_faults new.board.read_faults) shape (limit_of old.terms.limits 1) old.terms.frames (in_space 1 start) text m in
       subst T same (subst F s.frames_is s.says)
 
   module _ (x : Exchange) (s : Serves shape old new (command_of shape q) x) (text : List ℕ) (said : Said (QuestionAnswers q) (seen shape old 0) (seen shape new 0) text) where
     -- the text went out
-    told-posted : Told (answer q) shape old.frames start old.board (after_post new.board text) Done
+    told-posted : Told (answer q) shape old.terms start old.board (after_post new.board text) Done
     told-posted =
         let w = asked x s in
         let says = says-left w text said in
         record {
-          kept = Goes-reaches shape old.board (after_post new.board text) (KeptTask (answer q) (meter old.board) (meter new.board) shape old.frames start)
-              (asked-posts says_now shape old.frames start cs old.board new.board w text says);
+          kept = Goes-reaches shape old.board (after_post new.board text) (KeptTask (answer q) (meter old.board) (meter new.board) shape old.terms start)
+              (asked-posts says_now shape old.terms start cs old.board new.board w text says);
           rests = λ only. rests-posted old.board new.board (after_post new.board text) text (s.looks (asked_looks shape q only)) refl;
           ends = record {
             left = w.left;
@@ -129,19 +133,19 @@ module _ (q : Question) (shape : Shape) (start : Map) (old new : Mounted) (has :
           input = record { input = ap (λ (b : BoardState). b.input) s.rest; in_faults = ap (λ (b : BoardState). b.in_faults) s.rest };
         }
 
-    pub told-done : (last : BoardState) → last ≡ after_post new.board text → Told (answer q) shape old.frames start old.board last Done
-    told-done last is = let T : BoardState → Type 0 = λ b. Told (answer q) shape old.frames start old.board b Done in subst T (sym is) told-posted
+    pub told-done : (last : BoardState) → last ≡ after_post new.board text → Told (answer q) shape old.terms start old.board last Done
+    told-done last is = let T : BoardState → Type 0 = λ b. Told (answer q) shape old.terms start old.board b Done in subst T (sym is) told-posted
 
     -- the output failed
-    pub told-output : (last : BoardState) → PostFailed new.board last text → Told (answer q) shape old.frames start old.board last Output
+    pub told-output : (last : BoardState) → PostFailed new.board last text → Told (answer q) shape old.terms start old.board last Output
     told-output last failed =
         let w = asked x s in
         let says = says-left w text said in
         let same : meter last ≡ meter new.board = ap meter failed.rest in
-        let G : Meter → Type 0 = λ t. Goes shape old.board last (KeptTask (answer q) (meter old.board) t shape old.frames start) in
+        let G : Meter → Type 0 = λ t. Goes shape old.board last (KeptTask (answer q) (meter old.board) t shape old.terms start) in
         let R : ℕ → Type 0 = λ n. Rose n last.out_faults in
         record {
-          kept = subst G (sym same) (asked-post_failed says_now shape old.frames start cs old.board new.board w text says last failed);
+          kept = subst G (sym same) (asked-post_failed says_now shape old.terms start cs old.board new.board w text says last failed);
           rests = λ only. rests-unposted old.board new.board last text (s.looks (asked_looks shape q only)) failed;
           ends = subst R (ap (λ (b : BoardState). b.out_faults) s.rest) failed.faults;
           used = λ e. absurd (output_unworn e);
@@ -152,10 +156,10 @@ module _ (q : Question) (shape : Shape) (start : Map) (old new : Mounted) (has :
         }
 
   -- the command stopped the drive
-  told-stopped : Stops shape old new (command_of shape q) → Told (answer q) shape old.frames start old.board new.board (end_of Stopped)
+  told-stopped : Stops shape old new (command_of shape q) → Told (answer q) shape old.terms start old.board new.board (end_of Stopped)
   told-stopped s = record {
-    kept = went-silent says_now shape old.frames start cs (meter old.board) (meter new.board) old.board new.board
-        (asked-stops shape start old.board [] old new (command_of shape q) (asked-none shape old.frames start old.board has holds) s);
+    kept = went-silent says_now shape old.terms start cs (meter old.board) (meter new.board) old.board new.board
+        (asked-stops shape start old.board [] old new (command_of shape q) (asked-none shape old.terms start old.board has holds within) s);
     rests = λ only. rests-reading old.board new.board (s.looks (asked_looks shape q only));
     ends = s.stop;
     used = λ e. absurd (flash_unworn e);
@@ -163,18 +167,18 @@ module _ (q : Question) (shape : Shape) (start : Map) (old new : Mounted) (has :
   }
 
   -- nothing was done
-  told-nothing : (halt : Halt) → old.stopped ≡ false → HasCause old halt → Told (answer q) shape old.frames start old.board old.board (end_of halt)
+  told-nothing : (halt : Halt) → old.stopped ≡ false → HasCause old halt → Told (answer q) shape old.terms start old.board old.board (end_of halt)
   told-nothing Stopped going cause = absurd (let e : true ≡ false = sym cause ∙ going in cc)
   told-nothing UsedUp going cause = record {
-    kept = kept-none (Says old.board.read_faults old.board.read_faults) shape old.frames start cs (meter old.board) (meter old.board) old.board holds;
+    kept = kept-none (Says old.board.read_faults old.board.read_faults) shape old.terms start cs (meter old.board) (meter old.board) old.board holds within;
     rests = λ only. Rests-same old.board old.board refl;
     ends = (cause, record { output = refl; stop = refl }, refl);
     used = λ e. omega arith;
     input = record { input = refl; in_faults = refl };
   }
 
-  pub told-fails : (halt : Halt) → old.stopped ≡ false → Fails shape old new (command_of shape q) halt → Told (answer q) shape old.frames start old.board new.board (end_of halt)
-  told-fails halt going (inl s) = let T : Halt → Type 0 = λ h. Told (answer q) shape old.frames start old.board new.board (end_of h) in subst T (sym s.0) (told-stopped s.1)
+  pub told-fails : (halt : Halt) → old.stopped ≡ false → Fails shape old new (command_of shape q) halt → Told (answer q) shape old.terms start old.board new.board (end_of halt)
+  told-fails halt going (inl s) = let T : Halt → Type 0 = λ h. Told (answer q) shape old.terms start old.board new.board (end_of h) in subst T (sym s.0) (told-stopped s.1)
   told-fails halt going (inr cause) =
-      let T : Mounted → Type 0 = λ m. Told (answer q) shape old.frames start old.board m.board (end_of halt) in
+      let T : Mounted → Type 0 = λ m. Told (answer q) shape old.terms start old.board m.board (end_of halt) in
       subst T (sym cause.1) (told-nothing halt going cause.0)

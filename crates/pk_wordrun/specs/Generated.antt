@@ -18,22 +18,23 @@ use Rattle.pk_wordrun.specs.Tasks.{generate}
 use Rattle.pk_wordrun.specs.Told.{EndsBy, KeepsInput, turn_roots}
 use Rattle.pk_wordrun.specs.declared.end.WordEnd.TheVariants.{Worn}
 use Rattle.pk_wordrun.specs.declared.summary.Summary.{Summary}
+use Rattle.pk_model.specs.Spaces.{Terms}
 
 -- The first `n` commands of the workload were answered, and are counted; entries of the last ones may be pending.
-pub record Generating (begin count : ℕ) (shape : Shape) (frames : ℕ) (start : Map) (a b : BoardState) (drive : Sight) (s : Summary) : Type 0 where
+pub record Generating (begin count : ℕ) (shape : Shape) (terms : Terms) (start : Map) (a b : BoardState) (drive : Sight) (s : Summary) : Type 0 where
   pub all : List Exchange
   pub are : commands all ≡ workload begin count
-  pub grouped : Grouped shape frames start a b drive all
+  pub grouped : Grouped shape terms start a b drive all
   pub sums : Sums s all
 
 -- This many commands of the workload were answered, and are counted.
-pub record Generated (begin count : ℕ) (shape : Shape) (frames : ℕ) (start : Map) (a b : BoardState) (s : Summary) : Type 0 where
-  pub asked : Asked shape frames start a b (workload begin count)
+pub record Generated (begin count : ℕ) (shape : Shape) (terms : Terms) (start : Map) (a b : BoardState) (s : Summary) : Type 0 where
+  pub asked : Asked shape terms start a b (workload begin count)
   pub sums : Sums s asked.answered.all
 
 -- One of n was not answered. Wherever it was cut, the flash holds the map after a prefix of the commands.
-pub record Unfinished (begin count : ℕ) (shape : Shape) (frames : ℕ) (start : Map) (a b : BoardState) (halt : Halt) : Type 0 where
-  pub kept : Goes shape a b (KeptSilently shape frames start (workload begin count) (rise a.read_faults b.read_faults))
-  pub ends : EndsBy (generate begin count) shape frames start a b (end_of halt)
+pub record Unfinished (begin count : ℕ) (shape : Shape) (terms : Terms) (start : Map) (a b : BoardState) (halt : Halt) : Type 0 where
+  pub kept : Goes shape a b (KeptSilently shape terms start (workload begin count) (rise a.read_faults b.read_faults))
+  pub ends : EndsBy (generate begin count) shape terms start a b (end_of halt)
   pub used : end_of halt ≡ Worn → roots b ≤ roots a + turn_roots * count
   pub input : KeepsInput a b

@@ -14,6 +14,7 @@ use Rattle.pk_call.specs.Sight.{Sight}
 use Rattle.pk_call.specs.Drive.{HoldsMap}
 use Rattle.pk_call.specs.Meter.{meter, MeteredAll}
 use Rattle.pk_port.specs.Asking.{KeptSilently}
+use Rattle.pk_model.specs.Spaces.{Terms}
 
 -- a command, its reply and the pages that were read for it
 abbrev pub exchange : Command → Reply → ℕ → Exchange
@@ -21,37 +22,37 @@ exchange c reply reads = record { command = c; reply = reply; reads = reads }
 
 -- These were served from one state of a board to a later one, and the drive represents the map after them: what the flash holds, with the
 -- pending entries. At every cut of the board the flash held the map after a prefix of the commands, and no byte was posted.
-pub record Grouped (shape : Shape) (frames : ℕ) (start : Map) (a b : BoardState) (drive : Sight) (all : List Exchange) : Type 0 where
+pub record Grouped (shape : Shape) (terms : Terms) (start : Map) (a b : BoardState) (drive : Sight) (all : List Exchange) : Type 0 where
   pub left : Map
-  pub ran : RunWithin shape frames start all left
+  pub ran : RunWithin shape terms start all left
   pub few : AtMost (rise a.read_faults b.read_faults) (faults all)
   pub metered : MeteredAll (meter a) all (meter b)
-  pub stands : HoldsMap shape frames b drive left
+  pub stands : HoldsMap shape terms b drive left
   pub shape_is : a.shape ≡ Some shape
-  pub reached : Reaches shape a b (KeptSilently shape frames start (commands all) (rise a.read_faults b.read_faults))
+  pub reached : Reaches shape a b (KeptSilently shape terms start (commands all) (rise a.read_faults b.read_faults))
   pub rose : a.read_faults ≤ b.read_faults
   pub no_stop : b.stop_faults ≡ a.stop_faults
   pub rest : OnlyFlash a b
 
 -- The drive was stopped. Wherever the board was cut off, the flash held the map after a prefix of these commands.
-pub record StoppedIn (shape : Shape) (frames : ℕ) (start : Map) (a b : BoardState) (cs : List Command) : Type 0 where
-  pub kept : Goes shape a b (KeptSilently shape frames start cs (rise a.read_faults b.read_faults))
+pub record StoppedIn (shape : Shape) (terms : Terms) (start : Map) (a b : BoardState) (cs : List Command) : Type 0 where
+  pub kept : Goes shape a b (KeptSilently shape terms start cs (rise a.read_faults b.read_faults))
   pub stop : Rose a.stop_faults b.stop_faults
   pub rest : OnlyFlash a b
 
 -- A call keeps what was served.
 abbrev pub KeepsGroup : BoardState → BoardState → Sight → Sight → Type 0
 KeepsGroup old new before after =
-    (shape : Shape) (frames : ℕ) (start : Map) (a : BoardState) (all : List Exchange) → Grouped shape frames start a old before all → Grouped shape frames start a new after all
+    (shape : Shape) (terms : Terms) (start : Map) (a : BoardState) (all : List Exchange) → Grouped shape terms start a old before all → Grouped shape terms start a new after all
 
 -- A call serves one more command.
 abbrev pub AddsToGroup : BoardState → BoardState → Sight → Sight → Exchange → Type 0
 AddsToGroup old new before after x =
-    (shape : Shape) (frames : ℕ) (start : Map) (a : BoardState) (all : List Exchange) → Grouped shape frames start a old before all
-    → Grouped shape frames start a new after (all ++ x ∷ [])
+    (shape : Shape) (terms : Terms) (start : Map) (a : BoardState) (all : List Exchange) → Grouped shape terms start a old before all
+    → Grouped shape terms start a new after (all ++ x ∷ [])
 
 -- A call stops the drive, in or before these commands after those that were served.
 abbrev pub StopsGroup : BoardState → BoardState → Sight → List Command → Type 0
 StopsGroup old new before more =
-    (shape : Shape) (frames : ℕ) (start : Map) (a : BoardState) (all : List Exchange) → Grouped shape frames start a old before all
-    → StoppedIn shape frames start a new (commands all ++ more)
+    (shape : Shape) (terms : Terms) (start : Map) (a : BoardState) (all : List Exchange) → Grouped shape terms start a old before all
+    → StoppedIn shape terms start a new (commands all ++ more)

@@ -1,7 +1,7 @@
 -- The words that ask a drive: what each says of the map that it finds, and which map it leaves.
 use Rattle.std.specs.Prelude.{◌≡◌, ℕ, List, [], ◌∷◌, ◌++◌, Option, Bool, true, false}
 use Rattle.pk_base.specs.Key.{Key}
-use Rattle.pk_base.specs.Shape.{Shape, limit}
+use Rattle.pk_base.specs.Shape.{Shape}
 use Rattle.pk_base.specs.Page.{Flash}
 use Rattle.pk_base.specs.Map.{Map}
 use Rattle.pk_nand.specs.Calls.{Rose}
@@ -13,6 +13,8 @@ use Rattle.pk_port.specs.Asking.{KeptWord}
 use Rattle.pk_words.specs.Question.{Question, put, get, delete, has, stat, command_of, QuestionAnswers}
 use Rattle.pk_words.specs.Says.{SaysKeys}
 use Rattle.pk_wordrun.specs.Summary.{SaysSummary}
+use Rattle.pk_model.specs.Spaces.{Terms, limit_of, in_space}
+use Rattle.pk_nvme.specs.declared.limits.TheConstants.{NAMESPACE}
 
 -- a question, a list of the keys from one on, or a workload from a start, of n commands
 pub data Task : Type 0 where
@@ -34,26 +36,28 @@ only_asks (answer q) = only_asked q
 only_asks (list from) = true
 only_asks (generate begin count) = false
 
--- What a word says, from map to map, on a drive with this many frames, if its commands were answered so and the count of failed reads went from
--- one number to another: that a read failed is said only if it rose.
-abbrev pub SaysTask : Task → ℕ → ℕ → Shape → ℕ → Map → List Exchange → List ℕ → Map → Type 0
-SaysTask (answer q) before behind shape frames m all text m' = QuestionAnswers q (Rose before behind) shape (limit shape) frames m text m'
-SaysTask (list from) before behind shape frames m all text m' = SaysKeys from (Rose before behind) shape (limit shape) frames m text m'
-SaysTask (generate begin count) before behind shape frames m all text m' = SaysSummary shape all text m'
+-- What a word says of the first namespace, from map to map, on a drive with these frames and limits, if its commands were answered so and the count
+-- of failed reads went from one number to another: that a read failed is said only if it rose.
+abbrev pub SaysTask : Task → ℕ → ℕ → Shape → Terms → Map → List Exchange → List ℕ → Map → Type 0
+SaysTask (answer q) before behind shape terms m all text m' =
+    QuestionAnswers q (Rose before behind) shape (limit_of terms.limits NAMESPACE) terms.frames (in_space NAMESPACE m) text (in_space NAMESPACE m')
+SaysTask (list from) before behind shape terms m all text m' =
+    SaysKeys from (Rose before behind) shape (limit_of terms.limits NAMESPACE) terms.frames (in_space NAMESPACE m) text (in_space NAMESPACE m')
+SaysTask (generate begin count) before behind shape terms m all text m' = SaysSummary shape all text m'
 
 -- The map is unchanged, and what was posted begins a text of the list.
-pub record KeptList (from : Option Key) (before behind : ℕ) (shape : Shape) (frames : ℕ) (start : Map) (flash : Flash) (posted : List ℕ) : Type 0 where
+pub record KeptList (from : Option Key) (before behind : ℕ) (shape : Shape) (terms : Terms) (start : Map) (flash : Flash) (posted : List ℕ) : Type 0 where
   pub held : Holds shape flash start
   pub text : List ℕ
-  pub says : SaysKeys from (Rose before behind) shape (limit shape) frames start text start
+  pub says : SaysKeys from (Rose before behind) shape (limit_of terms.limits NAMESPACE) terms.frames (in_space NAMESPACE start) text (in_space NAMESPACE start)
   pub unposted : List ℕ
   pub front : posted ++ unposted ≡ text
 
 -- What every cut of a word keeps: the map after a prefix of the word's commands; and if a byte was posted, the map after all of them, and
 -- what was posted begins a text that is said of their answers and both maps. A list changes no map.
-abbrev pub KeptTask : Task → Meter → Meter → Shape → ℕ → Map → Flash → List ℕ → Type 0
-KeptTask (answer q) from to shape frames start flash posted =
-    KeptWord (SaysTask (answer q) from.read_faults to.read_faults shape frames start) shape frames start (command_of shape q ∷ []) from to flash posted
-KeptTask (list key) from to shape frames start flash posted = KeptList key from.read_faults to.read_faults shape frames start flash posted
-KeptTask (generate begin count) from to shape frames start flash posted =
-    KeptWord (SaysTask (generate begin count) from.read_faults to.read_faults shape frames start) shape frames start (workload begin count) from to flash posted
+abbrev pub KeptTask : Task → Meter → Meter → Shape → Terms → Map → Flash → List ℕ → Type 0
+KeptTask (answer q) from to shape terms start flash posted =
+    KeptWord (SaysTask (answer q) from.read_faults to.read_faults shape terms start) shape terms start (command_of shape q ∷ []) from to flash posted
+KeptTask (list key) from to shape terms start flash posted = KeptList key from.read_faults to.read_faults shape terms start flash posted
+KeptTask (generate begin count) from to shape terms start flash posted =
+    KeptWord (SaysTask (generate begin count) from.read_faults to.read_faults shape terms start) shape terms start (workload begin count) from to flash posted

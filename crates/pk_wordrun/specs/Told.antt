@@ -20,6 +20,7 @@ use Rattle.pk_words.specs.declared.listing.ListPosition.{ListPosition}
 use Rattle.pk_wordrun.specs.Tasks.{Task, answer, list, generate, only_asks, SaysTask, KeptTask}
 use Rattle.pk_wordrun.specs.declared.end.WordEnd.{WordEnd}
 use Rattle.pk_wordrun.specs.declared.end.WordEnd.TheVariants.{Done, Output, Flash, Worn}
+use Rattle.pk_model.specs.Spaces.{Terms}
 
 -- a command begins: each word has one, but a workload of none
 abbrev pub has_command : Task → Bool
@@ -35,30 +36,30 @@ AreOf (generate begin count) shape cs = cs ≡ workload begin count
 
 -- The word is done: its commands were answered, each with an exact number of reads, its text went out, and the flash holds the map that it leaves.
 -- A drive that is worn begins no command.
-pub record WordDone (task : Task) (shape : Shape) (frames : ℕ) (start : Map) (a b : BoardState) : Type 0 where
+pub record WordDone (task : Task) (shape : Shape) (terms : Terms) (start : Map) (a b : BoardState) : Type 0 where
   pub left : Map
   pub asked : List Command
   pub are : AreOf task shape asked
-  pub answered : Ran shape frames start asked (meter a) (meter b) left
+  pub answered : Ran shape terms start asked (meter a) (meter b) left
   pub text : List ℕ
-  pub says : SaysTask task a.read_faults b.read_faults shape frames start answered.all text left
+  pub says : SaysTask task a.read_faults b.read_faults shape terms start answered.all text left
   pub posted : b.posted ≡ longer a.posted text
   pub holds : Holds shape b.pages left
   pub sound : NoFaults a b
   pub unworn : has_command task ≡ true → is_worn a ≡ false
 
 -- A command remains: fewer commands of a workload than all were answered; of another word none was, and nothing was done.
-abbrev pub CommandRemains : Task → Shape → ℕ → Map → BoardState → BoardState → Type 0
-CommandRemains (answer q) shape frames start a b = b ≡ a
-CommandRemains (list from) shape frames start a b = b ≡ a
-CommandRemains (generate begin count) shape frames start a b = (k : ℕ) × (k < count) × Asked shape frames start a b (workload begin k)
+abbrev pub CommandRemains : Task → Shape → Terms → Map → BoardState → BoardState → Type 0
+CommandRemains (answer q) shape terms start a b = b ≡ a
+CommandRemains (list from) shape terms start a b = b ≡ a
+CommandRemains (generate begin count) shape terms start a b = (k : ℕ) × (k < count) × Asked shape terms start a b (workload begin k)
 
 -- how it ended, and why
-abbrev pub EndsBy : Task → Shape → ℕ → Map → BoardState → BoardState → WordEnd → Type 0
-EndsBy task shape frames start a b Done = WordDone task shape frames start a b
-EndsBy task shape frames start a b Output = Rose a.out_faults b.out_faults
-EndsBy task shape frames start a b Flash = Rose a.stop_faults b.stop_faults
-EndsBy task shape frames start a b Worn = (is_worn b ≡ true) × NoFaults a b × CommandRemains task shape frames start a b
+abbrev pub EndsBy : Task → Shape → Terms → Map → BoardState → BoardState → WordEnd → Type 0
+EndsBy task shape terms start a b Done = WordDone task shape terms start a b
+EndsBy task shape terms start a b Output = Rose a.out_faults b.out_faults
+EndsBy task shape terms start a b Flash = Rose a.stop_faults b.stop_faults
+EndsBy task shape terms start a b Worn = (is_worn b ≡ true) × NoFaults a b × CommandRemains task shape terms start a b
 
 -- the input was not touched
 pub record KeepsInput (a b : BoardState) : Type 0 where
@@ -76,9 +77,9 @@ most_roots (list from) = 0
 most_roots (generate begin count) = turn_roots * count
 
 -- Wherever it was cut it was kept, and it ended so. A word that only asks changes no page of the flash.
-pub record Told (task : Task) (shape : Shape) (frames : ℕ) (start : Map) (a b : BoardState) (end : WordEnd) : Type 0 where
-  pub kept : Goes shape a b (KeptTask task (meter a) (meter b) shape frames start)
+pub record Told (task : Task) (shape : Shape) (terms : Terms) (start : Map) (a b : BoardState) (end : WordEnd) : Type 0 where
+  pub kept : Goes shape a b (KeptTask task (meter a) (meter b) shape terms start)
   pub rests : only_asks task ≡ true → RestsFlash a b
-  pub ends : EndsBy task shape frames start a b end
+  pub ends : EndsBy task shape terms start a b end
   pub used : end ≡ Worn → roots b ≤ roots a + most_roots task
   pub input : KeepsInput a b

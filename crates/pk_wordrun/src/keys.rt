@@ -79,15 +79,18 @@ pub fn tell_piece<D: Engine, B: Board>(
     ensures fits { IfOk result (λ next. ∥ Fits (D.agrees drive.new) shape (B.state board.new)
         (D.sight drive.new) ∥₁) }
     ensures runs { IfOk result (λ next. (D.sight drive.new).stopped ≡ false) }
-    ensures frames { IfOk result
-        (λ next. (D.sight drive.new).counts.frames ≡ (D.sight drive.old).counts.frames) }
+    ensures terms { IfOk result
+        (λ next. (mount (B.state board.new) (D.sight drive.new)).terms
+        ≡ (mount (B.state board.old) (D.sight drive.old)).terms) }
     ensures room { length buffer.new ≡ length buffer.old }
 
     // The piece, or why there is none.
-    ensures told { IfOk result (λ next. PieceTold shape (D.sight drive.old).counts.frames
-        (B.state board.old) (B.state board.new) place next) }
-    ensures ends { IfErr result (λ end. PieceEnds shape (D.sight drive.old).counts.frames
-        (B.state board.old) (B.state board.new) place end) }
+    ensures told { IfOk result (λ next. PieceTold shape
+        (mount (B.state board.old) (D.sight drive.old)).terms (B.state board.old)
+        (B.state board.new) place next) }
+    ensures ends { IfErr result (λ end. PieceEnds shape
+        (mount (B.state board.old) (D.sight drive.old)).terms (B.state board.old)
+        (B.state board.new) place end) }
 {
     match ask_keys(words, drive, board, buffer, shape, place) {
         Ok(next) => match say(board, words.text()) {

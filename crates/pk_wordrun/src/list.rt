@@ -7,6 +7,7 @@ ghost use Rattle.pk_call.specs.Running.{HasRoomForData};
 ghost use Rattle.pk_port.specs.Ready.{Fits};
 ghost use Rattle.pk_wordrun.specs.Tasks.{list};
 ghost use Rattle.pk_wordrun.specs.Told.{Told};
+ghost use Rattle.pk_port.specs.Steps.{mount};
 
 use crate::end::WordEnd;
 use crate::keys::tell_piece;
@@ -31,8 +32,8 @@ pub fn tell_keys<D: Engine, B: Board>(
     requires room { HasRoomForData shape buffer.old }
 
     ensures { (start : Map) → Holds shape (B.state board.old).pages start
-        → Told (list from) shape (D.sight drive.old).counts.frames start (B.state board.old)
-        (B.state board.new) result }
+        → Told (list from) shape (mount (B.state board.old) (D.sight drive.old)).terms start
+        (B.state board.old) (B.state board.new) result }
 {
     let mut place = ListPosition::from(from);
     loop {

@@ -6,6 +6,7 @@ ghost use Rattle.pk_model.specs.Reading.{Holds};
 ghost use Rattle.pk_call.specs.Drive.{HoldsMap};
 ghost use Rattle.pk_wordrun.specs.Seen.{seen, IsShortTask};
 ghost use Rattle.pk_wordrun.specs.Told.{Told};
+ghost use Rattle.pk_port.specs.Steps.{mount};
 
 use crate::end::WordEnd;
 use crate::list::tell_keys;
@@ -88,7 +89,8 @@ impl Speaker {
         requires runs { (D.sight drive.old).stopped ≡ false }
         requires none { (D.sight drive.old).pending ≡ [] }
         requires ready { IsReady (B.state board.old) self }
-        requires stands { (m : Map) × HoldsMap self (D.sight drive.old).counts.frames
+        requires stands { (m : Map) × HoldsMap self
+            (mount (B.state board.old) (D.sight drive.old)).terms
             (B.state board.old) (D.sight drive.old) m }
 
         // The word.
@@ -96,8 +98,8 @@ impl Speaker {
 
         // What it did, from the map that the flash holds.
         ensures { (start : Map) → Holds self (B.state board.old).pages start
-            → Told (seen task) self (D.sight drive.old).counts.frames start (B.state board.old)
-            (B.state board.new) result }
+            → Told (seen task) self (mount (B.state board.old) (D.sight drive.old)).terms start
+            (B.state board.old) (B.state board.new) result }
     {
         self.shape.known();
         held_map();

@@ -8,6 +8,7 @@ ghost use Rattle.pk_call.specs.Running.{HasRoomForData};
 ghost use Rattle.pk_port.specs.Ready.{Fits};
 ghost use Rattle.pk_wordrun.specs.Tasks.{answer};
 ghost use Rattle.pk_wordrun.specs.Told.{Told};
+ghost use Rattle.pk_port.specs.Steps.{mount};
 
 use crate::ask::ask;
 use crate::end::{WordEnd, end_of};
@@ -35,7 +36,8 @@ pub fn tell<D: Engine, B: Board>(
     requires room { HasRoomForData shape buffer.old }
 
     ensures { (start : Map) → Holds shape (B.state board.old).pages start
-        → Told (answer (seen question.now)) shape (D.sight drive.old).counts.frames start
+        → Told (answer (seen question.now)) shape
+        (mount (B.state board.old) (D.sight drive.old)).terms start
         (B.state board.old) (B.state board.new) result }
 {
     match ask(words, drive, board, buffer, shape, question) {

@@ -16,6 +16,7 @@ ghost use Rattle.pk_wordrun.specs.Tasks.{generate};
 ghost use Rattle.pk_wordrun.specs.Told.{Told};
 ghost use Rattle.pk_wordrun.specs.Turns.{Turn};
 ghost use Rattle.pk_wordrun.specs.declared.sizes.TheConstants.{SUMMARY_BYTES};
+ghost use Rattle.pk_port.specs.Steps.{mount};
 
 use crate::end::{WordEnd, end_of};
 use crate::group::{commit_group, serve_grouped};
@@ -88,11 +89,11 @@ fn serve_turns<D: Engine, B: Nand>(
     ensures running { OnOk result
         (DriveRuns (D.agrees drive.new) (D.sight drive.new) (B.state board.new)) }
     ensures served { IfOk result (λ s. (m : Map) → Holds shape.now (B.state board.old).pages m
-        → Generating start count shape.now (D.sight drive.old).counts.frames m (B.state board.old)
-        (B.state board.new) (D.sight drive.new) s) }
+        → Generating start count shape.now (mount (B.state board.old) (D.sight drive.old)).terms m
+        (B.state board.old) (B.state board.new) (D.sight drive.new) s) }
     ensures fails { IfErr result (λ h. (m : Map) → Holds shape.now (B.state board.old).pages m
-        → Unfinished start count shape.now (D.sight drive.old).counts.frames m (B.state board.old)
-        (B.state board.new) h) }
+        → Unfinished start count shape.now (mount (B.state board.old) (D.sight drive.old)).terms m
+        (B.state board.old) (B.state board.new) h) }
 {
     let mut workload = Workload::new(start);
     let mut summary = Summary::new();
@@ -142,11 +143,11 @@ fn serve_workload<D: Engine, B: Nand>(
         (DriveRuns (D.agrees drive.new) (D.sight drive.new) (B.state board.new)) }
     ensures none { OnOk result ((D.sight drive.new).pending ≡ []) }
     ensures served { IfOk result (λ s. (m : Map) → Holds shape.now (B.state board.old).pages m
-        → Generated start count shape.now (D.sight drive.old).counts.frames m (B.state board.old)
-        (B.state board.new) s) }
+        → Generated start count shape.now (mount (B.state board.old) (D.sight drive.old)).terms m
+        (B.state board.old) (B.state board.new) s) }
     ensures fails { IfErr result (λ h. (m : Map) → Holds shape.now (B.state board.old).pages m
-        → Unfinished start count shape.now (D.sight drive.old).counts.frames m (B.state board.old)
-        (B.state board.new) h) }
+        → Unfinished start count shape.now (mount (B.state board.old) (D.sight drive.old)).terms m
+        (B.state board.old) (B.state board.new) h) }
 {
     match serve_turns(drive, board, shape, value, buffer, start, count) {
         Ok(summary) => match commit_group(drive, board) {
@@ -175,13 +176,16 @@ pub fn tell_workload<D: Engine, B: Board>(
     requires room { HasRoomForData shape buffer.old }
 
     ensures { (m : Map) → Holds shape (B.state board.old).pages m
-        → Told (generate series.start series.count) shape (D.sight drive.old).counts.frames m
+        → Told (generate series.start series.count) shape
+        (mount (B.state board.old) (D.sight drive.old)).terms m
         (B.state board.old) (B.state board.new) result }
 {
     let Series { start, count } = series;
     match serve_workload(drive, board, &shape, value, buffer, start, count) {
         Ok(summary) => {
-            let counts = drive.counts();
+            // so that the first namespace is known to be there
+            let _ = drive.spaces();
+            let counts = drive.counts(1);
             summary.say(counts.keys, counts.live, text);
             match say(board, text.bytes()) {
                 Ok(()) => WordEnd::Done,

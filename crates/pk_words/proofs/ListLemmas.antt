@@ -231,7 +231,7 @@ exist_failed old new key error status text is is_key (inl (a, x, e)) spelled m t
             | false ↦ λ y h.
                 let s = x.answers m told in
                 let read : a.status ≡ UNRECOVERED_ERROR = keyed_fault old.shape old.limit s.frames m
-                (exist_of key) Exist a s.left refl (exist_by old.shape old.limit m key is_key) (λ own. refl) z y s.stepped in
+                (exist_of key) Exist refl s.within.alone a s.left refl (exist_by old.shape old.limit m key is_key s.within.alone) (λ own. refl) z y s.stepped in
                 inr (x.unread read, spelled ∙ ap status_line (refused_same status a.status (sym is ∙ err_same error (Refused a.status) h) ∙ read))
           ] refl g
     ] refl e

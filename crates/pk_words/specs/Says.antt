@@ -8,17 +8,19 @@ use Rattle.pk_nvme.specs.Command.{Command, key_or_none}
 use Rattle.pk_nvme.specs.Reply.{Reply}
 use Rattle.pk_nvme.specs.declared.status.TheConstants.{UNRECOVERED_ERROR}
 use Rattle.pk_model.specs.Answer.{report_bytes}
-use Rattle.pk_model.specs.Run.{StepIn}
+use Rattle.pk_model.specs.Run.{Step}
+use Rattle.pk_model.specs.Spaces.{one_space}
 use Rattle.pk_words.specs.Lines.{failed_line, status_line, value_line, key_lines, report_lines}
 
--- a text from one map to another, on a drive of this shape, this limit of live pages and this many frames; and what holds if a read failed
+-- a text from one map of a namespace to another, on a drive of this shape, this limit of live pages and this many frames; and what holds if a read
+-- failed
 abbrev pub Saying : Type 1
 Saying = Type 0 → Shape → ℕ → ℕ → Map → List ℕ → Map → Type 0
 
 -- How the one command of a word was answered.
 pub record SaysStatus (c : Command) (failed : Type 0) (shape : Shape) (most frames : ℕ) (m : Map) (text : List ℕ) (m' : Map) : Type 0 where
   pub reply : Reply
-  pub stepped : StepIn shape most frames m c reply m'
+  pub stepped : Step shape (one_space frames most) m c reply m'
   pub unread : reply.status ≡ UNRECOVERED_ERROR → failed
   pub spelled : text ≡ status_line reply.status
 

@@ -1,5 +1,7 @@
 use Rattle.std.proofs.Common.{rules, ap}
-use Rattle.std.specs.Result.{result_ok}
+use Rattle.pk_model.specs.Spaces.{in_space}
+use Rattle.pk_port.proofs.Stepping.{part_of}
+use Rattle.pk_port.proofs.Serving.{mounted_one}
 use Rattle.pk_port.specs.Steps.{mount, standing}
 use Rattle.pk_mirror.proofs.PairLemmas.{on_ok_map}
 use Rattle.pk_mirrorwords.specs.PairTasks.{seen}
@@ -10,7 +12,9 @@ pub answer_pair-requires-clause-pair : goal.answer_pair-requires-clause-pair
 answer_pair-requires-clause-pair g c = told_pair c.args.mirror.now c.args.shape
     (mount (g.B.Nand.state c.args.first.now) (g.D.Engine.sight c.args.first_drive.now))
     (mount (g.C.Nand.state c.args.second.now) (g.E.Engine.sight c.args.second_drive.now))
-    c.args.first_tally.now.faults c.args.second_tally.now.faults c.requires.mirror c.requires.first_map c.requires.second_map
+    c.args.first_tally.now.faults c.args.second_tally.now.faults c.requires.mirror
+    (mounted_one _ _ _ c.requires.first_runs.shape_is) (mounted_one _ _ _ c.requires.second_runs.shape_is) c.requires.first_runs.map c.requires.second_runs.map
+    c.requires.first_runs.holds c.requires.second_runs.holds
 
 pub returns-clause-said : goal.returns-clause-said
 returns-clause-said g c = on_ok_map c.answer_pair.result _ _ (λ said m held.
@@ -22,6 +26,6 @@ returns-clause-said g c = on_ok_map c.answer_pair.result _ _ (λ said m held.
     (standing (g.C.Nand.state c.answer_pair.new.second.board.now)
     (g.E.Engine.sight c.answer_pair.new.second.drive.now) c.answer_pair.new.second.tally.now.faults c.answer_pair.new.second.tally.now.halt)
     _
-    m c.answer_pair.new.room.text
+    (in_space 1 m) c.answer_pair.new.room.text
     (λ asked. ((asked.0.0, asked.0.1, asked.0.2.5), (asked.1.0, asked.1.1, asked.1.2.5)))
-    c.answer_pair.ensures.took_first.2.4 c.answer_pair.ensures.took_second.2.4 (search rules) (search rules) (said m (ap result_ok held))) c.answer_pair.ensures.said
+    c.answer_pair.ensures.took_first.2.4 c.answer_pair.ensures.took_second.2.4 (search rules) (search rules) (said (in_space 1 m) (ap part_of held))) c.answer_pair.ensures.said

@@ -10,9 +10,9 @@ returns-in-Ok g c =
     let r = c.serve_entries-end.ensures.runs in
     record {
       runs = record {
-        ends = λ shape frames start stands none. Finish-closed shape frames start _ _ _ _ _ _ e.rest.takes.input e.rest.takes.in_faults _ e.serves
+        ends = λ shape terms start stands none. Finish-closed shape terms start _ _ _ _ _ _ e.rest.takes.input e.rest.takes.in_faults _ e.serves
             (ap (λ n. nat_le 9223372036854775808 n) e.rest.installs) (no_fault _ c.in_default.not-Output c.in_default.not-Flash)
-            (r.ends shape frames start stands none);
+            (r.ends shape terms start stands none);
         consumes = consumes-still _ _ _ e.rest.takes.input (ap (λ n. nat_le 9223372036854775808 n) e.rest.installs) _ r.consumes;
         blames = blames-still _ _ _ _ r.blames e.rest.takes.in_faults e.runs_on.quiet;
       };
@@ -25,9 +25,9 @@ returns-in-Err g c =
     let r = c.serve_entries-end.ensures.runs in
     record {
       runs = record {
-        ends = λ shape frames start stands none. Finish-broken shape frames start _ _ _ _ _ _ e.rest.takes.input e.rest.takes.in_faults _ _ e.fails.breaks
+        ends = λ shape terms start stands none. Finish-broken shape terms start _ _ _ _ _ _ e.rest.takes.input e.rest.takes.in_faults _ _ e.fails.breaks
             (no_fault _ c.in_default.not-Output c.in_default.not-Flash)
-            (r.ends shape frames start stands none);
+            (r.ends shape terms start stands none);
         consumes = consumes_failed _ _ _ e.fails.fault.fault;
         blames = blames-behind _ _ _ _ _ (no_fault _ c.in_default.not-Output c.in_default.not-Flash) r.blames e.fails.fault.cause;
       };

@@ -15,7 +15,7 @@ loop-taken-init g c = record {
   shape = refl;
   in_faults = refl;
   consumed = consumed-none _;
-  looping = λ shape frames start stands none. Looping-start shape frames start _ _ (bytes_of c.args.held.now.heads) (ap bytes_of c.requires.none) stands none;
+  looping = λ shape terms start stands none. Looping-start shape terms start _ _ (bytes_of c.args.held.now.heads) (ap bytes_of c.requires.none) stands none;
 }
 
 pub loop-taken-preserved : goal.loop-taken-preserved
@@ -26,9 +26,9 @@ loop-taken-preserved g c =
       shape = e.sizes.shape ∙ c.loop-taken.invariant.shape;
       in_faults = e.in_faults ∙ c.loop-taken.invariant.in_faults;
       consumed = consumed-next _ _ _ c.loop-taken.taken c.loop-taken.invariant.consumed _ _ _ _ e.advances;
-      looping = λ shape frames start stands none.
-          let w = c.loop-taken.invariant.looping shape frames start stands none in
-          Looping-next shape frames start _ _ _ _ _ _ _ c.loop-taken.taken w (omega arith) e.advances;
+      looping = λ shape terms start stands none.
+          let w = c.loop-taken.invariant.looping shape terms start stands none in
+          Looping-next shape terms start _ _ _ _ _ _ _ c.loop-taken.taken w (omega arith) e.advances;
     }
 
 pub returns-in-Err-clause-runs : goal.returns-in-Err-clause-runs
@@ -37,9 +37,9 @@ returns-in-Err-clause-runs g c =
     let D = g.D.Engine in
     record {
       consumes = consumes-quits _ _ _ c.loop-taken.taken c.loop-taken.invariant.consumed _ _ c.in-Err.end e.quits;
-      ends = λ shape frames start stands none.
-          let w = c.loop-taken.invariant.looping shape frames start stands none in
-          Finish-quits shape frames start _ _ (g.B.Nand.state c.serve_next.new.board) _ (D.sight c.serve_next.new.drive) _
+      ends = λ shape terms start stands none.
+          let w = c.loop-taken.invariant.looping shape terms start stands none in
+          Finish-quits shape terms start _ _ (g.B.Nand.state c.serve_next.new.board) _ (D.sight c.serve_next.new.drive) _
           (bytes_of c.serve_next.new.held.heads) c.loop-taken.taken w (omega arith) c.in-Err.end c.loop-taken.invariant.in_faults
           (elim e.open [ inl f ↦ inl f | inr o ↦ inr (ap D.sight o.1, ap bytes_of o.2) ]) e.quits;
       blames = blames-then _ _ _ c.in-Err.end c.loop-taken.invariant.in_faults c.loop-taken.invariant.runs_on.quiet e.blames;
@@ -51,8 +51,8 @@ returns-in-Err-take_entry-clause-runs g c =
     let e = c.in-Err-take_entry.ensures in
     record {
       consumes = consumes-entry _ _ _ c.loop-taken.taken c.loop-taken.invariant.consumed true (λ _. inl full) c.in-Err-take_entry.end e.err;
-      ends = λ shape frames start stands none.
-          let w = c.loop-taken.invariant.looping shape frames start stands none in
-          none_taken shape frames start _ _ _ _ _ _ _ c.loop-taken.taken w true (λ _. inl full) (λ h. absurd (true_false h)) c.in-Err-take_entry.end c.loop-taken.invariant.in_faults refl refl e.err;
+      ends = λ shape terms start stands none.
+          let w = c.loop-taken.invariant.looping shape terms start stands none in
+          none_taken shape terms start _ _ _ _ _ _ _ c.loop-taken.taken w true (λ _. inl full) (λ h. absurd (true_false h)) c.in-Err-take_entry.end c.loop-taken.invariant.in_faults refl refl e.err;
       blames = blames-then _ _ _ c.in-Err-take_entry.end c.loop-taken.invariant.in_faults c.loop-taken.invariant.runs_on.quiet (blames-entry _ _ true c.in-Err-take_entry.end e.err);
     }

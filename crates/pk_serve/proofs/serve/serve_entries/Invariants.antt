@@ -7,6 +7,7 @@ use Rattle.pk_serve.specs.Part.{KeepsRunning}
 use Rattle.pk_serve.specs.Script.{Consumed}
 use Rattle.pk_serve.specs.Loop.{Looping}
 use Rattle.pk_serve.proofs.serve.serve_entries.Given as goal
+use Rattle.pk_model.specs.Spaces.{Terms}
 
 abbrev pub invariant-loop-taken : goal.invariant-loop-taken
 invariant-loop-taken g l =
@@ -17,6 +18,6 @@ invariant-loop-taken g l =
       shape : b.shape ≡ a.shape;
       in_faults : b.in_faults ≡ a.in_faults;
       consumed : Consumed a b l.taken [];
-      looping : (shape : Shape) (frames : ℕ) (start : Map) → HoldsMap shape frames a (g.D.Engine.sight l.initial.drive) start → (g.D.Engine.sight l.initial.drive).pending ≡ []
-          → Looping shape frames start a b (g.D.Engine.sight l.drive) (bytes_of l.held.heads) l.taken;
+      looping : (shape : Shape) (terms : Terms) (start : Map) → HoldsMap shape terms a (g.D.Engine.sight l.initial.drive) start → (g.D.Engine.sight l.initial.drive).pending ≡ []
+          → Looping shape terms start a b (g.D.Engine.sight l.drive) (bytes_of l.held.heads) l.taken;
     }

@@ -6,6 +6,7 @@ use Rattle.pk_scan.specs.declared.errors.OpenError.TheVariants.{Memory}
 use Rattle.pk_parts.specs.Parts.{sight_of}
 use Rattle.pk_wordrun.specs.Seen.{seen}
 use Rattle.pk_wordrun.specs.Told.{Told}
+use Rattle.pk_port.specs.Steps.{mount}
 use Rattle.pk_top.proofs.Asked.{Asks-not, Asks-opened, own_frames, ready_behind}
 use Rattle.pk_top.proofs.asking.ask_image.Goals as goal
 
@@ -30,6 +31,6 @@ pub returns-in-Ok-open : goal.returns-in-Ok-open
 returns-in-Ok-open g c =
     let opened = g.B.Nand.state c.open.new.board in
     let d = sight_of c.in-Ok-open.drive in
-    let T : Shape → Type 0 = λ s. (start : Map) → Holds s opened.pages start → Told (seen c.args.task) s d.counts.frames start opened (g.B.Nand.state c.run.new.board) c.run.result in
+    let T : Shape → Type 0 = λ s. (start : Map) → Holds s opened.pages start → Told (seen c.args.task) s (mount opened d).terms start opened (g.B.Nand.state c.run.new.board) c.run.result in
     Asks-opened (seen c.args.task) c.args.shape (g.B.Nand.state c.args.board.now) (g.B.Nand.state c.run.new.board) opened d c.of_word_end.result.0 c.run.result
     c.in-Ok-open.ensures.reads c.in-Ok-open.ensures.stands c.in-Ok-open.ensures.none c.of_word_end.ensures (subst T c.in-Ok.ensures c.run.ensures)

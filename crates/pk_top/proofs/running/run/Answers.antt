@@ -5,6 +5,7 @@ use Rattle.pk_top.specs.Texts.{seen}
 use Rattle.pk_top.specs.declared.word.Word.{Word}
 use Rattle.pk_top.proofs.Images.{made_drive}
 use Rattle.pk_top.proofs.Completing.{whole_serve}
+use Rattle.pk_top.proofs.Isolating.{isolated_whole}
 use Rattle.pk_top.proofs.Answering.{whole_ask, few_roots}
 use Rattle.pk_top.proofs.Within.{frames_within, short_within}
 use Rattle.pk_top.proofs.running.run.Goals as goal
@@ -39,6 +40,17 @@ returns-in-Ok-Some-clause-serves_whole g c =
 
 pub returns-in-Err-clause-serves_whole : goal.returns-in-Err-clause-serves_whole
 returns-in-Err-clause-serves_whole g c = λ frames asked. whole_serve frames (g.B.Nand.state c.args.board.now) (g.B.Nand.state c.args.board.now) 7 (no_memory refl refl)
+
+pub returns-in-Ok-Some-clause-isolated : goal.returns-in-Ok-Some-clause-isolated
+returns-in-Ok-Some-clause-isolated g c =
+    let words = map (λ w. w.now) c.args.words.now in
+    let T : Option Word → Type 0 = λ o. option_map seen o ≡ spec.word_of words in
+    λ frames asked.
+    let same : Some (seen c.in-Ok-Some.word) ≡ Some (spec.serve frames) = subst T c.in-Ok-Some.field-0-is c.in-Ok-Some.ensures ∙ asked in
+    isolated_whole frames (g.B.Nand.state c.args.board.now) (g.B.Nand.state c.obey.new.board) c.obey.result.0 (c.obey.ensures.serves frames (cc))
+
+pub returns-in-Err-clause-isolated : goal.returns-in-Err-clause-isolated
+returns-in-Err-clause-isolated g c = λ frames asked. isolated_whole frames (g.B.Nand.state c.args.board.now) (g.B.Nand.state c.args.board.now) 7 (no_memory refl refl)
 
 pub returns-in-Ok-Some-clause-asks_whole : goal.returns-in-Ok-Some-clause-asks_whole
 returns-in-Ok-Some-clause-asks_whole g c =

@@ -15,7 +15,7 @@ returns-clause-adds g c =
     let T : Shape → Type 0 = λ s. IsValue s c.args.request.now.opcode c.args.request.now.size c.handed.result.now c.args.value.now in
     let has = subst T (sym (ap shape_or_none c.requires.room.shape_is)) c.handed.ensures.value in
     adds_next _ _ _ e.leaves.rest _ (command_of c.args.request.now c.args.value.now) _ _
-    (reaches_value _ _ _ (g.D.Engine.sight c.exec-outcome.new.self) (command_of c.args.request.now c.handed.result.now) c.args.value.now has (e.found.cuts c.if-outcome.false))
+    (reaches_value _ _ _ (g.D.Engine.sight c.exec-outcome.new.self) (command_of c.args.request.now c.handed.result.now) c.args.value.now has _ (e.found.cuts c.if-outcome.false))
     (stands_value _ _ _ _ (command_of c.args.request.now c.handed.result.now) c.args.value.now has _ _ (e.answers.stands c.if-outcome.false))
     e.counts.up (λ h. e.counts.unread h c.if-outcome.false) (λ h. (e.counts.sound h).1)
     (e.counts.no_stop c.if-outcome.false) e.counts.reads (unworn_few b b c.requires.can_serve.unworn refl) e.counts.installs
@@ -26,5 +26,5 @@ returns-then-outcome-clause-stops g c =
     let T : Shape → Type 0 = λ s. IsValue s c.args.request.now.opcode c.args.request.now.size c.handed.result.now c.args.value.now in
     let has = subst T (sym (ap shape_or_none c.requires.room.shape_is)) c.handed.ensures.value in
     stops_next _ _ _ e.leaves.rest (command_of c.args.request.now c.args.value.now)
-    (went_value _ _ _ (g.D.Engine.sight c.exec-outcome.new.self) (command_of c.args.request.now c.handed.result.now) c.args.value.now has (e.found.cuts_stopped c.if-outcome.true)) e.counts.up
+    (went_value _ _ _ (g.D.Engine.sight c.exec-outcome.new.self) (command_of c.args.request.now c.handed.result.now) c.args.value.now has _ (e.found.cuts_stopped c.if-outcome.true)) e.counts.up
     (e.counts.stop c.if-outcome.true)

@@ -1,4 +1,5 @@
 use Rattle.std.proofs.Common.{List, ℕ, ap, subst, ◌∙◌}
+use Rattle.pk_nand.specs.BoardState.{BoardState}
 use Rattle.pk_nand.specs.Operations.{after_post, PostFailed}
 use Rattle.pk_port.specs.Steps.{Mounted, mount}
 use Rattle.pk_wordrun.proofs.Piecing.{piece_asked}
@@ -10,8 +11,9 @@ returns-in-Ok-say-clause-fits g c =
     fits-posted (g.D.Engine.agrees c.ask_keys.new.drive) c.args.shape (g.B.Nand.state c.ask_keys.new.board) _
     (g.D.Engine.sight c.ask_keys.new.drive) (g.B.Nand.state c.say.new.board) c.in-Ok-say.ensures.posts c.in-Ok.ensures.fits
 
-pub returns-in-Ok-say-clause-frames : goal.returns-in-Ok-say-clause-frames
-returns-in-Ok-say-clause-frames g c = ap (λ (m : Mounted). m.frames) c.in-Ok.ensures.turns.1.new_is
+pub returns-in-Ok-say-clause-terms : goal.returns-in-Ok-say-clause-terms
+returns-in-Ok-say-clause-terms g c =
+    ap (λ (b : BoardState). (mount b (g.D.Engine.sight c.ask_keys.new.drive)).terms) c.in-Ok-say.ensures.posts ∙ ap (λ (m : Mounted). m.terms) c.in-Ok.ensures.turns.1.new_is
 
 pub returns-in-Ok-say-clause-told : goal.returns-in-Ok-say-clause-told
 returns-in-Ok-say-clause-told g c =

@@ -3,6 +3,7 @@ use Rattle.pk_gen.specs.Workload.{after, generator}
 use Rattle.pk_serve.proofs.Nexting.{worn_is}
 use Rattle.pk_wordrun.specs.Generated.{Generating}
 use Rattle.pk_wordrun.proofs.Generating.{generating_none, generating_next, unfinished_turn, unfinished_commit, unfinished_worn}
+use Rattle.pk_port.specs.Steps.{mount}
 use Rattle.pk_wordrun.proofs.workload.serve_turns.Goals as goal
 
 pub loop-turn-init : goal.loop-turn-init
@@ -43,7 +44,7 @@ loop-turn-preserved g c =
       room = e.room ∙ v.room;
       workload = e.after ∙ (ap after v.workload ∙ ap (generator c.args.start) next);
       served = λ m holds.
-          generating_next c.args.start c.loop-turn.turn c.args.shape.now (g.D.Engine.sight c.args.drive.now).counts.frames m
+          generating_next c.args.start c.loop-turn.turn c.args.shape.now (mount (g.B.Nand.state c.args.board.now) (g.D.Engine.sight c.args.drive.now)).terms m
           (g.B.Nand.state c.args.board.now) (g.B.Nand.state c.loop-turn.board) (g.D.Engine.sight c.loop-turn.drive) c.loop-turn.summary (v.served m holds)
           (g.B.Nand.state c.serve_turn.new.board)
           (g.D.Engine.sight c.serve_turn.new.drive) c.args.count c.loop-turn-test.true c.ranges.count.fits c.loop-turn.workload v.workload c.serve_turn.new.summary e.turn;
@@ -52,7 +53,7 @@ loop-turn-preserved g c =
 pub returns-in-Err-serve_turn-clause-fails : goal.returns-in-Err-serve_turn-clause-fails
 returns-in-Err-serve_turn-clause-fails g c = λ m holds.
     let v = c.loop-turn.invariant in
-    unfinished_turn c.args.start c.loop-turn.turn c.args.shape.now (g.D.Engine.sight c.args.drive.now).counts.frames m
+    unfinished_turn c.args.start c.loop-turn.turn c.args.shape.now (mount (g.B.Nand.state c.args.board.now) (g.D.Engine.sight c.args.drive.now)).terms m
     (g.B.Nand.state c.args.board.now) (g.B.Nand.state c.loop-turn.board) (g.D.Engine.sight c.loop-turn.drive) c.loop-turn.summary (v.served m holds)
     c.args.count (g.B.Nand.state c.serve_turn.new.board) c.loop-turn-test.true c.loop-turn.workload v.workload c.in-Err-serve_turn.ensures.turn
 
@@ -60,7 +61,7 @@ pub returns-in-Err-clause-fails : goal.returns-in-Err-clause-fails
 returns-in-Err-clause-fails g c = λ m holds.
     let v = c.loop-turn.invariant in
     let small = c.loop-turn-test.true in
-    unfinished_commit c.args.start c.loop-turn.turn c.args.shape.now (g.D.Engine.sight c.args.drive.now).counts.frames m
+    unfinished_commit c.args.start c.loop-turn.turn c.args.shape.now (mount (g.B.Nand.state c.args.board.now) (g.D.Engine.sight c.args.drive.now)).terms m
     (g.B.Nand.state c.args.board.now) (g.B.Nand.state c.loop-turn.board) (g.D.Engine.sight c.loop-turn.drive) c.loop-turn.summary (v.served m holds)
     c.args.count (g.B.Nand.state c.commit_group.new.board) (omega (arith, small)) c.in-Err.ensures.stops
 
@@ -69,7 +70,7 @@ returns-in-Ok-clause-fails g c = λ m holds.
     let v = c.loop-turn.invariant in
     let worn = worn_is (g.D.Engine.agrees c.loop-turn.drive) (g.B.Nand.state c.loop-turn.board) c.args.shape.now c.is_worn.result
     (v.shape ∙ c.requires.room.shape_is) v.running.agrees (λ s f h. c.is_worn.ensures s f h v.running.runs) in
-    unfinished_worn c.args.start c.loop-turn.turn c.args.shape.now (g.D.Engine.sight c.args.drive.now).counts.frames m
+    unfinished_worn c.args.start c.loop-turn.turn c.args.shape.now (mount (g.B.Nand.state c.args.board.now) (g.D.Engine.sight c.args.drive.now)).terms m
     (g.B.Nand.state c.args.board.now) (g.B.Nand.state c.loop-turn.board) (g.D.Engine.sight c.loop-turn.drive) c.loop-turn.summary (v.served m holds)
     c.args.count (g.B.Nand.state c.commit_group.new.board) (g.D.Engine.sight c.commit_group.new.drive) c.loop-turn-test.true
     c.in-Ok.ensures.keeps c.in-Ok.ensures.none c.in-Ok.ensures.installs (sym worn ∙ c.if-is_worn.true)
@@ -80,6 +81,6 @@ returns-clause-served g c = λ m holds.
     let over = c.loop-turn-test.false in
     let most = c.loop-turn.auto.turn-end in
     let all : c.loop-turn.turn ≡ c.args.count = omega (arith, over, most) in
-    let N : ℕ → Type 0 = λ n. Generating c.args.start n c.args.shape.now (g.D.Engine.sight c.args.drive.now).counts.frames m
+    let N : ℕ → Type 0 = λ n. Generating c.args.start n c.args.shape.now (mount (g.B.Nand.state c.args.board.now) (g.D.Engine.sight c.args.drive.now)).terms m
     (g.B.Nand.state c.args.board.now) (g.B.Nand.state c.loop-turn.board) (g.D.Engine.sight c.loop-turn.drive) c.loop-turn.summary in
     subst N all (v.served m holds)

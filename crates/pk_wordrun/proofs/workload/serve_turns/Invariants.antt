@@ -3,6 +3,7 @@ use Rattle.pk_base.specs.Map.{Map}
 use Rattle.pk_gen.specs.Workload.{generator}
 use Rattle.pk_model.specs.Reading.{Holds}
 use Rattle.pk_call.specs.Running.{DriveRuns}
+use Rattle.pk_port.specs.Steps.{mount}
 use Rattle.pk_wordrun.specs.Generated.{Generating}
 use Rattle.pk_wordrun.proofs.workload.serve_turns.Given as goal
 
@@ -16,5 +17,5 @@ invariant-loop-turn g l =
       value : 4000 ≤ l.value.room;
       room : length l.buffer ≡ length l.initial.buffer;
       workload : l.workload ≡ generator l.start l.turn;
-      served : (m : Map) → Holds l.shape a.pages m → Generating l.start l.turn l.shape (g.D.Engine.sight l.initial.drive).counts.frames m a b (g.D.Engine.sight l.drive) l.summary;
+      served : (m : Map) → Holds l.shape a.pages m → Generating l.start l.turn l.shape (mount a (g.D.Engine.sight l.initial.drive)).terms m a b (g.D.Engine.sight l.drive) l.summary;
     }

@@ -6,6 +6,7 @@ use Rattle.pk_call.specs.Drive.{HoldsMap}
 use Rattle.pk_model.specs.Reading.{Holds}
 use Rattle.pk_mirrorwords.specs.PairTasks.{seen}
 use Rattle.pk_mirrorrun.specs.PairTold.{PairTold}
+use Rattle.pk_port.specs.Steps.{mount}
 use Rattle.pk_wordrun.proofs.Opening.{fits-somehow}
 use Rattle.pk_mirrorrun.proofs.Lending.{serving}
 use Rattle.pk_mirrorrun.proofs.pair_speaker.PairSpeaker.run.Goals as goal
@@ -15,7 +16,7 @@ tell-requires-clause-first_fits g c =
     let b = g.B.Nand.state c.args.first.now in
     let d = g.D.Engine.sight c.args.first_drive.now in
     let R : Shape → Type 0 = λ s. IsReady b s in
-    let H : Shape → Type 0 = λ s. (m : Map) × HoldsMap s d.counts.frames b d m in
+    let H : Shape → Type 0 = λ s. (m : Map) × HoldsMap s (mount b d).terms b d m in
     fits-somehow (g.D.Engine.agrees c.args.first_drive.now) c.self.inside.shape b d c.known.ensures c.held_map.ensures
     (subst R (sym c.self.view_is) c.requires.first_ready) c.requires.first_agrees c.requires.first_none (subst H (sym c.self.view_is) c.requires.first_stands)
 
@@ -24,7 +25,7 @@ tell-requires-clause-second_fits g c =
     let b = g.C.Nand.state c.args.second.now in
     let d = g.E.Engine.sight c.args.second_drive.now in
     let R : Shape → Type 0 = λ s. IsReady b s in
-    let H : Shape → Type 0 = λ s. (m : Map) × HoldsMap s d.counts.frames b d m in
+    let H : Shape → Type 0 = λ s. (m : Map) × HoldsMap s (mount b d).terms b d m in
     fits-somehow (g.E.Engine.agrees c.args.second_drive.now) c.self.inside.shape b d c.known.ensures c.held_map.ensures
     (subst R (sym c.self.view_is) c.requires.second_ready) c.requires.second_agrees c.requires.second_none (subst H (sym c.self.view_is) c.requires.second_stands)
 
@@ -33,16 +34,16 @@ tell-requires-clause-first_runs g c =
     let b = g.B.Nand.state c.args.first.now in
     let d = g.D.Engine.sight c.args.first_drive.now in
     let R : Shape → Type 0 = λ s. IsReady b s in
-    let H : Shape → Type 0 = λ s. (m : Map) × HoldsMap s d.counts.frames b d m in
-    serving c.self.inside.shape b d (subst R (sym c.self.view_is) c.requires.first_ready) c.requires.first_runs c.requires.first_none (subst H (sym c.self.view_is) c.requires.first_stands)
+    let H : Shape → Type 0 = λ s. (m : Map) × HoldsMap s (mount b d).terms b d m in
+    serving c.self.inside.shape b d c.known.ensures c.held_map.ensures (subst R (sym c.self.view_is) c.requires.first_ready) c.requires.first_runs c.requires.first_none (subst H (sym c.self.view_is) c.requires.first_stands)
 
 pub tell-requires-clause-second_runs : goal.tell-requires-clause-second_runs
 tell-requires-clause-second_runs g c =
     let b = g.C.Nand.state c.args.second.now in
     let d = g.E.Engine.sight c.args.second_drive.now in
     let R : Shape → Type 0 = λ s. IsReady b s in
-    let H : Shape → Type 0 = λ s. (m : Map) × HoldsMap s d.counts.frames b d m in
-    serving c.self.inside.shape b d (subst R (sym c.self.view_is) c.requires.second_ready) c.requires.second_runs c.requires.second_none (subst H (sym c.self.view_is) c.requires.second_stands)
+    let H : Shape → Type 0 = λ s. (m : Map) × HoldsMap s (mount b d).terms b d m in
+    serving c.self.inside.shape b d c.known.ensures c.held_map.ensures (subst R (sym c.self.view_is) c.requires.second_ready) c.requires.second_runs c.requires.second_none (subst H (sym c.self.view_is) c.requires.second_stands)
 
 pub returns : goal.returns
 returns g c =

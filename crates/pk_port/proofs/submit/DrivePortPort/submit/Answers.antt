@@ -1,9 +1,10 @@
-use Rattle.std.proofs.Common.{◌≤◌, sym, refl, subst, ap, arith}
+use Rattle.std.proofs.Common.{◌≤◌, sym, refl, subst, ap, ◌∙◌, arith}
 use Rattle.pk_nvme.specs.Command.{Command}
 use Rattle.pk_call.specs.Seen.{reply_of}
 use Rattle.pk_host.specs.Good.{IsHanded}
 use Rattle.pk_host.specs.Port.{Replies, room_of}
 use Rattle.pk_port.specs.Steps.{mount, seen}
+use Rattle.pk_serve.proofs.Limiting.{limits_some}
 use Rattle.pk_port.proofs.Stepping.{stepped_ok, stepped_err, chain_one}
 use Rattle.pk_port.proofs.submit.DrivePortPort.submit.Goals as goal
 
@@ -24,7 +25,7 @@ returns-in-Ok-clause-completes g c =
     let after = mount (g.B.Nand.state c.serve_lent.new.board) (g.D.Engine.sight c.serve_lent.new.drive) in
     let T : Command → Type 0 = λ k. Replies (seen c.args.self.now.shape before c.args.self.now.tally.now.faults)
     (seen c.args.self.now.shape after c.answer.new.self.faults) k (reply_of c.in-Ok.outcome c.serve_lent.new.into) in
-    c.completed.ensures _ _ _ (ap (λ (k : Command). k.cid) (sym is)) (subst T is (c.in-Ok.ensures.replies _ _))
+    c.completed.ensures _ _ _ (ap (λ (k : Command). k.cid) (sym is)) (subst T is (c.in-Ok.ensures.replies (ap (λ (k : Command). k.namespace) is ∙ c.requires.namespace) _ _))
 
 pub returns-in-Ok-clause-took : goal.returns-in-Ok-clause-took
 returns-in-Ok-clause-took g c = (
@@ -33,9 +34,10 @@ returns-in-Ok-clause-took g c = (
   refl,
   refl,
   refl,
-  chain_one c.args.self.now.shape (mount (g.B.Nand.state c.args.self.now.board.now) (g.D.Engine.sight c.args.self.now.drive.now))
-      (mount (g.B.Nand.state c.serve_lent.new.board) (g.D.Engine.sight c.serve_lent.new.drive)) _ _ _ _ _ c.in-Ok.ensures.fits.shape_is _ (c.of-request.ensures c.args.value.now)
-      (stepped_ok c.args.self.now.shape _ _ _ _ _ _ _ c.in-Ok.ensures.fits.shape_is _ c.in-Ok.ensures.makes (ap (λ t. t.faults) c.answer.ensures) (ap (λ t. t.halt) c.answer.ensures)),
+  chain_one c.args.self.now.shape _ _ _ _ (c.of-request.ensures c.args.value.now)
+      (stepped_ok c.args.self.now.shape (mount (g.B.Nand.state c.args.self.now.board.now) (g.D.Engine.sight c.args.self.now.drive.now))
+      (mount (g.B.Nand.state c.serve_lent.new.board) (g.D.Engine.sight c.serve_lent.new.drive)) _ (limits_some _ _)
+      (ap (λ (k : Command). k.namespace) (c.of-request.ensures c.args.value.now) ∙ c.requires.namespace) _ _ _ _ c.in-Ok.ensures.fits.shape_is _ c.in-Ok.ensures.makes (ap (λ t. t.faults) c.answer.ensures) (ap (λ t. t.halt) c.answer.ensures)),
 )
 
 pub returns-in-Err-clause-took : goal.returns-in-Err-clause-took
@@ -45,7 +47,8 @@ returns-in-Err-clause-took g c = (
   refl,
   refl,
   refl,
-  chain_one c.args.self.now.shape (mount (g.B.Nand.state c.args.self.now.board.now) (g.D.Engine.sight c.args.self.now.drive.now))
-      (mount (g.B.Nand.state c.serve_lent.new.board) (g.D.Engine.sight c.serve_lent.new.drive)) _ _ _ _ _ c.in-Err.ensures.fits.shape_is _ (c.of-request.ensures c.args.value.now)
-      (stepped_err c.args.self.now.shape _ _ _ _ _ _ _ c.in-Err.ensures.fits.shape_is c.in-Err.halt c.in-Err.ensures.makes c.fail.ensures.rose c.fail.ensures.up c.fail.ensures.halt),
+  chain_one c.args.self.now.shape _ _ _ _ (c.of-request.ensures c.args.value.now)
+      (stepped_err c.args.self.now.shape (mount (g.B.Nand.state c.args.self.now.board.now) (g.D.Engine.sight c.args.self.now.drive.now))
+      (mount (g.B.Nand.state c.serve_lent.new.board) (g.D.Engine.sight c.serve_lent.new.drive)) _ (limits_some _ _)
+      (ap (λ (k : Command). k.namespace) (c.of-request.ensures c.args.value.now) ∙ c.requires.namespace) _ _ _ _ c.in-Err.ensures.fits.shape_is c.in-Err.halt c.in-Err.ensures.makes c.fail.ensures.rose c.fail.ensures.up c.fail.ensures.halt),
 )

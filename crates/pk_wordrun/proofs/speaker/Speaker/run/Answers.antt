@@ -3,6 +3,7 @@ use Rattle.pk_base.specs.Shape.{Shape}
 use Rattle.pk_base.specs.Map.{Map}
 use Rattle.pk_nand.specs.Calls.{IsReady}
 use Rattle.pk_call.specs.Drive.{HoldsMap}
+use Rattle.pk_port.specs.Steps.{mount}
 use Rattle.pk_wordrun.proofs.Opening.{fits-opened, fits-somehow}
 use Rattle.pk_wordrun.proofs.speaker.Speaker.run.Goals as goal
 
@@ -11,7 +12,7 @@ tell-requires-clause-fits g c =
     let b = g.B.Nand.state c.args.board.now in
     let d = g.D.Engine.sight c.args.drive.now in
     let R : Shape → Type 0 = λ s. IsReady b s in
-    let H : Shape → Type 0 = λ s. (m : Map) × HoldsMap s d.counts.frames b d m in
+    let H : Shape → Type 0 = λ s. (m : Map) × HoldsMap s (mount b d).terms b d m in
     fits-somehow (g.D.Engine.agrees c.args.drive.now) c.self.inside.shape b d c.known.ensures c.held_map.ensures
     (subst R (sym c.self.view_is) c.requires.ready) c.requires.agrees c.requires.none (subst H (sym c.self.view_is) c.requires.stands)
 
@@ -20,7 +21,7 @@ tell_keys-requires-clause-fits g c =
     let b = g.B.Nand.state c.args.board.now in
     let d = g.D.Engine.sight c.args.drive.now in
     let R : Shape → Type 0 = λ s. IsReady b s in
-    let H : Shape → Type 0 = λ s. (m : Map) × HoldsMap s d.counts.frames b d m in
+    let H : Shape → Type 0 = λ s. (m : Map) × HoldsMap s (mount b d).terms b d m in
     fits-somehow (g.D.Engine.agrees c.args.drive.now) c.self.inside.shape b d c.known.ensures c.held_map.ensures
     (subst R (sym c.self.view_is) c.requires.ready) c.requires.agrees c.requires.none (subst H (sym c.self.view_is) c.requires.stands)
 
@@ -29,6 +30,6 @@ tell_workload-requires-clause-fits g c =
     let b = g.B.Nand.state c.args.board.now in
     let d = g.D.Engine.sight c.args.drive.now in
     let R : Shape → Type 0 = λ s. IsReady b s in
-    let H : Shape → Type 0 = λ s. (m : Map) × HoldsMap s d.counts.frames b d m in
+    let H : Shape → Type 0 = λ s. (m : Map) × HoldsMap s (mount b d).terms b d m in
     fits-opened (g.D.Engine.agrees c.args.drive.now) c.self.inside.shape b d c.known.ensures c.held_map.ensures
     (subst R (sym c.self.view_is) c.requires.ready) c.requires.agrees c.requires.none (subst H (sym c.self.view_is) c.requires.stands)

@@ -1,0 +1,120 @@
+-- The commands in one namespace of a script that was served without read errors.
+use Rattle.std.proofs.Common.{◌≡◌, ℕ, ◌+◌, ◌≤◌, ◌==◌, if◌then◌else◌, List, [], ◌∷◌, length, Bool, true, false, Option, Some, None, IsSome, refl, sym, ap, subst, ◌∙◌, arith}
+use Rattle.pk_base.specs.Shape.{Shape}
+use Rattle.pk_base.specs.Page.{Flash}
+use Rattle.pk_base.specs.Map.{Map}
+use Rattle.pk_nvme.specs.Command.{Command}
+use Rattle.pk_nand.specs.BoardState.{BoardState}
+use Rattle.pk_nand.specs.Calls.{Rose, Loaded, longer}
+use Rattle.pk_model.specs.Reading.{Holds}
+use Rattle.pk_model.specs.Run.{Run, RunWithin, Exchange, commands, records, faults}
+use Rattle.pk_model.specs.Script.{script}
+use Rattle.pk_model.specs.Spaces.{Terms, terms_at}
+use Rattle.pk_law_isolation.specs.Isolation.{map_alone, terms_alone, command_alone, commands_of_space, exchanges_in}
+use Rattle.pk_law_isolation.proofs.Isolating.{isolated}
+use Rattle.pk_law_isolation.proofs.Fixing.{fixed}
+use Rattle.pk_serve.specs.Run.{Served, ServedBy}
+use Rattle.pk_serve.specs.declared.end.End.{End}
+use Rattle.pk_serve.specs.declared.end.End.TheVariants.{Done, Truncated, Input, Output, Flash as FlashFailed, Worn}
+use Rattle.pk_serve.proofs.Completing.{none_counted}
+use Rattle.pk_scan.specs.declared.errors.OpenError.{OpenError}
+use Rattle.pk_scan.specs.declared.errors.OpenError.TheVariants.{NotFormatted, Damaged, Fault as ReadFault, Memory as NoMemory}
+use Rattle.pk_top.specs.Ends.{end_status, open_status}
+use Rattle.pk_top.specs.Isolates.{AnsweredApart, IsolatesAll, IsolatesWhole}
+use Rattle.pk_top.specs.Loads.{load_status, no_memory, not_loaded, no_image, has_image}
+use Rattle.pk_top.specs.Serves.{behind_opening, ServesFound, ServeRun}
+use Rattle.pk_nand.specs.declared.types.LoadFault.{LoadFault}
+use Rattle.pk_nand.specs.declared.types.LoadFault.TheVariants.{Fault, BadImage, Memory}
+
+-- ---- runs
+
+run_of : (shape : Shape) (terms : Terms) (m : Map) (xs : List Exchange) (m' : Map) → RunWithin shape terms m xs m' → Run shape terms m xs m'
+run_of shape terms m [] m' e = e
+run_of shape terms m (x ∷ xs) m' (next, step, rest) = (next, step.0, run_of shape terms next xs m' rest)
+
+faults_in : (space : ℕ) (xs : List Exchange) → faults xs ≡ 0 → faults (exchanges_in space xs) ≡ 0
+faults_in space [] none = refl
+faults_in space (x ∷ xs) none =
+    let first : (if x.reply.status == 0x88 then 1 else 0) ≡ 0 = omega arith in
+    let rest : faults xs ≡ 0 = omega arith in
+    elim (x.command.namespace == space) as (λ b. faults (if b then record x { command = command_alone x.command } ∷ exchanges_in space xs else exchanges_in space xs) ≡ 0) [
+      | true ↦ (let more = faults_in space xs rest in omega (arith, first, more))
+      | false ↦ faults_in space xs rest
+    ]
+
+-- ---- a script that was served
+
+module _ (shape : Shape) (frames : ℕ) (loaded new : BoardState) (start : Map) where
+  abbrev terms : Terms
+  terms = terms_at shape loaded.pages frames
+
+  apart : (cs : List Command) → Served shape terms start (behind_opening shape frames loaded) new cs → (Rose loaded.read_faults new.read_faults → ⊥) → AnsweredApart shape terms start loaded new cs
+  apart cs s none_rose =
+      let none : faults s.served ≡ 0 = none_counted loaded.read_faults new.read_faults (faults s.served) none_rose s.few_faults in
+      let run = run_of shape terms start s.served s.left s.ran in
+      record {
+        served = s.served;
+        are = s.are;
+        posted = s.posted;
+        left = s.left;
+        runs = λ space some most. (isolated shape terms space start s.left s.served some most run).0;
+        same = λ space some most xs end ran cmds sound.
+            let own = isolated shape terms space start s.left s.served some most run in
+            (fixed shape (terms_alone terms space) (map_alone space start) (map_alone space s.left) end (exchanges_in space s.served) xs own.0 ran
+            (own.1 ∙ ap (commands_of_space space) s.are ∙ sym cmds) (faults_in space s.served none) sound).0;
+      }
+
+  pub isolates_end : (status : ℕ) (end : End) → status ≡ end_status end → Holds shape loaded.pages start
+      → ((input : List ℕ) → loaded.input ≡ Some input → ServedBy shape terms start (behind_opening shape frames loaded) new input end) → IsolatesAll shape frames loaded new status
+  isolates_end status Done tells held served done none_rose m holds input is =
+      let same : start ≡ m = cc in
+      let T : Map → Type 0 = λ s. AnsweredApart shape terms s loaded new (script input).0 in
+      subst T same (apart (script input).0 (served input is).1 none_rose)
+  isolates_end status Truncated tells held served done none_rose m holds input is = absurd (omega (arith, tells, done))
+  isolates_end status Input tells held served done none_rose m holds input is = absurd (omega (arith, tells, done))
+  isolates_end status Output tells held served done none_rose m holds input is = absurd (omega (arith, tells, done))
+  isolates_end status FlashFailed tells held served done none_rose m holds input is = absurd (omega (arith, tells, done))
+  isolates_end status Worn tells held served done none_rose m holds input is = absurd (omega (arith, tells, done))
+
+-- a drive that was not opened served no script
+pub isolates_not : (shape : Shape) (frames : ℕ) (loaded new : BoardState) (status : ℕ) (error : OpenError) → status ≡ open_status error → IsolatesAll shape frames loaded new status
+isolates_not shape frames loaded new status NotFormatted tells done = absurd (omega (arith, tells, done))
+isolates_not shape frames loaded new status (Damaged page) tells done = absurd (omega (arith, tells, done))
+isolates_not shape frames loaded new status ReadFault tells done = absurd (omega (arith, tells, done))
+isolates_not shape frames loaded new status NoMemory tells done = absurd (omega (arith, tells, done))
+
+-- ---- a board that holds its pages from the start
+
+module _ (frames : ℕ) (old new : BoardState) (status : ℕ) where
+  isolated_found : ServesFound frames old new status → IsolatesWhole frames old new status
+  isolated_found found shape has done none_rose start holds input is =
+      let some : IsSome old.shape = subst IsSome (sym has) refl in
+      let held = found.found.held some in
+      let told : Some found.shape ≡ Some shape = sym found.found.shape_is ∙ (held.1 ∙ has) in
+      let same : found.shape ≡ shape = cc in
+      let A : Shape → Type 0 = λ s. IsolatesAll s frames found.loaded new status in
+      let all : IsolatesAll shape frames found.loaded new status = subst A same found.serves.isolated in
+      let H : Flash → Type 0 = λ f. Holds shape f start in
+      let R : ℕ → Type 0 = λ n. Rose n new.read_faults → ⊥ in
+      let w = all done (subst R (sym (ap (λ (s : BoardState). s.read_faults) found.found.rest)) none_rose) start (subst H (sym held.0) holds) input
+      (ap (λ (s : BoardState). s.input) found.found.rest ∙ is) in
+      let T : Flash → Type 0 = λ f. AnsweredApart shape (terms_at shape f frames) start old new (script input).0 in
+      subst T held.0 (record {
+        served = w.served;
+        are = w.are;
+        posted = w.posted ∙ ap (λ (o : Option (List ℕ)). longer o (records 0 w.served)) (ap (λ (s : BoardState). s.posted) found.found.rest);
+        left = w.left;
+        runs = w.runs;
+        same = w.same;
+      })
+
+  load_not_done : (fault : LoadFault) → status ≡ load_status fault → status ≡ 0 → ⊥
+  load_not_done Fault tells done = omega (arith, tells, done)
+  load_not_done (BadImage at) tells done = omega (arith, tells, done)
+  load_not_done Memory tells done = omega (arith, tells, done)
+
+  pub isolated_whole : ServeRun frames old new status → IsolatesWhole frames old new status
+  isolated_whole (no_memory is same) shape has done = absurd (omega (arith, is, done))
+  isolated_whole (not_loaded refused) shape has done = absurd (load_not_done refused.fault refused.tells done)
+  isolated_whole (no_image missing) shape has done = absurd (let tells = missing.tells in omega (arith, tells, done))
+  isolated_whole (has_image found) = isolated_found found
