@@ -9,7 +9,6 @@ use Rattle.pk_law_work.specs.Calls.{commit_calls}
 use Rattle.pk_call.specs.Calling.{FewCalls}
 use Rattle.pk_call.specs.Commit.{ProgramsOfCommit}
 use Rattle.pk_background.specs.Costs.{Spends}
-use Rattle.pk_background.proofs.Callings.{counted_more}
 use Rattle.std.proofs.Common.{◌≡◌, ℕ, zero, suc, ◌+◌, ap, ◌∙◌, arith}
 
 pub few_none : (old : BoardState) → FewCalls 0 old old
