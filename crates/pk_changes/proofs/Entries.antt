@@ -50,6 +50,8 @@ use Rattle.pk_background.proofs.Beside.{named_owner, journal_or_values, meta_or_
 use Rattle.pk_base.proofs.KeyLemmas.{firsts_sorted}
 use Rattle.pk_law_steps.proofs.Outputs.{values_most}
 use Rattle.pk_scan.proofs.ValuesHeld.{limit_few}
+use Rattle.pk_model.specs.RootLimits.{root_limits}
+use Rattle.pk_model.proofs.RootLimits.{last_in_spaces}
 
 -- ---- numbers
 
@@ -69,7 +71,7 @@ module _ (d : Parts) (shape : Shape) (flash : Flash) (top : ℕ × Root) (found 
   fit : fits shape (named top.1) (all_pages shape (places found d.log.pending)) ≡ true
   fit =
       let values = values_under shape flash d.log.pending top.1 found m with.pending.is_map in
-      (values_sound shape (named top.1) (page_at flash) (places found d.log.pending) values.values (nothing_fits shape (named top.1)) values.read).placed_well
+      (values_sound shape (named top.1) (page_at flash) (root_limits shape top.1) (places found d.log.pending) values.values (nothing_fits shape (named top.1)) values.read).placed_well
 
   pub keys_small : d.keys ≤ 1048576
   keys_small =
@@ -87,7 +89,7 @@ module _ (d : Parts) (shape : Shape) (flash : Flash) (top : ℕ × Root) (found 
       let es = places found d.log.pending in
       let values = values_under shape flash d.log.pending top.1 found m with.pending.is_map in
       let vs = values.values in
-      let read = (values_sound shape (named top.1) at es vs (nothing_fits shape (named top.1)) values.read).read in
+      let read = (values_sound shape (named top.1) at (root_limits shape top.1) es vs (nothing_fits shape (named top.1)) values.read).read in
       let all : entries m ≡ vs = ap (λ (x : Map). entries x) (sym values.whole_map) ∙ entries-rising vs (sorted_read shape (named top.1) at es vs read rising) in
       let positive : 0 < shape.page_bytes = let least = shape_is.page_least in omega (arith, least) in
       ap (pages_in shape) (entries-insert key_total m key value ∙ ap (put key_cmp key value) all)
@@ -160,8 +162,8 @@ module _ (d : Parts) (flash : Flash) (m : Map) (key : Key) (value : List ℕ) (p
         unnamed (λ k is is_value. p.written.apart p.top p.found p.without m p.with k is is_value)
         (omega (arith, most, same)) few.1 few.0
 
-    under_now : length (firsts (p.found.newest ++ (d.log.pending ++ e ∷ []))) ≤ buffer d.log.shape → IsUnder d.log.shape flash (d.log.pending ++ e ∷ []) p.top p.found (insert m key value)
-    under_now room = stores d.log.shape flash d.log.pending p.top p.found m key place value p.with.pending p.written.there room fit_now
+    under_now : LogOnFlash (pushed d.log e) flash p.top p.found → length (firsts (p.found.newest ++ (d.log.pending ++ e ∷ []))) ≤ buffer d.log.shape → IsUnder d.log.shape flash (d.log.pending ++ e ∷ []) p.top p.found (insert m key value)
+    under_now logs room = stores d.log.shape flash d.log.pending p.top p.found m key place value p.with.pending (last_in_spaces d.log.shape p.top.1 d.log.pending e logs.pending_are) p.written.there room fit_now
 
     -- a reclaim that runs copies other values than that one
     reclaims_now : ReclaimOnFlash d.log.shape d.reclaim values.live d.pool flash (put key_cmp key place es)
@@ -179,7 +181,7 @@ module _ (d : Parts) (flash : Flash) (m : Map) (key : Key) (value : List ℕ) (p
       is_flash = p.with.is_flash;
       index = index_pushed (index_of d) (frames_of d) flash p.top p.found e p.with.index logs;
       committed = p.with.committed;
-      pending = under_now room;
+      pending = under_now logs room;
       placed = subst (λ (xs : List (Key × Place)). ValuesOnFlash d.log.shape values d.pool (outputs_of d) flash xs) (sym places_are) placed_now;
       former = p.with.former;
       former_read = p.with.former_read;
@@ -297,7 +299,7 @@ module _ (d : Parts) (flash : Flash) (m : Map) (key : Key) (old : Place) (p : Dr
     is_flash = p.with.is_flash;
     index = index_pushed (index_of d) (frames_of d) flash p.top p.found gone p.with.index logs;
     committed = p.with.committed;
-    pending = deletes d.log.shape flash d.log.pending p.top p.found m key p.with.pending room;
+    pending = deletes d.log.shape flash d.log.pending p.top p.found m key p.with.pending (last_in_spaces d.log.shape p.top.1 d.log.pending gone logs.pending_are) room;
     placed = subst (λ (xs : List (Key × Place)). ValuesOnFlash d.log.shape values d.pool (outputs_of d) flash xs) (sym places_gone) placed_now;
     former = p.with.former;
     former_read = p.with.former_read;

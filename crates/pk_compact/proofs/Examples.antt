@@ -21,6 +21,7 @@ use Rattle.pk_root.specs.Installing.{InstallerOnFlash, repeats_next}
 use Rattle.pk_law_steps.proofs.Places.{In}
 use Rattle.pk_compact.specs.declared.freezing.FreezeJob.TheVariants.{Idle}
 use Rattle.pk_compact.specs.FreezeSteps.{IsFreezing}
+use Rattle.pk_model.specs.RootLimits.{root_limits}
 
 abbrev pub small : Shape
 small = record { page_bytes = 512; block_pages = 16; blocks = 64 }
@@ -50,7 +51,7 @@ unfolding found_under epoch runs_from run
 made_found = refl
 
 made_map : map_under small (page_at made) first nothing [] ≡ Ok empty
-unfolding map_under values_of charge limit data_blocks meta_blocks deepest greatest
+unfolding map_under root_limits values_of charge limit data_blocks meta_blocks deepest greatest
 made_map = refl
 
 two_free : slice_get adopted.states 2 ≡ Some Free → ⊥

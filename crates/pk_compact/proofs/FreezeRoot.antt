@@ -42,6 +42,7 @@ use Rattle.pk_compact.proofs.Installing.{epoch_erased, erased_behind}
 use Rattle.pk_compact.proofs.NextRoot.{programs_whole}
 use Rattle.pk_compact.proofs.TakingOne.{all_more, is_shape, valid, grammar, spare_behind}
 use Rattle.pk_base.proofs.Logic.{is_true}
+use Rattle.pk_model.specs.RootLimits.{root_limits}
 
 -- an erase leaves one step less, and no block differs
 one_fewer : (next next' : Next) (u : ℕ) → programs_next next' ≡ true → erases_next next ≡ true
@@ -204,7 +205,7 @@ module _ (pool : Blocks) (root : Held) (next : Next) (first second : ℕ) (has_e
       let values = values_under shape old.pages [] top.1 found m is.under.is_map in
       let P : ℕ → Type 0 = λ x. In x (named root.root) in
       let Q : Root → Type 0 = λ r. In (k / shape.block_pages) (named r) in
-      values_apart shape (page_at old.pages) (named top.1) [] (places found []) values.values values.read k value
+      values_apart shape (page_at old.pages) (root_limits shape top.1) (named top.1) [] (places found []) values.values values.read k value
       (is_any_back (k / shape.block_pages) (named top.1) (subst Q (sym is.top_is) (subst P (sym here) among)))
 
   apart_after : (h : Bool) → IsApart shape (given_back pool (if h then [] else root.root.newest)) (next_root root.root blocks h) (frozen found)

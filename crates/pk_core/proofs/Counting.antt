@@ -134,7 +134,7 @@ report_other e = cc
 pub flush_done : (d : Parts) (o : Outcome) (into : List ℕ) → o ≡ record { status = 0; result = 0; data_len = 0; reads = 0; stopped = false } → DoneWithout d 0x00 o into
 flush_done d o into told board r v a few op passed =
     let c = command_of r v in
-    let passes : early 1 d.log.shape c ≡ None = same_early 1 d.log.shape r v ∙ passed in
+    let passes : early 1 d.log.shape c ≡ None = same_early d.log.shape r v ∙ passed in
     let all : AnswersAll board (sight_of d) c (success 0 []) 0 =
     for_its_map d board a (λ s f m. Step s f m c (success 0 []) m × (op_of r.opcode ≡ Some Retrieve → 0 ≤ most_reads s f m c))
     (flush_step d.log.shape (frames_of d) a.all c passes (whole_all d board a) op, λ e. absurd (other_than Flush r.opcode (ap op_of op) flush_other e)) in
@@ -145,7 +145,7 @@ pub report_done : (d : Parts) (o : Outcome) (into : List ℕ) → o ≡ record {
     → take 64 into ≡ report_of (first_of d) (counts_of d) → DoneWithout d 0xC2 o into
 report_done d o into told bytes board r v a few op passed =
     let c = command_of r v in
-    let passes : early 1 d.log.shape c ≡ None = same_early 1 d.log.shape r v ∙ passed in
+    let passes : early 1 d.log.shape c ≡ None = same_early d.log.shape r v ∙ passed in
     let counted = counts_own d board a in
     let all : AnswersAll board (sight_of d) c (success 0 (take 64 into)) 0 =
     for_its_map d board a (λ s f m. Step s f m c (success 0 (take 64 into)) m × (op_of r.opcode ≡ Some Retrieve → 0 ≤ most_reads s f m c))

@@ -22,15 +22,16 @@ use Rattle.pk_model.specs.Laws.{IsWholePage}
 use Rattle.pk_model.proofs.Roots.{newest_complete, inside}
 use Rattle.pk_model.proofs.Commits.{ends}
 use Rattle.pk_base.proofs.Logic.{is_true}
+use Rattle.pk_model.specs.RootLimits.{root_spaces}
 
 -- what is found under the first root
 abbrev nothing : Found
 nothing = record { newest = []; older = []; runs = [] ∷ [] ∷ [] ∷ [] ∷ [] }
 
 -- a run without entries has no pages
-no_entries : (shape : Shape) (at : ℕ → Page) (level : ℕ) → run shape at level 0 [] ≡ Ok []
+no_entries : (shape : Shape) (spaces : ℕ) (at : ℕ → Page) (level : ℕ) → run shape spaces at level 0 [] ≡ Ok []
 unfolding run
-no_entries shape at level =
+no_entries shape spaces at level =
     let none : run_pages shape 0 ≡ 0 = (λ i. zero-div (page_entries shape) i + min 1 (zero-mod (page_entries shape) i)) in
     rw none refl
 
@@ -111,19 +112,19 @@ module _ (shape : Shape) (flash : Flash) (is_shape : IsShape shape) (size : leng
 
   newest_empty : newest_epoch shape (page_at made) first ≡ Ok []
   unfolding epoch
-  newest_empty = ends shape (page_at made) (2 ∷ 3 ∷ []) 1 0 [] (2 * (shape.block_pages / 2)) not_written
+  newest_empty = ends shape (page_at made) (2 ∷ 3 ∷ []) (root_spaces shape first) 1 0 [] (2 * (shape.block_pages / 2)) not_written
 
   older_empty : older_epoch shape (page_at made) first ≡ Ok []
   unfolding epoch
   older_empty = rw (zero-mul (shape.block_pages / 2)) refl
 
-  runs_empty : runs_from shape (page_at made) 1 first.counts first.runs ≡ Ok nothing.runs
+  runs_empty : runs_from shape (root_spaces shape first) (page_at made) 1 first.counts first.runs ≡ Ok nothing.runs
   unfolding runs_from
   runs_empty =
-      let one = no_entries shape (page_at made) 1 in
-      let two = no_entries shape (page_at made) 2 in
-      let three = no_entries shape (page_at made) 3 in
-      let four = no_entries shape (page_at made) 4 in
+      let one = no_entries shape (root_spaces shape first) (page_at made) 1 in
+      let two = no_entries shape (root_spaces shape first) (page_at made) 2 in
+      let three = no_entries shape (root_spaces shape first) (page_at made) 3 in
+      let four = no_entries shape (root_spaces shape first) (page_at made) 4 in
       rw (one, two, three, four) refl
 
   is_found : found_under shape (page_at made) first ≡ Ok nothing

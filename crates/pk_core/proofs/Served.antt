@@ -1,5 +1,6 @@
 -- The answers of commands that change the map.
-use Rattle.std.proofs.Common.{◌≡◌, ◌≢◌, inl, inr, ℕ, ◌+◌, ◌-◌, ◌/◌, ◌%◌, ◌<◌, ◌≤◌, refl, sym, ap, subst, ◌∙◌, arith, Bool, true, false, not, ◌&&◌, ◌||◌, ◌==◌, List, [], length, sum, nat_le, is_some, ◌∷◌}
+use Rattle.std.proofs.Common.{◌≡◌, ◌≢◌, inl, inr, ℕ, ◌+◌, ◌-◌, ◌/◌, ◌%◌, ◌<◌, ◌≤◌, refl, sym, ap, subst, ◌∙◌, arith, Bool, true, false, not, ◌&&◌, ◌||◌, ◌==◌, List, [], length, sum, nat_le, is_some}
+use Rattle.std.proofs.Common.{◌∷◌}
 use Rattle.std.proofs.Common.{min, Option, Some, None, Result, Ok, Err, leb-true}
 use Rattle.std.specs.Prelude.{MatchOption}
 use Rattle.std.specs.FinMap.{get, insert, remove, contains_key}
@@ -152,7 +153,8 @@ module _ (d : Parts) (old new : BoardState) (a : DriveOnFlash d old.shape old.pa
     stands = λ _. for_its_map d old a (λ s f m. Executed s f new (sight_of e) m c (refusal 0x88) made) (record {
       left = a.all;
       stepped = unread_step d.log.shape (frames_of d) a.all c passes;
-      stands = subst (λ (f : ℕ). HoldsMap d.log.shape (one_space f (limit d.log.shape)) new (sight_of e) a.all) same_frames (stands_so e new d.log.shape a.all (same_shape ∙ told) (between e d.log.shape new.pages a.all kept.stands));
+      stands = subst (λ (f : ℕ). HoldsMap d.log.shape (one_space f (limit d.log.shape)) new (sight_of e) a.all) same_frames
+          (stands_so e new d.log.shape a.all (same_shape ∙ told) (between e d.log.shape new.pages a.all kept.stands));
       bounded = λ is. absurd (other is);
     });
     found = record {
@@ -298,7 +300,7 @@ module _ (d : Parts) (old : BoardState) (r : Request) (value : List ℕ) (k : Ke
   after_pages = sum d.values.live.heads - pages_at d.log.shape o + charge d.log.shape r.size
 
   passes : early 1 d.log.shape c ≡ None
-  passes = same_early 1 d.log.shape r value ∙ s.passed
+  passes = same_early d.log.shape r value ∙ s.passed
 
   live_is : sum d.values.live.heads ≡ live d.log.shape all
   live_is = (counts_own d old s.agrees).live_is ∙ ap (live d.log.shape) (whole_all d old s.agrees)
@@ -362,7 +364,8 @@ module _ (d : Parts) (old : BoardState) (r : Request) (value : List ℕ) (k : Ke
     store_came (Ok u) e new most into outcome reads step few count stays stops told_is =
         let puts : Changes e d.log.shape all (insert all k value) old new = step.came.0 d.log.shape all may_store in
         let stepped : Step d.log.shape (terms_of d) all c (success 0 []) (insert all k value) =
-        subst (λ q. Step d.log.shape (terms_of d) all c (success 0 []) (insert all q value)) (sym named) (store_step d.log.shape (frames_of d) all c passes (whole_all d old s.agrees) (ap op_of op) late_none) in
+        subst (λ q. Step d.log.shape (terms_of d) all c (success 0 []) (insert all q value)) (sym named)
+        (store_step d.log.shape (frames_of d) all c passes (whole_all d old s.agrees) (ap op_of op) late_none) in
         let done = does_change d old new s.agrees c (insert all k value) count few one_root step.rest
         (store_other r.opcode op) leaves_put e (success 0 []) puts stays.frames step.came.1 ok_sound stepped in
         subst (λ (x : Outcome). Executes d e old new c x into (new.reads - old.reads)) (sym told_is) (record {
@@ -403,7 +406,7 @@ module _ (d : Parts) (old : BoardState) (r : Request) (v : List ℕ) (k : Key) (
   its_map = s.agrees.all
 
   delete_passed : early 1 d.log.shape dc ≡ None
-  delete_passed = same_early 1 d.log.shape r v ∙ s.passed
+  delete_passed = same_early d.log.shape r v ∙ s.passed
 
   pub delete_missing : (e : Parts) (into : List ℕ) (outcome : Outcome) (reads : ℕ) → Looks d old.pages k None → e ≡ d
       → outcome ≡ record { status = 0x87; result = 0; data_len = 0; reads = reads; stopped = false }
@@ -444,7 +447,8 @@ module _ (d : Parts) (old : BoardState) (r : Request) (v : List ℕ) (k : Key) (
     delete_came (Ok u) e new most into outcome reads step few count stays stops told_is =
         let takes : Changes e d.log.shape its_map (remove its_map k) old new = step.came.0 d.log.shape its_map may_take in
         let stepped : Step d.log.shape (terms_of d) its_map dc (success 0 []) (remove its_map k) =
-        subst (λ q. Step d.log.shape (terms_of d) its_map dc (success 0 []) (remove its_map q)) (sym named) (delete_step d.log.shape (frames_of d) its_map dc delete_passed (whole_all d old s.agrees) (ap op_of op) gone_late) in
+        subst (λ q. Step d.log.shape (terms_of d) its_map dc (success 0 []) (remove its_map q)) (sym named)
+        (delete_step d.log.shape (frames_of d) its_map dc delete_passed (whole_all d old s.agrees) (ap op_of op) gone_late) in
         let done = does_change d old new s.agrees dc (remove its_map k) count few gone_root step.rest
         (delete_other r.opcode op) leaves_gone e (success 0 []) takes stays.frames step.came.1 ok_sound stepped in
         subst (λ (x : Outcome). Executes d e old new dc x into (new.reads - old.reads)) (sym told_is) (record {

@@ -26,7 +26,8 @@ stands_for d board shape terms m agrees stands =
     subst (λ x. StandsBetween d shape board.pages x) (ok_same agrees.all m (sym (reads_between d shape board.pages agrees.all here) ∙ stands.map_is)) here
 
 -- and the other way round
-pub stands_so : (d : Parts) (board : BoardState) (shape : Shape) (m : Map) → board.shape ≡ Some shape → StandsBetween d shape board.pages m → HoldsMap shape (one_space (frames_of d) (limit shape)) board (sight_of d) m
+pub stands_so : (d : Parts) (board : BoardState) (shape : Shape) (m : Map) → board.shape ≡ Some shape
+    → StandsBetween d shape board.pages m → HoldsMap shape (one_space (frames_of d) (limit shape)) board (sight_of d) m
 stands_so d board shape m told is = record { shape_is = told; frames_is = refl; limits_is = limits_are shape board.pages; map_is = reads_between d shape board.pages m is }
 
 pub stands_here : (d : Parts) (told : Option Shape) (flash : Flash) → DriveOnFlash d told flash → (m : Map) × StandsBetween d d.log.shape flash m

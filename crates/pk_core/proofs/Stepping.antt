@@ -184,7 +184,7 @@ ok_sound e = cc
 
 module _ (old new : BoardState) (d d' : Parts) (r : Request) (v : List ℕ) (a : DriveOnFlash d old.shape old.pages) (passed : early 1 d.log.shape (command_of r []) ≡ None) (op : r.opcode ≡ 0xC0) where
   passes : early 1 d.log.shape (command_of r v) ≡ None
-  passes = same_early 1 d.log.shape r v ∙ passed
+  passes = same_early d.log.shape r v ∙ passed
 
   -- the clauses that every answer has alike
   does_steps : (answer : Ticked) (reply : Reply) (reads : ℕ) → BackgroundSteps old new (sight_of d) (sight_of d') answer r.size → reads ≡ new.reads - old.reads
@@ -205,11 +205,19 @@ module _ (old new : BoardState) (d d' : Parts) (r : Request) (v : List ℕ) (a :
         };
         found = record {
           cuts = λ runs shape frames m st.
-              let run = w.found.cuts runs shape frames m st in
-              (run.0, weaken run.0 old new (CrashFinds shape background old.pages m) (CrashFinds shape (command_on old (command_of r v)) old.pages m) (λ f q cut. (cut.0, inr (inl cut.1))) run.1, run.2);
+              let run = w.found.cuts runs shape frames m st in (
+                run.0,
+                weaken run.0 old new (CrashFinds shape background old.pages m)
+                    (CrashFinds shape (command_on old (command_of r v)) old.pages m) (λ f q cut. (cut.0, inr (inl cut.1))) run.1,
+                run.2,
+              );
           cuts_stopped = λ stops shape frames m st.
-              let run = w.found.cuts_stopped stops shape frames m st in
-              (run.0, weaken_went run.0 old new (CrashFinds shape background old.pages m) (CrashFinds shape (command_on old (command_of r v)) old.pages m) (λ f q cut. (cut.0, inr (inl cut.1))) run.1, run.2);
+              let run = w.found.cuts_stopped stops shape frames m st in (
+                run.0,
+                weaken_went run.0 old new (CrashFinds shape background old.pages m)
+                    (CrashFinds shape (command_on old (command_of r v)) old.pages m) (λ f q cut. (cut.0, inr (inl cut.1))) run.1,
+                run.2,
+              );
         };
         rest = w.rest;
         reads_are = omega (arith, is, few, more);

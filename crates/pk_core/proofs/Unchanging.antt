@@ -300,7 +300,7 @@ module _ (d d' : Parts) (old new : BoardState) (r : Request) (v into : List ℕ)
   Done o = Does old new (sight_of d) (sight_of d') (command_of r v) (shown o into) o.reads o.stopped
 
   passes : early 1 d.log.shape (command_of r v) ≡ None
-  passes = same_early 1 d.log.shape r v ∙ passed
+  passes = same_early d.log.shape r v ∙ passed
 
   same_sight : (reply : Reply) (reads : ℕ) → Does old new (sight_of d) (sight_of d) (command_of r v) reply reads false → Does old new (sight_of d) (sight_of d') (command_of r v) reply reads false
   same_sight reply reads is = subst (λ x. Does old new (sight_of d) (sight_of x) (command_of r v) reply reads false) (sym same) is

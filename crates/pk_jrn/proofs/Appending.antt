@@ -118,34 +118,34 @@ module _ (e : JournalEpoch) (flash : Flash) (es : List Entry) (bytes : List ℕ)
         twice_more (inl less) = inl (omega (arith, less))
         twice_more (inr past) = inr (omega (arith, past))
 
-    read_up : (before : List Entry) → Reads e flash before
-        → epoch e.shape (page_at cut) e.number e.blocks ≡ journal e.shape e.number e.used before (commits_of e.shape (page_at cut) e.blocks e.used (suc rest))
-    read_up before reads =
+    read_up : (spaces : ℕ) (before : List Entry) → Reads e spaces flash before
+        → epoch e.shape spaces (page_at cut) e.number e.blocks ≡ journal e.shape spaces e.number e.used before (commits_of e.shape (page_at cut) e.blocks e.used (suc rest))
+    read_up spaces before reads =
         let first : 0 + e.used ≡ e.used = zero-add e.used in
-        epoch_is e.shape (page_at cut) e.number e.blocks (e.used + suc rest) is fits.two size
-        ∙ reads_on e.shape e.number e.blocks (page_at flash) (page_at cut) e.used (suc rest) 0 [] before (λ j low high. fits.before j (omega (arith, high)))
+        epoch_is e.shape spaces (page_at cut) e.number e.blocks (e.used + suc rest) is fits.two size
+        ∙ reads_on e.shape spaces e.number e.blocks (page_at flash) (page_at cut) e.used (suc rest) 0 [] before (λ j low high. fits.before j (omega (arith, high)))
         (λ j low high. same_commit j (omega (arith, high, inside)) (inl (omega (arith, high))))
         (no_page (0 + e.used) (omega arith) (omega (arith, inside)))
-        (sym (epoch_is e.shape (page_at flash) e.number e.blocks (e.used + suc rest) is fits.two size) ∙ reads)
-        ∙ (λ i. journal e.shape e.number (first i) before (commits_of e.shape (page_at cut) e.blocks (first i) (suc rest)))
+        (sym (epoch_is e.shape spaces (page_at flash) e.number e.blocks (e.used + suc rest) is fits.two size) ∙ reads)
+        ∙ (λ i. journal e.shape spaces e.number (first i) before (commits_of e.shape (page_at cut) e.blocks (first i) (suc rest)))
 
     -- a commit without a page that is whole adds nothing
-    without : IsNotWhole (commit_at e.shape (page_at cut) e.blocks e.used).1 → (before : List Entry) → Reads e flash before → Reads e cut before
-    without not_whole before reads = read_up before reads ∙ ends e.shape e.number e.blocks (page_at cut) e.used before (suc rest) not_whole
+    without : IsNotWhole (commit_at e.shape (page_at cut) e.blocks e.used).1 → (spaces : ℕ) (before : List Entry) → Reads e spaces flash before → Reads e spaces cut before
+    without not_whole spaces before reads = read_up spaces before reads ∙ ends e.shape spaces e.number e.blocks (page_at cut) e.used before (suc rest) not_whole
 
-    ends_behind : (so_far : List Entry) (n : ℕ) → n ≡ rest → journal e.shape e.number (e.used + 1) so_far (commits_of e.shape (page_at cut) e.blocks (e.used + 1) n) ≡ Ok so_far
+    ends_behind : (spaces : ℕ) (so_far : List Entry) (n : ℕ) → n ≡ rest → journal e.shape spaces e.number (e.used + 1) so_far (commits_of e.shape (page_at cut) e.blocks (e.used + 1) n) ≡ Ok so_far
     unfolding rest
-    ends_behind so_far zero is_rest = refl
-    ends_behind so_far (suc n) is_rest =
+    ends_behind spaces so_far zero is_rest = refl
+    ends_behind spaces so_far (suc n) is_rest =
         let small : e.used + 1 < epoch_commits e.shape = omega (arith, is_rest) in
         let unchanged = same_commit (e.used + 1) small (inr (omega arith)) in
-        ends e.shape e.number e.blocks (page_at cut) (e.used + 1) so_far (suc n)
+        ends e.shape spaces e.number e.blocks (page_at cut) (e.used + 1) so_far (suc n)
         (subst (λ (p : ℕ × Page). IsNotWhole p.1) (sym unchanged) (no_page (e.used + 1) (omega arith) small))
 
     -- a page that is whole adds its entries
     with_page : (commit_at e.shape (page_at cut) e.blocks e.used).1 ≡ whole bytes → AddsAll e es flash cut
-    with_page here before reads room =
-        read_up before reads ∙ goes_on e.shape e.number e.blocks (page_at cut) e.used before rest bytes here es spells room ∙ ends_behind (before ++ es) rest refl
+    with_page here spaces before reads follows =
+        read_up spaces before reads ∙ goes_on e.shape spaces e.number e.blocks (page_at cut) e.used before rest bytes here es spells follows ∙ ends_behind spaces (before ++ es) rest refl
 
     -- by the first page
     read_here : page_at cut (next_page e) ≡ whole bytes → (commit_at e.shape (page_at cut) e.blocks e.used).1 ≡ whole bytes
@@ -203,13 +203,13 @@ module _ (e : JournalEpoch) (flash : Flash) (es : List Entry) (bytes : List ℕ)
 
   -- what the programs may leave wherever they are cut
   all_or_none : (cut : Flash) → IsPairCut (next_page e) bytes flash cut → AddsAllOrNone e es flash cut
-  all_or_none cut is_cut before reads room =
+  all_or_none cut is_cut spaces before reads follows =
       let others = outside_pair (next_page e) flash cut is_cut.outside in
       elim (pair_read (next_page e) bytes (page_at cut (next_page e)) (page_at cut (next_page e + 1)) is_cut.first is_cut.second) [
-        | inl done ↦ inr (with_page cut others done before reads room)
+        | inl done ↦ inr (with_page cut others done spaces before reads follows)
         | inr none ↦ elim none [
-          | inl is_erased ↦ inl (without cut others (erased_not_whole _ is_erased) before reads)
-          | inr is_torn ↦ inl (without cut others (torn_not_whole _ is_torn) before reads)
+          | inl is_erased ↦ inl (without cut others (erased_not_whole _ is_erased) spaces before reads)
+          | inr is_torn ↦ inl (without cut others (torn_not_whole _ is_torn) spaces before reads)
         ]
       ]
 

@@ -1,11 +1,11 @@
 -- The commits of an epoch that are read one after another into a write buffer.
-use Rattle.std.proofs.Common.{◌≡◌, ℕ, zero, suc, ◌+◌, ◌-◌, ◌^◌, ◌<◌, ◌≤◌, refl, sym, ap, subst, ◌∙◌, arith, Bool, true, false, T, List, [], ◌∷◌, ◌++◌, length, take, Some, None, Result, Ok, Err}
+use Rattle.std.proofs.Common.{◌≡◌, ℕ, zero, suc, ◌+◌, ◌-◌, ◌^◌, ◌<◌, ◌≤◌, refl, sym, ap, subst, ◌∙◌, arith, Bool, true, false, T, List, [], ◌∷◌, ◌++◌, length, take, Some, None, Result, Ok, Err, ◌&&◌, ◌⊎◌, inl, inr, nat_le, le→leb, drop}
 use Rattle.std.proofs.Common.{below_more, zero-add, add-zero}
 use Rattle.std.specs.Prelude.{slice_get, ◌*◌, ◌/◌, ◌%◌}
 use Rattle.std.specs.List.{AllByRecursion}
 use Rattle.std.specs.FinMap.Entries.{put, is_sorted}
 use Rattle.std.proofs.lemmas.List.{take_all, take-append-drop}
-use Rattle.pk_base.specs.Key.{key_cmp}
+use Rattle.pk_base.specs.Key.{key_cmp, space_of}
 use Rattle.pk_base.specs.Shape.{Shape, IsShape, buffer, epoch_commits}
 use Rattle.pk_base.specs.Page.{Page, page_at, erased, whole, torn, commit_page, commit_at, commits_of}
 use Rattle.pk_base.specs.Entry.{Entry, key_of}
@@ -17,7 +17,8 @@ use Rattle.pk_jrnfmt.specs.declared.JrnHead.{JrnHead}
 use Rattle.pk_jrnfmt.specs.declared.BadJournal.{BadJournal}
 use Rattle.pk_jrnfmt.specs.Page.{journal_entries}
 use Rattle.pk_jrnfmt.specs.PageChecks.{IsJournalPage}
-use Rattle.pk_jrnfmt.specs.Epoch.{journal, epoch}
+use Rattle.pk_space.specs.Entries.{in_spaces}
+use Rattle.pk_jrnfmt.specs.Epoch.{may_follow, journal, epoch}
 use Rattle.pk_jrnfmt.proofs.PageLemmas.{journal_held}
 use Rattle.pk_nand.specs.BoardState.{BoardState}
 use Rattle.pk_nand.specs.Operations.{after_read}
@@ -28,17 +29,56 @@ use Rattle.pk_jrn.specs.Replays.{puts, PutOrFull, PutsOrFull, TakesPage, buffer_
 use Rattle.pk_jrn.specs.EpochReads.{if_whole, reads_to_end, epoch_reads}
 use Rattle.pk_jrn.proofs.Puts.{puts-snoc, puts_are_firsts, puts_too_many, firsts-reverse}
 use Rattle.pk_jrn.proofs.Journals.{IsNotWhole, ends, goes_on, refuses, epoch_is}
+use Rattle.std.proofs.lemmas.Bool.Decides.{nat_tests}
+use Rattle.pk_base.proofs.Logic.{is_true, some_same}
+use Rattle.std.proofs.lemmas.List.Folds.{list_all-append}
+
+-- ---- the namespaces of the entries of one page
+
+take_next : (es : List Entry) (i : ℕ) (e : Entry) → slice_get es i ≡ Some e → take (suc i) es ≡ take i es ++ e ∷ []
+take_next [] i e h = cc
+take_next (x ∷ es) zero e h = let same : x ≡ e = cc in ap (λ y. y ∷ []) same
+take_next (x ∷ es) (suc i) e h = ap (λ ys. x ∷ ys) (take_next es i e h)
+
+-- the first i entries of the page are of the first namespaces
+abbrev pub InSpacesTo : Shape → List ℕ → ℕ → ℕ → ℕ → Type 0
+InSpacesTo shape page spaces count i = (epoch index : ℕ) (es : List Entry) → IsJournalPage shape page epoch index es → length es ≡ count → in_spaces spaces (take i es) ≡ true
+
+no_more : (b : Bool) → (b && false) ≡ false
+no_more true = refl
+no_more false = refl
+
+module _ (shape : Shape) (page : List ℕ) (spaces count i : ℕ) (e : Entry) (here : (epoch index : ℕ) (es : List Entry) → IsJournalPage shape page epoch index es → slice_get es i ≡ Some e) where
+  in_next : (es : List Entry) → slice_get es i ≡ Some e → in_spaces spaces (take (suc i) es) ≡ (in_spaces spaces (take i es) && nat_le (space_of e.0) spaces)
+  in_next es at = ap (in_spaces spaces) (take_next es i e at) ∙ list_all-append (λ x. nat_le (space_of x.0) spaces) (take i es) (e ∷ []) ∙ ap (λ b. in_spaces spaces (take i es) && b) (last_one (nat_le (space_of e.0) spaces))
+    where
+      last_one : (b : Bool) → (b && true) ≡ b
+      last_one true = refl
+      last_one false = refl
+
+  pub InSpacesTo-next : nat_le (space_of e.0) spaces ≡ true → InSpacesTo shape page spaces count i → InSpacesTo shape page spaces count (i + 1)
+  InSpacesTo-next own before epoch index es is many =
+      let one : i + 1 ≡ suc i = omega arith in
+      let was = before epoch index es is many in
+      rw one (in_next es (here epoch index es is) ∙ rw (was, own) refl)
+
+  pub InSpacesTo-none : nat_le (space_of e.0) spaces ≡ false
+      → (epoch index : ℕ) (es : List Entry) → IsJournalPage shape page epoch index es → length es ≡ count → in_spaces spaces es ≡ false
+  InSpacesTo-none own epoch index es is many =
+      let none : in_spaces spaces (take (suc i) es) ≡ false = in_next es (here epoch index es is) ∙ rw own (no_more (in_spaces spaces (take i es))) in
+      subst (λ (xs : List Entry). in_spaces spaces xs ≡ false) (take-append-drop (suc i) es)
+      (list_all-append (λ x. nat_le (space_of x.0) spaces) (take (suc i) es) (drop (suc i) es)
+      ∙ ap (λ b. b && in_spaces spaces (drop (suc i) es)) none)
+
+pub InSpacesTo-end : (shape : Shape) (page : List ℕ) (spaces count i : ℕ) → count ≤ i → InSpacesTo shape page spaces count i
+    → (epoch index : ℕ) (es : List Entry) → IsJournalPage shape page epoch index es → length es ≡ count → in_spaces spaces es ≡ true
+InSpacesTo-end shape page spaces count i all before epoch index es is many = ap (in_spaces spaces) (sym (take_all i es (omega (arith, all, many)))) ∙ before epoch index es is many
 
 -- ---- the entries of one page
 
 -- the first i entries of the page were written
 abbrev pub Putting : Shape → List ℕ → ℕ → Table → Table → ℕ → Type 0
 Putting shape page count old now i = (epoch index : ℕ) (es : List Entry) → IsJournalPage shape page epoch index es → length es ≡ count → now ≡ record old { entries = puts (take i es) old.entries }
-
-take_next : (es : List Entry) (i : ℕ) (e : Entry) → slice_get es i ≡ Some e → take (suc i) es ≡ take i es ++ e ∷ []
-take_next [] i e h = cc
-take_next (x ∷ es) zero e h = let same : x ≡ e = cc in ap (λ y. y ∷ []) same
-take_next (x ∷ es) (suc i) e h = ap (λ ys. x ∷ ys) (take_next es i e h)
 
 -- one more entry after the first i
 next_puts : (es table : List Entry) (i : ℕ) (e : Entry) → slice_get es i ≡ Some e → puts (take (i + 1) es) table ≡ put key_cmp (key_of e) e.1 (puts (take i es) table)
@@ -80,18 +120,26 @@ Putting-end shape page count old now i all bound p epoch index es is many =
 -- ---- one page
 
 -- the page is the epoch's, and its entries were written, or there was no room
-pub page_taken : (shape : Shape) (number index count : ℕ) (page : List ℕ) (old : Table) (ok : Bool) (new : Table) → number < 2 ^ 64 → index < epoch_commits shape
+pub page_taken : (shape : Shape) (spaces number index count : ℕ) (page : List ℕ) (old : Table) (ok : Bool) (new : Table) → number < 2 ^ 64 → index < epoch_commits shape
     → (es : List Entry) × (journal_entries shape number index page ≡ Some es) × (length es ≡ count)
+    → ((epoch index : ℕ) (es : List Entry) → IsJournalPage shape page epoch index es → length es ≡ count → in_spaces spaces es ≡ true)
     → ((epoch index : ℕ) (es : List Entry) → IsJournalPage shape page epoch index es → length es ≡ count → PutsOrFull old es ok new)
-    → TakesPage shape number index page old ok new
-page_taken shape number index count page old true new fits within reads all =
-    (reads.0, reads.1, all number index reads.0 (journal_held shape number index page reads.0 fits within reads.1) reads.2)
-page_taken shape number index count page old false new fits within reads all =
+    → TakesPage shape spaces number index page old ok new
+page_taken shape spaces number index count page old true new fits within reads spaced all =
+    let held = journal_held shape number index page reads.0 fits within reads.1 in
+    (reads.0, reads.1, spaced number index reads.0 held reads.2, all number index reads.0 held reads.2)
+page_taken shape spaces number index count page old false new fits within reads spaced all =
     let many = all number index reads.0 (journal_held shape number index page reads.0 fits within reads.1) reads.2 in
-    (many.0, λ es is. let same : reads.0 ≡ es = some_same (sym reads.1 ∙ is) in subst (λ (xs : List Entry). old.capacity < length (puts xs old.entries)) same many.1)
-  where
-    some_same : {x y : List Entry} → Some x ≡ Some y → x ≡ y
-    some_same e = cc
+    (many.0, λ es is. inr (subst (λ (xs : List Entry). old.capacity < length (puts xs old.entries)) (some_same _ _ (sym reads.1 ∙ is)) many.1))
+
+-- the page has an entry of another namespace
+pub page_of_others : (shape : Shape) (spaces number index count : ℕ) (page : List ℕ) (old : Table) → number < 2 ^ 64 → index < epoch_commits shape
+    → (es : List Entry) × (journal_entries shape number index page ≡ Some es) × (length es ≡ count)
+    → ((epoch index : ℕ) (es : List Entry) → IsJournalPage shape page epoch index es → length es ≡ count → in_spaces spaces es ≡ false)
+    → TakesPage shape spaces number index page old false old
+page_of_others shape spaces number index count page old fits within reads others =
+    let not_in = others number index reads.0 (journal_held shape number index page reads.0 fits within reads.1) reads.2 in
+    (refl, λ es is. inl (subst (λ (xs : List Entry). in_spaces spaces xs ≡ false) (some_same _ _ (sym reads.1 ∙ is)) not_in))
 
 -- what a page is read as, if it is that of an epoch and index
 abbrev pub Decoded : Shape → List ℕ → Result JrnHead BadJournal → Type 0
@@ -99,9 +147,9 @@ Decoded shape page r = (epoch index : ℕ) (entries : List Entry) → epoch < 2 
     → journal_entries shape epoch index page ≡ Some entries → r ≡ Ok (record { epoch = epoch; index = index; count = length entries })
 
 -- it is that of another epoch or index
-pub page_of_another : (shape : Shape) (number index : ℕ) (page : List ℕ) (old : Table) (r : Result JrnHead BadJournal) (head : JrnHead) → number < 2 ^ 64 → index < epoch_commits shape
-    → Decoded shape page r → r ≡ Ok head → ((head.epoch ≡ number) × (head.index ≡ index) → ⊥) → TakesPage shape number index page old false old
-page_of_another shape number index page old r head fits within read is other = (refl, λ es e. absurd (clash es (read number index es fits within e)))
+pub page_of_another : (shape : Shape) (spaces number index : ℕ) (page : List ℕ) (old : Table) (r : Result JrnHead BadJournal) (head : JrnHead) → number < 2 ^ 64 → index < epoch_commits shape
+    → Decoded shape page r → r ≡ Ok head → ((head.epoch ≡ number) × (head.index ≡ index) → ⊥) → TakesPage shape spaces number index page old false old
+page_of_another shape spaces number index page old r head fits within read is other = (refl, λ es e. absurd (clash es (read number index es fits within e)))
   where
     head_same : (x y : JrnHead) → ◌≡◌ {A = Result JrnHead BadJournal} (Ok x) (Ok y) → x ≡ y
     head_same x y e = cc
@@ -112,9 +160,9 @@ page_of_another shape number index page old r head fits within read is other = (
         other (ap (λ (h : JrnHead). h.epoch) same, ap (λ (h : JrnHead). h.index) same)
 
 -- it is none
-pub no_page : (shape : Shape) (number index : ℕ) (page : List ℕ) (old : Table) (r : Result JrnHead BadJournal) (bad : BadJournal) → number < 2 ^ 64 → index < epoch_commits shape
-    → Decoded shape page r → r ≡ Err bad → TakesPage shape number index page old false old
-no_page shape number index page old r bad fits within read is = (refl, λ es e. absurd (clash es (read number index es fits within e)))
+pub no_page : (shape : Shape) (spaces number index : ℕ) (page : List ℕ) (old : Table) (r : Result JrnHead BadJournal) (bad : BadJournal) → number < 2 ^ 64 → index < epoch_commits shape
+    → Decoded shape page r → r ≡ Err bad → TakesPage shape spaces number index page old false old
+no_page shape spaces number index page old r bad fits within read is = (refl, λ es e. absurd (clash es (read number index es fits within e)))
   where
     clash : (es : List Entry) → r ≡ Ok (record { epoch = number; index = index; count = length es }) → ⊥
     clash es e = cc
@@ -166,13 +214,13 @@ more_reads (suc k) n b =
     let e : suc (n + k) ≡ n + suc k = omega arith in
     ap after_read (more_reads k n b) ∙ ap (λ (m : ℕ). after_reads m b) e
 
-module _ (shape : Shape) (number : ℕ) (blocks : List ℕ) (old : BoardState) where
+module _ (shape : Shape) (spaces number : ℕ) (blocks : List ℕ) (old : BoardState) where
   -- i commits were read and their entries written, and what remains to be read is the rest of the epoch
   pub record Replaying (now : BoardState) (i : ℕ) (into : Table) : Type 0 where
     pub entries : List Entry
     pub board : now ≡ after_reads (reads_before shape (page_at old.pages) blocks i) old
     pub held : into ≡ buffer_of shape entries
-    pub left : epoch shape (page_at old.pages) number blocks ≡ journal shape number i entries (commits_of shape (page_at old.pages) blocks i (epoch_commits shape - i))
+    pub left : epoch shape spaces (page_at old.pages) number blocks ≡ journal shape spaces number i entries (commits_of shape (page_at old.pages) blocks i (epoch_commits shape - i))
     pub reads : epoch_reads shape (page_at old.pages) blocks ≡ reads_before shape (page_at old.pages) blocks i + reads_to_end shape (page_at old.pages) blocks i (epoch_commits shape - i)
     pub before : (j : ℕ) → j < i → HasCommit shape old.pages blocks j
     pub each : AllByRecursion (IsEntry shape) entries
@@ -182,7 +230,7 @@ module _ (shape : Shape) (number : ℕ) (blocks : List ℕ) (old : BoardState) w
     entries = [];
     board = refl;
     held = empty;
-    left = epoch_is shape (page_at old.pages) number blocks (epoch_commits shape - 0) is two (omega arith);
+    left = epoch_is shape spaces (page_at old.pages) number blocks (epoch_commits shape - 0) is two (omega arith);
     reads = reads_are shape (page_at old.pages) blocks (epoch_commits shape - 0) is two (omega arith) ∙ sym (zero-add _);
     before = λ j small. absurd (omega (arith, small));
     each = tt;
@@ -214,8 +262,8 @@ module _ (shape : Shape) (number : ℕ) (blocks : List ℕ) (old : BoardState) w
     reads_here : (rest : ℕ) → epoch_commits shape - i ≡ rest → epoch_reads shape at blocks ≡ reads_before shape at blocks i + reads_to_end shape at blocks i rest
     reads_here rest e = r.reads ∙ ap (λ k. reads_before shape at blocks i + reads_to_end shape at blocks i k) e
 
-    left_here : (rest : ℕ) → epoch_commits shape - i ≡ rest → epoch shape at number blocks ≡ journal shape number i r.entries (commits_of shape at blocks i rest)
-    left_here rest e = r.left ∙ ap (λ k. journal shape number i r.entries (commits_of shape at blocks i k)) e
+    left_here : (rest : ℕ) → epoch_commits shape - i ≡ rest → epoch shape spaces at number blocks ≡ journal shape spaces number i r.entries (commits_of shape at blocks i rest)
+    left_here rest e = r.left ∙ ap (λ k. journal shape spaces number i r.entries (commits_of shape at blocks i k)) e
 
     -- the board after the reads of the next commit
     read_more : (new : BoardState) → new ≡ after_reads (reads_of_pair (at (commit_page shape blocks i))) now → new ≡ after_reads (reads_before shape at blocks (i + 1)) old
@@ -226,13 +274,15 @@ module _ (shape : Shape) (number : ℕ) (blocks : List ℕ) (old : BoardState) w
         ∙ ap (λ k. after_reads (reads_before shape at blocks k) old) one
 
     pub Replaying-next : (bytes : List ℕ) (new : BoardState) (into' : Table) → number < 2 ^ 64 → i < epoch_commits shape → next.1 ≡ whole bytes
-        → new ≡ after_reads (reads_of_pair (at (commit_page shape blocks i))) now → TakesPage shape number i bytes into true into' → Replaying new (i + 1) into'
+        → new ≡ after_reads (reads_of_pair (at (commit_page shape blocks i))) now → TakesPage shape spaces number i bytes into true into' → Replaying new (i + 1) into'
     Replaying-next bytes new into' fits inside here read takes =
         let es = takes.0 in
-        let size : length into'.entries ≡ length (firsts (r.entries ++ es)) = ap (λ (t : Table). length t.entries) takes.2.0 ∙ keys es in
+        let size : length into'.entries ≡ length (firsts (r.entries ++ es)) = ap (λ (t : Table). length t.entries) takes.3.0 ∙ keys es in
         let c = room in
-        let most = takes.2.1 in
-        let within : length (firsts (r.entries ++ es)) ≤ buffer shape = omega (arith, size, most, c) in
+        let most = takes.3.1 in
+        let few : nat_le (length (firsts (r.entries ++ es))) (buffer shape) ≡ true = is_true _ (le→leb _ _ (omega (arith, size, most, c))) in
+        let spaced : in_spaces spaces es ≡ true = takes.2 in
+        let follows : may_follow shape spaces r.entries es ≡ true = rw (few, spaced) refl in
         let step : epoch_commits shape - i ≡ suc (epoch_commits shape - (i + 1)) = omega (arith, inside) in
         let one : suc i ≡ i + 1 = omega arith in
         let more : ℕ = reads_to_end shape at blocks (i + 1) (epoch_commits shape - (i + 1)) in
@@ -242,34 +292,41 @@ module _ (shape : Shape) (number : ℕ) (blocks : List ℕ) (old : BoardState) w
         record {
           entries = r.entries ++ es;
           board = read_more new read;
-          held = takes.2.0 ∙ ap (λ (t : Table). record t { entries = puts es t.entries }) r.held
+          held = takes.3.0 ∙ ap (λ (t : Table). record t { entries = puts es t.entries }) r.held
               ∙ ap (λ (xs : List Entry). record { capacity = buffer shape; entries = xs }) (puts_are_firsts r.entries es);
-          left = left_here (suc (epoch_commits shape - (i + 1))) step ∙ goes_on shape number blocks at i r.entries (epoch_commits shape - (i + 1)) bytes here es takes.1 within;
+          left = left_here (suc (epoch_commits shape - (i + 1))) step ∙ goes_on shape spaces number blocks at i r.entries (epoch_commits shape - (i + 1)) bytes here es takes.1 follows;
           reads = omega (arith, all, gone, shifted);
           before = λ j small. below_more (λ (j : ℕ). HasCommit shape old.pages blocks j) i r.before (bytes, here) j (omega (arith, small));
           each = all_append (IsEntry shape) r.entries es r.each (journal_held shape number i bytes es fits inside takes.1).content.each;
         }
 
     pub Replaying-refused : (bytes : List ℕ) (new : BoardState) (into' : Table) (page : ℕ) → i < epoch_commits shape → next.1 ≡ whole bytes
-        → new ≡ after_reads (reads_of_pair (at (commit_page shape blocks i))) now → page ≡ next.0 → TakesPage shape number i bytes into false into' → ReplayRefused shape number blocks old new page
+        → new ≡ after_reads (reads_of_pair (at (commit_page shape blocks i))) now → page ≡ next.0 → TakesPage shape spaces number i bytes into false into' → ReplayRefused shape spaces number blocks old new page
     Replaying-refused bytes new into' page inside here read page_is takes =
         let step : epoch_commits shape - i ≡ suc (epoch_commits shape - (i + 1)) = omega (arith, inside) in
-        let c = room in
         record {
           index = i;
           within = inside;
           page_is = page_is;
           read = left_here (suc (epoch_commits shape - (i + 1))) step
-              ∙ refuses shape number blocks at i r.entries (epoch_commits shape - (i + 1)) bytes here (λ es is. let many = takes.1 es is in let k = keys es in omega (arith, c, many, k))
+              ∙ refuses shape spaces number blocks at i r.entries (epoch_commits shape - (i + 1)) bytes here (λ es is. not_followed es (takes.1 es is))
               ∙ ap (λ p. Err (damaged p)) (sym page_is);
           board = read_more new read;
         }
+      where
+        not_followed : (es : List Entry) → (in_spaces spaces es ≡ false) ⊎ (into.capacity < length (puts es into.entries)) → may_follow shape spaces r.entries es ≡ false
+        not_followed es (inl other) = rw other (no_more (nat_le (length (firsts (r.entries ++ es))) (buffer shape)))
+        not_followed es (inr many) =
+            let k = keys es in
+            let c = room in
+            let full : nat_le (length (firsts (r.entries ++ es))) (buffer shape) ≡ false = grind (arith, nat_tests) in
+            rw full refl
 
     -- the commit has no page that is whole
-    pub Replayed-ends : i < epoch_commits shape → IsNotWhole next.1 → Replayed shape number blocks old.pages i into
+    pub Replayed-ends : i < epoch_commits shape → IsNotWhole next.1 → Replayed shape spaces number blocks old.pages i into
     Replayed-ends inside not_whole = record {
       entries = r.entries;
-      read = r.left ∙ ends shape number blocks at i r.entries (epoch_commits shape - i) not_whole;
+      read = r.left ∙ ends shape spaces number blocks at i r.entries (epoch_commits shape - i) not_whole;
       held = r.held;
       each = r.each;
       within = omega (arith, inside);

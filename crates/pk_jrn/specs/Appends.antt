@@ -1,9 +1,8 @@
 -- Entries that are added to an epoch.
-use Rattle.std.specs.Prelude.{◌≡◌, ◌⊎◌, ℕ, ◌+◌, ◌≤◌, true, false, List, ◌++◌, length, Some}
-use Rattle.pk_base.specs.Shape.{buffer}
+use Rattle.std.specs.Prelude.{◌≡◌, ◌⊎◌, ℕ, ◌+◌, ◌≤◌, true, false, List, ◌++◌, Some}
 use Rattle.pk_base.specs.Page.{Flash, page_at, whole}
 use Rattle.pk_base.specs.Entry.{Entry}
-use Rattle.pk_base.specs.Firsts.{firsts}
+use Rattle.pk_jrnfmt.specs.Epoch.{may_follow}
 use Rattle.pk_jrnfmt.specs.Page.{journal_bytes, journal_entries}
 use Rattle.pk_nand.specs.BoardState.{BoardState}
 use Rattle.pk_nand.specs.Calls.{after_program, ProgramFailed}
@@ -19,17 +18,16 @@ next_bytes e new = journal_bytes e.shape e.number e.used new
 abbrev pub programs_of_commit : JournalEpoch → List Entry → List (ℕ × List ℕ)
 programs_of_commit e new = programs_of_pair (next_page e) (next_bytes e new)
 
--- The entries of the epoch, and after them the new ones, have no more keys than a write buffer.
-abbrev pub HaveRoom : JournalEpoch → List Entry → List Entry → Type 0
-HaveRoom e before new = length (firsts (before ++ new)) ≤ buffer e.shape
-
--- whatever the entries of the epoch were: the new ones follow them now
+-- whatever the entries of the epoch were, if the new ones may follow them, they do now
 abbrev pub AddsAll : JournalEpoch → List Entry → Flash → Flash → Type 0
-AddsAll e new old flash = (before : List Entry) → Reads e old before → HaveRoom e before new → Reads e flash (before ++ new)
+AddsAll e new old flash =
+    (spaces : ℕ) (before : List Entry) → Reads e spaces old before → may_follow e.shape spaces before new ≡ true → Reads e spaces flash (before ++ new)
 
--- whatever the entries of the epoch were: they are these still, or the new ones follow them, all of them
+-- whatever the entries of the epoch were, if the new ones may follow them: they are these still, or the new ones follow them, all of them
 abbrev pub AddsAllOrNone : JournalEpoch → List Entry → Flash → Flash → Type 0
-AddsAllOrNone e new old flash = (before : List Entry) → Reads e old before → HaveRoom e before new → Reads e flash before ⊎ Reads e flash (before ++ new)
+AddsAllOrNone e new old flash =
+    (spaces : ℕ) (before : List Entry) → Reads e spaces old before → may_follow e.shape spaces before new ≡ true
+    → Reads e spaces flash before ⊎ Reads e spaces flash (before ++ new)
 
 -- What a cut of a commit leaves: no page but the two of the epoch's next commit differs, and all of the entries were added, or none.
 pub record IsCommitCut (e : JournalEpoch) (new : List Entry) (old flash : Flash) : Type 0 where

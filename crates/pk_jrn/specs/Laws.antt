@@ -21,8 +21,8 @@ FitsElsewhere = (e : JournalEpoch) (old new : Flash) → IsShape e.shape → Sam
 -- and its entries, or its refusal, are the same
 abbrev pub ReadsElsewhere : Type 0
 ReadsElsewhere =
-    (shape : Shape) (number : ℕ) (blocks : List ℕ) (old new : Flash) → IsShape shape → length blocks ≡ 2 → SameBlocks shape blocks old new
-    → epoch shape (page_at new) number blocks ≡ epoch shape (page_at old) number blocks
+    (shape : Shape) (spaces number : ℕ) (blocks : List ℕ) (old new : Flash) → IsShape shape → length blocks ≡ 2 → SameBlocks shape blocks old new
+    → epoch shape spaces (page_at new) number blocks ≡ epoch shape spaces (page_at old) number blocks
 
 -- if nothing differs outside some pages of another block, no page of the two blocks differs
 abbrev pub ChangesElsewhere : Type 0

@@ -1,5 +1,5 @@
 -- An epoch that is read from a flash into a write buffer.
-use Rattle.std.specs.Prelude.{◌≡◌, ℕ, zero, suc, ◌+◌, ◌<◌, ◌≤◌, Bool, true, false, List, [], ◌∷◌, length, reverse, Some, Ok, Err}
+use Rattle.std.specs.Prelude.{◌≡◌, ◌⊎◌, ℕ, zero, suc, ◌+◌, ◌<◌, ◌≤◌, Bool, true, false, List, [], ◌∷◌, length, reverse, Some, Ok, Err}
 use Rattle.std.specs.FinMap.Entries.{put}
 use Rattle.std.specs.List.{AllByRecursion}
 use Rattle.pk_base.specs.Key.{key_cmp}
@@ -9,6 +9,7 @@ use Rattle.pk_base.specs.Entry.{Entry, key_of}
 use Rattle.pk_base.specs.EntryChecks.{IsEntry}
 use Rattle.pk_base.specs.Firsts.{firsts}
 use Rattle.pk_base.specs.Refusal.{damaged}
+use Rattle.pk_space.specs.Entries.{in_spaces}
 use Rattle.pk_jrnfmt.specs.Page.{journal_entries}
 use Rattle.pk_jrnfmt.specs.Epoch.{epoch}
 use Rattle.pk_buf.specs.Table.{Table}
@@ -29,11 +30,11 @@ abbrev pub reads_before : Shape → (ℕ → Page) → List ℕ → ℕ → ℕ
 reads_before shape at blocks zero = 0
 reads_before shape at blocks (suc i) = reads_before shape at blocks i + reads_of_pair (at (commit_page shape blocks i))
 
-module _ (shape : Shape) (number : ℕ) (blocks : List ℕ) where
+module _ (shape : Shape) (spaces number : ℕ) (blocks : List ℕ) where
   -- n commits were replayed: they are those before the first that has no page that is Whole, and the buffer holds the epoch's entries
   pub record Replayed (flash : Flash) (used : ℕ) (into : Table) : Type 0 where
     pub entries : List Entry
-    pub read : epoch shape (page_at flash) number blocks ≡ Ok entries
+    pub read : epoch shape spaces (page_at flash) number blocks ≡ Ok entries
     pub held : into ≡ buffer_of shape entries
     pub each : AllByRecursion (IsEntry shape) entries
     pub within : used ≤ epoch_commits shape
@@ -45,7 +46,7 @@ module _ (shape : Shape) (number : ℕ) (blocks : List ℕ) where
     pub index : ℕ
     pub within : index < epoch_commits shape
     pub page_is : page ≡ (commit_at shape (page_at old.pages) blocks index).0
-    pub read : epoch shape (page_at old.pages) number blocks ≡ Err (damaged page)
+    pub read : epoch shape spaces (page_at old.pages) number blocks ≡ Err (damaged page)
     pub board : new ≡ after_reads (reads_before shape (page_at old.pages) blocks (index + 1)) old
 
   -- a read failed, after others that did not
@@ -79,7 +80,11 @@ abbrev pub PutsOrFull : Table → List Entry → Bool → Table → Type 0
 PutsOrFull old es true new = (new ≡ record old { entries = puts es old.entries }) × (length new.entries ≤ old.capacity)
 PutsOrFull old es false new = (new.capacity ≡ old.capacity) × (old.capacity < length (puts es old.entries))
 
--- The entries of the epoch's commit of this index were written; or the bytes are none, or there is no room for all its entries.
-abbrev pub TakesPage : Shape → ℕ → ℕ → List ℕ → Table → Bool → Table → Type 0
-TakesPage shape number index page old true new = (es : List Entry) × (journal_entries shape number index page ≡ Some es) × PutsOrFull old es true new
-TakesPage shape number index page old false new = (new.capacity ≡ old.capacity) × ((es : List Entry) → journal_entries shape number index page ≡ Some es → old.capacity < length (puts es old.entries))
+-- The entries of the epoch's commit of this index were written; or the bytes are none, or have an entry of another namespace, or there is no room for
+-- all its entries.
+abbrev pub TakesPage : Shape → ℕ → ℕ → ℕ → List ℕ → Table → Bool → Table → Type 0
+TakesPage shape spaces number index page old true new =
+    (es : List Entry) × (journal_entries shape number index page ≡ Some es) × (in_spaces spaces es ≡ true) × PutsOrFull old es true new
+TakesPage shape spaces number index page old false new =
+    (new.capacity ≡ old.capacity)
+    × ((es : List Entry) → journal_entries shape number index page ≡ Some es → (in_spaces spaces es ≡ false) ⊎ (old.capacity < length (puts es old.entries)))

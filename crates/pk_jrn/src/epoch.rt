@@ -1,5 +1,5 @@
 //! An epoch and its next commit.
-ghost use Rattle.std.specs.Prelude.{◌≡◌, ◌+◌, ◌<◌, ◌≤◌, ◌⊎◌, true, false, length, [], Some, IfOk, IfErr, OnOk, OnErr, MatchBool};
+ghost use Rattle.std.specs.Prelude.{◌≡◌, ℕ, ◌+◌, ◌<◌, ◌≤◌, ◌⊎◌, true, false, length, [], Some, IfOk, IfErr, OnOk, OnErr, MatchBool};
 ghost use Rattle.std.specs.List.{AllByRecursion};
 ghost use Rattle.pk_base.specs.Shape.{page_entries, epoch_commits};
 ghost use Rattle.pk_base.specs.Page.{Flash};
@@ -53,7 +53,8 @@ impl Epoch {
     pub fn start(shape: Shape, number: u64, blocks: [u16; 2]) -> Epoch
         ensures started { result ≡ started shape number blocks }
         ensures fits { (flash : Flash) → AreErased shape flash blocks → EpochOnFlash result flash }
-        ensures reads { (flash : Flash) → AreErased shape flash blocks → Reads result flash [] }
+        ensures reads { (spaces : ℕ) (flash : Flash) → AreErased shape flash blocks
+            → Reads result spaces flash [] }
     {
         shape.known();
         Epoch {

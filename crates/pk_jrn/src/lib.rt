@@ -13,4 +13,4 @@ mod reading;
 pub use epoch::Epoch;
 pub use error::ReplayError;
 pub use laws::{changes_elsewhere, fits_elsewhere, reads_elsewhere};
-pub use reading::replay;
+pub use reading::{replay, replay_in};

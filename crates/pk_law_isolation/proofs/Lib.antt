@@ -5,6 +5,7 @@ pub mod Parts
 pub mod Alone
 pub mod Isolating
 pub mod Fixing
+pub mod Together
 pub mod InParts
 pub mod Sums
 pub mod Within

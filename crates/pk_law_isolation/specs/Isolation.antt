@@ -74,3 +74,11 @@ abbrev pub Fixed : Type 0
 Fixed =
     (shape : Shape) (terms : Terms) (m m' m'' : Map) (xs ys : List Exchange) → Run shape terms m xs m' → Run shape terms m ys m'' → commands xs ≡ commands ys
     → faults xs ≡ 0 → faults ys ≡ 0 → (told_replies xs ≡ told_replies ys) × (m' ≡ m'')
+
+-- So, without read errors, the replies to the commands of a namespace are those of every run of a drive that has it alone, whatever is done in the
+-- other namespaces.
+abbrev pub SameReplies : Type 0
+SameReplies =
+    (shape : Shape) (terms : Terms) (space : ℕ) (m m' left : Map) (xs ys : List Exchange) → 1 ≤ space → space ≤ length terms.limits
+    → Run shape terms m xs m' → faults xs ≡ 0 → Run shape (terms_alone terms space) (map_alone space m) ys left → commands ys ≡ commands_of_space space (commands xs) → faults ys ≡ 0
+    → told_replies (exchanges_in space xs) ≡ told_replies ys

@@ -1,5 +1,5 @@
 //! The laws of namespaces.
-ghost use Rattle.pk_law_isolation.specs.Isolation.{Isolated, Fixed};
+ghost use Rattle.pk_law_isolation.specs.Isolation.{Isolated, Fixed, SameReplies};
 ghost use Rattle.pk_law_isolation.specs.Parts.{AnsweredInParts};
 ghost use Rattle.pk_law_isolation.specs.Sums.{WithinSum, FirstIsPart};
 ghost use Rattle.pk_law_isolation.specs.Within.{WithinEach};
@@ -12,6 +12,12 @@ pub fn isolation()
 /// The commands of a run without read errors, and the map before it, fix its replies but for a Report's numbers of the drive's own.
 pub fn answers_are_fixed()
     ensures { Fixed }
+{}
+
+/// Without read errors, the replies to the commands of one namespace are those of every run of a drive that has this namespace alone, but for a
+/// Report's numbers of the drive's own.
+pub fn same_replies()
+    ensures { SameReplies }
 {}
 
 /// What is answered on the one map is what is answered on the list of the maps of its namespaces, one of them changed.

@@ -1,10 +1,10 @@
 -- The entries that name copies do not change the map.
-use Rattle.std.proofs.Common.{◌≡◌, inl, inr, ℕ, zero, suc, ◌+◌, ◌-◌, ◌*◌, ◌/◌, ◌%◌, ◌<◌, ◌≤◌, mod-lt, div-add-mod', refl, sym, ap, subst, ◌∙◌, arith, Bool, true, not, T, List, [], ◌∷◌, ◌++◌, length}
+use Rattle.std.proofs.Common.{◌≡◌, inl, inr, ℕ, zero, suc, ◌+◌, ◌-◌, ◌*◌, ◌/◌, ◌%◌, ◌<◌, ◌≤◌, mod-lt, div-add-mod', refl, sym, ap, subst, ◌∙◌, arith, Bool, true, not, T, List, [], ◌∷◌, ◌++◌, length, false, cond, Ordering}
 use Rattle.std.proofs.Common.{drop, nat_le, nat_eq, ◌==◌, Some, Ok, le→leb, le_trans, append_assoc, append-nil, add-zero}
 use Rattle.std.specs.List.{list_any, list_all, starts_with, AllByRecursion}
 use Rattle.std.specs.FinMap.Entries.{put, find, is_sorted}
 use Rattle.std.proofs.lemmas.Nat.{div-mul-add}
-use Rattle.pk_base.specs.Key.{Key, key_cmp}
+use Rattle.pk_base.specs.Key.{Key, key_cmp, space_of}
 use Rattle.pk_base.specs.Shape.{Shape, IsShape, charge, buffer}
 use Rattle.pk_base.specs.Page.{Page, Flash, page_at, erased, whole, torn}
 use Rattle.pk_base.specs.Entry.{Entry, Place}
@@ -16,10 +16,10 @@ use Rattle.pk_segfmt.specs.Value.{head_bytes, value_page, value_from, value_at}
 use Rattle.pk_rootfmt.specs.Root.{Root, named}
 use Rattle.pk_model.specs.Found.{Found, entries_in_order}
 use Rattle.pk_model.specs.Values.{placed, fits, values_of, all_pages}
-use Rattle.pk_model.specs.Reading.{map_under}
+use Rattle.pk_model.specs.Reading.{map_under, may_add}
 use Rattle.pk_model.proofs.StrangePages.{bind_ok}
-use Rattle.pk_model.proofs.Lookups.{Has, find-values}
-use Rattle.pk_model.proofs.ValueSets.{values_sound, values_complete, Reads, fits_parts, parts_fit}
+use Rattle.pk_model.proofs.Lookups.{Has, find-values, same_key}
+use Rattle.pk_model.proofs.ValueSets.{values_sound, values_complete, Reads, fits_parts, parts_fit, IsPlacedIn, fits_within, under_in_spaces}
 use Rattle.pk_model.proofs.Stores.{placed-put, reads-put, entries_in_order-push}
 use Rattle.pk_model.proofs.Merges.{placed_sorted}
 use Rattle.pk_model.proofs.HeldMap.{nothing_fits}
@@ -30,8 +30,12 @@ use Rattle.pk_law_steps.proofs.Committing.{commits, commits_pair, commit_done}
 use Rattle.pk_law_moves.specs.Moves.{entries_of, moved, AreCopies, CanMove, MovesLeaveMap, PlacesMove, MovesCommit, MovesPair, MovesCommitted, Copies}
 use Rattle.pk_law_steps.proofs.Counting.{sorted_read}
 use Rattle.pk_law_moves.proofs.Moved.{put_same, page_moved, differ_moved, HaveLength, length_moved}
-use Rattle.pk_base.proofs.Logic.{is_true, left_part, right_part, passed}
+use Rattle.pk_base.proofs.Logic.{is_true, left_part, right_part, passed, both}
 use Rattle.pk_base.proofs.KeyLemmas.{firsts_sorted}
+use Rattle.pk_model.specs.RootLimits.{root_limits, root_spaces}
+use Rattle.pk_space.specs.Entries.{in_spaces}
+use Rattle.pk_model.proofs.Entries.{all_put}
+use Rattle.std.specs.Ordering.{eq_by_cmp}
 
 -- ---- a copy is read as the value
 
@@ -80,14 +84,14 @@ module _ (shape : Shape) (at : ℕ → Page) where
       (subst (λ xs. Reads shape named_blocks at (put key_cmp m.0 m.1 es) xs) (put_same m.0 stand.0.0 vs rises stand.0.1)
       (reads-put shape named_blocks at m.0 m.1 stand.0.0 es vs stand.0.2 reads))
 
-stand_copies : (shape : Shape) (flash : Flash) (blocks : List ℕ) (es : List (Key × Place)) (vs : List (Key × List ℕ)) (moves : List (Key × Place))
-    → values_of shape (page_at flash) blocks [] es ≡ Ok vs → AreCopies shape flash es moves → Stand shape (page_at flash) moves vs
-stand_copies shape flash blocks es vs [] ok copies = tt
-stand_copies shape flash blocks es vs (m ∷ moves) ok copies =
+stand_copies : (shape : Shape) (flash : Flash) (limits blocks : List ℕ) (es : List (Key × Place)) (vs : List (Key × List ℕ)) (moves : List (Key × Place))
+    → values_of shape (page_at flash) limits blocks [] es ≡ Ok vs → AreCopies shape flash es moves → Stand shape (page_at flash) moves vs
+stand_copies shape flash limits blocks es vs [] ok copies = tt
+stand_copies shape flash limits blocks es vs (m ∷ moves) ok copies =
     let copy = copies.0.2 in
     let has : Has shape (page_at flash) m.0 (Some copies.0.0) (find key_cmp m.0 vs) = subst
-    (λ x. Has shape (page_at flash) m.0 x (find key_cmp m.0 vs)) copies.0.1 (find-values shape (page_at flash) blocks [] es vs ok m.0) in
-    ((has.0, has.2, copied shape (page_at flash) m.0 copies.0.0 m.1 has.0 copy.same_len copy.same_pages has.1), stand_copies shape flash blocks es vs moves ok copies.1)
+    (λ x. Has shape (page_at flash) m.0 x (find key_cmp m.0 vs)) copies.0.1 (find-values shape (page_at flash) limits blocks [] es vs ok m.0) in
+    ((has.0, has.2, copied shape (page_at flash) m.0 copies.0.0 m.1 has.0 copy.same_len copy.same_pages has.1), stand_copies shape flash limits blocks es vs moves ok copies.1)
 
 same_lengths : (shape : Shape) (flash : Flash) (es moves : List (Key × Place)) → AreCopies shape flash es moves → HaveLength shape es moves
 same_lengths shape flash es [] copies = tt
@@ -133,6 +137,34 @@ fits_moved shape flash extra root found moves blocks can is =
     all_at p (x ∷ xs) k all (inl e) = subst (λ y. T (p y)) (sym e) (left_part (p x) (list_all p xs) all)
     all_at p (x ∷ xs) k all (inr is) = all_at p xs k (right_part (p x) (list_all p xs) all) is
 
+-- the copies have keys of values, and so have their entries
+found_in_spaces : (spaces : ℕ) (key : Key) (place : Place) (es : List (Key × Place)) → AllByRecursion (IsPlacedIn spaces) es → find key_cmp key es ≡ Some place → T (nat_le (space_of key) spaces)
+found_in_spaces spaces key place [] all found = cc
+found_in_spaces spaces key place (e ∷ es) all found =
+    elim (eq_by_cmp key_cmp key e.0) as (λ b. eq_by_cmp key_cmp key e.0 ≡ b → cond b (Some e.1) (find key_cmp key es) ≡ Some place → T (nat_le (space_of key) spaces)) [
+      | true ↦ λ same f. subst (λ k. T (nat_le (space_of k) spaces)) (sym (same_key key e.0 same)) all.0
+      | false ↦ λ other f. found_in_spaces spaces key place es all.1 f
+    ] refl found
+
+copies_in_spaces : (shape : Shape) (flash : Flash) (spaces : ℕ) (es moves : List (Key × Place)) → AllByRecursion (IsPlacedIn spaces) es → AreCopies shape flash es moves
+    → AllByRecursion (IsPlacedIn spaces) moves
+copies_in_spaces shape flash spaces es [] all copies = tt
+copies_in_spaces shape flash spaces es (m ∷ moves) all copies =
+    (found_in_spaces spaces m.0 copies.0.0 es all copies.0.1, copies_in_spaces shape flash spaces es moves all copies.1)
+
+moved_in_spaces : (spaces : ℕ) (moves es : List (Key × Place)) → AllByRecursion (IsPlacedIn spaces) es → AllByRecursion (IsPlacedIn spaces) moves
+    → AllByRecursion (IsPlacedIn spaces) (moved moves es)
+moved_in_spaces spaces [] es all copies = all
+moved_in_spaces spaces (m ∷ moves) es all copies = moved_in_spaces spaces moves (put key_cmp m.0 m.1 es) (all_put (IsPlacedIn spaces) m.0 m.1 es copies.0 all) copies.1
+
+entries_in_spaces : (spaces : ℕ) (extra : List Entry) (moves : List (Key × Place)) → T (in_spaces spaces extra) → AllByRecursion (IsPlacedIn spaces) moves
+    → T (in_spaces spaces (extra ++ entries_of moves))
+entries_in_spaces spaces (e ∷ extra) moves more copies =
+    both (nat_le (space_of e.0) spaces) (in_spaces spaces (extra ++ entries_of moves)) (left_part (nat_le (space_of e.0) spaces) (in_spaces spaces extra) more)
+    (entries_in_spaces spaces extra moves (right_part (nat_le (space_of e.0) spaces) (in_spaces spaces extra) more) copies)
+entries_in_spaces spaces [] [] more copies = tt
+entries_in_spaces spaces [] (m ∷ moves) more copies = both (nat_le (space_of m.0) spaces) (in_spaces spaces (entries_of moves)) copies.0 (entries_in_spaces spaces [] moves more copies.1)
+
 pub moves_stay : MovesLeaveMap
 unfolding map_under
 moves_stay shape flash extra top found m moves blocks under can = record { is_top = under.is_top; is_found = under.is_found; is_map = is_map }
@@ -140,16 +172,22 @@ moves_stay shape flash extra top found m moves blocks under can = record { is_to
     is_map : map_under shape (page_at flash) top.1 found (extra ++ entries_of moves) ≡ Ok m
     is_map =
         let at = page_at flash in
+        let limits = root_limits shape top.1 in
+        let spaces = root_spaces shape top.1 in
         let es = places found extra in
         let values = values_under shape flash extra top.1 found m under.is_map in
-        let before = values_sound shape (named top.1) at es values.values (nothing_fits shape (named top.1)) values.read in
+        let before = values_sound shape (named top.1) at limits es values.values (nothing_fits shape (named top.1)) values.read in
         let rises = sorted_read shape (named top.1) at es values.values before.read (rising found extra) in
-        let stand = stand_copies shape flash (named top.1) es values.values moves values.read can.copies in
+        let stand = stand_copies shape flash limits (named top.1) es values.values moves values.read can.copies in
         let lies = fits_moved shape flash extra top.1 found moves blocks can (subst T (sym before.placed_well) tt) in
-        let after : values_of shape at (named top.1) [] (places found (extra ++ entries_of moves)) ≡ Ok values.values =
-        ap (values_of shape at (named top.1) []) (places_move found extra moves) ∙ values_complete shape (named top.1) at (moved moves es) values.values
-        (record { placed_well = is_true _ lies; read = reads_moved shape at (named top.1) moves es values.values rises stand before.read }) in
-        let enough : nat_le (length (firsts (found.newest ++ (extra ++ entries_of moves)))) (buffer shape) ≡ true = is_true _ (le→leb _ _ can.room) in
+        let all = under_in_spaces shape at top.1 found extra under.is_found values.spaced in
+        let copies_are = copies_in_spaces shape flash spaces es moves all can.copies in
+        let all_moved = moved_in_spaces spaces moves es all copies_are in
+        let after : values_of shape at limits (named top.1) [] (places found (extra ++ entries_of moves)) ≡ Ok values.values =
+        ap (values_of shape at limits (named top.1) []) (places_move found extra moves) ∙ values_complete shape (named top.1) at limits (moved moves es) values.values
+        (record { placed_well = is_true _ lies; within = fits_within shape top.1 (named top.1) (moved moves es) lies all_moved; read = reads_moved shape at (named top.1) moves es values.values rises stand before.read }) in
+        let enough : may_add shape top.1 found (extra ++ entries_of moves) ≡ true = is_true _
+        (both _ _ (le→leb _ _ can.room) (entries_in_spaces spaces extra moves values.spaced copies_are)) in
         rw (enough, after) (λ i. Ok (values.whole_map i))
 
 pub moves_commit : MovesCommit

@@ -12,10 +12,11 @@ use Rattle.pk_base.specs.EntryBytes.{entries_from}
 use Rattle.pk_base.specs.Refusal.{damaged, ensure, some_or}
 use Rattle.pk_base.specs.Firsts.{firsts}
 use Rattle.pk_base.specs.Merge.{room}
+use Rattle.pk_space.specs.Entries.{in_spaces}
 use Rattle.pk_jrnfmt.specs.Page.{journal_entries}
-use Rattle.pk_jrnfmt.specs.Epoch.{journal, epoch}
+use Rattle.pk_jrnfmt.specs.Epoch.{may_follow, journal, epoch}
 use Rattle.pk_meta.specs.Page.{meta_entries}
-use Rattle.pk_meta.specs.Run.{meta, run}
+use Rattle.pk_meta.specs.Run.{may_hold, meta, run}
 use Rattle.pk_rootfmt.specs.Root.{Root, is_root, is_number, has_runs, named, differ}
 use Rattle.pk_model.proofs.StrangePages.{bind_ok, some_ok}
 use Rattle.pk_base.proofs.Sound.{if_some}
@@ -40,20 +41,20 @@ many_read shape level index count bytes es is = let some = if_some _ _ es is in 
 one_more : (size count start n : ℕ) → n ≤ count → n ≤ start → (n + min size (count - start) ≤ count) × (n + min size (count - start) ≤ start + size)
 one_more size count start n few low = (omega (arith, few, low), omega (arith, few, low))
 
-module _ (shape : Shape) (at : ℕ → Page) where
+module _ (shape : Shape) (spaces : ℕ) (at : ℕ → Page) where
   meta_most : (level count index : ℕ) (before : List Entry) (blocks : List ℕ) (i n : ℕ) (es : List Entry) → length before ≤ count → length before ≤ index * page_entries shape
-      → meta shape level count index before (pages_of_blocks shape at blocks i n) ≡ Ok es → length es ≤ count
+      → meta shape spaces level count index before (pages_of_blocks shape at blocks i n) ≡ Ok es → length es ≤ count
   meta_most level count index before blocks i zero es few low ok = subst (λ (x : List Entry). length x ≤ count) (ok_same before es ok) few
   meta_most level count index before blocks i (suc n) es few low ok =
       let p = page_in shape blocks i in
       let here = min (page_entries shape) (count - index * page_entries shape) in
-      elim (at p) as (λ page. at p ≡ page → meta shape level count index before ((p, page) ∷ pages_of_blocks shape at blocks (i + 1) n) ≡ Ok es → length es ≤ count) [
+      elim (at p) as (λ page. at p ≡ page → meta shape spaces level count index before ((p, page) ∷ pages_of_blocks shape at blocks (i + 1) n) ≡ Ok es → length es ≤ count) [
         | erased ↦ λ e f. cc
         | torn ↦ λ e f. cc
         | whole bytes ↦ λ e f.
             let read = bind_ok (some_or (meta_entries shape level index here bytes) (damaged p)) _ es f in
             let rising = bind_ok (ensure (is_sorted key_cmp (before ++ read.0)) p) _ es read.2 in
-            let kept = bind_ok (ensure (not (level == 4) || list_all (λ e. is_some e.1) read.0) p) _ es rising.2 in
+            let kept = bind_ok (ensure (may_hold spaces level read.0) p) _ es rising.2 in
             let size : length (before ++ read.0) ≡ length before + here = length-append before read.0
             ∙ ap (λ m. length before + m) (many_read shape level index here bytes read.0 (some_ok _ (damaged p) read.0 read.1)) in
             let more = one_more (page_entries shape) count (index * page_entries shape) (length before) few low in
@@ -64,22 +65,22 @@ module _ (shape : Shape) (at : ℕ → Page) where
       ] refl ok
 
   -- a run has no more entries than its root says
-  pub run_most : (level count : ℕ) (blocks : List ℕ) (es : List Entry) → run shape at level count blocks ≡ Ok es → length es ≤ count
+  pub run_most : (level count : ℕ) (blocks : List ℕ) (es : List Entry) → run shape spaces at level count blocks ≡ Ok es → length es ≤ count
   unfolding run
   run_most level count blocks es ok = meta_most level count 0 [] blocks 0 (run_pages shape count) es (omega arith) (omega arith) ok
 
   journal_most : (number index : ℕ) (before : List Entry) (pages : NumberedPages) (es : List Entry)
-      → length (firsts before) ≤ buffer shape → journal shape number index before pages ≡ Ok es → length (firsts es) ≤ buffer shape
+      → length (firsts before) ≤ buffer shape → journal shape spaces number index before pages ≡ Ok es → length (firsts es) ≤ buffer shape
   journal_most number index before [] es few ok = subst (λ (x : List Entry). length (firsts x) ≤ buffer shape) (ok_same before es ok) few
   journal_most number index before ((p, erased) ∷ pages) es few ok = subst (λ (x : List Entry). length (firsts x) ≤ buffer shape) (ok_same before es ok) few
   journal_most number index before ((p, torn) ∷ pages) es few ok = subst (λ (x : List Entry). length (firsts x) ≤ buffer shape) (ok_same before es ok) few
   journal_most number index before ((p, whole bytes) ∷ pages) es few ok =
       let read = bind_ok (some_or (journal_entries shape number index bytes) (damaged p)) _ es ok in
-      let tested = bind_ok (ensure (nat_le (length (firsts (before ++ read.0))) (buffer shape)) p) _ es read.2 in
-      journal_most number (index + 1) (before ++ read.0) pages es (leb→le _ _ (passed _ _ tested.0 tested.1)) tested.2
+      let tested = bind_ok (ensure (may_follow shape spaces before read.0) p) _ es read.2 in
+      journal_most number (index + 1) (before ++ read.0) pages es (leb→le _ _ (left_part (nat_le (length (firsts (before ++ read.0))) (buffer shape)) (in_spaces spaces read.0) (passed _ _ tested.0 tested.1))) tested.2
 
   -- an epoch has no more keys than a buffer
-  pub epoch_most : (number : ℕ) (blocks : List ℕ) (es : List Entry) → epoch shape at number blocks ≡ Ok es → length (firsts es) ≤ buffer shape
+  pub epoch_most : (number : ℕ) (blocks : List ℕ) (es : List Entry) → epoch shape spaces at number blocks ≡ Ok es → length (firsts es) ≤ buffer shape
   unfolding epoch
   epoch_most number blocks es ok = journal_most number 0 [] (commits_of shape at blocks 0 (length blocks * (shape.block_pages / 2))) es (omega arith) ok
 

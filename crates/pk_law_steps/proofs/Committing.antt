@@ -1,6 +1,6 @@
 -- A commit that is cut does not change what is under the root, or has its entries in the newest epoch.
-use Rattle.std.proofs.Common.{◌≡◌, inl, inr, ℕ, ◌+◌, ◌*◌, ◌<◌, ◌≤◌, ap, subst, List, [], ◌++◌, Some, Ok, append-nil}
-use Rattle.pk_base.specs.Shape.{Shape, IsShape, epoch_pages, epoch_commits}
+use Rattle.std.proofs.Common.{◌≡◌, inl, inr, ℕ, ◌+◌, ◌*◌, ◌<◌, ◌≤◌, ap, subst, List, [], ◌++◌, Some, Ok, append-nil, length, nat_le, true}
+use Rattle.pk_base.specs.Shape.{Shape, IsShape, epoch_pages, epoch_commits, buffer}
 use Rattle.pk_base.specs.Page.{Page, Flash, page_at, erased, whole, page_in, commit_page, commit_at}
 use Rattle.pk_base.specs.Entry.{Entry}
 use Rattle.pk_base.specs.Map.{Map}
@@ -10,11 +10,15 @@ use Rattle.pk_jrnfmt.specs.Page.{journal_entries}
 use Rattle.pk_rootfmt.specs.Root.{Root}
 use Rattle.pk_rootfmt.specs.Newest.{newest_root}
 use Rattle.pk_model.specs.Found.{Found, found_under}
-use Rattle.pk_model.specs.Reading.{map_under}
+use Rattle.pk_model.specs.Reading.{may_add, map_under}
 use Rattle.pk_model.specs.Laws.{IsWholePage}
 use Rattle.pk_model.proofs.Commits.{Blocks, valid_blocks, roots_stay, stands_apart, under, within_buffer, read_without, read_with, commit_start}
 use Rattle.pk_law_steps.specs.Under.{IsUnder}
 use Rattle.pk_law_steps.specs.Roots.{committed, Commits, CommitsPair, Committed}
+use Rattle.pk_base.specs.Firsts.{firsts}
+use Rattle.pk_base.proofs.Logic.{both_true}
+use Rattle.pk_model.proofs.StrangePages.{bind_ok}
+use Rattle.pk_base.specs.Refusal.{ensure}
 
 module _ (shape : Shape) (flash cut : Flash) (top : ℕ × Root) (found : Found) (es : List Entry) (index : ℕ) (bytes : List ℕ) (is_shape : IsShape shape)
     (is_top : newest_root shape (page_at flash) ≡ Some top) (is_found : found_under shape (page_at flash) top.1 ≡ Ok found) (blocks : Blocks top.1) (inside : index < epoch_commits shape)
@@ -43,11 +47,14 @@ module _ (shape : Shape) (flash cut : Flash) (top : ℕ × Root) (found : Found)
   unfolding map_under
   present m is_whole spells ok =
       let room = within_buffer shape at at' top found es index bytes is_shape is_top is_found blocks inside before behind others m ok in
+      let few : nat_le (length (firsts (found.newest ++ es))) (buffer shape) ≡ true = (both_true _ _ room).0 in
+      let tested = bind_ok (ensure (may_add shape top.1 found es) (page_in shape top.1.newest 0)) _ m
+      (stands_apart shape at at' top found es index bytes is_shape is_top is_found blocks inside before behind others es m ok) in
       record {
         is_top = roots_stay shape at at' top found es index bytes is_shape is_top is_found blocks inside before behind others;
         is_found = under shape at at' top found es index bytes is_shape is_top is_found blocks inside before behind others (found.newest ++ es)
             (read_with shape at at' top found es index bytes is_shape is_top is_found blocks inside before behind others bytes is_whole spells room);
-        is_map = rw (append-nil (found.newest ++ es)) (stands_apart shape at at' top found es index bytes is_shape is_top is_found blocks inside before behind others es m ok);
+        is_map = rw (append-nil (found.newest ++ es), few) tested.2;
       }
 
 pub commits_pair : CommitsPair

@@ -11,6 +11,7 @@ use Rattle.pk_base.specs.Page.{Page, Flash, page_at}
 use Rattle.pk_base.specs.Entry.{Entry, Place}
 use Rattle.pk_base.specs.Map.{Map, pages_in}
 use Rattle.pk_rootfmt.specs.Root.{named}
+use Rattle.pk_model.specs.RootLimits.{root_limits}
 use Rattle.pk_model.specs.Found.{entries_in_order}
 use Rattle.pk_model.proofs.MapLemmas.{key_total}
 use Rattle.pk_model.proofs.Lookups.{flat, Has, map_under_get, find-firsts}
@@ -102,7 +103,7 @@ counts shape flash pending top found m is_shape is_flash under =
     let values = values_under shape flash pending top.1 found m under.is_map in
     let es = places found pending in
     let vs = values.values in
-    let read = (values_sound shape (named top.1) at es vs (nothing_fits shape (named top.1)) values.read).read in
+    let read = (values_sound shape (named top.1) at (root_limits shape top.1) es vs (nothing_fits shape (named top.1)) values.read).read in
     let rising = placed_sorted (counting found pending) (firsts_sorted (entries_in_order found pending)) in
     let all : entries m ≡ vs = ap (λ (x : Map). entries x) (sym values.whole_map) ∙ entries-rising vs (sorted_read shape (named top.1) at es vs read rising) in
     let positive : 0 < shape.page_bytes = let least = is_shape.page_least in omega (arith, least) in

@@ -9,6 +9,7 @@ use Rattle.pk_base.specs.Map.{Map}
 use Rattle.pk_base.specs.Refusal.{ensure, ◌>>=◌}
 use Rattle.pk_jrnfmt.specs.Epoch.{epoch}
 use Rattle.pk_rootfmt.specs.Root.{Root, is_root, named}
+use Rattle.pk_model.specs.RootLimits.{root_limits, root_spaces}
 use Rattle.pk_model.specs.Found.{Found, older_epoch, newest_epoch, found_under}
 use Rattle.pk_model.specs.Tree.{blocks_after}
 use Rattle.pk_model.proofs.SamePages.{any_front, any_back}
@@ -23,17 +24,17 @@ use Rattle.pk_law_steps.proofs.Merging.{runs_after, same_places, in_after}
 use Rattle.pk_law_steps.proofs.Freezing.{no_blocks}
 
 -- no older epoch is named, or the former one
-older_is : (shape : Shape) (at : ℕ → Page) (number : ℕ) (one : Bool) (blocks : List ℕ) (es : List Entry)
+older_is : (shape : Shape) (spaces : ℕ) (at : ℕ → Page) (number : ℕ) (one : Bool) (blocks : List ℕ) (es : List Entry)
     → (do
-      found ← epoch shape at (number - 1) blocks
+      found ← epoch shape spaces at (number - 1) blocks
       _ ← ensure (length blocks == 0 || nat_le 1 (length found)) (page_in shape blocks 0)
       Ok found) ≡ Ok es
     → (do
-      found ← epoch shape at (number - 1) (if one then [] else blocks)
+      found ← epoch shape spaces at (number - 1) (if one then [] else blocks)
       _ ← ensure (length (if one then [] else blocks) == 0 || nat_le 1 (length found)) (page_in shape (if one then [] else blocks) 0)
       Ok found) ≡ Ok (if one then [] else es)
-older_is shape at number true blocks es was = let none = no_blocks shape at (number - 1) in rw none refl
-older_is shape at number false blocks es was = was
+older_is shape spaces at number true blocks es was = let none = no_blocks shape spaces at (number - 1) in rw none refl
+older_is shape spaces at number false blocks es was = was
 
 module _ (shape : Shape) (flash : Flash) (extra : List Entry) (top : ℕ × Root) (found : Found) (m : Map) (level count : ℕ) (taken : List ℕ) (is_shape : IsShape shape)
     (before : IsUnder shape flash extra top found m) (is : IsMerged shape flash extra top found level count taken) where
@@ -55,23 +56,23 @@ module _ (shape : Shape) (flash : Flash) (extra : List Entry) (top : ℕ × Root
   pieces : Pieces shape (page_at flash) root found
   pieces = pieces_of shape (page_at flash) root found before.is_found
 
-  lists : Runs shape (page_at flash) root.counts root.runs found.runs
-  lists = four_runs shape (page_at flash) root.counts root.runs found.runs four.counts four.runs pieces.runs
+  lists : Runs shape (root_spaces shape root) (page_at flash) root.counts root.runs found.runs
+  lists = four_runs shape (root_spaces shape root) (page_at flash) root.counts root.runs found.runs four.counts four.runs pieces.runs
 
   is_found : found_under shape (page_at flash) (merged_root root level count taken) ≡ Ok (merged_found level found)
-  unfolding found_under
+  unfolding found_under root_limits
   is_found =
       let older : older_epoch shape (page_at flash) (merged_root root level count taken) ≡ Ok
-      (if level == 1 then [] else found.older) = older_is shape (page_at flash) root.epoch (level == 1) root.older found.older pieces.older in
+      (if level == 1 then [] else found.older) = older_is shape (root_spaces shape root) (page_at flash) root.epoch (level == 1) root.older found.older pieces.older in
       let newest : newest_epoch shape (page_at flash) (merged_root root level count taken) ≡ Ok found.newest = pieces.newest in
-      let runs = runs_after shape (page_at flash) found.newest found.older root.counts root.runs found.runs lists count taken level is_level is.stands in
+      let runs = runs_after shape (root_spaces shape root) (page_at flash) found.newest found.older root.counts root.runs found.runs lists count taken level is_level is.stands in
       rw (older, newest, runs) refl
 
   -- no value is in a block that the root names
   outside : (k : ℕ) → IsValuePage shape (places found extra) k → IsNamed shape (merged_root root level count taken) k → ⊥
   outside k value among =
       let b = k / shape.block_pages in
-      let former : In b (named root) → ⊥ = λ there. values_apart shape (page_at flash) (named root) [] (places found extra) values.values values.read k value (is_any_back b (named root) there) in
+      let former : In b (named root) → ⊥ = λ there. values_apart shape (page_at flash) (root_limits shape root) (named root) [] (places found extra) values.values values.read k value (is_any_back b (named root) there) in
       elim (in_append b (root.newest ++ (if level == 1 then [] else root.older)) (concat (blocks_after level taken root.runs)) among) [
         | inl front ↦ elim (in_append b root.newest (if level == 1 then [] else root.older) front) [
           | inl newest ↦ former (any_front (λ c. b ≡ c) (root.newest ++ root.older) (concat root.runs) (any_front (λ c. b ≡ c) root.newest root.older newest))

@@ -15,6 +15,7 @@ use Rattle.pk_law_steps.specs.Merging.{Freed, blocks_at}
 use Rattle.pk_law_steps.proofs.FourRuns.{IsLevel, next_is_level}
 use Rattle.pk_law_steps.proofs.Merging.{in_set}
 use Rattle.pk_law_steps.proofs.Following.{merged_next}
+use Rattle.pk_model.specs.RootLimits.{root_limits}
 
 -- a block of one run is a block of the runs
 pub in_one : (b i : ℕ) (runs : List (List ℕ)) → In b (slice_index_or runs i []) → In b (concat runs)
@@ -113,6 +114,6 @@ freed shape flash extra top found m level count taken b is_shape before is was =
     let former : In b (named root) = was_named root.newest root.older taken root.runs d b level was in
     let values = values_under shape flash extra root found m before.is_map in (
       λ among. is.fresh b (only root.newest root.older taken root.runs d b level (next_is_level shape (length (firsts found.older)) (map (λ es. length es) found.runs) level is.next) was among) former,
-      λ k here value. values_apart shape (page_at flash) (named root) [] (places found extra) values.values values.read k (subst (λ es. IsValuePage shape es k) next.same_places value)
+      λ k here value. values_apart shape (page_at flash) (root_limits shape root) (named root) [] (places found extra) values.values values.read k (subst (λ es. IsValuePage shape es k) next.same_places value)
           (is_any_back (k / shape.block_pages) (named root) (subst (λ x. In x (named root)) (sym here) former)),
     )

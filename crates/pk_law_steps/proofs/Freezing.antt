@@ -12,6 +12,7 @@ use Rattle.pk_base.specs.Firsts.{firsts}
 use Rattle.pk_base.specs.Map.{Map}
 use Rattle.pk_jrnfmt.specs.Epoch.{epoch}
 use Rattle.pk_rootfmt.specs.Root.{Root, is_root, named}
+use Rattle.pk_model.specs.RootLimits.{root_limits, root_spaces}
 use Rattle.pk_model.specs.Found.{Found, older_epoch, newest_epoch, runs_from, found_under, entries_in_order}
 use Rattle.pk_model.specs.Values.{placed, values_of, all_pages}
 use Rattle.pk_model.specs.Reading.{map_under}
@@ -37,18 +38,18 @@ not_empty n = elim (suc n == 0) as (λ b. (suc n == 0) ≡ b
     → b ≡ false) [ true ↦ λ e. let same : suc n ≡ 0 = eqb→eq (suc n) 0 (subst T (sym e) tt) in absurd (omega (arith, same)) | false ↦ λ e. refl ] refl
 
 -- no blocks, no entries
-pub no_blocks : (shape : Shape) (at : ℕ → Page) (number : ℕ) → epoch shape at number [] ≡ Ok []
+pub no_blocks : (shape : Shape) (spaces : ℕ) (at : ℕ → Page) (number : ℕ) → epoch shape spaces at number [] ≡ Ok []
 unfolding epoch
-no_blocks shape at number = rw (zero-mul (shape.block_pages / 2)) refl
+no_blocks shape spaces at number = rw (zero-mul (shape.block_pages / 2)) refl
 
 -- the older epoch of a freeze is the newest one before, which has entries or is not named
-pub older_is : (shape : Shape) (at : ℕ → Page) (number : ℕ) (blocks : List ℕ) (es : List Entry) → length blocks ≡ 2 → epoch shape at number blocks ≡ Ok es
+pub older_is : (shape : Shape) (spaces : ℕ) (at : ℕ → Page) (number : ℕ) (blocks : List ℕ) (es : List Entry) → length blocks ≡ 2 → epoch shape spaces at number blocks ≡ Ok es
     → (do
-      found ← epoch shape at (number + 1 - 1) (if length es == 0 then [] else blocks)
+      found ← epoch shape spaces at (number + 1 - 1) (if length es == 0 then [] else blocks)
       _ ← ensure (length (if length es == 0 then [] else blocks) == 0 || nat_le 1 (length found)) (page_in shape (if length es == 0 then [] else blocks) 0)
       Ok found) ≡ Ok es
-older_is shape at number blocks [] two is = let none = no_blocks shape at (number + 1 - 1) in rw none refl
-older_is shape at number blocks (e ∷ es) two is =
+older_is shape spaces at number blocks [] two is = let none = no_blocks shape spaces at (number + 1 - 1) in rw none refl
+older_is shape spaces at number blocks (e ∷ es) two is =
     let some = not_empty (length es) in
     let former : number + 1 - 1 ≡ number = omega arith in
     let named_two : (length blocks == 0) ≡ false = ap (λ n. n == 0) two ∙ not_empty 1 in
@@ -75,28 +76,28 @@ module _ (shape : Shape) (flash new : Flash) (top : ℕ × Root) (found : Found)
   still : found_under shape (page_at new) root ≡ Ok found
   still = found_alone shape is_shape (page_at flash) (page_at new) same root was_valid ∙ before.is_found
 
-  nothing : epoch shape (page_at new) (top.1.epoch + 1) (first ∷ second ∷ []) ≡ Ok []
+  nothing : epoch shape (root_spaces shape root') (page_at new) (top.1.epoch + 1) (first ∷ second ∷ []) ≡ Ok []
   unfolding epoch
   nothing =
       let least = is_shape.block_least in
       let one : 0 < epoch_pages shape = omega (arith, least) in
       let two : 1 < epoch_pages shape = omega (arith, least) in
       let behind = behind_roots shape root' (blocks_of_root shape root' valid) positive in
-      ends shape (page_at new) (first ∷ second ∷ []) (root.epoch + 1) 0 [] (2 * (shape.block_pages / 2))
+      ends shape (page_at new) (first ∷ second ∷ []) (root_spaces shape root') (root.epoch + 1) 0 [] (2 * (shape.block_pages / 2))
       (not_read _ _ _
       (erased_not _ (same _ (behind 0 one) ∙ are_erased 0 one))
       (erased_not _ (ap (page_at new) (sym (next_page shape (first ∷ second ∷ []) is_shape 0)) ∙ same _ (behind 1 two) ∙ are_erased 1 two)))
 
   is_found : found_under shape (page_at new) root' ≡ Ok (frozen found)
-  unfolding found_under
+  unfolding found_under root_limits
   is_found =
       let one = bind_ok (older_epoch shape (page_at new) root) _ found still in
       let two = bind_ok (newest_epoch shape (page_at new) root) _ found one.2 in
-      let three = bind_ok (runs_from shape (page_at new) 1 root.counts root.runs) _ found two.2 in
+      let three = bind_ok (runs_from shape (root_spaces shape root) (page_at new) 1 root.counts root.runs) _ found two.2 in
       let parts : record { newest = two.0; older = one.0; runs = three.0 } ≡ found = ok_same _ _ three.2 in
       let newest : two.0 ≡ found.newest = ap (λ (f : Found). f.newest) parts in
-      let runs : runs_from shape (page_at new) 1 root.counts root.runs ≡ Ok found.runs = three.1 ∙ (λ i. Ok (parts i).runs) in
-      let older : older_epoch shape (page_at new) root' ≡ Ok found.newest = older_is shape
+      let runs : runs_from shape (root_spaces shape root) (page_at new) 1 root.counts root.runs ≡ Ok found.runs = three.1 ∙ (λ i. Ok (parts i).runs) in
+      let older : older_epoch shape (page_at new) root' ≡ Ok found.newest = older_is shape (root_spaces shape root)
       (page_at new) root.epoch root.newest found.newest (blocks_of_root shape root was_valid).two (two.1 ∙ (λ i. Ok (newest i))) in
       let empty : newest_epoch shape (page_at new) root' ≡ Ok [] = nothing in
       rw (older, empty, runs) refl
@@ -133,7 +134,7 @@ module _ (shape : Shape) (flash new : Flash) (top : ℕ × Root) (found : Found)
   outside k is among =
       let value = in_value shape (places found []) k is in
       let former : In (k / shape.block_pages) (named root)
-      → ⊥ = λ there. values_apart shape (page_at flash) (named root) [] (places found []) values.values values.read k value (is_any_back (k / shape.block_pages) (named root) there) in
+      → ⊥ = λ there. values_apart shape (page_at flash) (root_limits shape root) (named root) [] (places found []) values.values values.read k value (is_any_back (k / shape.block_pages) (named root) there) in
       elim (in_append (k / shape.block_pages) ((first ∷ second ∷ []) ++ root'.older) (concat root.runs) among) [
         | inl front ↦ elim (in_append (k / shape.block_pages) (first ∷ second ∷ []) root'.older front) [
           | inl fresh ↦ not_erased _ (value_page_whole shape flash [] top found m before k value) (in_new k fresh)
@@ -149,15 +150,15 @@ module _ (shape : Shape) (flash new : Flash) (top : ℕ × Root) (found : Found)
           any_front (λ b. k / shape.block_pages ≡ b) (root.newest ++ root.older) (concat root.runs) (any_front (λ b. k / shape.block_pages ≡ b) root.newest root.older here)
 
   is_map : map_under shape (page_at new) root' (frozen found) [] ≡ Ok m
-  unfolding map_under
+  unfolding map_under root_limits
   is_map =
       let es = places found [] in
-      let was = values_sound shape (named root) (page_at flash) es values.values (nothing_fits shape (named root)) values.read in
-      let moved : values_of shape (page_at new) (named root) [] es ≡ Ok values.values = values_same shape (page_at flash)
-      (page_at new) (named root) [] es (λ k is. same k (values_behind shape (firsts (entries_in_order found []))
+      let was = values_sound shape (named root) (page_at flash) (root_limits shape root) es values.values (nothing_fits shape (named root)) values.read in
+      let moved : values_of shape (page_at new) (root_limits shape root) (named root) [] es ≡ Ok values.values = values_same shape (page_at flash)
+      (page_at new) (root_limits shape root) (named root) [] es (λ k is. same k (values_behind shape (firsts (entries_in_order found []))
       (counting_all (IsEntry shape) shape (page_at flash) (λ k number index bytes es stands read. journal_are shape number index bytes es read)
       (λ k level index count bytes es stands read. meta_are shape level index count bytes es read) root found [] before.is_found tt) k is)) ∙ values.read in
-      let there = values_sound shape (named root) (page_at new) es values.values (nothing_fits shape (named root)) moved in
+      let there = values_sound shape (named root) (page_at new) (root_limits shape root) es values.values (nothing_fits shape (named root)) moved in
       let parts = fits_parts shape (named root) (all_pages shape es) (subst T (sym there.placed_well) tt) in
       let fit = parts_fit shape (named root') (all_pages shape es) (record {
         out = all_of (λ p. not (list_any (λ b. b == p / shape.block_pages) (named root'))) (all_pages shape es)
@@ -166,9 +167,9 @@ module _ (shape : Shape) (flash new : Flash) (top : ℕ × Root) (found : Found)
         few = parts.few;
         few_blocks = parts.few_blocks;
       }) in
-      let read = values_complete shape (named root') (page_at new) es values.values (record { placed_well = is_true _ fit; read = there.read }) in
-      let again : values_of shape (page_at new) (named root') [] (placed (firsts (entries_in_order (frozen found) [])))
-      ≡ Ok values.values = ap (λ xs. values_of shape (page_at new) (named root') [] (placed (firsts xs))) same_entries ∙ read in
+      let read = values_complete shape (named root') (page_at new) (root_limits shape root') es values.values (record { placed_well = is_true _ fit; within = there.within; read = there.read }) in
+      let again : values_of shape (page_at new) (root_limits shape root') (named root') [] (placed (firsts (entries_in_order (frozen found) [])))
+      ≡ Ok values.values = ap (λ xs. values_of shape (page_at new) (root_limits shape root') (named root') [] (placed (firsts xs))) same_entries ∙ read in
       let room : nat_le 0 (buffer shape) ≡ true = is_true _ (le→leb 0 (buffer shape) (omega arith)) in
       rw (room, again) (λ i. Ok (values.whole_map i))
 

@@ -11,6 +11,7 @@ use Rattle.pk_base.specs.Firsts.{firsts}
 use Rattle.pk_base.specs.Map.{Map}
 use Rattle.pk_jrnfmt.specs.Epoch.{epoch}
 use Rattle.pk_rootfmt.specs.Root.{Root, is_root, named}
+use Rattle.pk_model.specs.RootLimits.{root_limits, root_spaces}
 use Rattle.pk_model.specs.Found.{Found, older_epoch, newest_epoch, found_under, entries_in_order}
 use Rattle.pk_model.specs.Values.{placed}
 use Rattle.pk_base.proofs.ShapeLemmas.{block_pages_positive}
@@ -47,20 +48,20 @@ module _ (shape : Shape) (flash : Flash) (extra : List Entry) (top : ℕ × Root
   positive : 0 < shape.block_pages
   positive = block_pages_positive shape is_shape
 
-  nothing : epoch shape (page_at flash) (root.epoch + 1) (first ∷ second ∷ []) ≡ Ok []
+  nothing : epoch shape (root_spaces shape then_root) (page_at flash) (root.epoch + 1) (first ∷ second ∷ []) ≡ Ok []
   unfolding epoch
   nothing =
       let least = is_shape.block_least in
-      ends shape (page_at flash) (first ∷ second ∷ []) (root.epoch + 1) 0 [] (2 * (shape.block_pages / 2))
+      ends shape (page_at flash) (first ∷ second ∷ []) (root_spaces shape then_root) (root.epoch + 1) 0 [] (2 * (shape.block_pages / 2))
       (not_read _ _ _
       (erased_not _ (is.are_erased 0 (omega (arith, least))))
       (erased_not _ (ap (page_at flash) (sym (next_page shape (first ∷ second ∷ []) is_shape 0)) ∙ is.are_erased 1 (omega (arith, least)))))
 
   is_found : found_under shape (page_at flash) then_root ≡ Ok (frozen found)
-  unfolding found_under
+  unfolding found_under root_limits
   is_found =
       let pieces = pieces_of shape (page_at flash) root found before.is_found in
-      let older : older_epoch shape (page_at flash) then_root ≡ Ok found.newest = older_is shape
+      let older : older_epoch shape (page_at flash) then_root ≡ Ok found.newest = older_is shape (root_spaces shape root)
       (page_at flash) root.epoch root.newest found.newest (blocks_of_root shape root was_valid).two pieces.newest in
       let empty : newest_epoch shape (page_at flash) then_root ≡ Ok [] = nothing in
       let runs = pieces.runs in
@@ -100,7 +101,7 @@ module _ (shape : Shape) (flash : Flash) (extra : List Entry) (top : ℕ × Root
   outside : (k : ℕ) → IsValuePage shape (places found extra) k → IsNamed shape then_root k → ⊥
   outside k value among =
       let b = k / shape.block_pages in
-      let former : In b (named root) → ⊥ = λ there. values_apart shape (page_at flash) (named root) [] (places found extra) values.values values.read k value (is_any_back b (named root) there) in
+      let former : In b (named root) → ⊥ = λ there. values_apart shape (page_at flash) (root_limits shape root) (named root) [] (places found extra) values.values values.read k value (is_any_back b (named root) there) in
       elim (in_append b ((first ∷ second ∷ []) ++ then_root.older) (concat root.runs) among) [
         | inl front ↦ elim (in_append b (first ∷ second ∷ []) then_root.older front) [
           | inl fresh ↦ not_erased _ (value_page_whole shape flash extra top found m before k value) (in_new k fresh)

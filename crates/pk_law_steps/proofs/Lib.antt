@@ -18,3 +18,4 @@ pub mod Amounts
 pub mod Outputs
 pub mod Spelling
 pub mod Remaining
+pub mod OutputSpaces

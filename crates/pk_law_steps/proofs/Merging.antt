@@ -24,22 +24,22 @@ use Rattle.pk_law_steps.proofs.FourRuns.{Runs, IsLevel, empty_run}
 abbrev found_of : List Entry → List Entry → List (List Entry) → Found
 found_of newest older runs = record { newest = newest; older = older; runs = runs }
 
-module _ (shape : Shape) (at : ℕ → Page) (newest older : List Entry) (counts : List ℕ) (runs : List (List ℕ))
-    (lists : List (List Entry)) (four : Runs shape at counts runs lists) (count : ℕ) (taken : List ℕ) where
+module _ (shape : Shape) (spaces : ℕ) (at : ℕ → Page) (newest older : List Entry) (counts : List ℕ) (runs : List (List ℕ))
+    (lists : List (List Entry)) (four : Runs shape spaces at counts runs lists) (count : ℕ) (taken : List ℕ) where
   abbrev now : List (List Entry)
   now = four.r1 ∷ four.r2 ∷ four.r3 ∷ four.r4 ∷ []
 
   -- the runs are found after a merge into this level
   abbrev After : ℕ → List ℕ → List (List ℕ) → List (List Entry) → Type 0
-  After level cs bs ls = run shape at level count taken ≡ Ok (output_of level (found_of newest older ls))
-      → runs_from shape at 1 (counts_after level count cs) (blocks_after level taken bs) ≡ Ok (merged level older ls)
+  After level cs bs ls = run shape spaces at level count taken ≡ Ok (output_of level (found_of newest older ls))
+      → runs_from shape spaces at 1 (counts_after level count cs) (blocks_after level taken bs) ≡ Ok (merged level older ls)
 
   after : (level : ℕ) → IsLevel level → After level (four.n1 ∷ four.n2 ∷ four.n3 ∷ four.n4 ∷ []) (four.b1 ∷ four.b2 ∷ four.b3 ∷ four.b4 ∷ []) now
   unfolding runs_from
   after level (inl e) = rw e (λ stands. let b = four.two in let c = four.three in let d = four.four in rw (stands, b, c, d) refl)
-  after level (inr (inl e)) = rw e (λ stands. let a = empty_run shape at 1 in let c = four.three in let d = four.four in rw (a, stands, c, d) refl)
-  after level (inr (inr (inl e))) = rw e (λ stands. let a = four.one in let b = empty_run shape at 2 in let d = four.four in rw (a, b, stands, d) refl)
-  after level (inr (inr (inr e))) = rw e (λ stands. let a = four.one in let b = four.two in let c = empty_run shape at 3 in rw (a, b, c, stands) refl)
+  after level (inr (inl e)) = rw e (λ stands. let a = empty_run shape spaces at 1 in let c = four.three in let d = four.four in rw (a, stands, c, d) refl)
+  after level (inr (inr (inl e))) = rw e (λ stands. let a = four.one in let b = empty_run shape spaces at 2 in let d = four.four in rw (a, b, stands, d) refl)
+  after level (inr (inr (inr e))) = rw e (λ stands. let a = four.one in let b = four.two in let c = empty_run shape spaces at 3 in rw (a, b, c, stands) refl)
 
   pub runs_after : (level : ℕ) → IsLevel level → After level counts runs lists
   runs_after level is = subst (λ cs. After level cs runs lists) (sym four.counts_are) (subst (λ bs. After level (four.n1 ∷ four.n2 ∷ four.n3 ∷ four.n4 ∷ []) bs lists) (sym four.runs_are)

@@ -16,6 +16,7 @@ use Rattle.pk_base.specs.Merge.{room, next_merge}
 use Rattle.pk_segfmt.specs.Value.{value_pages}
 use Rattle.pk_meta.specs.Over.{over}
 use Rattle.pk_rootfmt.specs.Root.{Root, named}
+use Rattle.pk_model.specs.RootLimits.{root_limits, root_spaces}
 use Rattle.pk_model.specs.Found.{Found, entries_in_order}
 use Rattle.pk_model.specs.Values.{placed, all_pages}
 use Rattle.pk_model.proofs.MapLemmas.{missing}
@@ -146,8 +147,8 @@ module _ (shape : Shape) (flash : Flash) (extra : List Entry) (top : ℕ × Root
   pieces : Pieces shape (page_at flash) root found
   pieces = pieces_of shape (page_at flash) root found under.is_found
 
-  runs : Runs shape (page_at flash) root.counts root.runs found.runs
-  runs = four_runs shape (page_at flash) root.counts root.runs found.runs (four_of_root shape root valid).counts (four_of_root shape root valid).runs pieces.runs
+  runs : Runs shape (root_spaces shape root) (page_at flash) root.counts root.runs found.runs
+  runs = four_runs shape (root_spaces shape root) (page_at flash) root.counts root.runs found.runs (four_of_root shape root valid).counts (four_of_root shape root valid).runs pieces.runs
 
   values : Values shape flash extra root found m
   values = values_under shape flash extra root found m under.is_map
@@ -157,9 +158,9 @@ module _ (shape : Shape) (flash : Flash) (extra : List Entry) (top : ℕ × Root
 
   frozen_most : length (firsts found.older) ≤ buffer shape
   frozen_most =
-      let read = bind_ok (epoch shape (page_at flash) (root.epoch - 1) root.older) _ found.older pieces.older in
+      let read = bind_ok (epoch shape (root_spaces shape root) (page_at flash) (root.epoch - 1) root.older) _ found.older pieces.older in
       let tested = bind_ok (ensure (length root.older == 0 || nat_le 1 (length read.0)) (page_in shape root.older 0)) _ found.older read.2 in
-      subst (λ (es : List Entry). length (firsts es) ≤ buffer shape) (ok_same read.0 found.older tested.2) (epoch_most shape (page_at flash) (root.epoch - 1) root.older read.0 read.1)
+      subst (λ (es : List Entry). length (firsts es) ≤ buffer shape) (ok_same read.0 found.older tested.2) (epoch_most shape (root_spaces shape root) (page_at flash) (root.epoch - 1) root.older read.0 read.1)
 
   caps_are : WithinCaps shape runs.n1 runs.n2 runs.n3 runs.n4
   caps_are = within_caps shape runs.n1 runs.n2 runs.n3 runs.n4
@@ -182,8 +183,8 @@ module _ (shape : Shape) (flash : Flash) (extra : List Entry) (top : ℕ × Root
       let a = active_most in
       let f = frozen_most in
       let c = caps_are in
-      let n1 = run_most shape (page_at flash) 1 runs.n1 runs.b1 runs.r1 runs.one in
-      let n2 = run_most shape (page_at flash) 2 runs.n2 runs.b2 runs.r2 runs.two in
+      let n1 = run_most shape (root_spaces shape root) (page_at flash) 1 runs.n1 runs.b1 runs.r1 runs.one in
+      let n2 = run_most shape (root_spaces shape root) (page_at flash) 2 runs.n2 runs.b2 runs.r2 runs.two in
       let c1 = c.one in
       let c2 = c.two in
       omega (arith, whole, buffers, deep, first, one, two, a, f, n1, n2, c1, c2)
@@ -202,7 +203,7 @@ module _ (shape : Shape) (flash : Flash) (extra : List Entry) (top : ℕ × Root
   few_values : length (placed (firsts (all upper runs.r3 runs.r4))) ≤ limit shape
   few_values =
       let es = places found extra in
-      let placed_well = (values_sound shape (named root) (page_at flash) es values.values (nothing_fits shape (named root)) values.read).placed_well in
+      let placed_well = (values_sound shape (named root) (page_at flash) (root_limits shape root) es values.values (nothing_fits shape (named root)) values.read).placed_well in
       let parts = fits_parts shape (named root) (all_pages shape es) (subst T (sym placed_well) tt) in
       let few = parts.few in
       let most = values_most shape is_shape es in

@@ -9,7 +9,7 @@ use Rattle.pk_base.specs.Shape.{Shape, charge}
 use Rattle.pk_base.specs.Entry.{Place}
 use Rattle.pk_segfmt.specs.Value.{value_pages}
 use Rattle.pk_rootfmt.specs.Root.{differ}
-use Rattle.pk_model.specs.Values.{fits, blocks_with, all_pages}
+use Rattle.pk_model.specs.Values.{fits, blocks_with, all_pages, KeepsWithin, pages_of_space}
 use Rattle.pk_model.specs.Laws.{AnyByRecursion}
 use Rattle.pk_model.proofs.Commits.{refuted, rest_differs, any_behind, apart, differ_front, all_front, is_any}
 use Rattle.pk_model.proofs.SamePages.{any_front}
@@ -301,6 +301,16 @@ module _ (shape : Shape) where
           few_blocks = le_trans (filter_more (λ b. list_any (λ p. p / shape.block_pages == b) (all_pages shape (kept q es)))
               (λ b. list_any (λ p. p / shape.block_pages == b) (all_pages shape es)) (λ b t. any_kept _ es t) (range_with_len 0 shape.blocks)) parts.few_blocks;
         })
+
+    -- and keep within the limits
+    pub within_kept : (limits : List ℕ) (es : List (Key × Place)) → KeepsWithin shape limits es → KeepsWithin shape limits (kept q es)
+    within_kept limits es all space = le_trans (fewer_kept es) (all space)
+      where
+        fewer_kept : (es : List (Key × Place)) → pages_of_space shape space (kept q es) ≤ pages_of_space shape space es
+        fewer_kept [] = omega arith
+        fewer_kept (e ∷ es) =
+            let rest = fewer_kept es in
+            elim (q e.0) as (λ b. pages_of_space shape space (cond b (e ∷ kept q es) (kept q es)) ≤ pages_of_space shape space (e ∷ es)) [ true ↦ omega (arith, rest) | false ↦ omega (arith, rest) ]
 
 -- one value more is well placed
 pub fits_more : Fits

@@ -15,6 +15,8 @@ use Rattle.pk_model.proofs.Live.{ceil_room}
 use Rattle.std.proofs.lemmas.Nat.{div-mul-add}
 use Rattle.pk_law_steps.proofs.Places.{In}
 use Rattle.pk_law_steps.specs.Merging.{MergedStill, merged_root, output_of}
+use Rattle.pk_meta.specs.Run.{run}
+use Rattle.pk_model.specs.RootLimits.{root_spaces}
 
 same_output : (level : ℕ) (found then_found : Found) → then_found.older ≡ found.older → then_found.runs ≡ found.runs → output_of level then_found ≡ output_of level found
 same_output level found then_found older runs = λ i. output_of level (record { newest = found.newest; older = older i; runs = runs i })
@@ -37,7 +39,8 @@ merged_still shape flash new extra then_extra top then_top found then_found leve
     let at_root : (P : Root → Type 0) → P top.1 → P then_top.1 = λ P. subst P (sym same_top) in
     record {
       next = (λ i. next_merge shape (length (firsts (older i))) (map (λ es. length es) (runs i))) ∙ is.next;
-      stands = run_same shape (page_at flash) (page_at new) level count taken agree ∙ is.stands ∙ ap (λ (es : List Entry). Ok es) (sym (same_output level found then_found older runs));
+      stands = run_same shape (page_at flash) (page_at new) (root_spaces shape then_top.1) level count taken agree
+          ∙ at_root (λ r. run shape (root_spaces shape r) (page_at flash) level count taken ≡ Ok (output_of level found)) is.stands ∙ ap (λ (es : List Entry). Ok es) (sym (same_output level found then_found older runs));
       size = is.size;
       grammar = at_root (λ r. is_root shape (merged_root r level count taken) ≡ true) is.grammar;
       fresh = λ b here there. is.fresh b here (subst (λ r. In b (named r)) same_top there);

@@ -8,13 +8,16 @@ use Rattle.pk_base.specs.EntryChecks.{IsEntry}
 use Rattle.pk_base.specs.Firsts.{firsts}
 use Rattle.pk_base.specs.Key.{Key}
 use Rattle.pk_base.specs.Map.{Map}
+use Rattle.pk_space.specs.Entries.{in_spaces}
 use Rattle.pk_rootfmt.specs.Root.{Root, named}
 use Rattle.pk_rootfmt.specs.Newest.{newest_root}
+use Rattle.pk_model.specs.RootLimits.{root_limits}
 use Rattle.pk_model.specs.Found.{Found, found_under, entries_in_order}
-use Rattle.pk_model.specs.Values.{placed, values_of, all_pages}
-use Rattle.pk_model.specs.Reading.{map_under}
+use Rattle.pk_model.specs.Values.{placed, values_of, all_pages, KeepsWithin}
+use Rattle.pk_model.specs.Reading.{may_add, map_under}
 use Rattle.pk_model.specs.Laws.{AnyByRecursion, IsPageOf}
 use Rattle.pk_base.proofs.ShapeLemmas.{block_pages_positive}
+use Rattle.pk_model.proofs.RootLimits.{limits_alike}
 use Rattle.pk_model.proofs.SamePages.{values_same, map_under_same}
 use Rattle.pk_model.proofs.Roots.{newest_sound}
 use Rattle.pk_model.proofs.RootAlone.{found_alone, values_behind}
@@ -26,7 +29,7 @@ use Rattle.pk_law_steps.specs.Under.{IsUnder, places}
 use Rattle.pk_law_steps.proofs.Untouched.{Values, values_under}
 use Rattle.pk_law_steps.proofs.Places.{In, all_of, any_in_back, in_value, not_of}
 use Rattle.pk_law_steps.specs.Next.{IsNext, Installed, Installs, tree_of}
-use Rattle.pk_base.proofs.Logic.{is_true}
+use Rattle.pk_base.proofs.Logic.{is_true, both}
 
 module _ (shape : Shape) (flash new : Flash) (extra : List Entry) (top : ℕ × Root) (found : Found) (m : Map) (is_shape : IsShape shape) (entries : AllByRecursion (IsEntry shape) extra)
     (before : IsUnder shape flash extra top found m) (behind : SameBehind shape flash new) where
@@ -56,6 +59,9 @@ module _ (shape : Shape) (flash new : Flash) (extra : List Entry) (top : ℕ × 
     values : Values shape flash extra top.1 found m
     values = values_under shape flash extra top.1 found m before.is_map
 
+    same_limits : root_limits shape root ≡ root_limits shape top.1
+    same_limits = limits_alike shape top.1 root
+
     still : found_under shape (page_at new) root ≡ Ok then_found
     still = found_alone shape is_shape (page_at flash) (page_at new) behind root (subst T (sym next.grammar) tt) ∙ next.is_found
 
@@ -63,10 +69,11 @@ module _ (shape : Shape) (flash new : Flash) (extra : List Entry) (top : ℕ × 
     apart : (k : ℕ) → In k (all_pages shape es) → T (not (list_any (λ b. b == k / shape.block_pages) (named root)))
     apart k is = not_of (list_any (λ b. b == k / shape.block_pages) (named root)) (λ t. next.outside k (in_value shape es k is) (any_in_back (k / shape.block_pages) (named root) t))
 
-    read : values_of shape (page_at new) (named root) [] es ≡ Ok values.values
+    read : values_of shape (page_at new) (root_limits shape root) (named root) [] es ≡ Ok values.values
     read =
-        let moved : values_of shape (page_at new) (named top.1) [] es ≡ Ok values.values = values_same shape (page_at flash) (page_at new) (named top.1) [] es values_stay ∙ values.read in
-        let there = values_sound shape (named top.1) (page_at new) es values.values (nothing_fits shape (named top.1)) moved in
+        let moved : values_of shape (page_at new) (root_limits shape top.1) (named top.1) [] es ≡ Ok values.values =
+        values_same shape (page_at flash) (page_at new) (root_limits shape top.1) (named top.1) [] es values_stay ∙ values.read in
+        let there = values_sound shape (named top.1) (page_at new) (root_limits shape top.1) es values.values (nothing_fits shape (named top.1)) moved in
         let parts = fits_parts shape (named top.1) (all_pages shape es) (subst T (sym there.placed_well) tt) in
         let fit = parts_fit shape (named root) (all_pages shape es) (record {
           out = all_of (λ p. not (list_any (λ b. b == p / shape.block_pages) (named root))) (all_pages shape es) apart;
@@ -74,14 +81,16 @@ module _ (shape : Shape) (flash new : Flash) (extra : List Entry) (top : ℕ × 
           few = parts.few;
           few_blocks = parts.few_blocks;
         }) in
-        values_complete shape (named root) (page_at new) es values.values (record { placed_well = is_true _ fit; read = there.read })
+        values_complete shape (named root) (page_at new) (root_limits shape root) es values.values
+        (record { placed_well = is_true _ fit; within = subst (λ limits. KeepsWithin shape limits es) (sym same_limits) there.within; read = there.read })
 
     is_map : map_under shape (page_at new) root then_found extra ≡ Ok m
     unfolding map_under
     is_map =
-        let again : values_of shape (page_at new) (named root) [] (placed (firsts (entries_in_order then_found extra)))
-        ≡ Ok values.values = ap (values_of shape (page_at new) (named root) []) next.same_places ∙ read in
-        let room : nat_le (length (firsts (then_found.newest ++ extra))) (buffer shape) ≡ true = is_true _ (le→leb _ _ next.room) in
+        let again : values_of shape (page_at new) (root_limits shape root) (named root) [] (placed (firsts (entries_in_order then_found extra)))
+        ≡ Ok values.values = ap (values_of shape (page_at new) (root_limits shape root) (named root) []) next.same_places ∙ read in
+        let room : may_add shape root then_found extra ≡ true = is_true _
+        (both _ _ (le→leb _ _ next.room) (subst (λ limits. T (in_spaces (length limits) extra)) (sym same_limits) values.spaced)) in
         rw (room, again) (λ i. Ok (values.whole_map i))
 
     pub follows : newest_root shape (page_at new) ≡ Some (page, root) → IsUnder shape new extra (page, root) then_found m

@@ -1,36 +1,46 @@
 -- One more entry puts a value into the map, or takes a key out of it.
-use Rattle.std.proofs.Common.{◌≡◌, ℕ, refl, sym, ap, subst, ◌∙◌, Bool, true, false, not, cond, T, List, [], ◌∷◌, ◌++◌, length, nat_le, Option, Some, None, Ok, le→leb}
+use Rattle.std.proofs.Common.{◌≡◌, ℕ, refl, sym, ap, subst, ◌∙◌, Bool, true, false, not, cond, T, List, [], ◌∷◌, ◌++◌, length, nat_le, Option, Some, None, Ok, le→leb, ◌≤◌}
 use Rattle.std.specs.declared.cmp.Ordering.TheVariants.{Less, Equal, Greater}
 use Rattle.std.specs.Ordering.{is_lt, is_eq, eq_by_cmp}
 use Rattle.std.specs.Cmp.{eq_by_cmp_equiv}
 use Rattle.std.specs.FinMap.{from_entries, get-from_entries, remove, get-remove, same_map}
 use Rattle.std.specs.FinMap.Entries.{put, find, is_sorted, below_all, by_order, where_key, find-where_key}
-use Rattle.pk_base.specs.Key.{Key, key_cmp}
+use Rattle.pk_base.specs.Key.{Key, key_cmp, space_of}
 use Rattle.pk_base.specs.Shape.{Shape, buffer}
 use Rattle.pk_base.specs.Page.{Page, page_at}
 use Rattle.pk_base.specs.Entry.{Entry, Place}
 use Rattle.pk_base.specs.Firsts.{firsts}
 use Rattle.pk_rootfmt.specs.Root.{named}
+use Rattle.pk_model.specs.RootLimits.{root_limits, root_spaces}
 use Rattle.pk_model.specs.Found.{entries_in_order}
 use Rattle.pk_model.specs.Values.{placed, values_of}
-use Rattle.pk_model.specs.Reading.{map_under}
+use Rattle.pk_model.specs.Reading.{may_add, map_under}
+use Rattle.pk_model.proofs.RootLimits.{in_spaces_last}
+use Rattle.pk_model.proofs.Entries.{all_put}
 use Rattle.pk_model.proofs.MapLemmas.{key_total, key_antisymm, below_less}
-use Rattle.pk_model.proofs.ValueSets.{values_sound, values_complete, Reads}
+use Rattle.pk_model.proofs.ValueSets.{values_sound, values_complete, Reads, IsPlacedIn, fits_within, under_in_spaces}
 use Rattle.pk_model.proofs.Stores.{below_placed, reading-store, entries_in_order-push}
 use Rattle.pk_model.proofs.HeldMap.{nothing_fits}
 use Rattle.pk_law_steps.specs.Under.{counting, places}
 use Rattle.pk_law_steps.specs.Stores.{Stores, Deletes}
 use Rattle.pk_law_steps.proofs.Untouched.{values_under}
-use Rattle.pk_law_steps.proofs.Places.{kept, kept_fit}
-use Rattle.pk_base.proofs.Logic.{is_true, left_part, right_part, less}
+use Rattle.pk_law_steps.proofs.Places.{kept, kept_fit, within_kept}
+use Rattle.pk_base.proofs.Logic.{is_true, left_part, right_part, both, less}
 use Rattle.pk_base.proofs.KeyLemmas.{firsts_sorted}
 
 pub stores : Stores
-stores shape flash pending top found m key place value under stands room fit = record {
-  is_top = under.is_top;
-  is_found = under.is_found;
-  is_map = reading-store shape (page_at flash) top.1 found pending m key place value (nothing_fits shape (named top.1)) under.is_map stands (le→leb _ _ room) (subst T (sym fit) tt);
-}
+stores shape flash pending top found m key place value under own stands room fit =
+    let values = values_under shape flash pending top.1 found m under.is_map in
+    let spaces = root_spaces shape top.1 in
+    let added = in_spaces_last spaces pending (key, Some place) values.spaced own in
+    let all = all_put (IsPlacedIn spaces) key place (places found pending) (le→leb (space_of key) spaces own) (under_in_spaces shape (page_at flash) top.1 found pending under.is_found values.spaced) in
+    let fitting = subst T (sym fit) tt in
+    record {
+      is_top = under.is_top;
+      is_found = under.is_found;
+      is_map = reading-store shape (page_at flash) top.1 found pending m key place value (nothing_fits shape (named top.1)) under.is_map stands
+          (both _ _ (le→leb _ _ room) added) fitting (fits_within shape top.1 (named top.1) (put key_cmp key place (places found pending)) fitting all);
+    }
 
 -- ---- a key less
 
@@ -92,7 +102,7 @@ from_entries-kept k vs = same_map key_total key_antisymm _ _ (λ q.
 
 pub deletes : Deletes
 unfolding map_under
-deletes shape flash pending top found m key under room = record { is_top = under.is_top; is_found = under.is_found; is_map = is_map }
+deletes shape flash pending top found m key under own room = record { is_top = under.is_top; is_found = under.is_found; is_map = is_map }
   where
     fewer : placed (firsts (entries_in_order found (pending ++ (key, None) ∷ []))) ≡ kept (is_other key) (places found pending)
     fewer = ap (λ es. placed (firsts es)) (entries_in_order-push found pending (key, None)) ∙ placed-gone key (counting found pending) (firsts_sorted (entries_in_order found pending))
@@ -101,11 +111,13 @@ deletes shape flash pending top found m key under room = record { is_top = under
     is_map =
         let values = values_under shape flash pending top.1 found m under.is_map in
         let blocks = named top.1 in
-        let before = values_sound shape blocks (page_at flash) (places found pending) values.values (nothing_fits shape blocks) values.read in
+        let limits = root_limits shape top.1 in
+        let before = values_sound shape blocks (page_at flash) limits (places found pending) values.values (nothing_fits shape blocks) values.read in
         let lies = kept_fit shape (is_other key) blocks (places found pending) (subst T (sym before.placed_well) tt) in
-        let after : values_of shape (page_at flash) blocks [] (placed (firsts (entries_in_order found (pending ++ (key, None) ∷ [])))) ≡ Ok (where_key key_cmp (is_other key) values.values) =
-        ap (values_of shape (page_at flash) blocks []) fewer
-        ∙ values_complete shape blocks (page_at flash) (kept (is_other key) (places found pending)) (where_key key_cmp (is_other key) values.values)
-        (record { placed_well = is_true _ lies; read = reads-kept shape blocks (page_at flash) (is_other key) (places found pending) values.values before.read }) in
-        let enough : nat_le (length (firsts (found.newest ++ (pending ++ (key, None) ∷ [])))) (buffer shape) ≡ true = is_true _ (le→leb _ _ room) in
+        let after : values_of shape (page_at flash) limits blocks [] (placed (firsts (entries_in_order found (pending ++ (key, None) ∷ [])))) ≡ Ok (where_key key_cmp (is_other key) values.values) =
+        ap (values_of shape (page_at flash) limits blocks []) fewer
+        ∙ values_complete shape blocks (page_at flash) limits (kept (is_other key) (places found pending)) (where_key key_cmp (is_other key) values.values)
+        (record { placed_well = is_true _ lies; within = within_kept shape (is_other key) limits (places found pending) before.within; read = reads-kept shape blocks (page_at flash) (is_other key) (places found pending) values.values before.read }) in
+        let enough : may_add shape top.1 found (pending ++ (key, None) ∷ []) ≡ true = is_true _
+        (both _ _ (le→leb _ _ room) (in_spaces_last (root_spaces shape top.1) pending (key, None) values.spaced own)) in
         rw (enough, after) (λ i. Ok ((from_entries-kept key values.values ∙ ap (λ x. remove x key) values.whole_map) i))

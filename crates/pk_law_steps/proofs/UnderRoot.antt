@@ -6,6 +6,7 @@ use Rattle.pk_base.specs.Entry.{Entry}
 use Rattle.pk_base.specs.Refusal.{Refusal, ensure}
 use Rattle.pk_rootfmt.specs.Root.{Root}
 use Rattle.pk_jrnfmt.specs.Epoch.{epoch}
+use Rattle.pk_model.specs.RootLimits.{root_spaces}
 use Rattle.pk_model.specs.Found.{Found, older_epoch, newest_epoch, runs_from, found_under}
 use Rattle.pk_model.proofs.StrangePages.{bind_ok}
 use Rattle.pk_base.proofs.Logic.{ok_same, passed}
@@ -17,7 +18,7 @@ unfolding found_under
 newest_found shape at root found is =
     let first = bind_ok (older_epoch shape at root) _ found is in
     let second = bind_ok (newest_epoch shape at root) _ found first.2 in
-    let third = bind_ok (runs_from shape at 1 root.counts root.runs) _ found second.2 in
+    let third = bind_ok (runs_from shape (root_spaces shape root) at 1 root.counts root.runs) _ found second.2 in
     second.1 ∙ (λ i. Ok (same_newest _ _ third.2 i))
   where
     same_newest : (x y : Found) → ◌≡◌ {A = Result Found Refusal} (Ok x) (Ok y) → x.newest ≡ y.newest
@@ -38,8 +39,8 @@ unfolding found_under
 none_named shape at root found is none =
     let first = bind_ok (older_epoch shape at root) _ found is in
     let second = bind_ok (newest_epoch shape at root) _ found first.2 in
-    let third = bind_ok (runs_from shape at 1 root.counts root.runs) _ found second.2 in
-    let es = bind_ok (epoch shape at (root.epoch - 1) root.older) _ first.0 first.1 in
+    let third = bind_ok (runs_from shape (root_spaces shape root) at 1 root.counts root.runs) _ found second.2 in
+    let es = bind_ok (epoch shape (root_spaces shape root) at (root.epoch - 1) root.older) _ first.0 first.1 in
     let tested = bind_ok (ensure (length root.older == 0 || nat_le 1 (length es.0)) (page_in shape root.older 0)) _ first.0 es.2 in
     let older_is : first.0 ≡ found.older = ap (λ (f : Found). f.older) (ok_same (record { newest = second.0; older = first.0; runs = third.0 }) found third.2) in
     let empty : es.0 ≡ [] = ok_same es.0 first.0 tested.2 ∙ older_is ∙ none in

@@ -1,5 +1,5 @@
 -- What is not read may change.
-use Rattle.std.proofs.Common.{◌≡◌, ◌⊎◌, inl, inr, ℕ, zero, suc, ◌+◌, ◌-◌, ◌/◌, ◌<◌, ◌≤◌, refl, sym, subst, ◌∙◌, arith, true, false, T, List, [], ◌∷◌, ◌++◌, length, drop, nat_le, nat_eq, ◌==◌, Result}
+use Rattle.std.proofs.Common.{◌≡◌, ◌⊎◌, inl, inr, ℕ, zero, suc, ◌+◌, ◌-◌, ◌/◌, ◌<◌, ◌≤◌, refl, sym, subst, ◌∙◌, arith, true, false, T, List, [], ◌∷◌, ◌++◌, length, drop, nat_le, nat_eq, ◌==◌, Result, Bool}
 use Rattle.std.proofs.Common.{Ok, leb→le, leb-false, eq-or-lt_of_le, div-lt_iff_lt-mul}
 use Rattle.std.specs.List.{list_all, starts_with, concat}
 use Rattle.pk_base.specs.Key.{Key}
@@ -13,9 +13,10 @@ use Rattle.pk_segfmt.specs.Value.{head_bytes, value_pages, value_page, value_fro
 use Rattle.pk_rootfmt.specs.Root.{Root, named}
 use Rattle.pk_rootfmt.specs.Newest.{newest_root}
 use Rattle.pk_base.specs.Map.{Map}
+use Rattle.pk_model.specs.RootLimits.{root_limits, root_spaces}
 use Rattle.pk_model.specs.Found.{Found, found_under, entries_in_order}
 use Rattle.pk_model.specs.Values.{values_of}
-use Rattle.pk_model.specs.Reading.{reading_of, map_under}
+use Rattle.pk_model.specs.Reading.{reading_of, map_under, may_add}
 use Rattle.pk_model.specs.Laws.{AnyByRecursion, IsPageOf, IsRead, IsWholePage}
 use Rattle.pk_base.proofs.ShapeLemmas.{block_pages_positive}
 use Rattle.pk_model.proofs.SamePages.{newest_root_same, found_same, map_under_same, agrees, agree_runs, any_front, any_back, any_in_concat}
@@ -23,7 +24,8 @@ use Rattle.pk_model.proofs.StrangePages.{bind_ok, some_ok}
 use Rattle.pk_model.proofs.Lookups.{values_step}
 use Rattle.pk_law_steps.specs.Under.{IsUnder, IsValuePage, places}
 use Rattle.pk_law_steps.specs.Reads.{ReadsUnder, UnderReads, Same, ProgramsUnread, Erases}
-use Rattle.pk_base.proofs.Logic.{passed}
+use Rattle.pk_base.proofs.Logic.{passed, left_part, right_part}
+use Rattle.pk_space.specs.Entries.{in_spaces}
 
 pub reads_under : ReadsUnder
 unfolding reading_of
@@ -77,26 +79,35 @@ module _ (shape : Shape) (at : ℕ → Page) where
       let bytes = bind_ok (value_from shape at place.page (head_bytes key place.len) (32 + place.len) (charge shape place.len)) _ v ok in
       value_from_whole place.page (head_bytes key place.len) (32 + place.len) (charge shape place.len) bytes.0 bytes.1 k is.0 is.1
 
-  values_whole : (blocks taken : List ℕ) (es : List (Key × Place)) (vs : List (Key × List ℕ)) → values_of shape at blocks taken es ≡ Ok vs → (k : ℕ) → IsValuePage shape es k → IsWholePage (at k)
-  values_whole blocks taken [] vs ok k is = absurd is
-  values_whole blocks taken (e ∷ es) vs ok k (inl here) = let step = values_step shape at blocks taken e es vs ok in value_at_whole e.0 e.1 step.value step.read k here
-  values_whole blocks taken (e ∷ es) vs ok k (inr there) = let step = values_step shape at blocks taken e es vs ok in values_whole blocks
-      (taken ++ value_pages shape e.1) es step.others step.rest k there
+  values_whole : (limits blocks : List ℕ) (taken es : List (Key × Place)) (vs : List (Key × List ℕ)) → values_of shape at limits blocks taken es ≡ Ok vs → (k : ℕ) → IsValuePage shape es k → IsWholePage (at k)
+  values_whole limits blocks taken [] vs ok k is = absurd is
+  values_whole limits blocks taken (e ∷ es) vs ok k (inl here) = let step = values_step shape at limits blocks taken e es vs ok in value_at_whole e.0 e.1 step.value step.read k here
+  values_whole limits blocks taken (e ∷ es) vs ok k (inr there) = let step = values_step shape at limits blocks taken e es vs ok in values_whole limits blocks
+      (taken ++ e ∷ []) es step.others step.rest k there
 
 -- the values that make the map of a flash
 pub record Values (shape : Shape) (flash : Flash) (extra : List Entry) (root : Root) (found : Found) (m : Map) : Type 0 where
   pub values : List (Key × List ℕ)
   pub room : T (nat_le (length (firsts (found.newest ++ extra))) (buffer shape))
-  pub read : values_of shape (page_at flash) (named root) [] (places found extra) ≡ Ok values
+  pub spaced : T (in_spaces (root_spaces shape root) extra)
+  pub read : values_of shape (page_at flash) (root_limits shape root) (named root) [] (places found extra) ≡ Ok values
   pub whole_map : from_entries values ≡ m
 
 pub values_under : (shape : Shape) (flash : Flash) (extra : List Entry) (root : Root) (found : Found) (m : Map)
     → map_under shape (page_at flash) root found extra ≡ Ok m → Values shape flash extra root found m
 unfolding map_under
 values_under shape flash extra root found m ok =
-    let tested = bind_ok (ensure (nat_le (length (firsts (found.newest ++ extra))) (buffer shape)) (page_in shape root.newest 0)) _ m ok in
-    let values = bind_ok (values_of shape (page_at flash) (named root) [] (places found extra)) _ m tested.2 in
-    record { values = values.0; room = passed _ _ tested.0 tested.1; read = values.1; whole_map = ok_same _ _ values.2 }
+    let tested = bind_ok (ensure (may_add shape root found extra) (page_in shape root.newest 0)) _ m ok in
+    let values = bind_ok (values_of shape (page_at flash) (root_limits shape root) (named root) [] (places found extra)) _ m tested.2 in
+    let few : Bool = nat_le (length (firsts (found.newest ++ extra))) (buffer shape) in
+    let tests : T (may_add shape root found extra) = passed _ _ tested.0 tested.1 in
+    record {
+      values = values.0;
+      room = left_part few (in_spaces (root_spaces shape root) extra) tests;
+      spaced = right_part few (in_spaces (root_spaces shape root) extra) tests;
+      read = values.1;
+      whole_map = ok_same _ _ values.2;
+    }
   where
     ok_same : (x y : Map) → ◌≡◌ {A = Result Map Refusal} (Ok x) (Ok y) → x ≡ y
     ok_same x y e = cc
@@ -105,7 +116,7 @@ pub value_page_whole : (shape : Shape) (flash : Flash) (extra : List Entry) (top
     → IsUnder shape flash extra top found m → (k : ℕ) → IsValuePage shape (places found extra) k → IsWholePage (page_at flash k)
 value_page_whole shape flash extra top found m under k is =
     let values = values_under shape flash extra top.1 found m under.is_map in
-    values_whole shape (page_at flash) (named top.1) [] (places found extra) values.values values.read k is
+    values_whole shape (page_at flash) (root_limits shape top.1) (named top.1) [] (places found extra) values.values values.read k is
 
 -- ---- erased pages
 

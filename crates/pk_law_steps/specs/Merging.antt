@@ -9,6 +9,7 @@ use Rattle.pk_base.specs.Map.{Map}
 use Rattle.pk_meta.specs.Over.{over, kept_at}
 use Rattle.pk_meta.specs.Run.{run}
 use Rattle.pk_rootfmt.specs.Root.{Root, is_root, named, differ, last_number}
+use Rattle.pk_model.specs.RootLimits.{root_spaces}
 use Rattle.pk_model.specs.Found.{Found}
 use Rattle.pk_model.specs.Laws.{AnyByRecursion}
 use Rattle.pk_model.specs.Tree.{run_at, merged, blocks_after}
@@ -46,7 +47,7 @@ merged_found level found = record found {
 -- can be written.
 pub record IsMerged (shape : Shape) (flash : Flash) (extra : List Entry) (top : ℕ × Root) (found : Found) (level count : ℕ) (taken : List ℕ) : Type 0 where
   pub next : next_merge shape (length (firsts found.older)) (map length found.runs) ≡ Some level
-  pub stands : run shape (page_at flash) level count taken ≡ Ok (output_of level found)
+  pub stands : run shape (root_spaces shape top.1) (page_at flash) level count taken ≡ Ok (output_of level found)
   pub size : length taken ≡ run_blocks shape count
   pub grammar : is_root shape (merged_root top.1 level count taken) ≡ true
   pub fresh : (b : ℕ) → AnyByRecursion (λ c. b ≡ c) taken → AnyByRecursion (λ c. b ≡ c) (named top.1) → ⊥

@@ -1,5 +1,5 @@
 -- What a commit leaves of a log and of a flash, cut or not.
-use Rattle.std.proofs.Common.{◌≡◌, ◌≢◌, inl, inr, ℕ, ◌+◌, ◌-◌, ◌*◌, ◌%◌, ◌<◌, ◌≤◌, refl, sym, ap, subst, ◌∙◌, arith, Bool, if◌then◌else◌, List, [], ◌++◌, length, Some, Ok, append-nil}
+use Rattle.std.proofs.Common.{◌≡◌, ◌≢◌, inl, inr, ℕ, ◌+◌, ◌-◌, ◌*◌, ◌%◌, ◌<◌, ◌≤◌, refl, sym, ap, subst, ◌∙◌, arith, Bool, if◌then◌else◌, List, [], ◌++◌, length, Some, Ok, append-nil, le→leb, true}
 use Rattle.pk_base.specs.Shape.{Shape, buffer, epoch_pages, epoch_commits}
 use Rattle.pk_base.specs.Page.{Page, Flash, page_at, erased, whole, page_in, commit_page, commit_at}
 use Rattle.pk_base.specs.Firsts.{firsts}
@@ -14,7 +14,7 @@ use Rattle.pk_nand.proofs.Leaving.{page_at-slice_set, page_at-slice_set_same}
 use Rattle.pk_nand.proofs.Pairing.{IsPairCut-cut, IsPairCut-done, outside_pair}
 use Rattle.pk_nand.proofs.Reaching.{Reached-start}
 use Rattle.pk_jrnfmt.specs.Page.{journal_entries}
-use Rattle.pk_jrnfmt.specs.Epoch.{epoch}
+use Rattle.pk_jrnfmt.specs.Epoch.{epoch, may_follow}
 use Rattle.pk_rootfmt.specs.Root.{Root}
 use Rattle.pk_rootfmt.specs.Newest.{newest_root}
 use Rattle.pk_root.proofs.Places.{InstallerOnFlash-by_same}
@@ -40,6 +40,9 @@ use Rattle.pk_model.proofs.Running.{Reaches-program, Goes-program}
 use Rattle.pk_law_steps.proofs.NewestBlocks.{valid_root}
 use Rattle.pk_log.proofs.Standing.{blocks_are}
 use Rattle.pk_law_steps.proofs.UnderRoot.{newest_found}
+use Rattle.pk_model.specs.RootLimits.{root_spaces}
+use Rattle.pk_model.proofs.RootLimits.{storable_in_spaces}
+use Rattle.pk_base.proofs.Logic.{is_true, both}
 
 -- ---- the programs
 
@@ -192,10 +195,15 @@ module _ (log : LogState) (board : BoardState) (top : ℕ × Root) (found : Foun
       let fits : length (firsts (found.newest ++ log.pending)) ≤ buffer log.shape = omega (arith, bound, capacity, same) in
       subst (λ (s : Shape). length (firsts (found.newest ++ log.pending)) ≤ buffer s) (sym logs.epoch_shape) fits
 
+  -- they may follow those of the epoch
+  may_commit : length log.active.entries ≤ log.active.capacity → may_follow e.shape (root_spaces shape top.1) found.newest log.pending ≡ true
+  may_commit bound = is_true _ (both _ _ (le→leb _ _ (have_room bound)) (storable_in_spaces log.shape top.1 log.pending logs.pending_are))
+
   reads_all : length log.active.entries ≤ log.active.capacity → AddsAll e log.pending board.pages then_pages → newest_epoch shape (page_at then_pages) top.1 ≡ Ok (found.newest ++ log.pending)
   reads_all bound adds =
-      let was : Reads e board.pages found.newest = (λ i. epoch (logs.epoch_shape i) old (logs.epoch_number i) (logs.epoch_blocks i)) ∙ newest_found shape old top.1 found logs.is_found in
-      (λ i. epoch (sym logs.epoch_shape i) (page_at then_pages) (sym logs.epoch_number i) (sym logs.epoch_blocks i)) ∙ adds found.newest was (have_room bound)
+      let spaces : ℕ = root_spaces shape top.1 in
+      let was : Reads e spaces board.pages found.newest = (λ i. epoch (logs.epoch_shape i) spaces old (logs.epoch_number i) (logs.epoch_blocks i)) ∙ newest_found shape old top.1 found logs.is_found in
+      (λ i. epoch (sym logs.epoch_shape i) spaces (page_at then_pages) (sym logs.epoch_number i) (sym logs.epoch_blocks i)) ∙ adds spaces found.newest was (may_commit bound)
 
   pub stands_done : length log.active.entries ≤ log.active.capacity → AddsAll e log.pending board.pages then_pages → EpochOnFlash (record e { used = e.used + 1 }) then_pages
       → LogOnFlash (all_committed log) then_pages top (committed found log.pending)

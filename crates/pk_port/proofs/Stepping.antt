@@ -40,11 +40,14 @@ module _ (shape : Shape) (old new : Mounted) (c : Command) (some : 1 ≤ length 
 
   served_left : (x : Exchange) → Serves shape old new c x → (m : Map) → part_of (reading shape old.board.pages []) ≡ Some m → OneOf m
   served_left x s m told =
-      let same = part_held (reading shape old.board.pages []) s.map m s.held told in
-      (in_space 1 s.left, ap part_of s.holds, elim s.step.0 [
-        | inl answer ↦ inr (ap (in_space 1) (answer.leaves ∙ ap (map_after shape old.terms.limits s.map) s.is) ∙ after_is s.map m same)
-        | inr fault ↦ inl (ap (in_space 1) fault.leaves ∙ same)
-      ])
+      let same = part_held (reading shape old.board.pages []) s.map m s.held told in (
+        in_space 1 s.left,
+        ap part_of s.holds,
+        elim s.step.0 [
+          | inl answer ↦ inr (ap (in_space 1) (answer.leaves ∙ ap (map_after shape old.terms.limits s.map) s.is) ∙ after_is s.map m same)
+          | inr fault ↦ inl (ap (in_space 1) fault.leaves ∙ same)
+        ],
+      )
 
   stopped_left : Stops shape old new c → (m : Map) → part_of (reading shape old.board.pages []) ≡ Some m → OneOf m
   stopped_left s m told =

@@ -31,6 +31,7 @@ use Rattle.pk_values.specs.Placed.{ValuesOnFlash, AreApart as ApartInData}
 use Rattle.pk_values.proofs.Standing.{total_of}
 use Rattle.pk_law_moves.specs.Moves.{AreApart}
 use Rattle.pk_base.proofs.KeyLemmas.{firsts_sorted}
+use Rattle.pk_model.specs.RootLimits.{root_limits}
 
 -- ---- keys
 
@@ -68,13 +69,13 @@ module _ (shape : Shape) (flash : Flash) (top : ℕ × Root) (found : Found) (m 
   values_known key place is =
       let values = values_under shape flash [] top.1 found m under.is_map in
       value_known shape (page_at flash) key place (places found []) values.values
-      (values_sound shape (named top.1) (page_at flash) (places found []) values.values (nothing_fits shape (named top.1)) values.read).read is
+      (values_sound shape (named top.1) (page_at flash) (root_limits shape top.1) (places found []) values.values (nothing_fits shape (named top.1)) values.read).read is
 
   pub pages_few : length (all_pages shape (places found [])) ≤ limit shape
   pages_few =
       let values = values_under shape flash [] top.1 found m under.is_map in
       (fits_parts shape (named top.1) (all_pages shape (places found []))
-      (subst T (sym (values_sound shape (named top.1) (page_at flash) (places found []) values.values (nothing_fits shape (named top.1)) values.read).placed_well) tt)).few
+      (subst T (sym (values_sound shape (named top.1) (page_at flash) (root_limits shape top.1) (places found []) values.values (nothing_fits shape (named top.1)) values.read).placed_well) tt)).few
 
   pub live_few : (d : ValuesState) (pool : Blocks) (outputs : List ℕ) → ValuesOnFlash shape d pool outputs flash (places found []) → sum d.live.heads ≤ limit shape
   live_few d pool outputs placed = subst (λ (n : ℕ). n ≤ limit shape) (sym (total_of shape d pool outputs flash (places found []) placed)) pages_few

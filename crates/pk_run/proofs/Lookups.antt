@@ -21,6 +21,7 @@ use Rattle.pk_run.specs.Kept.{Kept, IsKept, IsPinned, RunOnFlash, page_of, after
 use Rattle.pk_run.specs.Search.{IsFound, IsBeforeAll, IsPageFor}
 use Rattle.pk_run.proofs.Orders.{find_piece, find_nowhere, absent, present, sorted_drop, sorted_take}
 use Rattle.pk_run.proofs.Pieces.{pieces, share}
+use Rattle.pk_base.specs.declared.sizes.TheConstants.{MOST_SPACES}
 
 -- an entry that is the first of a page has the page's first key
 pub first_is : (r : Kept) (flash : Flash) (arena : Frames) (es : List Entry) → IsShape r.shape → RunOnFlash r flash arena es → (j : ℕ) (e : Entry) → slice_get es (j * page_entries r.shape) ≡ Some e
@@ -75,7 +76,7 @@ module _ (r : Kept) (flash : Flash) (arena : Frames) (es : List Entry) (is : IsS
   holds_piece kept p bytes exists here =
       let least = kept.level_least in
       let most = kept.level_most in
-      let has = pieces r.shape (page_at flash) r.level r.count r.blocks es is least most (omega (arith, s.pages, few kept)) s.read p (omega (arith, s.pages, exists)) in
+      let has = pieces r.shape MOST_SPACES (page_at flash) r.level r.count r.blocks es is least most (omega (arith, s.pages, few kept)) s.read p (omega (arith, s.pages, exists)) in
       let was = has.is_whole in
       let same : has.bytes ≡ bytes = cc in
       let held = meta_held r.shape r.level p (share r.shape r.count p) has.bytes (piece p) least most (omega (arith, exists, few kept)) has.holds in
@@ -84,7 +85,7 @@ module _ (r : Kept) (flash : Flash) (arena : Frames) (es : List Entry) (is : IsS
   -- each page of the run is whole
   pub page_stands : IsKept r → (p : ℕ) → p < length r.firsts → (bytes : List ℕ) × (page_at flash (page_of r p) ≡ whole bytes)
   page_stands kept p exists =
-      let has = pieces r.shape (page_at flash) r.level r.count r.blocks es is kept.level_least kept.level_most (omega (arith, s.pages, few kept)) s.read p (omega (arith, s.pages, exists)) in
+      let has = pieces r.shape MOST_SPACES (page_at flash) r.level r.count r.blocks es is kept.level_least kept.level_most (omega (arith, s.pages, few kept)) s.read p (omega (arith, s.pages, exists)) in
       (has.bytes, has.is_whole)
 
 -- what is found in a page's entries

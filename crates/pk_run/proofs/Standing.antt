@@ -13,8 +13,9 @@ use Rattle.pk_pin.specs.Frames.{Frames}
 use Rattle.pk_run.specs.Kept.{Kept, empty, page_of, IsFrameOf, RunOnFlash, IsNext, IsPinnedAlike, with_page, with_lease}
 use Rattle.pk_run.specs.Laws.{StandsElsewhere}
 use Rattle.pk_run.specs.Leases.{StandsBare}
-use Rattle.pk_run.proofs.Pieces.{pages_are, run_same, run_more}
+use Rattle.pk_run.proofs.Pieces.{pages_are, run_same, run_more, page_in_spaces}
 use Rattle.pk_base.proofs.ShapeLemmas.{entries_some}
+use Rattle.pk_base.specs.declared.sizes.TheConstants.{MOST_SPACES}
 
 -- a lease is of a page of the run
 pub leased_page : (r : Kept) (flash : Flash) (arena : Frames) (es : List Entry) → RunOnFlash r flash arena es → (j lease : ℕ) → slice_get r.leases j ≡ Some lease → j < length r.firsts
@@ -22,7 +23,7 @@ leased_page r flash arena es s j lease got = let few = s.leased in omega (arith,
 
 pub RunOnFlash-elsewhere : StandsElsewhere
 RunOnFlash-elsewhere r old new before after es pages frames s = record {
-  read = run_same r.shape (page_at old) (page_at new) r.level r.count r.blocks r.blocks (λ j h. (refl, pages j (omega (arith, s.pages)))) ∙ s.read;
+  read = run_same r.shape MOST_SPACES (page_at old) (page_at new) r.level r.count r.blocks r.blocks (λ j h. (refl, pages j (omega (arith, s.pages)))) ∙ s.read;
   many = s.many;
   rising = s.rising;
   pages = s.pages;
@@ -79,7 +80,7 @@ RunOnFlash-block r b flash arena es is s =
     (let e = length-append r.blocks (b ∷ []) in omega (arith, e)) in
     let place : (j : ℕ) → j < length r.firsts → page_in r.shape (r.blocks ++ b ∷ []) j ≡ page_in r.shape r.blocks j = λ j h. same_place r.shape r.blocks b j is (omega (arith, s.within)) in
     record {
-      read = run_same r.shape (page_at flash) (page_at flash) r.level r.count r.blocks (r.blocks ++ b ∷ []) (λ j h. (place j (omega (arith, s.pages)), refl)) ∙ s.read;
+      read = run_same r.shape MOST_SPACES (page_at flash) (page_at flash) r.level r.count r.blocks (r.blocks ++ b ∷ []) (λ j h. (place j (omega (arith, s.pages)), refl)) ∙ s.read;
       many = s.many;
       rising = s.rising;
       pages = s.pages;
@@ -145,13 +146,14 @@ RunOnFlash-page r flash arena es more first lease n is full place some most s ne
     let size : ℕ = page_entries r.shape in
     let pages : ℕ = length r.firsts in
     let positive : 0 < size = entries_some r.shape is in
-    let was : run r.shape (page_at flash) r.level (pages * size) r.blocks ≡ Ok es = subst (λ (k : ℕ). run r.shape (page_at flash) r.level k r.blocks ≡ Ok es) full s.read in
-    let now = run_more r.shape (page_at flash) r.level pages r.blocks next.bytes es more is (omega (arith, some, many)) (omega (arith, most, many)) was next.here next.holds next.rising next.deepest in
+    let was : run r.shape MOST_SPACES (page_at flash) r.level (pages * size) r.blocks ≡ Ok es = subst (λ (k : ℕ). run r.shape MOST_SPACES (page_at flash) r.level k r.blocks ≡ Ok es) full s.read in
+    let now = run_more r.shape MOST_SPACES (page_at flash) r.level pages r.blocks next.bytes es more is (omega (arith, some, many)) (omega (arith, most, many)) was next.here next.holds next.rising next.deepest
+    (page_in_spaces r.shape r.level (length r.firsts) (length more) next.bytes more next.holds) in
     let count : pages * size + length more ≡ r.count + n = omega (arith, full, many) in
     let sum = length-append es more in
     let long = pages_length r flash arena es more first in
     record {
-      read = subst (λ (k : ℕ). run r.shape (page_at flash) r.level k r.blocks ≡ Ok (es ++ more)) count now;
+      read = subst (λ (k : ℕ). run r.shape MOST_SPACES (page_at flash) r.level k r.blocks ≡ Ok (es ++ more)) count now;
       many = omega (arith, sum, s.many, many);
       rising = next.rising;
       pages = long ∙ sym (pages_are (r.count + n) size (suc pages) positive (omega (arith, full, most, suc-mul pages size)) (omega (arith, full, some, suc-mul pages size)));

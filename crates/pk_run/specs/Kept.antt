@@ -2,7 +2,7 @@
 use Rattle.std.specs.Prelude.{◌≡◌, ℕ, ◌+◌, ◌*◌, ◌<◌, ◌≤◌, T, not, ◌||◌, ◌==◌, is_some, Bool, nat_le, false, List, [], ◌∷◌, ◌++◌, length, slice_get, option_map, Option, Some, None, Ok}
 use Rattle.std.specs.List.{list_all}
 use Rattle.std.specs.FinMap.Entries.{is_sorted}
-use Rattle.pk_base.specs.declared.sizes.TheConstants.{LEVELS}
+use Rattle.pk_base.specs.declared.sizes.TheConstants.{LEVELS, MOST_SPACES}
 use Rattle.pk_base.specs.Key.{Key, key_cmp, IsBelow}
 use Rattle.pk_base.specs.Shape.{Shape, page_entries, run_pages, cap, blocks_of}
 use Rattle.pk_base.specs.Entry.{Entry, key_of}
@@ -52,7 +52,7 @@ pub record IsFrameOf (flash : Flash) (arena : Frames) (page lease : ℕ) : Type 
 
 -- The entries of the run on the flash are es, and what is kept describes their pages.
 pub record RunOnFlash (r : Kept) (flash : Flash) (arena : Frames) (es : List Entry) : Type 0 where
-  pub read : run r.shape (page_at flash) r.level r.count r.blocks ≡ Ok es
+  pub read : run r.shape MOST_SPACES (page_at flash) r.level r.count r.blocks ≡ Ok es
   pub many : length es ≡ r.count
   pub rising : T (is_sorted key_cmp es)
   pub pages : length r.firsts ≡ run_pages r.shape r.count

@@ -37,6 +37,7 @@ use Rattle.pk_schedule.specs.declared.phase.Phase.TheVariants.{Idle, Running, Re
 use Rattle.pk_schedule.specs.Index.{Index, IndexOnFlash, MergeStands, MergesInto, output, source_at}
 use Rattle.pk_schedule.specs.Steps.{backlog_of, is_between, merge_left, freeze_rest_of}
 use Rattle.pk_base.proofs.Logic.{ok_same}
+use Rattle.pk_model.specs.RootLimits.{root_spaces}
 
 -- ---- the runs
 
@@ -99,8 +100,8 @@ module _ (x : Index) (frames : ℕ) (flash : Flash) (top : ℕ × Root) (found :
   pieces : Pieces x.log.shape (page_at flash) top.1 found
   pieces = pieces_of x.log.shape (page_at flash) top.1 found stands.logs.is_found
 
-  runs : Runs x.log.shape (page_at flash) top.1.counts top.1.runs found.runs
-  runs = four_runs x.log.shape (page_at flash) top.1.counts top.1.runs found.runs (four_of_root x.log.shape top.1 valid).counts (four_of_root x.log.shape top.1 valid).runs pieces.runs
+  runs : Runs x.log.shape (root_spaces x.log.shape top.1) (page_at flash) top.1.counts top.1.runs found.runs
+  runs = four_runs x.log.shape (root_spaces x.log.shape top.1) (page_at flash) top.1.counts top.1.runs found.runs (four_of_root x.log.shape top.1 valid).counts (four_of_root x.log.shape top.1 valid).runs pieces.runs
 
   caps_are : WithinCaps x.log.shape runs.n1 runs.n2 runs.n3 runs.n4
   caps_are = within_caps x.log.shape runs.n1 runs.n2 runs.n3 runs.n4
@@ -115,7 +116,7 @@ module _ (x : Index) (frames : ℕ) (flash : Flash) (top : ℕ × Root) (found :
       let read = bind_ok _ _ found.older pieces.older in
       let tested = bind_ok (ensure (length top.1.older == 0 || nat_le 1 (length read.0)) (page_in x.log.shape top.1.older 0)) _ found.older read.2 in
       let few : length (firsts found.older) ≤ buffer x.log.shape = subst (λ (es : List Entry). length (firsts es) ≤ buffer x.log.shape)
-      (ok_same read.0 found.older tested.2) (epoch_most x.log.shape (page_at flash) (top.1.epoch - 1) top.1.older read.0 read.1) in
+      (ok_same read.0 found.older tested.2) (epoch_most x.log.shape (root_spaces x.log.shape top.1) (page_at flash) (top.1.epoch - 1) top.1.older read.0 read.1) in
       let same = frozen_is in
       omega (arith, few, same)
 
@@ -129,10 +130,10 @@ module _ (x : Index) (frames : ℕ) (flash : Flash) (top : ℕ × Root) (found :
   pub runs_most : (i : ℕ) → i < 4 → slice_index (map (λ (r : Kept). r.count) x.levels.runs) i ≤ room x.log.shape (i + 1)
   runs_most i less =
       let c = caps_are in
-      let m1 = run_most x.log.shape (page_at flash) 1 runs.n1 runs.b1 runs.r1 runs.one in
-      let m2 = run_most x.log.shape (page_at flash) 2 runs.n2 runs.b2 runs.r2 runs.two in
-      let m3 = run_most x.log.shape (page_at flash) 3 runs.n3 runs.b3 runs.r3 runs.three in
-      let m4 = run_most x.log.shape (page_at flash) 4 runs.n4 runs.b4 runs.r4 runs.four in
+      let m1 = run_most x.log.shape (root_spaces x.log.shape top.1) (page_at flash) 1 runs.n1 runs.b1 runs.r1 runs.one in
+      let m2 = run_most x.log.shape (root_spaces x.log.shape top.1) (page_at flash) 2 runs.n2 runs.b2 runs.r2 runs.two in
+      let m3 = run_most x.log.shape (root_spaces x.log.shape top.1) (page_at flash) 3 runs.n3 runs.b3 runs.r3 runs.three in
+      let m4 = run_most x.log.shape (root_spaces x.log.shape top.1) (page_at flash) 4 runs.n4 runs.b4 runs.r4 runs.four in
       let c1 = c.one in
       let c2 = c.two in
       let c3 = c.three in

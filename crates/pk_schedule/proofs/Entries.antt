@@ -32,6 +32,7 @@ use Rattle.pk_law_steps.proofs.FourRuns.{pieces_of}
 use Rattle.pk_merge.specs.Running.{merged}
 use Rattle.pk_schedule.specs.Index.{Index, entries_at}
 use Rattle.pk_base.proofs.KeyLemmas.{firsts_sorted}
+use Rattle.pk_model.specs.RootLimits.{root_spaces}
 
 -- ---- the output
 
@@ -101,8 +102,8 @@ module _ (shape : Shape) (flash : Flash) (root : Root) (found : Found) (is : fou
       let read = bind_ok _ _ found.older pieces.older in
       let tested = bind_ok (ensure (length root.older == 0 || nat_le 1 (length read.0)) (page_in shape root.older 0)) _ found.older read.2 in
       subst Are (ok_same read.0 found.older tested.2)
-      (epoch_all (IsEntry shape) shape (page_at flash) (λ k number index bytes es stands read. journal_are shape number index bytes es read)
-      (λ k level index count bytes es stands read. meta_are shape level index count bytes es read) (root.epoch - 1) root.older read.0 read.1)
+      (epoch_all (IsEntry shape) shape (root_spaces shape root) (page_at flash) (λ k number index bytes es stands read spaced. journal_are shape number index bytes es read)
+      (λ k level index count bytes es stands read spaced. meta_are shape level index count bytes es read) (root.epoch - 1) root.older read.0 read.1)
 
   pub frozen_are : (t : Table) → t ≡ buffer_of shape found.older → Are t.entries
   frozen_are t held = subst (λ (t : Table). Are t.entries) (sym held) (all_firsts (IsEntry shape) (reverse found.older) (all_reverse (IsEntry shape) found.older older_are))
@@ -116,5 +117,5 @@ module _ (shape : Shape) (flash : Flash) (root : Root) (found : Found) (is : fou
   run_are level =
       let pieces = pieces_of shape (page_at flash) root found is in
       at_index found.runs (level - 1)
-      (runs_all (IsEntry shape) shape (page_at flash) (λ k number index bytes es stands read. journal_are shape number index bytes es read)
-      (λ k level index count bytes es stands read. meta_are shape level index count bytes es read) 1 root.counts root.runs found.runs pieces.runs)
+      (runs_all (IsEntry shape) shape (root_spaces shape root) (page_at flash) (λ k number index bytes es stands read spaced. journal_are shape number index bytes es read)
+      (λ k level index count bytes es stands read spaced. meta_are shape level index count bytes es read) 1 root.counts root.runs found.runs pieces.runs)

@@ -14,6 +14,7 @@ use Rattle.pk_schedule.specs.Index.{Index, IndexOnFlash, IsSettled, settled}
 use Rattle.pk_schedule.specs.Steps.{KeepsValues}
 use Rattle.pk_base.proofs.Logic.{ok_same}
 use Rattle.pk_law_steps.proofs.Freezing.{no_blocks}
+use Rattle.pk_model.specs.RootLimits.{root_spaces}
 
 -- no block leaves, also if one has another owner or is erased
 pub none_leaves_set : (p : Blocks) (b : ℕ) (s : BlockState) → freed_state s ≡ s → NoneLeaves p → NoneLeaves (with_state p b s)
@@ -36,9 +37,9 @@ unfolding found_under
 none_there shape at root found is none =
     let first = bind_ok (older_epoch shape at root) _ found is in
     let second = bind_ok (newest_epoch shape at root) _ found first.2 in
-    let third = bind_ok (runs_from shape at 1 root.counts root.runs) _ found second.2 in
-    let es = bind_ok (epoch shape at (root.epoch - 1) root.older) _ first.0 first.1 in
+    let third = bind_ok (runs_from shape (root_spaces shape root) at 1 root.counts root.runs) _ found second.2 in
+    let es = bind_ok (epoch shape (root_spaces shape root) at (root.epoch - 1) root.older) _ first.0 first.1 in
     let tested = bind_ok (ensure (length root.older == 0 || nat_le 1 (length es.0)) (page_in shape root.older 0)) _ first.0 es.2 in
     let older_is : first.0 ≡ found.older = ap (λ (f : Found). f.older) (ok_same (record { newest = second.0; older = first.0; runs = third.0 }) found third.2) in
-    let empty : es.0 ≡ [] = ok_same es.0 [] (sym es.1 ∙ ap (λ (bs : List ℕ). epoch shape at (root.epoch - 1) bs) none ∙ no_blocks shape at (root.epoch - 1)) in
+    let empty : es.0 ≡ [] = ok_same es.0 [] (sym es.1 ∙ ap (λ (bs : List ℕ). epoch shape (root_spaces shape root) at (root.epoch - 1) bs) none ∙ no_blocks shape (root_spaces shape root) at (root.epoch - 1)) in
     sym older_is ∙ sym (ok_same es.0 first.0 tested.2) ∙ empty

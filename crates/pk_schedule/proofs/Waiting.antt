@@ -50,6 +50,10 @@ use Rattle.pk_schedule.proofs.Giving.{GivesBack, gives_back, one_owner}
 use Rattle.pk_schedule.proofs.Replacing.{blocks_at_level, of_level, at_other, leases_set, places_differ}
 use Rattle.pk_base.proofs.Logic.{is_true}
 use Rattle.pk_schedule.proofs.Grown.{got_in}
+use Rattle.pk_run.proofs.Pieces.{run_in}
+use Rattle.pk_base.specs.declared.sizes.TheConstants.{MOST_SPACES}
+use Rattle.pk_model.specs.RootLimits.{root_spaces}
+use Rattle.pk_law_steps.proofs.OutputSpaces.{output_in_spaces}
 
 -- ---- different runs
 
@@ -155,8 +159,10 @@ module _ (x : Index) (frames : ℕ) (old : BoardState) (top : ℕ × Root) (foun
   pub is_merged : IsMerged shape old.pages [] top found level out.count out.blocks
   is_merged = record {
     next = waits.into.due;
-    stands = subst (λ (s : Shape). run s (page_at old.pages) level out.count out.blocks ≡ Ok (output_of level found)) waits.into.output_shape
-        (subst (λ l. run out.shape (page_at old.pages) l out.count out.blocks ≡ Ok (output_of level found)) waits.into.output_level waits.whole.stands.read);
+    stands = run_in shape MOST_SPACES (root_spaces shape root) (page_at old.pages) level out.count out.blocks (output_of level found)
+        (subst (λ (s : Shape). run s MOST_SPACES (page_at old.pages) level out.count out.blocks ≡ Ok (output_of level found)) waits.into.output_shape
+        (subst (λ l. run out.shape MOST_SPACES (page_at old.pages) l out.count out.blocks ≡ Ok (output_of level found)) waits.into.output_level waits.whole.stands.read))
+        (output_in_spaces shape (page_at old.pages) root found level may.under.is_found);
     size = size;
     grammar = merged_grammar shape root level out.count out.blocks (is_true _ valid) least most few size waits.into.held.different inside waits.into.held.unnamed
         (let number = may.number in let same : x.log.root.number ≡ root.number = ap (λ (r : Root). r.number) may.stands.logs.root_is in omega (arith, number, same));

@@ -1,4 +1,5 @@
 mod Within
+mod Isolating
 mod Sessions
 mod Telling
 mod Completing

@@ -36,6 +36,7 @@ use Rattle.pk_walk.proofs.Leasts.{NotBelow, NoneBelow, none_below}
 use Rattle.pk_walk.proofs.Following.{Follows-above, Follows-start}
 use Rattle.pk_walk.proofs.Seeking.{Reads-none, Reads-more, Reads-pages, ReadsAll-none, ReadsAll-more, no_answer, one_list}
 use Rattle.pk_base.proofs.KeyLemmas.{firsts_sorted}
+use Rattle.pk_base.specs.declared.sizes.TheConstants.{MOST_SPACES}
 
 -- ---- lists of runs that match the flash
 
@@ -60,7 +61,7 @@ read_entries (Err refusal) = []
 -- the entries of runs on a flash, as they are read
 abbrev pub lists_on : Flash → List Kept → List (List Entry)
 lists_on flash [] = []
-lists_on flash (r ∷ rs) = read_entries (run r.shape (page_at flash) r.level r.count r.blocks) ∷ lists_on flash rs
+lists_on flash (r ∷ rs) = read_entries (run r.shape MOST_SPACES (page_at flash) r.level r.count r.blocks) ∷ lists_on flash rs
 
 pub lists_are : (flash : Flash) (arena : Frames) (rs : List Kept) (ess : List (List Entry)) → RunsOnFlash flash arena rs ess → lists_on flash rs ≡ ess
 lists_are flash arena [] [] s = refl
