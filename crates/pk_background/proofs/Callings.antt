@@ -10,6 +10,14 @@ use Rattle.pk_call.specs.Calling.{FewCalls}
 use Rattle.pk_call.specs.Commit.{ProgramsOfCommit}
 use Rattle.pk_background.specs.Costs.{Spends}
 
+-- ---- counts
+
+pub counted_more : (m k n : ℕ) → counted_by m (counted_by k n) ≡ counted_by (k + m) n
+counted_more zero k n = let same : k ≡ k + zero = omega arith in ap (λ (x : ℕ). counted_by x n) same
+counted_more (suc m) k n = let same : suc (k + m) ≡ k + suc m = omega arith in ap counted (counted_more m k n) ∙ ap (λ (x : ℕ). counted_by x n) same
+
+-- ---- flash operations
+
 pub few_none : (old : BoardState) → FewCalls 0 old old
 few_none old = record { reads_made = 0; programs_made = 0; erases_made = 0; few = omega arith; reads = refl; programs = refl; erases = refl }
 
@@ -116,7 +124,3 @@ spends_then m n most p q all a b c less fewer first second = record {
   calls = few_within (m + n) most a c less (few_then m n a b c first.calls second.calls);
   installs = (let one = first.installs in let two = second.installs in omega (arith, one, two, fewer));
 }
-
-pub counted_more : (m k n : ℕ) → counted_by m (counted_by k n) ≡ counted_by (k + m) n
-counted_more zero k n = let same : k ≡ k + zero = omega arith in ap (λ (x : ℕ). counted_by x n) same
-counted_more (suc m) k n = let same : suc (k + m) ≡ k + suc m = omega arith in ap counted (counted_more m k n) ∙ ap (λ (x : ℕ). counted_by x n) same
