@@ -100,6 +100,13 @@ fits level room (p ∷ pages) = elim (cases_lt room p) [
       }
 ]
 
+-- it is at least the last pinned level
+pub adapted_least : (shape : Shape) (frames : ℕ) (pages : List ℕ) → pinned shape frames ≤ adapted shape frames pages
+adapted_least shape frames pages =
+    let own = fits (pinned shape frames) (spare_frames shape frames) (drop (pinned shape frames) pages) in
+    let is = own.is in
+    omega (arith, is)
+
 pub is_adapted : (shape : Shape) (frames : ℕ) (pages : List ℕ) → length pages ≡ 4 → pinned shape frames ≤ 4 → IsAdapted shape frames pages (adapted shape frames pages)
 is_adapted shape frames pages four few =
     let k : ℕ = pinned shape frames in

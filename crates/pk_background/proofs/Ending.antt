@@ -185,7 +185,8 @@ fails_commit d old new breaks commits shape m s =
 
 -- ---- by the answer
 
-module _ (d : Parts) (x' : ReclaimParts) (old new : BoardState) (may : MayCommit d old) (commits : commits_in d.reclaim.phase ≡ true) (keeps : KeepsLog (space_of d) x') (ready : IsReady new d.log.shape)
+module _ (d : Parts) (x' : ReclaimParts) (old new : BoardState) (may : MayCommit d old)
+    (commits : commits_in d.reclaim.phase ≡ true) (keeps : KeepsLog (space_of d) x') (ready : IsReady new d.log.shape)
     (grows : Grows d.log.shape old.pages new.pages) (same_roots : roots new ≡ roots old) (rest : OnlyFlash old new) where
   its_phase : (victim : ℕ) × (d.reclaim.phase ≡ Commits victim)
   its_phase = let h = commit_here d old.pages may.stands.0 may.stands.1 commits in (h.half.victim, h.half.phase)

@@ -44,7 +44,7 @@ module _ (d : Parts) (flash : Flash) (top : ℕ × Root) (found : Found) (withou
 module _ (d : Parts) (old new : BoardState) (top : ℕ × Root) (found : Found) (without all : Map) (a : DriveOnFlashWith d d.log.shape old.pages top found without all) (none : d.log.pending ≡ [])
     (x' : Index) (ready : IsReady new d.log.shape) (moved : IndexMoves (index_of d) (frames_of d) old found all x' new) where
   pub frames_stay : length x'.arena.used ≡ frames_of d
-  frames_stay = moved.stands.arena_is.size
+  frames_stay = moved.stands.arena_is.leases.size
 
   -- the pool as if the blocks that leave were free
   abbrev free : Blocks

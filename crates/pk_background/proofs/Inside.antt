@@ -266,7 +266,7 @@ module _ (d : Parts) (old : BoardState) (may : MayEmpty d old) (x : Index) (new 
   moved_many moves = let is = moved moves in counted_index x new.pages some.0 is.ends ∙ is.values.as_many
 
   pub moved_leaves : x.log.shape ≡ d.log.shape → Moves (index_of d) old x new → LeavesValues d its
-  moved_leaves same moves = let is = moved moves in record { rest = refl; frames = is.stands.arena_is.size; same_shape = same; as_many = moved_many moves }
+  moved_leaves same moves = let is = moved moves in record { rest = refl; frames = is.stands.arena_is.leases.size; same_shape = same; as_many = moved_many moves }
 
   -- an epoch that goes on
   pub moved_stays : x.log.epoch ≡ d.log.epoch → Moves (index_of d) old x new → Stays d its

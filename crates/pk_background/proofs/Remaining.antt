@@ -9,7 +9,7 @@ use Rattle.pk_pool.specs.Unready.{unready}
 use Rattle.pk_jrn.specs.Epochs.{left_of as pages_left}
 use Rattle.pk_law_work.specs.Backlog.{Backlog, is_tight, due_level}
 use Rattle.pk_law_work.specs.Rest.{Lowers, left_of, whole_freeze}
-use Rattle.pk_law_work.specs.Work.{work, emptying, merging, merging_from, freezing_from, reclaiming, reclaiming_from}
+use Rattle.pk_law_work.specs.Work.{work, after_freeze, merging, merging_from, filling, filling_from, freezing_from, reclaiming, reclaiming_from}
 use Rattle.pk_law_work.proofs.Lowering.{freeze_moves, freeze_ends}
 use Rattle.pk_root.specs.declared.next.Next.{Next}
 use Rattle.pk_root.specs.declared.next.Next.TheVariants.{Erase, Program, Again}
@@ -17,6 +17,7 @@ use Rattle.pk_root.specs.Installing.{repeats_next}
 use Rattle.pk_compact.specs.declared.freezing.FreezeJob.{FreezeJob}
 use Rattle.pk_compact.specs.FreezeSteps.{taken_by, freeze_left, install_steps}
 use Rattle.pk_log.specs.State.{LogState}
+use Rattle.pk_level.specs.Arenas.{unfilled}
 use Rattle.pk_schedule.specs.declared.phase.Phase.{Phase}
 use Rattle.pk_schedule.specs.declared.phase.Phase.TheVariants.{Idle, Running, Ready}
 use Rattle.pk_schedule.specs.Index.{Index}
@@ -37,7 +38,7 @@ some_none left e = cc
 
 -- the freeze that it may need, if none runs
 abbrev freeze_more : Shape → Option ℕ → Bool → ℕ
-freeze_more shape freeze may = if is_none freeze && may then whole_freeze + emptying shape 4 else 0
+freeze_more shape freeze may = if is_none freeze && may then whole_freeze + after_freeze shape else 0
 
 freezing_more : (shape : Shape) (freeze : Option ℕ) (may : Bool) → freezing_from shape freeze may ≡ freezing_from shape freeze false + freeze_more shape freeze may
 freezing_more shape None false = refl
@@ -56,8 +57,9 @@ work_beside : (shape : Shape) (b : Backlog) (rest : Option ℕ) (may : Bool)
 unfolding work
 work_beside shape b rest may =
     let merges : merging shape (with_reclaim b rest may) ≡ merging shape (with_reclaim b None false) = ap (λ l. merging_from shape l b.merge) (due_beside shape b rest may) in
+    let fills : filling shape (with_reclaim b rest may) ≡ filling shape (with_reclaim b None false) = ap (λ n. filling_from shape n b.unfilled) merges in
     let freezes = freezing_more shape b.freeze may in
-    omega (arith, merges, freezes)
+    omega (arith, merges, fills, freezes)
 
 -- whether a freeze runs follows from the blocks that it has
 rest_none : (job : FreezeJob) (next : Next) → is_none (freeze_rest_of job next) ≡ (length (taken_by job) == 0)
@@ -73,7 +75,7 @@ less_beside : (shape : Shape) (b b' : Backlog) (rest : Option ℕ) (may : Bool) 
 less_beside shape b b' rest may same less =
     let before = work_beside shape b rest may in
     let behind = work_beside shape b' rest may in
-    let freezes : freeze_more shape b'.freeze may ≡ freeze_more shape b.freeze may = ap (λ x. if x && may then whole_freeze + emptying shape 4 else 0) same in
+    let freezes : freeze_more shape b'.freeze may ≡ freeze_more shape b.freeze may = ap (λ x. if x && may then whole_freeze + after_freeze shape else 0) same in
     omega (arith, before, behind, freezes, less)
 
 -- ---- a step of a merge
@@ -170,6 +172,7 @@ module _ (d : Parts) (x' : Index) (merged : has_no_merge (index_of d) ≡ true) 
       let may : may_freeze later ≡ may_freeze d = may_same d x' many shape (ap (λ (l : LogState). length l.active.entries) log) (ap (λ (l : LogState). pages_left l.epoch) log) in
       let phase : x'.schedule.phase ≡ d.schedule.phase = ap (λ (y : Index). y.schedule.phase) f.rest in
       let levels : x'.levels ≡ d.levels = ap (λ (y : Index). y.levels) f.rest in
+      let arena : x'.arena ≡ d.arena = ap (λ (y : Index). y.arena) f.rest in
       let frozen : length x'.log.frozen.entries ≡ length d.log.frozen.entries = ap (λ (l : LogState). length l.frozen.entries) log in
       let freeze = freeze_some_left x'.schedule.freeze x'.log.next some in
       let merge = merge_same phase in
@@ -180,6 +183,7 @@ module _ (d : Parts) (x' : Index) (merged : has_no_merge (index_of d) ≡ true) 
         moved = λ i. record (backlog_of later) {
           frozen = frozen i;
           runs = map (λ r. r.count) (levels i).runs;
+          unfilled = unfilled (levels i) (length (arena i).used);
           merge = merge i;
           freeze = freeze i;
           may_freeze = may i;
@@ -194,6 +198,7 @@ module _ (d : Parts) (x' : Index) (merged : has_no_merge (index_of d) ≡ true) 
   freeze_over is epoch f =
       let phase : x'.schedule.phase ≡ d.schedule.phase = ap (λ (y : Index). y.schedule.phase) f.rest in
       let levels : x'.levels ≡ d.levels = ap (λ (y : Index). y.levels) f.rest in
+      let arena : x'.arena ≡ d.arena = ap (λ (y : Index). y.arena) f.rest in
       let merge = merge_same phase in
       let freeze : freeze_rest_of x'.schedule.freeze x'.log.next ≡ None = ap (λ (y : Index). freeze_rest_of y.schedule.freeze x'.log.next) f.rest in
       let empty : length x'.log.active.entries ≡ 0 = ap (λ t. length t.entries) f.active ∙ none_frozen in
@@ -208,6 +213,7 @@ module _ (d : Parts) (x' : Index) (merged : has_no_merge (index_of d) ≡ true) 
         was_whole = was_whole;
         ended = λ i. record (backlog_of later) {
           runs = map (λ r. r.count) (levels i).runs;
+          unfilled = unfilled (levels i) (length (arena i).used);
           merge = merge i;
           freeze = freeze i;
           may_freeze = none i;

@@ -35,7 +35,8 @@ roots_at p count d = where_so (has_moves p count d && is_tight_for d) room_roots
 -- from one point to a later one less remains
 abbrev pub FallsTo : Phase → Parts → Phase → Parts → Type 0
 FallsTo p b q c =
-    Lowers (left_of (whole_reclaim b.log.shape - 2) (left_in b.log.shape b.values.live.heads p)) (unready b.pool.states) (unwrap_or (left_in c.log.shape c.values.live.heads q) 0) (unready c.pool.states)
+    Lowers (left_of (whole_reclaim b.log.shape - 2) (left_in b.log.shape b.values.live.heads p))
+    (unready b.pool.states) (unwrap_or (left_in c.log.shape c.values.live.heads q) 0) (unready c.pool.states)
 
 -- a reclaim runs, or is to run
 abbrev pub AwaitsAt : Phase → ℕ → Parts → Type 0

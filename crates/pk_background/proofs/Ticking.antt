@@ -30,7 +30,7 @@ use Rattle.pk_schedule.proofs.Settled.{none_leaves_set}
 use Rattle.pk_run.specs.Kept.{Kept as KeptRun, empty}
 use Rattle.pk_jrn.specs.Epochs.{left_of as pages_left}
 use Rattle.pk_law_work.specs.Backlog.{Backlog, due_level, is_tight}
-use Rattle.pk_law_work.specs.Work.{work, merging as merging_left, merging_from}
+use Rattle.pk_law_work.specs.Work.{work, filling, filling_from, merging as merging_left, merging_from}
 use Rattle.pk_compact.specs.FreezeSteps.{taken_by}
 use Rattle.pk_model.specs.Found.{Found}
 use Rattle.pk_model.specs.Reading.{reading}
@@ -82,7 +82,8 @@ unfolding work
 erase_lowers shape b left less =
     let same : due_level shape (record b { unready = left }) ≡ due_level shape b = due_same shape b left in
     let merges : merging_left shape (record b { unready = left }) ≡ merging_left shape b = ap (λ l. merging_from shape l b.merge) same in
-    omega (arith, merges, less)
+    let fills : filling shape (record b { unready = left }) ≡ filling shape b = ap (λ n. filling_from shape n b.unfilled) merges in
+    omega (arith, merges, fills, less)
 
 -- whether a reclaim is due follows from the shape and from the number of blocks with values
 pub due_so : (d : Parts) (shape : Shape) (used : ℕ) → shape ≡ d.log.shape → used ≡ used_by Values d.pool.states

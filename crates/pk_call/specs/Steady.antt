@@ -1,8 +1,9 @@
 -- What holds of a drive that runs between any two calls, by what is on its flash.
-use Rattle.std.specs.Prelude.{◌≡◌, ◌≢◌, ℕ, ◌-◌, ◌/◌, ◌<◌, ◌≤◌, List, [], ◌∷◌, ◌++◌, length, map, take, sum, true, Option, Some}
+use Rattle.std.specs.Prelude.{◌≡◌, ◌≢◌, ℕ, ◌+◌, ◌-◌, ◌/◌, ◌<◌, ◌≤◌, List, [], ◌∷◌, ◌++◌, length, map, take, sum, true, ◌==◌, ◌||◌, nat_lt, if◌then◌else◌, Option, Some}
 use Rattle.std.specs.List.{AllByRecursion}
-use Rattle.pk_base.specs.Shape.{Shape, data_blocks, page_entries, pinned, run_pages}
+use Rattle.pk_base.specs.Shape.{Shape, cap, data_blocks, page_entries, pinned, run_pages}
 use Rattle.pk_base.specs.Page.{Flash, page_at, erased}
+use Rattle.pk_adapt.specs.Adapted.{adapted}
 use Rattle.pk_base.specs.Entry.{Entry}
 use Rattle.pk_base.specs.Firsts.{firsts}
 use Rattle.pk_base.specs.Map.{Map}
@@ -40,9 +41,17 @@ live_blocks shape found pending = length (blocks_with shape (all_pages shape (pl
 abbrev pub entries_of_runs : Counts → List ℕ
 entries_of_runs c = c.run1 ∷ c.run2 ∷ c.run3 ∷ c.run4 ∷ []
 
+-- the pages of each run
+abbrev pub pages_of_each : Shape → Counts → List ℕ
+pages_of_each shape c = map (run_pages shape) (entries_of_runs c)
+
 -- the pages of the runs of the first levels, by the entries of each
 abbrev pub pages_of_runs : Shape → ℕ → List ℕ → ℕ
 pages_of_runs shape levels entries = sum (map (run_pages shape) (take levels entries))
+
+-- most frames of the output of the merge that runs: as many as its level may have pages, if that level is pinned
+abbrev pub output_frames : Shape → Counts → ℕ
+output_frames shape c = if c.merge == 0 || nat_lt (pinned shape c.frames) c.merge then 0 else cap shape c.merge
 
 -- Its numbers are those of the lists under the newest root, as many blocks are erased and in use as it says, and bounded work remains.
 pub record IsSteady (shape : Shape) (flash : Flash) (drive : Sight) : Type 0 where
@@ -53,8 +62,11 @@ pub record IsSteady (shape : Shape) (flash : Flash) (drive : Sight) : Type 0 whe
   pub frozen : drive.counts.frozen ≡ length (firsts tree.found.older)
   pub runs : entries_of_runs drive.counts ≡ map length tree.found.runs
   pub merge : IsNextMerge shape drive.counts
-  -- frames: if no merge runs, each page of the pinned levels has one, and nothing else has
-  pub leased : drive.counts.merge ≡ 0 → drive.counts.leased ≡ pages_of_runs shape (pinned shape drive.counts.frames) (entries_of_runs drive.counts)
+  -- frames: each page of the pinned levels has one, and besides only pages of other levels that may have frames, and of a merge's output
+  pub leased_least : pages_of_runs shape (pinned shape drive.counts.frames) (entries_of_runs drive.counts) ≤ drive.counts.leased
+  pub leased_most :
+      drive.counts.leased
+      ≤ pages_of_runs shape (adapted shape drive.counts.frames (pages_of_each shape drive.counts)) (entries_of_runs drive.counts) + output_frames shape drive.counts
   -- blocks
   pub ready : HasReady shape flash tree.root drive.open_block drive.counts.ready
   pub blocks_least : live_blocks shape tree.found drive.pending ≤ drive.counts.blocks

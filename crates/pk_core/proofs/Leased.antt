@@ -1,9 +1,8 @@
--- How many frames are leased: one for each page of the runs of the pinned levels.
+-- How many frames are leased: at least one for each page of the pinned levels, and at most one for each page of the levels that may have some.
 use Rattle.std.proofs.Common.{◌≡◌, ℕ, zero, suc, ◌+◌, ◌-◌, ◌≤◌, ◌<◌, Bool, true, false, List, [], ◌∷◌, ◌++◌, length, map, take, sum, refl, ap, sym, subst, ◌∙◌, arith, append-nil, length-append}
-use Rattle.std.specs.Prelude.{nat_le}
-use Rattle.std.proofs.lemmas.Bool.Decides.{nat_tests}
 use Rattle.std.proofs.lemmas.List.Sums.{sum_by-cons}
 use Rattle.pk_base.specs.Shape.{Shape, run_pages, pinned}
+use Rattle.pk_adapt.specs.Adapted.{adapted}
 use Rattle.pk_base.specs.Page.{Flash}
 use Rattle.pk_base.specs.Map.{Map}
 use Rattle.pk_base.specs.Entry.{Entry}
@@ -11,56 +10,94 @@ use Rattle.pk_rootfmt.specs.Root.{Root}
 use Rattle.pk_pin.specs.Frames.{Frames, leased_frames}
 use Rattle.pk_pin.proofs.Leases.{leases_counted}
 use Rattle.pk_run.specs.Kept.{Kept}
-use Rattle.pk_level.specs.Levels.{RunsOnFlash}
-use Rattle.pk_level.specs.Arenas.{IsPinnedIf, ArePinnedTo, leases_of}
+use Rattle.pk_level.specs.Levels.{IsLevels, AreOfLevels, RunsOnFlash}
+use Rattle.pk_level.specs.Arenas.{AreBareAbove, last_level, leases_of, page_counts}
 use Rattle.pk_model.specs.Found.{Found}
+use Rattle.pk_law_steps.specs.Under.{IsUnder}
 use Rattle.pk_scan.specs.Opened.{HaveBlocks}
 use Rattle.pk_schedule.specs.Index.{merging, output}
-use Rattle.pk_schedule.proofs.Keeping.{idle_leases}
+use Rattle.pk_schedule.proofs.OutputFrames.{most_output, output_most}
 use Rattle.pk_parts.specs.Parts.{Parts, frames_of, index_of}
 use Rattle.pk_parts.specs.Agreeing.{DriveOnFlashWith}
-
-le_true : (x y : ℕ) → x ≤ y → nat_le x y ≡ true
-le_true x y h = grind (arith, nat_tests)
-
-gt_false : (x y : ℕ) → y < x → nat_le x y ≡ false
-gt_false x y h = grind (arith, nat_tests)
 
 -- how many entries each run has
 abbrev pub entries_of : List Kept → List ℕ
 entries_of rs = map (λ (r : Kept). r.count) rs
 
--- this many levels are pinned after this one, itself included
-module _ (shape : Shape) (flash : Flash) (arena : Frames) (pins : ℕ) where
-  many : (level left : ℕ) (rs : List Kept) (bss : List (List ℕ)) (ess : List (List Entry))
-      → left ≡ suc pins - level → HaveBlocks shape rs bss → RunsOnFlash flash arena rs ess → ArePinnedTo pins level rs
-      → length (leases_of rs) ≡ sum (map (run_pages shape) (take left (entries_of rs)))
-  many level zero [] bss ess so have stand frames = refl
-  many level (suc left) [] bss ess so have stand frames = refl
-  many level left (r ∷ rs) [] ess so have stand frames = absurd have
-  many level left (r ∷ rs) (bs ∷ bss) [] so have stand frames = absurd stand
-  many level zero (r ∷ rs) (bs ∷ bss) (es ∷ ess) so have stand frames =
-      let none : r.leases ≡ [] = subst (λ (b : Bool). IsPinnedIf b r) (gt_false level pins (omega (arith, so))) frames.0 in
-      ap (λ (ls : List ℕ). length (ls ++ leases_of rs)) none ∙ many (suc level) zero rs bss ess (omega (arith, so)) have.2 stand.1 frames.1
-  many level (suc left) (r ∷ rs) (bs ∷ bss) (es ∷ ess) so have stand frames =
-      let all : length r.leases ≡ length r.firsts = subst (λ (b : Bool). IsPinnedIf b r) (le_true level pins (omega (arith, so))) frames.0 in
+module _ (shape : Shape) (flash : Flash) (arena : Frames) where
+  -- a run has the pages of its entries
+  pages_are : (rs : List Kept) (bss : List (List ℕ)) (ess : List (List Entry)) → HaveBlocks shape rs bss → RunsOnFlash flash arena rs ess → page_counts rs ≡ map (run_pages shape) (entries_of rs)
+  pages_are [] bss ess have stand = refl
+  pages_are (r ∷ rs) [] ess have stand = absurd have
+  pages_are (r ∷ rs) (bs ∷ bss) [] have stand = absurd stand
+  pages_are (r ∷ rs) (bs ∷ bss) (es ∷ ess) have stand =
+      let one : length r.firsts ≡ run_pages shape r.count = stand.0.pages ∙ ap (λ (s : Shape). run_pages s r.count) have.0 in
+      let rest = pages_are rs bss ess have.2 stand.1 in
+      λ i. one i ∷ rest i
+
+  -- this many levels are pinned after this one, itself included
+  least : (pins level left : ℕ) (rs : List Kept) (bss : List (List ℕ)) (ess : List (List Entry)) (of_shape : Shape) → left ≡ suc pins - level → AreOfLevels of_shape pins level rs
+      → HaveBlocks shape rs bss → RunsOnFlash flash arena rs ess → sum (map (run_pages shape) (take left (entries_of rs))) ≤ length (leases_of rs)
+  least pins level zero rs bss ess of_shape so are have stand = omega arith
+  least pins level (suc left) [] bss ess of_shape so are have stand = omega arith
+  least pins level (suc left) (r ∷ rs) [] ess of_shape so are have stand = absurd have
+  least pins level (suc left) (r ∷ rs) (bs ∷ bss) [] of_shape so are have stand = absurd stand
+  least pins level (suc left) (r ∷ rs) (bs ∷ bss) (es ∷ ess) of_shape so are have stand =
+      let all : length r.leases ≡ length r.firsts = are.0.frames (omega (arith, so)) in
       let one : length r.leases ≡ run_pages shape r.count = all ∙ stand.0.pages ∙ ap (λ (s : Shape). run_pages s r.count) have.0 in
-      let others = many (suc level) left rs bss ess (omega (arith, so)) have.2 stand.1 frames.1 in
+      let others = least pins (suc level) left rs bss ess of_shape (omega (arith, so)) are.1 have.2 stand.1 in
       let both = length-append r.leases (leases_of rs) in
       let whole = sum_by-cons (λ (x : ℕ). x) (run_pages shape r.count) (map (run_pages shape) (take left (entries_of rs))) in
-      both ∙ (let e : length r.leases + length (leases_of rs) ≡ run_pages shape r.count + sum (map (run_pages shape) (take left (entries_of rs))) = omega (arith, one, others) in e) ∙ sym whole
+      omega (arith, one, others, both, whole)
 
--- if no merge runs, the leased frames of a drive are the pages of its pinned runs
-pub leased_are : (d : Parts) (shape : Shape) (flash : Flash) (top : ℕ × Root) (found : Found) (without all : Map) → DriveOnFlashWith d shape flash top found without all → merging d.schedule.phase ≡ 0
-    → leased_frames d.arena ≡ sum (map (run_pages shape) (take (pinned shape (frames_of d)) (entries_of d.levels.runs)))
-leased_are d shape flash top found without all agrees idle =
-    let pins : ℕ = d.levels.pinned in
-    let x = agrees.index in
-    let none : (output d.schedule).leases ≡ [] = idle_leases (index_of d) (frames_of d) flash top found x idle in
-    let here : leased_frames d.arena ≡ sum (map (run_pages d.log.shape) (take (pinned d.log.shape (frames_of d)) (entries_of d.levels.runs))) =
-    sym (leases_counted d.arena (leases_of d.levels.runs ++ (output d.schedule).leases) x.arena_is.only_these)
-    ∙ ap (λ (ls : List ℕ). length (leases_of d.levels.runs ++ ls)) none
-    ∙ ap (λ (ls : List ℕ). length ls) (append-nil (leases_of d.levels.runs))
-    ∙ many d.log.shape flash d.arena pins 1 pins d.levels.runs top.1.runs found.runs (omega arith) x.run_blocks x.stand x.arena_is.pins
-    ∙ ap (λ (n : ℕ). sum (map (run_pages d.log.shape) (take n (entries_of d.levels.runs)))) x.levels_pinned in
-    subst (λ (s : Shape). leased_frames d.arena ≡ sum (map (run_pages s) (take (pinned s (frames_of d)) (entries_of d.levels.runs)))) agrees.shape_is here
+  -- this many levels may have frames after this one, itself included
+  most : (last level left : ℕ) (rs : List Kept) (bss : List (List ℕ)) (ess : List (List Entry)) → left ≡ suc last - level → AreBareAbove last level rs
+      → HaveBlocks shape rs bss → RunsOnFlash flash arena rs ess → length (leases_of rs) ≤ sum (map (run_pages shape) (take left (entries_of rs)))
+  most last level left [] bss ess so bare have stand = omega arith
+  most last level left (r ∷ rs) [] ess so bare have stand = absurd have
+  most last level left (r ∷ rs) (bs ∷ bss) [] so bare have stand = absurd stand
+  most last level zero (r ∷ rs) (bs ∷ bss) (es ∷ ess) so bare have stand =
+      let none : length r.leases ≡ 0 = ap (λ (ls : List ℕ). length ls) (bare.0 (omega (arith, so))) in
+      let others = most last (suc level) zero rs bss ess (omega (arith, so)) bare.1 have.2 stand.1 in
+      let both = length-append r.leases (leases_of rs) in
+      omega (arith, none, others, both)
+  most last level (suc left) (r ∷ rs) (bs ∷ bss) (es ∷ ess) so bare have stand =
+      let few = stand.0.leased in
+      let one : length r.firsts ≡ run_pages shape r.count = stand.0.pages ∙ ap (λ (s : Shape). run_pages s r.count) have.0 in
+      let others = most last (suc level) left rs bss ess (omega (arith, so)) bare.1 have.2 stand.1 in
+      let both = length-append r.leases (leases_of rs) in
+      let whole = sum_by-cons (λ (x : ℕ). x) (run_pages shape r.count) (map (run_pages shape) (take left (entries_of rs))) in
+      omega (arith, few, one, others, both, whole)
+
+module _ (d : Parts) (shape : Shape) (flash : Flash) (top : ℕ × Root) (found : Found) (without all : Map) (agrees : DriveOnFlashWith d shape flash top found without all) where
+  counted : length (leases_of d.levels.runs ++ (output d.schedule).leases) ≡ leased_frames d.arena
+  counted = leases_counted d.arena (leases_of d.levels.runs ++ (output d.schedule).leases) agrees.index.arena_is.leases.only_these
+
+  -- each page of the pinned levels has a frame
+  pub leased_least : IsLevels d.levels → sum (map (run_pages shape) (take (pinned shape (frames_of d)) (entries_of d.levels.runs))) ≤ leased_frames d.arena
+  leased_least known =
+      let x = agrees.index in
+      let P : Shape → ℕ → Type 0 = λ s n. sum (map (run_pages s) (take n (entries_of d.levels.runs))) ≤ leased_frames d.arena in
+      let own = least d.log.shape flash d.arena d.levels.pinned 1 d.levels.pinned d.levels.runs top.1.runs found.runs d.levels.shape (omega arith) known.each x.run_blocks x.stand in
+      let both = length-append (leases_of d.levels.runs) (output d.schedule).leases in
+      let all = counted in
+      let here : P d.log.shape d.levels.pinned = omega (arith, own, both, all) in
+      subst (λ (s : Shape). P s (pinned s (frames_of d))) agrees.shape_is (subst (P d.log.shape) x.levels_pinned here)
+
+  -- besides, only pages of other levels that may have frames have some, and pages of a merge's output
+  pub leased_most :
+      leased_frames d.arena
+      ≤ sum (map (run_pages shape) (take (adapted shape (frames_of d) (map (run_pages shape) (entries_of d.levels.runs))) (entries_of d.levels.runs)))
+      + most_output shape (frames_of d) (merging d.schedule.phase)
+  leased_most =
+      let x = agrees.index in
+      let P : Shape → ℕ → Type 0 = λ s n. leased_frames d.arena ≤ sum (map (run_pages s) (take n (entries_of d.levels.runs))) + most_output s (frames_of d) (merging d.schedule.phase) in
+      let last : ℕ = last_level d.levels (frames_of d) in
+      let few = output_most (index_of d) (frames_of d) flash top found without x (subst (λ (s : Shape). IsUnder s flash [] top found without) (sym agrees.shape_is) agrees.committed) in
+      let own = most d.log.shape flash d.arena last 1 last d.levels.runs top.1.runs found.runs (omega arith) x.arena_is.bare x.run_blocks x.stand in
+      let both = length-append (leases_of d.levels.runs) (output d.schedule).leases in
+      let all = counted in
+      let here : P d.log.shape last = omega (arith, own, both, all, few) in
+      let lasts : last ≡ adapted d.log.shape (frames_of d) (map (run_pages d.log.shape) (entries_of d.levels.runs)) = λ i.
+      adapted (x.levels_shape i) (frames_of d) (pages_are d.log.shape flash d.arena d.levels.runs top.1.runs found.runs x.run_blocks x.stand i) in
+      subst (λ (s : Shape). P s (adapted s (frames_of d) (map (run_pages s) (entries_of d.levels.runs)))) agrees.shape_is (subst (P d.log.shape) lasts here)

@@ -7,13 +7,12 @@ use Rattle.pk_nvme.specs.Seen.{command_of}
 use Rattle.pk_nvme.specs.declared.request.Request.{Request}
 use Rattle.pk_nand.specs.BoardState.{BoardState, shape_of}
 use Rattle.pk_nand.specs.Calls.{last_count}
-use Rattle.pk_pool.specs.Blocks.{IsShared}
 use Rattle.pk_model.specs.Answer.{early}
 use Rattle.pk_call.specs.Answering.{AnswersCommand, CountsCalls, SettlesBackground, ShowsItself, WaitsForNothing}
 use Rattle.pk_call.specs.Exec.{report_of}
 use Rattle.pk_call.specs.Running.{LeavesDrive}
 use Rattle.pk_call.specs.declared.types.Outcome.{Outcome}
-use Rattle.pk_parts.specs.Parts.{Parts, sight_of}
+use Rattle.pk_parts.specs.Parts.{Parts, IsParts, sight_of}
 use Rattle.pk_background.proofs.Callings.{few_within, few_none}
 use Rattle.pk_parts.proofs.Staying.{stays_same, stays_opens}
 use Rattle.pk_core.specs.Agreeing.{DriveOnFlashBetween}
@@ -36,7 +35,7 @@ pub record HasEnded (d e : Parts) (old new : BoardState) (r : Request) (v : List
   pub agreed : DriveOnFlashBetween d old.shape old.pages
   pub executes : Executes d e old new (command_of r v) o into o.reads
   pub performs : Performs d e old new r v o
-  pub shared : IsShared e.pool.shape e.pool.states
+  pub keeps : IsParts e
   pub counted : old.flash_faults ≤ last_count
 
 -- what is answered that its kind decides
@@ -82,16 +81,16 @@ module _ (d e : Parts) (old new : BoardState) (r : Request) (v : List ℕ) (o : 
   pub settles_background : SettlesBackground old new (sight_of d) (sight_of e) r o
   settles_background = record {
     no_more = λ runs none. h.performs.no_more_work none runs;
-    settles = λ is zero. settles_there d e old new r.size (h.executes.agrees (served zero)).0 h.shared h.executes.does.rest (h.performs.lessens is zero);
-    rests = λ is zero. rests_there d e old new r.size (h.executes.agrees (served zero)).0 h.shared h.executes.does.rest (h.performs.lessens is zero) h.agreed.0;
+    settles = λ is zero. settles_there d e old new r.size (h.executes.agrees (served zero)).0 h.keeps.shared h.executes.does.rest (h.performs.lessens is zero);
+    rests = λ is zero. rests_there d e old new r.size (h.executes.agrees (served zero)).0 h.keeps.shared h.executes.does.rest (h.performs.lessens is zero) h.agreed.0;
     half = h.performs.half;
     finishes = h.performs.finishes;
   }
 
   pub shows_itself : ShowsItself old new (sight_of d) (sight_of e) r v o
   shows_itself = record {
-    steady = λ runs. steadies e old new (sight_of d) (h.executes.agrees runs) h.executes.does.rest h.shared;
-    merge = λ runs. merges_next e new (h.executes.agrees runs) h.shared;
+    steady = λ runs. steadies e old new (sight_of d) (h.executes.agrees runs) h.executes.does.rest h.keeps;
+    merge = λ runs. merges_next e new (h.executes.agrees runs) h.keeps;
     fresh = λ runs. keeps_fresh d e old new h.agreed.0 (h.executes.agrees runs).0 h.executes.does.rest (h.performs.fresh runs);
     blocks = λ runs. elim (cases_eq r.opcode 0x01) [
       | inl is ↦ blocks_grow d e r.opcode (charge d.log.shape r.size) is (h.performs.opens is runs).blocks
@@ -129,10 +128,10 @@ performs_none d old r v o refused = record {
 }
 
 pub refused_ends : (d : Parts) (old : BoardState) (r : Request) (v : List ℕ) (o : Outcome) (into : List ℕ) (status : ℕ)
-    → DriveOnFlashBetween d old.shape old.pages → d.stopped ≡ false → IsShared d.pool.shape d.pool.states → old.flash_faults ≤ last_count → old.reads ≤ last_count
+    → DriveOnFlashBetween d old.shape old.pages → d.stopped ≡ false → IsParts d → old.flash_faults ≤ last_count → old.reads ≤ last_count
     → early 1 d.log.shape (command_of r v) ≡ Some status → o ≡ record { status = status; result = 0; data_len = 0; reads = 0; stopped = false }
     → HasEnded d d old old r v o into
-refused_ends d old r v o into status agreed runs shared counted few is told = record {
+refused_ends d old r v o into status agreed runs keeps counted few is told = record {
   agreed = agreed;
   executes = record {
     stops = runs ∙ sym (ap (λ (x : Outcome). x.stopped) told);
@@ -140,7 +139,7 @@ refused_ends d old r v o into status agreed runs shared counted few is told = re
     does = refused_done d old (command_of r v) status agreed.0 is o into few told;
   };
   performs = performs_none d old r v o (told_refused o status 0 0 0 false told (early_refuses d.log.shape (command_of r v) status is));
-  shared = shared;
+  keeps = keeps;
   counted = counted;
 }
 

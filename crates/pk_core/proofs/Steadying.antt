@@ -4,7 +4,8 @@ use Rattle.std.specs.Prelude.{slice_get, slice_index_or, count_by, MatchOption, 
 use Rattle.std.specs.List.{concat}
 use Rattle.std.proofs.Common.{div-add-mod', mod-lt}
 use Rattle.std.proofs.lemmas.Option.{slice_get_within}
-use Rattle.pk_base.specs.Shape.{Shape, IsShape, page_entries, pinned}
+use Rattle.pk_base.specs.Shape.{Shape, IsShape, page_entries, pinned, run_pages}
+use Rattle.pk_adapt.specs.Adapted.{adapted}
 use Rattle.pk_base.specs.Page.{Flash}
 use Rattle.pk_base.specs.Entry.{Entry}
 use Rattle.pk_base.specs.Map.{Map}
@@ -19,7 +20,7 @@ use Rattle.pk_pin.specs.Frames.{leased_frames}
 use Rattle.pk_pool.specs.declared.state.BlockState.{BlockState}
 use Rattle.pk_pool.specs.declared.state.BlockState.TheVariants.{Root as RootBlock, Free, Ready, Owned, Leaving}
 use Rattle.pk_nand.specs.Operations.{IsErasedBlock}
-use Rattle.pk_pool.specs.Blocks.{Blocks, IsShared, is_ready, is_owned_by}
+use Rattle.pk_pool.specs.Blocks.{Blocks, is_ready, is_owned_by}
 use Rattle.pk_pool.proofs.States.{ready_is_not_root}
 use Rattle.pk_pool.proofs.Leaving.{shared_freed}
 use Rattle.pk_pool.proofs.Sharing.{behind_roots}
@@ -40,7 +41,7 @@ use Rattle.pk_parts.proofs.Reclaiming.{reclaim_within}
 use Rattle.pk_values.specs.State.{OpenBlock}
 use Rattle.pk_nand.specs.BoardState.{BoardState}
 use Rattle.pk_nand.specs.Effects.{OnlyFlash}
-use Rattle.pk_call.specs.Steady.{Steadies, IsSteady, IsReadyBlock, HasReady, entries_of_runs, live_blocks, pages_of_runs}
+use Rattle.pk_call.specs.Steady.{Steadies, IsSteady, IsReadyBlock, HasReady, entries_of_runs, live_blocks, output_frames, pages_of_each, pages_of_runs}
 use Rattle.pk_law_work.specs.Backlog.{IsBacklog, due_level}
 use Rattle.pk_law_work.specs.Work.{work}
 use Rattle.pk_law_work.proofs.Within.{work_most}
@@ -49,10 +50,10 @@ use Rattle.pk_schedule.specs.declared.phase.Phase.TheVariants.{Idle, Running, Re
 use Rattle.pk_schedule.specs.Index.{Index, MergeStands, merging}
 use Rattle.pk_schedule.proofs.Backlogs.{index_backlog, four, entries_are}
 use Rattle.pk_call.specs.Exec.{IsNextMerge}
-use Rattle.pk_parts.specs.Parts.{Parts, sight_of, counts_of, block_if_open, frames_of, index_of, outputs_of, backlog_of, is_reclaim_due, reclaim_left, settled_parts}
+use Rattle.pk_parts.specs.Parts.{Parts, IsParts, sight_of, counts_of, block_if_open, frames_of, index_of, outputs_of, backlog_of, is_reclaim_due, reclaim_left, settled_parts}
 use Rattle.pk_core.specs.Agreeing.{DriveOnFlashBetween}
 use Rattle.pk_parts.specs.Agreeing.{DriveOnFlashWith, DriveOnFlash}
-use Rattle.pk_core.proofs.Leased.{leased_are}
+use Rattle.pk_core.proofs.Leased.{leased_least, leased_most}
 use Rattle.pk_core.proofs.Seen.{seen_same}
 use Rattle.pk_core.proofs.Places.{blocks_from, many_blocks, has_state, blocks_differ, block_in, all_in}
 use Rattle.pk_base.proofs.Logic.{is_true, some_same}
@@ -141,10 +142,10 @@ module _ (d : Parts) (shape : Shape) (flash : Flash) (top : ℕ × Root) (found 
 -- ---- the blocks, the lists and the runs
 
 module _ (d : Parts) (shape : Shape) (flash : Flash) (top : ℕ × Root) (found : Found) (without all : Map)
-    (a : DriveOnFlashWith d shape flash top found without all) (shared : IsShared d.pool.shape d.pool.states) where
+    (a : DriveOnFlashWith d shape flash top found without all) (keeps : IsParts d) where
   ready_block : (b : ℕ) → slice_get d.pool.states b ≡ Some Ready → IsReadyBlock shape flash top.1 (block_if_open d.values.open_block) b
   ready_block b ready = record {
-    behind_roots = behind_roots d.pool.shape d.pool.states b Ready ready_is_not_root ready shared;
+    behind_roots = behind_roots d.pool.shape d.pool.states b Ready ready_is_not_root ready keeps.shared;
     exists = (let within = slice_get_within d.pool.states b Ready ready in let size = a.placed.size in omega (arith, within, size));
     unnamed = λ is. elim (in_append b (top.1.newest ++ top.1.older) (concat top.1.runs) is) [
       | inl journal ↦ ready_or_owned d.pool b Journal ready (a.index.journal b journal)
@@ -213,10 +214,14 @@ module _ (d : Parts) (shape : Shape) (flash : Flash) (top : ℕ × Root) (found 
       let due = merge_due d.schedule.phase (index_of d) flash top.1 found a.index.merge some in
       (λ i. next_merge (sym a.shape_is i) (frozen_is i) (runs_are i)) ∙ due
 
-  leased_is : merging d.schedule.phase ≡ 0 → leased_frames d.arena ≡ pages_of_runs shape (pinned shape (frames_of d)) (entries_of_runs (counts_of d))
-  leased_is idle =
-      leased_are d shape flash top found without all a idle
-      ∙ ap (λ (ns : List ℕ). pages_of_runs shape (pinned shape (frames_of d)) ns) (sym four_are)
+  least_leased : pages_of_runs shape (pinned shape (frames_of d)) (entries_of_runs (counts_of d)) ≤ leased_frames d.arena
+  least_leased =
+      subst (λ (ns : List ℕ). pages_of_runs shape (pinned shape (frames_of d)) ns ≤ leased_frames d.arena) (sym four_are) (leased_least d shape flash top found without all a keeps.levels)
+
+  most_leased : leased_frames d.arena ≤ pages_of_runs shape (adapted shape (frames_of d) (pages_of_each shape (counts_of d))) (entries_of_runs (counts_of d)) + output_frames shape (counts_of d)
+  most_leased =
+      subst (λ (ns : List ℕ). leased_frames d.arena ≤ pages_of_runs shape (adapted shape (frames_of d) (map (run_pages shape) ns)) ns + output_frames shape (counts_of d)) (sym four_are)
+      (leased_most d shape flash top found without all a)
 
   -- ---- all of it
 
@@ -228,7 +233,8 @@ module _ (d : Parts) (shape : Shape) (flash : Flash) (top : ℕ × Root) (found 
     frozen = frozen_is;
     runs = runs_are;
     merge = next_is;
-    leased = leased_is;
+    leased_least = least_leased;
+    leased_most = most_leased;
     ready = has_ready;
     blocks_least = live_within;
     blocks_most = (let few = a.placed.few in omega (arith, few));
@@ -246,20 +252,20 @@ few_left d told shape flash a told_is =
     subst (λ s. (sight_of d).work < most_work s) (some_same a.shape shape (sym a.told_is ∙ told_is)) here
 
 pub between_steady : (d : Parts) (told : Option Shape) (shape : Shape) (flash : Flash) → DriveOnFlashBetween d told flash
-    → told ≡ Some shape → IsShared d.pool.shape d.pool.states → IsSteady shape flash (sight_of d)
-between_steady d told shape flash is told_is shared =
+    → told ≡ Some shape → IsParts d → IsSteady shape flash (sight_of d)
+between_steady d told shape flash is told_is keeps =
     let a = is.0 in
     let same : a.shape ≡ shape = some_same a.shape shape (sym a.told_is ∙ told_is) in
     let few : length d.log.pending < page_entries a.shape = subst (λ s. length d.log.pending < page_entries s) a.with.shape_is is.1 in
     let there : IsSteady a.shape flash (sight_of (settled_parts d)) = agrees_steady
-    (settled_parts d) a.shape flash a.top a.found a.without a.all a.with (shared_freed d.pool.shape d.pool.states shared) few in
+    (settled_parts d) a.shape flash a.top a.found a.without a.all a.with (record { shared = shared_freed d.pool.shape d.pool.states keeps.shared; levels = keeps.levels }) few in
     let here : IsSteady a.shape flash (sight_of d) = subst (IsSteady a.shape flash) (seen_same d told flash a) there in
     subst (λ s. IsSteady s flash (sight_of d)) same here
 
 -- it is so after a call that left no more than its flash
 pub steadies : (e : Parts) (old new : BoardState) (before : Sight) → DriveOnFlashBetween e new.shape new.pages
-    → OnlyFlash old new → IsShared e.pool.shape e.pool.states → Steadies old new before (sight_of e)
-steadies e old new before is rest shared shape frames m stands = between_steady e new.shape shape new.pages is (ap (λ (b : BoardState). b.shape) rest ∙ stands.shape_is) shared
+    → OnlyFlash old new → IsParts e → Steadies old new before (sight_of e)
+steadies e old new before is rest keeps shape frames m stands = between_steady e new.shape shape new.pages is (ap (λ (b : BoardState). b.shape) rest ∙ stands.shape_is) keeps
 
 -- if nothing is pending, the drive is as it is between two commands
 pub between_none : (d : Parts) (told : Option Shape) (flash : Flash) → DriveOnFlash d told flash → d.log.pending ≡ [] → DriveOnFlashBetween d told flash

@@ -43,7 +43,7 @@ pub fn reading_of<B: Nand>(alloc: Global, board: &mut B, shape: Shape) -> Result
 pub fn tell_reading(out: &mut String, form: Form, reading: &Reading) -> Result<(), AllocError> {
     match (form, reading) {
         (Form::People, Reading::Map(found)) => {
-            let keys = found.keys;
+            let keys = found.spaces.keys(1);
             writeln!(out, "the flash holds a map of {keys} keys")
         }
         (Form::People, Reading::NoRoot) => writeln!(out, "the flash has no root"),
@@ -51,7 +51,7 @@ pub fn tell_reading(out: &mut String, form: Form, reading: &Reading) -> Result<(
             writeln!(out, "reading the flash fails at page {page}")
         }
         (Form::Programs, Reading::Map(found)) => {
-            let keys = found.keys;
+            let keys = found.spaces.keys(1);
             writeln!(out, "map keys={keys}")
         }
         (Form::Programs, Reading::NoRoot) => writeln!(out, "no-root"),

@@ -8,4 +8,3 @@ pub mod Fixing
 pub mod Together
 pub mod InParts
 pub mod Sums
-pub mod Within

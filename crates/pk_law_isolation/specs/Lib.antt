@@ -1,4 +1,3 @@
 pub mod Isolation
 pub mod Parts
 pub mod Sums
-pub mod Within

@@ -2,7 +2,6 @@
 ghost use Rattle.pk_law_isolation.specs.Isolation.{Isolated, Fixed, SameReplies};
 ghost use Rattle.pk_law_isolation.specs.Parts.{AnsweredInParts};
 ghost use Rattle.pk_law_isolation.specs.Sums.{WithinSum, FirstIsPart};
-ghost use Rattle.pk_law_isolation.specs.Within.{WithinEach};
 
 /// Of any run, the commands in one namespace are a run of a drive that has this namespace alone, with the same replies.
 pub fn isolation()
@@ -33,9 +32,4 @@ pub fn within_sum()
 /// What a port of the first namespace sees of a map is that part of it.
 pub fn first_is_part()
     ensures { FirstIsPart }
-{}
-
-/// Values that are taken one after another are each within the limit of their namespace exactly if each namespace is within its limit.
-pub fn within_each()
-    ensures { WithinEach }
 {}

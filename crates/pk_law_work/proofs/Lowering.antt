@@ -1,15 +1,15 @@
 -- Each step lowers the work.
-use Rattle.std.proofs.Common.{◌≡◌, inl, inr, ℕ, zero, suc, ◌+◌, ◌-◌, ◌<◌, ◌≤◌, arith, refl, sym, ap, Bool, true, false}
-use Rattle.std.specs.Prelude.{Option, Some, None, unwrap_or, ◌==◌, nat_le, slice_index}
+use Rattle.std.proofs.Common.{◌≡◌, inl, inr, ℕ, zero, suc, ◌+◌, ◌-◌, ◌<◌, ◌≤◌, arith, refl, sym, ap, subst, Bool, true, false}
+use Rattle.std.specs.Prelude.{Option, Some, None, unwrap_or, ◌==◌, nat_le, slice_index, min}
 use Rattle.pk_base.specs.Shape.{Shape, buffer}
 use Rattle.pk_base.specs.Merge.{room, next_merge}
 use Rattle.pk_law_work.specs.Rest.{left_of, whole_merge, whole_freeze}
 use Rattle.pk_law_work.specs.Backlog.{Backlog, IsBacklog, due_level}
-use Rattle.pk_law_work.specs.Work.{emptying, merging_from, merging, freezing_from, freezing, reclaiming, repeating, work}
+use Rattle.pk_law_work.specs.Work.{emptying, merging_from, merging, freezing_from, freezing, reclaiming, filling_from, filling, most_filling, after_freeze, repeating, work}
 use Rattle.pk_law_work.specs.Steps.{EndsMerge}
-use Rattle.pk_law_work.specs.Laws.{MergeMoves, MergeEnds, FreezeMoves, FreezeEnds, PairEnds, Reclaims}
+use Rattle.pk_law_work.specs.Laws.{MergeMoves, MergeEnds, FreezeMoves, FreezeEnds, PairEnds, Reclaims, FrameFills}
 use Rattle.pk_law_work.proofs.Emptying.{emptying-suc, emptying-zero, emptying_rises}
-use Rattle.pk_law_work.proofs.Within.{due_most}
+use Rattle.pk_law_work.proofs.Within.{due_most, filling_within}
 use Rattle.pk_law_work.proofs.Targets.{next_told, first_next, second_next, third_next}
 
 pub due-some : (shape : Shape) (b : Backlog) (level : ℕ) → next_merge shape b.frozen b.runs ≡ Some level → due_level shape b ≡ level
@@ -50,6 +50,25 @@ merging_none shape (suc level) = omega (arith, emptying-suc shape level)
 merging_idle : (shape : Shape) (level : ℕ) (merge : Option ℕ) → merge ≡ None → merging_from shape level merge ≡ emptying shape level
 merging_idle shape level merge none = rw none (merging_none shape level)
 
+-- ---- pages to be filled
+
+-- if less is ahead, no more pages count
+filling_falls : (shape : Shape) (ahead ahead' unfilled : ℕ) → ahead' ≤ ahead → filling_from shape ahead' unfilled ≤ filling_from shape ahead unfilled
+filling_falls shape zero zero unfilled less = omega arith
+filling_falls shape zero (suc ahead') unfilled less = absurd (omega (arith, less))
+filling_falls shape (suc ahead) zero unfilled less = omega arith
+filling_falls shape (suc ahead) (suc ahead') unfilled less = omega arith
+
+-- if something is ahead, no more than as many as there may be
+filling_ahead : (shape : Shape) (ahead ahead' unfilled unfilled' : ℕ) → 0 < ahead → filling_from shape ahead' unfilled' ≤ filling_from shape ahead unfilled
+filling_ahead shape zero ahead' unfilled unfilled' some = absurd (omega (arith, some))
+filling_ahead shape (suc ahead) zero unfilled unfilled' some = omega arith
+filling_ahead shape (suc ahead) (suc ahead') unfilled unfilled' some = omega arith
+
+filling_none : (shape : Shape) (ahead unfilled : ℕ) → ahead ≡ 0 → filling_from shape ahead unfilled ≡ min unfilled (most_filling shape)
+filling_none shape zero unfilled none = refl
+filling_none shape (suc ahead) unfilled none = absurd (omega (arith, none))
+
 pub moves : MergeMoves
 unfolding work
 moves shape b b' step =
@@ -63,6 +82,7 @@ moves shape b b' step =
     let none : b.unready ≤ b'.unready = step.lowers.none_ready in
     let half : repeating shape b' ≡ repeating shape b = rw (ap (λ x. x.half) step.moved) refl in
     let less : step.left + b'.unready < left_of (whole_merge shape step.level) b.merge + b.unready = step.lowers.less in
+    let fills : filling shape b' ≤ filling shape b = filling_ahead shape (merging shape b) (merging shape b') b.unfilled b'.unfilled (omega arith) in
     (omega arith, omega arith, same)
 
 -- after the end of a merge the one into the level above is due, and after the first none
@@ -113,10 +133,11 @@ ends shape b b' is step =
     let none : b.unready ≤ b'.unready = step.lowers.none_ready in
     let less : 1 + b'.unready < left_of (whole_merge shape step.level) b.merge + b.unready = step.lowers.less in
     let left : repeating shape b' ≡ 1 = rw (ap (λ x. x.half) step.ended) refl in
+    let fills : filling shape b' ≤ filling shape b = filling_ahead shape (merging shape b) (merging shape b') b.unfilled b'.unfilled (omega arith) in
     (omega arith, omega arith, omega arith)
 
--- a freeze that runs or may be needed has its remaining steps, and the merges after it
-freezing_wanted : (shape : Shape) (freeze : Option ℕ) (may : Bool) → (freeze ≡ None → may ≡ true) → freezing_from shape freeze may ≡ left_of whole_freeze freeze + emptying shape 4
+-- a freeze that runs or may be needed has its remaining steps, and what comes after it
+freezing_wanted : (shape : Shape) (freeze : Option ℕ) (may : Bool) → (freeze ≡ None → may ≡ true) → freezing_from shape freeze may ≡ left_of whole_freeze freeze + after_freeze shape
 freezing_wanted shape None false wanted = let e : false ≡ true = wanted refl in cc
 freezing_wanted shape None true wanted = refl
 freezing_wanted shape (Some rest) may wanted = refl
@@ -126,11 +147,15 @@ unfolding work
 freeze_moves shape b b' step =
     let same : due_level shape b' ≡ due_level shape b = due-same shape b b' (ap (λ x. x.frozen) step.moved) (ap (λ x. x.runs) step.moved) in
     let merges : merging shape b' ≡ merging shape b = rw same (rw (ap (λ x. x.merge) step.moved) refl) in
-    let was : freezing shape b ≡ left_of whole_freeze b.freeze + emptying shape 4 = freezing_wanted shape b.freeze b.may_freeze step.wanted in
-    let is : freezing shape b' ≡ step.left + emptying shape 4 = rw (ap (λ x. x.freeze) step.moved) refl in
+    let was : freezing shape b ≡ left_of whole_freeze b.freeze + after_freeze shape = freezing_wanted shape b.freeze b.may_freeze step.wanted in
+    let is : freezing shape b' ≡ step.left + after_freeze shape = rw (ap (λ x. x.freeze) step.moved) refl in
     let reclaims : reclaiming shape b' ≤ reclaiming shape b = step.no_more in
+    let none : b.unready ≤ b'.unready = step.lowers.none_ready in
     let less : step.left + b'.unready < left_of whole_freeze b.freeze + b.unready = step.lowers.less in
     let half : repeating shape b' ≡ repeating shape b = rw (ap (λ x. x.half) step.moved) refl in
+    let same_unfilled : b'.unfilled ≡ b.unfilled = ap (λ x. x.unfilled) step.moved in
+    let falls = filling_falls shape (merging shape b) (merging shape b') b.unfilled (omega arith) in
+    let fills : filling shape b' ≤ filling shape b = subst (λ (u : ℕ). filling_from shape (merging shape b') u ≤ filling shape b) (sym same_unfilled) falls in
     omega arith
 
 pub freeze_ends : FreezeEnds
@@ -139,11 +164,13 @@ freeze_ends shape b b' step =
     let none_merges : b'.merge ≡ None = rw (ap (λ x. x.merge) step.ended) step.none_merges in
     let is : merging shape b' ≡ emptying shape (due_level shape b') = merging_idle shape (due_level shape b') b'.merge none_merges in
     let most : emptying shape (due_level shape b') ≤ emptying shape 4 = emptying_rises shape (due_level shape b') (due_most shape b') in
-    let was : freezing shape b ≡ left_of whole_freeze b.freeze + emptying shape 4 = freezing_wanted shape b.freeze b.may_freeze step.wanted in
+    let was : freezing shape b ≡ left_of whole_freeze b.freeze + after_freeze shape = freezing_wanted shape b.freeze b.may_freeze step.wanted in
     let none : freezing shape b' ≡ 0 = rw (ap (λ x. x.freeze) step.ended) (rw (ap (λ x. x.may_freeze) step.ended) refl) in
     let reclaims : reclaiming shape b' ≤ reclaiming shape b = step.no_more in
+    let none_ready : b.unready ≤ b'.unready = step.lowers.none_ready in
     let less : 1 + b'.unready < left_of whole_freeze b.freeze + b.unready = step.lowers.less in
     let left : repeating shape b' ≡ 1 = rw (ap (λ x. x.half) step.ended) refl in
+    let fills : filling shape b' ≤ most_filling shape = filling_within shape (merging shape b') b'.unfilled in
     omega arith
 
 pub pair_ends : PairEnds
@@ -153,6 +180,9 @@ pair_ends shape b b' step =
     let merges : merging shape b' ≡ merging shape b = rw same (rw (ap (λ x. x.merge) step.ended) refl) in
     let freezes : freezing shape b' ≡ freezing shape b = rw (ap (λ x. x.freeze) step.ended) (rw (ap (λ x. x.may_freeze) step.ended) refl) in
     let reclaims : reclaiming shape b' ≡ reclaiming shape b = rw (ap (λ x. x.reclaim) step.ended) (rw (ap (λ x. x.is_due) step.ended) refl) in
+    let same_unfilled : b'.unfilled ≡ b.unfilled = ap (λ x. x.unfilled) step.ended in
+    let falls = filling_falls shape (merging shape b) (merging shape b') b.unfilled (omega arith) in
+    let fills : filling shape b' ≤ filling shape b = subst (λ (u : ℕ). filling_from shape (merging shape b') u ≤ filling shape b) (sym same_unfilled) falls in
     let was : repeating shape b ≡ 1 = rw step.was_half refl in
     let is : repeating shape b' ≡ 0 = rw (ap (λ x. x.half) step.ended) refl in
     let fewer : b'.unready ≤ b.unready = step.none_more in
@@ -173,4 +203,23 @@ reclaims shape b b' step =
     let fewer = less_freezing shape b.freeze b.may_freeze b'.may_freeze step.no_freeze in
     let less : reclaiming shape b' + b'.unready < reclaiming shape b + b.unready = step.lowers.less in
     let half : repeating shape b' ≡ repeating shape b = rw (ap (λ x. x.half) step.stepped) refl in
+    let same_unfilled : b'.unfilled ≡ b.unfilled = ap (λ x. x.unfilled) step.stepped in
+    let falls = filling_falls shape (merging shape b) (merging shape b') b.unfilled (omega arith) in
+    let fills : filling shape b' ≤ filling shape b = subst (λ (u : ℕ). filling_from shape (merging shape b') u ≤ filling shape b) (sym same_unfilled) falls in
+    omega arith
+
+pub fills : FrameFills
+unfolding work
+fills shape b b' step =
+    let same : due_level shape b' ≡ due_level shape b = due-same shape b b' (ap (λ x. x.frozen) step.filled) (ap (λ x. x.runs) step.filled) in
+    let merges : merging shape b' ≡ merging shape b = rw same (rw (ap (λ x. x.merge) step.filled) refl) in
+    let freezes : freezing shape b' ≡ freezing shape b = rw (ap (λ x. x.freeze) step.filled) (rw (ap (λ x. x.may_freeze) step.filled) refl) in
+    let reclaims : reclaiming shape b' ≡ reclaiming shape b = rw (ap (λ x. x.reclaim) step.filled) (rw (ap (λ x. x.is_due) step.filled) refl) in
+    let ready : b'.unready ≡ b.unready = ap (λ x. x.unready) step.filled in
+    let half : repeating shape b' ≡ repeating shape b = rw (ap (λ x. x.half) step.filled) refl in
+    let no_merge : merging shape b ≡ 0 = rw (due-none shape b step.none_frozen) refl in
+    let was = filling_none shape (merging shape b) b.unfilled (omega arith) in
+    let is = filling_none shape (merging shape b') b'.unfilled (omega arith) in
+    let one = step.one_less in
+    let few = step.few in
     omega arith

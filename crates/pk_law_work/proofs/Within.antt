@@ -5,7 +5,7 @@ use Rattle.pk_base.specs.Shape.{Shape, deepest, most_calls}
 use Rattle.pk_base.specs.Merge.{room}
 use Rattle.pk_law_work.specs.Rest.{left_of, whole_merge, whole_freeze, whole_reclaim}
 use Rattle.pk_law_work.specs.Backlog.{Backlog, due_level}
-use Rattle.pk_law_work.specs.Work.{emptying, merging_from, merging, freezing_from, freezing, reclaiming_from, reclaiming, repeating, work}
+use Rattle.pk_law_work.specs.Work.{emptying, merging_from, merging, freezing_from, freezing, reclaiming_from, reclaiming, filling_from, filling, most_filling, after_freeze, repeating, work}
 use Rattle.pk_law_work.specs.Laws.{WorkMost, MergingMost}
 use Rattle.pk_law_work.specs.Calls.{CallsMost}
 use Rattle.pk_law_work.proofs.Emptying.{deep, emptying_most, emptying_rises, emptying-suc}
@@ -32,7 +32,7 @@ merging_within shape zero merge few most = omega arith
 merging_within shape (suc level) merge few most =
     omega (arith, left_within (whole_merge shape (suc level)) merge most, emptying-suc shape level, emptying_rises shape (suc level) few)
 
-freezing_within : (shape : Shape) (freeze : Option ℕ) (may : Bool) → IfSome freeze (λ left. left ≤ whole_freeze) → freezing_from shape freeze may ≤ whole_freeze + emptying shape 4
+freezing_within : (shape : Shape) (freeze : Option ℕ) (may : Bool) → IfSome freeze (λ left. left ≤ whole_freeze) → freezing_from shape freeze may ≤ whole_freeze + after_freeze shape
 freezing_within shape None false most = omega arith
 freezing_within shape None true most = omega arith
 freezing_within shape (Some rest) may most = omega arith
@@ -42,6 +42,10 @@ reclaiming_within shape None false most = omega arith
 reclaiming_within shape None true most = omega arith
 reclaiming_within shape (Some rest) due most = most
 
+pub filling_within : (shape : Shape) (ahead unfilled : ℕ) → filling_from shape ahead unfilled ≤ most_filling shape
+filling_within shape zero unfilled = omega arith
+filling_within shape (suc ahead) unfilled = omega arith
+
 pub merging_most : MergingMost
 merging_most shape b is = merging_within shape (due_level shape b) b.merge (due_most shape b) is.merge_most
 
@@ -49,11 +53,12 @@ pub work_most : WorkMost
 unfolding most_calls work
 work_most shape b is backlog =
     let merges : merging shape b ≤ emptying shape 4 = merging_most shape b backlog in
-    let freezes : freezing shape b ≤ whole_freeze + emptying shape 4 = freezing_within shape b.freeze b.may_freeze backlog.freeze_most in
+    let freezes : freezing shape b ≤ whole_freeze + after_freeze shape = freezing_within shape b.freeze b.may_freeze backlog.freeze_most in
     let reclaims : reclaiming shape b ≤ whole_reclaim shape = reclaiming_within shape b.reclaim b.is_due backlog.reclaim_most in
     let empties : emptying shape 4 ≤ 372 + 3 * deepest shape = emptying_most shape is in
     let unready : b.unready ≤ shape.blocks = backlog.unready_most in
     let half : repeating shape b ≤ 1 = one_at_most b.half in
+    let fills : filling shape b ≤ most_filling shape = filling_within shape (merging shape b) b.unfilled in
     omega arith
   where
     one_at_most : (half : Bool) → (if half then 1 else 0) ≤ 1

@@ -18,6 +18,8 @@ pub record Backlog : Type 0 where
   pub may_freeze : Bool
   -- the pair of a root is half made: its second program is the next step
   pub half : Bool
+  -- pages that may have a frame and have none
+  pub unfilled : ℕ
   -- blocks that are not ready: root blocks, owned ones, and free ones that were not erased in this session
   pub unready : ℕ
 

@@ -7,7 +7,7 @@ use Rattle.pk_law_work.specs.Rest.{steps_of, other_steps, whole_merge, whole_fre
 use Rattle.pk_law_work.specs.Jobs.{merge_rest, freeze_rest, reclaim_rest}
 use Rattle.pk_law_work.specs.Backlog.{Backlog, IsBacklog, is_tight, due_level}
 use Rattle.pk_law_work.specs.Work.{emptying, merging, merging_left, work}
-use Rattle.pk_law_work.specs.Steps.{MovesMerge, EndsMerge, MovesFreeze, EndsFreeze, EndsPair, StepsReclaim, ErasesBlock}
+use Rattle.pk_law_work.specs.Steps.{MovesMerge, EndsMerge, MovesFreeze, EndsFreeze, EndsPair, StepsReclaim, FillsFrame, ErasesBlock}
 
 -- the work is always less than this
 abbrev pub WorkMost : Type 0
@@ -44,6 +44,10 @@ PairEnds =
 -- so does each step of a reclaim
 abbrev pub Reclaims : Type 0
 Reclaims = (shape : Shape) (b b' : Backlog) → StepsReclaim shape b b' → work shape b' < work shape b
+
+-- so does a page that is read into a frame
+abbrev pub FrameFills : Type 0
+FrameFills = (shape : Shape) (b b' : Backlog) → FillsFrame shape b b' → work shape b' < work shape b
 
 -- so does an erase of a free block
 abbrev pub Erases : Type 0

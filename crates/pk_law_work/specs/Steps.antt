@@ -1,6 +1,6 @@
 -- The background steps, each as what it does to the backlog.
-use Rattle.std.specs.Prelude.{◌≡◌, ℕ, ◌+◌, ◌-◌, ◌<◌, ◌≤◌, slice_index, true, false, ◌==◌, if◌then◌else◌, Some, None}
-use Rattle.pk_base.specs.Shape.{Shape}
+use Rattle.std.specs.Prelude.{◌≡◌, ℕ, ◌+◌, ◌-◌, ◌<◌, ◌≤◌, sum, slice_index, true, false, ◌==◌, if◌then◌else◌, Some, None}
+use Rattle.pk_base.specs.Shape.{Shape, caps}
 use Rattle.pk_base.specs.Merge.{next_merge}
 use Rattle.pk_law_work.specs.Rest.{left_of, whole_merge, whole_freeze, Lowers}
 use Rattle.pk_law_work.specs.Backlog.{Backlog}
@@ -20,7 +20,7 @@ pub record EndsMerge (shape : Shape) (b b' : Backlog) : Type 0 where
   pub level : ℕ
   pub due : next_merge shape b.frozen b.runs ≡ Some level
   pub was_whole : b.half ≡ false
-  pub ended : b' ≡ record b { frozen = b'.frozen; runs = b'.runs; merge = None; half = true; unready = b'.unready }
+  pub ended : b' ≡ record b { frozen = b'.frozen; runs = b'.runs; merge = None; half = true; unfilled = b'.unfilled; unready = b'.unready }
   pub frozen : b'.frozen ≡ (if level == 1 then 0 else b.frozen)
   pub source : 2 ≤ level → slice_index b'.runs (level - 2) ≡ 0
   pub above : (i : ℕ) → i + 2 < level → slice_index b'.runs i ≡ slice_index b.runs i
@@ -61,3 +61,10 @@ pub record StepsReclaim (shape : Shape) (b b' : Backlog) : Type 0 where
 pub record ErasesBlock (b b' : Backlog) : Type 0 where
   pub erased : b' ≡ record b { unready = b'.unready }
   pub less : b'.unready < b.unready
+
+-- A page is read into a frame, and no merge is ahead.
+pub record FillsFrame (shape : Shape) (b b' : Backlog) : Type 0 where
+  pub filled : b' ≡ record b { unfilled = b'.unfilled }
+  pub one_less : b'.unfilled + 1 ≡ b.unfilled
+  pub few : b.unfilled ≤ sum (caps shape)
+  pub none_frozen : b.frozen ≡ 0

@@ -2,7 +2,7 @@
 //! definitions, and laws over them, each the contract of a function that does nothing.
 #![tactic(auto)]
 
-ghost use Rattle.pk_law_work.specs.Laws.{WorkMost, MergingMost, MergeMoves, MergeEnds, FreezeMoves, FreezeEnds, PairEnds, Reclaims, Erases, RoomForMoves, FrozenIsRoom, LightVictim, RoomBehind, MergeWithin, MergePrograms, MergeTakes, FreezeWithin, FreezeTakes, ReclaimWithin, ReclaimReads, ReclaimPrograms, FewPages, FewBlocks};
+ghost use Rattle.pk_law_work.specs.Laws.{WorkMost, MergingMost, MergeMoves, MergeEnds, FreezeMoves, FreezeEnds, PairEnds, Reclaims, FrameFills, Erases, RoomForMoves, FrozenIsRoom, LightVictim, RoomBehind, MergeWithin, MergePrograms, MergeTakes, FreezeWithin, FreezeTakes, ReclaimWithin, ReclaimReads, ReclaimPrograms, FewPages, FewBlocks};
 ghost use Rattle.pk_law_work.specs.Calls.{CallsMost};
 
 /// There are never more background steps left than four times the most calls of a command, and two for each block.
@@ -26,10 +26,11 @@ pub fn freezes()
     ensures pair { PairEnds }
 {}
 
-/// Each step of a reclaim lowers the work, and so does an erase of a free block.
+/// Each step of a reclaim lowers the work, and so do a page that is read into a frame and an erase of a free block.
 #[tactic(auto, unfolding(crate::specs::Work::work, crate::specs::Backlog::due_level))]
 pub fn reclaims()
     ensures steps { Reclaims }
+    ensures fills { FrameFills }
     ensures erases { Erases }
     ensures room { RoomForMoves }
     ensures frozen { FrozenIsRoom }

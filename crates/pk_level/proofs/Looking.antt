@@ -19,7 +19,7 @@ use Rattle.pk_nand.specs.Counts.{counted_by, after_reads}
 use Rattle.pk_pin.specs.Frames.{Frames}
 use Rattle.pk_run.specs.Kept.{Kept, IsPinned, RunOnFlash, after_look, is_pinned}
 use Rattle.pk_run.specs.Search.{IsFound, RunLooks}
-use Rattle.pk_level.specs.Levels.{Levels, IsOfLevel, AreOfLevels, IsLevels, RunsOnFlash, all_entries, is_held, held_from, held_of, most_reads, reads_through, LooksFor, ReadsUpTo, ReadFailsWithin}
+use Rattle.pk_level.specs.Levels.{Levels, IsOfLevel, AreOfLevels, IsLevels, RunsOnFlash, all_entries, is_held, held_from, held_levels, most_reads, reads_through, LooksFor, ReadsUpTo, ReadFailsWithin}
 
 -- ---- entries of several lists
 
@@ -150,7 +150,7 @@ exact_from shape pinned level (r ∷ rs) are most =
           omega (arith, rest, none, held, within)
     ]
 
-pub few_reads : (levels : Levels) → IsLevels levels → reads_through levels.runs + levels.pinned + held_of levels ≡ 4
+pub few_reads : (levels : Levels) → IsLevels levels → reads_through levels.runs + levels.pinned + held_levels levels ≡ 4
 few_reads levels is = let few = exact_from levels.shape levels.pinned 1 levels.runs is.each (omega (arith, is.most, is.four)) in omega (arith, few, is.four)
 
 -- ---- a lookup

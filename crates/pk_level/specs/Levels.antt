@@ -90,8 +90,8 @@ abbrev pub held_from : ℕ → ℕ → List Kept → ℕ
 held_from pinned level [] = 0
 held_from pinned level (r ∷ rs) = (if is_held pinned level r then 1 else 0) + held_from pinned (suc level) rs
 
-abbrev pub held_of : Levels → ℕ
-held_of levels = held_from levels.pinned 1 levels.runs
+abbrev pub held_levels : Levels → ℕ
+held_levels levels = held_from levels.pinned 1 levels.runs
 
 -- nothing but at most n reads
 abbrev pub ReadsUpTo : ℕ → BoardState → BoardState → Type 0

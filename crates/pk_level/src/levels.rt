@@ -1,18 +1,22 @@
 //! The four runs.
-ghost use Rattle.std.specs.Prelude.{◌≡◌, ◌+◌, ◌-◌, ◌<◌, ◌≤◌, List, [], ◌∷◌, length, map, slice_get, Some, IsNone, IfSome, ◌↔◌, IfOk, IfErr, OnOk, OnErr};
+ghost use Rattle.std.specs.Prelude.{◌≡◌, ◌+◌, ◌-◌, ◌<◌, ◌≤◌, ℕ, List, [], ◌∷◌, length, map, slice_get, Some, IsNone, IfSome, ◌↔◌, IfOk, IfErr, OnOk, OnErr, MatchOption, MatchBool, if◌then◌else◌};
 ghost use Rattle.std.specs.List.{AllByRecursion};
 ghost use Rattle.pk_base.specs.Entry.{Entry as EntrySpec};
 ghost use Rattle.pk_base.specs.Merge.{next_merge};
 ghost use Rattle.pk_base.specs.Shape.{pinned as pinned_by};
 ghost use Rattle.pk_base.specs.Page.{Flash};
 ghost use Rattle.pk_nand.specs.Calls.{IsReady};
+ghost use Rattle.pk_nand.specs.Operations.{after_read, ReadFailed};
 ghost use Rattle.pk_nand.specs.declared.types.Fault.TheVariants.{Reading};
-ghost use Rattle.pk_pin.specs.Frames.{Frames};
-ghost use Rattle.pk_run.specs.Kept.{IsKept};
+ghost use Rattle.pk_pin.specs.Frames.{Frames, free_frames};
+ghost use Rattle.pk_run.specs.Kept.{IsKept, RunOnFlash};
+ghost use Rattle.pk_run.specs.Leases.{AreLeased};
 ghost use Rattle.pk_run.specs.Search.{IsFound};
 ghost use Rattle.pk_level.specs.Levels as spec;
-ghost use Rattle.pk_level.specs.Levels.{IsLevels, IsOfLevel, RunsOnFlash, LooksFor, ReadsUpTo, ReadFailsWithin, no_runs, run_of, with_run, all_entries, reads_through, held_of};
+ghost use Rattle.pk_level.specs.Levels.{IsLevels, IsOfLevel, RunsOnFlash, LooksFor, ReadsUpTo, ReadFailsWithin, no_runs, run_of, with_run, all_entries, reads_through, held_levels, is_held};
+ghost use Rattle.pk_level.specs.Arenas.{HasArena, HasLeases, FillsRun, FillsOne, FillsNone, IsUnfilled, BaresRun, Releases, last_level, unfilled_from, lacks};
 
+use pk_adapt::adapted;
 use pk_base::{Entry, Key, LEVELS};
 use pk_nand::{Fault, Nand};
 use pk_pin::PinArena;
@@ -96,7 +100,7 @@ impl<A: Allocator> Levels<A> {
     pub fn known(&self)
         ensures levels { IsLevels self.now }
         ensures runs { AllByRecursion IsKept self.now.runs }
-        ensures exact { reads_through self.now.runs + self.now.pinned + held_of self.now ≡ LEVELS }
+        ensures exact { reads_through self.now.runs + self.now.pinned + held_levels self.now ≡ LEVELS }
         ensures few { reads_through self.now.runs + self.now.pinned ≤ LEVELS }
     {
         self.first.known();
@@ -110,6 +114,43 @@ impl<A: Allocator> Levels<A> {
         ensures { result ≡ self.now.pinned }
     {
         self.pinned
+    }
+
+    /// How many levels below the pinned ones have frames for all their pages.
+    pub fn held(&self) -> u8
+        ensures held { result ≡ held_levels self.now }
+        ensures most { result + self.now.pinned ≤ LEVELS }
+    {
+        self.known();
+        self.held_at(1) + self.held_at(2) + self.held_at(3) + self.held_at(4)
+    }
+
+    // 1 if a level is held, and otherwise 0.
+    fn held_at(&self, level: u8) -> u8
+        requires { 1 ≤ level × level ≤ LEVELS }
+        ensures value { result ≡ (if is_held self.now.pinned level (run_of self.now level) then 1
+            else 0) }
+        ensures most { result ≤ 1 }
+    {
+        if self.pinned < level && self.at(level - 1).is_pinned() {
+            1
+        } else {
+            0
+        }
+    }
+
+    /// The last level that may have frames, of which there are this many.
+    pub fn last_level(&self, frames: u32) -> u8
+        ensures value { result ≡ last_level self.now frames }
+        ensures most { result ≤ LEVELS }
+    {
+        let pages = [
+            self.first.pages(),
+            self.second.pages(),
+            self.third.pages(),
+            self.fourth.pages(),
+        ];
+        adapted(&self.plan, frames, &pages)
     }
 
     // The run at this place among the four.
@@ -219,5 +260,159 @@ impl<A: Allocator> Levels<A> {
             }
         }
         Ok(None)
+    }
+
+    // The first level, up to this one, of which a page has no frame; None if there is none.
+    fn unfilled_level(&self, last: u8) -> Option<u8>
+        requires { last ≤ LEVELS }
+        ensures { MatchOption result (unfilled_from last 1 self.now.runs ≡ 0)
+            (λ level. IsUnfilled last self.now level) }
+    {
+        self.known();
+        if self.lacks(1, last) {
+            return Some(1);
+        }
+        if self.lacks(2, last) {
+            return Some(2);
+        }
+        if self.lacks(3, last) {
+            return Some(3);
+        }
+        if self.lacks(4, last) {
+            return Some(4);
+        }
+        None
+    }
+
+    // Whether a page of a run has no frame, and may have one.
+    fn lacks(&self, level: u8, last: u8) -> bool
+        requires { 1 ≤ level × level ≤ LEVELS }
+        ensures { result ≡ lacks last level (run_of self.now level) }
+    {
+        level <= last && !self.at(level - 1).is_pinned()
+    }
+
+    // Reads the first page of a run that has no frame into a frame, of which one must be free.
+    fn fill_run<B: Nand>(
+        &mut self,
+        level: u8,
+        board: &mut B,
+        arena: &mut PinArena<A>,
+        buf: &mut [u8],
+    ) -> Result<(), Fault>
+        requires level { 1 ≤ level × level ≤ LEVELS }
+        requires above { self.old.pinned < level }
+        requires ready { IsReady (B.state board.old) self.old.shape }
+        requires stands { (es : List EntrySpec)
+            × RunOnFlash (run_of self.old level) (B.state board.old).pages arena.old es }
+        requires unfilled { length (run_of self.old level).leases
+            < length (run_of self.old level).firsts }
+        requires free { 0 < free_frames arena.old }
+        requires page { arena.old.page_bytes ≡ self.old.shape.page_bytes }
+        requires room { length buf.old ≡ self.old.shape.page_bytes }
+
+        // One of its pages more has a frame, by one read.
+        ensures fills { OnOk result (FillsRun self.old arena.old level self.new arena.new) }
+        ensures stands { OnOk result ((es : List EntrySpec)
+            → RunOnFlash (run_of self.old level) (B.state board.old).pages arena.old es
+            → RunOnFlash (run_of self.new level) (B.state board.new).pages arena.new es) }
+        ensures ok { OnOk result (B.state board.new ≡ after_read (B.state board.old)) }
+
+        // Or that read failed, and nothing else changed.
+        ensures reading { IfErr result (λ fault. fault ≡ Reading) }
+        ensures err { OnErr result ((page : ℕ) × ReadFailed (B.state board.old)
+            (B.state board.new) page) }
+        ensures kept { OnErr result ((self.new ≡ self.old) × (arena.new ≡ arena.old)) }
+
+        // Either way nothing but a read was done.
+        ensures same { (B.state board.new).pages ≡ (B.state board.old).pages }
+        ensures ready { IsReady (B.state board.new) self.old.shape }
+        ensures buffer { length buf.new ≡ length buf.old }
+    {
+        self.known();
+        match level {
+            1 => self.first.fill_page(board, arena, buf),
+            2 => self.second.fill_page(board, arena, buf),
+            3 => self.third.fill_page(board, arena, buf),
+            _ => self.fourth.fill_page(board, arena, buf),
+        }
+    }
+
+    /// Reads a page of the first level that may have frames and lacks one into a frame. False, and
+    /// nothing is done, if no level lacks one. `Reading` if the read fails; otherwise nothing fails.
+    /// `buf` has the size of a page and is overwritten.
+    pub fn fill_step<B: Nand>(
+        &mut self,
+        board: &mut B,
+        arena: &mut PinArena<A>,
+        buf: &mut [u8],
+    ) -> Result<bool, Fault>
+        requires ready { IsReady (B.state board.old) self.old.shape }
+        requires stand { (ess : List (List EntrySpec))
+            × RunsOnFlash (B.state board.old).pages arena.old self.old.runs ess }
+        requires arena { HasArena self.old.shape (length arena.old.used) self.old arena.old [] }
+        requires room { length buf.old ≡ self.old.shape.page_bytes }
+
+        // A page was read into a frame, or there was none to read.
+        ensures filled { IfOk result (λ filled. MatchBool filled
+            (FillsOne self.old arena.old (B.state board.old) self.new arena.new (B.state board.new))
+            (FillsNone self.old arena.old (B.state board.old) self.new arena.new
+            (B.state board.new))) }
+        ensures stand { OnOk result ((ess : List (List EntrySpec))
+            → RunsOnFlash (B.state board.old).pages arena.old self.old.runs ess
+            → RunsOnFlash (B.state board.new).pages arena.new self.new.runs ess) }
+        ensures arena { OnOk result (HasArena self.new.shape (length arena.new.used) self.new
+            arena.new []) }
+
+        // Or that read failed, and nothing else changed.
+        ensures reading { IfErr result (λ fault. fault ≡ Reading) }
+        ensures err { OnErr result ((page : ℕ) × ReadFailed (B.state board.old)
+            (B.state board.new) page) }
+        ensures kept { OnErr result ((self.new ≡ self.old) × (arena.new ≡ arena.old)) }
+
+        // Either way nothing but a read was done.
+        ensures same { (B.state board.new).pages ≡ (B.state board.old).pages }
+        ensures ready { IsReady (B.state board.new) self.old.shape }
+        ensures buffer { length buf.new ≡ length buf.old }
+    {
+        self.known();
+        match self.unfilled_level(self.last_level(arena.frames())) {
+            None => Ok(false),
+            Some(level) => match self.fill_run(level, board, arena, buf) {
+                Ok(()) => Ok(true),
+                Err(fault) => Err(fault),
+            },
+        }
+    }
+
+    /// Frees the frames of all levels after the last one that may have frames.
+    pub fn release(&mut self, arena: &mut PinArena<A>)
+        requires { (others : List ℕ)
+            × HasLeases self.old.shape (length arena.old.used) self.old arena.old others }
+        ensures { Releases self.old arena.old self.new arena.new }
+    {
+        self.known();
+        let last = self.last_level(arena.frames());
+        self.bare_run(1, last, arena);
+        self.bare_run(2, last, arena);
+        self.bare_run(3, last, arena);
+        self.bare_run(4, last, arena);
+    }
+
+    // Frees the frames of a run if its level is after the last one that may have frames.
+    fn bare_run(&mut self, level: u8, last: u8, arena: &mut PinArena<A>)
+        requires level { 1 ≤ level × level ≤ LEVELS }
+        requires above { self.old.pinned ≤ last }
+        requires leased { AreLeased arena.old (run_of self.old level).leases }
+        ensures { BaresRun level last self.old arena.old self.new arena.new }
+    {
+        if level > last {
+            match level {
+                1 => self.first.give_frames(arena),
+                2 => self.second.give_frames(arena),
+                3 => self.third.give_frames(arena),
+                _ => self.fourth.give_frames(arena),
+            }
+        }
     }
 }

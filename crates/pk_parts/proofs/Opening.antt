@@ -34,6 +34,7 @@ use Rattle.pk_parts.specs.Parts.{Parts, commits_in}
 use Rattle.pk_parts.specs.Opening.{OpenedOn}
 use Rattle.pk_parts.proofs.Reclaiming.{reclaim_rests}
 use Rattle.pk_schedule.proofs.Keeping.{IsFound, index_opens}
+use Rattle.pk_space.specs.Uses.{space_keys}
 
 -- the lists are what a log is opened with
 log_opens : {A : Type 0} (shape : Shape) (flash : Flash) (frames : ℕ) (f : Opened A) (found : Found) (m : Map)
@@ -70,7 +71,7 @@ values_found shape flash f found is has = record {
 -- the parts of a drive made of what was found
 module _ {A : Type 0} (shape : Shape) (flash : Flash) (frames : ℕ) (f : Opened A) (log : LogState) (values : ValuesState) (s : Schedule) (job : JobState) (walk : Walk) where
   abbrev parts : Parts
-  parts = record { log = log; levels = f.levels; arena = f.arena; schedule = s; values = values; reclaim = job; pool = f.pool; keys = f.keys; stopped = false; walk = walk }
+  parts = record { log = log; levels = f.levels; arena = f.arena; schedule = s; values = values; reclaim = job; pool = f.pool; keys = space_keys f.spaces 1; stopped = false; walk = walk }
 
   -- the index of what was found, in which nothing runs
   index_found : IsShape f.root.shape → (was : FoundOnFlash shape flash frames f) → log ≡ opened f.root f.root_page f.epoch f.active f.frozen
@@ -80,7 +81,7 @@ module _ {A : Type 0} (shape : Shape) (flash : Flash) (frames : ℕ) (f : Opened
   index_found held was log_is stands idle pins =
       let own : f.root.shape ≡ log.shape = sym (ap (λ (l : LogState). l.shape) log_is) in
       let its : shape ≡ log.shape = sym was.lists.shape_is ∙ own in
-      let frames_are : frames ≡ length f.arena.used = sym was.lists.arena_is.size in
+      let frames_are : frames ≡ length f.arena.used = sym was.lists.arena_is.leases.size in
       let found : IsFound log f.levels f.arena f.pool (length f.arena.used) flash (f.root_page, f.root.root) was.found = record {
         logs = stands flash was.found (log_opens shape flash frames f was.found was.map was.lists);
         pool_shape = was.blocks.owners.pool_shape ∙ its;
@@ -136,7 +137,7 @@ module _ {A : Type 0} (shape : Shape) (flash : Flash) (frames : ℕ) (f : Opened
           moves = ap commits_in rests.1;
           epoch = ap (λ (l : LogState). l.epoch.half) log_is ∙ ap (λ (e : JournalEpoch). e.half) was.lists.epoch_is.1;
         };
-        frames_are = was.lists.arena_is.size;
+        frames_are = was.lists.arena_is.leases.size;
         runs = refl;
         none_pending = none;
         takes_none = ap (λ (l : LogState). l.epoch.takes_more) log_is ∙ ap (λ (e : JournalEpoch). e.takes_more) was.lists.epoch_is.1;

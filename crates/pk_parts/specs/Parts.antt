@@ -3,8 +3,8 @@ use Rattle.std.specs.Prelude.{ℕ, ◌-◌, Bool, true, List, [], ◌∷◌, len
 use Rattle.pk_base.specs.Shape.{Shape, charge, limit, data_blocks, most_pages}
 use Rattle.pk_plan.specs.declared.owner.Owner.TheVariants.{Values}
 use Rattle.pk_pin.specs.Frames.{Frames, leased_frames}
-use Rattle.pk_pool.specs.Blocks.{Blocks, is_ready, used_by, freed}
-use Rattle.pk_level.specs.Levels.{Levels, run_of}
+use Rattle.pk_pool.specs.Blocks.{Blocks, IsShared, is_ready, used_by, freed}
+use Rattle.pk_level.specs.Levels.{Levels, IsLevels, run_of}
 use Rattle.pk_model.specs.Spaces.{Terms, one_space}
 use Rattle.pk_call.specs.Sight.{Sight, Counts, InSpace}
 use Rattle.pk_log.specs.State.{LogState}
@@ -162,3 +162,8 @@ sight_of d = record {
   half = is_half d;
   work = work d.log.shape (backlog_of d);
 }
+
+-- What the parts keep to, whatever is on the flash: blocks within quotas, and runs within their levels.
+pub record IsParts (d : Parts) : Type 0 where
+  pub shared : IsShared d.pool.shape d.pool.states
+  pub levels : IsLevels d.levels

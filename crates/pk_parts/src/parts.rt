@@ -1,6 +1,6 @@
 //! The parts of a drive.
 ghost use Rattle.std.specs.Prelude.{◌≡◌, length, sum};
-ghost use Rattle.pk_pool.specs.Blocks.{IsShared};
+ghost use Rattle.pk_parts.specs.Parts.{IsParts};
 ghost use Rattle.pk_parts.specs.Stopping.{failed_by};
 
 use pk_base::Shape;
@@ -96,11 +96,13 @@ impl<A: Region> Parts<A> {
         *self.log.root().shape()
     }
 
-    /// Blocks 0 and 1 alone are the root blocks, and each owner of blocks keeps within its quota.
+    /// Blocks 0 and 1 alone are the root blocks, each owner of blocks keeps within its quota, and
+    /// each run within its level.
     pub fn known(&self)
-        ensures { IsShared self.now.pool.shape self.now.pool.states }
+        ensures { IsParts self.now }
     {
         self.pool.known();
+        self.levels.known();
     }
 
     /// How many entries wait for a commit.

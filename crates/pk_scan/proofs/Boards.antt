@@ -42,9 +42,9 @@ rest_failed old new made page failed =
 pub rest_both : (old now new : BoardState) → OnlyReading old now → OnlyReading now new → OnlyReading old new
 rest_both old now new a b = b ∙ ap (λ (x : BoardState). record x { reads = new.reads; flash_faults = new.flash_faults; read_faults = new.read_faults; failed_at = new.failed_at }) a
 
-pub rest_not_read : (shape : Shape) (level count : ℕ) (blocks : List ℕ) (old new : BoardState) (e : PageError) → NotRead shape level count blocks old new e → OnlyReading old new
-rest_not_read shape level count blocks old new (Damaged page) why = rest_reads old new (_, why.board)
-rest_not_read shape level count blocks old new Fault why = rest_failed old new why.made _ why.failed
+pub rest_not_read : (shape : Shape) (spaces level count : ℕ) (blocks : List ℕ) (old new : BoardState) (e : PageError) → NotRead shape spaces level count blocks old new e → OnlyReading old new
+rest_not_read shape spaces level count blocks old new (Damaged page) why = rest_reads old new (_, why.board)
+rest_not_read shape spaces level count blocks old new Fault why = rest_failed old new why.made _ why.failed
 
 -- so the board may be called as before
 pub stays_ready_behind : (shape : Shape) (old new : BoardState) → OnlyReading old new → IsReady old shape → StaysReady shape old new

@@ -18,6 +18,7 @@ use Rattle.pk_buf.specs.Table.{Table, no_entries}
 use Rattle.pk_jrn.specs.Epochs.{EpochOnFlash, HasCommit, found_at_opening}
 use Rattle.pk_jrn.specs.Replays.{Replayed, buffer_of}
 use Rattle.pk_jrn.proofs.Puts.{firsts-reverse}
+use Rattle.pk_model.specs.RootLimits.{root_spaces}
 use Rattle.pk_model.specs.Found.{older_epoch}
 use Rattle.pk_scan.specs.OpeningParts.{OlderHeld, NewestHeld}
 use Rattle.pk_scan.proofs.Naming.{two_is, older_is, older_none}
@@ -47,11 +48,11 @@ held_size shape into es held = ap (λ (t : Table). length t.entries) held ∙ fi
 -- ---- the older epoch
 
 module _ (shape : Shape) (at : ℕ → Page) (root : Root) where
-  read_of : (es : List Entry) → epoch shape at (root.epoch - 1) root.older ≡ Ok es
+  read_of : (es : List Entry) → epoch shape (root_spaces shape root) at (root.epoch - 1) root.older ≡ Ok es
       → older_epoch shape at root ≡ (ensure (length root.older == 0 || nat_le 1 (length es)) (page_in shape root.older 0) >>= (λ u. Ok es))
   read_of es read = rw read refl
 
-  refused_of : (e : Refusal) → epoch shape at (root.epoch - 1) root.older ≡ Err e → older_epoch shape at root ≡ Err e
+  refused_of : (e : Refusal) → epoch shape (root_spaces shape root) at (root.epoch - 1) root.older ≡ Err e → older_epoch shape at root ≡ Err e
   refused_of e read = rw read refl
 
   passes_with : (b : Bool) (es : List Entry) → b ≡ true → (ensure b (page_in shape root.older 0) >>= (λ u. Ok es)) ≡ Ok es
@@ -79,25 +80,25 @@ module _ (shape : Shape) (flash : Flash) (root : Root) where
   abbrev at : ℕ → Page
   at = page_at flash
 
-  empty_is : (number : ℕ) → epoch shape at number [] ≡ Ok []
+  empty_is : (number : ℕ) → epoch shape (root_spaces shape root) at number [] ≡ Ok []
   unfolding epoch
-  empty_is number = let none : 0 * (shape.block_pages / 2) ≡ 0 = omega arith in ap (λ (n : ℕ). journal shape number 0 [] (commits_of shape at [] 0 n)) none
+  empty_is number = let none : 0 * (shape.block_pages / 2) ≡ 0 = omega arith in ap (λ (n : ℕ). journal shape (root_spaces shape root) number 0 [] (commits_of shape at [] 0 n)) none
 
-  no_blocks : (number : ℕ) (bs : List ℕ) → bs ≡ [] → epoch shape at number bs ≡ Ok []
-  no_blocks number bs none = ap (epoch shape at number) none ∙ empty_is number
+  no_blocks : (number : ℕ) (bs : List ℕ) → bs ≡ [] → epoch shape (root_spaces shape root) at number bs ≡ Ok []
+  no_blocks number bs none = ap (epoch shape (root_spaces shape root) at number) none ∙ empty_is number
 
   pub older_not_named : (into : Table) → None ≡ older_of root.older → into ≡ no_entries shape → OlderHeld shape flash root into
   older_not_named into none is =
       let empty : root.older ≡ [] = older_none root.older none in
-      let read : epoch shape at (root.epoch - 1) root.older ≡ Ok [] = no_blocks (root.epoch - 1) root.older empty in
+      let read : epoch shape (root_spaces shape root) at (root.epoch - 1) root.older ≡ Ok [] = no_blocks (root.epoch - 1) root.older empty in
       let named : (length root.older == 0 || nat_le 1 (length {A = Entry} [])) ≡ true = rw empty refl in
       ([], record { finds = read_of shape at root [] read ∙ passes_with shape at root (length root.older == 0 || nat_le 1 (length {A = Entry} [])) [] named; held = is; each = tt })
 
   module _ (bs : List ℕ) (is : Some bs ≡ older_of root.older) where
-    read_older : {e : Result (List Entry) Refusal} → epoch shape at (root.epoch - 1) bs ≡ e → epoch shape at (root.epoch - 1) root.older ≡ e
-    read_older read = sym (ap (epoch shape at (root.epoch - 1)) (older_is root.older bs is)) ∙ read
+    read_older : {e : Result (List Entry) Refusal} → epoch shape (root_spaces shape root) at (root.epoch - 1) bs ≡ e → epoch shape (root_spaces shape root) at (root.epoch - 1) root.older ≡ e
+    read_older read = sym (ap (epoch shape (root_spaces shape root) at (root.epoch - 1)) (older_is root.older bs is)) ∙ read
 
-    pub older_held : (used : ℕ) (into : Table) → Replayed shape (root.epoch - 1) bs flash used into → 1 ≤ length into.entries → OlderHeld shape flash root into
+    pub older_held : (used : ℕ) (into : Table) → Replayed shape (root_spaces shape root) (root.epoch - 1) bs flash used into → 1 ≤ length into.entries → OlderHeld shape flash root into
     older_held used into r some =
         let many = held_size shape into r.entries r.held in
         let one : 1 ≤ length r.entries = some_first r.entries (omega (arith, some, many)) in
@@ -122,7 +123,7 @@ module _ (shape : Shape) (flash : Flash) (root : Root) where
     first_page : slice_index bs 0 * shape.block_pages ≡ page_in shape root.older 0
     first_page = ap (λ (os : List ℕ). slice_index os 0 * shape.block_pages) (older_is root.older bs is) ∙ first_in shape root.older
 
-    pub older_without : (used : ℕ) (into : Table) → Replayed shape (root.epoch - 1) bs flash used into
+    pub older_without : (used : ℕ) (into : Table) → Replayed shape (root_spaces shape root) (root.epoch - 1) bs flash used into
         → length into.entries ≡ 0 → older_epoch shape at root ≡ Err (damaged (slice_index bs 0 * shape.block_pages))
     older_without used into r none =
         let many = held_size shape into r.entries r.held in
@@ -133,19 +134,19 @@ module _ (shape : Shape) (flash : Flash) (root : Root) where
         (both_false (length root.older == 0) (nat_le 1 (length r.entries)) (first_of_some root.older is) test)
         ∙ sym (ap refusal_at first_page)
 
-    pub older_refused : (page : ℕ) → epoch shape at (root.epoch - 1) bs ≡ Err (damaged page) → older_epoch shape at root ≡ Err (damaged page)
+    pub older_refused : (page : ℕ) → epoch shape (root_spaces shape root) at (root.epoch - 1) bs ≡ Err (damaged page) → older_epoch shape at root ≡ Err (damaged page)
     older_refused page read = refused_of shape at root (damaged page) (read_older read)
 
   pub newest_held : (bs : List ℕ) (used : ℕ) (into : Table) → length root.newest ≡ 2 → bs ≡ two_of root.newest
-      → Replayed shape root.epoch bs flash used into → EpochOnFlash (found_at_opening shape root.epoch bs used) flash
+      → Replayed shape (root_spaces shape root) root.epoch bs flash used into → EpochOnFlash (found_at_opening shape root.epoch bs used) flash
       → NewestHeld shape flash root into (found_at_opening shape root.epoch bs used)
   newest_held bs used into two is r fits =
       let same : bs ≡ root.newest = is ∙ two_is root.newest two in (
-        (r.entries, record { finds = sym (ap (epoch shape at root.epoch) same) ∙ r.read; held = r.held; each = r.each }),
+        (r.entries, record { finds = sym (ap (epoch shape (root_spaces shape root) at root.epoch) same) ∙ r.read; held = r.held; each = r.each }),
         (used, ap (λ (b : List ℕ). found_at_opening shape root.epoch b used) same, subst (λ (b : List ℕ). used < epoch_commits shape → HasCommit shape flash b used → ⊥) same r.ends),
         fits,
       )
 
   pub newest_refused : (bs : List ℕ) (page : ℕ) → length root.newest ≡ 2 → bs ≡ two_of root.newest
-      → epoch shape at root.epoch bs ≡ Err (damaged page) → epoch shape at root.epoch root.newest ≡ Err (damaged page)
-  newest_refused bs page two is read = sym (ap (epoch shape at root.epoch) (is ∙ two_is root.newest two)) ∙ read
+      → epoch shape (root_spaces shape root) at root.epoch bs ≡ Err (damaged page) → epoch shape (root_spaces shape root) at root.epoch root.newest ≡ Err (damaged page)
+  newest_refused bs page two is read = sym (ap (epoch shape (root_spaces shape root) at root.epoch) (is ∙ two_is root.newest two)) ∙ read

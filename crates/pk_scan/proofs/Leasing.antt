@@ -1,17 +1,20 @@
 -- Frames that are leased one after another.
-use Rattle.std.proofs.Common.{◌≡◌, ◌≢◌, ℕ, zero, suc, ◌+◌, Bool, true, false, not, cond, List, [], ◌∷◌, ◌++◌, length, replicate, refl, ap, sym, subst, ◌∙◌, arith, Option, Some, None, is_some}
+use Rattle.std.proofs.Common.{◌≡◌, ◌≢◌, ℕ, zero, suc, ◌+◌, ◌<◌, ◌≤◌, nat_le, Bool, true, false, not, cond, List, [], ◌∷◌, ◌++◌, length, replicate, refl, ap, sym, subst, ◌∙◌, arith, Option, Some, None}
+use Rattle.std.proofs.Common.{is_some}
 use Rattle.std.proofs.Common.{get_or-set_other, length-set, length-append}
 use Rattle.std.specs.Prelude.{slice_get}
 use Rattle.std.proofs.Math.ListN.{set}
+use Rattle.std.proofs.lemmas.Bool.Decides.{nat_tests}
 use Rattle.std.proofs.lemmas.List.{length-replicate}
 use Rattle.std.proofs.lemmas.List.Sums.{sum_by-set}
 use Rattle.std.proofs.lemmas.Option.{slice_get_within, get_or_from_slice_get}
-use Rattle.pk_base.specs.Shape.{Shape}
+use Rattle.pk_base.specs.Shape.{Shape, pinned}
 use Rattle.pk_pin.specs.Frames.{Frames, leased, filled, times, AreLeases, KeepsPage}
 use Rattle.pk_pin.proofs.Leases.{times-append, leases_none, leases_taken}
 use Rattle.pk_run.specs.Kept.{Kept}
 use Rattle.pk_level.specs.Levels.{Levels}
-use Rattle.pk_level.specs.Arenas.{HasArena, ArePinnedTo, leases_of}
+use Rattle.pk_level.specs.Arenas.{HasArena, AreBareAbove, IsPinnedIf, last_level, leases_of, page_counts}
+use Rattle.pk_adapt.proofs.Fitting.{adapted_least}
 use Rattle.pk_run.proofs.Standing.{RunOnFlash-elsewhere}
 use Rattle.pk_scan.specs.Runs.{LeasedMore, RunsStand, listed}
 use Rattle.pk_scan.specs.OpeningParts.{HaveFrames}
@@ -72,22 +75,34 @@ kept_wanted pins old new bytes (Some lease) keeps = sym keeps.0
 
 -- ---- the arena of an opening
 
--- the frames of each run are those that its level has
-pins_of : (pinned level : ℕ) (rs : List Kept) (counts : List ℕ) → HaveFrames pinned level rs counts → ArePinnedTo pinned level rs
-pins_of pinned level [] [] have = tt
-pins_of pinned level [] (count ∷ counts) have = absurd have
-pins_of pinned level (r ∷ rs) [] have = absurd have
-pins_of pinned level (r ∷ rs) (count ∷ counts) have =
-    (have.1, subst (λ (n : ℕ). ArePinnedTo pinned n rs) (let e : level + 1 ≡ suc level = omega arith in e) (pins_of pinned (level + 1) rs counts have.2))
+gt_false : (x y : ℕ) → y < x → nat_le x y ≡ false
+gt_false x y h = grind (arith, nat_tests)
+
+-- no run after the pinned levels has frames
+bare_of : (pinned last level : ℕ) (rs : List Kept) (counts : List ℕ) → pinned ≤ last → HaveFrames pinned level rs counts → AreBareAbove last level rs
+bare_of pinned last level [] [] low have = tt
+bare_of pinned last level [] (count ∷ counts) low have = absurd have
+bare_of pinned last level (r ∷ rs) [] low have = absurd have
+bare_of pinned last level (r ∷ rs) (count ∷ counts) low have = (
+  λ above. subst (λ (b : Bool). IsPinnedIf b r) (gt_false level pinned (omega (arith, above, low))) have.1,
+  subst (λ (n : ℕ). AreBareAbove last n rs) (let e : level + 1 ≡ suc level = omega arith in e) (bare_of pinned last (level + 1) rs counts low have.2),
+)
 
 -- frames of an arena that was free were leased for the runs, and no others
 pub arena_opened : (shape : Shape) (frames : ℕ) (free arena : Frames) (levels : Levels) (counts : List ℕ) → HaveFrames levels.pinned 1 levels.runs counts
+    → levels.shape ≡ shape → levels.pinned ≡ pinned shape frames
     → free.page_bytes ≡ shape.page_bytes → free.used ≡ replicate frames false → LeasedMore free arena (leases_of levels.runs) → HasArena shape frames levels arena []
-arena_opened shape frames free arena levels counts have page unused more = record {
-  page_bytes_is = more.page ∙ page;
-  size = more.size ∙ ap (λ (us : List Bool). length us) unused ∙ length-replicate frames false;
-  pins = pins_of levels.pinned 1 levels.runs counts have;
-  only_these = more.leases [] none;
+arena_opened shape frames free arena levels counts have same pins page unused more = record {
+  leases = record {
+    page_bytes_is = more.page ∙ page;
+    size = more.size ∙ ap (λ (us : List Bool). length us) unused ∙ length-replicate frames false;
+    pinned_is = pins;
+    only_these = more.leases [] none;
+  };
+  bare =
+      let here : levels.pinned ≡ pinned levels.shape frames = pins ∙ ap (λ (s : Shape). pinned s frames) (sym same) in
+      let least = adapted_least levels.shape frames (page_counts levels.runs) in
+      bare_of levels.pinned (last_level levels frames) 1 levels.runs counts (omega (arith, here, least)) have;
 }
   where
     none : AreLeases free []

@@ -26,3 +26,5 @@ pub mod Owned
 pub mod Owners
 pub mod Room
 pub mod Whole
+pub mod Using
+pub mod UseRoom

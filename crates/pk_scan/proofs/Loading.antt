@@ -1,5 +1,5 @@
 -- A run whose pages are read one after another.
-use Rattle.std.proofs.Common.{◌≡◌, ℕ, zero, suc, ◌+◌, ◌-◌, ◌*◌, ◌/◌, ◌^◌, ◌<◌, ◌≤◌, min, Bool, true, false, is_some, List, [], ◌∷◌, ◌++◌, length, take, refl, ap, sym, subst, ◌∙◌, arith, Option, Some}
+use Rattle.std.proofs.Common.{◌≡◌, ℕ, zero, suc, ◌+◌, ◌-◌, ◌*◌, ◌/◌, ◌^◌, ◌<◌, ◌≤◌, min, Bool, true, false, is_some, List, [], ◌∷◌, ◌++◌, length, take, refl, ap, sym, subst, ◌∙◌, arith, Option, Some, not, ◌||◌, ◌==◌}
 use Rattle.std.proofs.Common.{None, option_map, Err, append_assoc, append-nil, length-append, suc-mul, mul-le-mul_right, mul_comm, zero-mul, div-lt_iff_lt-mul}
 use Rattle.std.specs.Prelude.{slice_get, slice_index}
 use Rattle.std.specs.List.{AllByRecursion}
@@ -27,13 +27,15 @@ use Rattle.pk_run.proofs.Pieces.{share, meta_next}
 use Rattle.pk_scan.specs.declared.errors.PageError.{PageError}
 use Rattle.pk_scan.specs.declared.errors.PageError.TheVariants.{Damaged, Fault}
 use Rattle.pk_level.specs.Arenas.{IsPinnedIf}
-use Rattle.pk_scan.specs.Runs.{RunBlocksExist, HasRun, ComesTo, NotRead, LeasedMore, LoadsPages, AwaitsPages, AwaitsPage, IsLast, RunGoesOn, listed, PageAdded, PageTaken, PageRefused}
+use Rattle.pk_scan.specs.Runs.{RunBlocksExist, HasRun, ComesTo, NotRead, LeasedMore, LoadsPages, AwaitsPages, AwaitsPage, IsLast, RunGoesOn, listed, PageAdded, PageTaken, PageRefused, are_put}
 use Rattle.pk_scan.specs.Board.{StaysReady}
 use Rattle.pk_scan.proofs.Boards.{rest_reads, rest_not_read, stays_ready_behind}
 use Rattle.std.proofs.lemmas.Grind.{div_ceil_times}
 use Rattle.pk_scan.proofs.Leasing.{kept_more, leased_none, leased_more, runs_stand}
 use Rattle.pk_scan.proofs.Rereading.{meta_refused, last_of, pages_most, blocks_most, more_left, all_counted}
 use Rattle.pk_base.proofs.ShapeLemmas.{entries_some}
+use Rattle.pk_base.proofs.Logic.{left_part, right_part}
+use Rattle.pk_space.specs.Entries.{in_spaces}
 
 -- ---- one page
 
@@ -55,7 +57,7 @@ alike pins r flash before after None bytes pinned (unwanted, same) here = rw unw
 alike pins r flash before after (Some lease) bytes pinned (wanted, free, is_filled, leased, holds) here =
     (rw wanted at pinned, record { leased = leased; bytes = here ∙ ap (λ (b : List ℕ). whole b) (sym holds) })
 
-pub page_taken : (pins : Bool) (flash : Flash) (before after : Frames) (old new : Kept) (es : List Entry) (many : ℕ) (first last : Key) (lease : Option ℕ) (bytes : List ℕ)
+pub page_taken : (pins : Bool) (spaces : ℕ) (flash : Flash) (before after : Frames) (old new : Kept) (es : List Entry) (many : ℕ) (first last : Key) (lease : Option ℕ) (bytes : List ℕ)
     → 1 ≤ old.level → old.level ≤ 4 → length old.firsts < 2 ^ 32 → 1 ≤ many
     → page_at flash (page_of old (length old.firsts)) ≡ whole bytes
     → IsPinnedIf pins old → KeepsPage pins before after bytes lease
@@ -63,9 +65,9 @@ pub page_taken : (pins : Bool) (flash : Flash) (before after : Frames) (old new 
     → ((level index : ℕ) (es : List Entry) → IsMetaPage old.shape bytes level index es → option_map key_of (slice_get es (many - 1)) ≡ Some last)
     → ((flash : Flash) (arena : Frames) (es more : List Entry) → RunOnFlash old flash arena es
     → IsNext old flash arena es more first lease → length more ≡ many → RunOnFlash new flash arena (es ++ more))
-    → RunOnFlash old flash before es → (more : List Entry) × RunGoesOn old.shape old.level (length old.firsts) many es bytes more
-    → PageTaken flash after old new es many last
-page_taken pins flash before after old new es many first last lease bytes least most fits some here pinned keeps begins ends pushed stands (more, goes) =
+    → RunOnFlash old flash before es → (more : List Entry) × RunGoesOn old.shape spaces old.level (length old.firsts) many es bytes more
+    → PageTaken spaces flash after old new es many last
+page_taken pins spaces flash before after old new es many first last lease bytes least most fits some here pinned keeps begins ends pushed stands (more, goes) =
     let held = meta_held old.shape old.level (length old.firsts) many bytes more least most fits goes.holds in
     let holds : meta_entries old.shape old.level (length old.firsts) (length more) bytes ≡ Some more = subst
     (λ (n : ℕ). meta_entries old.shape old.level (length old.firsts) n bytes ≡ Some more) (sym held.1) goes.holds in
@@ -75,7 +77,7 @@ page_taken pins flash before after old new es many first last lease bytes least 
       holds = holds;
       begins = begins old.level (length old.firsts) more held.0;
       rising = goes.rising;
-      deepest = goes.deepest;
+      deepest = left_part (not (old.level == 4) || are_put more) (in_spaces spaces more) goes.stands;
       alike = alike pins old flash before after lease bytes pinned keeps here;
     } in
     record {
@@ -106,7 +108,7 @@ read_whole torn r old new is a f = let no_answer : ReadWhole ≡ ReadTorn = sym 
 
 -- ---- the pages of a run
 
-module _ (shape : Shape) (level count : ℕ) (blocks : List ℕ) (pins : Bool) (old : BoardState) (arena : Frames) where
+module _ (shape : Shape) (spaces level count : ℕ) (blocks : List ℕ) (pins : Bool) (old : BoardState) (arena : Frames) where
   abbrev size : ℕ
   size = page_entries shape
 
@@ -124,7 +126,7 @@ module _ (shape : Shape) (level count : ℕ) (blocks : List ℕ) (pins : Bool) (
     pub each : AllByRecursion (IsEntry shape) es
     pub pinned : IsPinnedIf pins r
     pub more : LeasedMore arena frames r.leases
-    pub comes : ComesTo shape level count blocks old.pages i es
+    pub comes : ComesTo shape spaces level count blocks old.pages i es
 
   none_pinned : (pins : Bool) (r : Kept) → r.firsts ≡ [] → r.leases ≡ [] → IsPinnedIf pins r
   none_pinned true r firsts leases = ap (λ (ls : List ℕ). length ls) leases ∙ ap (λ (ks : List Key). length ks) (sym firsts)
@@ -145,7 +147,7 @@ module _ (shape : Shape) (level count : ℕ) (blocks : List ℕ) (pins : Bool) (
     each = tt;
     pinned = none_pinned pins r firsts leases;
     more = rw leases (leased_none arena);
-    comes = let e : run_pages shape count ≡ run_pages shape count - 0 = omega arith in ap (λ k. meta shape level count 0 [] (pages_of_blocks shape (page_at old.pages) blocks 0 k)) e;
+    comes = let e : run_pages shape count ≡ run_pages shape count - 0 = omega arith in ap (λ k. meta shape spaces level count 0 [] (pages_of_blocks shape (page_at old.pages) blocks 0 k)) e;
   }
 
   module _ (now : BoardState) (frames : Frames) (r : Kept) (last : Option Key) (i : ℕ) (l : Loading now frames r last i) where
@@ -162,16 +164,16 @@ module _ (shape : Shape) (level count : ℕ) (blocks : List ℕ) (pins : Bool) (
     page_is : page_of r (length r.firsts) ≡ page_in shape blocks i
     page_is = rw (l.shape_is, l.blocks_are, l.pages) refl
 
-    goes_is : (many : ℕ) (bytes : List ℕ) (more : List Entry) → RunGoesOn r.shape r.level (length r.firsts) many l.es bytes more ≡ RunGoesOn shape level i many l.es bytes more
+    goes_is : (many : ℕ) (bytes : List ℕ) (more : List Entry) → RunGoesOn r.shape spaces r.level (length r.firsts) many l.es bytes more ≡ RunGoesOn shape spaces level i many l.es bytes more
     goes_is many bytes more = rw (l.shape_is, l.level_is, l.pages) refl
 
     -- what remains: this page and the others
-    left_here : i < run_pages shape count → run shape (page_at old.pages) level count blocks
-        ≡ meta shape level count i l.es
+    left_here : i < run_pages shape count → run shape spaces (page_at old.pages) level count blocks
+        ≡ meta shape spaces level count i l.es
         ((page_in shape blocks i, page_at old.pages (page_in shape blocks i)) ∷ pages_of_blocks shape (page_at old.pages) blocks (i + 1) (run_pages shape count - (i + 1)))
     left_here inside =
         let step : run_pages shape count - i ≡ suc (run_pages shape count - (i + 1)) = omega (arith, inside) in
-        l.comes ∙ ap (λ k. meta shape level count i l.es (pages_of_blocks shape (page_at old.pages) blocks i k)) step
+        l.comes ∙ ap (λ k. meta shape spaces level count i l.es (pages_of_blocks shape (page_at old.pages) blocks i k)) step
 
     full_so_far : 0 < size → i < run_pages shape count → r.count ≡ i * size
     full_so_far some inside = let less = more_left count size i some inside in omega (arith, l.counted, less)
@@ -239,11 +241,11 @@ module _ (shape : Shape) (level count : ℕ) (blocks : List ℕ) (pins : Bool) (
     pinned_more false first (Some lease) many pinned wanted = let no : true ≡ false = wanted in cc
 
     pub Loading-next : (new : BoardState) (frames' : Frames) (r' : Kept) (key : Key) (many : ℕ) → 1 ≤ level → level ≤ 4 → i < 2 ^ 32 → 0 < size → i < run_pages shape count → many ≡ share shape count i
-        → new ≡ after_read now → PageAdded pins frames frames' r r' many → PageTaken now.pages frames' r r' l.es many key → Loading new frames' r' (Some key) (i + 1)
+        → new ≡ after_read now → PageAdded pins frames frames' r r' many → PageTaken spaces now.pages frames' r r' l.es many key → Loading new frames' r' (Some key) (i + 1)
     Loading-next new frames' r' key many least most fits some inside share_is read added taken_now =
-        let taken = subst (λ (f : Flash). PageTaken f frames' r r' l.es many key) pages_stay taken_now in
+        let taken = subst (λ (f : Flash). PageTaken spaces f frames' r r' l.es many key) pages_stay taken_now in
         let one : suc i ≡ i + 1 = omega arith in
-        let goes : RunGoesOn shape level i many l.es taken.bytes taken.more = subst (λ (X : Type 0). X) (goes_is many taken.bytes taken.more) taken.goes_on in
+        let goes : RunGoesOn shape spaces level i many l.es taken.bytes taken.more = subst (λ (X : Type 0). X) (goes_is many taken.bytes taken.more) taken.goes_on in
         let holds : meta_entries shape level i (share shape count i) taken.bytes ≡ Some taken.more = subst
         (λ (n : ℕ). meta_entries shape level i n taken.bytes ≡ Some taken.more) share_is goes.holds in
         let here : page_at old.pages (page_in shape blocks i) ≡ whole taken.bytes = subst (λ (p : ℕ). page_at old.pages p ≡ whole taken.bytes) page_is taken.here in
@@ -265,26 +267,27 @@ module _ (shape : Shape) (level count : ℕ) (blocks : List ℕ) (pins : Bool) (
           more = subst (LeasedMore arena frames') (with_listed r.leases added.lease ∙ ap (λ (k : Kept). k.leases) (sym added.run))
               (leased_more arena frames frames' r.leases (listed added.lease) l.more added.more);
           comes = left_here inside
-              ∙ meta_next shape level count i l.es taken.more (page_in shape blocks i) (page_at old.pages (page_in shape blocks i)) taken.bytes
-              (pages_of_blocks shape (page_at old.pages) blocks (i + 1) (run_pages shape count - (i + 1))) here holds goes.rising goes.deepest;
+              ∙ meta_next shape spaces level count i l.es taken.more (page_in shape blocks i) (page_at old.pages (page_in shape blocks i)) taken.bytes
+              (pages_of_blocks shape (page_at old.pages) blocks (i + 1) (run_pages shape count - (i + 1))) here holds goes.rising
+              (left_part (not (level == 4) || are_put taken.more) (in_spaces spaces taken.more) goes.stands) (right_part (not (level == 4) || are_put taken.more) (in_spaces spaces taken.more) goes.stands);
         }
 
     -- ---- or it does not
 
     pub Loading-refused : (new : BoardState) (many : ℕ) (e : PageError) → i < run_pages shape count
-        → many ≡ share shape count i → PageRefused now new r l.es many e → NotRead shape level count blocks old new e
+        → many ≡ share shape count i → PageRefused spaces now new r l.es many e → NotRead shape spaces level count blocks old new e
     Loading-refused new many (Damaged page) inside share_is refused =
         let one : suc i ≡ i + 1 = omega arith in
-        let none : (bytes : List ℕ) (more : List Entry) → page_at old.pages (page_in shape blocks i) ≡ whole bytes → RunGoesOn shape level i (share shape count i) l.es bytes more → ⊥ =
+        let none : (bytes : List ℕ) (more : List Entry) → page_at old.pages (page_in shape blocks i) ≡ whole bytes → RunGoesOn shape spaces level i (share shape count i) l.es bytes more → ⊥ =
         λ bytes more here goes.
         refused.2 bytes more (ap (λ (f : Flash). page_at f (page_of r (length r.firsts))) pages_stay ∙ ap (page_at old.pages) page_is ∙ here)
-        (subst (λ (X : Type 0). X) (sym (goes_is many bytes more)) (subst (λ (n : ℕ). RunGoesOn shape level i n l.es bytes more) (sym share_is) goes)) in
+        (subst (λ (X : Type 0). X) (sym (goes_is many bytes more)) (subst (λ (n : ℕ). RunGoesOn shape spaces level i n l.es bytes more) (sym share_is) goes)) in
         record {
           index = i;
           within = inside;
           page_is = refused.0 ∙ page_is;
           read = left_here inside
-              ∙ meta_refused shape level count i l.es (page_in shape blocks i) (page_at old.pages (page_in shape blocks i))
+              ∙ meta_refused shape spaces level count i l.es (page_in shape blocks i) (page_at old.pages (page_in shape blocks i))
               (pages_of_blocks shape (page_at old.pages) blocks (i + 1) (run_pages shape count - (i + 1))) none
               ∙ ap (λ p. Err (damaged p)) (sym (refused.0 ∙ page_is));
           board = refused.1 ∙ ap after_read l.board ∙ ap (λ k. after_reads k old) one;
@@ -298,10 +301,10 @@ module _ (shape : Shape) (level count : ℕ) (blocks : List ℕ) (pins : Bool) (
     pub all_entries : 0 < size → i ≡ run_pages shape count → r.count ≡ count
     all_entries some all = l.counted ∙ ap (λ (k : ℕ). min count (k * size)) all ∙ all_counted count size some
 
-    pub Loading-end : 0 < size → i ≡ run_pages shape count → HasRun shape level count blocks old.pages frames r
+    pub Loading-end : 0 < size → i ≡ run_pages shape count → HasRun shape spaces level count blocks old.pages frames r
     Loading-end some all = record {
       entries = l.es;
-      read = let none : run_pages shape count - i ≡ 0 = omega (arith, all) in l.comes ∙ ap (λ k. meta shape level count i l.es (pages_of_blocks shape (page_at old.pages) blocks i k)) none;
+      read = let none : run_pages shape count - i ≡ 0 = omega (arith, all) in l.comes ∙ ap (λ k. meta shape spaces level count i l.es (pages_of_blocks shape (page_at old.pages) blocks i k)) none;
       each = l.each;
       counted = all_entries some all;
       stands = l.stands;
@@ -311,15 +314,15 @@ module _ (shape : Shape) (level count : ℕ) (blocks : List ℕ) (pins : Bool) (
   pub stays_behind : (made : ℕ) (new : BoardState) → new ≡ after_reads made old → IsReady old shape → StaysReady shape old new
   stays_behind made new is ready = stays_ready_behind shape old new (rest_reads old new (made, is)) ready
 
-  pub stays_not_read : (new : BoardState) (e : PageError) → NotRead shape level count blocks old new e → IsReady old shape → StaysReady shape old new
-  stays_not_read new e not_read ready = stays_ready_behind shape old new (rest_not_read shape level count blocks old new e not_read) ready
+  pub stays_not_read : (new : BoardState) (e : PageError) → NotRead shape spaces level count blocks old new e → IsReady old shape → StaysReady shape old new
+  stays_not_read new e not_read ready = stays_ready_behind shape old new (rest_not_read shape spaces level count blocks old new e not_read) ready
 
   -- the pages are unchanged
-  pub not_read_pages : (new : BoardState) (e : PageError) → NotRead shape level count blocks old new e → (new.pages ≡ old.pages) × (new.shape ≡ old.shape)
+  pub not_read_pages : (new : BoardState) (e : PageError) → NotRead shape spaces level count blocks old new e → (new.pages ≡ old.pages) × (new.shape ≡ old.shape)
   not_read_pages new (Damaged page) refused = (ap (λ (b : BoardState). b.pages) refused.board, ap (λ (b : BoardState). b.shape) refused.board)
   not_read_pages new Fault refused = (ap (λ (b : BoardState). b.pages) refused.failed.rest, ap (λ (b : BoardState). b.shape) refused.failed.rest)
 
-  pub not_read_ready : (new : BoardState) (e : PageError) → NotRead shape level count blocks old new e → IsReady old shape → IsReady new shape
+  pub not_read_ready : (new : BoardState) (e : PageError) → NotRead shape spaces level count blocks old new e → IsReady old shape → IsReady new shape
   not_read_ready new e not_read ready =
       let same = not_read_pages new e not_read in
       record { shape_is = same.1 ∙ ready.shape_is; flash = rw same.0 ready.flash }

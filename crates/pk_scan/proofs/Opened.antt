@@ -11,6 +11,7 @@ use Rattle.pk_buf.specs.Table.{Table}
 use Rattle.pk_jrn.specs.Epochs.{JournalEpoch}
 use Rattle.pk_pin.specs.Frames.{Frames}
 use Rattle.pk_level.specs.Levels.{Levels}
+use Rattle.pk_model.specs.RootLimits.{root_spaces}
 use Rattle.pk_model.specs.Found.{Found, found_under, newest_epoch, older_epoch, runs_from}
 use Rattle.pk_model.specs.Reading.{reading, reading_of}
 use Rattle.pk_scan.specs.Opening.{OnlyReads}
@@ -56,11 +57,11 @@ module _ (shape : Shape) (at : ℕ → Page) (root : Root) where
   newest_second es older e newest = rw (older, newest) refl
 
   pub runs_third : (es fs : List Entry) → older_epoch shape at root ≡ Ok es → newest_epoch shape at root ≡ Ok fs
-      → (e : Refusal) → runs_from shape at 1 root.counts root.runs ≡ Err e → found_under shape at root ≡ Err e
+      → (e : Refusal) → runs_from shape (root_spaces shape root) at 1 root.counts root.runs ≡ Err e → found_under shape at root ≡ Err e
   unfolding found_under
   runs_third es fs older newest e runs = rw (older, newest, runs) refl
 
-  pub all_found : (es fs : List Entry) (ess : List (List Entry)) → older_epoch shape at root ≡ Ok es → newest_epoch shape at root ≡ Ok fs → runs_from shape at 1 root.counts root.runs ≡ Ok ess
+  pub all_found : (es fs : List Entry) (ess : List (List Entry)) → older_epoch shape at root ≡ Ok es → newest_epoch shape at root ≡ Ok fs → runs_from shape (root_spaces shape root) at 1 root.counts root.runs ≡ Ok ess
       → found_under shape at root ≡ Ok (record { newest = fs; older = es; runs = ess })
   unfolding found_under
   all_found es fs ess older newest runs = rw (older, newest, runs) refl
@@ -103,11 +104,11 @@ module _ (shape : Shape) (root : Root) (old : BoardState) where
 
   module _ (frozen active : Table) (epoch : JournalEpoch) (older : OlderHeld shape old.pages root frozen)
       (newest : NewestHeld shape old.pages root active epoch) (now : BoardState) (reads : OnlyReads old now) (same : now.pages ≡ old.pages) where
-    pub runs_refuse : (new : BoardState) (e : OpenError) → PartNotOpened (runs_from shape (page_at now.pages) 1 root.counts root.runs) now new e → PartNotOpened all old new e
+    pub runs_refuse : (new : BoardState) (e : OpenError) → PartNotOpened (runs_from shape (root_spaces shape root) (page_at now.pages) 1 root.counts root.runs) now new e → PartNotOpened all old new e
     runs_refuse new e why =
-        let part = runs_from shape (page_at old.pages) 1 root.counts root.runs in
+        let part = runs_from shape (root_spaces shape root) (page_at old.pages) 1 root.counts root.runs in
         whole_refuses part all old new e (runs_third shape (page_at old.pages) root older.0 newest.0.0 older.1.finds newest.0.1.finds)
-        (behind_reads part old now new e reads same (subst (λ (f : Flash). PartNotOpened (runs_from shape (page_at f) 1 root.counts root.runs) now new e) same why))
+        (behind_reads part old now new e reads same (subst (λ (f : Flash). PartNotOpened (runs_from shape (root_spaces shape root) (page_at f) 1 root.counts root.runs) now new e) same why))
 
     pub all_held : (arena : Frames) (levels : Levels) → ((ess : List (List Entry)) × HoldsRuns shape now.pages root arena levels ess)
         → (found : Found) × HoldsFound shape old.pages root active frozen epoch arena levels found

@@ -1,5 +1,5 @@
 -- The blocks that have an owner, and what depends on which these are alone.
-use Rattle.std.proofs.Common.{◌≡◌, inl, inr, ℕ, zero, suc, ◌+◌, ◌-◌, ◌/◌, ◌<◌, ◌≤◌, Bool, true, false, not, ◌&&◌, ◌||◌, ◌==◌, List, [], ◌∷◌, ◌++◌, length, refl, sym, ap, subst, ◌∙◌, arith, Option}
+use Rattle.std.proofs.Common.{◌≡◌, inl, inr, ℕ, zero, suc, ◌+◌, ◌-◌, ◌/◌, ◌<◌, ◌≤◌, Bool, true, false, not, ◌&&◌, ◌||◌, ◌==◌, List, [], ◌∷◌, ◌++◌, length, refl, sym, ap, subst, ◌∙◌, arith, Option, slice_index}
 use Rattle.std.proofs.Common.{Some, None, Ok, option_map, eq-or-lt_of_le}
 use Rattle.std.specs.Prelude.{slice_get, nat_le}
 use Rattle.std.specs.List.{list_any, list_all, concat, range_with_len, AllByRecursion}
@@ -7,7 +7,7 @@ use Rattle.std.proofs.lemmas.Bool.{false≢true, or_left, or_right, or_cases, eq
 use Rattle.std.proofs.lemmas.List.Folds.{list_any-append}
 use Rattle.std.proofs.lemmas.Map.Views.{any-filter_same}
 use Rattle.std.proofs.lemmas.Option.{slice_get_within}
-use Rattle.pk_base.specs.Key.{Key}
+use Rattle.pk_base.specs.Key.{Key, space_of}
 use Rattle.pk_base.specs.Shape.{Shape, IsShape, limit, data_blocks}
 use Rattle.pk_base.specs.Entry.{Place}
 use Rattle.pk_base.specs.Page.{Page}
@@ -22,9 +22,10 @@ use Rattle.pk_rootfmt.specs.Root.{Root, named, is_root, differ}
 use Rattle.pk_segfmt.specs.Value.{value_pages, value_at}
 use Rattle.pk_live.specs.Values.{Values}
 use Rattle.pk_live.specs.Lives.{Lives}
-use Rattle.pk_model.specs.Values.{fits, all_pages, blocks_with, values_of}
+use Rattle.pk_model.specs.Values.{fits, all_pages, blocks_with, values_of, pages_of_space}
 use Rattle.pk_scan.specs.Adopts.{is_among, has_owner, owned_blocks, owned_if, NamesOwned}
 use Rattle.pk_scan.proofs.Naming.{names_spare, unused_none}
+use Rattle.pk_model.specs.Spaces.{limit_of}
 
 -- ---- one block
 
@@ -62,12 +63,12 @@ module _ (shape : Shape) (xs ys : List ℕ) (same : (b : ℕ) → list_any (λ c
   fits_same : (pages : List ℕ) → fits shape xs pages ≡ fits shape ys pages
   fits_same pages = λ i. outside_same pages i && differ pages && nat_le (length pages) (limit shape) && nat_le (length (blocks_with shape pages)) (data_blocks shape - 1)
 
-  pub values_same : (at : ℕ → Page) (taken : List ℕ) (es : List (Key × Place)) → values_of shape at xs taken es ≡ values_of shape at ys taken es
+  pub values_same : (at : ℕ → Page) (limits : List ℕ) (taken es : List (Key × Place)) → values_of shape at limits xs taken es ≡ values_of shape at limits ys taken es
   unfolding values_of
-  values_same at taken [] = refl
-  values_same at taken (e ∷ es) =
-      λ i. ensure (fits_same (taken ++ value_pages shape e.1) i) e.1.page >>=
-      (λ u. value_at shape at e.0 e.1 >>= (λ value. values_same at (taken ++ value_pages shape e.1) es i >>= (λ others. Ok ((e.0, value) ∷ others))))
+  values_same at limits taken [] = refl
+  values_same at limits taken (e ∷ es) =
+      λ i. ensure (fits_same (all_pages shape taken ++ value_pages shape e.1) i && nat_le (pages_of_space shape (space_of e.0) (taken ++ e ∷ [])) (limit_of limits (space_of e.0))) e.1.page >>=
+      (λ u. value_at shape at e.0 e.1 >>= (λ value. values_same at limits (taken ++ e ∷ []) es i >>= (λ others. Ok ((e.0, value) ∷ others))))
 
   pub Lives-same : (live : Values) (taken : List (Key × Place)) → Lives shape xs live taken → Lives shape ys live taken
   Lives-same live taken lives = record {

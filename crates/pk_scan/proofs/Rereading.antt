@@ -1,5 +1,5 @@
 -- The reading of a run, page by page: it goes on after a page whose entries follow those before, and refuses with any other.
-use Rattle.std.proofs.Common.{◌≡◌, ℕ, zero, suc, ◌*◌, ◌<◌, ◌≤◌, min, Bool, true, false, not, ◌||◌, ◌==◌, List, [], ◌∷◌, ◌++◌, length, refl, ap, sym, ◌∙◌, arith, Option, Some, None, option_map, Err}
+use Rattle.std.proofs.Common.{◌≡◌, ℕ, zero, suc, ◌*◌, ◌<◌, ◌≤◌, min, Bool, true, false, not, ◌||◌, ◌==◌, List, [], ◌∷◌, ◌++◌, length, refl, ap, sym, ◌∙◌, arith, Option, Some, None, option_map, Err, is_some}
 use Rattle.std.proofs.Common.{append_assoc, suc-mul, mul-le-mul_right, lt_of_mul-lt-mul_right}
 use Rattle.std.specs.Prelude.{slice_get}
 use Rattle.std.specs.Int.{div_ceil}
@@ -11,29 +11,30 @@ use Rattle.pk_base.specs.Entry.{Entry, key_of}
 use Rattle.pk_base.specs.Page.{Page, erased, whole, torn, NumberedPages}
 use Rattle.pk_base.specs.Refusal.{damaged}
 use Rattle.pk_meta.specs.Page.{meta_entries}
-use Rattle.pk_meta.specs.Run.{meta}
+use Rattle.pk_meta.specs.Run.{meta, may_hold}
 use Rattle.pk_run.proofs.Pieces.{share}
 use Rattle.pk_scan.specs.Runs.{IsLast, are_put, RunGoesOn}
 use Rattle.pk_base.proofs.Logic.{of_true}
+use Rattle.std.specs.List.{list_all}
 
 -- no entries of the page follow those before: it refuses
-pub meta_refused : (shape : Shape) (level count index : ℕ) (before : List Entry) (p : ℕ) (page : Page) (pages : NumberedPages)
-    → ((bytes : List ℕ) (more : List Entry) → page ≡ whole bytes → RunGoesOn shape level index (share shape count index) before bytes more → ⊥)
-    → meta shape level count index before ((p, page) ∷ pages) ≡ Err (damaged p)
-meta_refused shape level count index before p erased pages none = refl
-meta_refused shape level count index before p torn pages none = refl
-meta_refused shape level count index before p (whole bytes) pages none = by_entries (meta_entries shape level index (share shape count index) bytes) refl
+pub meta_refused : (shape : Shape) (spaces level count index : ℕ) (before : List Entry) (p : ℕ) (page : Page) (pages : NumberedPages)
+    → ((bytes : List ℕ) (more : List Entry) → page ≡ whole bytes → RunGoesOn shape spaces level index (share shape count index) before bytes more → ⊥)
+    → meta shape spaces level count index before ((p, page) ∷ pages) ≡ Err (damaged p)
+meta_refused shape spaces level count index before p erased pages none = refl
+meta_refused shape spaces level count index before p torn pages none = refl
+meta_refused shape spaces level count index before p (whole bytes) pages none = by_entries (meta_entries shape level index (share shape count index) bytes) refl
   where
     by_tests : (more : List Entry) → meta_entries shape level index (share shape count index) bytes ≡ Some more
-        → (a : Bool) → is_sorted key_cmp (before ++ more) ≡ a → (b : Bool) → (not (level == 4) || are_put more) ≡ b
-        → meta shape level count index before ((p, whole bytes) ∷ pages) ≡ Err (damaged p)
-    by_tests more holds true rising true deep = absurd (none bytes more refl (record { holds = holds; rising = of_true _ rising; deepest = of_true _ deep }))
+        → (a : Bool) → is_sorted key_cmp (before ++ more) ≡ a → (b : Bool) → may_hold spaces level more ≡ b
+        → meta shape spaces level count index before ((p, whole bytes) ∷ pages) ≡ Err (damaged p)
+    by_tests more holds true rising true deep = absurd (none bytes more refl (record { holds = holds; rising = of_true _ rising; stands = of_true _ deep }))
     by_tests more holds true rising false deep = rw (holds, rising, deep) refl
     by_tests more holds false rising b deep = rw (holds, rising) refl
 
-    by_entries : (o : Option (List Entry)) → meta_entries shape level index (share shape count index) bytes ≡ o → meta shape level count index before ((p, whole bytes) ∷ pages) ≡ Err (damaged p)
+    by_entries : (o : Option (List Entry)) → meta_entries shape level index (share shape count index) bytes ≡ o → meta shape spaces level count index before ((p, whole bytes) ∷ pages) ≡ Err (damaged p)
     by_entries None holds = rw holds refl
-    by_entries (Some more) holds = by_tests more holds (is_sorted key_cmp (before ++ more)) refl (not (level == 4) || are_put more) refl
+    by_entries (Some more) holds = by_tests more holds (is_sorted key_cmp (before ++ more)) refl (may_hold spaces level more) refl
 
 -- ---- the last entry
 

@@ -16,32 +16,35 @@ use Rattle.pk_meta.proofs.Reading.{meta_held, sorted_true}
 use Rattle.pk_scan.specs.Runs.{IsLast, is_behind, are_put, GoesOnOr}
 use Rattle.pk_scan.proofs.Rises.{rises_behind, lies_behind}
 use Rattle.pk_base.proofs.Logic.{of_true}
+use Rattle.std.specs.List.{list_all}
+use Rattle.pk_meta.specs.Run.{may_hold}
 
--- ---- none was deleted
+-- ---- each entry passes a test
 
-pub put_next : (es : List Entry) (i : ℕ) (e : Entry) → slice_get es i ≡ Some e → is_some e.1 ≡ true → are_put (take i es) ≡ true → are_put (take (i + 1) es) ≡ true
-put_next es i e got put before = let k : i + 1 ≡ suc i = omega arith in rw k (at_suc es i got before)
-  where
-    at_suc : (es : List Entry) (i : ℕ) → slice_get es i ≡ Some e → are_put (take i es) ≡ true → are_put (take (suc i) es) ≡ true
-    at_suc [] i got before = cc
-    at_suc (x ∷ es) zero got before = let same : e ≡ x = cc in rw (subst (λ (y : Entry). is_some y.1 ≡ true) same put) refl
-    at_suc (x ∷ es) (suc i) got before = rest (is_some x.1) (are_put (take i es)) (are_put (take (suc i) es)) (at_suc es i got) before
-      where
-        rest : (a b c : Bool) → (b ≡ true → c ≡ true) → (a && b) ≡ true → (a && c) ≡ true
-        rest true b c on e = on e
-        rest false b c on e = e
+module _ (p : Entry → Bool) where
+  pub all_next : (es : List Entry) (i : ℕ) (e : Entry) → slice_get es i ≡ Some e → p e ≡ true → list_all p (take i es) ≡ true → list_all p (take (i + 1) es) ≡ true
+  all_next es i e got passes before = let k : i + 1 ≡ suc i = omega arith in rw k (at_suc es i got before)
+    where
+      at_suc : (es : List Entry) (i : ℕ) → slice_get es i ≡ Some e → list_all p (take i es) ≡ true → list_all p (take (suc i) es) ≡ true
+      at_suc [] i got before = cc
+      at_suc (x ∷ es) zero got before = let same : e ≡ x = cc in rw (subst (λ (y : Entry). p y ≡ true) same passes) refl
+      at_suc (x ∷ es) (suc i) got before = rest (p x) (list_all p (take i es)) (list_all p (take (suc i) es)) (at_suc es i got) before
+        where
+          rest : (a b c : Bool) → (b ≡ true → c ≡ true) → (a && b) ≡ true → (a && c) ≡ true
+          rest true b c on e = on e
+          rest false b c on e = e
 
-pub put_all : (es : List Entry) (i : ℕ) → length es ≤ i → are_put (take i es) ≡ true → true ≡ are_put es
-put_all es i all put = sym put ∙ ap are_put (take_all i es all)
+  pub all_end : (es : List Entry) (i : ℕ) → length es ≤ i → list_all p (take i es) ≡ true → true ≡ list_all p es
+  all_end es i all passes = sym passes ∙ ap (list_all p) (take_all i es all)
 
-pub put_not : (es : List Entry) (i : ℕ) (e : Entry) → slice_get es i ≡ Some e → is_some e.1 ≡ false → false ≡ are_put es
-put_not [] i e got gone = cc
-put_not (x ∷ es) zero e got gone = let same : e ≡ x = cc in sym (ap (λ b. b && are_put es) (subst (λ (y : Entry). is_some y.1 ≡ false) same gone))
-put_not (x ∷ es) (suc i) e got gone = none (is_some x.1) (are_put es) (put_not es i e got gone)
-  where
-    none : (a b : Bool) → false ≡ b → false ≡ (a && b)
-    none true b e = e
-    none false b e = refl
+  pub all_not : (es : List Entry) (i : ℕ) (e : Entry) → slice_get es i ≡ Some e → p e ≡ false → false ≡ list_all p es
+  all_not [] i e got fails = cc
+  all_not (x ∷ es) zero e got fails = let same : e ≡ x = cc in sym (ap (λ b. b && list_all p es) (subst (λ (y : Entry). p y ≡ false) same fails))
+  all_not (x ∷ es) (suc i) e got fails = none (p x) (list_all p es) (all_not es i e got fails)
+    where
+      none : (a b : Bool) → false ≡ b → false ≡ (a && b)
+      none true b e = e
+      none false b e = refl
 
 -- ---- what was found in a page
 
@@ -50,44 +53,44 @@ abbrev pub ReadSo : Shape → List ℕ → Result MetaHead BadMeta → Type 0
 ReadSo shape page r = (level index count : ℕ) (es : List Entry) → 1 ≤ level → level ≤ 4 → index < 2 ^ 32
     → meta_entries shape level index count page ≡ Some es → r ≡ Ok (record { level = level; index = index; count = count })
 
-pub another_page : (shape : Shape) (level index count : ℕ) (page : List ℕ) (r : Result MetaHead BadMeta) (head : MetaHead) → 1 ≤ level → level ≤ 4 → index < 2 ^ 32
+pub another_page : (shape : Shape) (spaces level index count : ℕ) (page : List ℕ) (r : Result MetaHead BadMeta) (head : MetaHead) → 1 ≤ level → level ≤ 4 → index < 2 ^ 32
     → ReadSo shape page r → r ≡ Ok head → (head ≡ record { level = level; index = index; count = count } → ⊥)
-    → (before : List Entry) → GoesOnOr shape level index count before page false
-another_page shape level index count page r head least most fits read is other before more goes =
+    → (before : List Entry) → GoesOnOr shape spaces level index count before page false
+another_page shape spaces level index count page r head least most fits read is other before more goes =
     other (head_same _ _ (sym is ∙ read level index count more least most fits goes.holds))
   where
     head_same : (x y : MetaHead) → ◌≡◌ {A = Result MetaHead BadMeta} (Ok x) (Ok y) → x ≡ y
     head_same x y e = cc
 
-pub no_page : (shape : Shape) (level index count : ℕ) (page : List ℕ) (r : Result MetaHead BadMeta) (bad : BadMeta) → 1 ≤ level → level ≤ 4 → index < 2 ^ 32
-    → ReadSo shape page r → r ≡ Err bad → (before : List Entry) → GoesOnOr shape level index count before page false
-no_page shape level index count page r bad least most fits read is before more goes = clash (sym is ∙ read level index count more least most fits goes.holds)
+pub no_page : (shape : Shape) (spaces level index count : ℕ) (page : List ℕ) (r : Result MetaHead BadMeta) (bad : BadMeta) → 1 ≤ level → level ≤ 4 → index < 2 ^ 32
+    → ReadSo shape page r → r ≡ Err bad → (before : List Entry) → GoesOnOr shape spaces level index count before page false
+no_page shape spaces level index count page r bad least most fits read is before more goes = clash (sym is ∙ read level index count more least most fits goes.holds)
   where
     clash : {h : MetaHead} → ◌≡◌ {A = Result MetaHead BadMeta} (Err bad) (Ok h) → ⊥
     clash e = cc
 
-module _ (shape : Shape) (level index count : ℕ) (page : List ℕ) (es : List Entry) (holds : meta_entries shape level index count page ≡ Some es) where
+module _ (shape : Shape) (spaces level index count : ℕ) (page : List ℕ) (es : List Entry) (holds : meta_entries shape level index count page ≡ Some es) where
   same_entries : (more : List Entry) → meta_entries shape level index count page ≡ Some more → more ≡ es
   same_entries more is = let both : Some more ≡ Some es = sym is ∙ holds in some_same more es both
     where
       some_same : (xs ys : List Entry) → Some xs ≡ Some ys → xs ≡ ys
       some_same xs ys e = cc
 
-  pub has_gone : (before : List Entry) → (not (level == 4) || are_put es) ≡ false → GoesOnOr shape level index count before page false
+  pub has_gone : (before : List Entry) → may_hold spaces level es ≡ false → GoesOnOr shape spaces level index count before page false
   has_gone before gone more goes =
       let same = same_entries more goes.holds in
-      subst T gone (subst (λ (xs : List Entry). T (not (level == 4) || are_put xs)) same goes.deepest)
+      subst T gone (subst (λ (xs : List Entry). T (may_hold spaces level xs)) same goes.stands)
 
   pub told : (before : List Entry) (last : Option Key) (first : Key) → T (is_sorted key_cmp es) → option_map key_of (slice_get es 0) ≡ Some first
-      → T (not (level == 4) || are_put es) → T (is_sorted key_cmp before) → IsLast last before → (b : Bool) → b ≡ is_behind last first → GoesOnOr shape level index count before page b
+      → T (may_hold spaces level es) → T (is_sorted key_cmp before) → IsLast last before → (b : Bool) → b ≡ is_behind last first → GoesOnOr shape spaces level index count before page b
   told before last first up begins deep up' ends b is = by_first es refl
     where
-      goes : T (is_sorted key_cmp (before ++ es)) → GoesOnOr shape level index count before page true
-      goes rising = (es, record { holds = holds; rising = rising; deepest = deep })
+      goes : T (is_sorted key_cmp (before ++ es)) → GoesOnOr shape spaces level index count before page true
+      goes rising = (es, record { holds = holds; rising = rising; stands = deep })
 
       -- after none, or after the last one
       with_last : (next : Entry) (rest : List Entry) → es ≡ next ∷ rest → key_of next ≡ first → (last : Option Key)
-          → IsLast last before → (b : Bool) → b ≡ is_behind last first → GoesOnOr shape level index count before page b
+          → IsLast last before → (b : Bool) → b ≡ is_behind last first → GoesOnOr shape spaces level index count before page b
       with_last next rest e key None none true is = goes (subst (λ (xs : List Entry). T (is_sorted key_cmp (xs ++ es))) (sym none) up)
       with_last next rest e key None none false is = let clash : false ≡ true = is in cc
       with_last next rest e key (Some k) (front, l, whole, key_is) true is =
@@ -103,7 +106,7 @@ module _ (shape : Shape) (level index count : ℕ) (page : List ℕ) (es : List 
           (subst (λ (x : Key). T (is_lt (key_cmp x (key_of next)))) key_is (lies_behind front l next rest rises)) in
           subst T (sym is) less
 
-      by_first : (xs : List Entry) → es ≡ xs → GoesOnOr shape level index count before page b
+      by_first : (xs : List Entry) → es ≡ xs → GoesOnOr shape spaces level index count before page b
       by_first [] e = let none : None ≡ Some first = sym (ap (λ (ys : List Entry). option_map key_of (slice_get ys 0)) e) ∙ begins in cc
       by_first (next ∷ rest) e =
           let here : Some (key_of next) ≡ Some first = sym (ap (λ (ys : List Entry). option_map key_of (slice_get ys 0)) e) ∙ begins in
@@ -125,15 +128,15 @@ found shape level index count page head least most fits is (es, reads, many) =
     let held = meta_held shape level index count page es least most fits holds in
     record { es = es; holds = holds; is_page = held.0; many = held.1; rising = of_true _ (sorted_true es held.0.content.rising) }
 
-pub found_gone : {shape : Shape} {level index count : ℕ} {page : List ℕ} (f : Found shape level index count page) (b : Bool) → b ≡ false
-    → ((index : ℕ) (es : List Entry) → IsMetaPage shape page level index es → length es ≡ count → b ≡ (not (level == 4) || are_put es))
-    → (before : List Entry) → GoesOnOr shape level index count before page false
-found_gone {shape} {level} {index} {count} {page} f b is told_b before = has_gone shape level index count page f.es f.holds before (sym (told_b index f.es f.is_page f.many) ∙ is)
+pub found_gone : {shape : Shape} {spaces level index count : ℕ} {page : List ℕ} (f : Found shape level index count page) (b : Bool) → b ≡ false
+    → ((index : ℕ) (es : List Entry) → IsMetaPage shape page level index es → length es ≡ count → b ≡ may_hold spaces level es)
+    → (before : List Entry) → GoesOnOr shape spaces level index count before page false
+found_gone {shape} {spaces} {level} {index} {count} {page} f b is told_b before = has_gone shape spaces level index count page f.es f.holds before (sym (told_b index f.es f.is_page f.many) ∙ is)
 
-pub found_told : {shape : Shape} {level index count : ℕ} {page : List ℕ} (f : Found shape level index count page) (a : Bool) → a ≡ true
-    → ((index : ℕ) (es : List Entry) → IsMetaPage shape page level index es → length es ≡ count → a ≡ (not (level == 4) || are_put es))
+pub found_told : {shape : Shape} {spaces level index count : ℕ} {page : List ℕ} (f : Found shape level index count page) (a : Bool) → a ≡ true
+    → ((index : ℕ) (es : List Entry) → IsMetaPage shape page level index es → length es ≡ count → a ≡ may_hold spaces level es)
     → (last : Option Key) (first : Key) → ((level index : ℕ) (es : List Entry) → IsMetaPage shape page level index es → option_map key_of (slice_get es 0) ≡ Some first)
     → (b : Bool) → b ≡ is_behind last first
-    → (before : List Entry) → T (is_sorted key_cmp before) → IsLast last before → GoesOnOr shape level index count before page b
-found_told {shape} {level} {index} {count} {page} f a is told_a last first begins b is_b before up ends =
-    told shape level index count page f.es f.holds before last first f.rising (begins level index f.es f.is_page) (of_true _ (sym (told_a index f.es f.is_page f.many) ∙ is)) up ends b is_b
+    → (before : List Entry) → T (is_sorted key_cmp before) → IsLast last before → GoesOnOr shape spaces level index count before page b
+found_told {shape} {spaces} {level} {index} {count} {page} f a is told_a last first begins b is_b before up ends =
+    told shape spaces level index count page f.es f.holds before last first f.rising (begins level index f.es f.is_page) (of_true _ (sym (told_a index f.es f.is_page f.many) ∙ is)) up ends b is_b

@@ -32,6 +32,7 @@ use Rattle.pk_scan.specs.declared.errors.PageError.{PageError}
 use Rattle.pk_scan.specs.declared.errors.PageError.TheVariants.{Damaged as PageDamaged, Fault as PageFault}
 use Rattle.pk_scan.specs.declared.errors.OpenError.{OpenError}
 use Rattle.pk_scan.specs.declared.errors.OpenError.TheVariants.{NotFormatted, Damaged, Fault, Memory}
+use Rattle.pk_model.specs.RootLimits.{root_spaces}
 
 -- ---- lists
 
@@ -116,20 +117,20 @@ pub le_of : (x y : ℕ) → nat_le x y ≡ true → x ≤ y
 le_of x y e = grind (arith, nat_tests)
 
 module _ (shape : Shape) (root : Root) (level count : ℕ) (bs : List ℕ) (counted : count ≡ slice_index root.counts (level - 1)) (got : slice_get root.runs (level - 1) ≡ Some bs) where
-  at_level : (at : ℕ → Page) → run shape at level (slice_index root.counts (level - 1)) (slice_index_or root.runs (level - 1) []) ≡ run shape at level count bs
-  at_level at = ap (λ (n : ℕ). run shape at level n (slice_index_or root.runs (level - 1) [])) (sym counted) ∙ ap (run shape at level count) (get_or_from_slice_get root.runs (level - 1) bs [] got)
+  at_level : (at : ℕ → Page) → run shape (root_spaces shape root) at level (slice_index root.counts (level - 1)) (slice_index_or root.runs (level - 1) []) ≡ run shape (root_spaces shape root) at level count bs
+  at_level at = ap (λ (n : ℕ). run shape (root_spaces shape root) at level n (slice_index_or root.runs (level - 1) [])) (sym counted) ∙ ap (run shape (root_spaces shape root) at level count) (get_or_from_slice_get root.runs (level - 1) bs [] got)
 
-  pub level_refused : (at : ℕ → Page) (page : ℕ) → run shape at level count bs ≡ Err (damaged page)
-      → run shape at level (slice_index root.counts (level - 1)) (slice_index_or root.runs (level - 1) []) ≡ Err (damaged page)
+  pub level_refused : (at : ℕ → Page) (page : ℕ) → run shape (root_spaces shape root) at level count bs ≡ Err (damaged page)
+      → run shape (root_spaces shape root) at level (slice_index root.counts (level - 1)) (slice_index_or root.runs (level - 1) []) ≡ Err (damaged page)
   level_refused at page e = at_level at ∙ e
 
-  pub level_not_loaded : (old new : BoardState) (e : PageError) → NotRead shape level count bs old new e
-      → PartNotOpened (run shape (page_at old.pages) level (slice_index root.counts (level - 1)) (slice_index_or root.runs (level - 1) [])) old new (opening_of e)
+  pub level_not_loaded : (old new : BoardState) (e : PageError) → NotRead shape (root_spaces shape root) level count bs old new e
+      → PartNotOpened (run shape (root_spaces shape root) (page_at old.pages) level (slice_index root.counts (level - 1)) (slice_index_or root.runs (level - 1) [])) old new (opening_of e)
   level_not_loaded old new (PageDamaged page) why = (level_refused (page_at old.pages) page why.read, (why.index + 1, why.board))
   level_not_loaded old new PageFault why = (why.flash, why.read)
 
   pub level_loaded : (flash : Flash) (before after : Frames) (old new : Levels) (kept : Kept) (pins : Bool)
-      → HasRun shape level count bs flash after kept → RunsStand before after → LeasedMore before after kept.leases → IsPinnedIf pins kept
+      → HasRun shape (root_spaces shape root) level count bs flash after kept → RunsStand before after → LeasedMore before after kept.leases → IsPinnedIf pins kept
       → kept.shape ≡ shape → kept.blocks ≡ bs → kept.count ≡ count → nat_le level old.pinned ≡ pins
       → length kept.firsts ≤ cap shape level → new ≡ with_run old level kept → LoadsLevel shape root level flash before after old new
   level_loaded flash before after old new kept pins has others more pinned shape_is blocks_are count_is test few is = record {
@@ -166,17 +167,17 @@ behind_none : (others : Result (List (List Entry)) Refusal) → others ≡ behin
 behind_none (Ok xs) = refl
 behind_none (Err e) = refl
 
-module _ (shape : Shape) (at : ℕ → Page) where
-  one_more : (level c : ℕ) (cs bs : List ℕ) (runs : List (List ℕ)) (es : List Entry) → run shape at level c bs ≡ Ok es
-      → runs_from shape at level (c ∷ cs) (bs ∷ runs) ≡ (runs_from shape at (level + 1) cs runs >>= (λ xs. Ok (es ∷ xs)))
+module _ (shape : Shape) (spaces : ℕ) (at : ℕ → Page) where
+  one_more : (level c : ℕ) (cs bs : List ℕ) (runs : List (List ℕ)) (es : List Entry) → run shape spaces at level c bs ≡ Ok es
+      → runs_from shape spaces at level (c ∷ cs) (bs ∷ runs) ≡ (runs_from shape spaces at (level + 1) cs runs >>= (λ xs. Ok (es ∷ xs)))
   unfolding runs_from
   one_more level c cs bs runs es read = rw read refl
 
-  one_refused : (level c : ℕ) (cs bs : List ℕ) (runs : List (List ℕ)) (e : Refusal) → run shape at level c bs ≡ Err e → runs_from shape at level (c ∷ cs) (bs ∷ runs) ≡ Err e
+  one_refused : (level c : ℕ) (cs bs : List ℕ) (runs : List (List ℕ)) (e : Refusal) → run shape spaces at level c bs ≡ Err e → runs_from shape spaces at level (c ∷ cs) (bs ∷ runs) ≡ Err e
   unfolding runs_from
   one_refused level c cs bs runs e read = rw read refl
 
-  none_left : (level : ℕ) → runs_from shape at level [] [] ≡ Ok []
+  none_left : (level : ℕ) → runs_from shape spaces at level [] [] ≡ Ok []
   unfolding runs_from
   none_left level = refl
 
@@ -186,7 +187,7 @@ module _ (shape : Shape) (at : ℕ → Page) where
 -- goes on with the other levels.
 pub record RunsTo (shape : Shape) (root : Root) (flash : Flash) (pinned : ℕ) (start arena : Frames) (levels : Levels) (k : ℕ) : Type 0 where
   pub ess : List (List Entry)
-  pub comes : runs_from shape (page_at flash) 1 root.counts root.runs ≡ behind ess (runs_from shape (page_at flash) (suc k) (drop k root.counts) (drop k root.runs))
+  pub comes : runs_from shape (root_spaces shape root) (page_at flash) 1 root.counts root.runs ≡ behind ess (runs_from shape (root_spaces shape root) (page_at flash) (suc k) (drop k root.counts) (drop k root.runs))
   pub stand : RunsOnFlash flash arena (take k levels.runs) ess
   pub blocks_are : HaveBlocks shape (take k levels.runs) (take k root.runs)
   pub frames_are : HaveFrames pinned 1 (take k levels.runs) (take k root.counts)
@@ -203,7 +204,7 @@ module _ (shape : Shape) (root : Root) (counts : length root.counts ≡ 4) (runs
       → RunsTo shape root flash pinned arena arena levels 0
   RunsTo-start arena levels shape_is pinned_is four page free = record {
     ess = [];
-    comes = behind_none (runs_from shape (page_at flash) 1 root.counts root.runs);
+    comes = behind_none (runs_from shape (root_spaces shape root) (page_at flash) 1 root.counts root.runs);
     stand = tt;
     blocks_are = tt;
     frames_are = tt;
@@ -231,31 +232,31 @@ module _ (shape : Shape) (root : Root) (counts : length root.counts ≡ 4) (runs
     split_runs = four_at root.runs k [] (omega (arith, runs, h))
 
     abbrev rest_of : List ℕ → List (List ℕ) → Result (List (List Entry)) Refusal
-    rest_of cs bss = runs_from shape (page_at flash) (suc k) cs bss
+    rest_of cs bss = runs_from shape (root_spaces shape root) (page_at flash) (suc k) cs bss
 
     split : rest_of (drop k root.counts) (drop k root.runs) ≡ rest_of (get_or root.counts k 0 ∷ drop (suc k) root.counts) (get_or root.runs k [] ∷ drop (suc k) root.runs)
     split = ap (λ (cs : List ℕ). rest_of cs (drop k root.runs)) split_counts ∙ ap (rest_of (get_or root.counts k 0 ∷ drop (suc k) root.counts)) split_runs
 
     module _ (level : ℕ) (e : level ≡ suc k) (d : level - 1 ≡ k) where
       abbrev part : Result (List Entry) Refusal
-      part = run shape (page_at flash) level (slice_index root.counts (level - 1)) (slice_index_or root.runs (level - 1) [])
+      part = run shape (root_spaces shape root) (page_at flash) level (slice_index root.counts (level - 1)) (slice_index_or root.runs (level - 1) [])
 
-      part_is : part ≡ run shape (page_at flash) (suc k) (get_or root.counts k 0) (get_or root.runs k [])
-      part_is = ap (λ (j : ℕ). run shape (page_at flash) level (get_or root.counts j 0) (get_or root.runs j [])) d
-          ∙ ap (λ (n : ℕ). run shape (page_at flash) n (get_or root.counts k 0) (get_or root.runs k [])) e
+      part_is : part ≡ run shape (root_spaces shape root) (page_at flash) (suc k) (get_or root.counts k 0) (get_or root.runs k [])
+      part_is = ap (λ (j : ℕ). run shape (root_spaces shape root) (page_at flash) level (get_or root.counts j 0) (get_or root.runs j [])) d
+          ∙ ap (λ (n : ℕ). run shape (root_spaces shape root) (page_at flash) n (get_or root.counts k 0) (get_or root.runs k [])) e
 
       module _ (arena' : Frames) (levels' : Levels) (l : LoadsLevel shape root level flash arena arena' levels levels') where
         taken : take (suc k) levels'.runs ≡ take k levels.runs ++ l.kept ∷ []
         taken = ap (λ (x : Levels). take (suc k) x.runs) l.levels ∙ ap (λ (j : ℕ). take (suc k) (set levels.runs j l.kept)) d ∙ take_set levels.runs k l.kept (omega (arith, t.four, h))
 
-        next_comes : runs_from shape (page_at flash) 1 root.counts root.runs ≡ behind (t.ess ++ l.entries ∷ [])
-            (runs_from shape (page_at flash) (suc (suc k)) (drop (suc k) root.counts) (drop (suc k) root.runs))
+        next_comes : runs_from shape (root_spaces shape root) (page_at flash) 1 root.counts root.runs ≡ behind (t.ess ++ l.entries ∷ [])
+            (runs_from shape (root_spaces shape root) (page_at flash) (suc (suc k)) (drop (suc k) root.counts) (drop (suc k) root.runs))
         next_comes =
             let more : suc k + 1 ≡ suc (suc k) = omega arith in
             t.comes ∙ ap (behind t.ess) (split
-            ∙ one_more shape (page_at flash) (suc k) (get_or root.counts k 0) (drop (suc k) root.counts) (get_or root.runs k []) (drop (suc k) root.runs) l.entries (sym part_is ∙ l.finds))
-            ∙ behind_one t.ess l.entries (runs_from shape (page_at flash) (suc k + 1) (drop (suc k) root.counts) (drop (suc k) root.runs))
-            ∙ ap (λ (n : ℕ). behind (t.ess ++ l.entries ∷ []) (runs_from shape (page_at flash) n (drop (suc k) root.counts) (drop (suc k) root.runs))) more
+            ∙ one_more shape (root_spaces shape root) (page_at flash) (suc k) (get_or root.counts k 0) (drop (suc k) root.counts) (get_or root.runs k []) (drop (suc k) root.runs) l.entries (sym part_is ∙ l.finds))
+            ∙ behind_one t.ess l.entries (runs_from shape (root_spaces shape root) (page_at flash) (suc k + 1) (drop (suc k) root.counts) (drop (suc k) root.runs))
+            ∙ ap (λ (n : ℕ). behind (t.ess ++ l.entries ∷ []) (runs_from shape (root_spaces shape root) (page_at flash) n (drop (suc k) root.counts) (drop (suc k) root.runs))) more
 
         more_blocks : HaveBlocks shape (take k levels.runs ++ l.kept ∷ []) (take k root.runs ++ get_or root.runs k [] ∷ [])
         more_blocks = blocks_more shape (take k levels.runs) (take k root.runs) l.kept (get_or root.runs k []) t.blocks_are l.shape_is (l.blocks_are ∙ ap (λ (j : ℕ). get_or root.runs j []) d)
@@ -303,11 +304,11 @@ module _ (shape : Shape) (root : Root) (counts : length root.counts ≡ 4) (runs
         }
 
       pub RunsTo-refused : (old now new : BoardState) (error : OpenError) → OnlyReads old now
-          → PartNotOpened part now new error → PartNotOpened (runs_from shape (page_at flash) 1 root.counts root.runs) old new error
+          → PartNotOpened part now new error → PartNotOpened (runs_from shape (root_spaces shape root) (page_at flash) 1 root.counts root.runs) old new error
       RunsTo-refused old now new NotFormatted reads why = why
       RunsTo-refused old now new (Damaged page) reads why = (
         t.comes ∙ ap (behind t.ess) (split
-            ∙ one_refused shape (page_at flash) (suc k) (get_or root.counts k 0) (drop (suc k) root.counts) (get_or root.runs k []) (drop (suc k) root.runs) (damaged page) (sym part_is ∙ why.0)),
+            ∙ one_refused shape (root_spaces shape root) (page_at flash) (suc k) (get_or root.counts k 0) (drop (suc k) root.counts) (get_or root.runs k []) (drop (suc k) root.runs) (damaged page) (sym part_is ∙ why.0)),
         reads_both old now new reads why.1,
       )
       RunsTo-refused old now new Fault reads why = counted_behind old now new reads why
@@ -317,8 +318,8 @@ module _ (shape : Shape) (root : Root) (counts : length root.counts ≡ 4) (runs
   RunsTo-end start arena levels t = (
     t.ess,
     record {
-      finds = t.comes ∙ ap (behind t.ess) (ap (λ (cs : List ℕ). runs_from shape (page_at flash) 5 cs (drop 4 root.runs)) (past root.counts 4 (omega (arith, counts)))
-          ∙ ap (runs_from shape (page_at flash) 5 []) (past root.runs 4 (omega (arith, runs))) ∙ none_left shape (page_at flash) 5) ∙ ap ok_list (append-nil t.ess);
+      finds = t.comes ∙ ap (behind t.ess) (ap (λ (cs : List ℕ). runs_from shape (root_spaces shape root) (page_at flash) 5 cs (drop 4 root.runs)) (past root.counts 4 (omega (arith, counts)))
+          ∙ ap (runs_from shape (root_spaces shape root) (page_at flash) 5 []) (past root.runs 4 (omega (arith, runs))) ∙ none_left shape (root_spaces shape root) (page_at flash) 5) ∙ ap ok_list (append-nil t.ess);
       stand = subst (λ (rs : List Kept). RunsOnFlash flash arena rs t.ess) whole t.stand;
       run_blocks = subst (λ (rs : List Kept). HaveBlocks shape rs root.runs) whole (subst (HaveBlocks shape (take 4 levels.runs)) (take_all 4 root.runs (omega (arith, runs))) t.blocks_are);
       run_frames = subst (λ (p : ℕ). HaveFrames p 1 levels.runs root.counts) (sym t.pinned_is)

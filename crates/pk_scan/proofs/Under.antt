@@ -13,6 +13,7 @@ use Rattle.pk_base.specs.Page.{Flash, page_at}
 use Rattle.pk_base.specs.Refusal.{Refusal}
 use Rattle.pk_rootfmt.specs.Root.{Root, named}
 use Rattle.pk_rootfmt.specs.Newest.{newest_root}
+use Rattle.pk_model.specs.RootLimits.{root_limits}
 use Rattle.pk_model.specs.Found.{Found, found_under, entries_in_order}
 use Rattle.pk_model.specs.Values.{placed, values_of}
 use Rattle.pk_model.specs.Reading.{reading, reading_of, map_under}
@@ -62,10 +63,10 @@ module _ (shape : Shape) (flash : Flash) (page : ℕ) (root : Root) (top : newes
     enough : nat_le (length (firsts (found.newest ++ []))) (buffer shape) ≡ true
     enough = le_true (length (firsts (found.newest ++ []))) (buffer shape) (let same = ap (λ (es : List Entry). length (firsts es)) (append-nil found.newest) in omega (arith, same, room))
 
-    pub values_refuse : (e : Refusal) → values_of shape (page_at flash) (named root) [] (places found []) ≡ Err e → reading shape flash [] ≡ Err e
+    pub values_refuse : (e : Refusal) → values_of shape (page_at flash) (root_limits shape root) (named root) [] (places found []) ≡ Err e → reading shape flash [] ≡ Err e
     unfolding reading_of map_under
     values_refuse e values = rw (top, is, enough, values) refl
 
-    pub stands_under : (vs : List (Key × List ℕ)) → values_of shape (page_at flash) (named root) [] (places found []) ≡ Ok vs → (m : Map) × IsUnder shape flash [] (page, root) found m
+    pub stands_under : (vs : List (Key × List ℕ)) → values_of shape (page_at flash) (root_limits shape root) (named root) [] (places found []) ≡ Ok vs → (m : Map) × IsUnder shape flash [] (page, root) found m
     unfolding map_under
     stands_under vs values = (from_entries vs, record { is_top = top; is_found = is; is_map = rw (enough, values) refl })

@@ -6,7 +6,6 @@ use Rattle.pk_base.specs.Key.{Key}
 use Rattle.pk_base.specs.Shape.{Shape, IsShape, limit, dense, data_blocks}
 use Rattle.std.proofs.Math.Nat.{mul-le-mul_right}
 use Rattle.pk_base.specs.EntryChecks.{IsPlace}
-use Rattle.pk_segfmt.specs.Value.{value_pages}
 use Rattle.pk_pin.specs.Frames.{Frames}
 use Rattle.pk_run.specs.Kept.{Kept}
 use Rattle.pk_walk.specs.Visible.{visible, is_wanted, wanted}
@@ -20,8 +19,11 @@ use Rattle.pk_base.specs.declared.entry.Entry.TheVariants.{Put, Gone}
 use Rattle.pk_base.specs.Page.{Flash, page_at}
 use Rattle.pk_base.specs.Refusal.{Refusal, damaged, ◌>>=◌}
 use Rattle.pk_live.specs.Values.{Values}
-use Rattle.pk_model.specs.Values.{all_pages, fits, values_of}
+use Rattle.pk_model.specs.Values.{all_pages, fits, fits_after, values_of}
 use Rattle.pk_live.specs.Lives.{Lives}
+use Rattle.pk_space.specs.Uses.{Use, nothing_used}
+use Rattle.pk_scan.specs.Used.{IsUseOf}
+use Rattle.pk_scan.proofs.Using.{use_of_none}
 use Rattle.pk_scan.specs.Accepted.{Accepted, NotAccepted}
 use Rattle.pk_scan.specs.Opening.{OnlyReads}
 use Rattle.pk_scan.specs.OpeningParts.{PartNotOpened, ReadsValues, opening_of}
@@ -53,47 +55,48 @@ behind_none (Ok vs) = refl
 behind_none (Err e) = refl
 
 -- The first values were taken, and the reading goes on with the rest.
-pub record ValuesTo (shape : Shape) (flash : Flash) (named : List ℕ) (es : List (Key × Place)) (live : Values) (taken rest : List (Key × Place)) : Type 0 where
+pub record ValuesTo (shape : Shape) (flash : Flash) (limits named : List ℕ) (es : List (Key × Place)) (live : Values) (taken rest : List (Key × Place)) : Type 0 where
   pub front : Found
   pub split : taken ++ rest ≡ es
   pub lives : Lives shape named live taken
-  pub goes : values_of shape (page_at flash) named [] es ≡ behind front (values_of shape (page_at flash) named (all_pages shape taken) rest)
+  pub goes : values_of shape (page_at flash) limits named [] es ≡ behind front (values_of shape (page_at flash) limits named taken rest)
 
-module _ (shape : Shape) (flash : Flash) (named : List ℕ) (es : List (Key × Place)) where
-  pub ValuesTo-start : (live : Values) → Lives shape named live [] → ValuesTo shape flash named es live [] es
-  ValuesTo-start live lives = record { front = []; split = refl; lives = lives; goes = behind_none (values_of shape (page_at flash) named [] es) }
+module _ (shape : Shape) (flash : Flash) (limits named : List ℕ) (es : List (Key × Place)) where
+  pub ValuesTo-start : (live : Values) → Lives shape named live [] → ValuesTo shape flash limits named es live [] es
+  ValuesTo-start live lives = record { front = []; split = refl; lives = lives; goes = behind_none (values_of shape (page_at flash) limits named [] es) }
 
   pub ValuesTo-next : (live live' : Values) (taken rest : List (Key × Place)) (key : Key) (place : Place)
-      → ValuesTo shape flash named es live taken ((key, place) ∷ rest) → Accepted shape flash named taken key place
-      → Lives shape named live' (taken ++ (key, place) ∷ []) → ValuesTo shape flash named es live' (taken ++ (key, place) ∷ []) rest
+      → ValuesTo shape flash limits named es live taken ((key, place) ∷ rest) → Accepted shape flash limits named taken key place
+      → Lives shape named live' (taken ++ (key, place) ∷ []) → ValuesTo shape flash limits named es live' (taken ++ (key, place) ∷ []) rest
   ValuesTo-next live live' taken rest key place t a lives = record {
     front = t.front ++ (key, a.value) ∷ [];
     split = append_assoc taken ((key, place) ∷ []) rest ∙ t.split;
     lives = lives;
-    goes = t.goes ∙ ap (behind t.front) (a.goes_on rest) ∙ behind_one t.front (key, a.value) (values_of shape (page_at flash) named (all_pages shape (taken ++ (key, place) ∷ [])) rest);
+    goes = t.goes ∙ ap (behind t.front) (a.goes_on rest) ∙ behind_one t.front (key, a.value) (values_of shape (page_at flash) limits named (taken ++ (key, place) ∷ []) rest);
   }
 
-  none_left : (taken : List ℕ) → values_of shape (page_at flash) named taken [] ≡ Ok []
+  none_left : (taken : List (Key × Place)) → values_of shape (page_at flash) limits named taken [] ≡ Ok []
   unfolding values_of
   none_left taken = refl
 
-  pub ValuesTo-end : (live : Values) (taken : List (Key × Place)) → ValuesTo shape flash named es live taken [] → (vs : Found) × (values_of shape (page_at flash) named [] es ≡ Ok vs) × (taken ≡ es)
-  ValuesTo-end live taken t = (t.front, t.goes ∙ ap (behind t.front) (none_left (all_pages shape taken)) ∙ ap ok_found (append-nil t.front), sym (append-nil taken) ∙ t.split)
+  pub ValuesTo-end : (live : Values) (taken : List (Key × Place)) → ValuesTo shape flash limits named es live taken [] → (vs : Found) × (values_of shape (page_at flash) limits named [] es ≡ Ok vs) × (taken ≡ es)
+  ValuesTo-end live taken t = (t.front, t.goes ∙ ap (behind t.front) (none_left taken) ∙ ap ok_found (append-nil t.front), sym (append-nil taken) ∙ t.split)
 
-  pub ValuesTo-refused : (live : Values) (taken rest : List (Key × Place)) (e : Refusal) → ValuesTo shape flash named es live taken rest
-      → values_of shape (page_at flash) named (all_pages shape taken) rest ≡ Err e → values_of shape (page_at flash) named [] es ≡ Err e
+  pub ValuesTo-refused : (live : Values) (taken rest : List (Key × Place)) (e : Refusal) → ValuesTo shape flash limits named es live taken rest
+      → values_of shape (page_at flash) limits named taken rest ≡ Err e → values_of shape (page_at flash) limits named [] es ≡ Err e
   ValuesTo-refused live taken rest e t refused = t.goes ∙ ap (behind t.front) refused
 
 -- ---- the walk over them
 
 -- This many values were taken of those that the walk had at its start, and it still has the rest to return.
-pub record TakenTo (shape : Shape) (flash : Flash) (arena : Frames) (runs : List Kept) (active frozen : List Entry) (named : List ℕ) (start walk : Walk) (live : Values) (k : ℕ) : Type 0 where
+pub record TakenTo (shape : Shape) (flash : Flash) (arena : Frames) (runs : List Kept) (active frozen : List Entry) (limits named : List ℕ) (start walk : Walk) (live : Values) (u : Use) (k : ℕ) : Type 0 where
   pub es : List (Key × Place)
   pub taken : List (Key × Place)
   pub rest : List (Key × Place)
   pub starts : IsLeft start flash arena runs active frozen es
   pub all : AllByRecursion (λ e. IsPlace shape e.1) es
-  pub to : ValuesTo shape flash named es live taken rest
+  pub to : ValuesTo shape flash limits named es live taken rest
+  pub uses : IsUseOf shape u taken
   pub left : IsLeft walk flash arena runs active frozen rest
   pub many : length taken ≡ k
 
@@ -114,16 +117,16 @@ limit_few shape is =
     let product : (data_blocks shape - 1) * dense shape ≤ 4096 * dense shape = mul-le-mul_right (dense shape) (omega (arith, few)) in
     omega (arith, product, part)
 
-module _ (shape : Shape) (flash : Flash) (arena : Frames) (runs : List Kept) (active frozen : List Entry) (named : List ℕ) (start : Walk) where
+module _ (shape : Shape) (flash : Flash) (arena : Frames) (runs : List Kept) (active frozen : List Entry) (limits named : List ℕ) (start : Walk) where
   pub left_one : (w : Walk) (xs ys : List (Key × Place)) → IsLeft w flash arena runs active frozen xs → IsLeft w flash arena runs active frozen ys → xs ≡ ys
   left_one w xs ys a b = a.is ∙ ap (λ (ess : List (List Entry)). wanted (is_wanted w.position) (visible (active ∷ frozen ∷ ess))) (one_of_each flash arena runs a.ess b.ess a.stand b.stand) ∙ sym b.is
 
-  pub TakenTo-start : (live : Values) (es : List (Key × Place)) → IsLeft start flash arena runs active frozen es → AllByRecursion (λ e. IsPlace shape e.1) es
-      → Lives shape named live [] → (t : TakenTo shape flash arena runs active frozen named start start live 0) × (t.taken ≡ [])
-  TakenTo-start live es left all lives = (record { es = es; taken = []; rest = es; starts = left; all = all; to = ValuesTo-start shape flash named es live lives; left = left; many = refl }, refl)
+  pub TakenTo-start : (live : Values) (u : Use) (es : List (Key × Place)) → IsLeft start flash arena runs active frozen es → AllByRecursion (λ e. IsPlace shape e.1) es
+      → Lives shape named live [] → u ≡ nothing_used → (t : TakenTo shape flash arena runs active frozen limits named start start live u 0) × (t.taken ≡ [])
+  TakenTo-start live u es left all lives unused = (record { es = es; taken = []; rest = es; starts = left; all = all; to = ValuesTo-start shape flash limits named es live lives; uses = use_of_none shape u unused; left = left; many = refl }, refl)
 
-  pub few_taken : IsShape shape → (walk : Walk) (live : Values) (k : ℕ) → TakenTo shape flash arena runs active frozen named start walk live k → k ≤ limit shape
-  few_taken is walk live k t =
+  pub few_taken : IsShape shape → (walk : Walk) (live : Values) (u : Use) (k : ℕ) → TakenTo shape flash arena runs active frozen limits named start walk live u k → k ≤ limit shape
+  few_taken is walk live u k t =
       let parts = fits_parts shape named (all_pages shape t.taken) (of_true (fits shape named (all_pages shape t.taken)) t.to.lives.placed_well) in
       let few = parts.few in
       let some = values_most shape is t.taken in
@@ -147,8 +150,8 @@ pub gives_none : (rest later : List (Key × Place)) → WalkGives None rest late
 gives_none [] later g = refl
 gives_none (x ∷ rest) later g = absurd g
 
-module _ (shape : Shape) (flash : Flash) (arena : Frames) (runs : List Kept) (active frozen : List Entry) (named : List ℕ)
-    (start walk : Walk) (live : Values) (k : ℕ) (t : TakenTo shape flash arena runs active frozen named start walk live k) where
+module _ (shape : Shape) (flash : Flash) (arena : Frames) (runs : List Kept) (active frozen : List Entry) (limits named : List ℕ)
+    (start walk : Walk) (live : Values) (u : Use) (k : ℕ) (t : TakenTo shape flash arena runs active frozen limits named start walk live u k) where
   abbrev of_start : List (Key × Place) → Type 0
   of_start es = IsLeft start flash arena runs active frozen es
 
@@ -174,29 +177,31 @@ module _ (shape : Shape) (flash : Flash) (arena : Frames) (runs : List Kept) (ac
     pub place_next : IsPlace shape at
     place_next = (subst (AllByRecursion (λ e. IsPlace shape e.1)) split (all_behind (λ e. IsPlace shape e.1) t.taken t.rest (subst (AllByRecursion (λ e. IsPlace shape e.1)) (sym t.to.split) t.all))).0
 
-    pub TakenTo-next : (walk' : Walk) (live' : Values) → IsLeft walk' flash arena runs active frozen later → Accepted shape flash named t.taken key at
-        → Lives shape named live' (t.taken ++ (key, at) ∷ []) → (t' : TakenTo shape flash arena runs active frozen named start walk' live' (k + 1)) × (t'.taken ≡ t.taken ++ (key, at) ∷ [])
-    TakenTo-next walk' live' left accepted lives = (
+    pub TakenTo-next : (walk' : Walk) (live' : Values) (u' : Use) → IsLeft walk' flash arena runs active frozen later → Accepted shape flash limits named t.taken key at
+        → Lives shape named live' (t.taken ++ (key, at) ∷ []) → IsUseOf shape u' (t.taken ++ (key, at) ∷ [])
+        → (t' : TakenTo shape flash arena runs active frozen limits named start walk' live' u' (k + 1)) × (t'.taken ≡ t.taken ++ (key, at) ∷ [])
+    TakenTo-next walk' live' u' left accepted lives uses = (
       record {
         es = t.es;
         taken = t.taken ++ (key, at) ∷ [];
         rest = later;
         starts = t.starts;
         all = t.all;
-        to = ValuesTo-next shape flash named t.es live live' t.taken later key at (subst (ValuesTo shape flash named t.es live t.taken) split t.to) accepted lives;
+        to = ValuesTo-next shape flash limits named t.es live live' t.taken later key at (subst (ValuesTo shape flash limits named t.es live t.taken) split t.to) accepted lives;
+        uses = uses;
         left = left;
         many = let more = length-append t.taken ((key, at) ∷ []) in let many = t.many in omega (arith, more, many);
       },
       refl,
     )
 
-    pub TakenTo-refused : (old now new : BoardState) (e : PageError) → OnlyReads old now → now.pages ≡ flash → NotAccepted shape now new named t.taken key at e
-        → (es : List (Key × Place)) → of_start es → PartNotOpened (values_of shape (page_at flash) named [] es) old new (opening_of e)
+    pub TakenTo-refused : (old now new : BoardState) (e : PageError) → OnlyReads old now → now.pages ≡ flash → NotAccepted shape now new limits named t.taken key at e
+        → (es : List (Key × Place)) → of_start es → PartNotOpened (values_of shape (page_at flash) limits named [] es) old new (opening_of e)
     TakenTo-refused old now new (Damaged page) reads same why es left =
-        let here = subst (λ (f : Flash). values_of shape (page_at f) named (all_pages shape t.taken) ((key, at) ∷ later) ≡ Err (damaged page)) same (why.refusal later) in
-        let made = reads_if (fits shape named (all_pages shape t.taken ++ value_pages shape at)) (suc (page - at.page)) now new why.board in (
-          subst (λ (xs : List (Key × Place)). values_of shape (page_at flash) named [] xs ≡ Err (damaged page)) (left_one shape flash arena runs active frozen named start start t.es es t.starts left)
-              (ValuesTo-refused shape flash named t.es live t.taken t.rest (damaged page) t.to (ap (values_of shape (page_at flash) named (all_pages shape t.taken)) split ∙ here)),
+        let here = subst (λ (f : Flash). values_of shape (page_at f) limits named t.taken ((key, at) ∷ later) ≡ Err (damaged page)) same (why.refusal later) in
+        let made = reads_if (fits_after shape limits named t.taken (key, at)) (suc (page - at.page)) now new why.board in (
+          subst (λ (xs : List (Key × Place)). values_of shape (page_at flash) limits named [] xs ≡ Err (damaged page)) (left_one shape flash arena runs active frozen limits named start start t.es es t.starts left)
+              (ValuesTo-refused shape flash limits named t.es live t.taken t.rest (damaged page) t.to (ap (values_of shape (page_at flash) limits named t.taken) split ∙ here)),
           reads_both old now new reads made,
         )
     TakenTo-refused old now new Fault reads same why es left = counted_behind old now new reads (why.1.reads.flash, why.1.reads.read)
@@ -204,15 +209,16 @@ module _ (shape : Shape) (flash : Flash) (arena : Frames) (runs : List Kept) (ac
   -- after the last of them all were taken
   pub TakenTo-all : t.rest ≡ [] → (es : List (Key × Place)) → of_start es → t.taken ≡ es
   TakenTo-all none es left =
-      (ValuesTo-end shape flash named t.es live t.taken (subst (ValuesTo shape flash named t.es live t.taken) none t.to)).2
-      ∙ left_one shape flash arena runs active frozen named start start t.es es t.starts left
+      (ValuesTo-end shape flash limits named t.es live t.taken (subst (ValuesTo shape flash limits named t.es live t.taken) none t.to)).2
+      ∙ left_one shape flash arena runs active frozen limits named start start t.es es t.starts left
 
-  pub TakenTo-end : t.rest ≡ [] → (es : List (Key × Place)) → of_start es → ReadsValues shape flash named live es × (k ≡ length es)
+  pub TakenTo-end : t.rest ≡ [] → (es : List (Key × Place)) → of_start es → ReadsValues shape flash limits named live es × IsUseOf shape u es × (k ≡ length es)
   TakenTo-end none es left =
-      let end = ValuesTo-end shape flash named t.es live t.taken (subst (ValuesTo shape flash named t.es live t.taken) none t.to) in
-      let same = left_one shape flash arena runs active frozen named start start t.es es t.starts left in
+      let end = ValuesTo-end shape flash limits named t.es live t.taken (subst (ValuesTo shape flash limits named t.es live t.taken) none t.to) in
+      let same = left_one shape flash arena runs active frozen limits named start start t.es es t.starts left in
       let all : t.taken ≡ es = end.2 ∙ same in (
-        record { values = end.0; read = sym (ap (values_of shape (page_at flash) named []) same) ∙ end.1; lives = subst (Lives shape named live) all t.to.lives },
+        record { values = end.0; read = sym (ap (values_of shape (page_at flash) limits named []) same) ∙ end.1; lives = subst (Lives shape named live) all t.to.lives },
+        subst (IsUseOf shape u) all t.uses,
         sym t.many
             ∙ ap (λ (xs : List (Key × Place)). length xs) all,
       )

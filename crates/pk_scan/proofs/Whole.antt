@@ -2,7 +2,7 @@
 use Rattle.std.proofs.Common.{◌≡◌, ◌≢◌, inl, inr, ℕ, zero, suc, ◌+◌, ◌-◌, ◌<◌, ◌≤◌, true, List, [], ◌∷◌, length, drop, refl, sym, ap, subst, ◌∙◌, arith, Some, None, Result, Ok, Err}
 use Rattle.std.specs.Prelude.{nat_eq, ◌==◌, ◌++◌}
 use Rattle.std.specs.List.{AllByRecursion, list_all, starts_with}
-use Rattle.pk_base.specs.Key.{Key}
+use Rattle.pk_base.specs.Key.{Key, IsKey}
 use Rattle.pk_base.specs.Shape.{Shape, charge, buffer, root_pages, pinned}
 use Rattle.pk_base.specs.Entry.{Entry, Place}
 use Rattle.pk_base.specs.EntryChecks.{IsEntry, IsPlace}
@@ -32,7 +32,7 @@ use Rattle.pk_nand.specs.Counts.{after_reads}
 use Rattle.pk_model.specs.Found.{Found, found_under, entries_in_order}
 use Rattle.pk_model.specs.Laws.{IsPageOf}
 use Rattle.pk_model.specs.Reading.{reading}
-use Rattle.pk_model.specs.Values.{placed, fits, values_of, all_pages, blocks_with}
+use Rattle.pk_model.specs.Values.{placed, fits, values_of, all_pages, blocks_with, fits_after}
 use Rattle.pk_model.proofs.Entries.{counting_all, journal_are, meta_are}
 use Rattle.pk_model.proofs.StrangePages.{bind_ok}
 use Rattle.pk_law_steps.specs.Under.{IsValuePage, places}
@@ -55,6 +55,10 @@ use Rattle.pk_scan.proofs.Leasing.{arena_opened}
 use Rattle.pk_scan.proofs.Room.{frames_enough}
 use Rattle.pk_scan.proofs.Opened.{behind_reads}
 use Rattle.pk_scan.proofs.Under.{visible_places, found_refuses, values_refuse, stands_under}
+use Rattle.pk_model.specs.RootLimits.{root_limits}
+use Rattle.pk_scan.specs.Used.{IsUseOf}
+use Rattle.pk_scan.proofs.Using.{all_in_one}
+use Rattle.pk_space.specs.Uses.{Use}
 
 -- ---- the keys that exist
 
@@ -63,11 +67,21 @@ placed_all shape [] all = tt
 placed_all shape ((key, None) ∷ es) all = placed_all shape es all.1
 placed_all shape ((key, Some place) ∷ es) all = (all.0.1, placed_all shape es all.1)
 
+placed_keys : (shape : Shape) (es : List Entry) → AllByRecursion (IsEntry shape) es → AllByRecursion (λ e. IsKey e.0) (placed es)
+placed_keys shape [] all = tt
+placed_keys shape ((key, None) ∷ es) all = placed_keys shape es all.1
+placed_keys shape ((key, Some place) ∷ es) all = (all.0.0, placed_keys shape es all.1)
+
+entries_are : (shape : Shape) (flash : Flash) (root : Root) (found : Found) → found_under shape (page_at flash) root ≡ Ok found → AllByRecursion (IsEntry shape) (firsts (entries_in_order found []))
+entries_are shape flash root found is =
+    counting_all (IsEntry shape) shape (page_at flash) (λ k number index bytes es stands read. journal_are shape number index bytes es read)
+    (λ k level index count bytes es stands read. meta_are shape level index count bytes es read) root found [] is tt
+
+pub keys_found : (shape : Shape) (flash : Flash) (root : Root) (found : Found) → found_under shape (page_at flash) root ≡ Ok found → AllByRecursion (λ e. IsKey e.0) (places found [])
+keys_found shape flash root found is = placed_keys shape (firsts (entries_in_order found [])) (entries_are shape flash root found is)
+
 pub places_are : (shape : Shape) (flash : Flash) (root : Root) (found : Found) → found_under shape (page_at flash) root ≡ Ok found → AllByRecursion (λ e. IsPlace shape e.1) (places found [])
-places_are shape flash root found is =
-    placed_all shape (firsts (entries_in_order found []))
-    (counting_all (IsEntry shape) shape (page_at flash) (λ k number index bytes es stands read. journal_are shape number index bytes es read)
-    (λ k level index count bytes es stands read. meta_are shape level index count bytes es read) root found [] is tt)
+places_are shape flash root found is = placed_all shape (firsts (entries_in_order found [])) (entries_are shape flash root found is)
 
 module _ (shape : Shape) (flash : Flash) (root : Root) (active frozen : Table) (epoch : JournalEpoch) (arena : Frames)
     (levels : Levels) (found : Found) (held : HoldsFound shape flash root active frozen epoch arena levels found) where
@@ -109,16 +123,16 @@ module _ (shape : Shape) (at : ℕ → Page) where
       let bytes = bind_ok (value_from shape at place.page (head_bytes key place.len) (32 + place.len) (charge shape place.len)) _ v ok in
       from_written place.page (head_bytes key place.len) (32 + place.len) (charge shape place.len) bytes.0 bytes.1 k is.0 is.1
 
-  pub values_written : (named taken : List ℕ) (es : List (Key × Place)) (vs : List (Key × List ℕ)) → values_of shape at named taken es ≡ Ok vs → (k : ℕ) → IsValuePage shape es k → at k ≢ erased
+  pub values_written : (limits named : List ℕ) (taken es : List (Key × Place)) (vs : List (Key × List ℕ)) → values_of shape at limits named taken es ≡ Ok vs → (k : ℕ) → IsValuePage shape es k → at k ≢ erased
   unfolding values_of
-  values_written named taken [] vs ok k is = absurd is
-  values_written named taken (e ∷ es) vs ok k is =
-      let room = bind_ok (ensure (fits shape named (taken ++ value_pages shape e.1)) e.1.page) _ vs ok in
+  values_written limits named taken [] vs ok k is = absurd is
+  values_written limits named taken (e ∷ es) vs ok k is =
+      let room = bind_ok (ensure (fits_after shape limits named taken e) e.1.page) _ vs ok in
       let value = bind_ok (value_at shape at e.0 e.1) _ vs room.2 in
-      let others = bind_ok (values_of shape at named (taken ++ value_pages shape e.1) es) _ vs value.2 in
+      let others = bind_ok (values_of shape at limits named (taken ++ e ∷ []) es) _ vs value.2 in
       elim is [
         | inl here ↦ value_written e.0 e.1 value.0 value.1 k here
-        | inr there ↦ values_written named (taken ++ value_pages shape e.1) es others.0 others.1 k there
+        | inr there ↦ values_written limits named (taken ++ e ∷ []) es others.0 others.1 k there
       ]
 
 -- ---- refusals
@@ -140,22 +154,22 @@ module _ (shape : Shape) (page : ℕ) (root : Root) (old : BoardState) (top : ne
       (behind_reads part old now new e reads same (subst (λ (f : Flash). PartNotOpened (found_under shape (page_at f) root) now new e) same why))
 
   pub values_refused : (found : Found) → found_under shape (page_at old.pages) root ≡ Ok found → length (firsts found.newest) ≤ buffer shape → (new : BoardState) (e : OpenError)
-      → PartNotOpened (values_of shape (page_at now.pages) (named root) [] (places found [])) now new e → NotOpened shape old new e
+      → PartNotOpened (values_of shape (page_at now.pages) (root_limits shape root) (named root) [] (places found [])) now new e → NotOpened shape old new e
   values_refused found is room new e why =
-      let part = values_of shape (page_at old.pages) (named root) [] (places found []) in
+      let part = values_of shape (page_at old.pages) (root_limits shape root) (named root) [] (places found []) in
       as_whole part shape old new e (values_refuse shape old.pages page root top found is room)
-      (behind_reads part old now new e reads same (subst (λ (f : Flash). PartNotOpened (values_of shape (page_at f) (named root) [] (places found [])) now new e) same why))
+      (behind_reads part old now new e reads same (subst (λ (f : Flash). PartNotOpened (values_of shape (page_at f) (root_limits shape root) (named root) [] (places found [])) now new e) same why))
 
 -- ---- all that is on the flash
 
 module _ {A : Type 0} (shape : Shape) (flash : Flash) (frames : ℕ) (f : Opened A) (found : Found) (held : HoldsFound shape flash f.root.root f.active f.frozen f.epoch f.arena f.levels found)
     (top : newest_root shape (page_at flash) ≡ Some (f.root_page, f.root.root)) (pinned_is : f.levels.pinned ≡ pinned shape frames)
-    (live : Values) (values : ReadsValues shape flash (named f.root.root) live (places found [])) where
+    (live : Values) (values : ReadsValues shape flash (root_limits shape f.root.root) (named f.root.root) live (places found [])) where
   pub is_opened : f.root.shape ≡ shape → is_root shape f.root.root ≡ true → f.root_page < root_pages shape → f.levels.shape ≡ shape → length f.active.entries ≤ f.active.capacity
       → HasArena shape frames f.levels f.arena [] → (pool : Blocks) → HasOwners shape f.root.root live pool
       → used_by for_values pool.states ≡ length (blocks_with shape (all_pages shape (places found [])))
-      → (keys : ℕ) → keys ≡ length (places found []) → FoundOnFlash shape flash frames (record f { live = live; pool = pool; keys = keys })
-  is_opened shape_is grammar place levels_shape room arena_is pool owners values_are keys keys_are =
+      → (u : Use) → IsUseOf shape u (places found []) → FoundOnFlash shape flash frames (record f { live = live; pool = pool; spaces = u })
+  is_opened shape_is grammar place levels_shape room arena_is pool owners values_are u uses =
       let under = stands_under shape flash f.root_page f.root.root top found held.finds
       (few_newest shape flash f.root.root f.active f.frozen f.epoch f.arena f.levels found held room) values.values values.read in
       record {
@@ -178,11 +192,12 @@ module _ {A : Type 0} (shape : Shape) (flash : Flash) (frames : ℕ) (f : Opened
         };
         blocks = record {
           lives = values.lives;
-          written = values_written shape (page_at flash) (named f.root.root) [] (places found []) values.values values.read;
+          written = values_written shape (page_at flash) (root_limits shape f.root.root) (named f.root.root) [] (places found []) values.values values.read;
           owners = owners;
           values_are = values_are;
         };
-        keys_are = keys_are;
+        uses = uses;
+        keys_are = uses.keys 1 (omega arith, omega arith) ∙ all_in_one (places found []) (keys_found shape flash f.root.root found held.finds);
       }
 
   opened_is : opening_reads shape flash frames ≡ root_pages shape + epoch_reads shape (page_at flash) f.root.root.older + epoch_reads shape
@@ -264,34 +279,34 @@ module _ {A : Type 0} (shape a : Shape) (f : Opened A) (is : a ≡ shape) (root_
   from_before : before.root.shape ≡ shape
   from_before = before_is ∙ is
 
-  values_here : (live : Values) → ReadsValues f.root.shape now.pages (named f.root.root) live (places found []) → ReadsValues shape old.pages (named f.root.root) live (places found [])
+  values_here : (live : Values) → ReadsValues f.root.shape now.pages (root_limits f.root.shape f.root.root) (named f.root.root) live (places found []) → ReadsValues shape old.pages (root_limits shape f.root.root) (named f.root.root) live (places found [])
   values_here live values =
-      subst (λ (s : Shape). ReadsValues s old.pages (named f.root.root) live (places found [])) shape_is
-      (subst (λ (x : Flash). ReadsValues f.root.shape x (named f.root.root) live (places found [])) same values)
+      subst (λ (s : Shape). ReadsValues s old.pages (root_limits s f.root.root) (named f.root.root) live (places found [])) shape_is
+      (subst (λ (x : Flash). ReadsValues f.root.shape x (root_limits f.root.shape f.root.root) (named f.root.root) live (places found [])) same values)
 
   top_here : newest_root shape (page_at old.pages) ≡ Some (f.root_page, f.root.root)
   top_here = subst (λ (s : Shape). newest_root s (page_at old.pages) ≡ Some (f.root_page, f.root.root)) from_before finds.top
 
   pub scan_refuses : OnlyReads old now → (new : BoardState) (e : OpenError)
-      → PartNotOpened (values_of f.root.shape (page_at now.pages) (named f.root.root) [] (places found [])) now new e → NotOpened shape old new e
+      → PartNotOpened (values_of f.root.shape (page_at now.pages) (root_limits f.root.shape f.root.root) (named f.root.root) [] (places found [])) now new e → NotOpened shape old new e
   scan_refuses reads new e why =
       values_refused shape f.root_page f.root.root old top_here now reads same found held_here.finds
       (few_newest shape old.pages f.root.root f.active f.frozen f.epoch f.arena f.levels found held_here finds.few) new e
-      (subst (λ (s : Shape). PartNotOpened (values_of s (page_at now.pages) (named f.root.root) [] (places found [])) now new e) shape_is why)
+      (subst (λ (s : Shape). PartNotOpened (values_of s (page_at now.pages) (root_limits s f.root.root) (named f.root.root) [] (places found [])) now new e) shape_is why)
 
-  module _ (unread : FoundNothing shape frames before) (live : Values) (values : ReadsValues f.root.shape now.pages (named f.root.root) live (places found [])) where
+  module _ (unread : FoundNothing shape frames before) (live : Values) (values : ReadsValues f.root.shape now.pages (root_limits f.root.shape f.root.root) (named f.root.root) live (places found [])) where
     pinned_here : f.levels.pinned ≡ pinned shape frames
     pinned_here = finds.pinned_is ∙ ap (λ (l : Levels). l.pinned) unread.no_run
 
     pub scan_opened : (pool : Blocks) → HasOwners f.root.shape f.root.root live pool → used_by for_values pool.states ≡ length (blocks_with f.root.shape (all_pages f.root.shape (places found [])))
-        → (keys : ℕ) → keys ≡ length (places found []) → FoundOnFlash shape old.pages frames (record f { live = live; pool = pool; keys = keys })
-    scan_opened pool owners values_are keys keys_are =
+        → (u : Use) → IsUseOf f.root.shape u (places found []) → FoundOnFlash shape old.pages frames (record f { live = live; pool = pool; spaces = u })
+    scan_opened pool owners values_are u uses =
         is_opened shape old.pages frames f found held_here top_here pinned_here live (values_here live values) shape_is
         (subst (λ (s : Shape). is_root s f.root.root ≡ true) from_before finds.grammar)
         (subst (λ (s : Shape). f.root_page < root_pages s) from_before finds.place) (finds.levels_shape ∙ from_before) finds.few
-        (arena_opened shape frames before.arena f.arena f.levels f.root.root.counts finds.held.run_frames unread.page_bytes unread.all_free finds.more)
+        (arena_opened shape frames before.arena f.arena f.levels f.root.root.counts finds.held.run_frames (finds.levels_shape ∙ from_before) pinned_here unread.page_bytes unread.all_free finds.more)
         pool (subst (λ (s : Shape). HasOwners s f.root.root live pool) shape_is owners)
-        (subst (λ (s : Shape). used_by for_values pool.states ≡ length (blocks_with s (all_pages s (places found [])))) shape_is values_are) keys keys_are
+        (subst (λ (s : Shape). used_by for_values pool.states ≡ length (blocks_with s (all_pages s (places found [])))) shape_is values_are) u (subst (λ (s : Shape). IsUseOf s u (places found [])) shape_is uses)
 
     pub scan_reads : (new : BoardState) → now ≡ after_reads (root_pages before.root.shape + list_reads before.root.shape (page_at old.pages) f.root.root) old
         → new ≡ after_reads (most_read f.levels.runs + value_reads f.root.shape (places found [])) now → new ≡ after_reads (opening_reads shape old.pages frames) old
@@ -313,8 +328,8 @@ awaits_lists shape frames f none = record {
 -- after the lists the values may be read
 pub awaits_values : {A : Type 0} (shape : Shape) (frames : ℕ) (flash : Flash) (was now : Working A) (found : Found) → IsUnread shape frames was → FindsLists flash was.found now.found found
     → now.found.root.shape ≡ was.found.root.shape → now.found.live ≡ was.found.live → now.walk ≡ was.walk
-    → now.found.pool ≡ was.found.pool → length now.page.items ≡ was.found.root.shape.page_bytes → AwaitsValues now
-awaits_values shape frames flash was now found unread finds root_is live walk pool room =
+    → now.found.pool ≡ was.found.pool → now.found.spaces ≡ was.found.spaces → length now.page.items ≡ was.found.root.shape.page_bytes → AwaitsValues now
+awaits_values shape frames flash was now found unread finds root_is live walk pool spaces room =
     let is : now.found.root.shape ≡ shape = root_is ∙ unread.nothing.root_shape in
     record {
       grammar = rw root_is finds.grammar;
@@ -323,5 +338,6 @@ awaits_values shape frames flash was now found unread finds root_is live walk po
       starts = subst (λ w. IsAtStart w) (sym walk) unread.starts;
       none_live = live ∙ unread.nothing.none_live ∙ ap (λ (s : Shape). no_values s) (sym is);
       pool_unused = pool ∙ unread.nothing.pool_unused ∙ ap (λ (s : Shape). unused s) (sym is);
+      none_used = spaces ∙ unread.nothing.none_used;
       page_room = room ∙ ap (λ (s : Shape). s.page_bytes) (sym root_is);
     }

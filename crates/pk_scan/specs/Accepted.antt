@@ -7,26 +7,26 @@ use Rattle.pk_base.specs.Page.{Flash, page_at}
 use Rattle.pk_base.specs.Refusal.{damaged, ◌>>=◌}
 use Rattle.pk_nand.specs.BoardState.{BoardState}
 use Rattle.pk_nand.specs.Counts.{after_reads}
-use Rattle.pk_segfmt.specs.Value.{value_pages, value_at}
-use Rattle.pk_model.specs.Values.{fits, all_pages, values_of}
+use Rattle.pk_segfmt.specs.Value.{value_at}
+use Rattle.pk_model.specs.Values.{fits_after, values_of}
 use Rattle.pk_scan.specs.Checked.{Faulted}
 use Rattle.pk_scan.specs.declared.errors.PageError.{PageError}
 use Rattle.pk_scan.specs.declared.errors.PageError.TheVariants.{Damaged, Fault}
 
 -- After the values that were taken, the reading finds this one and goes on with the others.
-pub record Accepted (shape : Shape) (flash : Flash) (named : List ℕ) (taken : List (Key × Place)) (key : Key) (place : Place) : Type 0 where
+pub record Accepted (shape : Shape) (flash : Flash) (limits named : List ℕ) (taken : List (Key × Place)) (key : Key) (place : Place) : Type 0 where
   pub value : List ℕ
   pub found : value_at shape (page_at flash) key place ≡ Ok value
   pub goes_on : (rest : List (Key × Place))
-      → values_of shape (page_at flash) named (all_pages shape taken) ((key, place) ∷ rest)
-      ≡ (values_of shape (page_at flash) named (all_pages shape (taken ++ (key, place) ∷ [])) rest >>= (λ others. Ok ((key, value) ∷ others)))
+      → values_of shape (page_at flash) limits named taken ((key, place) ∷ rest)
+      ≡ (values_of shape (page_at flash) limits named (taken ++ (key, place) ∷ []) rest >>= (λ others. Ok ((key, value) ∷ others)))
 
 -- The reading refuses this value with the page. Its pages were read up to this one, or none if they may not be taken.
-pub record RefusedWith (shape : Shape) (old new : BoardState) (named : List ℕ) (taken : List (Key × Place)) (key : Key) (place : Place) (page : ℕ) : Type 0 where
-  pub refusal : (rest : List (Key × Place)) → values_of shape (page_at old.pages) named (all_pages shape taken) ((key, place) ∷ rest) ≡ Err (damaged page)
-  pub board : new ≡ (if fits shape named (all_pages shape taken ++ value_pages shape place) then after_reads (suc (page - place.page)) old else old)
+pub record RefusedWith (shape : Shape) (old new : BoardState) (limits named : List ℕ) (taken : List (Key × Place)) (key : Key) (place : Place) (page : ℕ) : Type 0 where
+  pub refusal : (rest : List (Key × Place)) → values_of shape (page_at old.pages) limits named taken ((key, place) ∷ rest) ≡ Err (damaged page)
+  pub board : new ≡ (if fits_after shape limits named taken (key, place) then after_reads (suc (page - place.page)) old else old)
 
 -- why the value was not accepted
-abbrev pub NotAccepted : Shape → BoardState → BoardState → List ℕ → List (Key × Place) → Key → Place → PageError → Type 0
-NotAccepted shape old new named taken key place (Damaged page) = RefusedWith shape old new named taken key place page
-NotAccepted shape old new named taken key place Fault = (fits shape named (all_pages shape taken ++ value_pages shape place) ≡ true) × Faulted shape old new key place
+abbrev pub NotAccepted : Shape → BoardState → BoardState → List ℕ → List ℕ → List (Key × Place) → Key → Place → PageError → Type 0
+NotAccepted shape old new limits named taken key place (Damaged page) = RefusedWith shape old new limits named taken key place page
+NotAccepted shape old new limits named taken key place Fault = (fits_after shape limits named taken (key, place) ≡ true) × Faulted shape old new key place

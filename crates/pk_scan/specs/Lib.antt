@@ -11,3 +11,4 @@ pub mod Memory
 pub mod Taken
 pub mod Starting
 pub mod OpeningParts
+pub mod Used

@@ -17,6 +17,9 @@ use Rattle.pk_law_steps.specs.Under.{places}
 use Rattle.pk_walk.specs.Walking.{most_read}
 use Rattle.pk_scan.specs.Starting.{IsAtStart}
 use Rattle.pk_scan.specs.OpeningParts.{HoldsFound, ReadsValues, wanted_behind}
+use Rattle.pk_space.specs.Uses.{nothing_used}
+use Rattle.pk_model.specs.RootLimits.{root_limits}
+use Rattle.pk_scan.specs.Used.{IsUseOf}
 use Rattle.pk_scan.specs.Reads.{value_reads}
 use Rattle.pk_scan.specs.Runs.{LeasedMore}
 use Rattle.pk_scan.specs.declared.contents.Found.{Found}
@@ -32,6 +35,7 @@ pub record FoundNothing {A : Type 0} (shape : Shape) (frames : ℕ) (f : Found A
   pub all_free : f.arena.used ≡ replicate frames false
   pub none_live : f.live ≡ no_values shape
   pub pool_unused : f.pool ≡ unused shape
+  pub none_used : f.spaces ≡ nothing_used
   pub pool_fits : (flash : Flash) → PoolOnFlash f.pool flash
 
 -- Nothing was read, and the walk is at its start.
@@ -83,10 +87,12 @@ pub record AwaitsValues {A : Type 0} (m : Memory A) : Type 0 where
   pub starts : IsAtStart m.walk
   pub none_live : m.found.live ≡ no_values m.found.root.shape
   pub pool_unused : m.found.pool ≡ unused m.found.root.shape
+  pub none_used : m.found.spaces ≡ nothing_used
   pub page_room : length m.page.items ≡ m.found.root.shape.page_bytes
 
--- The values of all keys that exist were read, each page once: the live map represents them, and the keys are counted.
+-- The values of all keys that exist were read, each page once: the live map represents them, and what each
+-- namespace uses is counted.
 pub record FindsValues {A : Type 0} (old new : BoardState) (f : Found A) (lists : FoundLists) : Type 0 where
-  pub values : ReadsValues f.root.shape old.pages (named f.root.root) f.live (places lists [])
-  pub keys_are : f.keys ≡ length (places lists [])
+  pub values : ReadsValues f.root.shape old.pages (root_limits f.root.shape f.root.root) (named f.root.root) f.live (places lists [])
+  pub uses : IsUseOf f.root.shape f.spaces (places lists [])
   pub reads : new ≡ after_reads (most_read f.levels.runs + value_reads f.root.shape (places lists [])) old

@@ -16,6 +16,8 @@ use Rattle.pk_law_steps.specs.Under.{IsUnder, IsValuePage, places}
 pub use Rattle.pk_scan.specs.OpeningParts.{HaveBlocks}
 use Rattle.pk_scan.specs.OpeningParts.{IsFoundEpoch}
 use Rattle.pk_live.specs.Lives.{Lives}
+use Rattle.pk_space.specs.Uses.{space_keys}
+use Rattle.pk_scan.specs.Used.{IsUseOf}
 use Rattle.pk_scan.specs.Adopts.{HasOwners}
 use Rattle.pk_scan.specs.declared.contents.Found.{Found}
 
@@ -45,10 +47,12 @@ pub record BlocksOnFlash {A : Type 0} (shape : Shape) (flash : Flash) (f : Found
   pub values_are : used_by for_values f.pool.states ≡ length (blocks_with shape (all_pages shape (places lists [])))
 
 -- The flash is opened: the lists under its newest root are in memory, the live map represents the values of the keys that
--- exist, each block has its owner, and the keys are counted.
+-- exist, each block has its owner, and what each namespace uses is counted.
 pub record FoundOnFlash {A : Type 0} (shape : Shape) (flash : Flash) (frames : ℕ) (f : Found A) : Type 0 where
   pub found : FoundLists
   pub map : Map
   pub lists : ListsOnFlash shape flash frames f found map
   pub blocks : BlocksOnFlash shape flash f found
-  pub keys_are : f.keys ≡ length (places found [])
+  pub uses : IsUseOf shape f.spaces (places found [])
+  -- there is one namespace
+  pub keys_are : space_keys f.spaces 1 ≡ length (places found [])

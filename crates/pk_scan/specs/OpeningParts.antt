@@ -20,6 +20,7 @@ use Rattle.pk_run.specs.Kept.{Kept, RunOnFlash}
 pub use Rattle.pk_level.specs.Levels.{HaveBlocks}
 use Rattle.pk_level.specs.Levels.{Levels, RunsOnFlash, with_run}
 use Rattle.pk_level.specs.Arenas.{IsPinnedIf, leases_of}
+use Rattle.pk_model.specs.RootLimits.{root_spaces}
 use Rattle.pk_model.specs.Found.{Found, found_under, newest_epoch, older_epoch, runs_from}
 use Rattle.pk_live.specs.Values.{Values}
 use Rattle.pk_model.specs.Values.{values_of}
@@ -74,14 +75,14 @@ HaveFrames pinned level (r ∷ rs) (count ∷ counts) = (r.count ≡ count) × I
 
 -- the reading of the runs finds these lists, and the levels represent them, with the blocks that the root names
 pub record HoldsRuns (shape : Shape) (flash : Flash) (root : Root) (arena : Frames) (levels : Levels) (ess : List (List Entry)) : Type 0 where
-  pub finds : runs_from shape (page_at flash) 1 root.counts root.runs ≡ Ok ess
+  pub finds : runs_from shape (root_spaces shape root) (page_at flash) 1 root.counts root.runs ≡ Ok ess
   pub stand : RunsOnFlash flash arena levels.runs ess
   pub run_blocks : HaveBlocks shape levels.runs root.runs
   pub run_frames : HaveFrames levels.pinned 1 levels.runs root.counts
 
 -- the reading of the run of a level under a root
 abbrev pub level_of : Held → (ℕ → Page) → ℕ → Result (List Entry) Refusal
-level_of root at level = run root.shape at level (slice_index root.root.counts (level - 1)) (slice_index_or root.root.runs (level - 1) [])
+level_of root at level = run root.shape (root_spaces root.shape root.root) at level (slice_index root.root.counts (level - 1)) (slice_index_or root.root.runs (level - 1) [])
 
 -- how many pages it has
 abbrev pub level_reads : Held → ℕ → ℕ
@@ -92,7 +93,7 @@ level_reads root level = run_pages root.shape (slice_index root.root.counts (lev
 pub record LoadsLevel (shape : Shape) (root : Root) (level : ℕ) (flash : Flash) (before after : Frames) (old new : Levels) : Type 0 where
   pub entries : List Entry
   pub kept : Kept
-  pub finds : run shape (page_at flash) level (slice_index root.counts (level - 1)) (slice_index_or root.runs (level - 1) []) ≡ Ok entries
+  pub finds : run shape (root_spaces shape root) (page_at flash) level (slice_index root.counts (level - 1)) (slice_index_or root.runs (level - 1) []) ≡ Ok entries
   pub stands : RunOnFlash kept flash after entries
   pub shape_is : kept.shape ≡ shape
   pub blocks_are : kept.blocks ≡ slice_index_or root.runs (level - 1) []
@@ -150,7 +151,7 @@ pub record HoldsFound (shape : Shape) (flash : Flash) (root : Root) (active froz
   pub epoch_fits : EpochOnFlash epoch flash
 
 -- The reading of the flash finds values at these places, one after another, and the live map represents them.
-pub record ReadsValues (shape : Shape) (flash : Flash) (named : List ℕ) (live : Values) (es : List (Key × Place)) : Type 0 where
+pub record ReadsValues (shape : Shape) (flash : Flash) (limits named : List ℕ) (live : Values) (es : List (Key × Place)) : Type 0 where
   pub values : List (Key × List ℕ)
-  pub read : values_of shape (page_at flash) named [] es ≡ Ok values
+  pub read : values_of shape (page_at flash) limits named [] es ≡ Ok values
   pub lives : Lives shape named live es

@@ -11,7 +11,7 @@ use Rattle.pk_base.specs.EntryChecks.{IsEntry}
 use Rattle.pk_base.specs.Page.{Flash, page_at, page_in, whole, pages_of_blocks}
 use Rattle.pk_base.specs.Refusal.{damaged}
 use Rattle.pk_meta.specs.Page.{meta_entries}
-use Rattle.pk_meta.specs.Run.{meta, run}
+use Rattle.pk_meta.specs.Run.{may_hold, meta, run}
 use Rattle.pk_nand.specs.BoardState.{BoardState}
 use Rattle.pk_nand.specs.Calls.{Rose}
 use Rattle.pk_nand.specs.Operations.{ReadFailed, after_read}
@@ -26,11 +26,11 @@ use Rattle.pk_scan.specs.declared.errors.PageError.TheVariants.{Damaged, Fault}
 abbrev pub RunBlocksExist : Shape → List ℕ → Type 0
 RunBlocksExist shape blocks = (n : ℕ) → n < length blocks → slice_index blocks n < shape.blocks
 
-module _ (shape : Shape) (level count : ℕ) (blocks : List ℕ) where
+module _ (shape : Shape) (spaces level count : ℕ) (blocks : List ℕ) where
   -- The reading of the run finds entries, and what is in memory represents them.
   pub record HasRun (flash : Flash) (arena : Frames) (r : Kept) : Type 0 where
     pub entries : List Entry
-    pub read : run shape (page_at flash) level count blocks ≡ Ok entries
+    pub read : run shape spaces (page_at flash) level count blocks ≡ Ok entries
     pub each : AllByRecursion (IsEntry shape) entries
     pub counted : r.count ≡ count
     pub stands : RunOnFlash r flash arena entries
@@ -38,14 +38,14 @@ module _ (shape : Shape) (level count : ℕ) (blocks : List ℕ) where
   -- after this many pages the reading of the run has these entries, and goes on with the other pages
   abbrev pub ComesTo : Flash → ℕ → List Entry → Type 0
   ComesTo flash index es =
-      run shape (page_at flash) level count blocks ≡ meta shape level count index es (pages_of_blocks shape (page_at flash) blocks index (run_pages shape count - index))
+      run shape spaces (page_at flash) level count blocks ≡ meta shape spaces level count index es (pages_of_blocks shape (page_at flash) blocks index (run_pages shape count - index))
 
   -- The reading of the run refuses with this page, after which nothing was read.
   pub record RunRefused (old new : BoardState) (page : ℕ) : Type 0 where
     pub index : ℕ
     pub within : index < run_pages shape count
     pub page_is : page ≡ page_in shape blocks index
-    pub read : run shape (page_at old.pages) level count blocks ≡ Err (damaged page)
+    pub read : run shape spaces (page_at old.pages) level count blocks ≡ Err (damaged page)
     pub board : new ≡ after_reads (index + 1) old
 
   -- A read failed, after pages that the reading of the run does not refuse.
@@ -137,16 +137,16 @@ abbrev pub are_put : List Entry → Bool
 are_put es = list_all (λ e. is_some e.1) es
 
 -- The page of this level and index has n entries, which follow those before.
-pub record RunGoesOn (shape : Shape) (level index many : ℕ) (before : List Entry) (bytes : List ℕ) (more : List Entry) : Type 0 where
+pub record RunGoesOn (shape : Shape) (spaces level index many : ℕ) (before : List Entry) (bytes : List ℕ) (more : List Entry) : Type 0 where
   pub holds : meta_entries shape level index many bytes ≡ Some more
   pub rising : T (is_sorted key_cmp (before ++ more))
-  -- the deepest run keeps no deleted keys
-  pub deepest : T (not (level == LEVELS) || are_put more)
+  -- the entries are of namespaces of the drive, and the deepest run keeps no deleted keys
+  pub stands : T (may_hold spaces level more)
 
 -- whether some entries go on so
-abbrev pub GoesOnOr : Shape → ℕ → ℕ → ℕ → List Entry → List ℕ → Bool → Type 0
-GoesOnOr shape level index many before bytes true = (more : List Entry) × RunGoesOn shape level index many before bytes more
-GoesOnOr shape level index many before bytes false = (more : List Entry) → RunGoesOn shape level index many before bytes more → ⊥
+abbrev pub GoesOnOr : Shape → ℕ → ℕ → ℕ → ℕ → List Entry → List ℕ → Bool → Type 0
+GoesOnOr shape spaces level index many before bytes true = (more : List Entry) × RunGoesOn shape spaces level index many before bytes more
+GoesOnOr shape spaces level index many before bytes false = (more : List Entry) → RunGoesOn shape spaces level index many before bytes more → ⊥
 
 -- the frame of a page, if it has one, as a list
 abbrev pub listed : Option ℕ → List ℕ
@@ -162,17 +162,17 @@ pub record PageAdded (pins : Bool) (before after : Frames) (old new : Kept) (man
   pub more : LeasedMore before after (listed lease)
 
 -- Its entries follow es, and the last one has this key.
-pub record PageTaken (flash : Flash) (after : Frames) (old new : Kept) (es : List Entry) (many : ℕ) (last : Key) : Type 0 where
+pub record PageTaken (spaces : ℕ) (flash : Flash) (after : Frames) (old new : Kept) (es : List Entry) (many : ℕ) (last : Key) : Type 0 where
   pub bytes : List ℕ
   pub more : List Entry
   pub here : page_at flash (page_of old (length old.firsts)) ≡ whole bytes
-  pub goes_on : RunGoesOn old.shape old.level (length old.firsts) many es bytes more
+  pub goes_on : RunGoesOn old.shape spaces old.level (length old.firsts) many es bytes more
   pub stands : RunOnFlash new flash after (es ++ more)
   pub ends : IsLast (Some last) (es ++ more)
 
 -- The next page of the run was read, and has no entries that follow es; or its read failed.
-abbrev pub PageRefused : BoardState → BoardState → Kept → List Entry → ℕ → PageError → Type 0
-PageRefused old new r es many (Damaged page) =
+abbrev pub PageRefused : ℕ → BoardState → BoardState → Kept → List Entry → ℕ → PageError → Type 0
+PageRefused spaces old new r es many (Damaged page) =
     (page ≡ page_of r (length r.firsts)) × (new ≡ after_read old)
-    × ((bytes : List ℕ) (more : List Entry) → page_at old.pages (page_of r (length r.firsts)) ≡ whole bytes → RunGoesOn r.shape r.level (length r.firsts) many es bytes more → ⊥)
-PageRefused old new r es many Fault = ReadFailed old new (page_of r (length r.firsts))
+    × ((bytes : List ℕ) (more : List Entry) → page_at old.pages (page_of r (length r.firsts)) ≡ whole bytes → RunGoesOn r.shape spaces r.level (length r.firsts) many es bytes more → ⊥)
+PageRefused spaces old new r es many Fault = ReadFailed old new (page_of r (length r.firsts))

@@ -11,11 +11,14 @@ use Rattle.pk_run.specs.Kept.{Kept}
 use Rattle.pk_walk.specs.Walking.{Walk, SkipsNone, most_read, pages_read}
 use Rattle.pk_scan.specs.Opening.{OnlyReads}
 use Rattle.pk_scan.specs.OpeningParts.{ReadsValues}
+use Rattle.pk_space.specs.Uses.{Use}
+use Rattle.pk_scan.specs.Used.{IsUseOf}
 use Rattle.pk_scan.specs.Reads.{value_reads}
 
 -- The values at these places were read and taken, and this many keys were counted.
-pub record TakesValues (shape : Shape) (flash : Flash) (named : List ℕ) (live : Values) (keys : ℕ) (es : List (Key × Place)) : Type 0 where
-  pub values : ReadsValues shape flash named live es
+pub record TakesValues (shape : Shape) (flash : Flash) (limits named : List ℕ) (live : Values) (u : Use) (keys : ℕ) (es : List (Key × Place)) : Type 0 where
+  pub values : ReadsValues shape flash limits named live es
+  pub uses : IsUseOf shape u es
   pub keys_are : keys ≡ length es
 
 -- No read failed; if the walk began at the first key, each page of the runs without frames was read once, and each of the values.

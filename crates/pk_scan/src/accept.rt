@@ -9,6 +9,7 @@ ghost use Rattle.pk_nand.specs.Counts.{after_reads};
 ghost use Rattle.pk_live.specs.Lives.{Lives};
 ghost use Rattle.pk_scan.specs.Accepted.{Accepted, NotAccepted};
 ghost use Rattle.pk_scan.specs.Adopts.{owned_blocks};
+ghost use Rattle.pk_scan.specs.Used.{IsUseOf};
 ghost use Rattle.pk_scan.specs.Board.{StaysReady};
 
 use crate::errors::PageError;
@@ -18,10 +19,11 @@ use pk_base::{Key, Place, Shape};
 use pk_live::Live;
 use pk_nand::Nand;
 use pk_pool::Pool;
+use pk_space::{Limits, Use};
 use std::alloc::Allocator;
 
 /// Takes the pages of a value and checks them: one step of the reading of a flash, whose earlier
-/// values `live` represents. In the pool the blocks that the root names have their owners. `buf`
+/// values `live` represents and `spaces` counts, of a drive with these limits. In the pool the blocks that the root names have their owners. `buf`
 /// has the size of a page and is overwritten.
 ///
 /// `Damaged` names the first page of a value whose pages may not be taken, before any read, or the
@@ -30,8 +32,10 @@ use std::alloc::Allocator;
 pub fn accept_value<B: Nand, A: Allocator>(
     board: &mut B,
     shape: &Shape,
+    limits: &Limits,
     pool: &Pool<A>,
     live: &mut Live<A>,
+    spaces: &mut Use,
     key: &Key,
     place: Place,
     buf: &mut [u8],
@@ -39,22 +43,29 @@ pub fn accept_value<B: Nand, A: Allocator>(
     requires ready { IsReady (B.state board.old) shape.now }
     requires place { IsPlace shape.now place }
     requires lives { (taken : List (KeySpec × Place))
-        × Lives shape.now (owned_blocks pool.now) live.old taken }
+        × Lives shape.now (owned_blocks pool.now) live.old taken
+        × IsUseOf shape.now spaces.old taken }
     requires room { length buf.old ≡ shape.now.page_bytes }
 
     // The reading finds the value after those that were taken, and the live map represents it too.
     ensures accepted { OnOk result ((taken : List (KeySpec × Place))
         → Lives shape.now (owned_blocks pool.now) live.old taken
-        → Accepted shape.now (B.state board.old).pages
+        → IsUseOf shape.now spaces.old taken
+        → Accepted shape.now (B.state board.old).pages limits.now.each
         (owned_blocks pool.now) taken key.now place) }
     ensures lives { OnOk result ((taken : List (KeySpec × Place))
         → Lives shape.now (owned_blocks pool.now) live.old taken
         → Lives shape.now (owned_blocks pool.now) live.new (taken ++ (key.now, place) ∷ [])) }
 
+    ensures used { OnOk result ((taken : List (KeySpec × Place))
+        → IsUseOf shape.now spaces.old taken
+        → IsUseOf shape.now spaces.new (taken ++ (key.now, place) ∷ [])) }
+
     // It refuses with the page that is answered.
     ensures err { IfErr result (λ e. (taken : List (KeySpec × Place))
         → Lives shape.now (owned_blocks pool.now) live.old taken
-        → NotAccepted shape.now (B.state board.old) (B.state board.new)
+        → IsUseOf shape.now spaces.old taken
+        → NotAccepted shape.now (B.state board.old) (B.state board.new) limits.now.each
         (owned_blocks pool.now) taken key.now place e) }
 
     // Nothing but its pages is read.
@@ -63,7 +74,7 @@ pub fn accept_value<B: Nand, A: Allocator>(
     ensures board { StaysReady shape.now (B.state board.old) (B.state board.new) }
     ensures buffer { length buf.new ≡ length buf.old }
 {
-    if !take_value(shape, pool, live, place) {
+    if !take_value(shape, limits, pool, live, spaces, key, place) {
         return Err(PageError::Damaged { page: place.page });
     }
     match check_value(board, shape, key, place, buf) {

@@ -8,6 +8,7 @@ use pk_pin::PinArena;
 use pk_pool::Pool;
 use pk_region::Region;
 use pk_rootfmt::Root;
+use pk_space::Use;
 use pk_walk::Walk;
 
 /// All that is on a flash, in memory.
@@ -31,8 +32,8 @@ pub struct Found<A: Region> {
     pub pool: Pool<A>,
     /// The newest epoch, which takes no more pages.
     pub epoch: Epoch,
-    /// How many keys are there.
-    pub keys: u32,
+    /// The live pages and the keys of each namespace.
+    pub spaces: Use,
 }
 
 /// What opening reads into, and what it works with.

@@ -11,8 +11,9 @@ ghost use Rattle.pk_scan.specs.OpeningParts.{PartNotRead, OlderHeld, NewestHeld}
 ghost use Rattle.pk_jrn.specs.EpochReads.{epoch_reads};
 
 use crate::errors::PageError;
+use crate::namespaces::spaces_under;
 use pk_buf::Buffer;
-use pk_jrn::{Epoch, ReplayError, replay};
+use pk_jrn::{Epoch, ReplayError, replay_in};
 use pk_nand::Nand;
 use pk_region::Region;
 use pk_rootfmt::Root;
@@ -47,9 +48,10 @@ pub fn read_older<B: Nand, A: Region>(
     ensures buffer { length buf.new ≡ length buf.old }
 {
     let shape = *root.shape();
+    let spaces = spaces_under(root);
     match root.older() {
         None => Ok(()),
-        Some(pair) => match replay(board, &shape, root.epoch() - 1, pair, into, buf) {
+        Some(pair) => match replay_in(board, &shape, spaces, root.epoch() - 1, pair, into, buf) {
             Ok(_) => {
                 if into.len() == 0 {
                     let page = pair[0] as u32 * shape.block_pages();
@@ -95,7 +97,8 @@ pub fn read_newest<B: Nand, A: Region>(
     let shape = *root.shape();
     let number = root.epoch();
     let blocks = root.newest();
-    match replay(board, &shape, number, blocks, into, buf) {
+    let spaces = spaces_under(root);
+    match replay_in(board, &shape, spaces, number, blocks, into, buf) {
         Ok(used) => Ok(Epoch::found(shape, number, blocks, used)),
         Err(ReplayError::Damaged { page }) => Err(PageError::Damaged { page }),
         Err(ReplayError::Fault) => Err(PageError::Fault),

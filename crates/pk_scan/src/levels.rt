@@ -2,6 +2,7 @@
 ghost use Rattle.std.specs.Prelude.{◌≡◌, length, OnOk, IfErr};
 ghost use Rattle.pk_base.specs.Page.{page_at};
 ghost use Rattle.pk_model.specs.Found.{runs_from};
+ghost use Rattle.pk_model.specs.RootLimits.{root_spaces};
 ghost use Rattle.pk_nand.specs.Calls.{IsReady};
 ghost use Rattle.pk_nand.specs.Counts.{after_reads};
 ghost use Rattle.pk_scan.specs.Board.{StaysReady};
@@ -9,6 +10,7 @@ ghost use Rattle.pk_scan.specs.Reads.{pages_of_runs};
 ghost use Rattle.pk_scan.specs.OpeningParts.{PartNotOpened, MayLoadLevel, MayLoadRuns, LoadsLevel, LoadsRuns, level_of, level_reads};
 
 use crate::errors::OpenError;
+use crate::namespaces::spaces_under;
 use crate::runs::load_run;
 use pk_level::Levels;
 use pk_nand::Nand;
@@ -53,7 +55,8 @@ fn load_level<B: Nand, A: Region>(
         Ok(mut run) => {
             let count = root.entries(level);
             let blocks = root.blocks(level);
-            match load_run(board, arena, pins, count, blocks, &mut run, buf) {
+            let spaces = spaces_under(root);
+            match load_run(board, arena, pins, spaces, count, blocks, &mut run, buf) {
                 Ok(()) => {
                     run.known();
                     levels.install_run(level, run);
@@ -90,7 +93,8 @@ pub fn load_runs<B: Nand, A: Region>(
 
     // Or the reading refuses one, a read failed, or memory is wanting.
     ensures err { IfErr result (λ e. PartNotOpened
-        (runs_from root.now.shape (page_at (B.state board.old).pages)
+        (runs_from root.now.shape (root_spaces root.now.shape root.now.root)
+        (page_at (B.state board.old).pages)
         1 root.now.root.counts root.now.root.runs)
         (B.state board.old) (B.state board.new) e) }
 

@@ -12,6 +12,8 @@ mod errors;
 mod levels;
 mod lists;
 mod memory;
+mod namespaces;
+mod namespaces;
 mod opening;
 mod pages;
 mod refused;

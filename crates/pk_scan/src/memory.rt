@@ -13,6 +13,7 @@ use pk_plan::Plan;
 use pk_pool::Pool;
 use pk_region::Region;
 use pk_rootfmt::Root;
+use pk_space::Use;
 use pk_walk::Walk;
 use std::alloc::AllocError;
 
@@ -32,7 +33,7 @@ impl<A: Region> Found<A> {
             live: Live::new(alloc, shape)?,
             pool: Pool::new(alloc, Plan::of(shape))?,
             epoch: Epoch::found(shape, 0, [0; 2], 0),
-            keys: 0,
+            spaces: Use::new(),
         })
     }
 }

@@ -2,6 +2,7 @@
 ghost use Rattle.std.specs.Prelude.{◌≡◌, ◌*◌, ◌+◌, ◌≤◌, [], length, IfOk, IfErr, OnOk};
 ghost use Rattle.pk_base.specs.Page.{page_at};
 ghost use Rattle.pk_base.specs.Shape.{root_pages};
+ghost use Rattle.pk_model.specs.RootLimits.{root_limits};
 ghost use Rattle.pk_model.specs.Found.{Found as FoundLists};
 ghost use Rattle.pk_model.specs.Values.{values_of};
 ghost use Rattle.pk_nand.specs.Calls.{IsReady};
@@ -21,6 +22,7 @@ use crate::adopt::{adopt_blocks, adopt_values};
 use crate::contents::{Found, Memory};
 use crate::errors::OpenError;
 use crate::lists::{find_root, read_lists};
+use crate::namespaces::limits_under;
 use crate::visible::{Lists, read_values};
 use pk_base::Shape;
 use pk_nand::Nand;
@@ -80,7 +82,7 @@ fn fill_lists<B: Nand, A: Region>(
 }
 
 // Gives the blocks that the root names their owners, reads the values of all keys that exist under it, takes their pages, and
-// counts the keys.
+// counts what each namespace uses.
 fn fill_values<B: Nand, A: Region>(board: &mut B, memory: &mut Memory<A>) -> Result<(), OpenError>
     requires ready { IsReady (B.state board.old) memory.old.found.root.shape }
     requires awaits { AwaitsValues memory.old }
@@ -97,7 +99,7 @@ fn fill_values<B: Nand, A: Region>(board: &mut B, memory: &mut Memory<A>) -> Res
       found = record memory.old.found {
         live = memory.new.found.live;
         pool = memory.new.found.pool;
-        keys = memory.new.found.keys;
+        spaces = memory.new.found.spaces;
       };
     } }
     ensures owned { RootOwned
@@ -108,6 +110,7 @@ fn fill_values<B: Nand, A: Region>(board: &mut B, memory: &mut Memory<A>) -> Res
         → HoldsLists (B.state board.old).pages memory.old.found lists
         → PartNotOpened
         (values_of memory.old.found.root.shape (page_at (B.state board.old).pages)
+        (root_limits memory.old.found.root.shape memory.old.found.root.root)
         (named memory.old.found.root.root) [] (places lists []))
         (B.state board.old) (B.state board.new) e) }
     ensures board { StaysReady memory.old.found.root.shape (B.state board.old) (B.state board.new) }
@@ -116,6 +119,7 @@ fn fill_values<B: Nand, A: Region>(board: &mut B, memory: &mut Memory<A>) -> Res
     shape.known();
     // first of all: no value may be in a block that has its owner
     adopt_blocks(&mut memory.found.pool, &memory.found.root);
+    let limits = limits_under(&memory.found.root);
     let lists = Lists {
         arena: &memory.found.arena,
         levels: &memory.found.levels,
@@ -125,16 +129,15 @@ fn fill_values<B: Nand, A: Region>(board: &mut B, memory: &mut Memory<A>) -> Res
     match read_values(
         board,
         &shape,
+        &limits,
         &memory.found.pool,
         &mut memory.walk,
         &lists,
         &mut memory.found.live,
+        &mut memory.found.spaces,
         &mut memory.page,
     ) {
-        Ok(keys) => {
-            memory.found.keys = keys;
-            Ok(())
-        }
+        Ok(_) => Ok(()),
         Err(error) => Err(error),
     }
 }

@@ -38,6 +38,7 @@ fn take_page<B: Nand, A: Allocator>(
     board: &mut B,
     arena: &mut PinArena<A>,
     pins: bool,
+    spaces: u8,
     entries: u32,
     last: &Option<Key>,
     into: &mut Run<A>,
@@ -52,14 +53,14 @@ fn take_page<B: Nand, A: Allocator>(
     // The page is in the run, after one read.
     ensures taken { IfOk result (λ key. (es : List EntrySpec)
         → RunOnFlash into.old (B.state board.old).pages arena.old es → IsLast last.now es
-        → PageTaken (B.state board.old).pages arena.new into.old into.new es entries key) }
+        → PageTaken spaces (B.state board.old).pages arena.new into.old into.new es entries key) }
     ensures added { OnOk result (PageAdded pins arena.old arena.new into.old into.new entries) }
     ensures ok { OnOk result (B.state board.new ≡ after_read (B.state board.old)) }
 
     // Or it does not go on, or its read failed.
     ensures err { IfErr result (λ e. (es : List EntrySpec)
         → RunOnFlash into.old (B.state board.old).pages arena.old es → IsLast last.now es
-        → PageRefused (B.state board.old) (B.state board.new) into.old es entries e) }
+        → PageRefused spaces (B.state board.old) (B.state board.new) into.old es entries e) }
     ensures kept { OnErr result ((into.new ≡ into.old) × (arena.new ≡ arena.old)) }
     ensures buffer { length buf.new ≡ length buf.old }
 {
@@ -69,7 +70,7 @@ fn take_page<B: Nand, A: Allocator>(
     let page = into.page(index);
     match board.read(page, buf) {
         Ok(PageRead::Whole) => {
-            if !goes_on(&shape, into.level(), index, entries, last, buf) {
+            if !goes_on(&shape, spaces, into.level(), index, entries, last, buf) {
                 return Err(PageError::Damaged { page });
             }
             let lease = arena.keep(pins, buf);
@@ -86,6 +87,7 @@ fn read_pages<B: Nand, A: Allocator>(
     board: &mut B,
     arena: &mut PinArena<A>,
     pins: bool,
+    spaces: u8,
     count: u32,
     into: &mut Run<A>,
     buf: &mut [u8],
@@ -95,13 +97,13 @@ fn read_pages<B: Nand, A: Allocator>(
     requires sized { length buf.old ≡ into.old.shape.page_bytes }
 
     // The run represents all its pages, after this many reads.
-    ensures has_run { OnOk result (HasRun into.old.shape into.old.level count into.old.blocks
+    ensures has_run { OnOk result (HasRun into.old.shape spaces into.old.level count into.old.blocks
         (B.state board.old).pages arena.new into.new) }
     ensures reads { OnOk result (B.state board.new
         ≡ after_reads (run_pages into.old.shape count) (B.state board.old)) }
 
     // Or the reading refuses one, or a read failed.
-    ensures err { IfErr result (λ e. NotRead into.old.shape into.old.level count into.old.blocks
+    ensures err { IfErr result (λ e. NotRead into.old.shape spaces into.old.level count into.old.blocks
         (B.state board.old) (B.state board.new) e) }
 
     // Either way the run represents the pages before, and nothing but reads was done.
@@ -116,7 +118,7 @@ fn read_pages<B: Nand, A: Allocator>(
     let mut last = None;
     for _ in 0..pages {
         let entries = (count - into.entries()).min(most);
-        match take_page(board, arena, pins, entries, &last, into, buf) {
+        match take_page(board, arena, pins, spaces, entries, &last, into, buf) {
             Ok(key) => last = Some(key),
             Err(error) => return Err(error),
         }
@@ -129,12 +131,13 @@ fn read_pages<B: Nand, A: Allocator>(
 /// enough free ones. `buf` has the size of a page and is overwritten.
 ///
 /// `Damaged` names the first page that is not Whole, not the meta page of this level, index and
-/// count, whose keys do not rise after those of the pages before, or which has a deleted key in the
-/// deepest run. `Fault` if a read failed. After either the run represents the pages before.
+/// count, whose keys do not rise after those of the pages before, or which has an entry of another namespace
+/// than the first `spaces`, or a deleted key in the deepest run. `Fault` if a read failed. After either the run represents the pages before.
 pub fn load_run<B: Nand, A: Allocator>(
     board: &mut B,
     arena: &mut PinArena<A>,
     pins: bool,
+    spaces: u8,
     count: u32,
     blocks: &[u16],
     into: &mut Run<A>,
@@ -145,13 +148,13 @@ pub fn load_run<B: Nand, A: Allocator>(
     requires sized { length buf.old ≡ into.old.shape.page_bytes }
 
     // The run represents its entries, after this many reads.
-    ensures has_run { OnOk result (HasRun into.old.shape into.old.level count blocks.now
+    ensures has_run { OnOk result (HasRun into.old.shape spaces into.old.level count blocks.now
         (B.state board.old).pages arena.new into.new) }
     ensures reads { OnOk result (B.state board.new
         ≡ after_reads (run_pages into.old.shape count) (B.state board.old)) }
 
     // Or the reading refuses it, or a read failed.
-    ensures err { IfErr result (λ e. NotRead into.old.shape into.old.level count blocks.now
+    ensures err { IfErr result (λ e. NotRead into.old.shape spaces into.old.level count blocks.now
         (B.state board.old) (B.state board.new) e) }
 
     // Either way the run represents the pages before, and nothing but reads was done.
@@ -162,5 +165,5 @@ pub fn load_run<B: Nand, A: Allocator>(
 {
     into.known();
     add_blocks(blocks, into);
-    read_pages(board, arena, pins, count, into, buf)
+    read_pages(board, arena, pins, spaces, count, into, buf)
 }

@@ -1,20 +1,24 @@
 //! The pages of values, taken one value after another.
 ghost use Rattle.std.specs.Prelude.{◌≡◌, ◌==◌, ◌<◌, ◌≤◌, ◌+◌, ◌-◌, ◌++◌, ◌∷◌, [], ◌&&◌, nat_le, ◌^◌, ◌↔◌, ℕ, List, true, false, if◌then◌else◌, count_by, slice_index, IsTrue};
 ghost use Rattle.std.specs.List.{list_any};
-ghost use Rattle.pk_base.specs.Key.{Key};
+ghost use Rattle.pk_base.specs.Key.{Key as KeySpec};
 ghost use Rattle.pk_base.specs.Shape.{limit, data_blocks};
-ghost use Rattle.pk_base.specs.Entry.{Place};
+ghost use Rattle.pk_base.specs.Entry.{Place as PlaceSpec};
 ghost use Rattle.pk_base.specs.EntryChecks.{IsPlace};
 ghost use Rattle.pk_live.specs.Values.{IsLive, count_of};
 ghost use Rattle.pk_segfmt.specs.Value.{value_pages};
-ghost use Rattle.pk_model.specs.Values.{fits, all_pages};
+ghost use Rattle.pk_model.specs.Spaces.{limit_of};
+ghost use Rattle.pk_model.specs.Values.{fits, all_pages, fits_after};
+ghost use Rattle.pk_space.specs.Uses.{IsSpace, space_live};
 ghost use Rattle.pk_scan.specs.Adopts as spec;
 ghost use Rattle.pk_scan.specs.Adopts.{owned_blocks};
+ghost use Rattle.pk_scan.specs.Used.{IsUseOf};
 ghost use Rattle.pk_live.specs.Lives.{Lives, StartsWithNone};
 
-use pk_base::{Place, Shape};
+use pk_base::{Key, Place, Shape};
 use pk_live::Live;
 use pk_pool::{BlockState, Pool};
+use pk_space::{Limits, Use};
 use std::alloc::Allocator;
 
 // Whether a block of this state has an owner; a block past the last one has none.
@@ -85,9 +89,9 @@ fn are_few(shape: &Shape, pages: u32, blocks: u32) -> bool
 // Whether the pages of a value may be taken.
 fn has_room<A: Allocator>(shape: &Shape, pool: &Pool<A>, live: &Live<A>, place: Place) -> bool
     requires place { IsPlace shape.now place }
-    requires lives { (taken : List (Key × Place))
+    requires lives { (taken : List (KeySpec × PlaceSpec))
         × Lives shape.now (owned_blocks pool.now) live.now taken }
-    ensures { (taken : List (Key × Place))
+    ensures { (taken : List (KeySpec × PlaceSpec))
         → Lives shape.now (owned_blocks pool.now) live.now taken
         → result ≡ fits shape.now (owned_blocks pool.now)
         (all_pages shape.now taken ++ value_pages shape.now place) }
@@ -107,34 +111,59 @@ fn has_room<A: Allocator>(shape: &Shape, pool: &Pool<A>, live: &Live<A>, place: 
     are_few(shape, pages, blocks_used(live, block))
 }
 
+// Whether a namespace may have this many pages more.
+fn is_within(limits: &Limits, spaces: &Use, space: u8, count: u32) -> bool
+    requires space { IsSpace space }
+    requires some { 0 < count }
+    ensures { result ≡ nat_le (space_live spaces.now space + count) (limit_of limits.now.each space) }
+{
+    space <= limits.count()
+        && spaces.live(space) as u64 + count as u64 <= limits.limit(space) as u64
+}
+
 /// Whether the pages of a value are in no block that has an owner, none of them belongs to a value
-/// that was taken before, and with them the live pages and the blocks that have one are not too
-/// many. If so they are live from now on, and their block is closed; otherwise the live map is
-/// unchanged. The block gets its owner when all values are taken.
+/// that was taken before, with them the live pages and the blocks that have one are not too many,
+/// and the live pages of its namespace are within its limit. If so they are live from now on, and
+/// their block is closed, and they are counted for their namespace; otherwise the live map and what
+/// is counted are unchanged. The block gets its owner when all values are taken.
 pub fn take_value<A: Allocator>(
     shape: &Shape,
+    limits: &Limits,
     pool: &Pool<A>,
     live: &mut Live<A>,
+    spaces: &mut Use,
+    key: &Key,
     place: Place,
 ) -> bool
     requires place { IsPlace shape.now place }
-    requires lives { (taken : List (Key × Place))
-        × Lives shape.now (owned_blocks pool.now) live.old taken }
-    ensures fits { (taken : List (Key × Place))
+    requires lives { (taken : List (KeySpec × PlaceSpec))
+        × Lives shape.now (owned_blocks pool.now) live.old taken
+        × IsUseOf shape.now spaces.old taken }
+    ensures fits { (taken : List (KeySpec × PlaceSpec))
         → Lives shape.now (owned_blocks pool.now) live.old taken
-        → result ≡ fits shape.now (owned_blocks pool.now)
-        (all_pages shape.now taken ++ value_pages shape.now place) }
-    ensures taken { result ≡ true → (taken : List (Key × Place)) (key : Key)
+        → IsUseOf shape.now spaces.old taken
+        → result ≡ fits_after shape.now limits.now.each (owned_blocks pool.now) taken
+        (key.now, place) }
+    ensures taken { result ≡ true → (taken : List (KeySpec × PlaceSpec))
         → Lives shape.now (owned_blocks pool.now) live.old taken
-        → Lives shape.now (owned_blocks pool.now) live.new (taken ++ (key, place) ∷ []) }
-    ensures left { result ≡ false → live.new ≡ live.old }
+        → Lives shape.now (owned_blocks pool.now) live.new (taken ++ (key.now, place) ∷ []) }
+    ensures used { result ≡ true → (taken : List (KeySpec × PlaceSpec))
+        → IsUseOf shape.now spaces.old taken
+        → IsUseOf shape.now spaces.new (taken ++ (key.now, place) ∷ []) }
+    ensures left { result ≡ false → (live.new ≡ live.old) × (spaces.new ≡ spaces.old) }
 {
     if !has_room(shape, pool, live, place) {
         return false;
     }
     let block = place.page / shape.block_pages();
-    live.set(place.page, shape.charge(place.len));
+    let count = shape.charge(place.len);
+    let space = key.space();
+    if !is_within(limits, spaces, space, count) {
+        return false;
+    }
+    live.set(place.page, count);
     live.close(block);
+    spaces.change(space, 0, count);
     true
 }
 

@@ -6,6 +6,7 @@ ghost use Rattle.pk_base.specs.Entry.{Place};
 ghost use Rattle.pk_base.specs.EntryChecks.{IsPlace};
 ghost use Rattle.pk_base.specs.Page.{page_at};
 ghost use Rattle.pk_model.specs.Values.{values_of};
+ghost use Rattle.pk_space.specs.Uses.{nothing_used};
 ghost use Rattle.pk_nand.specs.Calls.{IsReady};
 ghost use Rattle.pk_walk.specs.Walking.{IsLeft};
 ghost use Rattle.pk_live.specs.Lives.{Lives};
@@ -24,6 +25,7 @@ use pk_nand::Nand;
 use pk_pin::PinArena;
 use pk_pool::Pool;
 use pk_region::Region;
+use pk_space::{Limits, Use};
 use pk_walk::Walk;
 
 /// The lists of entries that a walk goes over, and the frames of the runs.
@@ -37,7 +39,7 @@ pub struct Lists<'a, A: Region> {
 
 /// Reads the values of all keys that the walk returns, in its order, and takes their pages: those
 /// of blocks that have an owner, which are those that the root names, are not free for them.
-/// Returns how many keys there are. `Damaged` names the first value whose pages may not be taken,
+/// Counts what each namespace uses; it is within its limit. Returns how many keys there are. `Damaged` names the first value whose pages may not be taken,
 /// or its first page that is wrong; `Fault` if a read failed. `buf` has the size of a page and is
 /// overwritten.
 ///
@@ -46,10 +48,12 @@ pub struct Lists<'a, A: Region> {
 pub fn read_values<B: Nand, A: Region>(
     board: &mut B,
     shape: &Shape,
+    limits: &Limits,
     pool: &Pool<A>,
     walk: &mut Walk<A>,
     lists: &Lists<A>,
     live: &mut Live<A>,
+    spaces: &mut Use,
     buf: &mut [u8],
 ) -> Result<u32, OpenError>
     requires ready { IsReady (B.state board.old) shape.now }
@@ -59,6 +63,7 @@ pub fn read_values<B: Nand, A: Region>(
         lists.now.active.now.entries lists.now.frozen.now.entries es
         × AllByRecursion (λ e. IsPlace shape.now e.1) es }
     requires none { Lives shape.now (owned_blocks pool.now) live.old [] }
+    requires unused { spaces.old ≡ nothing_used }
     requires room { length buf.old ≡ shape.now.page_bytes }
 
     // The values of all keys, and the number of reads.
@@ -66,7 +71,7 @@ pub fn read_values<B: Nand, A: Region>(
         → IsLeft walk.old (B.state board.old).pages lists.now.arena.now lists.now.levels.now.runs
         lists.now.active.now.entries lists.now.frozen.now.entries es
         → TakesValues shape.now (B.state board.old).pages
-        (owned_blocks pool.now) live.new keys es) }
+        limits.now.each (owned_blocks pool.now) live.new spaces.new keys es) }
     ensures exact { OnOk result ((es : List (Key × Place))
         → IsLeft walk.old (B.state board.old).pages lists.now.arena.now lists.now.levels.now.runs
         lists.now.active.now.entries lists.now.frozen.now.entries es
@@ -78,7 +83,8 @@ pub fn read_values<B: Nand, A: Region>(
         → IsLeft walk.old (B.state board.old).pages lists.now.arena.now lists.now.levels.now.runs
         lists.now.active.now.entries lists.now.frozen.now.entries es
         → PartNotOpened
-        (values_of shape.now (page_at (B.state board.old).pages) (owned_blocks pool.now) [] es)
+        (values_of shape.now (page_at (B.state board.old).pages) limits.now.each
+        (owned_blocks pool.now) [] es)
         (B.state board.old) (B.state board.new) e) }
 
     // Either way nothing but reads was done.
@@ -90,7 +96,7 @@ pub fn read_values<B: Nand, A: Region>(
         match walk.next(board, lists.arena, lists.levels, lists.active, lists.frozen) {
             Ok(Some(Entry::Put { key, page, len })) => {
                 let place = Place { page, len };
-                match accept_value(board, shape, pool, live, &key, place, buf) {
+                match accept_value(board, shape, limits, pool, live, spaces, &key, place, buf) {
                     Ok(()) => {}
                     Err(error) => return Err(OpenError::from(error)),
                 }

@@ -101,7 +101,8 @@ module _ (x : Index) (frames : ℕ) (flash : Flash) (top : ℕ × Root) (found :
   pieces = pieces_of x.log.shape (page_at flash) top.1 found stands.logs.is_found
 
   runs : Runs x.log.shape (root_spaces x.log.shape top.1) (page_at flash) top.1.counts top.1.runs found.runs
-  runs = four_runs x.log.shape (root_spaces x.log.shape top.1) (page_at flash) top.1.counts top.1.runs found.runs (four_of_root x.log.shape top.1 valid).counts (four_of_root x.log.shape top.1 valid).runs pieces.runs
+  runs = four_runs x.log.shape (root_spaces x.log.shape top.1) (page_at flash) top.1.counts top.1.runs found.runs
+      (four_of_root x.log.shape top.1 valid).counts (four_of_root x.log.shape top.1 valid).runs pieces.runs
 
   caps_are : WithinCaps x.log.shape runs.n1 runs.n2 runs.n3 runs.n4
   caps_are = within_caps x.log.shape runs.n1 runs.n2 runs.n3 runs.n4

@@ -253,7 +253,7 @@ module _ (x : Index) (frames : ℕ) (old : BoardState) (top : ℕ × Root) (foun
       of_source = of_of (level == 1) x.log.frozen (run_of x.levels (level - 1)) above_shape;
       of_target = (fit level low high).same_shape;
       of_pool = stands.pool_shape;
-      of_frames = stands.arena_is.page_bytes_is;
+      of_frames = stands.arena_is.leases.page_bytes_is;
       fits = stands.pool_fits;
       source_owned = meta_of (level == 1) x.log.frozen (run_of x.levels (level - 1)) above_blocks;
       target_owned = target_blocks;

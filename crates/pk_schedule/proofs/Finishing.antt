@@ -23,6 +23,7 @@ use Rattle.pk_pool.proofs.Leaving.{freed_unready, shared_freed, none_leaves}
 use Rattle.pk_pool.proofs.Sharing.{behind_roots}
 use Rattle.pk_pool.proofs.States.{owned_is_not_root}
 use Rattle.pk_level.specs.Levels.{Levels, RunsOnFlash}
+use Rattle.pk_level.specs.Arenas.{unfilled}
 use Rattle.pk_model.specs.Found.{Found}
 use Rattle.pk_compact.specs.FreezeSteps.{IsTaken}
 use Rattle.pk_compact.specs.Steps.{StepByCall}
@@ -100,6 +101,7 @@ module _ (x : Index) (frames : ℕ) (old : BoardState) (top : ℕ × Root) (foun
       is_due = false;
       may_freeze = false;
       half = f.whole i;
+      unfilled = unfilled x.levels (length x.arena.used);
       unready = unready free.states;
     }
       where

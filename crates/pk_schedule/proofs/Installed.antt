@@ -1,5 +1,5 @@
 -- A step of the install of a merge, for whatever is on the flash.
-use Rattle.std.proofs.Common.{◌≡◌, ℕ, ◌≤◌, true, List, [], ◌∷◌, refl, sym, ap, subst, ◌∙◌, arith, Option, Result, Ok, Err}
+use Rattle.std.proofs.Common.{◌≡◌, ℕ, ◌≤◌, true, List, [], ◌∷◌, length, refl, sym, ap, subst, ◌∙◌, arith, Option, Result, Ok, Err}
 use Rattle.pk_base.specs.Map.{Map}
 use Rattle.pk_nand.specs.declared.types.Fault.{Fault}
 use Rattle.pk_nand.specs.BoardState.{BoardState}
@@ -12,6 +12,7 @@ use Rattle.pk_model.specs.Steps.{Step, RootsUpTo}
 use Rattle.pk_plan.specs.declared.owner.Owner.TheVariants.{Values}
 use Rattle.pk_pool.specs.Blocks.{Blocks, IsShared, freed, used_by}
 use Rattle.pk_level.specs.Levels.{Levels, IsLevels}
+use Rattle.pk_level.specs.Arenas.{HasLeases, Releases}
 use Rattle.pk_run.specs.Kept.{Kept}
 use Rattle.pk_log.specs.State.{LogState}
 use Rattle.pk_log.specs.MergeSteps.{MayPrepare, LogPrepared, LogPrepares, LogPrepareBreaks, MayMerge, LogMerges, LogMergeBreaks}
@@ -20,7 +21,7 @@ use Rattle.pk_schedule.specs.declared.phase.Phase.TheVariants.{Idle, Ready}
 use Rattle.pk_schedule.specs.Exchanges.{CanEndFirst, EndsFirst, CanEndDeep, EndsDeep}
 use Rattle.pk_schedule.specs.Index.{Index, Schedule, merging, output}
 use Rattle.pk_schedule.specs.Steps.{MayWork, IndexMoves, LessIsLeft, StepsOn, Breaks}
-use Rattle.pk_schedule.proofs.Installing.{installed_moves, installed_less}
+use Rattle.pk_schedule.proofs.Installing.{Replaced, installed_moves, installed_less, leases_are, released, released_arena}
 use Rattle.pk_schedule.proofs.Preparing.{prepared_moves, prepared_less}
 use Rattle.pk_schedule.proofs.Replaced.{replaced_one, replaced_deep}
 use Rattle.pk_schedule.proofs.Waiting as wait
@@ -126,37 +127,51 @@ module _ (x : Index) (level : ℕ) (is : x.schedule.phase ≡ Ready level) (shar
       ready = step.ready;
     }
 
-    module _ (programs : programs_next x.log.next ≡ true) (merges : LogMerges x.log old level (output x.schedule).count (output x.schedule).blocks log' new)
-        (levels' : Levels) (arena' : Frames) (pool' : Blocks) (schedule' : Schedule) (rest : schedule' ≡ record x.schedule { job = schedule'.job; phase = Idle }) where
-      abbrev then_index : LogState → Schedule → Index
-      then_index l s = record { log = l; levels = levels'; arena = arena'; pool = pool'; schedule = s }
+    module _ (merges : LogMerges x.log old level (output x.schedule).count (output x.schedule).blocks log' new)
+        (levels' : Levels) (arena' : Frames) (pool' : Blocks) (schedule' : Schedule) where
+      -- what the exchange leaves, for whatever is on the flash
+      abbrev Replaces : Type 0
+      Replaces = (frames : ℕ) (top : ℕ × Root) (found : Found) (m : Map) (may : MayWork x frames old.pages top found m)
+          → Replaced x frames old top found m may level is shared known new levels' arena' (freed pool') schedule'.job
 
-      abbrev ended_schedule : Schedule
-      ended_schedule = record x.schedule { job = schedule'.job; phase = Idle }
-
-      pub made_first : level ≡ 1 → (older : Option (List ℕ)) → older ≡ older_of x.log.root.older
-          → EndsFirst x.levels x.arena (freed x.pool) x.schedule.job (blocks_or_none older) levels' arena' (freed pool') schedule'.job
-          → used_by Values pool'.states ≡ used_by Values x.pool.states → Made (then_index log' schedule') new
-      made_first one older told e counted frames top found m may =
+      pub first_replaces : level ≡ 1 → (older : Option (List ℕ)) → older ≡ older_of x.log.root.older
+          → EndsFirst x.levels x.arena (freed x.pool) x.schedule.job (blocks_or_none older) levels' arena' (freed pool') schedule'.job → Replaces
+      first_replaces one older told e frames top found m may =
           let f = merges top found m (wait.may_merge x frames old top found m may level is shared known) in
           let here = subst (λ (p : Blocks). EndsFirst x.levels x.arena p x.schedule.job (blocks_or_none older) levels' arena' (freed pool') schedule'.job)
           (freed_same x.pool may.settles.none_leaves) e in
           let e' = subst (λ os. EndsFirst x.levels x.arena x.pool x.schedule.job os levels' arena' (freed pool') schedule'.job) (ap blocks_or_none told ∙ older_is (frames, top, found, m, may)) here in
-          let r = replaced_one x frames old top found m may level is shared known new f.behind one levels' arena' (freed pool') schedule'.job e' in
-          let P : LogState → Schedule → Type 0 = λ l s. IndexMoves x frames old found m (then_index l s) new × LessIsLeft x (then_index l s) in
-          subst (λ s. P log' s) (sym rest) (subst (λ l. P l ended_schedule) (sym f.merged_is) (
-            installed_moves x frames old top found m may level is shared known new log' programs f levels' arena' pool' schedule'.job r counted,
-            installed_less x frames old top found m may level is shared known new log' programs f levels' arena' pool' schedule'.job r counted,
-          ))
+          replaced_one x frames old top found m may level is shared known new f.behind one levels' arena' (freed pool') schedule'.job e'
 
-      pub made_deep : 2 ≤ level → EndsDeep x.levels x.arena (freed x.pool) x.schedule.job level levels' arena' (freed pool') schedule'.job
-          → used_by Values pool'.states ≡ used_by Values x.pool.states → Made (then_index log' schedule') new
-      made_deep deep e counted frames top found m may =
+      pub deep_replaces : 2 ≤ level → EndsDeep x.levels x.arena (freed x.pool) x.schedule.job level levels' arena' (freed pool') schedule'.job → Replaces
+      deep_replaces deep e frames top found m may =
           let f = merges top found m (wait.may_merge x frames old top found m may level is shared known) in
-          let r = replaced_deep x frames old top found m may level is shared known new f.behind deep levels' arena' (freed pool') schedule'.job
-          (subst (λ (p : Blocks). EndsDeep x.levels x.arena p x.schedule.job level levels' arena' (freed pool') schedule'.job) (freed_same x.pool may.settles.none_leaves) e) in
-          let P : LogState → Schedule → Type 0 = λ l s. IndexMoves x frames old found m (then_index l s) new × LessIsLeft x (then_index l s) in
-          subst (λ s. P log' s) (sym rest) (subst (λ l. P l ended_schedule) (sym f.merged_is) (
-            installed_moves x frames old top found m may level is shared known new log' programs f levels' arena' pool' schedule'.job r counted,
-            installed_less x frames old top found m may level is shared known new log' programs f levels' arena' pool' schedule'.job r counted,
-          ))
+          replaced_deep x frames old top found m may level is shared known new f.behind deep levels' arena' (freed pool') schedule'.job
+          (subst (λ (p : Blocks). EndsDeep x.levels x.arena p x.schedule.job level levels' arena' (freed pool') schedule'.job) (freed_same x.pool may.settles.none_leaves) e)
+
+      -- so the frames of the levels that may have none may be freed
+      pub ask_release : Stands x old → Replaces → (others : List ℕ) × HasLeases levels'.shape (length arena'.used) levels' arena' others
+      ask_release s replaces = (
+        [],
+        leases_are x s.0 old s.1 s.2 s.3 s.4 level is shared known new levels' arena' (freed pool') schedule'.job (replaces s.0 s.1 s.2 s.3 s.4),
+      )
+
+      module _ (programs : programs_next x.log.next ≡ true) (rest : schedule' ≡ record x.schedule { job = schedule'.job; phase = Idle })
+          (levels_last : Levels) (arena_last : Frames) (e : Releases levels' arena' levels_last arena_last) where
+        abbrev then_index : LogState → Schedule → Index
+        then_index l s = record { log = l; levels = levels_last; arena = arena_last; pool = pool'; schedule = s }
+
+        abbrev ended_schedule : Schedule
+        ended_schedule = record x.schedule { job = schedule'.job; phase = Idle }
+
+        pub made_release : Replaces → used_by Values pool'.states ≡ used_by Values x.pool.states → Made (then_index log' schedule') new
+        made_release replaces counted frames top found m may =
+            let f = merges top found m (wait.may_merge x frames old top found m may level is shared known) in
+            let was = replaces frames top found m may in
+            let r = released x frames old top found m may level is shared known new levels' arena' (freed pool') schedule'.job was levels_last arena_last e in
+            let has = released_arena x frames old top found m may level is shared known new levels' arena' (freed pool') schedule'.job was levels_last arena_last e in
+            let P : LogState → Schedule → Type 0 = λ l s. IndexMoves x frames old found m (then_index l s) new × LessIsLeft x (then_index l s) in
+            subst (λ s. P log' s) (sym rest) (subst (λ l. P l ended_schedule) (sym f.merged_is) (
+              installed_moves x frames old top found m may level is shared known new log' programs f levels_last arena_last pool' schedule'.job r has counted,
+              installed_less x frames old top found m may level is shared known new log' programs f levels_last arena_last pool' schedule'.job r has counted,
+            ))

@@ -25,7 +25,8 @@ use Rattle.pk_pool.specs.Blocks.{Blocks, IsShared, PoolOnFlash, used_by, freed}
 use Rattle.pk_pool.specs.Unready.{unready}
 use Rattle.pk_run.specs.Kept.{Kept, empty}
 use Rattle.pk_level.specs.Levels.{Levels, IsLevels, RunsOnFlash, HaveBlocks}
-use Rattle.pk_level.specs.Arenas.{HasArena}
+use Rattle.pk_level.specs.Arenas.{HasArena, HasLeases, Releases, last_level, unfilled}
+use Rattle.pk_level.proofs.Releasing.{bare_blocks, bare_counts}
 use Rattle.pk_law_steps.specs.Merging.{IsMerged, merged_root, merged_found, freed_by, blocks_at}
 use Rattle.pk_law_steps.specs.Under.{IsUnder}
 use Rattle.pk_law_steps.specs.Next.{IsNext}
@@ -99,7 +100,7 @@ module _ (x : Index) (frames : ℕ) (old : BoardState) (top : ℕ × Root) (foun
     pub levels_pinned : levels'.pinned ≡ x.levels.pinned
     pub stand : RunsOnFlash new.pages arena' levels'.runs then_found.runs
     pub run_blocks : HaveBlocks shape levels'.runs then_root.runs
-    pub arena_is : HasArena shape frames levels' arena' []
+    pub arena_is : HasLeases shape frames levels' arena' []
     pub same_shape : pool'.shape ≡ x.pool.shape
     pub size : length pool'.states ≡ length x.pool.states
     pub others : (b : ℕ) → (In b (freed_by level root) → ⊥) → slice_get pool'.states b ≡ slice_get x.pool.states b
@@ -114,8 +115,52 @@ module _ (x : Index) (frames : ℕ) (old : BoardState) (top : ℕ × Root) (foun
     pub source : 2 ≤ level → slice_index (map (λ (r : Kept). r.count) levels'.runs) (level - 2) ≡ 0
     pub above : (i : ℕ) → i + 2 < level → slice_index (map (λ (r : Kept). r.count) levels'.runs) i ≡ slice_index (map (λ (r : Kept). r.count) x.levels.runs) i
 
+  -- After the frames of the levels that may have none are freed, it is so still, and only levels that may have frames have some.
+  module _ (levels' : Levels) (arena' : Frames) (pool' : Blocks) (job' : Job) (r : Replaced levels' arena' pool' job')
+      (levels_last : Levels) (arena_last : Frames) (e : Releases levels' arena' levels_last arena_last) where
+    shape_is : levels'.shape ≡ shape
+    shape_is = r.levels_shape ∙ may.stands.levels_shape
+
+    -- what is asked of the release
+    pub leases_are : HasLeases levels'.shape (length arena'.used) levels' arena' []
+    leases_are =
+        subst (λ (s : Shape). HasLeases s (length arena'.used) levels' arena' []) (sym shape_is) (subst (λ (n : ℕ). HasLeases shape n levels' arena' []) (sym r.arena_is.size) r.arena_is)
+
+    pub released_arena : HasArena shape frames levels_last arena_last []
+    released_arena =
+        subst (λ (s : Shape). HasArena s frames levels_last arena_last []) shape_is
+        (subst (λ (n : ℕ). HasArena levels'.shape n levels_last arena_last []) r.arena_is.size (e.arena_is [] leases_are))
+
+    abbrev last : ℕ
+    last = last_level levels' (length arena'.used)
+
+    counts_are : map (λ (k : Kept). k.count) levels_last.runs ≡ map (λ (k : Kept). k.count) levels'.runs
+    counts_are = ap (λ (ls : Levels). map (λ (k : Kept). k.count) ls.runs) e.levels_are ∙ bare_counts last 1 levels'.runs
+
+    pub released : Replaced levels_last arena_last pool' job'
+    released = record {
+      levels_shape = ap (λ (ls : Levels). ls.shape) e.levels_are ∙ r.levels_shape;
+      levels_pinned = ap (λ (ls : Levels). ls.pinned) e.levels_are ∙ r.levels_pinned;
+      stand = e.stand new.pages then_found.runs r.stand;
+      run_blocks = subst (λ (ls : Levels). HaveBlocks shape ls.runs then_root.runs) (sym e.levels_are) (bare_blocks shape last 1 levels'.runs then_root.runs r.run_blocks);
+      arena_is = released_arena.leases;
+      same_shape = r.same_shape;
+      size = r.size;
+      others = r.others;
+      gone = r.gone;
+      journal_fewer = r.journal_fewer;
+      meta_fewer = r.meta_fewer;
+      same_values = r.same_values;
+      same_unready = r.same_unready;
+      pool_fits = r.pool_fits;
+      idle = r.idle;
+      pinned_is = r.pinned_is;
+      source = λ deep. ap (λ (ns : List ℕ). slice_index ns (level - 2)) counts_are ∙ r.source deep;
+      above = λ i low. ap (λ (ns : List ℕ). slice_index ns i) counts_are ∙ r.above i low;
+    }
+
   module _ (log' : LogState) (programs : programs_next x.log.next ≡ true) (f : LogMerged x.log old top found m level out.count out.blocks log' new)
-      (levels' : Levels) (arena' : Frames) (left : Blocks) (job' : Job) (r : Replaced levels' arena' (freed left) job')
+      (levels' : Levels) (arena' : Frames) (left : Blocks) (job' : Job) (r : Replaced levels' arena' (freed left) job') (has : HasArena shape frames levels' arena' [])
       (counted : used_by Values left.states ≡ used_by Values x.pool.states) where
     -- the pool as if the blocks that leave were free
     abbrev pool' : Blocks
@@ -184,7 +229,7 @@ module _ (x : Index) (frames : ℕ) (old : BoardState) (top : ℕ × Root) (foun
           levels_pinned = r.levels_pinned ∙ may.stands.levels_pinned;
           stand = r.stand;
           run_blocks = r.run_blocks;
-          arena_is = subst (λ ls. HasArena shape frames levels' arena' ls) (sym no_leases) r.arena_is;
+          arena_is = subst (λ ls. HasArena shape frames levels' arena' ls) (sym no_leases) has;
           journal = journal_stands;
           journal_few =
               (let was = may.stands.journal_few in
@@ -282,6 +327,7 @@ module _ (x : Index) (frames : ℕ) (old : BoardState) (top : ℕ × Root) (foun
       runs = map (λ (r : Kept). r.count) levels'.runs;
       merge = None;
       half = true;
+      unfilled = unfilled levels' (length arena'.used);
       unready = unready left.states;
     }
     over = λ i. record {
@@ -293,6 +339,7 @@ module _ (x : Index) (frames : ℕ) (old : BoardState) (top : ℕ × Root) (foun
       is_due = false;
       may_freeze = false;
       half = ap repeats_next f.half.again i;
+      unfilled = unfilled levels' (length arena'.used);
       unready = unready left.states;
     }
 

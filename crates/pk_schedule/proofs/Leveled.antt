@@ -1,16 +1,16 @@
 -- The run of each level, and the frames that a merge into it finds free.
 use Rattle.std.proofs.Common.{◌≡◌, inl, inr, ℕ, zero, suc, ◌+◌, ◌-◌, ◌*◌, ◌<◌, ◌≤◌, Bool, true, false, T, if◌then◌else◌, List, [], ◌∷◌, ◌++◌, length, nat_le, refl, sym, ap, subst, arith, leb→le}
-use Rattle.std.proofs.Common.{length-append, mul-le-mul_right, le_trans}
-use Rattle.std.specs.Prelude.{slice_index_or}
+use Rattle.std.proofs.Common.{take, mul-le-mul_right, le_trans}
+use Rattle.std.specs.Prelude.{slice_index_or, max, fold}
 use Rattle.std.specs.List.{AllByRecursion, concat}
-use Rattle.pk_base.specs.Shape.{Shape, cap, page_entries, need, pinned}
+use Rattle.pk_base.specs.Shape.{Shape, cap, caps, page_entries, pinned}
 use Rattle.pk_base.specs.Merge.{room}
 use Rattle.pk_model.proofs.SamePages.{any_front, any_back}
 use Rattle.pk_pin.specs.Frames.{Frames, free_frames}
-use Rattle.pk_pin.proofs.Leases.{leases_counted, frames_counted}
 use Rattle.pk_run.specs.Kept.{Kept, IsKept}
 use Rattle.pk_level.specs.Levels.{Levels, IsLevels, IsOfLevel, AreOfLevels, HaveBlocks, run_of}
-use Rattle.pk_level.specs.Arenas.{HasArena, ArePinnedTo, IsPinnedIf, leases_of}
+use Rattle.pk_level.specs.Arenas.{HasArena}
+use Rattle.pk_level.proofs.Filling.{frames_fit}
 use Rattle.pk_law_steps.proofs.FourRuns.{four_of, IsLevel}
 use Rattle.pk_law_steps.proofs.Places.{In}
 
@@ -49,35 +49,9 @@ run_blocks_in shape (r ∷ rs) (bs ∷ bss) (suc i) d inside have b is = any_bac
 
 -- ---- frames
 
--- this many pages of a level may have frames, if this many levels are pinned
-abbrev bound : Shape → ℕ → ℕ → ℕ
-bound shape p level = if nat_le level p then cap shape level else 0
-
-pinned_pages : (shape : Shape) (b : Bool) (level : ℕ) (r : Kept) → IsPinnedIf b r → Fit shape level r → length r.leases ≤ (if b then cap shape level else 0)
-pinned_pages shape true level r pins fit = let e : length r.leases ≡ length r.firsts = pins in let few = fit.pages in omega (arith, e, few)
-pinned_pages shape false level r pins fit = let e : length r.leases ≡ 0 = ap (λ (ls : List ℕ). length ls) pins in omega (arith, e)
-
-need_most : (shape : Shape) (frames : ℕ) → need shape (pinned shape frames) ≤ frames
-need_most shape frames =
-    elim (nat_le (need shape 4) frames) as (λ b. nat_le (need shape 4) frames ≡ b
-    → need shape (if b then 4 else if nat_le (need shape 3) frames then 3 else if nat_le (need shape 2) frames then 2 else if nat_le (need shape 1) frames then 1 else 0) ≤ frames) [
-      | true ↦ λ e. leb→le _ _ (subst T (sym e) tt)
-      | false ↦ λ e. elim (nat_le (need shape 3) frames) as (λ b. nat_le (need shape 3) frames ≡ b
-          → need shape (if b then 3 else if nat_le (need shape 2) frames then 2 else if nat_le (need shape 1) frames then 1 else 0) ≤ frames) [
-            | true ↦ λ e. leb→le _ _ (subst T (sym e) tt)
-            | false ↦ λ e. elim (nat_le (need shape 2) frames) as (λ b. nat_le (need shape 2) frames ≡ b → need shape (if b then 2 else if nat_le (need shape 1) frames then 1 else 0) ≤ frames) [
-              | true ↦ λ e. leb→le _ _ (subst T (sym e) tt)
-              | false ↦ λ e. elim (nat_le (need shape 1) frames) as (λ b. nat_le (need shape 1) frames ≡ b → need shape (if b then 1 else 0) ≤ frames) [
-                | true ↦ λ e. leb→le _ _ (subst T (sym e) tt)
-                | false ↦ λ e. omega arith
-              ] refl
-            ] refl
-          ] refl
-    ] refl
-
--- those of the pinned levels and of an output into one of them
+-- the output of a merge into one of the pinned levels has no more pages than the largest of them
 abbrev AllFit : Shape → ℕ → ℕ → Type 0
-AllFit shape p level = bound shape p 1 + bound shape p 2 + bound shape p 3 + bound shape p 4 + cap shape level ≤ need shape p
+AllFit shape p level = cap shape level ≤ fold max 0 (take p (caps shape))
 
 needed : (shape : Shape) (p level : ℕ) → p ≤ 4 → IsLevel level → level ≤ p → AllFit shape p level
 needed shape zero level few is within = absurd
@@ -100,29 +74,6 @@ needed shape (suc (suc (suc (suc zero)))) level few (inr (inr (inl e))) within =
 needed shape (suc (suc (suc (suc zero)))) level few (inr (inr (inr e))) within = subst (λ (l : ℕ). AllFit shape 4 l) (sym e) (omega arith)
 needed shape (suc (suc (suc (suc (suc p))))) level few is within = absurd (omega (arith, few))
 
--- the leases of four runs
-leases_most : (shape : Shape) (p : ℕ) (levels : Levels) → IsLevels levels → AllByRecursion IsKept levels.runs → levels.shape ≡ shape → ArePinnedTo p 1 levels.runs
-    → length (leases_of levels.runs ++ []) ≤ bound shape p 1 + bound shape p 2 + bound shape p 3 + bound shape p 4
-leases_most shape p levels is kept same pins =
-    let four = four_of levels.runs is.four in
-    let P : List Kept → Type 0 = λ rs. AreOfLevels shape levels.pinned 1 rs → AllByRecursion IsKept rs → ArePinnedTo p 1 rs
-    → length (leases_of rs ++ []) ≤ bound shape p 1 + bound shape p 2 + bound shape p 3 + bound shape p 4 in
-    subst P (sym four.are) (explicit four.a four.b four.c four.d) (subst (λ (s : Shape). AreOfLevels s levels.pinned 1 levels.runs) same is.each) kept pins
-  where
-    explicit : (a b c d : Kept) → AreOfLevels shape levels.pinned 1 (a ∷ b ∷ c ∷ d ∷ []) → AllByRecursion IsKept (a ∷ b ∷ c ∷ d ∷ []) → ArePinnedTo p 1 (a ∷ b ∷ c ∷ d ∷ [])
-        → length (leases_of (a ∷ b ∷ c ∷ d ∷ []) ++ []) ≤ bound shape p 1 + bound shape p 2 + bound shape p 3 + bound shape p 4
-    explicit a b c d o k f =
-        let one = pinned_pages shape (nat_le 1 p) 1 a f.0 (fit_of shape levels.pinned 1 a o.0 k.0) in
-        let two = pinned_pages shape (nat_le 2 p) 2 b f.1.0 (fit_of shape levels.pinned 2 b o.1.0 k.1.0) in
-        let three = pinned_pages shape (nat_le 3 p) 3 c f.1.1.0 (fit_of shape levels.pinned 3 c o.1.1.0 k.1.1.0) in
-        let fourth = pinned_pages shape (nat_le 4 p) 4 d f.1.1.1.0 (fit_of shape levels.pinned 4 d o.1.1.1.0 k.1.1.1.0) in
-        let la = length-append a.leases (b.leases ++ (c.leases ++ (d.leases ++ []))) in
-        let lb = length-append b.leases (c.leases ++ (d.leases ++ [])) in
-        let lc = length-append c.leases (d.leases ++ []) in
-        let ld = length-append d.leases [] in
-        let all = length-append (leases_of (a ∷ b ∷ c ∷ d ∷ [])) [] in
-        omega (arith, one, two, three, fourth, la, lb, lc, ld, all)
-
 -- if no merge runs, there are frames for the output of one into a pinned level
 pub frames_left : (shape : Shape) (frames : ℕ) (levels : Levels) (arena : Frames) (level : ℕ) → IsLevels levels
     → AllByRecursion IsKept levels.runs → levels.shape ≡ shape → levels.pinned ≡ pinned shape frames
@@ -132,9 +83,6 @@ frames_left shape frames levels arena level is kept same pins has is_level withi
     let few : p ≤ 4 = subst (λ (n : ℕ). n ≤ 4) pins is.most in
     let below : level ≤ p = leb→le _ _ (subst T (sym within) tt) in
     let enough = needed shape p level few is_level below in
-    let most = need_most shape frames in
-    let taken = leases_most shape p levels is kept same (subst (λ (n : ℕ). ArePinnedTo n 1 levels.runs) pins has.pins) in
-    let counted = leases_counted arena (leases_of levels.runs ++ []) has.only_these in
-    let all = frames_counted arena in
-    let size = has.size in
-    omega (arith, enough, most, taken, counted, all, size)
+    let free = frames_fit levels frames arena is kept (subst (λ (s : Shape). HasArena s frames levels arena []) (sym same) has) in
+    let wanted : fold max 0 (take levels.pinned (caps levels.shape)) ≡ fold max 0 (take p (caps shape)) = λ i. fold max 0 (take (pins i) (caps (same i))) in
+    omega (arith, enough, free, wanted)

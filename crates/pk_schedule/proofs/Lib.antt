@@ -21,3 +21,4 @@ pub mod Beginning
 pub mod Stepping
 pub mod Calling
 pub mod Finishing
+pub mod OutputFrames

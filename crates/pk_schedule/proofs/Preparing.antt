@@ -26,6 +26,7 @@ use Rattle.pk_pool.proofs.States.{ready_is_not_root}
 use Rattle.pk_pool.specs.Unready.{unready}
 use Rattle.pk_run.specs.Kept.{Kept, RunOnFlash}
 use Rattle.pk_level.specs.Levels.{IsLevels, RunsOnFlash}
+use Rattle.pk_level.specs.Arenas.{unfilled}
 use Rattle.pk_law_steps.specs.Merging.{output_of as whole_output}
 use Rattle.pk_compact.specs.FreezeSteps.{IsTaken, taken_by, install_steps}
 use Rattle.pk_compact.specs.declared.freezing.FreezeJob.{FreezeJob}
@@ -176,6 +177,7 @@ module _ (x : Index) (frames : ℕ) (old : BoardState) (top : ℕ × Root) (foun
       is_due = false;
       may_freeze = false;
       half = (whole ∙ sym may.settles.whole) i;
+      unfilled = unfilled x.levels (length x.arena.used);
       unready = unready x.pool.states;
     }
 

@@ -23,7 +23,7 @@ use Rattle.pk_pool.specs.Unready.{unready}
 use Rattle.pk_run.specs.Kept.{Kept, empty}
 use Rattle.pk_run.proofs.Standing.{RunOnFlash-empty}
 use Rattle.pk_level.specs.Levels.{Levels, IsLevels, RunsOnFlash, HaveBlocks, run_of, with_run}
-use Rattle.pk_level.specs.Arenas.{HasArena, ArePinnedTo, leases_of, IsPinnedIf}
+use Rattle.pk_level.specs.Arenas.{HasLeases, leases_of}
 use Rattle.pk_law_steps.specs.Merging.{merged_root, output_of, freed_by, blocks_at}
 use Rattle.pk_law_steps.proofs.FourRuns.{IsLevel}
 use Rattle.pk_law_steps.proofs.FreedCounts.{freed_counted}
@@ -40,7 +40,7 @@ use Rattle.pk_schedule.proofs.Ended.{SecondRun}
 use Rattle.pk_schedule.proofs.Giving.{GivesBack, gives_back, one_owner}
 use Rattle.pk_schedule.proofs.Installing.{Replaced}
 use Rattle.pk_schedule.proofs.Preparing.{output_stands, runs_stand}
-use Rattle.pk_schedule.proofs.Replacing.{RunsOnFlash-set, HaveBlocks-set, ArePinnedTo-set, RunsOnFlash-given, at_set, at_other, map_set}
+use Rattle.pk_schedule.proofs.Replacing.{RunsOnFlash-set, HaveBlocks-set, RunsOnFlash-given, at_set, at_other, map_set}
 use Rattle.pk_base.proofs.Logic.{is_true}
 use Rattle.pk_schedule.proofs.Waiting as wait
 
@@ -143,22 +143,12 @@ module _ (x : Index) (frames : ℕ) (old : BoardState) (top : ℕ × Root) (foun
   counts : (length (named then_root) + length (freed_by level root) ≡ length (named root) + length out.blocks)
   counts = (freed_counted shape root level out.count out.blocks (is_true _ (wait.valid x frames old top found m may level is shared known)) least most).0
 
-  out_pinned : (n : ℕ) → n ≡ 1 + (level - 1) → IsPinnedIf (nat_le n x.levels.pinned) out
-  out_pinned n e =
-      let waits = wait.waits x frames old top found m may level is shared known in
-      let its : n ≡ job.target = (let target = waits.into.target in let some = least in omega (arith, e, target, some)) in
-      let pinned_is : x.levels.pinned ≡ job.pinned = may.stands.levels_pinned ∙ sym may.stands.pins_are in
-      subst (λ b. IsPinnedIf b out) (sym ((λ i. nat_le (its i) (pinned_is i)))) waits.whole.pinned
-
   one_stands : RunsOnFlash new.pages x.arena runs_one (slice_set found.runs (level - 1) (output_of level found))
   one_stands = RunsOnFlash-set new.pages x.arena x.levels.runs found.runs (level - 1) out (output_of level found)
       (output_stands x frames old top found m may level is shared known new.pages behind) (runs_stand x frames old top found m may level is shared known new.pages behind)
 
   one_blocks_stand : HaveBlocks shape runs_one (slice_set root.runs (level - 1) out.blocks)
   one_blocks_stand = HaveBlocks-set shape x.levels.runs root.runs (level - 1) out (wait.waits x frames old top found m may level is shared known).into.output_shape may.stands.run_blocks
-
-  one_pinned : ArePinnedTo x.levels.pinned 1 runs_one
-  one_pinned = ArePinnedTo-set x.levels.pinned 1 x.levels.runs (level - 1) out out_pinned may.stands.arena_is.pins
 
   -- ---- into level 1
 
@@ -219,11 +209,11 @@ module _ (x : Index) (frames : ℕ) (old : BoardState) (top : ℕ × Root) (foun
     pool_replaced : (P : Blocks → Type 0) → P (given_back (given_back x.pool former.blocks) root.older) → P pool'
     pool_replaced P = subst P (sym pool_is)
 
-    arena_here : HasArena shape frames (with_run x.levels level out) arena' []
+    arena_here : HasLeases shape frames (with_run x.levels level out) arena' []
     arena_here = record {
-      page_bytes_is = ap (λ (a : Frames). a.page_bytes) exchanged.arena_is ∙ given_bytes x.arena former.leases ∙ may.stands.arena_is.page_bytes_is;
-      size = ap (λ (a : Frames). length a.used) exchanged.arena_is ∙ given_size x.arena former.leases ∙ may.stands.arena_is.size;
-      pins = one_pinned;
+      page_bytes_is = ap (λ (a : Frames). a.page_bytes) exchanged.arena_is ∙ given_bytes x.arena former.leases ∙ may.stands.arena_is.leases.page_bytes_is;
+      size = ap (λ (a : Frames). length a.used) exchanged.arena_is ∙ given_size x.arena former.leases ∙ may.stands.arena_is.leases.size;
+      pinned_is = may.stands.levels_pinned;
       only_these = subst (λ ls. AreLeases arena' ls) (sym (append-nil (leases_of runs_one))) (exchanged.leases (leases_of runs_one) rows_one);
     }
 
@@ -328,17 +318,13 @@ module _ (x : Index) (frames : ℕ) (old : BoardState) (top : ℕ × Root) (foun
         let then_there = RunsOnFlash-given former.leases new.pages x.arena e.then_arena runs_two _ first.others none_first there in
         RunsOnFlash-given source.leases new.pages e.then_arena arena' runs_two _ (subst (λ (r : Kept). LeavesOthers r.leases e.then_arena arena') its second.others) none_second then_there
 
-    empty_pinned : (b : Bool) → IsPinnedIf b spare
-    empty_pinned true = refl
-    empty_pinned false = refl
-
-    arena_deep : HasArena shape frames (with_run (with_run x.levels level out) (level - 1) spare) arena' []
+    arena_deep : HasLeases shape frames (with_run (with_run x.levels level out) (level - 1) spare) arena' []
     arena_deep = record {
       page_bytes_is = ap (λ (a : Frames). a.page_bytes) second.arena_is ∙ given_bytes e.then_arena (run_of e.then_levels (level - 1)).leases
-          ∙ ap (λ (a : Frames). a.page_bytes) first.arena_is ∙ given_bytes x.arena former.leases ∙ may.stands.arena_is.page_bytes_is;
+          ∙ ap (λ (a : Frames). a.page_bytes) first.arena_is ∙ given_bytes x.arena former.leases ∙ may.stands.arena_is.leases.page_bytes_is;
       size = ap (λ (a : Frames). length a.used) second.arena_is ∙ given_size e.then_arena (run_of e.then_levels (level - 1)).leases
-          ∙ ap (λ (a : Frames). length a.used) first.arena_is ∙ given_size x.arena former.leases ∙ may.stands.arena_is.size;
-      pins = ArePinnedTo-set x.levels.pinned 1 runs_one (level - 1 - 1) spare (λ n at. empty_pinned (nat_le n x.levels.pinned)) one_pinned;
+          ∙ ap (λ (a : Frames). length a.used) first.arena_is ∙ given_size x.arena former.leases ∙ may.stands.arena_is.leases.size;
+      pinned_is = may.stands.levels_pinned;
       only_these = subst (λ ls. AreLeases arena' ls) (sym (append-nil (leases_of runs_two)))
           (second.leases (leases_of runs_two) (subst (λ (r : Kept). AreLeases e.then_arena (r.leases ++ leases_of runs_two)) (sym its) rows_then));
     }

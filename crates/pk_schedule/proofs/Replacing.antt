@@ -1,5 +1,5 @@
 -- A run that replaces another, in lists of runs.
-use Rattle.std.proofs.Common.{◌≡◌, inl, ℕ, zero, suc, ◌+◌, ◌≤◌, ◌<◌, false, nat_le, T, List, [], ◌∷◌, length, map, slice_set, slice_index_or, Some, refl, sym, ap, subst, ◌∙◌, arith}
+use Rattle.std.proofs.Common.{◌≡◌, inl, ℕ, zero, suc, ◌+◌, ◌≤◌, ◌<◌, T, List, [], ◌∷◌, length, map, slice_set, slice_index_or, Some, refl, sym, ap, subst, ◌∙◌, arith}
 use Rattle.std.specs.Prelude.{slice_get}
 use Rattle.std.proofs.lemmas.Option.{same_Some}
 use Rattle.pk_base.specs.Shape.{Shape}
@@ -10,7 +10,7 @@ use Rattle.pk_pin.proofs.Leases.{times-append}
 use Rattle.pk_rootfmt.specs.Root.{differ}
 use Rattle.pk_run.specs.Kept.{Kept, RunOnFlash, empty}
 use Rattle.pk_level.specs.Levels.{RunsOnFlash, HaveBlocks, AreOfLevels, IsOfLevel}
-use Rattle.pk_level.specs.Arenas.{leases_of, IsPinnedIf, ArePinnedTo}
+use Rattle.pk_level.specs.Arenas.{leases_of}
 use Rattle.pk_model.proofs.Commits.{apart, rest_differs}
 use Rattle.pk_law_steps.proofs.Places.{In}
 use Rattle.pk_run.specs.Leases.{LeavesOthers}
@@ -42,12 +42,6 @@ blocks_at_level shape [] (bs ∷ bss) i d none s = absurd s
 blocks_at_level shape (q ∷ rs) [] i d none s = absurd s
 blocks_at_level shape (q ∷ rs) (bs ∷ bss) zero d none s = s.1
 blocks_at_level shape (q ∷ rs) (bs ∷ bss) (suc i) d none s = blocks_at_level shape rs bss i d none s.2
-
-pub ArePinnedTo-set : (pinned level : ℕ) (rs : List Kept) (i : ℕ) (r : Kept)
-    → ((n : ℕ) → n ≡ level + i → IsPinnedIf (nat_le n pinned) r) → ArePinnedTo pinned level rs → ArePinnedTo pinned level (slice_set rs i r)
-ArePinnedTo-set pinned level [] i r is s = tt
-ArePinnedTo-set pinned level (q ∷ rs) zero r is s = (is level (omega arith), s.1)
-ArePinnedTo-set pinned level (q ∷ rs) (suc i) r is s = (s.0, ArePinnedTo-set pinned (suc level) rs i r (λ n e. is n (omega (arith, e))) s.1)
 
 -- a run of this level
 pub of_level : (shape : Shape) (pinned level : ℕ) (rs : List Kept) (i : ℕ) (d : Kept) → ((n : ℕ) → n ≡ level + i → IsOfLevel shape pinned n d)

@@ -274,10 +274,13 @@ module _ (x : Index) (frames : ℕ) (old : BoardState) (top : ℕ × Root) (foun
             (λ b is among. into.held.unnamed b among (any_back (λ y. b ≡ y) (top.1.newest ++ top.1.older) (concat top.1.runs) is)) stands.stand;
         run_blocks = stands.run_blocks;
         arena_is = record {
-          page_bytes_is = runs.running.shapes.of_frames ∙ ap (λ (s : Shape). s.page_bytes) out_shape;
-          size = same_frames ∙ stands.arena_is.size;
-          pins = stands.arena_is.pins;
-          only_these = leases (leases_of x.levels.runs) stands.arena_is.only_these;
+          leases = record {
+            page_bytes_is = runs.running.shapes.of_frames ∙ ap (λ (s : Shape). s.page_bytes) out_shape;
+            size = same_frames ∙ stands.arena_is.leases.size;
+            pinned_is = stands.arena_is.leases.pinned_is;
+            only_these = leases (leases_of x.levels.runs) stands.arena_is.leases.only_these;
+          };
+          bare = stands.arena_is.bare;
         };
         journal = λ b is. kept Journal b (stands.journal b is);
         journal_few = grew_used x.pool out pool (output_of job) grew Journal refl ∙ stands.journal_few;

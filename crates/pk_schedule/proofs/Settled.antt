@@ -41,5 +41,6 @@ none_there shape at root found is none =
     let es = bind_ok (epoch shape (root_spaces shape root) at (root.epoch - 1) root.older) _ first.0 first.1 in
     let tested = bind_ok (ensure (length root.older == 0 || nat_le 1 (length es.0)) (page_in shape root.older 0)) _ first.0 es.2 in
     let older_is : first.0 ≡ found.older = ap (λ (f : Found). f.older) (ok_same (record { newest = second.0; older = first.0; runs = third.0 }) found third.2) in
-    let empty : es.0 ≡ [] = ok_same es.0 [] (sym es.1 ∙ ap (λ (bs : List ℕ). epoch shape (root_spaces shape root) at (root.epoch - 1) bs) none ∙ no_blocks shape (root_spaces shape root) at (root.epoch - 1)) in
+    let empty : es.0 ≡ [] = ok_same es.0 []
+    (sym es.1 ∙ ap (λ (bs : List ℕ). epoch shape (root_spaces shape root) at (root.epoch - 1) bs) none ∙ no_blocks shape (root_spaces shape root) at (root.epoch - 1)) in
     sym older_is ∙ sym (ok_same es.0 first.0 tested.2) ∙ empty

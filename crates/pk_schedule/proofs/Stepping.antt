@@ -20,6 +20,7 @@ use Rattle.pk_law_work.specs.Steps.{MovesMerge}
 use Rattle.pk_law_work.proofs.Lowering.{moves as merge_moves}
 use Rattle.pk_run.specs.Kept.{Kept, RunOnFlash, empty, most_pages, most_blocks}
 use Rattle.pk_level.specs.Levels.{run_of}
+use Rattle.pk_level.specs.Arenas.{unfilled}
 use Rattle.pk_model.specs.Found.{Found}
 use Rattle.pk_model.specs.Growth.{Goes}
 use Rattle.pk_model.specs.Crashes.{CrashFinds, background}
@@ -222,7 +223,7 @@ module _ (x : Index) (frames : ℕ) (old : BoardState) (top : ℕ × Root) (foun
               level = level;
               left = Left (output_of job) job.merger (most_pages (output_of job)) (most_blocks (output_of job)) + 1 + install_steps x.log.next;
               due = next_now;
-              moved = refl;
+              moved = λ i. record (backlog_of (behind (Running level))) { unfilled = unfilled x.levels (same_frames i) };
               lowers = subst (λ (o : Option ℕ). Lowers (left_of (whole_merge x.log.shape level) o) (unready x.pool.states)
                   (Left (output_of job) job.merger (most_pages (output_of job)) (most_blocks (output_of job)) + 1 + install_steps x.log.next) (unready pool.states)) (sym left_now)
                   (goes_lowers _ _ _ _ (install_steps x.log.next) falls);
@@ -239,7 +240,7 @@ module _ (x : Index) (frames : ℕ) (old : BoardState) (top : ℕ × Root) (foun
               level = level;
               left = install_steps x.log.next;
               due = next_now;
-              moved = refl;
+              moved = λ i. record (backlog_of (behind (Ready level))) { unfilled = unfilled x.levels (same_frames i) };
               lowers = subst (λ (o : Option ℕ). Lowers (left_of (whole_merge x.log.shape level) o) (unready x.pool.states) (install_steps x.log.next) (unready pool.states)) (sym left_now)
                   (ends_lowers _ _ _ _ (install_steps x.log.next) falls);
             } in
@@ -278,7 +279,7 @@ module _ (x : Index) (frames : ℕ) (old : BoardState) (top : ℕ × Root) (foun
       pub unmoved : Unmoved x (reread x.schedule.phase)
       unmoved = record {
         rest = (λ i. record x { arena = same_arena i; pool = same_pool i; schedule = record x.schedule { job = job } });
-        same_backlog = (λ i. record (backlog_of x) { merge = left_same_then i; unready = unready (same_pool i).states });
+        same_backlog = (λ i. record (backlog_of x) { merge = left_same_then i; unfilled = unfilled x.levels (length (same_arena i).used); unready = unready (same_pool i).states });
         same_output = out_same;
       }
 

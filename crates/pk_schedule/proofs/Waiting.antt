@@ -218,7 +218,7 @@ module _ (x : Index) (frames : ℕ) (old : BoardState) (top : ℕ × Root) (foun
       let now = times-append l (run_of x.levels level).leases (leases_of runs_one) in
       let was = times-append l (leases_of x.levels.runs) out.leases in
       let same : times l ((run_of x.levels level).leases ++ leases_of runs_one) ≡ times l (leases_of x.levels.runs ++ out.leases) = omega (arith, set, now, was) in
-      same ∙ may.stands.arena_is.only_these l
+      same ∙ may.stands.arena_is.leases.only_these l
 
   pub exchange_one : CanExchange x.levels x.arena x.pool job level out
   exchange_one = record {

@@ -18,6 +18,7 @@ use Rattle.pk_root.specs.declared.next.Next.{Next}
 use Rattle.pk_root.specs.Installing.{repeats_next}
 use Rattle.pk_run.specs.Kept.{most_pages, most_blocks}
 use Rattle.pk_level.specs.Levels.{run_of}
+use Rattle.pk_level.specs.Arenas.{unfilled}
 use Rattle.pk_model.specs.Found.{Found}
 use Rattle.pk_model.specs.Growth.{Grows, Reaches, Goes}
 use Rattle.pk_model.specs.Wear.{roots, root_number}
@@ -58,6 +59,7 @@ backlog_of x = record {
   is_due = false;
   may_freeze = false;
   half = repeats_next x.log.next;
+  unfilled = unfilled x.levels (length x.arena.used);
   unready = unready x.pool.states;
 }
 

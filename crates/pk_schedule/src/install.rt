@@ -20,8 +20,8 @@ use pk_region::Region;
 impl<A: Region> Schedule<A> {
     // One step of the install of the merge whose output is complete, up to the first program of its
     // root: the erase before the root, if one is next, or that program. After it the runs are
-    // exchanged; the blocks of the former ones and of the source leave, and their frames are given
-    // back. `Stopped` if the operation fails.
+    // exchanged; the blocks of the former ones and of the source leave, and their frames are freed,
+    // as are those of levels that may have none any more. `Stopped` if the operation fails.
     pub(crate) fn install<B: Nand>(
         &mut self,
         board: &mut B,
@@ -64,9 +64,11 @@ impl<A: Region> Schedule<A> {
             Ok(()) => {
                 if level == 1 {
                     self.end_first(pool, arena, levels, older);
+                    levels.release(arena);
                     Ok(())
                 } else {
                     self.end_deep(pool, arena, levels, level);
+                    levels.release(arena);
                     Ok(())
                 }
             }

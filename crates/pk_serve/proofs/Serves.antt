@@ -348,7 +348,7 @@ module _ (shape : Shape) (terms : Terms) (start : Map) (a b : BoardState) (drive
       let R : List Command → Type 0 = λ l. ReachedBy (w.marks ++ post bytes ∷ []) a (after_post b bytes) (KeptAt shape terms start l (rise a.read_faults b.read_faults)) in
       record {
         ran = w.ran;
-        stands = record { shape_is = w.stands.shape_is; frames_is = w.stands.frames_is; map_is = w.stands.map_is };
+        stands = record { shape_is = w.stands.shape_is; frames_is = w.stands.frames_is; limits_is = w.stands.limits_is; map_is = w.stands.map_is };
         marks = w.marks ++ post bytes ∷ [];
         run = subst R (append-nil (commands all)) more;
         grows = grown (post bytes ∷ []) (GrowsAlong-post shape b.pages bytes);
@@ -381,7 +381,7 @@ module _ (shape : Shape) (terms : Terms) (start : Map) (a b : BoardState) (drive
   pub Serving-inputs : (left : Option (List ℕ)) (count : ℕ) → Serving shape terms start a (record b { input = left; in_faults = count }) drive unposted all m
   Serving-inputs left count = record {
     ran = w.ran;
-    stands = record { shape_is = w.stands.shape_is; frames_is = w.stands.frames_is; map_is = w.stands.map_is };
+    stands = record { shape_is = w.stands.shape_is; frames_is = w.stands.frames_is; limits_is = w.stands.limits_is; map_is = w.stands.map_is };
     marks = w.marks;
     run = record { trail = w.run.trail; posted = w.run.posted; same_shape = w.run.same_shape; cuts = w.run.cuts; stands = w.run.stands };
     grows = w.grows;

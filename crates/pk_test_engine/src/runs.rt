@@ -7,7 +7,7 @@ ghost use Rattle.pk_scan.specs.Board.{StaysReady};
 ghost use Rattle.pk_scan.specs.Runs.{RunsStand};
 ghost use Rattle.pk_test_engine.specs.Opened.{IsOpened};
 
-use pk_base::Shape;
+use pk_base::{MOST_SPACES, Shape};
 use pk_nand::{Fault, Nand};
 use pk_pin::PinArena;
 use pk_run::Run;
@@ -54,7 +54,7 @@ fn open<A: Allocator, B: Nand>(
     if !may_stand(&run.shape(), run.level()) {
         return Err(Fault::Reading);
     }
-    match load_run(board, arena, false, 2, &[block], run, buf) {
+    match load_run(board, arena, false, MOST_SPACES, 2, &[block], run, buf) {
         Ok(()) => Ok(()),
         Err(_) => Err(Fault::Reading),
     }

@@ -18,7 +18,7 @@ module _ (agrees : Option Shape → Flash → Type 0) (shape : Shape) (b : Board
           agreed = r.agreed;
           none = r.none;
           map = r.map;
-          stands = record { shape_is = r.stands.shape_is; frames_is = r.stands.frames_is; map_is = r.stands.map_is };
+          stands = record { shape_is = r.stands.shape_is; frames_is = r.stands.frames_is; limits_is = r.stands.limits_is; map_is = r.stands.map_is };
           good = r.good;
         };
   }

@@ -17,7 +17,8 @@ returns-in-Ok g c =
     let s1 = g.B.Nand.state c.merge_once.new.board in
     let s2 = g.B.Nand.state c.settle.new.board in
     let was = c.in-Ok-Worked.is ∙ ap Ok c.in-Ok-Worked.field-0-is in
-    merged_settled c.args.parts.now c.merge_once.new.parts s0 s1 c.requires (subst (λ r. MergesOnce c.args.parts.now c.merge_once.new.parts s0 s1 r) was c.merge_once.ensures.once) c.settle.new.parts s2
+    merged_settled c.args.parts.now c.merge_once.new.parts s0 s1 c.requires
+    (subst (λ r. MergesOnce c.args.parts.now c.merge_once.new.parts s0 s1 r) was c.merge_once.ensures.once) c.settle.new.parts s2
     (subst (λ r. SettlesOr c.merge_once.new.parts c.settle.new.parts s1 s2 r) c.in-Ok.is c.settle.ensures)
 
 pub returns-in-Err-settle : goal.returns-in-Err-settle
@@ -41,4 +42,5 @@ pub returns-in-Err : goal.returns-in-Err
 returns-in-Err g c =
     let s0 = g.B.Nand.state c.args.board.now in
     let s1 = g.B.Nand.state c.merge_once.new.board in
-    merged_failed c.args.parts.now c.merge_once.new.parts s0 s1 c.requires c.in-Err.fault (subst (λ r. MergesOnce c.args.parts.now c.merge_once.new.parts s0 s1 r) c.in-Err.is c.merge_once.ensures.once)
+    merged_failed c.args.parts.now c.merge_once.new.parts s0 s1 c.requires c.in-Err.fault
+    (subst (λ r. MergesOnce c.args.parts.now c.merge_once.new.parts s0 s1 r) c.in-Err.is c.merge_once.ensures.once)

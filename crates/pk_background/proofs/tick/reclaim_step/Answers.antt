@@ -34,7 +34,8 @@ freeze_step-requires g c =
       whole = subst (λ (d : Parts). is_half d ≡ false) (sym waits.same) c.requires.whole;
       merged = waits_merged c.args.parts.now (g.B.Nand.state c.args.board.now) c.requires.may c.requires.whole c.requires.wanted c.reclaim_once.new.parts
           (g.B.Nand.state c.reclaim_once.new.board) waits c.requires.merged;
-      wanted = waits_wanted c.args.parts.now (g.B.Nand.state c.args.board.now) c.requires.may c.requires.whole c.requires.wanted c.reclaim_once.new.parts (g.B.Nand.state c.reclaim_once.new.board) waits;
+      wanted = waits_wanted c.args.parts.now (g.B.Nand.state c.args.board.now) c.requires.may c.requires.whole c.requires.wanted c.reclaim_once.new.parts
+          (g.B.Nand.state c.reclaim_once.new.board) waits;
     }
 
 pub returns-in-Ok-NeedsFreeze : goal.returns-in-Ok-NeedsFreeze

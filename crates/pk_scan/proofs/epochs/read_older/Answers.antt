@@ -19,7 +19,7 @@ returns-then-len-eq0-clause-err g c =
     let refused = subst (λ (n : ℕ). older_epoch c.args.root.now.shape (page_at (g.B.Nand.state c.args.board.now).pages) c.args.root.now.root ≡ Err (damaged (slice_index c.in-Some.pair 0 * n)))
     (sym size)
     (older_without c.args.root.now.shape (g.B.Nand.state c.args.board.now).pages c.args.root.now.root c.in-Some.pair
-    (sym c.in-Some.is ∙ c.older.ensures) c.in-Ok.field-0 c.replay.new.into (rw (c.shape.ensures, c.epoch.ensures) at c.in-Ok.ensures.replayed)
+    (sym c.in-Some.is ∙ c.older.ensures) c.in-Ok.field-0 c.replay_in.new.into (rw (c.shape.ensures, c.epoch.ensures, c.spaces_under-spaces.ensures) at c.in-Ok.ensures.replayed)
     (sym c.len.ensures.len ∙ c.if-len-eq0.true)) in
     (refused, (_, c.in-Ok.ensures.reads))
 
@@ -33,4 +33,4 @@ returns-then-len-eq0-clause-board g c = stays_reads c.args.root.now.shape _ _ (_
 pub returns-else-len-eq0-clause-reads : goal.returns-else-len-eq0-clause-reads
 returns-else-len-eq0-clause-reads g c =
     older_exact c.args.root.now.shape (g.B.Nand.state c.args.board.now).pages c.args.root.now.root c.in-Some.pair
-    (g.B.Nand.state c.args.board.now) (g.B.Nand.state c.replay.new.board) (rw c.shape.ensures at c.in-Ok.ensures.reads) (sym c.in-Some.is ∙ c.older.ensures)
+    (g.B.Nand.state c.args.board.now) (g.B.Nand.state c.replay_in.new.board) (rw c.shape.ensures at c.in-Ok.ensures.reads) (sym c.in-Some.is ∙ c.older.ensures)

@@ -1,6 +1,7 @@
 use Rattle.std.proofs.Common.{◌≡◌, ◌∙◌, ℕ, ◌*◌, ◌≤◌, length, refl, sym, ap, subst, arith}
 use Rattle.std.specs.Prelude.{nat_le}
 use Rattle.pk_base.specs.Shape.{Shape, IsShape, cap, page_entries, run_pages, run_blocks}
+use Rattle.pk_model.specs.RootLimits.{root_spaces}
 use Rattle.pk_run.specs.Kept.{Kept, empty}
 use Rattle.pk_scan.specs.Runs.{MayLoadRun, HasRun, NotRead}
 use Rattle.pk_nand.specs.Counts.{after_reads}
@@ -39,8 +40,8 @@ returns-in-Ok-load_run-clause-loaded g c =
     let lv : c.load_run.new.into.level ≡ c.args.level = c.load_run.ensures.loads.level_is ∙ ap (λ (r : Kept). r.level) is in
     let few = subst (λ (n : ℕ). length c.load_run.new.into.firsts ≤ cap c.args.root.now.shape n) lv
     (subst (λ (s : Shape). length c.load_run.new.into.firsts ≤ cap s c.load_run.new.into.level) sh c.known-in-Ok-load_run.ensures.kept.pages) in
-    let has = subst (λ (r : Kept). HasRun r.shape r.level c.entries-count.result c.blocks-blocks.result.now
-    (g.B.Nand.state c.args.board.now).pages c.load_run.new.arena c.load_run.new.into) is c.in-Ok-load_run.ensures.has_run in
+    let has = subst (λ (r : Kept). HasRun r.shape (root_spaces c.args.root.now.shape c.args.root.now.root) r.level c.entries-count.result c.blocks-blocks.result.now
+    (g.B.Nand.state c.args.board.now).pages c.load_run.new.arena c.load_run.new.into) is (rw c.spaces_under-spaces.ensures at c.in-Ok-load_run.ensures.has_run) in
     level_loaded c.args.root.now.shape c.args.root.now.root c.args.level c.entries-count.result c.blocks-blocks.result.now c.entries-count.ensures c.blocks-blocks.ensures
     (g.B.Nand.state c.args.board.now).pages c.args.arena.now c.load_run.new.arena c.args.levels.now c.install_run.new.self c.load_run.new.into _
     has c.load_run.ensures.loads.others c.load_run.ensures.loads.more c.load_run.ensures.loads.pinned sh c.load_run.ensures.loads.blocks_are c.in-Ok-load_run.ensures.has_run.counted
@@ -49,8 +50,8 @@ returns-in-Ok-load_run-clause-loaded g c =
 pub returns-in-Err-load_run-clause-err : goal.returns-in-Err-load_run-clause-err
 returns-in-Err-load_run-clause-err g c =
     let is : c.in-Ok.run' ≡ empty c.args.root.now.shape c.args.level = rw c.shape.ensures at c.in-Ok.ensures.empty in
-    let why = subst (λ (r : Kept). NotRead r.shape r.level c.entries-count.result c.blocks-blocks.result.now
-    (g.B.Nand.state c.args.board.now) (g.B.Nand.state c.load_run.new.board) c.in-Err-load_run.error) is c.in-Err-load_run.ensures.err in
+    let why = subst (λ (r : Kept). NotRead r.shape (root_spaces c.args.root.now.shape c.args.root.now.root) r.level c.entries-count.result c.blocks-blocks.result.now
+    (g.B.Nand.state c.args.board.now) (g.B.Nand.state c.load_run.new.board) c.in-Err-load_run.error) is (rw c.spaces_under-spaces.ensures at c.in-Err-load_run.ensures.err) in
     rw c.from.ensures (level_not_loaded c.args.root.now.shape c.args.root.now.root c.args.level c.entries-count.result c.blocks-blocks.result.now c.entries-count.ensures c.blocks-blocks.ensures
     (g.B.Nand.state c.args.board.now) (g.B.Nand.state c.load_run.new.board) c.in-Err-load_run.error why)
 

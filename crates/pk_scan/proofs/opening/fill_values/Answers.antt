@@ -1,4 +1,4 @@
-use Rattle.std.proofs.Common.{◌≡◌, ◌+◌, ◌∙◌, ℕ, List, [], sym, subst, Result}
+use Rattle.std.proofs.Common.{◌≡◌, ◌+◌, ◌∙◌, ℕ, List, [], sym, subst, Result, ap}
 use Rattle.pk_base.specs.Key.{Key}
 use Rattle.pk_base.specs.Refusal.{Refusal}
 use Rattle.pk_rootfmt.specs.Root.{Root, named}
@@ -16,6 +16,8 @@ use Rattle.pk_scan.specs.Adopts.{owned_blocks, NamesOwned}
 use Rattle.pk_scan.proofs.Owned.{owned_named, values_same, Lives-same}
 use Rattle.pk_scan.proofs.Whole.{left_to_give, places_are}
 use Rattle.pk_scan.proofs.opening.fill_values.Goals as goal
+use Rattle.pk_model.specs.RootLimits.{root_limits}
+use Rattle.pk_scan.specs.Used.{IsUseOf}
 
 named_now : (shape : Shape) (root : Root) (old new : Blocks) → old ≡ unused shape → NamesOwned root old new → NamesOwned root (unused shape) new
 named_now shape root old new is owned = subst (λ (p : Blocks). NamesOwned root p new) is owned
@@ -63,14 +65,17 @@ returns-in-Ok-clause-finds g c found held =
     let pool = c.adopt_blocks.new.pool in
     let same = owned_named f.root.shape f.root.root (rw c.shape.ensures at c.known.ensures) c.requires.awaits.grammar pool
     (named_now f.root.shape f.root.root f.pool pool c.requires.awaits.pool_unused c.adopt_blocks.ensures.named) in
-    let read = subst (λ (s : Shape). ReadsValues s old.pages (owned_blocks pool) c.read_values.new.live (places found [])) c.shape.ensures (c.in-Ok.ensures.read (places found []) left).values in
+    let limits : c.limits_under-limits.result.each ≡ root_limits f.root.shape f.root.root = ap (λ l. l.each) c.limits_under-limits.ensures in
+    let taken = c.in-Ok.ensures.read (places found []) left in
+    let read = subst (λ (s : Shape). ReadsValues s old.pages (root_limits f.root.shape f.root.root) (owned_blocks pool) c.read_values.new.live (places found [])) c.shape.ensures
+    (rw limits at taken.values) in
     record {
       values = record {
         values = read.values;
-        read = sym (values_same f.root.shape (owned_blocks pool) (named f.root.root) same (page_at old.pages) [] (places found [])) ∙ read.read;
+        read = sym (values_same f.root.shape (owned_blocks pool) (named f.root.root) same (page_at old.pages) (root_limits f.root.shape f.root.root) [] (places found [])) ∙ read.read;
         lives = Lives-same f.root.shape (owned_blocks pool) (named f.root.root) same c.read_values.new.live (places found []) read.lives;
       };
-      keys_are = (c.in-Ok.ensures.read (places found []) left).keys_are;
+      uses = subst (λ (s : Shape). IsUseOf s c.read_values.new.spaces (places found [])) c.shape.ensures taken.uses;
       reads = subst (λ (s : Shape). g.B.Nand.state c.read_values.new.board ≡ after_reads (most_read f.levels.runs + value_reads s (places found [])) old) c.shape.ensures
           ((c.in-Ok.ensures.exact (places found []) left).exact c.requires.awaits.starts.skips_none (c.requires.awaits.starts.none_read f.levels.runs));
     }
@@ -80,11 +85,12 @@ returns-in-Err-clause-err g c found held =
     let f = c.args.memory.now.found in
     let old = g.B.Nand.state c.args.board.now in
     let new = g.B.Nand.state c.read_values.new.board in
+    let limits : c.limits_under-limits.result.each ≡ root_limits f.root.shape f.root.root = ap (λ l. l.each) c.limits_under-limits.ensures in
     let left = left_to_give f.root.shape old.pages f.root.root f.active f.frozen f.epoch f.arena f.levels found held c.args.memory.now.walk c.requires.awaits.starts in
     let pool = c.adopt_blocks.new.pool in
     let same = owned_named f.root.shape f.root.root (rw c.shape.ensures at c.known.ensures) c.requires.awaits.grammar pool
     (named_now f.root.shape f.root.root f.pool pool c.requires.awaits.pool_unused c.adopt_blocks.ensures.named) in
     subst (λ (part : Result (List (Key × List ℕ)) Refusal). PartNotOpened part old new c.in-Err.error)
-    (values_same f.root.shape (owned_blocks pool) (named f.root.root) same (page_at old.pages) [] (places found []))
-    (subst (λ (s : Shape). PartNotOpened (values_of s (page_at old.pages) (owned_blocks pool) [] (places found [])) old new c.in-Err.error) c.shape.ensures
-    (c.in-Err.ensures.err (places found []) left))
+    (values_same f.root.shape (owned_blocks pool) (named f.root.root) same (page_at old.pages) (root_limits f.root.shape f.root.root) [] (places found []))
+    (subst (λ (s : Shape). PartNotOpened (values_of s (page_at old.pages) (root_limits f.root.shape f.root.root) (owned_blocks pool) [] (places found [])) old new c.in-Err.error) c.shape.ensures
+    (rw limits at (c.in-Err.ensures.err (places found []) left)))

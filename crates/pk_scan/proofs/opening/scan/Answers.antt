@@ -18,7 +18,7 @@ pub fill_values-requires-clause-awaits : goal.fill_values-requires-clause-awaits
 fill_values-requires-clause-awaits g c =
     let kept = c.fill_lists.ensures.kept in
     awaits_values c.args.shape c.args.frames _ c.in-Ok.memory c.fill_lists.new.memory c.in-Ok-fill_lists.ensures.finds.0 c.in-Ok.ensures c.in-Ok-fill_lists.ensures.finds.1 c.fill_lists.ensures.shape
-    (ap (λ m. m.found.live) kept) (ap (λ m. m.walk) kept) (ap (λ m. m.found.pool) kept) c.fill_lists.ensures.room
+    (ap (λ m. m.found.live) kept) (ap (λ m. m.walk) kept) (ap (λ m. m.found.pool) kept) (ap (λ m. m.found.spaces) kept) c.fill_lists.ensures.room
 
 pub fill_values-requires-clause-held : goal.fill_values-requires-clause-held
 fill_values-requires-clause-held g c =
@@ -70,7 +70,7 @@ returns-in-Ok-fill_values-clause-opened g c =
     (scan_opened c.args.shape c.in-Ok.memory.found.root.shape l nothing.root_shape c.fill_lists.ensures.shape
     old now c.fill_lists.ensures.board.pages c.args.frames c.in-Ok.memory.found refl finds.0 finds.1
     nothing live values c.adopt_values.new.pool owners (c.adopt_values.ensures.counted ∙ many_closed l.root.shape is_shape (named l.root.root) live (places finds.0 []) values.lives)
-    c.fill_values.new.memory.found.keys v.keys_are)
+    c.fill_values.new.memory.found.spaces (rw root_is at v.uses))
 
 pub returns-in-Ok-fill_values-clause-reads : goal.returns-in-Ok-fill_values-clause-reads
 returns-in-Ok-fill_values-clause-reads g c =

@@ -9,7 +9,7 @@ use Rattle.pk_scan.proofs.runs.read_pages.Goals as goal
 pub loop-init : goal.loop-init
 loop-init g c = record {
   buffer = c.requires.sized;
-  loading = Loading-start c.args.into.now.shape c.args.into.now.level c.args.count c.args.into.now.blocks c.args.pins _ c.args.arena.now
+  loading = Loading-start c.args.into.now.shape c.args.spaces c.args.into.now.level c.args.count c.args.into.now.blocks c.args.pins _ c.args.arena.now
       c.args.into.now refl refl refl c.requires.awaits.no_entries c.requires.awaits.no_pages c.requires.awaits.no_leases c.requires.awaits.stands;
 }
 
@@ -20,7 +20,7 @@ take_page-requires-clause-next g c =
     let inside : c.loop.counter < run_pages c.args.into.now.shape c.args.count = subst (λ (k : ℕ). c.loop.counter < k)
     (c.div_ceil-pages.ensures ∙ ap (λ (n : ℕ). div_ceil c.args.count n) size) c.loop-test.true in
     let many : c.min-entries.result ≡ min (c.args.count - c.loop.into.count) (page_entries c.args.into.now.shape) = rw (c.entries.ensures, size) at c.min-entries.ensures in
-    page_awaited _ _ _ _ _ _ _ _ _ _ _ _ l c.min-entries.result (entries_some _ c.known.ensures.shape)
+    page_awaited _ _ _ _ _ _ _ _ _ _ _ _ _ l c.min-entries.result (entries_some _ c.known.ensures.shape)
     (let least = c.known.ensures.shape.block_least in omega (arith, least)) inside many c.requires.awaits.exist c.requires.awaits.few c.requires.awaits.places
     c.requires.awaits.page_bytes c.requires.awaits.free
 
@@ -31,8 +31,8 @@ returns-in-Err-clause-err g c =
     let inside : c.loop.counter < run_pages c.args.into.now.shape c.args.count = subst (λ (k : ℕ). c.loop.counter < k)
     (c.div_ceil-pages.ensures ∙ ap (λ (n : ℕ). div_ceil c.args.count n) size) c.loop-test.true in
     let many : c.min-entries.result ≡ min (c.args.count - c.loop.into.count) (page_entries c.args.into.now.shape) = rw (c.entries.ensures, size) at c.min-entries.ensures in
-    let left = some_left _ _ _ _ _ _ _ _ _ _ _ _ l c.min-entries.result (entries_some _ c.known.ensures.shape) inside many in
-    Loading-refused _ _ _ _ _ _ _ _ _ _ _ _ l _ c.min-entries.result c.in-Err.error inside left.2 (c.in-Err.ensures.err l.es (stands_now _ _ _ _ _ _ _ _ _ _ _ _ l) l.ends)
+    let left = some_left _ _ _ _ _ _ _ _ _ _ _ _ _ l c.min-entries.result (entries_some _ c.known.ensures.shape) inside many in
+    Loading-refused _ _ _ _ _ _ _ _ _ _ _ _ _ l _ c.min-entries.result c.in-Err.error inside left.2 (c.in-Err.ensures.err l.es (stands_now _ _ _ _ _ _ _ _ _ _ _ _ _ l) l.ends)
 
 pub loop-preserved : goal.loop-preserved
 loop-preserved g c =
@@ -41,20 +41,20 @@ loop-preserved g c =
     let inside : c.loop.counter < run_pages c.args.into.now.shape c.args.count = subst (λ (k : ℕ). c.loop.counter < k)
     (c.div_ceil-pages.ensures ∙ ap (λ (n : ℕ). div_ceil c.args.count n) size) c.loop-test.true in
     let many : c.min-entries.result ≡ min (c.args.count - c.loop.into.count) (page_entries c.args.into.now.shape) = rw (c.entries.ensures, size) at c.min-entries.ensures in
-    let left = some_left _ _ _ _ _ _ _ _ _ _ _ _ l c.min-entries.result (entries_some _ c.known.ensures.shape) inside many in
+    let left = some_left _ _ _ _ _ _ _ _ _ _ _ _ _ l c.min-entries.result (entries_some _ c.known.ensures.shape) inside many in
     record {
       buffer = c.take_page.ensures.buffer ∙ c.loop.invariant.buffer;
-      loading = Loading-next _ _ _ _ _ _ _ _ _ _ _ _ l _ c.take_page.new.arena c.take_page.new.into c.in-Ok.key c.min-entries.result c.known.ensures.kept.level_least c.known.ensures.kept.level_most
+      loading = Loading-next _ _ _ _ _ _ _ _ _ _ _ _ _ l _ c.take_page.new.arena c.take_page.new.into c.in-Ok.key c.min-entries.result c.known.ensures.kept.level_least c.known.ensures.kept.level_most
           (omega (arith, c.loop-test.true, c.div_ceil-pages.type_inv)) (entries_some _ c.known.ensures.shape) inside left.2 c.in-Ok.ensures.ok c.in-Ok.ensures.added
-          (c.in-Ok.ensures.taken l.es (stands_now _ _ _ _ _ _ _ _ _ _ _ _ l) l.ends);
+          (c.in-Ok.ensures.taken l.es (stands_now _ _ _ _ _ _ _ _ _ _ _ _ _ l) l.ends);
     }
 
 pub returns-clause-loads : goal.returns-clause-loads
-returns-clause-loads g c = pages_loaded _ _ _ _ _ _ _ _ _ _ _ _ c.loop.invariant.loading c.args.into.now refl refl refl
+returns-clause-loads g c = pages_loaded _ _ _ _ _ _ _ _ _ _ _ _ _ c.loop.invariant.loading c.args.into.now refl refl refl
 
 pub returns-in-Err-clause-loads : goal.returns-in-Err-clause-loads
 returns-in-Err-clause-loads g c =
-    rw (c.in-Err.ensures.kept.0, c.in-Err.ensures.kept.1) (pages_loaded _ _ _ _ _ _ _ _ _ _ _ _ c.loop.invariant.loading c.args.into.now refl refl refl)
+    rw (c.in-Err.ensures.kept.0, c.in-Err.ensures.kept.1) (pages_loaded _ _ _ _ _ _ _ _ _ _ _ _ _ c.loop.invariant.loading c.args.into.now refl refl refl)
 
 pub returns-clause-board : goal.returns-clause-board
 returns-clause-board g c = stays_reads c.args.into.now.shape _ _ (_, c.loop.invariant.loading.board) c.requires.ready
@@ -64,8 +64,8 @@ returns-clause-has_run g c =
     let size : c.entries-most.result ≡ page_entries c.args.into.now.shape = c.entries-most.ensures.value ∙ ap page_entries c.shape.ensures in
     let pages : c.div_ceil-pages.result ≡ run_pages c.args.into.now.shape c.args.count = c.div_ceil-pages.ensures ∙ ap (λ (n : ℕ). div_ceil c.args.count n) size in
     let all : c.loop.counter ≡ run_pages c.args.into.now.shape c.args.count = omega (arith, pages, c.loop-test.false, c.loop.auto.counter-end) in
-    Loading-end _ _ _ _ _ _ _ _ _ _ _ _ c.loop.invariant.loading (entries_some _ c.known.ensures.shape) all
+    Loading-end _ _ _ _ _ _ _ _ _ _ _ _ _ c.loop.invariant.loading (entries_some _ c.known.ensures.shape) all
 
 pub returns-in-Err-clause-board : goal.returns-in-Err-clause-board
 returns-in-Err-clause-board g c =
-    stays_not_read c.args.into.now.shape c.args.into.now.level c.args.count c.args.into.now.blocks c.args.pins _ c.args.arena.now _ _ (returns-in-Err-clause-err g c) c.requires.ready
+    stays_not_read c.args.into.now.shape c.args.spaces c.args.into.now.level c.args.count c.args.into.now.blocks c.args.pins _ c.args.arena.now _ _ (returns-in-Err-clause-err g c) c.requires.ready

@@ -15,7 +15,7 @@ returns-else-not-goes_on-clause-taken g c es stands ends =
     let begins = rw c.shape-shape.ensures at c.key_at.ensures in
     let last = rw c.shape-shape.ensures at c.key_at-in-Ok-Whole.ensures in
     let goes_on = rw (c.shape-shape.ensures, c.level.ensures, c.pages-index.ensures) at (c.if-not-goes_on.ensures.goes_on es stands.rising ends) in
-    page_taken c.args.pins _ c.args.arena.now c.keep-lease.new.self c.args.into.now c.push_page.new.self
+    page_taken c.args.pins c.args.spaces _ c.args.arena.now c.keep-lease.new.self c.args.into.now c.push_page.new.self
     es c.args.entries c.key_at.result c.key_at-in-Ok-Whole.result c.keep-lease.result c.read.new.into
     kept.level_least kept.level_most (omega (arith, kept.pages, kept.bound)) c.requires.next.some.0
     (read_whole _ _ _ _ c.in-Ok-Whole.field-0-is found bytes) c.requires.next.pinned c.keep-lease.ensures begins last c.push_page.ensures.stands stands goes_on

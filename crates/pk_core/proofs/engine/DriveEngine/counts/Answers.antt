@@ -1,9 +1,8 @@
 use Rattle.std.proofs.Common.{◌≡◌, ℕ, refl, sym, subst, arith}
-use Rattle.pk_pool.specs.Blocks.{IsShared}
 use Rattle.pk_call.specs.Drive.{CountsMap}
 use Rattle.pk_call.specs.Sight.{in_space_at}
 use Rattle.pk_model.specs.Spaces.{terms_at}
-use Rattle.pk_parts.specs.Parts.{Parts, counts_of, frames_of, spaces_of}
+use Rattle.pk_parts.specs.Parts.{Parts, IsParts, counts_of, frames_of, spaces_of}
 use Rattle.pk_core.proofs.Counting.{agrees_counts}
 use Rattle.pk_core.proofs.Steadying.{between_steady}
 use Rattle.pk_core.proofs.engine.DriveEngine.counts.Goals as goal
@@ -20,4 +19,4 @@ returns-clause-map g c = λ shape flash m agrees runs is.
 
 pub returns-clause-steady : goal.returns-clause-steady
 returns-clause-steady g c = λ shape flash m agrees runs is. between_steady c.args.self.now _ shape flash agrees refl
-    (subst (λ (d : Parts). IsShared d.pool.shape d.pool.states) c.self.view_is c.known.ensures)
+    (subst (λ (d : Parts). IsParts d) c.self.view_is c.known.ensures)

@@ -54,7 +54,7 @@ ended g c = record {
   agreed = (rw (← c.self.view_is) at c.requires.serves).serves.running.agrees;
   executes = c.perform-outcome.ensures.executes;
   performs = c.perform-outcome.ensures.performs;
-  shared = c.known-in-None.ensures;
+  keeps = c.known-in-None.ensures;
   counted = c.read_count.ensures.flash_faults;
 }
 

@@ -3,7 +3,8 @@ use Rattle.pk_plan.specs.declared.owner.Owner.TheVariants.{Values}
 use Rattle.pk_rootfmt.specs.Held.{Held, older_of}
 use Rattle.pk_schedule.specs.declared.phase.Phase.TheVariants.{Ready}
 use Rattle.pk_schedule.specs.Index.{Index, Schedule, index, output}
-use Rattle.pk_schedule.proofs.Installed.{ready_at, ask_prepare, ask_merge, ask_first, ask_level, ask_deep, steps_on, made_prepared, made_first, made_deep, merge_breaks, merges_told}
+use Rattle.pk_schedule.proofs.Installed.{ready_at, ask_prepare, ask_merge, ask_first, ask_level, ask_deep, steps_on, made_prepared, first_replaces, deep_replaces, ask_release, made_release}
+use Rattle.pk_schedule.proofs.Installed.{merge_breaks, merges_told}
 use Rattle.pk_compact.proofs.NextRoot.{programs_then}
 use Rattle.pk_schedule.proofs.schedule.Schedule.install.Goals as goal
 
@@ -60,6 +61,36 @@ end_deep-requires-clause-can g c =
     let low = (ask_level x c.merging-level.result is c.known.ensures c.known-2.ensures.levels old c.requires.may).0 in
     ask_deep x c.merging-level.result is c.known.ensures c.known-2.ensures.levels old c.requires.may (omega (arith, low, c.if-level-eq1.false))
 
+pub release-requires : goal.release-requires
+release-requires g c =
+    let old = g.B.Nand.state c.args.board.now in
+    let x : Index = index c.args.log.now c.args.levels.now c.args.arena.now c.args.pool.now c.args.self.now in
+    let is : c.args.self.now.phase ≡ Ready c.merging-level.result = ready_at c.merging-level.result c.args.self.now.phase c.merging-level.ensures c.requires.phase in
+    let new = g.B.Nand.state c.install_merge.new.board in
+    let out_is : c.output-output.result.now ≡ output c.args.self.now = c.output-output.ensures ∙ ap (λ (s : Schedule). output s) c.self.view_is in
+    let older_told : c.older-older.result ≡ older_of c.args.log.now.root.older = c.older-older.ensures ∙ ap (λ (h : Held). older_of h.root.older) c.root.ensures in
+    let merges = merges_told x c.merging-level.result is c.known.ensures c.known-2.ensures.levels old c.output-output.result.now c.entries-count.result
+    c.blocks-2.result.now out_is c.entries-count.ensures c.blocks-2.ensures c.install_merge.new.self new c.in-Ok.ensures.step.step.ended in
+    let replaces = first_replaces x c.merging-level.result is c.known.ensures c.known-2.ensures.levels old new c.install_merge.new.self merges c.end_first.new.levels c.end_first.new.arena
+    c.end_first.new.pool c.end_first.new.self c.if-level-eq1.true c.older-older.result older_told c.end_first.ensures.ends in
+    ask_release x c.merging-level.result is c.known.ensures c.known-2.ensures.levels old new c.install_merge.new.self merges c.end_first.new.levels c.end_first.new.arena
+    c.end_first.new.pool c.end_first.new.self c.requires.may replaces
+
+pub release-requires-2 : goal.release-requires-2
+release-requires-2 g c =
+    let old = g.B.Nand.state c.args.board.now in
+    let x : Index = index c.args.log.now c.args.levels.now c.args.arena.now c.args.pool.now c.args.self.now in
+    let is : c.args.self.now.phase ≡ Ready c.merging-level.result = ready_at c.merging-level.result c.args.self.now.phase c.merging-level.ensures c.requires.phase in
+    let new = g.B.Nand.state c.install_merge.new.board in
+    let out_is : c.output-output.result.now ≡ output c.args.self.now = c.output-output.ensures ∙ ap (λ (s : Schedule). output s) c.self.view_is in
+    let merges = merges_told x c.merging-level.result is c.known.ensures c.known-2.ensures.levels old c.output-output.result.now c.entries-count.result
+    c.blocks-2.result.now out_is c.entries-count.ensures c.blocks-2.ensures c.install_merge.new.self new c.in-Ok.ensures.step.step.ended in
+    let low = (ask_level x c.merging-level.result is c.known.ensures c.known-2.ensures.levels old c.requires.may).0 in
+    let replaces = deep_replaces x c.merging-level.result is c.known.ensures c.known-2.ensures.levels old new c.install_merge.new.self merges c.end_deep.new.levels c.end_deep.new.arena
+    c.end_deep.new.pool c.end_deep.new.self (omega (arith, low, c.if-level-eq1.false)) c.end_deep.ensures.ends in
+    ask_release x c.merging-level.result is c.known.ensures c.known-2.ensures.levels old new c.install_merge.new.self merges c.end_deep.new.levels c.end_deep.new.arena
+    c.end_deep.new.pool c.end_deep.new.self c.requires.may replaces
+
 pub returns-then-level-eq1-clause-step : goal.returns-then-level-eq1-clause-step
 returns-then-level-eq1-clause-step g c =
     let old = g.B.Nand.state c.args.board.now in
@@ -70,9 +101,11 @@ returns-then-level-eq1-clause-step g c =
     let older_told : c.older-older.result ≡ older_of c.args.log.now.root.older = c.older-older.ensures ∙ ap (λ (h : Held). older_of h.root.older) c.root.ensures in
     let merges = merges_told x c.merging-level.result is c.known.ensures c.known-2.ensures.levels old c.output-output.result.now c.entries-count.result
     c.blocks-2.result.now out_is c.entries-count.ensures c.blocks-2.ensures c.install_merge.new.self new c.in-Ok.ensures.step.step.ended in
-    let made = made_first x c.merging-level.result is c.known.ensures c.known-2.ensures.levels old new c.install_merge.new.self
-    (programs_then c.args.log.now.next c.requires.may.4.settles.whole (sym c.erases_next.ensures ∙ c.if-erases_next.false)) merges c.end_first.new.levels c.end_first.new.arena
-    c.end_first.new.pool c.end_first.new.self c.end_first.ensures.rest c.if-level-eq1.true c.older-older.result older_told c.end_first.ensures.ends (c.end_first.ensures.counted Values) in
+    let replaces = first_replaces x c.merging-level.result is c.known.ensures c.known-2.ensures.levels old new c.install_merge.new.self merges c.end_first.new.levels c.end_first.new.arena
+    c.end_first.new.pool c.end_first.new.self c.if-level-eq1.true c.older-older.result older_told c.end_first.ensures.ends in
+    let made = made_release x c.merging-level.result is c.known.ensures c.known-2.ensures.levels old new c.install_merge.new.self merges c.end_first.new.levels c.end_first.new.arena
+    c.end_first.new.pool c.end_first.new.self (programs_then c.args.log.now.next c.requires.may.4.settles.whole (sym c.erases_next.ensures ∙ c.if-erases_next.false)) c.end_first.ensures.rest
+    c.release.new.self c.release.new.arena c.release.ensures replaces (c.end_first.ensures.counted Values) in
     record {
       step = record {
         ended = steps_on x c.merging-level.result is c.known.ensures c.known-2.ensures.levels old _ new made;
@@ -97,9 +130,11 @@ returns-else-level-eq1-clause-step g c =
     let merges = merges_told x c.merging-level.result is c.known.ensures c.known-2.ensures.levels old c.output-output.result.now c.entries-count.result
     c.blocks-2.result.now out_is c.entries-count.ensures c.blocks-2.ensures c.install_merge.new.self new c.in-Ok.ensures.step.step.ended in
     let low = (ask_level x c.merging-level.result is c.known.ensures c.known-2.ensures.levels old c.requires.may).0 in
-    let made = made_deep x c.merging-level.result is c.known.ensures c.known-2.ensures.levels old new c.install_merge.new.self
-    (programs_then c.args.log.now.next c.requires.may.4.settles.whole (sym c.erases_next.ensures ∙ c.if-erases_next.false)) merges c.end_deep.new.levels c.end_deep.new.arena
-    c.end_deep.new.pool c.end_deep.new.self c.end_deep.ensures.rest (omega (arith, low, c.if-level-eq1.false)) c.end_deep.ensures.ends (c.end_deep.ensures.counted Values) in
+    let replaces = deep_replaces x c.merging-level.result is c.known.ensures c.known-2.ensures.levels old new c.install_merge.new.self merges c.end_deep.new.levels c.end_deep.new.arena
+    c.end_deep.new.pool c.end_deep.new.self (omega (arith, low, c.if-level-eq1.false)) c.end_deep.ensures.ends in
+    let made = made_release x c.merging-level.result is c.known.ensures c.known-2.ensures.levels old new c.install_merge.new.self merges c.end_deep.new.levels c.end_deep.new.arena
+    c.end_deep.new.pool c.end_deep.new.self (programs_then c.args.log.now.next c.requires.may.4.settles.whole (sym c.erases_next.ensures ∙ c.if-erases_next.false)) c.end_deep.ensures.rest
+    c.release-2.new.self c.release-2.new.arena c.release-2.ensures replaces (c.end_deep.ensures.counted Values) in
     record {
       step = record {
         ended = steps_on x c.merging-level.result is c.known.ensures c.known-2.ensures.levels old _ new made;

@@ -1,0 +1,20 @@
+-- What is used of each namespace by values.
+use Rattle.std.specs.Prelude.{◌≡◌, ℕ, ◌+◌, List, [], ◌∷◌, length, ◌==◌, if◌then◌else◌}
+use Rattle.pk_base.specs.declared.sizes.TheConstants.{MOST_SPACES}
+use Rattle.pk_base.specs.Key.{Key, space_of}
+use Rattle.pk_base.specs.Shape.{Shape}
+use Rattle.pk_base.specs.Entry.{Place}
+use Rattle.pk_space.specs.Uses.{Use, IsSpace, space_live, space_keys}
+use Rattle.pk_model.specs.Values.{pages_of_space}
+
+-- how many values a namespace has
+abbrev pub keys_of_space : ℕ → List (Key × Place) → ℕ
+keys_of_space space [] = 0
+keys_of_space space (e ∷ es) = (if space_of e.0 == space then 1 else 0) + keys_of_space space es
+
+-- each namespace has the live pages and the keys of these values
+pub record IsUseOf (shape : Shape) (u : Use) (es : List (Key × Place)) : Type 0 where
+  pub live_room : length u.live ≡ MOST_SPACES
+  pub keys_room : length u.keys ≡ MOST_SPACES
+  pub live : (space : ℕ) → IsSpace space → space_live u space ≡ pages_of_space shape space es
+  pub keys : (space : ℕ) → IsSpace space → space_keys u space ≡ keys_of_space space es
