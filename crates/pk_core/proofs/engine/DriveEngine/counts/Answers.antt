@@ -1,4 +1,4 @@
-use Rattle.std.proofs.Common.{◌≡◌, ℕ, refl, sym, subst, arith}
+use Rattle.std.proofs.Common.{◌≡◌, ◌≤◌, ℕ, refl, sym, subst, arith}
 use Rattle.pk_call.specs.Drive.{CountsMap}
 use Rattle.pk_call.specs.Sight.{in_space_at}
 use Rattle.pk_model.specs.Spaces.{terms_at}
@@ -13,7 +13,9 @@ returns-clause-numbers g c = rw (← c.self.view_is) (c.counts.ensures.drive, c.
 pub returns-clause-map : goal.returns-clause-map
 returns-clause-map g c = λ shape flash m agrees runs is.
     let d = c.args.self.now in
-    let only : c.args.space ≡ 1 = omega (arith, c.requires.0, c.requires.1) in
+    let some : 1 ≤ c.args.space = c.requires.0 in
+    let most : c.args.space ≤ 1 = c.requires.1 in
+    let only : c.args.space ≡ 1 = omega (arith, some, most) in
     let P : ℕ → Type 0 = λ n. CountsMap shape (terms_at shape flash (frames_of d)) n m (in_space_at (spaces_of d) n) (counts_of d) in
     subst P (sym only) (agrees_counts d shape flash m agrees.0 is)
 
