@@ -13,7 +13,6 @@ mod levels;
 mod lists;
 mod memory;
 mod namespaces;
-mod namespaces;
 mod opening;
 mod pages;
 mod refused;
