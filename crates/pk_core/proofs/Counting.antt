@@ -109,7 +109,8 @@ agrees_counts d shape flash m a read =
 -- its live pages are those of the map
 pub agrees_live : (d : Parts) (shape : Shape) (flash : Flash) (m : Map) → DriveOnFlash d (Some shape) flash → reading shape flash d.log.pending ≡ Ok m → sum d.values.live.heads ≡ live shape m
 agrees_live d shape flash m a read =
-    let one : in_space 1 m ≡ m = subst (λ (x : Map). in_space 1 x ≡ x) (read_is d shape flash m a read) (is_whole a.shape a.all (held_with (settled_parts d) a.shape flash a.top a.found a.without a.all a.with).is_map) in
+    let held = held_with (settled_parts d) a.shape flash a.top a.found a.without a.all a.with in
+    let one : in_space 1 m ≡ m = subst (λ (x : Map). in_space 1 x ≡ x) (read_is d shape flash m a read) (is_whole a.shape a.all held.is_map) in
     (agrees_counts d shape flash m a read).live_is ∙ ap (live shape) one
 
 -- ---- roots
@@ -148,7 +149,9 @@ report_done d o into told bytes board r v a few op passed =
     let passes : early 1 d.log.shape c ≡ None = same_early d.log.shape r v ∙ passed in
     let counted = counts_own d board a in
     let all : AnswersAll board (sight_of d) c (success 0 (take 64 into)) 0 =
-    for_its_map d board a (λ s f m. Step s f m c (success 0 (take 64 into)) m × (op_of r.opcode ≡ Some Retrieve → 0 ≤ most_reads s f m c))
-    (report_step d.log.shape (frames_of d) a.all c passes (whole_all d board a) (first_of d) (counts_of d) (take 64 into) op counted bytes, λ e. absurd (other_than Report r.opcode (ap op_of op) report_other e)) in
+    for_its_map d board a (λ s f m. Step s f m c (success 0 (take 64 into)) m × (op_of r.opcode ≡ Some Retrieve → 0 ≤ most_reads s f m c)) (
+      report_step d.log.shape (frames_of d) a.all c passes (whole_all d board a) (first_of d) (counts_of d) (take 64 into) op counted bytes,
+      λ e. absurd (other_than Report r.opcode (ap op_of op) report_other e),
+    ) in
     subst (λ (x : Outcome). Does board board (sight_of d) (sight_of d) c (reply_of x into) x.reads x.stopped) (sym told)
     (does_reads board board (sight_of d) c (success 0 (take 64 into)) 0 0 few few (reads_none board few) (omega arith) ok_sound all)
