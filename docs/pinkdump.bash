@@ -6,7 +6,8 @@ _pinkdump() {
             compopt -o filenames 2>/dev/null
             COMPREPLY=($(compgen -f -- "$word") $(compgen -W "--help --version" -- "$word"))
             ;;
-        2) COMPREPLY=($(compgen -W "lines" -- "$word")) ;;
+        2) COMPREPLY=($(compgen -W "lines spared" -- "$word")) ;;
+        4) [ "${COMP_WORDS[2]}" = spared ] && COMPREPLY=($(compgen -W "lines" -- "$word")) || COMPREPLY=() ;;
         *) COMPREPLY=() ;;
     esac
 }

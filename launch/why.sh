@@ -11,13 +11,13 @@ why() { # NAME STATUS IMAGE WORDS..
         [ -z "$fault" ] || { echo "$fault" && return; }
     fi
     case $status in
-        2) if [ "$name" = pink ]; then words_fault "$@"; else echo "the words are IMAGE, or IMAGE lines"; fi ;;
+        2) if [ "$name" = pink ]; then words_fault "$@"; else echo "the words are IMAGE or IMAGE spared S, and lines after them or not"; fi ;;
         3) input_cut "${2:-}" ;;
         4) if [ -d /dev/fd/0 ]; then echo "the input is a folder"; else echo "reading the input failed"; fi ;;
         5) echo "writing the output failed (is its disk full?)" ;;
         6) flash_fault "$1" "${2:-}" ;;
         7) echo "there was not enough memory; nothing was taken from the input" ;;
-        8) image_fault "$1" "${2:-}" ;;
+        8) if [ "${2:-}" = spared ]; then image_fault "$1" spared "${3:-}"; else image_fault "$1" "${2:-}"; fi ;;
         9) echo "there is an image already: remove $1, or name another file" ;;
         10) echo "the drive is worn, or 2^32-1 entries were taken" ;;
         12) bad_line ;;
@@ -56,7 +56,7 @@ key_fault() { # WORD: prints nothing if it is a key
     fi
 }
 
-shape_fault() { # P N M: the first rule of docs/FORMATS.md that they break
+shape_fault() { # P N M: the first rule of docs/FORMATS.md that they break; prints nothing if they break none
     case $1 in
         512 | 1024 | 2048 | 4096 | 8192 | 16384) ;;
         *) echo "a page has 512, 1024, 2048, 4096, 8192 or 16384 bytes, not $1" && return ;;
@@ -81,16 +81,41 @@ shape_fault() { # P N M: the first rule of docs/FORMATS.md that they break
         index=$(((4 + $2 - 1) / $2 + (16 + $2 - 1) / $2 + third + last + longer))
         if [ $((64 + 2 * (index + 4))) -gt "$1" ]; then
             echo "a root with $((index + 4)) block numbers does not fit a page of $1 bytes"
-        else
+        elif [ "$3" -lt $((9 + index)) ]; then
             echo "a drive of this page and block has at least $((9 + index)) blocks, not $3"
         fi
     fi
 }
 
+spared_fault() { # IMAGE spared S WORDS..
+    spares=${3:-}
+    word=${4:-}
+    if ! is_number "$spares" || [ "$spares" -lt 1 ] || [ "$spares" -gt 64 ]; then
+        echo "spared takes 1 to 64 spare blocks and a word, and was given '$spares'"
+        return
+    fi
+    shift $(($# < 4 ? $# : 4))
+    case $word in
+        make)
+            if [ $# -eq 3 ] && is_number "$1" && is_number "$2" && is_number "$3" && [ -z "$(shape_fault "$1" "$2" "$3")" ]; then
+                echo "with $spares spare blocks and two of tables: $(shape_fault "$1" "$2" $(($3 + spares + 2)))"
+            else
+                operands_fault make "$@"
+            fi
+            ;;
+        serve | put | get | del | has | list | stat | gen) operands_fault "$word" "$@" ;;
+        *) echo "there is no word '$word' for a drive with spare blocks; the words are make serve put get del has list stat gen" ;;
+    esac
+}
+
 words_fault() { # IMAGE WORDS..
     image=$1
     word=${2:-}
-    known='make serve asm show put get del has list stat gen'
+    known='make serve asm show put get del has list stat gen spared'
+    if [ "$word" = spared ]; then
+        spared_fault "$@"
+        return
+    fi
     shift 2
     case " $known " in
         *" $word "*) ;;
@@ -291,8 +316,32 @@ flash_fault() { # IMAGE WORD
     echo "${fault:-a read or write of the image failed, or another process had it open}"
 }
 
-image_fault() { # IMAGE WORD
+spares_of() { # IMAGE: the number of spare blocks in the first table of the last two blocks; prints nothing if there is none
+    # shellcheck disable=SC2046  # the three numbers of a shape are words
+    set -- "$1" $(shape_of "$1")
+    [ $# -eq 4 ] || return
+    size=$(($2 * $3 * 2))
+    at=$(tail -c "$size" -- "$1" 2>/dev/null | LC_ALL=C grep -abo PINKSPAR 2>/dev/null | sed -n '1s/:.*//p')
+    [ -z "$at" ] || tail -c "$size" -- "$1" | od -An -v -tu1 -j $((at + 24)) -N 2 | awk '{ print $1 + $2 * 256 }'
+}
+
+spared_image_fault() { # IMAGE S: why it has no drive with S spare blocks, by its tables; prints nothing if nothing is seen
+    spares=$(spares_of "$1")
+    if [ -z "$spares" ]; then
+        [ -z "${2:-}" ] || echo "$1 has no table of spare blocks: it was made without them"
+    elif [ -z "${2:-}" ]; then
+        echo "$1 has $spares spare blocks: pink $1 spared $spares WORDS.."
+    elif [ "$spares" -ne "$2" ]; then
+        echo "$1 has $spares spare blocks, not $2"
+    fi
+}
+
+image_fault() { # IMAGE WORD [S]
     fault=$(drive_fault "$1" "$2")
+    [ -n "$fault" ] || fault=$(spared_image_fault "$1" "${3:-}")
+    if [ "$2" = spared ] && [ "${fault#"there is no file $1;"}" != "$fault" ]; then
+        fault="there is no file $1; pink $1 spared ${3:-4} make 512 16 64 would make a small drive"
+    fi
     hint=
     [ "$2" != make ] || [ ! -e "$1" ] || hint=": remove it, or name another file"
     echo "${fault:-the image is damaged, or its making was broken off: see pinkctl check}$hint"

@@ -77,6 +77,10 @@ PROGRAM = _launcher()
 """The launcher of the program, unless a call names another."""
 
 KEY_BYTES = 16
+MOST_SPARES = 64
+"""The most spare blocks of a drive."""
+TABLE_BLOCKS = 2
+"""The blocks of tables that a drive with spare blocks has."""
 ENTRY = struct.Struct("<BxHI8s24xIBB10x8s")
 """A submission entry: opcode, identifier, namespace, key, size, key length, options, key."""
 RECORD = struct.Struct("<I4xHHIII")
@@ -388,8 +392,28 @@ def _image_fault(image: str, making: bool) -> str:
     return f"the image {image} is damaged, or its making was broken off: see pinkctl check {image}"
 
 
+def spared(spares: int, words: Sequence[str]) -> List[str]:
+    """These words, over a drive with this many spare blocks; 0 for a drive that has none."""
+    return ["spared", str(spares), *words] if spares else list(words)
+
+
+def _spares_of(words: Sequence[str]) -> Tuple[int, Sequence[str]]:
+    """The spare blocks that words name, and the words after them."""
+    return (int(words[1]), words[2:]) if words[:1] == ["spared"] else (0, words)
+
+
+def _shape_fault(spares: int, shape: Shape) -> Optional[str]:
+    """Why no drive of this shape with this many spare blocks is made."""
+    if not 0 <= spares <= MOST_SPARES:
+        return f"spare blocks are 1 to {MOST_SPARES}"
+    if spares and not shape.fault():
+        shape = shape._replace(blocks=shape.blocks + spares + TABLE_BLOCKS)
+    return shape.fault()
+
+
 def cause_of(status: int, image: Path, words: Sequence[str] = ("serve",)) -> Optional[str]:
     """Why the program ended with this status on these words, as far as the image file shows."""
+    spares, words = _spares_of(list(words))
     image, making = os.fspath(image), list(words[:1]) == ["make"]
     if status < 0 or status > 128:
         number = -status if status < 0 else status - 128
@@ -399,9 +423,10 @@ def cause_of(status: int, image: Path, words: Sequence[str] = ("serve",)) -> Opt
             name = "unknown"
         return f"ended by signal {number} ({name}); what was answered is on the flash"
     if status == 2 and making:
-        return Shape(*map(int, words[1:4])).fault()
+        return _shape_fault(spares, Shape(*map(int, words[1:4])))
     if status == 2:
-        return "frames are 0 to 16384"
+        several = f"frames are 0 to 16384, and spare blocks 1 to {MOST_SPARES}"
+        return several if spares else "frames are 0 to 16384"
     if status == 6:
         process = process_using(image)
         if process is not None:
@@ -506,8 +531,9 @@ class _Session:
     thread that reads takes the second alone, and never waits for one that sends.
     """
 
-    def __init__(self, program: str, image: str, frames: int, stderr: Any) -> None:
+    def __init__(self, program: str, image: str, frames: int, stderr: Any, spares: int) -> None:
         self.image = image
+        self.words = spared(spares, ["serve", str(frames)])
         self.limits: Optional[Limits] = None
         self.pid = os.getpid()
         self.closed = False
@@ -523,7 +549,7 @@ class _Session:
         self._out = bytearray()
         # The launcher gives its place to the program, so signals to the process reach the program.
         self.process = subprocess.Popen(
-            [program, image_word(image), "serve", str(frames)],
+            [program, image_word(image), *self.words],
             bufsize=0,
             stdin=subprocess.PIPE,
             stdout=subprocess.PIPE,
@@ -622,7 +648,7 @@ class _Session:
             return DriveError(f"{self._fault}: the drive {self.image} has to be opened again")
         if threading.current_thread() is not self._reader:
             self._reader.join()
-        return ended(self.process.wait(), self.image)
+        return ended(self.process.wait(), self.image, self.words)
 
     def _read_records(self) -> None:
         data = bytearray()
@@ -779,8 +805,9 @@ class Drive(MutableMapping[bytes, bytes]):
         program: Optional[str] = None,
         stderr: Any = None,
         timeout: float = 0,
+        spares: int = 0,
     ) -> None:
-        """Opens the drive.
+        """Opens the drive. One that was made with spare blocks names their number again.
 
         It waits for at most `timeout` seconds while another process has the image open, and raises
         `ImageInUse` then. `stderr`, as subprocess takes it, gets what building the program says.
@@ -790,7 +817,7 @@ class Drive(MutableMapping[bytes, bytes]):
         pause = 0.005
         while True:
             try:
-                self._session = self._open(program or PROGRAM, frames, stderr)
+                self._session = self._open(program or PROGRAM, frames, stderr, spares)
                 break
             except DriveEnded as error:
                 # Of another cause than the image in use there is a text.
@@ -801,8 +828,8 @@ class Drive(MutableMapping[bytes, bytes]):
             pause = min(2 * pause, 0.1)
         weakref.finalize(self, _close_collected, self._session).atexit = False
 
-    def _open(self, program: str, frames: int, stderr: Any) -> _Session:
-        session = _Session(program, self.image, frames, stderr)
+    def _open(self, program: str, frames: int, stderr: Any, spares: int) -> _Session:
+        session = _Session(program, self.image, frames, stderr, spares)
         try:
             report = session.send(Opcode.REPORT, b"", 0, 0, b"", False).result().data
         except BaseException:
@@ -810,6 +837,8 @@ class Drive(MutableMapping[bytes, bytes]):
             raise
         shape = shape_of(self.image)
         if shape:
+            if spares:
+                shape = shape._replace(blocks=shape.blocks - spares - TABLE_BLOCKS)
             session.limits = Limits(shape, struct.unpack_from("<I", report, 4)[0])
         return session
 
@@ -1012,9 +1041,14 @@ def make(
     blocks: int,
     program: Optional[str] = None,
     stderr: Any = None,
+    spares: int = 0,
 ) -> None:
-    """Makes the image of a drive without keys; `DriveEnded` with status 9 if there is one."""
-    words = ["make", *map(str, (page_bytes, block_pages, blocks))]
+    """Makes the image of a drive without keys; `DriveEnded` with status 9 if there is one.
+
+    With spare blocks, 1 to 64, the drive goes on if a program or an erase of a block fails: the
+    block moves to a spare one.
+    """
+    words = spared(spares, ["make", *map(str, (page_bytes, block_pages, blocks))])
     run = subprocess.run(
         [program or PROGRAM, image_word(image), *words],
         stdin=subprocess.DEVNULL,

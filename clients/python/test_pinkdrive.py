@@ -48,6 +48,34 @@ class OnImage(unittest.TestCase):
             return it.read()
 
 
+class WithSpareBlocks(OnImage):
+    """A drive with four spare blocks, on which no block fails."""
+
+    shape = None
+
+    def setUp(self):
+        super().setUp()
+        make(self.image, *SMALL, program=PROGRAM, spares=4)
+
+    def test_two_sessions(self):
+        with Drive(self.image, program=PROGRAM, spares=4) as d:
+            self.assertEqual(d.limits.shape, SMALL)
+            d[b"key"] = b"value"
+        with Drive(self.image, program=PROGRAM, spares=4) as d:
+            self.assertEqual(dict(d), {b"key": b"value"})
+
+    def test_another_number(self):
+        for spares in (0, 3):
+            with self.assertRaises(DriveEnded) as caught:
+                Drive(self.image, program=PROGRAM, stderr=subprocess.DEVNULL, spares=spares)
+            self.assertEqual(caught.exception.status, 8)
+
+    def test_a_number_that_is_refused(self):
+        with self.assertRaises(DriveEnded) as caught:
+            make(self.image + "2", *SMALL, program=PROGRAM, stderr=subprocess.DEVNULL, spares=65)
+        self.assertEqual((caught.exception.status, caught.exception.cause), (2, "spare blocks are 1 to 64"))
+
+
 class AsAMapping(OnImage):
     def test_first_session(self):
         with self.open() as d:

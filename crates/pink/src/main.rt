@@ -2,7 +2,7 @@
 #![tactic(auto)]
 
 use pk_file::FileBoard;
-use pk_top::{Status, run, run_pair};
+use pk_top::{Status, run, run_pair, run_spared};
 use std::env;
 use std::env::VarError;
 use std::io::ErrorKind;
@@ -10,6 +10,8 @@ use std::process::ExitCode;
 
 /// The word before the paths of a pair of images; no image is named so.
 const PAIR: &str = "mirror";
+/// The word after the path of an image that has spare blocks.
+const SPARED: &str = "spared";
 
 /// The words after the program's name; the status if they cannot be had.
 fn words_of(rt: &HostRuntime) -> Result<Vec<String>, Status> {
@@ -57,6 +59,29 @@ fn run_on(rt: &HostRuntime, image: &str, words: &[&str]) -> Status {
     }
 }
 
+/// Does over the image file of this path, which has spare blocks, what these words ask for; the first of them says so.
+fn run_on_spared(rt: &HostRuntime, image: &str, words: &[&str]) -> Status {
+    let (status, remap) = run_spared(rt.alloc(), words, board_over(rt, image), 0);
+    match remap {
+        Some(remap) => {
+            let mut board = remap.into_inner();
+            match board.finish() {
+                Ok(()) => status,
+                Err(_) => Status::OUTPUT,
+            }
+        }
+        None => status,
+    }
+}
+
+/// Does over the image file of this path what the other words ask for.
+fn run_on_one(rt: &HostRuntime, image: &str, words: &[&str]) -> Status {
+    match words.first() {
+        Some(word) if *word == SPARED => run_on_spared(rt, image, words),
+        _ => run_on(rt, image, words),
+    }
+}
+
 /// Does over the two image files of these paths what the other words ask for. Texts go out over the first.
 fn run_on_pair(rt: &HostRuntime, image: &str, other: &str, words: &[&str]) -> Status {
     if image == other || image == PAIR || other == PAIR {
@@ -81,7 +106,7 @@ fn obey_texts(rt: &HostRuntime, words: &[&str]) -> Status {
             },
             None => Status::WORDS,
         },
-        Some((image, rest)) => run_on(rt, image, rest),
+        Some((image, rest)) => run_on_one(rt, image, rest),
         None => Status::WORDS,
     }
 }

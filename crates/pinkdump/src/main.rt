@@ -4,7 +4,9 @@
 use pk_dump::{DumpError, Form, dump};
 use pk_file::FileBoard;
 use pk_nand::{LoadFault, Nand};
+use pk_remap::{MOST_SPARES, Remap};
 use std::env;
+use std::fmt::Write;
 use std::process::ExitCode;
 
 // The exit statuses, as `pink` has them.
@@ -53,9 +55,16 @@ impl Refused {
     }
 }
 
-/// Prints the image of this path.
-fn tell(rt: &HostRuntime, image: &str, form: Form) -> Result<(), Refused> {
-    let mut board = FileBoard::new(rt, image);
+/// What the words ask for: the form, and how many spare blocks the image has, if it has some.
+#[derive(Clone, Copy)]
+struct Asked<'a> {
+    image: &'a str,
+    spares: Option<u16>,
+    form: Form,
+}
+
+/// The text of what a board holds.
+fn text_of<B: Nand>(rt: &HostRuntime, board: &mut B, form: Form) -> Result<String, Refused> {
     let shape = match board.load(rt.alloc()) {
         Ok(Some(shape)) => shape,
         Ok(None) => return Err(Refused::NoImage),
@@ -63,22 +72,73 @@ fn tell(rt: &HostRuntime, image: &str, form: Form) -> Result<(), Refused> {
         Err(LoadFault::Fault) => return Err(Refused::Fault),
         Err(LoadFault::Memory) => return Err(Refused::Memory),
     };
-    match dump(rt.alloc(), form, &mut board, shape) {
-        Ok(text) => match rt.print(&text) {
-            Ok(()) => Ok(()),
-            Err(_) => Err(Refused::Output),
-        },
+    match dump(rt.alloc(), form, board, shape) {
+        Ok(text) => Ok(text),
         Err(DumpError::Fault) => Err(Refused::Fault),
         Err(DumpError::Memory) => Err(Refused::Memory),
     }
 }
 
-/// The image that the words name, and the form that they ask for.
-fn asked(words: &[String]) -> Option<(&str, Form)> {
+/// The text of a drive with spare blocks, seen through its tables, and how many spare blocks are left.
+fn text_of_spared(
+    rt: &HostRuntime,
+    image: &str,
+    spares: u16,
+    form: Form,
+) -> Result<String, Refused> {
+    if spares < 1 || spares > MOST_SPARES as u16 {
+        return Err(Refused::Words);
+    }
+    let Ok(mut remap) = Remap::new(rt.alloc(), FileBoard::new(rt, image), spares, 0) else {
+        return Err(Refused::Memory);
+    };
+    let mut text = text_of(rt, &mut remap, form)?;
+    let left = remap.spares_left();
+    let told = match form {
+        Form::People => writeln!(text, "{spares} spare blocks, {left} left"),
+        Form::Programs => writeln!(text, "spares all={spares} left={left}"),
+    };
+    match told {
+        Ok(()) => Ok(text),
+        Err(_) => Err(Refused::Memory),
+    }
+}
+
+/// Prints the image that is asked for.
+fn tell(rt: &HostRuntime, asked: &Asked) -> Result<(), Refused> {
+    let text = match asked.spares {
+        None => text_of(rt, &mut FileBoard::new(rt, asked.image), asked.form)?,
+        Some(spares) => text_of_spared(rt, asked.image, spares, asked.form)?,
+    };
+    match rt.print(&text) {
+        Ok(()) => Ok(()),
+        Err(_) => Err(Refused::Output),
+    }
+}
+
+/// The form that the last words ask for.
+fn form_of(words: &[String]) -> Option<Form> {
     match words {
-        [image] => Some((image.as_str(), Form::People)),
-        [image, word] if word.as_str() == "lines" => Some((image.as_str(), Form::Programs)),
+        [] => Some(Form::People),
+        [word] if word.as_str() == "lines" => Some(Form::Programs),
         _ => None,
+    }
+}
+
+/// What the words ask for.
+fn asked(words: &[String]) -> Option<Asked<'_>> {
+    let (image, rest) = words.split_first()?;
+    match rest {
+        [word, spares, form @ ..] if word.as_str() == "spared" => Some(Asked {
+            image: image.as_str(),
+            spares: Some(spares.as_str().parse::<u16>().ok()?),
+            form: form_of(form)?,
+        }),
+        form => Some(Asked {
+            image: image.as_str(),
+            spares: None,
+            form: form_of(form)?,
+        }),
     }
 }
 
@@ -94,7 +154,7 @@ fn run(rt: &HostRuntime) -> Result<(), Refused> {
         }
     }
     match asked(&words) {
-        Some((image, form)) => tell(rt, image, form),
+        Some(asked) => tell(rt, &asked),
         None => Err(Refused::Words),
     }
 }
@@ -104,7 +164,9 @@ fn main(rt: HostRuntime) -> ExitCode {
         Ok(()) => ExitCode::from(DONE),
         Err(why) => {
             let _ = match why {
-                Refused::Words => eprintln!(rt; "pinkdump: IMAGE, or IMAGE lines"),
+                Refused::Words => eprintln!(rt;
+                    "pinkdump: IMAGE, or IMAGE spared S, and lines after it or not"
+                ),
                 Refused::NoImage => eprintln!(rt; "pinkdump: there is no image"),
                 Refused::BadImage { at } => {
                     eprintln!(rt; "pinkdump: no image: the first wrong byte is at {at}")

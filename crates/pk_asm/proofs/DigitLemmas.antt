@@ -1,7 +1,7 @@
 -- Words of digits, a digit or a pair of digits at a time.
 use Rattle.std.proofs.Common.{◌≡◌, ℕ, zero, suc, ◌+◌, ◌-◌, ◌*◌, ◌%◌, ◌^◌, ◌<◌, ◌≤◌, true, false, List, [], ◌∷◌, ◌++◌, length, take, drop, get_or, refl, sym, ap, ◌∙◌, arith, Option, Some, None, Result}
 use Rattle.std.proofs.Common.{Ok, Err, subst, length-append}
-use Rattle.std.specs.Prelude.{option_map, nat_lt, if◌then◌else◌, is_some, unwrap_or}
+use Rattle.std.specs.Prelude.{option_map, nat_lt, if◌then◌else◌, is_some, unwrap_or, Bool, ◌&&◌, ◌==◌, bytes_eq, codes}
 use Rattle.std.specs.Char.{is_ascii_digit, digit_value}
 use Rattle.std.specs.List.{list_all}
 use Rattle.std.specs.Result.{result_ok}
@@ -12,7 +12,8 @@ use Rattle.std.proofs.lemmas.Str.Parse.{digits_value-take-le}
 use Rattle.std.proofs.lemmas.List.{append_assoc, append-nil, drop_more, drop_all, take_all}
 use Rattle.std.proofs.lemmas.Bool.Decides.{nat_tests}
 use Rattle.pk_nvme.specs.Bytes.{RoomyList}
-use Rattle.hex.specs.Hex.{decode_of, decode_pairs, pair_value, digit_or_error, hex_digit_value, ◌>>=◌}
+use Rattle.pk_nvme.specs.Text.{bytes_of, some_bytes_of}
+use Rattle.hex.specs.Hex.{decode_of, decode_pairs, pair_value, digit_or_error, hex_digit_value, is_hex_digit, ◌>>=◌}
 use Rattle.hex.proofs.HexLemmas.{decode_of-even}
 use Rattle.hex.specs.declared.error.FromHexError.{FromHexError}
 
@@ -217,3 +218,33 @@ pub decoding_value : (word : List ℕ) (i : ℕ) (old value : RoomyList) → len
 decoding_value word i old value even all h =
     let items : value.items ≡ unwrap_or (result_ok (decode_of word)) [] = sym (ap (λ (o : Option (List ℕ)). unwrap_or o []) (decoding_all word i old.room value even all h)) in
     ap (λ (xs : List ℕ). record value { items = xs }) items ∙ ap (λ (n : ℕ). record old { items = unwrap_or (result_ok (decode_of word)) []; room = n }) h.room_stays
+
+-- ---- whether digits decode
+
+one_decodes : (a b i j : ℕ) (x y : Option ℕ) (rest : Result (List ℕ) FromHexError)
+    → is_some (result_ok ((digit_or_error a i x >>= (λ h. digit_or_error b j y >>= (λ l. Ok (h * 16 + l)))) >>= (λ byte. rest >>= (λ bytes. Ok (byte ∷ bytes)))))
+    ≡ is_some x && (is_some y && is_some (result_ok rest))
+one_decodes a b i j (Some h) (Some l) (Ok bytes) = refl
+one_decodes a b i j (Some h) (Some l) (Err e) = refl
+one_decodes a b i j (Some h) None rest = refl
+one_decodes a b i j None y rest = refl
+
+pairs_decode : (i : ℕ) (text : List ℕ) → length text % 2 ≡ 0 → is_some (result_ok (decode_pairs i text)) ≡ list_all is_hex_digit text
+unfolding decode_pairs
+pairs_decode i [] even = refl
+pairs_decode i (a ∷ []) even = absurd (omega arith)
+pairs_decode i (a ∷ b ∷ rest) even =
+    one_decodes a b i (i + 1) (hex_digit_value a) (hex_digit_value b) (decode_pairs (i + 2) rest)
+    ∙ ap (λ (t : Bool). is_hex_digit a && (is_hex_digit b && t)) (pairs_decode (i + 2) rest (omega (arith, even)))
+
+-- pairs of characters decode exactly if all are digits
+pub digits_decode : (text : List ℕ) → length text % 2 ≡ 0 → is_some (result_ok (decode_of text)) ≡ list_all is_hex_digit text
+digits_decode text even = ap (λ (r : Result (List ℕ) FromHexError). is_some (result_ok r)) (decode_of-even text even) ∙ pairs_decode 0 text even
+
+-- a word of pairs of characters, other than `-`, is bytes exactly if all of them are digits
+pub digits_are_bytes : (word : List ℕ) → bytes_eq word (codes "-") ≡ false → (length word == 0) ≡ false → length word % 2 ≡ 0
+    → list_all is_hex_digit word ≡ is_some (bytes_of word)
+digits_are_bytes word other some even =
+    let left : bytes_of word ≡ some_bytes_of word = ap (λ (b : Bool). if b then Some [] else some_bytes_of word) other in
+    let read : some_bytes_of word ≡ result_ok (decode_of word) = ap (λ (b : Bool). if b then None else result_ok (decode_of word)) some in
+    sym (digits_decode word even) ∙ sym (ap (λ (o : Option (List ℕ)). is_some o) (left ∙ read))

@@ -14,4 +14,4 @@ pub use form::Form;
 pub use operands::Operands;
 pub use printed::print;
 pub use sizes::{MOST_LINE_BYTES, MOST_LINE_VALUE_BYTES};
-pub use words::{bytes_word, entry_word, key, number};
+pub use words::{bytes_word, entry_word, is_bytes_word, key, number};

@@ -4,7 +4,7 @@ ghost use Rattle.std.specs.Char.{is_ascii_digit};
 ghost use Rattle.std.specs.List.{list_all};
 ghost use Rattle.std.specs.Str.Parse.{digits_value};
 ghost use Rattle.std.specs.Result.{result_ok};
-ghost use Rattle.hex.specs.Hex.{decode_of, hex_digit_value, pair_value};
+ghost use Rattle.hex.specs.Hex.{decode_of, hex_digit_value, is_hex_digit, pair_value};
 ghost use Rattle.pk_nvme.specs.Text.{is_number as is_number_text, number_of, some_bytes_of, bytes_of};
 ghost use Rattle.pk_asm.specs.Words.{key_of, hex_entry};
 
@@ -153,4 +153,29 @@ pub fn bytes_word(word: &[u8], value: &mut Bytes) -> bool
     }
     value.clear();
     false
+}
+
+/// Whether all of a word is hexadecimal digits, in either case.
+fn are_hex_digits(word: &[u8]) -> bool
+    ensures { result ≡ list_all is_hex_digit word.now }
+{
+    for byte in word {
+        if digit(*byte).is_none() {
+            return false;
+        }
+    }
+    true
+}
+
+/// Whether a word is bytes, `-` for none. It takes no memory for them.
+pub fn is_bytes_word(word: &[u8]) -> bool
+    ensures { result ≡ is_some (bytes_of word.now) }
+{
+    if word == b"-".as_slice() {
+        return true;
+    }
+    if word.is_empty() || word.len() % 2 == 1 {
+        return false;
+    }
+    are_hex_digits(word)
 }

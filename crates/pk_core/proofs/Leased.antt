@@ -47,7 +47,8 @@ module _ (shape : Shape) (flash : Flash) (arena : Frames) where
       let one : length r.leases ≡ run_pages shape r.count = all ∙ stand.0.pages ∙ ap (λ (s : Shape). run_pages s r.count) have.0 in
       let others = least pins (suc level) left rs bss ess of_shape (omega (arith, so)) are.1 have.2 stand.1 in
       let both = length-append r.leases (leases_of rs) in
-      let whole = sum_by-cons (λ (x : ℕ). x) (run_pages shape r.count) (map (run_pages shape) (take left (entries_of rs))) in
+      let whole : sum (map (run_pages shape) (take (suc left) (entries_of (r ∷ rs)))) ≡ run_pages shape r.count + sum (map (run_pages shape) (take left (entries_of rs))) =
+      sum_by-cons (λ (x : ℕ). x) (run_pages shape r.count) (map (run_pages shape) (take left (entries_of rs))) in
       omega (arith, one, others, both, whole)
 
   -- this many levels may have frames after this one, itself included
@@ -66,7 +67,8 @@ module _ (shape : Shape) (flash : Flash) (arena : Frames) where
       let one : length r.firsts ≡ run_pages shape r.count = stand.0.pages ∙ ap (λ (s : Shape). run_pages s r.count) have.0 in
       let others = most last (suc level) left rs bss ess (omega (arith, so)) bare.1 have.2 stand.1 in
       let both = length-append r.leases (leases_of rs) in
-      let whole = sum_by-cons (λ (x : ℕ). x) (run_pages shape r.count) (map (run_pages shape) (take left (entries_of rs))) in
+      let whole : sum (map (run_pages shape) (take (suc left) (entries_of (r ∷ rs)))) ≡ run_pages shape r.count + sum (map (run_pages shape) (take left (entries_of rs))) =
+      sum_by-cons (λ (x : ℕ). x) (run_pages shape r.count) (map (run_pages shape) (take left (entries_of rs))) in
       omega (arith, few, one, others, both, whole)
 
 module _ (d : Parts) (shape : Shape) (flash : Flash) (top : ℕ × Root) (found : Found) (without all : Map) (agrees : DriveOnFlashWith d shape flash top found without all) where

@@ -50,29 +50,36 @@ module _ (old new : PortState) (k : Key) (k' : List ℕ) (same : k' ≡ bytes_of
   pub delete_tests : (r : Result Bool HostError) → Replies old new (of_bytes DELETE k' 0 0 []) a → r ≡ existed a → IfOk r (λ b. Tests old k b)
   delete_tests r x e = found_cases true false a r (λ b. Tests old k b) e
       (λ zero m told. let s = (for_delete x).answers m told in
-      sym (there old.shape old.limit s.frames m (delete_of k) Delete refl s.within.alone a s.left refl (delete_by old.shape old.limit m k h s.within.alone) zero s.stepped).0 ∙ ap (contains_key m) (key_is DELETE))
+      sym (there old.shape old.limit s.frames m (delete_of k) Delete refl s.within.alone a s.left refl (delete_by old.shape old.limit m k h s.within.alone) zero s.stepped).0
+      ∙ ap (contains_key m) (key_is DELETE))
       (λ none m told. let s = (for_delete x).answers m told in
-      sym (missing old.shape old.limit s.frames m (delete_of k) Delete refl s.within.alone a s.left refl (delete_by old.shape old.limit m k h s.within.alone) (λ own. refl) none s.stepped).0 ∙ ap (contains_key m) (key_is DELETE))
+      sym (missing old.shape old.limit s.frames m (delete_of k) Delete refl s.within.alone a s.left refl (delete_by old.shape old.limit m k h s.within.alone) (λ own. refl) none s.stepped).0
+      ∙ ap (contains_key m) (key_is DELETE))
 
   pub delete_leaves : (r : Result Bool HostError) → Replies old new (of_bytes DELETE k' 0 0 []) a → r ≡ existed a → IfOk r (λ b. Deletes old new k b)
   delete_leaves r x e = found_cases true false a r (λ b. Deletes old new k b) e
       (λ zero m told. let s = (for_delete x).answers m told in
       s.told ∙ ap (λ (n : Map). Some n)
-      ((there old.shape old.limit s.frames m (delete_of k) Delete refl s.within.alone a s.left refl (delete_by old.shape old.limit m k h s.within.alone) zero s.stepped).1.leaves ∙ ap (remove m) (key_is DELETE)))
+      ((there old.shape old.limit s.frames m (delete_of k) Delete refl s.within.alone a s.left refl (delete_by old.shape old.limit m k h s.within.alone) zero s.stepped).1.leaves
+      ∙ ap (remove m) (key_is DELETE)))
       (λ none m told. let s = (for_delete x).answers m told in
-      s.told ∙ ap (λ (n : Map). Some n) (missing old.shape old.limit s.frames m (delete_of k) Delete refl s.within.alone a s.left refl (delete_by old.shape old.limit m k h s.within.alone) (λ own. refl) none s.stepped).1)
+      s.told ∙ ap (λ (n : Map). Some n)
+      (missing old.shape old.limit s.frames m (delete_of k) Delete refl s.within.alone a s.left refl (delete_by old.shape old.limit m k h s.within.alone) (λ own. refl) none s.stepped).1)
 
   pub exist_tests : (r : Result Bool HostError) → Replies old new (of_bytes EXIST k' 0 0 []) a → r ≡ existed a → IfOk r (λ b. Tests old k b)
   exist_tests r x e = found_cases true false a r (λ b. Tests old k b) e
       (λ zero m told. let s = (for_exist x).answers m told in
-      sym (there old.shape old.limit s.frames m (exist_of k) Exist refl s.within.alone a s.left refl (exist_by old.shape old.limit m k h s.within.alone) zero s.stepped).0 ∙ ap (contains_key m) (key_is EXIST))
+      sym (there old.shape old.limit s.frames m (exist_of k) Exist refl s.within.alone a s.left refl (exist_by old.shape old.limit m k h s.within.alone) zero s.stepped).0
+      ∙ ap (contains_key m) (key_is EXIST))
       (λ none m told. let s = (for_exist x).answers m told in
-      sym (missing old.shape old.limit s.frames m (exist_of k) Exist refl s.within.alone a s.left refl (exist_by old.shape old.limit m k h s.within.alone) (λ own. refl) none s.stepped).0 ∙ ap (contains_key m) (key_is EXIST))
+      sym (missing old.shape old.limit s.frames m (exist_of k) Exist refl s.within.alone a s.left refl (exist_by old.shape old.limit m k h s.within.alone) (λ own. refl) none s.stepped).0
+      ∙ ap (contains_key m) (key_is EXIST))
 
   pub store_leaves : (value : List ℕ) (options : ℕ) → Replies old new (of_bytes STORE k' (length value) options value) a → a.status ≡ 0 → Leaves old new (λ m. insert m k value)
   store_leaves value options x zero m told =
       let s = (for_key (λ q. of_bytes STORE q (length value) options value) x).answers m told in
-      let served = success_served old.shape old.limit s.frames m (of_key STORE k (length value) options value) Store refl s.within.alone a s.left refl (store_by old.shape old.limit m k h s.within.alone options value) zero s.stepped in
+      let served = success_served old.shape old.limit s.frames m (of_key STORE k (length value) options value) Store refl s.within.alone a s.left refl
+      (store_by old.shape old.limit m k h s.within.alone options value) zero s.stepped in
       s.told ∙ ap (λ (n : Map). Some n) (served.leaves ∙ ap (λ (q : Key). insert m q value) (key-of_key STORE k (length value) options value h))
 
   -- a prefix of a value that exists
@@ -103,7 +110,8 @@ module _ (old new : PortState) (k : Key) (k' : List ℕ) (same : k' ≡ bytes_of
   pub retrieve_missing : (into : List ℕ) (size : ℕ) → Replies old new (of_bytes RETRIEVE k' size 0 []) a → a.status ≡ KEY_DOES_NOT_EXIST → Fetches old k None into
   retrieve_missing into size x none m told =
       let s = (for_key (λ q. of_bytes RETRIEVE q size 0 []) x).answers m told in
-      let both = missing old.shape old.limit s.frames m (retrieve_of k size) Retrieve refl s.within.alone a s.left refl (retrieve_by old.shape old.limit m k h s.within.alone size) (λ own. refl) none s.stepped in
+      let both = missing old.shape old.limit s.frames m (retrieve_of k size) Retrieve refl s.within.alone a s.left refl
+      (retrieve_by old.shape old.limit m k h s.within.alone size) (λ own. refl) none s.stepped in
       none_there (get m k) into (sym (ap (contains_key m) (key-of_key RETRIEVE k size 0 [] h)) ∙ both.0)
 
 -- a command of a kind that leaves the map leaves the port's

@@ -29,7 +29,8 @@ list_cause old new from page e short (inl (a, x, is)) =
         refused = ap (λ b. if b then Ok false else Err (Refused a.status)) z;
         unread = x.unread;
         told = λ m told.
-            let s = x.answers m told in only_fault old.shape old.limit s.frames m (list_of from) ListKeys refl s.within.alone a s.left refl (list_by old.shape old.limit m from short) (λ own. refl) z s.stepped;
+            let s = x.answers m told in only_fault old.shape old.limit s.frames m
+            (list_of from) ListKeys refl s.within.alone a s.left refl (list_by old.shape old.limit m from short) (λ own. refl) z s.stepped;
       })
     ] refl is
 

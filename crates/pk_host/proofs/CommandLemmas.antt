@@ -69,7 +69,8 @@ module _ (shape : Shape) (most frames : ℕ) (m : Map) (c : Command) (k : Opcode
     }
 
     -- a success is served, if no refusal has status 0
-    pub success_served : (a : Reply) (left : Map) → op_of c.opcode ≡ Some k → (refused shape (most ∷ []) m c ≡ Some 0 → ⊥) → a.status ≡ 0 → Step shape (one_space frames most) m c a left → ServedAs a left
+    pub success_served : (a : Reply) (left : Map) → op_of c.opcode ≡ Some k → (refused shape (most ∷ []) m c ≡ Some 0 → ⊥)
+        → a.status ≡ 0 → Step shape (one_space frames most) m c a left → ServedAs a left
     success_served a left is none zero (inl x) =
         elim (refused shape (most ∷ []) m c) as (λ r. refused shape (most ∷ []) m c ≡ r → ServedAs a left) [
           | None ↦ λ e. served a left is e x
@@ -79,7 +80,8 @@ module _ (shape : Shape) (most frames : ℕ) (m : Map) (c : Command) (k : Opcode
 
     -- ---- a command that is refused exactly if its key is missing
 
-    pub there : (a : Reply) (left : Map) → op_of c.opcode ≡ Some k → refused shape (most ∷ []) m c ≡ check (contains_key m (key c)) KEY_DOES_NOT_EXIST → a.status ≡ 0 → Step shape (one_space frames most) m c a left
+    pub there : (a : Reply) (left : Map) → op_of c.opcode ≡ Some k
+        → refused shape (most ∷ []) m c ≡ check (contains_key m (key c)) KEY_DOES_NOT_EXIST → a.status ≡ 0 → Step shape (one_space frames most) m c a left
         → (contains_key m (key c) ≡ true) × ServedAs a left
     there a left is by zero (inl x) =
         elim (contains_key m (key c)) as (λ b. contains_key m (key c) ≡ b → (contains_key m (key c) ≡ true) × ServedAs a left) [

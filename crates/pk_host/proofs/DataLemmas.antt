@@ -117,7 +117,8 @@ other_size shape Report size = tt
 other_early : (spaces : ℕ) (shape : Shape) (c : Command) (o : Option Opcode) → IsOther (fault_of spaces shape c o)
 other_early spaces shape c None = differs INVALID_COMMAND_OPCODE refl
 other_early spaces shape c (Some k) =
-    other_first (check (is_namespace spaces k c.namespace) INVALID_NAMESPACE_OR_FORMAT) _ (other_check (is_namespace spaces k c.namespace) INVALID_NAMESPACE_OR_FORMAT (differs INVALID_NAMESPACE_OR_FORMAT refl))
+    other_first (check (is_namespace spaces k c.namespace) INVALID_NAMESPACE_OR_FORMAT) _
+    (other_check (is_namespace spaces k c.namespace) INVALID_NAMESPACE_OR_FORMAT (differs INVALID_NAMESPACE_OR_FORMAT refl))
     (other_first (check (is_key_length k c.key_len) INVALID_KEY_SIZE) _ (other_check (is_key_length k c.key_len) INVALID_KEY_SIZE (differs INVALID_KEY_SIZE refl)) (other_size shape k c.size))
 
 module _ (shape : Shape) (most : ℕ) (m : Map) (c : Command) where

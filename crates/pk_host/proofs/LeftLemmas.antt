@@ -82,7 +82,8 @@ module _ (shape : Shape) (m : Map) (c : Command) (good : IsGood (holding shape m
       ∙ ap (λ (n : Map). late_of shape (limit shape) n c (Some Store)) (is_whole shape m good.sized)
 
   -- a Store that passed all checks
-  good_store : op_of c.opcode ≡ Some Store → early 1 shape c ≡ None → late_of shape (limit_of (limit shape ∷ []) c.namespace) (in_space c.namespace m) c (Some Store) ≡ None → IsGood (holding shape (insert m (key c) c.value))
+  good_store : op_of c.opcode ≡ Some Store → early 1 shape c ≡ None
+      → late_of shape (limit_of (limit shape ∷ []) c.namespace) (in_space c.namespace m) c (Some Store) ≡ None → IsGood (holding shape (insert m (key c) c.value))
   good_store is passed there =
       let late : late_of shape (limit shape) m c (Some Store) ≡ None = sym (own_late is passed) ∙ there in
       let sized = key_sized 1 shape c Store (λ n. refl) is passed in
@@ -110,7 +111,8 @@ module _ (shape : Shape) (m : Map) (c : Command) (good : IsGood (holding shape m
       let few = good.few in
       record { sized = map_remove shape m (key c) good.sized; few = omega (arith, whole, few) }
 
-  good_effect : (k : Opcode) → op_of c.opcode ≡ Some k → early 1 shape c ≡ None → late_of shape (limit_of (limit shape ∷ []) c.namespace) (in_space c.namespace m) c (Some k) ≡ None → IsGood (holding shape (effect m c (Some k)))
+  good_effect : (k : Opcode) → op_of c.opcode ≡ Some k → early 1 shape c ≡ None
+      → late_of shape (limit_of (limit shape ∷ []) c.namespace) (in_space c.namespace m) c (Some k) ≡ None → IsGood (holding shape (effect m c (Some k)))
   good_effect Store is passed late = good_store is passed late
   good_effect Delete is passed late = good_delete
   good_effect Flush is passed late = good
@@ -120,14 +122,16 @@ module _ (shape : Shape) (m : Map) (c : Command) (good : IsGood (holding shape m
   good_effect Tick is passed late = good
   good_effect Report is passed late = good
 
-  good_served : (o : Option Opcode) → op_of c.opcode ≡ o → early 1 shape c ≡ None → late_of shape (limit_of (limit shape ∷ []) c.namespace) (in_space c.namespace m) c o ≡ None → IsGood (holding shape (map_after shape (limit shape ∷ []) m c))
+  good_served : (o : Option Opcode) → op_of c.opcode ≡ o → early 1 shape c ≡ None
+      → late_of shape (limit_of (limit shape ∷ []) c.namespace) (in_space c.namespace m) c o ≡ None → IsGood (holding shape (map_after shape (limit shape ∷ []) m c))
   good_served None is passed late = absurd (let clash : ◌≡◌ {A = Option ℕ} (Some 1) None = sym (ap (λ (o : Option Opcode). fault_of 1 shape c o) is) ∙ passed in cc)
   good_served (Some k) is passed late = subst (λ (x : Map). IsGood (holding shape x)) (sym (serves shape (one_space 0 (limit shape)) m [] c k is passed late).leaves) (good_effect k is passed late)
 
   pub good_left : IsGood (holding shape (map_after shape (limit shape ∷ []) m c))
   good_left = elim (refused shape (limit shape ∷ []) m c) as (λ r. refused shape (limit shape ∷ []) m c ≡ r → IsGood (holding shape (map_after shape (limit shape ∷ []) m c))) [
     | Some status ↦ λ e. subst (λ (x : Map). IsGood (holding shape x)) (sym (refuses_with shape (one_space 0 (limit shape)) m [] c status e).leaves) good
-    | None ↦ λ e. let both = first_none (early 1 shape c) (late_of shape (limit_of (limit shape ∷ []) c.namespace) (in_space c.namespace m) c (op_of c.opcode)) e in good_served (op_of c.opcode) refl both.0 both.1
+    | None ↦ λ e. let both = first_none (early 1 shape c)
+        (late_of shape (limit_of (limit shape ∷ []) c.namespace) (in_space c.namespace m) c (op_of c.opcode)) e in good_served (op_of c.opcode) refl both.0 both.1
   ] refl
 
 -- ---- a map of the first namespace alone

@@ -28,7 +28,8 @@ module _ (old new : PortState) (a : Reply) (x : Replies old new report a) where
   pub report_numbers : (into : List ℕ) (len : ℕ) → a.status ≡ 0 → length into ≡ 64 → len ≤ length into → a.data_bytes ≡ take len into → Numbers old into
   report_numbers into len zero sized fits front m told =
       let s = x.answers m told in
-      let served = success_served old.shape old.limit s.frames m report Report refl s.within.alone a s.left refl (λ e. let clash : None ≡ Some 0 = sym (report_by old.shape old.limit m) ∙ e in cc) zero s.stepped in
+      let served = success_served old.shape old.limit s.frames m report Report refl s.within.alone a s.left refl
+      (λ e. let clash : None ≡ Some 0 = sym (report_by old.shape old.limit m) ∙ e in cc) zero s.stepped in
       let bytes = report_bytes old.shape old.limit s.frames m served.own in
       let all : length bytes ≡ 64 = omega (arith, length-numbers (live old.shape m ∷ old.limit ∷ len_of m ∷ pinned old.shape s.frames ∷ s.frames ∷ served.own), served.eleven) in
       (s.frames, s.frames_is, served.own, served.eleven, whole len into bytes sized fits (sym front ∙ ap (λ (r : Reply). r.data_bytes) served.replied) all)

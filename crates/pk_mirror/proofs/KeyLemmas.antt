@@ -192,7 +192,8 @@ exist_unread k is old new a e r err m told =
 key_length : (k : Key) → IsKey k → (nat_le 1 (length (bytes_of k)) && nat_le (length (bytes_of k)) 16) ≡ true
 key_length k h = rw (le-leb 1 (length (bytes_of k)) h.some, le-leb (length (bytes_of k)) 16 h.most) refl
 
-store_fits : (shape : Shape) (most : ℕ) (m : Map) (k : Key) (v : List ℕ) → in_space 1 m ≡ m → IsKey k → length v ≤ greatest shape → live shape (insert m k v) ≤ most → refused shape (most ∷ []) m (store_of k v Any) ≡ None
+store_fits : (shape : Shape) (most : ℕ) (m : Map) (k : Key) (v : List ℕ) → in_space 1 m ≡ m → IsKey k
+    → length v ≤ greatest shape → live shape (insert m k v) ≤ most → refused shape (most ∷ []) m (store_of k v Any) ≡ None
 store_fits shape most m k v alone is small fits =
     let c : Command = store_of k v Any in
     let named : key c ≡ k = key-of_key STORE k (length v) 0 v is in

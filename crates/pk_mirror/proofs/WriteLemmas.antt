@@ -90,7 +90,8 @@ module _ {X : Type 0} (old new : Mirrored) (p p' q q' : PortState) (c : Command)
       (λ a r e same fails. by_map p.map (p'.map ≡ p.map)
       (λ none. t.untold none ∙ sym none)
       (λ m told. let s = r.answers m told in
-      s.told ∙ ap (λ (n : Map). Some n) (refusal_leaves p.shape p.limit m c k is s.frames a s.left (λ most frames m own. ap (λ (b : Reply). b.status) (plain p.shape most frames m own)) fails s.stepped)
+      s.told ∙ ap (λ (n : Map). Some n)
+      (refusal_leaves p.shape p.limit m c k is s.frames a s.left (λ most frames m own. ap (λ (b : Reply). b.status) (plain p.shape most frames m own)) fails s.stepped)
       ∙ sym told))
       (λ same rose. true_false (is_port error) (port_is error same) off)
 

@@ -298,7 +298,8 @@ both_none None (Some halt) e = let clash : ◌≡◌ {A = Option WordEnd} (Some 
 both_none (Some halt) two e = let clash : ◌≡◌ {A = Option WordEnd} (Some (end_of halt)) None = e in absurd (cc)
 
 module _ (task : PairTask) (shape : Shape) (m other : Map) (p p' q q' : Standing) (has : p.on.board.shape ≡ Some shape) (has' : q.on.board.shape ≡ Some shape) (holds : Holds shape p.on.board.pages m)
-    (holds' : Holds shape q.on.board.pages other) (begun : Begins shape m p) (begun' : Begins shape other q) (going : p.on.stopped ≡ false) (going' : q.on.stopped ≡ false) (walk : Walk shape (AreOfFirst task) p p')
+    (holds' : Holds shape q.on.board.pages other) (begun : Begins shape m p) (begun' : Begins shape other q)
+    (going : p.on.stopped ≡ false) (going' : q.on.stopped ≡ false) (walk : Walk shape (AreOfFirst task) p p')
     (too : Walk shape (AreOfSecond (seen shape p.on p.faults) (seen shape q.on q.faults)) q q') (first : p.halt ≡ None) (second : q.halt ≡ None) where
   one : Chained shape m walk.0 p p'
   one = chained shape m p walk.0 p' has holds begun.within going walk.2

@@ -47,7 +47,8 @@ silent-more shape terms start cs more n later up f q (none, k) = (
 )
 
 -- nothing was asked
-pub asked-none : (shape : Shape) (terms : Terms) (start : Map) (a : BoardState) → a.shape ≡ Some shape → Holds shape a.pages start → limits_at shape a.pages ≡ terms.limits → Asked shape terms start a a []
+pub asked-none : (shape : Shape) (terms : Terms) (start : Map) (a : BoardState) → a.shape ≡ Some shape
+    → Holds shape a.pages start → limits_at shape a.pages ≡ terms.limits → Asked shape terms start a a []
 asked-none shape terms start a has holds within = record {
   left = start;
   answered = record { all = []; are = refl; ran = refl; few = at_most-zero (rise a.read_faults a.read_faults); metered = refl };
@@ -191,7 +192,8 @@ module _ (shape : Shape) (start : Map) (a : BoardState) (cs : List Command) (old
   pub asked-stops : Stops shape old new c → Goes shape a new.board (KeptSilently shape old.terms start (cs ++ c ∷ []) (rise a.read_faults new.board.read_faults))
   asked-stops s =
       let more = before_more shape old.terms start a old.board cs w c new.board.read_faults s.up in
-      Goes-then shape more.0 a old.board (KeptSilently shape old.terms start (cs ++ c ∷ []) (rise a.read_faults new.board.read_faults)) w.shape_is more.1 more.2 new.board (StepCut shape old.terms.limits s.map c)
+      Goes-then shape more.0 a old.board (KeptSilently shape old.terms start (cs ++ c ∷ []) (rise a.read_faults new.board.read_faults)) w.shape_is more.1 more.2 new.board
+      (StepCut shape old.terms.limits s.map c)
       (seen_cut s.map (same_map s.map s.held) s.up) s.went
 
 -- ---- what is said after the commands

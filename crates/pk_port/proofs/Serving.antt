@@ -82,7 +82,8 @@ module _ (agrees : Option Shape → Flash → Type 0) (shape : Shape) (old : Boa
 
       good_now : IsHanded c → IsGood (holding shape done.left)
       good_now handed = elim done.stepped [
-        | inl answer ↦ subst (λ (m : Map). IsGood (holding shape m)) (sym (answer.leaves ∙ ap (λ (limits : List ℕ). map_after shape limits ready.map c) one_limit)) (good_left shape ready.map c ready.good handed)
+        | inl answer ↦ subst (λ (m : Map). IsGood (holding shape m))
+            (sym (answer.leaves ∙ ap (λ (limits : List ℕ). map_after shape limits ready.map c) one_limit)) (good_left shape ready.map c ready.good handed)
         | inr fault ↦ subst (λ (m : Map). IsGood (holding shape m)) (sym fault.leaves) ready.good
       ]
 

@@ -15,7 +15,7 @@ use Rattle.pk_nand.specs.Cut.{Interrupted, touched_block}
 use Rattle.pk_nand.proofs.Leaving.{same_pages, length-after, interrupted_done}
 use Rattle.pk_nand.proofs.Touching.{elsewhere, untouched_after, touches_one_block}
 use Rattle.pk_remap.specs.declared.layout.TheConstants.{FAILED}
-use Rattle.pk_remap.specs.Table.{table_bytes, table_page, is_table, is_served}
+use Rattle.pk_remap.specs.Table.{SpareTable, table_bytes, table_page, is_table, is_served}
 use Rattle.pk_remap.specs.Places.{inner_shape, place, placed_page, through_by}
 use Rattle.pk_remap.specs.Newest.{first_table_page, IsTablePage, IsNewest, IsNewestBeside}
 use Rattle.pk_remap.specs.Through.{MayShow, IsMarkWithin}
@@ -53,6 +53,10 @@ failed_served shape (suc n) = or_true (nat_lt FAILED shape.blocks) (list_all (is
     or_true : (a b : Bool) → b ≡ true → ((a || true) && b) ≡ true
     or_true true b e = e
     or_true false b e = e
+
+-- the newest table uses at most one spare more than those that are taken
+abbrev pub OneOfTables : Relocation → Flash → Type 0
+OneOfTables r flash = (page : ℕ) × (table : SpareTable) × IsNewest r.shape r.spares (page_at flash) page table × (length table.serves ≤ r.taken + 1)
 
 module _ (r : Relocation) (before flash : Flash) (serving : IsRelocating r before flash) where
   abbrev shape : Shape
@@ -146,6 +150,19 @@ module _ (r : Relocation) (before flash : Flash) (serving : IsRelocating r befor
       let used = serving.used in
       omega (arith, len, used)
 
+  pub next_used : length (next_table r).serves ≡ r.taken + 1
+  next_used =
+      let used = serving.used in
+      let failed_len : length (replicate (r.taken - length r.table.serves) FAILED)
+      ≡ r.taken - length r.table.serves = length-replicate (r.taken - length r.table.serves) FAILED in
+      omega (
+        arith,
+        length-append r.table.serves (replicate (r.taken - length r.table.serves) FAILED ++ block r ∷ []),
+        length-append (replicate (r.taken - length r.table.serves) FAILED) (block r ∷ []),
+        failed_len,
+        used,
+      )
+
   pub next_grammar : is_table shape r.spares (next_table r) ≡ true
   next_grammar =
       let own = table_parts shape r.spares r.table serving.grammar in
@@ -153,16 +170,7 @@ module _ (r : Relocation) (before flash : Flash) (serving : IsRelocating r befor
       let used = serving.used in
       let left = serving.left in
       let number : r.table.number ≤ length r.table.serves + 1 = grind (arith, nat_tests) in
-      let failed_len : length (replicate (r.taken - length r.table.serves) FAILED)
-      ≡ r.taken - length r.table.serves = length-replicate (r.taken - length r.table.serves) FAILED in
-      let len : length (next_table r).serves ≡ r.taken + 1 =
-      omega (
-        arith,
-        length-append r.table.serves (replicate (r.taken - length r.table.serves) FAILED ++ block r ∷ []),
-        length-append (replicate (r.taken - length r.table.serves) FAILED) (block r ∷ []),
-        failed_len,
-        used,
-      ) in
+      let len = next_used in
       let inside = block_inside in
       let here : nat_lt (block r) shape.blocks ≡ true = grind (arith, nat_tests) in
       parts_table shape r.spares (next_table r) (record {
@@ -274,4 +282,14 @@ module _ (r : Relocation) (before flash : Flash) (serving : IsRelocating r befor
         (none_or pair first) (none_or (suc pair) second)) [
           | inl is ↦ may_show shape r.spares before cut r.mark r.top r.table is pair_above
           | inr q ↦ next_shows q.0 q.1
+        ]
+
+    -- the newest table is the former or the next one
+    pub pair_table : OneOfTables r cut
+    pair_table =
+        elim (pair-newest shape r.spares (page_at cut) r.top r.table (next_table r) pair pair_beside
+        (let e : r.table.number < r.table.number + 1 = omega arith in e) is_pair.first is_pair.second
+        (none_or pair first) (none_or (suc pair) second)) [
+          | inl is ↦ (r.top, r.table, is, (let used = serving.used in omega (arith, used)))
+          | inr q ↦ (q.0, next_table r, q.1, omega (arith, next_used))
         ]

@@ -11,7 +11,7 @@ use Rattle.pk_base.specs.declared.sizes.TheConstants.{MOST_PAGE_BYTES}
 use Rattle.pk_base.specs.Shape.{Shape, page_count}
 use Rattle.pk_base.specs.Page.{Page, Flash, page_at, erased, whole, torn, IsPage, IsFlash}
 use Rattle.pk_base.specs.Mark.{Mark, program, erase, after}
-use Rattle.pk_nand.specs.BoardState.{BoardState, shape_of}
+use Rattle.pk_nand.specs.BoardState.{BoardState}
 use Rattle.pk_nand.specs.Cut.{Interrupted}
 use Rattle.pk_nand.proofs.Leaving.{interrupted_done, page_at-slice_set, IsFlash-interrupted, full_program, full_erase}
 use Rattle.pk_nand.proofs.Writing.{shape_is}
@@ -41,14 +41,18 @@ use Rattle.pk_remap.specs.declared.relocation.Relocation.{Relocation as InMemory
 use Rattle.pk_remap.specs.Places.{inner_shape, place, placed_page}
 use Rattle.pk_remap.specs.Through.{through, MayShow, mark_below}
 use Rattle.pk_remap.specs.Relocating.{Relocation, block_of, copies_of, IsTop, SameTables}
-use Rattle.pk_remap.specs.Stepping.{RelocationGoesOn, IsSource}
+use Rattle.pk_remap.specs.Stepping.{RelocationGoesOn}
 use Rattle.pk_remap.specs.Beginning.{CanRelocate, CallHasFailed}
-use Rattle.pk_remap.specs.Running.{relocation_of, mark_of, is_kept, HasPageBuffers, HasTurn, RelocationRuns, IsAtRest, SameCall}
+use Rattle.pk_remap.specs.Running.{relocation_of, mark_of, HasPageBuffers, HasTurn, RelocationRuns, IsAtRest, SameCall}
 use Rattle.pk_remap.specs.Serving.{PassesCount, PassesCalls, ServingStops, ServingOutcome, read_failed, table_failed, spares_failed, page_is_torn, for_mark, outer_of}
-use Rattle.pk_remap.specs.Serving.{SameSpares, OuterCall, OuterOutcome, HasPartner, PartnerKept, PartnerOutcome, CanFind, found_top, RelocationServes}
-use Rattle.pk_remap.proofs.Calls.{erase_reached, erase_went, program_reached, program_went, left_interrupted, done_interrupted}
+use Rattle.pk_remap.specs.Serving.{SameSpares, OuterCall, OuterOutcome, HasPartner, PartnerKept, PartnerOutcome, CanFind, FindOutcome, found_top, RelocationServes}
+use Rattle.pk_remap.proofs.Calls.{erase_reached, erase_went, program_reached, program_went, left_interrupted}
 use Rattle.pk_remap.proofs.Beginning.{table_kept, calls_below, done_below, fails_below}
 use Rattle.pk_remap.proofs.Turning.{next_kept}
+use Rattle.pk_nand.specs.Effects.{OnlyFlash}
+use Rattle.pk_remap.specs.Counting.{SparesCounted, UsesOnlyTaken, HasTable, OuterFailed}
+use Rattle.pk_remap.proofs.Stepping.{ready_again}
+use Rattle.pk_remap.proofs.Counting.{only_same, only_read as only_after_read, only_read_failed, counted_done, has_table}
 
 -- a call before others
 pub passes_before : (P : Flash → Type 0) (a b c : BoardState) (n : ℕ) → Went a b (λ flash _. P flash) → PassesCount P n b c → PassesCount P (suc n) a c
@@ -133,6 +137,12 @@ module _ (r : InMemory) (old : BoardState) (rest : IsAtRest r old) (mark : Mark)
   pub none_left : (e : NandFault) (new : BoardState) → r.spares ≤ r.taken → Rose old.stop_faults new.stop_faults
       → Went old new (λ flash _. MayShow r.shape r.spares before mark flash) → OuterOutcome r mark old (Err e) r new
   none_left e new none rose went = ((1, (old, refl, went)), spares_failed rose none, same_spares)
+
+  -- the newest table is the same
+  pub left_table : (new : BoardState) → new.shape ≡ old.shape → LeftBy below old new → IsReady new inner → HasTable r new
+  left_table new same left ready =
+      let failed : CallHasFailed (for_mark r mark) old new = fails_below (for_mark r mark) old new can same left in
+      has_table r new r.top (relocation_of r).table ready failed.top rest.used
 
   -- it failed, and a relocation begins to serve it
   module _ (new : BoardState) (same : new.shape ≡ old.shape) (left : LeftBy below old new) (call : Call) (kept : Bool) (bytes : Vec ℕ Global)
@@ -239,6 +249,13 @@ module _ (r : InMemory) (old : BoardState) (rest : IsAtRest r old) (block : ℕ)
   pub erase_none_left : (e : NandFault) (new : BoardState) → EraseFailed old new at → r.spares ≤ r.taken → OuterOutcome r (erase block) old (Err e) r new
   erase_none_left e new failed none = none_left r old rest (erase block) erase_call e new none failed.stop (erase_went' new failed)
 
+  pub erase_left : (new : BoardState) → EraseFailed old new at → HasTable r new
+  erase_left new failed =
+      let same = ap (λ s. s.shape) failed.rest in
+      left_table r old rest (erase block) erase_call new same failed.left
+      (ready_again old new (inner_shape r.shape r.spares) (erase at) rest.ready same (full_erase (inner_shape r.shape r.spares) at)
+      (left_interrupted old new (inner_shape r.shape r.spares) (erase at) rest.ready failed.left))
+
 -- ---- pages
 
 module _ (r : InMemory) (old : BoardState) (rest : IsAtRest r old) (page : ℕ) (inside : page < page_count r.shape) where
@@ -340,6 +357,13 @@ module _ (r : InMemory) (old : BoardState) (rest : IsAtRest r old) (page : ℕ) 
         → OuterOutcome r (program page bytes) old (Err e) r new
     program_none_left e new failed none = none_left r old rest (program page bytes) program_call e new none failed.stop (program_went' new failed)
 
+    pub program_left : (new : BoardState) → ProgramFailed old new at_page bytes → HasTable r new
+    program_left new failed =
+        let same = ap (λ s. s.shape) failed.rest in
+        left_table r old rest (program page bytes) program_call new same failed.left
+        (ready_again old new shape_in (program at_page bytes) rest.ready same (full_program shape_in at_page bytes full)
+        (left_interrupted old new shape_in (program at_page bytes) rest.ready failed.left))
+
     module _ (new : BoardState) (failed : ProgramFailed old new at_page bytes) (room : r.taken < r.spares) (buffer : Vec ℕ Global)
         (front : take r.shape.page_bytes buffer.items ≡ bytes) (large : MOST_PAGE_BYTES ≤ length buffer.items) where
       abbrev program_begun : InMemory
@@ -376,7 +400,7 @@ module _ (r : InMemory) (old : BoardState) (rest : IsAtRest r old) (page : ℕ) 
 
 module _ (r : InMemory) (old : BoardState) (rest : IsAtRest r old) where
   -- over the same pages it rests still
-  rests_again : (kept : Bool) (partner : Vec ℕ Global) (new : BoardState)
+  pub rests_again : (kept : Bool) (partner : Vec ℕ Global) (new : BoardState)
       → MOST_PAGE_BYTES ≤ length partner.items → new.shape ≡ old.shape → new.pages ≡ old.pages
       → IsAtRest (record r { kept = kept; partner = partner }) new
   rests_again kept partner new large shape pages = record {
@@ -452,6 +476,7 @@ module _ (r : InMemory) (old : BoardState) (rest : IsAtRest r old) where
       most = rest.taken;
       room = record { fits = rest.room.fits; all = rest.room.all; kept_page = large; new_page = rest.room.new_page; read_page = rest.room.read_page };
     },
+    refl,
   )
 
 -- ---- the search for the newest table
@@ -502,6 +527,16 @@ module _ (r : InMemory) (old : BoardState) (may : CanFind r old) (top : Top) (se
         is,
         record { shape = refl; spares = refl; taken = omega arith; most = omega (arith, few, taken); room = fits },
       )
+
+  -- no spare is taken that was not
+  pub found_taken : newest_table r.shape r.spares (page_at old.pages) ≡ table_found (Some top) serves
+      → UsesAtMost r.spares (Some top) → length serves ≡ MOST_SPARES → UsesOnlyTaken r old.pages → max r.taken top.used ≡ r.taken
+  found_taken found few all uses =
+      let newest : IsNewest r.shape r.spares (page_at old.pages) top.page table = found-newest r.shape r.spares (page_at old.pages) top.page table found in
+      let most = may.few in
+      let used : length (take top.used serves) ≡ top.used = length-take-le top.used serves (omega (arith, few, most, all)) in
+      let own : length (take top.used serves) ≤ r.taken = uses top.page table newest in
+      omega (arith, used, own)
 
 -- ---- a program with the first page of its pair in memory
 
@@ -604,3 +639,36 @@ module _ (r : InMemory) (page : ℕ) (old : BoardState) (r1 : InMemory) (mid : B
   kept_outcome rest mark result r' new own =
       let T : InMemory → Type 0 = λ x. OuterOutcome x mark mid result r' new in
       after_partner r old rest mark r1.kept r1.partner mid kept.board result r' new (subst T kept.others own)
+
+  -- no spare was taken
+  pub kept_counted : SparesCounted 0 r old r1 mid × (mid.read_faults ≡ old.read_faults) × (mid.stop_faults ≡ old.stop_faults)
+  kept_counted =
+      let is = only_read old mid kept.board in
+      let rest : OnlyFlash old mid = elim kept.board [ inl same ↦ only_same old mid same | inr read ↦ only_after_read old mid read ] in
+      let taken : r1.taken ≡ r.taken = ap (λ (x : InMemory). x.taken) kept.others in
+      (counted_done r r1 old mid rest 0 is.0.stops (omega (arith, taken)), is.1, is.0.stops)
+
+-- the read of the first page of the pair failed
+pub partner_failed : (r : InMemory) (old : BoardState) → IsAtRest r old → (at : ℕ) (r' : InMemory) (new : BoardState) → ReadFailed old new at
+    → r' ≡ record r { kept = r'.kept; partner = r'.partner } → OuterFailed r old r' new
+partner_failed r old rest at r' new failed others =
+    let again : InMemory = record r { kept = r'.kept; partner = r'.partner } in
+    let T : InMemory → Type 0 = λ x. HasTable x new in
+    let taken : r'.taken ≡ r.taken = ap (λ (x : InMemory). x.taken) others in
+    let pages : new.pages ≡ old.pages = ap (λ s. s.pages) failed.rest in
+    let ready : IsReady new (inner_shape r.shape r.spares) = record {
+      shape_is = ap (λ s. s.shape) failed.rest ∙ rest.ready.shape_is;
+      flash = subst (IsFlash (inner_shape r.shape r.spares)) (sym pages) rest.ready.flash;
+    } in
+    let top : IsTop (relocation_of r) new.pages = subst (IsTop (relocation_of r)) (sym pages) rest.top in
+    record {
+      counts = counted_done r r' old new (only_read_failed old new at failed) 0 (ap (λ s. s.stop_faults) failed.rest) (omega (arith, taken));
+      table = subst T (sym others) (has_table again new r.top (relocation_of r).table ready top rest.used);
+      faults = inl failed.read;
+    }
+
+-- the search keeps the shape and the spares, whatever it finds
+pub find_same : (r : InMemory) (old : BoardState) (result : Result Bool NandFault) (r' : InMemory) (new : BoardState) → FindOutcome r old result r' new → SameSpares r r'
+find_same r old (Ok true) r' new own = own.2
+find_same r old (Ok false) r' new own = own.2
+find_same r old (Err e) r' new own = own.1

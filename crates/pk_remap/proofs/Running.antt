@@ -1,7 +1,7 @@
 -- The steps of a relocation in memory.
 use Rattle.std.proofs.Common.{◌≡◌, ◌≢◌, ℕ, suc, ◌+◌, ◌-◌, ◌*◌, ◌/◌, ◌%◌, ◌<◌, ◌≤◌, Bool, true, false, List, [], length, take, refl, sym, ap, subst, ◌∙◌, arith}
 use Rattle.std.proofs.Common.{Some, None, inl, inr}
-use Rattle.std.specs.Prelude.{nat_lt, nat_eq, slice_set, ◌==◌, ◌&&◌, if◌then◌else◌, Option, Result, Ok, Err, IfOk, OnErr, Vec}
+use Rattle.std.specs.Prelude.{nat_lt, nat_eq, slice_set, ◌==◌, ◌&&◌, if◌then◌else◌, Option, Result, Ok, Err, IfOk, IsErr, OnErr, Vec}
 use Rattle.std.specs.declared.alloc.Global.{Global}
 use Rattle.std.proofs.lemmas.Bool.Decides.{nat_tests}
 use Rattle.std.proofs.lemmas.Nat.{div-add-mod'}
@@ -37,7 +37,7 @@ use Rattle.pk_remap.specs.Relocating.{IsTop, SameTables, IsNextPair}
 use Rattle.pk_remap.specs.Stepping.{WentSafely, RelocationGoesOn, IsSource, IsOtherTable, SpareFailed}
 use Rattle.pk_remap.specs.Running.{mark_of, is_program, relocation_of, copies, is_kept, bytes_for, next_after, with_table, table_phase, phase_after, phase_rank}
 use Rattle.pk_remap.specs.Running.{relocation_steps_left}
-use Rattle.pk_remap.specs.Running.{IsTableHalf, AtPhase, HasPageBuffersFor, HasPageBuffers, HasTurn, RelocationRuns, IsAtRest, IsRelocated, SameCall, NoReadFailed}
+use Rattle.pk_remap.specs.Running.{IsTableHalf, AtPhase, HasPageBuffers, HasTurn, RelocationRuns, SameCall, NoReadFailed}
 use Rattle.pk_remap.specs.Running.{RelocationStops, StepOutcome, reading, in_table, no_spare, torn}
 use Rattle.pk_remap.proofs.TableLemmas.{table_parts}
 use Rattle.pk_remap.proofs.Cutting.{none_cut, block_inside, next_grammar}
@@ -230,6 +230,24 @@ module _ (r : InMemory) (before : Flash) (old : BoardState) (runs : RelocationRu
     room = runs.room;
   }
 
+  -- the spare is taken although its table could not be written
+  same_failed : (copy : Vec ℕ Global) → MOST_PAGE_BYTES ≤ length copy.items → (next : Option ℕ)
+      → SameCall r (record r { copy = copy; next = next; taken = r.taken + 1 })
+  same_failed copy room next = record {
+    shape = refl;
+    spares = refl;
+    call = refl;
+    bytes = refl;
+    taken = omega arith;
+    most = let left = runs.goes_on.serving.left in omega (arith, left);
+    room = with_copy copy room;
+  }
+
+  -- a step that fails
+  pub stopped_as : (result : Result Bool NandFault) (r' : InMemory) (new : BoardState) → IsErr result → Stopped r' new → StepOutcome r before old result r' new
+  stopped_as (Ok done) r' new fails stops = let e : false ≡ true = fails in cc
+  stopped_as (Err e) r' new fails stops = stops
+
   none_failed : (new : BoardState) → new.read_faults ≡ old.read_faults → new.stop_faults ≡ old.stop_faults → NoReadFailed old new
   none_failed new reads stops = record { reads = reads; stops = inl stops }
 
@@ -338,12 +356,12 @@ module _ (r : InMemory) (before : Flash) (old : BoardState) (runs : RelocationRu
       )
 
   pub table_erase_failed : r.phase ≡ EraseTable → (other : ℕ) → IsOtherTable (relocation_of r) other
-      → (new : BoardState) → EraseFailed old new other → Stopped (record r { next = None }) new
+      → (new : BoardState) → EraseFailed old new other → Stopped (record r { next = None; taken = r.taken + 1 }) new
   table_erase_failed phase other is_other new failed =
       let s = stands_in EraseTable phase in (
         fails_to_erase_table (relocation_of r) before other old new runs.goes_on s.0 is_other failed,
         in_table failed.stop other (record { from = is_other.from; to = is_other.to }) (ap (λ s. s.failed_at) failed.rest),
-        same_phase r.phase None,
+        same_failed r.copy runs.room.read_page None,
       )
 
   -- the step goes on with the next spare, or stops
@@ -470,7 +488,7 @@ module _ (r : InMemory) (before : Flash) (old : BoardState) (runs : RelocationRu
 
   pub first_failed : (pair : ℕ) → r.phase ≡ First pair → (new : BoardState) (bytes : List ℕ)
       → IsPage r.shape bytes → bytes ≡ table_bytes r.shape r.spares (next_table (relocation_of r)) → ProgramFailed old new pair bytes
-      → (copy : Vec ℕ Global) → MOST_PAGE_BYTES ≤ length copy.items → Stopped (record r { copy = copy; next = None }) new
+      → (copy : Vec ℕ Global) → MOST_PAGE_BYTES ≤ length copy.items → Stopped (record r { copy = copy; next = None; taken = r.taken + 1 }) new
   first_failed pair phase new bytes page same failed copy room =
       let s = stands_in (First pair) phase in
       let is_pair = next_pair (relocation_of r) n_some old.pages pair s.0 s.1 in
@@ -478,12 +496,12 @@ module _ (r : InMemory) (before : Flash) (old : BoardState) (runs : RelocationRu
       let T : List ℕ → Type 0 = λ b. ProgramFailed old new pair b in (
         fails_to_write_first (relocation_of r) before pair old new runs.goes_on
             (subst (IsPage r.shape) same page) is_pair s.2 two.0 two.1 (subst T same failed),
-        table_stops (record r { copy = copy; next = None }) new pair bytes s.1.is_table failed,
-        same_call copy room r.phase None,
+        table_stops (record r { copy = copy; next = None; taken = r.taken + 1 }) new pair bytes s.1.is_table failed,
+        same_failed copy room None,
       )
 
   -- the second page of the pair is Erased
-  half_erased : (pair : ℕ) → IsTableHalf (relocation_of r) before old.pages pair → page_at old.pages (suc pair) ≡ erased
+  pub half_erased : (pair : ℕ) → IsTableHalf (relocation_of r) before old.pages pair → page_at old.pages (suc pair) ≡ erased
   half_erased pair half =
       let next : (pair + 1) % n ≡ pair % n + 1 = mod-next pair n half.room in
       let one : pair + 1 ≡ suc pair = omega arith in
@@ -554,14 +572,14 @@ module _ (r : InMemory) (before : Flash) (old : BoardState) (runs : RelocationRu
 
   pub second_failed : (pair : ℕ) → r.phase ≡ Second pair → (new : BoardState) (bytes : List ℕ)
       → IsPage r.shape bytes → bytes ≡ table_bytes r.shape r.spares (next_table (relocation_of r)) → ProgramFailed old new (suc pair) bytes
-      → (copy : Vec ℕ Global) → MOST_PAGE_BYTES ≤ length copy.items → Stopped (record r { copy = copy }) new
+      → (copy : Vec ℕ Global) → MOST_PAGE_BYTES ≤ length copy.items → Stopped (record r { copy = copy; taken = r.taken + 1 }) new
   second_failed pair phase new bytes page same failed copy room =
       let half : IsTableHalf (relocation_of r) before old.pages pair = stands_in (Second pair) phase in
       let T : List ℕ → Type 0 = λ b. ProgramFailed old new (suc pair) b in (
         fails_to_write_second (relocation_of r) before pair old new runs.goes_on
             (subst (IsPage r.shape) same page) half.pair half.full half.first (half_erased pair half) (subst T same failed),
-        table_stops (record r { copy = copy }) new (suc pair) bytes half.pair.second failed,
-        same_call copy room r.phase r.next,
+        table_stops (record r { copy = copy; taken = r.taken + 1 }) new (suc pair) bytes half.pair.second failed,
+        same_failed copy room r.next,
       )
 
   -- the programs of the pair are in order

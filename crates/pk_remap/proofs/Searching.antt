@@ -1,13 +1,18 @@
 -- A search through table pages from the lowest on finds the newest table.
-use Rattle.std.proofs.Common.{◌≡◌, ◌≢◌, inl, inr, ℕ, suc, ◌+◌, ◌*◌, ◌<◌, ◌≤◌, Bool, true, false, List, refl, sym, ap, ◌∙◌, arith, Option, Some, None}
+use Rattle.std.proofs.Common.{◌≡◌, ◌≢◌, inl, inr, ℕ, suc, ◌+◌, ◌*◌, ◌<◌, ◌≤◌, Bool, true, false, List, refl, sym, ap, subst, ◌∙◌, arith, Option, Some, None}
 use Rattle.std.specs.Prelude.{nat_lt, nat_eq, if◌then◌else◌}
 use Rattle.std.proofs.lemmas.Bool.Decides.{nat_tests}
 use Rattle.pk_base.specs.Shape.{Shape}
 use Rattle.pk_base.specs.Page.{Page, erased, whole, torn}
-use Rattle.pk_nand.specs.Operations.{filled}
+use Rattle.pk_nand.specs.BoardState.{BoardState}
+use Rattle.pk_nand.specs.Calls.{Rose}
+use Rattle.pk_nand.specs.Counts.{after_reads}
+use Rattle.pk_nand.specs.Effects.{OnlyReading}
+use Rattle.pk_nand.specs.Operations.{filled, ReadFailed}
 use Rattle.pk_nand.specs.Seen.{answer}
 use Rattle.pk_remap.specs.Table.{SpareTable}
 use Rattle.pk_remap.specs.Newest.{table_in, newest_table, first_table_page, IsNewer}
+use Rattle.pk_remap.specs.Counting.{SearchFailed}
 use Rattle.pk_remap.specs.Searched.{newer_at, table_read}
 use Rattle.pk_remap.proofs.Finding.{Found, newest-found, found-newest, same_table, none_some}
 
@@ -112,3 +117,13 @@ module _ (shape : Shape) (spares : ℕ) (at : ℕ → Page) where
     is = best.is;
     newest = λ k there other is. best.newest k there.from there.to other is;
   })
+
+-- a read failed after some others
+pub search_failed : (k at : ℕ) (old now new : BoardState) → now ≡ after_reads k old → ReadFailed now new at → SearchFailed old new
+search_failed k at old now new is failed =
+    let F : BoardState → Type 0 = λ s. Rose s.flash_faults new.flash_faults in
+    let R : BoardState → Type 0 = λ s. Rose s.read_faults new.read_faults in
+    let A : BoardState → Type 0 = λ s. OnlyReading now s in
+    let B : BoardState → Type 0 = λ s. OnlyReading s new in
+    let own : OnlyReading now new = subst A (sym failed.rest) refl in
+    record { flash = subst F is failed.flash; read = subst R is failed.read; rest = subst B is own }

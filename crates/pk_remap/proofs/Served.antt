@@ -1,22 +1,20 @@
 -- The steps of a relocation one after another.
-use Rattle.std.proofs.Common.{◌≡◌, ◌⊎◌, inl, inr, ℕ, suc, ◌+◌, ◌*◌, ◌<◌, ◌≤◌, true, false, refl, sym, ap, subst, ◌∙◌, arith, Some}
-use Rattle.std.specs.Prelude.{Result, Ok, Err, min}
+use Rattle.std.proofs.Common.{◌≡◌, inl, inr, ℕ, suc, ◌+◌, ◌*◌, ◌<◌, true, false, refl, sym, ap, subst, ◌∙◌, arith, Some}
+use Rattle.std.specs.Prelude.{Ok, Err}
 use Rattle.pk_base.specs.Page.{Flash, page_at, torn as torn_page}
 use Rattle.pk_base.specs.Mark.{after}
 use Rattle.pk_nand.specs.BoardState.{BoardState}
 use Rattle.pk_nand.specs.Calls.{Rose}
 use Rattle.pk_nand.specs.Crash.{Went}
 use Rattle.pk_nand.specs.declared.types.NandFault.{NandFault}
-use Rattle.pk_remap.specs.declared.phase.Phase.{Phase}
-use Rattle.pk_remap.specs.declared.phase.Phase.TheVariants.{Read}
 use Rattle.pk_remap.specs.declared.relocation.Relocation.{Relocation as InMemory}
 use Rattle.pk_remap.specs.Places.{placed_page}
 use Rattle.pk_remap.specs.Through.{through, MayShow}
 use Rattle.pk_remap.specs.Relocating.{Relocation, block, copies_of}
 use Rattle.pk_remap.specs.Stepping.{IsTableBlock}
-use Rattle.pk_remap.specs.Running.{relocation_of, copies, AtPhase, RelocationRuns, IsAtRest, SameCall, NoReadFailed, RelocationStops, StepOutcome, reading}
+use Rattle.pk_remap.specs.Running.{relocation_of, AtPhase, RelocationRuns, SameCall, NoReadFailed, RelocationStops, StepOutcome, reading}
 use Rattle.pk_remap.specs.Running.{in_table, no_spare, torn}
-use Rattle.pk_remap.specs.Serving.{PassesCount, PassesCalls, PassesSafely, ServingStops, ServingOutcome, read_failed, table_failed, spares_failed, page_is_torn}
+use Rattle.pk_remap.specs.Serving.{PassesSafely, ServingStops, ServingOutcome, read_failed, table_failed, spares_failed, page_is_torn}
 
 -- after some steps that go on
 pub record SoFar (r : InMemory) (before : Flash) (old : BoardState) (r' : InMemory) (new : BoardState) : Type 0 where

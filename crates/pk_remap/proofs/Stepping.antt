@@ -29,7 +29,7 @@ use Rattle.pk_remap.proofs.Placing.{page-through, div-of, mod-of}
 use Rattle.pk_remap.proofs.Finding.{pair-first}
 use Rattle.pk_remap.proofs.Lifting.{times_le}
 use Rattle.pk_remap.proofs.Standing.{shows, NoneOr}
-use Rattle.pk_remap.proofs.Cutting.{some, spare_before_tables, spare_top, spare_tables, spare_above, spare_cut, turn_top, turn_above, turn_cut, next_again}
+use Rattle.pk_remap.proofs.Cutting.{some, spare_before_tables, spare_top, spare_tables, spare_above, spare_cut, turn_top, turn_above, turn_cut, next_again, pair_table, OneOfTables}
 use Rattle.pk_remap.proofs.Cutting.{exchange}
 use Rattle.pk_remap.proofs.Cutting.{spare_page_before, pair_full, pair_above, pair_beside, pair_cut}
 use Rattle.pk_remap.proofs.Calls.{program_reached, program_went, erase_reached, erase_went, left_interrupted, done_interrupted}
@@ -68,7 +68,7 @@ serving_next r before flash serving room = record {
 }
 
 -- a board is ready after a call, too
-ready_again : (old new : BoardState) (shape : Shape) (mark : Mark) → IsReady old shape
+pub ready_again : (old new : BoardState) (shape : Shape) (mark : Mark) → IsReady old shape
     → new.shape ≡ old.shape → ((at : ℕ) (bytes : List ℕ) → mark ≡ program at bytes → IsPage shape bytes)
     → Interrupted shape mark old.pages new.pages [] → IsReady new shape
 ready_again old new shape mark ready same full i = record {
@@ -150,6 +150,7 @@ module _ (r : Relocation) (before : Flash) (old : BoardState) (on : RelocationGo
         let ready : IsReady new inner = ready_again old new inner mark on.ready same full i in
         record {
           cuts = cuts;
+          ready = ready;
           goes_on = λ room. record {
             ready = ready;
             serving = serving_next r before new.pages
@@ -237,6 +238,14 @@ module _ (r : Relocation) (before : Flash) (old : BoardState) (on : RelocationGo
   module _ (top : IsTop r old.pages) (other : ℕ) (is_other : IsOtherTable r other) where
     turn_erase_cut : (cut : Flash) → Interrupted inner (erase other) old.pages cut [] → MayShow shape r.spares before r.mark cut
     turn_erase_cut cut i = turn_cut r before old.pages serving other cut [] is_other.from is_other.beside i top
+
+    -- the newest table is the former one
+    pub table_erase_top : (new : BoardState) → EraseFailed old new other → IsReady new inner × IsTop r new.pages
+    table_erase_top new failed =
+        let i : Interrupted inner (erase other) old.pages new.pages [] = left_interrupted old new inner (erase other) on.ready failed.left in (
+          ready_again old new inner (erase other) on.ready (ap (λ s. s.shape) failed.rest) (full_erase inner other) i,
+          turn_top r before old.pages serving other new.pages [] is_other.from is_other.beside i top,
+        )
 
     pub table_erase_failed : (new : BoardState) → EraseFailed old new other → WentSafely r before old new
     table_erase_failed new failed = erase_went old inner on.ready (λ cut. MayShow shape r.spares before r.mark cut) other turn_erase_cut new failed
@@ -332,6 +341,14 @@ module _ (r : Relocation) (before : Flash) (old : BoardState) (on : RelocationGo
 
       pub table_went : (new : BoardState) → ProgramFailed old new at bytes → WentSafely r before old new
       table_went new failed = program_went old inner on.ready (λ cut. MayShow shape r.spares before r.mark cut) at bytes table_cut new failed
+
+      -- the newest table is the former or the next one
+      pub table_left : (new : BoardState) → ProgramFailed old new at bytes → IsReady new inner × OneOfTables r new.pages
+      table_left new failed =
+          let i : Interrupted inner (program at bytes) old.pages new.pages [] = left_interrupted old new inner (program at bytes) on.ready failed.left in (
+            ready_again old new inner (program at bytes) on.ready (ap (λ s. s.shape) failed.rest) (full_program inner at bytes page) i,
+            pair_table r before old.pages serving pair at is_pair full is_at first second new.pages [] i,
+          )
 
       table_i : (new : BoardState) → new ≡ after_program old at bytes → Interrupted inner (program at bytes) old.pages new.pages []
       table_i new is = done_interrupted old inner (program at bytes) new.pages on.ready (ap (λ s. s.pages) is)
@@ -576,4 +593,23 @@ writes_second r before pair old new on page is_pair full one two is = second_wri
 pub fails_to_write_second : FailsToWriteSecond
 fails_to_write_second r before pair old new on page is_pair full one two failed =
     table_went r before old on pair is_pair full page (suc pair) (inr refl)
+    (whole_or r before old on pair is_pair full pair one) (erased_or r before old on pair is_pair full (suc pair) two) new failed
+
+-- ---- the newest table after a failed call in a table block
+
+pub first_left : (r : Relocation) (before : Flash) (pair : ℕ) (old new : BoardState) → RelocationGoesOn r before old
+    → IsPage r.shape (table_bytes r.shape r.spares (next_table r)) → IsTablePair r old.pages pair → IsSpareFull r before old.pages
+    → page_at old.pages pair ≡ erased → page_at old.pages (suc pair) ≡ erased → ProgramFailed old new pair (table_bytes r.shape r.spares (next_table r))
+    → IsReady new (inner_shape r.shape r.spares) × OneOfTables r new.pages
+first_left r before pair old new on page is_pair full one two failed =
+    table_left r before old on pair is_pair full page pair (inl refl) (erased_or r before old on pair is_pair full pair one)
+    (erased_or r before old on pair is_pair full (suc pair) two) new failed
+
+pub second_left : (r : Relocation) (before : Flash) (pair : ℕ) (old new : BoardState) → RelocationGoesOn r before old
+    → IsPage r.shape (table_bytes r.shape r.spares (next_table r)) → IsTablePair r old.pages pair → IsSpareFull r before old.pages
+    → page_at old.pages pair ≡ whole (table_bytes r.shape r.spares (next_table r)) → page_at old.pages (suc pair) ≡ erased
+    → ProgramFailed old new (suc pair) (table_bytes r.shape r.spares (next_table r))
+    → IsReady new (inner_shape r.shape r.spares) × OneOfTables r new.pages
+second_left r before pair old new on page is_pair full one two failed =
+    table_left r before old on pair is_pair full page (suc pair) (inr refl)
     (whole_or r before old on pair is_pair full pair one) (erased_or r before old on pair is_pair full (suc pair) two) new failed

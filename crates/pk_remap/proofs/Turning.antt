@@ -1,7 +1,6 @@
 -- The pair for the next table: which pages it has, and that it can be programmed.
 use Rattle.std.proofs.Common.{◌≡◌, ◌≢◌, ℕ, suc, ◌+◌, ◌-◌, ◌*◌, ◌/◌, ◌%◌, ◌<◌, ◌≤◌, Bool, true, false, List, length, sym, ap, subst, ◌∙◌, refl, arith}
 use Rattle.std.specs.Prelude.{nat_lt, slice_set}
-use Rattle.std.proofs.Math.Nat.{mod-lt}
 use Rattle.std.proofs.lemmas.Bool.Decides.{nat_tests}
 use Rattle.std.proofs.lemmas.Nat.{div-add-mod'}
 use Rattle.pk_base.specs.Shape.{Shape}
@@ -9,7 +8,7 @@ use Rattle.pk_base.specs.Page.{Flash, page_at, erased, whole}
 use Rattle.pk_nand.specs.Operations.{InOrder}
 use Rattle.pk_nand.proofs.Writing.{mod-next, mod-add, InOrder-next}
 use Rattle.pk_remap.specs.Places.{inner_shape}
-use Rattle.pk_remap.specs.Newest.{first_table_page, IsTablePage}
+use Rattle.pk_remap.specs.Newest.{IsTablePage}
 use Rattle.pk_remap.specs.Relocating.{Relocation, IsTop, IsNextPair, IsTablePair}
 use Rattle.pk_remap.specs.Stepping.{IsTableBlock}
 use Rattle.pk_remap.proofs.Placing.{mod-of}

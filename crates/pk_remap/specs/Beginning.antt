@@ -1,5 +1,5 @@
 -- A call of the outer flash, as it is made on the inner flash: what it leaves if it is done, cut or failed.
-use Rattle.std.specs.Prelude.{◌≡◌, ◌%◌, ◌<◌, ◌≤◌, length, [], Some, true}
+use Rattle.std.specs.Prelude.{◌≡◌, ◌<◌, ◌≤◌, length, [], Some, true}
 use Rattle.pk_base.specs.Shape.{IsShape}
 use Rattle.pk_base.specs.Page.{Flash, page_at}
 use Rattle.pk_base.specs.Mark.{after}

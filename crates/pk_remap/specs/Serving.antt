@@ -17,6 +17,7 @@ use Rattle.pk_remap.specs.Places.{inner_shape, placed_page, through_by}
 use Rattle.pk_remap.specs.Through.{through, MayShow, IsMarkWithin}
 use Rattle.pk_remap.specs.Relocating.{Relocation, block, copies_of, IsCall}
 use Rattle.pk_remap.specs.Stepping.{IsTableBlock}
+use Rattle.pk_remap.specs.Counting.{SearchFailed}
 use Rattle.pk_remap.specs.Running.{relocation_of, RelocationRuns, HasPageBuffers, IsAtRest, SameCall}
 
 -- n calls, of which each cut, and the flash after each, have P
@@ -84,7 +85,7 @@ pub record PartnerKept (r : InMemory) (page : ℕ) (old : BoardState) (r' : InMe
 
 abbrev pub PartnerOutcome : InMemory → ℕ → BoardState → Result Unit NandFault → InMemory → BoardState → Type 0
 PartnerOutcome r page old (Ok u) r' new = PartnerKept r page old r' new
-PartnerOutcome r page old (Err e) r' new = ReadFailed old new (placed_page r.shape (relocation_of r).table (page - 1)) × SameSpares r r'
+PartnerOutcome r page old (Err e) r' new = ReadFailed old new (placed_page r.shape (relocation_of r).table (page - 1)) × SameSpares r r' × (r' ≡ record r { kept = r'.kept; partner = r'.partner })
 
 -- What a program or an erase of the outer flash does: it is done, with the newest table in memory; or it failed, and this is why.
 abbrev pub OuterOutcome : InMemory → Mark → BoardState → Result Unit NandFault → InMemory → BoardState → Type 0
@@ -112,4 +113,4 @@ found_top r top = record r { number = top.number; used = top.used; top = top.pag
 abbrev pub FindOutcome : InMemory → BoardState → Result Bool NandFault → InMemory → BoardState → Type 0
 FindOutcome r old (Ok true) r' new = IsAtRest r' new × (new ≡ after_reads (2 * r.shape.block_pages) old) × SameSpares r r'
 FindOutcome r old (Ok false) r' new = (newest_table r.shape r.spares (page_at old.pages) ≡ None) × (new ≡ after_reads (2 * r.shape.block_pages) old) × SameSpares r r'
-FindOutcome r old (Err e) r' new = Rose old.read_faults new.read_faults × SameSpares r r'
+FindOutcome r old (Err e) r' new = SearchFailed old new × SameSpares r r'

@@ -48,6 +48,7 @@ pub record PageWritten (r : Relocation) (before : Flash) (k : ℕ) (old new : Bo
 -- A call on the spare failed: the next spare may be taken, if there is one.
 pub record SpareFailed (r : Relocation) (before : Flash) (old new : BoardState) : Type 0 where
   pub cuts : WentSafely r before old new
+  pub ready : IsReady new (inner_shape r.shape r.spares)
   pub goes_on : r.taken + 1 < r.spares → RelocationGoesOn (with_next_spare r) before new
   pub top : IsTop (with_next_spare r) new.pages
   pub reads : new.read_faults ≡ old.read_faults

@@ -1,8 +1,9 @@
 //! The newest table of a flash.
 ghost use Rattle.std.specs.Prelude.{◌≡◌, ℕ, ◌*◌, ◌≤◌, length, Some, IfOk, OnOk, OnErr};
 ghost use Rattle.pk_base.specs.Page.{page_at};
-ghost use Rattle.pk_nand.specs.Calls.{IsReady, Rose};
+ghost use Rattle.pk_nand.specs.Calls.{IsReady};
 ghost use Rattle.pk_nand.specs.Counts.{after_reads};
+ghost use Rattle.pk_remap.specs.Counting.{SearchFailed};
 ghost use Rattle.pk_remap.specs.Places.{inner_shape};
 ghost use Rattle.pk_remap.specs.Table.{table_of, table_page};
 ghost use Rattle.pk_remap.specs.Newest.{newest_table};
@@ -108,8 +109,7 @@ pub fn newest<N: Nand>(
     ensures few { IfOk result (λ r. UsesAtMost spares r) }
     ensures ok { OnOk result (N.state inner.new
         ≡ after_reads (2 * shape.now.block_pages) (N.state inner.old)) }
-    ensures err { OnErr result
-        (Rose (N.state inner.old).read_faults (N.state inner.new).read_faults) }
+    ensures err { OnErr result (SearchFailed (N.state inner.old) (N.state inner.new)) }
     ensures len { length serves.new ≡ length serves.old }
 {
     shape.known();

@@ -1,9 +1,9 @@
 //! Calls of the outer flash that a relocation serves, from its first step to its last.
 ghost use Rattle.pk_base.specs.Page.{Flash, page_at, IsPage};
-ghost use Rattle.std.specs.Prelude.{◌≡◌, ◌*◌, ◌<◌, ◌≤◌, length, take, IfOk, OnOk, OnErr};
+ghost use Rattle.std.specs.Prelude.{◌≡◌, ◌*◌, ◌<◌, ◌≤◌, length, take, max, true, IfOk, OnOk, OnErr};
 ghost use Rattle.pk_base.specs.Mark.{program, erase};
 ghost use Rattle.pk_base.specs.Shape.{page_count};
-ghost use Rattle.pk_nand.specs.Calls.{IsReady, Rose};
+ghost use Rattle.pk_nand.specs.Calls.{IsReady};
 ghost use Rattle.pk_nand.specs.Operations.{InOrder, filled, after_read, ReadFailed};
 ghost use Rattle.pk_nand.specs.Counts.{after_reads};
 ghost use Rattle.pk_remap.specs.Newest.{newest_table};
@@ -11,6 +11,7 @@ ghost use Rattle.pk_remap.specs.Searched.{table_found, UsesAtMost};
 ghost use Rattle.pk_nand.specs.Seen.{answer};
 ghost use Rattle.pk_remap.specs.declared.layout.TheConstants.{MOST_SPARES};
 ghost use Rattle.pk_remap.specs.Places.{inner_shape, placed_page};
+ghost use Rattle.pk_remap.specs.Counting.{SearchFailed, UsesOnlyTaken, ServeCounts, OuterCounts};
 ghost use Rattle.pk_remap.specs.Running.{relocation_of, RelocationRuns, IsAtRest};
 ghost use Rattle.pk_remap.specs.Serving.{outer_of, HasPartner, PartnerOutcome, CanFind, FindOutcome, found_top, RelocationServes, OuterOutcome};
 
@@ -27,7 +28,12 @@ impl Relocation {
     /// Searches for the newest table of the inner flash, and takes it into memory. The answer is whether there is one.
     pub fn find<N: Nand>(&mut self, inner: &mut N) -> Result<bool, NandFault>
         requires { CanFind self.old (N.state inner.old) }
-        ensures { FindOutcome self.old (N.state inner.old) result self.new (N.state inner.new) }
+        ensures found { FindOutcome self.old (N.state inner.old) result self.new
+            (N.state inner.new) }
+        ensures taken { UsesOnlyTaken self.old (N.state inner.old).pages
+            → self.new.taken ≡ self.old.taken }
+        ensures most { IfOk result (λ found. found ≡ true
+            → self.new.taken ≡ max self.old.taken self.new.used) }
     {
         match newest_by(
             inner,
@@ -131,7 +137,9 @@ impl Relocation {
         requires inside { page < page_count self.old.shape }
         requires full { IsPage self.old.shape bytes.now }
         requires order { InOrder self.old.shape (outer_of self.old (N.state inner.old).pages) page }
-        ensures { OuterOutcome self.old (program page bytes.now) (N.state inner.old) result self.new
+        ensures outcome { OuterOutcome self.old (program page bytes.now) (N.state inner.old) result
+            self.new (N.state inner.new) }
+        ensures counts { OuterCounts self.old (N.state inner.old) result self.new
             (N.state inner.new) }
     {
         match self.keep_partner(inner, page) {
@@ -152,7 +160,9 @@ impl Relocation {
         requires full { IsPage self.old.shape bytes.now }
         requires order { InOrder self.old.shape (outer_of self.old (N.state inner.old).pages) page }
         requires partner { HasPartner self.old page (outer_of self.old (N.state inner.old).pages) }
-        ensures { OuterOutcome self.old (program page bytes.now) (N.state inner.old) result self.new
+        ensures outcome { OuterOutcome self.old (program page bytes.now) (N.state inner.old) result
+            self.new (N.state inner.new) }
+        ensures counts { OuterCounts self.old (N.state inner.old) result self.new
             (N.state inner.new) }
     {
         let at = self.inner_page(page);
@@ -175,7 +185,9 @@ impl Relocation {
     pub fn erase_outer<N: Nand>(&mut self, inner: &mut N, block: u32) -> Result<(), NandFault>
         requires rests { IsAtRest self.old (N.state inner.old) }
         requires inside { block < self.old.shape.blocks }
-        ensures { OuterOutcome self.old (erase block) (N.state inner.old) result self.new
+        ensures outcome { OuterOutcome self.old (erase block) (N.state inner.old) result
+            self.new (N.state inner.new) }
+        ensures counts { OuterCounts self.old (N.state inner.old) result self.new
             (N.state inner.new) }
     {
         self.shape.known();
@@ -199,7 +211,10 @@ impl Relocation {
     /// leave.
     fn serve<N: Nand>(&mut self, inner: &mut N) -> Result<(), NandFault>
         requires { (before : Flash) × RelocationRuns self.old before (N.state inner.old) }
-        ensures { RelocationServes self.old (N.state inner.old) result self.new (N.state inner.new) }
+        ensures serves { RelocationServes self.old (N.state inner.old) result self.new
+            (N.state inner.new) }
+        ensures counts { ServeCounts self.old (N.state inner.old) result self.new
+            (N.state inner.new) }
     {
         loop {
             match self.step(inner) {
@@ -229,8 +244,7 @@ fn newest_by<N: Nand>(
     ensures few { IfOk result (λ r. UsesAtMost spares r) }
     ensures ok { OnOk result (N.state inner.new
         ≡ after_reads (2 * shape.now.block_pages) (N.state inner.old)) }
-    ensures err { OnErr result
-        (Rose (N.state inner.old).read_faults (N.state inner.new).read_faults) }
+    ensures err { OnErr result (SearchFailed (N.state inner.old) (N.state inner.new)) }
     ensures all { length serves.new ≡ length serves.old }
     ensures len { length buffer.new ≡ length buffer.old }
 {

@@ -1,5 +1,5 @@
 //! The steps of a relocation, each by one call of the inner flash.
-ghost use Rattle.std.specs.Prelude.{◌≡◌, ◌≢◌, ◌+◌, ◌-◌, ◌^◌, ◌/◌, ◌≤◌, ◌<◌, ◌++◌, ◌∷◌, [], length, take, replicate, false, IfOk, OnErr, OnOk};
+ghost use Rattle.std.specs.Prelude.{◌≡◌, ◌≢◌, ◌+◌, ◌-◌, ◌^◌, ◌/◌, ◌≤◌, ◌<◌, ◌++◌, ◌∷◌, [], length, take, replicate, false, IfOk, IsErr, OnErr, OnOk};
 ghost use Rattle.pk_base.specs.Page.{Flash, page_at, IsPage};
 ghost use Rattle.pk_remap.specs.Table.{table_bytes};
 ghost use Rattle.pk_nand.specs.BoardState.{shape_of};
@@ -9,6 +9,7 @@ ghost use Rattle.pk_nand.specs.Seen.{answer};
 ghost use Rattle.pk_remap.specs.declared.phase.Phase.TheVariants.{EraseSpare, Read, Write, EraseTable, First, Second};
 ghost use Rattle.pk_remap.specs.declared.layout.TheConstants.{MOST_SPARES};
 ghost use Rattle.pk_remap.specs.Relocating.{block as block_of, next_table};
+ghost use Rattle.pk_remap.specs.Counting.{StepCounts};
 ghost use Rattle.pk_remap.specs.Running.{relocation_of, copies as copies_of, is_kept as kept_at, bytes_for as bytes_at, phase_after, table_phase as table_phase_of, with_table, is_program as is_program_of, RelocationRuns, RelocationSteps};
 
 use crate::layout::FAILED;
@@ -106,10 +107,22 @@ impl Relocation {
         }
     }
 
+    /// Counts the spare as taken although its table could not be written: nobody knows whether that is the newest table now.
+    fn fail_table(&mut self) -> Result<bool, NandFault>
+        requires { self.old.taken < 65535 }
+        ensures taken { self.new ≡ record self.old { taken = self.old.taken + 1 } }
+        ensures fails { IsErr result }
+    {
+        self.taken += 1;
+        Err(NandFault)
+    }
+
     fn erase_spare<N: Nand>(&mut self, inner: &mut N) -> Result<bool, NandFault>
         requires phase { self.old.phase ≡ EraseSpare }
         requires runs { (before : Flash) × RelocationRuns self.old before (N.state inner.old) }
-        ensures { RelocationSteps self.old (N.state inner.old) result self.new (N.state inner.new) }
+        ensures steps { RelocationSteps self.old (N.state inner.old) result self.new
+            (N.state inner.new) }
+        ensures counts { StepCounts self.old (N.state inner.old) result self.new (N.state inner.new) }
     {
         self.shape.known();
         let spare = self.shape.blocks() + self.taken as u32;
@@ -125,7 +138,9 @@ impl Relocation {
     fn read<N: Nand>(&mut self, inner: &mut N, page: u32) -> Result<bool, NandFault>
         requires phase { self.old.phase ≡ Read page }
         requires runs { (before : Flash) × RelocationRuns self.old before (N.state inner.old) }
-        ensures { RelocationSteps self.old (N.state inner.old) result self.new (N.state inner.new) }
+        ensures steps { RelocationSteps self.old (N.state inner.old) result self.new
+            (N.state inner.new) }
+        ensures counts { StepCounts self.old (N.state inner.old) result self.new (N.state inner.new) }
     {
         self.shape.known();
         let size = self.shape.page_bytes() as usize;
@@ -163,7 +178,9 @@ impl Relocation {
     fn write<N: Nand>(&mut self, inner: &mut N, page: u32) -> Result<bool, NandFault>
         requires phase { self.old.phase ≡ Write page }
         requires runs { (before : Flash) × RelocationRuns self.old before (N.state inner.old) }
-        ensures { RelocationSteps self.old (N.state inner.old) result self.new (N.state inner.new) }
+        ensures steps { RelocationSteps self.old (N.state inner.old) result self.new
+            (N.state inner.new) }
+        ensures counts { StepCounts self.old (N.state inner.old) result self.new (N.state inner.new) }
     {
         self.shape.known();
         let spare = self.shape.blocks() + self.taken as u32;
@@ -196,7 +213,9 @@ impl Relocation {
     fn erase_table<N: Nand>(&mut self, inner: &mut N) -> Result<bool, NandFault>
         requires phase { self.old.phase ≡ EraseTable }
         requires runs { (before : Flash) × RelocationRuns self.old before (N.state inner.old) }
-        ensures { RelocationSteps self.old (N.state inner.old) result self.new (N.state inner.new) }
+        ensures steps { RelocationSteps self.old (N.state inner.old) result self.new
+            (N.state inner.new) }
+        ensures counts { StepCounts self.old (N.state inner.old) result self.new (N.state inner.new) }
     {
         self.shape.known();
         let other = self.other_table();
@@ -208,7 +227,7 @@ impl Relocation {
                 };
                 Ok(false)
             }
-            Err(_) => Err(NandFault),
+            Err(_) => self.fail_table(),
         }
     }
 
@@ -255,7 +274,9 @@ impl Relocation {
     fn first<N: Nand>(&mut self, inner: &mut N, page: u32) -> Result<bool, NandFault>
         requires phase { self.old.phase ≡ First page }
         requires runs { (before : Flash) × RelocationRuns self.old before (N.state inner.old) }
-        ensures { RelocationSteps self.old (N.state inner.old) result self.new (N.state inner.new) }
+        ensures steps { RelocationSteps self.old (N.state inner.old) result self.new
+            (N.state inner.new) }
+        ensures counts { StepCounts self.old (N.state inner.old) result self.new (N.state inner.new) }
     {
         self.shape.known();
         let serves = self.next_serves();
@@ -273,14 +294,16 @@ impl Relocation {
                 self.phase = Phase::Second { page };
                 Ok(false)
             }
-            Err(_) => Err(NandFault),
+            Err(_) => self.fail_table(),
         }
     }
 
     fn second<N: Nand>(&mut self, inner: &mut N, page: u32) -> Result<bool, NandFault>
         requires phase { self.old.phase ≡ Second page }
         requires runs { (before : Flash) × RelocationRuns self.old before (N.state inner.old) }
-        ensures { RelocationSteps self.old (N.state inner.old) result self.new (N.state inner.new) }
+        ensures steps { RelocationSteps self.old (N.state inner.old) result self.new
+            (N.state inner.new) }
+        ensures counts { StepCounts self.old (N.state inner.old) result self.new (N.state inner.new) }
     {
         self.shape.known();
         let serves = self.next_serves();
@@ -297,7 +320,7 @@ impl Relocation {
                 self.take_table(page, serves);
                 Ok(true)
             }
-            Err(_) => Err(NandFault),
+            Err(_) => self.fail_table(),
         }
     }
 
@@ -305,7 +328,9 @@ impl Relocation {
     /// Wherever the inner call is cut, and if it fails, the outer flash is what the call that it serves may leave.
     pub fn step<N: Nand>(&mut self, inner: &mut N) -> Result<bool, NandFault>
         requires { (before : Flash) × RelocationRuns self.old before (N.state inner.old) }
-        ensures { RelocationSteps self.old (N.state inner.old) result self.new (N.state inner.new) }
+        ensures steps { RelocationSteps self.old (N.state inner.old) result self.new
+            (N.state inner.new) }
+        ensures counts { StepCounts self.old (N.state inner.old) result self.new (N.state inner.new) }
     {
         match self.phase {
             Phase::EraseSpare => self.erase_spare(inner),
@@ -333,7 +358,7 @@ fn fill_next(serves: &mut [u16], used: usize, taken: usize, block: u16)
 }
 
 /// Programs a table page; the buffer begins with it then.
-fn program_table<N: Nand>(
+pub fn program_table<N: Nand>(
     inner: &mut N,
     page: u32,
     shape: &Shape,

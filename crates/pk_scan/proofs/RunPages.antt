@@ -133,10 +133,10 @@ pub found_gone : {shape : Shape} {spaces level index count : ℕ} {page : List �
     → (before : List Entry) → GoesOnOr shape spaces level index count before page false
 found_gone {shape} {spaces} {level} {index} {count} {page} f b is told_b before = has_gone shape spaces level index count page f.es f.holds before (sym (told_b index f.es f.is_page f.many) ∙ is)
 
-pub found_told : {shape : Shape} {spaces level index count : ℕ} {page : List ℕ} (f : Found shape level index count page) (a : Bool) → a ≡ true
+pub found_told : (spaces : ℕ) {shape : Shape} {level index count : ℕ} {page : List ℕ} (f : Found shape level index count page) (a : Bool) → a ≡ true
     → ((index : ℕ) (es : List Entry) → IsMetaPage shape page level index es → length es ≡ count → a ≡ may_hold spaces level es)
     → (last : Option Key) (first : Key) → ((level index : ℕ) (es : List Entry) → IsMetaPage shape page level index es → option_map key_of (slice_get es 0) ≡ Some first)
     → (b : Bool) → b ≡ is_behind last first
     → (before : List Entry) → T (is_sorted key_cmp before) → IsLast last before → GoesOnOr shape spaces level index count before page b
-found_told {shape} {spaces} {level} {index} {count} {page} f a is told_a last first begins b is_b before up ends =
+found_told spaces {shape} {level} {index} {count} {page} f a is told_a last first begins b is_b before up ends =
     told shape spaces level index count page f.es f.holds before last first f.rising (begins level index f.es f.is_page) (of_true _ (sym (told_a index f.es f.is_page f.many) ∙ is)) up ends b is_b

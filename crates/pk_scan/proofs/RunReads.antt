@@ -19,7 +19,7 @@ none_pinned leases pages same = omega (arith, same)
 -- the pages of a run, and those that are read again
 once_more : (b : Bool) (r : Kept) (pages : ℕ) → IsPinnedIf b r → length r.firsts ≡ pages → pages + read_of r.leases (length r.firsts) ≡ (if b then 1 else 2) * pages
 once_more true r pages pinned same = let none = none_pinned r.leases (length r.firsts) pinned in omega (arith, none)
-once_more false r pages none same = let again : read_of r.leases (length r.firsts) ≡ length r.firsts = ap (λ (ls : List ℕ). read_of ls (length r.firsts)) none in omega (arith, again, same)
+once_more false r pages none same = let empty : length r.leases ≡ 0 = ap (λ (ls : List ℕ). length ls) none in omega (arith, empty, same)
 
 -- both together
 pub run_reads_are : (shape : Shape) (flash : Flash) (arena : Frames) (pinned level : ℕ) (rs : List Kept) (ess : List (List Entry)) (bss : List (List ℕ)) (counts : List ℕ)

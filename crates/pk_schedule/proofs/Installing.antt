@@ -116,8 +116,7 @@ module _ (x : Index) (frames : ℕ) (old : BoardState) (top : ℕ × Root) (foun
     pub above : (i : ℕ) → i + 2 < level → slice_index (map (λ (r : Kept). r.count) levels'.runs) i ≡ slice_index (map (λ (r : Kept). r.count) x.levels.runs) i
 
   -- After the frames of the levels that may have none are freed, it is so still, and only levels that may have frames have some.
-  module _ (levels' : Levels) (arena' : Frames) (pool' : Blocks) (job' : Job) (r : Replaced levels' arena' pool' job')
-      (levels_last : Levels) (arena_last : Frames) (e : Releases levels' arena' levels_last arena_last) where
+  module _ (levels' : Levels) (arena' : Frames) (pool' : Blocks) (job' : Job) (r : Replaced levels' arena' pool' job') where
     shape_is : levels'.shape ≡ shape
     shape_is = r.levels_shape ∙ may.stands.levels_shape
 
@@ -126,38 +125,39 @@ module _ (x : Index) (frames : ℕ) (old : BoardState) (top : ℕ × Root) (foun
     leases_are =
         subst (λ (s : Shape). HasLeases s (length arena'.used) levels' arena' []) (sym shape_is) (subst (λ (n : ℕ). HasLeases shape n levels' arena' []) (sym r.arena_is.size) r.arena_is)
 
-    pub released_arena : HasArena shape frames levels_last arena_last []
-    released_arena =
-        subst (λ (s : Shape). HasArena s frames levels_last arena_last []) shape_is
-        (subst (λ (n : ℕ). HasArena levels'.shape n levels_last arena_last []) r.arena_is.size (e.arena_is [] leases_are))
+    module _ (levels_last : Levels) (arena_last : Frames) (e : Releases levels' arena' levels_last arena_last) where
+      pub released_arena : HasArena shape frames levels_last arena_last []
+      released_arena =
+          subst (λ (s : Shape). HasArena s frames levels_last arena_last []) shape_is
+          (subst (λ (n : ℕ). HasArena levels'.shape n levels_last arena_last []) r.arena_is.size (e.arena_is [] leases_are))
 
-    abbrev last : ℕ
-    last = last_level levels' (length arena'.used)
+      abbrev last : ℕ
+      last = last_level levels' (length arena'.used)
 
-    counts_are : map (λ (k : Kept). k.count) levels_last.runs ≡ map (λ (k : Kept). k.count) levels'.runs
-    counts_are = ap (λ (ls : Levels). map (λ (k : Kept). k.count) ls.runs) e.levels_are ∙ bare_counts last 1 levels'.runs
+      counts_are : map (λ (k : Kept). k.count) levels_last.runs ≡ map (λ (k : Kept). k.count) levels'.runs
+      counts_are = ap (λ (ls : Levels). map (λ (k : Kept). k.count) ls.runs) e.levels_are ∙ bare_counts last 1 levels'.runs
 
-    pub released : Replaced levels_last arena_last pool' job'
-    released = record {
-      levels_shape = ap (λ (ls : Levels). ls.shape) e.levels_are ∙ r.levels_shape;
-      levels_pinned = ap (λ (ls : Levels). ls.pinned) e.levels_are ∙ r.levels_pinned;
-      stand = e.stand new.pages then_found.runs r.stand;
-      run_blocks = subst (λ (ls : Levels). HaveBlocks shape ls.runs then_root.runs) (sym e.levels_are) (bare_blocks shape last 1 levels'.runs then_root.runs r.run_blocks);
-      arena_is = released_arena.leases;
-      same_shape = r.same_shape;
-      size = r.size;
-      others = r.others;
-      gone = r.gone;
-      journal_fewer = r.journal_fewer;
-      meta_fewer = r.meta_fewer;
-      same_values = r.same_values;
-      same_unready = r.same_unready;
-      pool_fits = r.pool_fits;
-      idle = r.idle;
-      pinned_is = r.pinned_is;
-      source = λ deep. ap (λ (ns : List ℕ). slice_index ns (level - 2)) counts_are ∙ r.source deep;
-      above = λ i low. ap (λ (ns : List ℕ). slice_index ns i) counts_are ∙ r.above i low;
-    }
+      pub released : Replaced levels_last arena_last pool' job'
+      released = record {
+        levels_shape = ap (λ (ls : Levels). ls.shape) e.levels_are ∙ r.levels_shape;
+        levels_pinned = ap (λ (ls : Levels). ls.pinned) e.levels_are ∙ r.levels_pinned;
+        stand = e.stand new.pages then_found.runs r.stand;
+        run_blocks = subst (λ (ls : Levels). HaveBlocks shape ls.runs then_root.runs) (sym e.levels_are) (bare_blocks shape last 1 levels'.runs then_root.runs r.run_blocks);
+        arena_is = released_arena.leases;
+        same_shape = r.same_shape;
+        size = r.size;
+        others = r.others;
+        gone = r.gone;
+        journal_fewer = r.journal_fewer;
+        meta_fewer = r.meta_fewer;
+        same_values = r.same_values;
+        same_unready = r.same_unready;
+        pool_fits = r.pool_fits;
+        idle = r.idle;
+        pinned_is = r.pinned_is;
+        source = λ deep. ap (λ (ns : List ℕ). slice_index ns (level - 2)) counts_are ∙ r.source deep;
+        above = λ i low. ap (λ (ns : List ℕ). slice_index ns i) counts_are ∙ r.above i low;
+      }
 
   module _ (log' : LogState) (programs : programs_next x.log.next ≡ true) (f : LogMerged x.log old top found m level out.count out.blocks log' new)
       (levels' : Levels) (arena' : Frames) (left : Blocks) (job' : Job) (r : Replaced levels' arena' (freed left) job') (has : HasArena shape frames levels' arena' [])

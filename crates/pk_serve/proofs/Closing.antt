@@ -21,6 +21,7 @@ use Rattle.pk_serve.specs.Answered.{Answered, installs}
 use Rattle.pk_model.specs.Kept.{rise}
 use Rattle.pk_serve.specs.Input.{Spells, IsPart, script_after}
 use Rattle.pk_serve.specs.Loop.{Finished, Failed, Finish, Ends}
+use Rattle.pk_serve.specs.Script.{Runs}
 use Rattle.pk_serve.specs.Calling.{calls_of, most_calls_of_all}
 use Rattle.pk_serve.specs.Run.{Served, ServedBy, KeepsScript, KeepsSome, Answers, ServedSome, Causes, CallsWithin}
 use Rattle.pk_nand.specs.Calls.{put_back, AtEnd}
@@ -116,6 +117,15 @@ no_fault Done p q f = f
 no_fault Truncated p q f = f
 no_fault Input p q f = f
 no_fault Worn p q f = f
+
+-- after a fault nothing is said of what is held
+pub Runs-fault : (a b : BoardState) (before after : Sight) (held : List ℕ) (end : End) → IsFault end → Runs a b before after held end → Runs a b before after [] end
+Runs-fault a b before after held Output f r = record { consumes = r.consumes; ends = r.ends; blames = r.blames }
+Runs-fault a b before after held Flash f r = record { consumes = r.consumes; ends = r.ends; blames = r.blames }
+Runs-fault a b before after held Done f r = absurd f
+Runs-fault a b before after held Truncated f r = absurd f
+Runs-fault a b before after held Input f r = absurd f
+Runs-fault a b before after held Worn f r = absurd f
 
 -- ---- what is said of the whole
 

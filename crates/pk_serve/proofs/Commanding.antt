@@ -87,7 +87,8 @@ module _ (b c f : BoardState) (d e : Sight) (held now_held : List ℕ) (taken : 
         rose_from v.no_faults.stop rose,
       )
 
-  module _ (g : Sight) (rep : Reply) (reads count : ℕ) (one : count ≡ taken + 1) (reaches : CallReaches c f e (command (limits_on c) cmd)) (stands : ExecStands c f e g cmd rep reads) (rest : OnlyFlash c f)
+  module _ (g : Sight) (rep : Reply) (reads count : ℕ) (one : count ≡ taken + 1)
+      (reaches : CallReaches c f e (command (limits_on c) cmd)) (stands : ExecStands c f e g cmd rep reads) (rest : OnlyFlash c f)
       (up : c.read_faults ≤ f.read_faults) (unread : rep.status ≡ 0x88 → Rose c.read_faults f.read_faults) (sound : rep.status ≢ 0x88 → f.read_faults ≡ c.read_faults)
       (no_stop : f.stop_faults ≡ c.stop_faults) (read : f.reads ≡ reads_after c.reads reads)
       (unworn : roots c < 9223372036854775808) (few_roots : roots f ≤ roots c + most_installs cmd.opcode cmd.size)

@@ -264,7 +264,8 @@ module _ (shape : Shape) (terms : Terms) (start : Map) (a b : BoardState) (drive
       }
 
   -- a command stopped the drive
-  pub Cutoff-exec : (c : BoardState) (cmd : Command) → Goes shape b c (CrashFinds shape (command terms.limits cmd) b.pages m) → b.read_faults ≤ c.read_faults → (reads : ℕ) → c.reads ≡ reads_after b.reads reads
+  pub Cutoff-exec : (c : BoardState) (cmd : Command) → Goes shape b c (CrashFinds shape (command terms.limits cmd) b.pages m)
+      → b.read_faults ≤ c.read_faults → (reads : ℕ) → c.reads ≡ reads_after b.reads reads
       → calls_of c ≤ calls_of b + most_calls_of shape cmd.opcode cmd.size → Cutoff shape terms start a c (commands all ++ cmd ∷ [])
   Cutoff-exec c cmd went up reads read few_calls =
       let next = calls_next c cmd 0 (omega arith) few_calls in

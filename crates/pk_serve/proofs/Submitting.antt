@@ -59,7 +59,11 @@ stops_exec a b d c went shape terms m s none = let w = went shape terms m s in
 module _ (a b f : BoardState) (d e : Sight) (c : Command) (r : Reply) (reads : ℕ) (reaches : CallReaches a b d (command (limits_on a) c)) (stands : ExecStands a b d e c r reads) where
   module _ (shape : Shape) (terms : Terms) (m : Map) (s : HoldsMap shape terms a d m) (none : d.pending ≡ []) where
     first : Reaches shape a b (StepCut shape terms.limits m c)
-    first = let w = reaches shape terms m s in (w.0, weaken w.0 a b (CrashFinds shape (command (limits_on a) c) a.pages m) (StepCut shape terms.limits m c) (exec_step a b d c shape terms m s none) w.1, w.2)
+    first = let w = reaches shape terms m s in (
+      w.0,
+      weaken w.0 a b (CrashFinds shape (command (limits_on a) c) a.pages m) (StepCut shape terms.limits m c) (exec_step a b d c shape terms m s none) w.1,
+      w.2,
+    )
 
     quiet : all_posted first.0 ≡ []
     quiet = (at_end first.0 a b (StepCut shape terms.limits m c) first.1).0

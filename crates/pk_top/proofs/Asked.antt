@@ -142,7 +142,8 @@ module _ (task : Task) (shape : Shape) (loaded new : BoardState) where
         let T : Map → Type 0 = λ s. KeptTask task from (meter new) shape (terms_at shape loaded.pages WORD_FRAMES) s flash posted in
         subst T same kept
 
-    told-by : (status : ℕ) (end : WordEnd) → status ≡ word_status end → Told task shape (terms_at shape loaded.pages WORD_FRAMES) start (behind_opening shape WORD_FRAMES loaded) new end → Asks task shape loaded new status
+    told-by : (status : ℕ) (end : WordEnd) → status ≡ word_status end
+        → Told task shape (terms_at shape loaded.pages WORD_FRAMES) start (behind_opening shape WORD_FRAMES loaded) new end → Asks task shape loaded new status
     told-by status end tells told = record {
       kept = (
         told.kept.0,
@@ -162,7 +163,8 @@ module _ (task : Task) (shape : Shape) (loaded new : BoardState) where
 
   pub Asks-opened : (opened_board : BoardState) (drive : Sight) (status : ℕ) (end : WordEnd)
       → opened_board ≡ behind_opening shape WORD_FRAMES loaded → ((m : Map) × HoldsMap shape (terms_at shape opened_board.pages WORD_FRAMES) opened_board drive m) → drive.pending ≡ []
-      → status ≡ word_status end → ((start : Map) → Holds shape opened_board.pages start → Told task shape (mount opened_board drive).terms start opened_board new end) → Asks task shape loaded new status
+      → status ≡ word_status end → ((start : Map) → Holds shape opened_board.pages start → Told task shape (mount opened_board drive).terms start opened_board new end)
+      → Asks task shape loaded new status
   Asks-opened opened_board drive status end is stands none tells told =
       let T : BoardState → Type 0 = λ b. (m : Map) × HoldsMap shape (terms_at shape b.pages WORD_FRAMES) b drive m in
       let S : BoardState → Type 0 = λ b. (start : Map) → Holds shape b.pages start → Told task shape (mount b drive).terms start b new end in
@@ -191,7 +193,8 @@ ready_behind shape shape' a b same ready only =
 -- ---- what the status says
 
 module _ (shape : Shape) (old loaded new : BoardState) (found : Loaded old loaded (Some shape)) where
-  tells_end : (task : Task) (start : Map) (end : WordEnd) → EndsBy task shape (terms_at shape loaded.pages WORD_FRAMES) start (behind_opening shape WORD_FRAMES loaded) new end → Tells old new (word_status end)
+  tells_end : (task : Task) (start : Map) (end : WordEnd)
+      → EndsBy task shape (terms_at shape loaded.pages WORD_FRAMES) start (behind_opening shape WORD_FRAMES loaded) new end → Tells old new (word_status end)
   tells_end task start Done ends = tells_good old new 0 (inl refl)
   tells_end task start Output ends = let T : ℕ → Type 0 = λ n. Rose n new.out_faults in tells_output old new (subst T (ap (λ (s : BoardState). s.out_faults) found.rest) ends)
   tells_end task start FlashFailed ends = let T : ℕ → Type 0 = λ n. Rose n new.stop_faults in tells_flash old new 6 refl (inl (subst T (ap (λ (s : BoardState). s.stop_faults) found.rest) ends))

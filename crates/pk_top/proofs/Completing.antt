@@ -53,7 +53,8 @@ module _ (shape : Shape) (frames : ℕ) (loaded new : BoardState) (cs : List Com
     none_rose = record { reads = ok.none_rose.reads; stops = ok.none_rose.stops; input = ok.none_rose.input; output = ok.none_rose.output };
   }
 
-  pub complete_before : (start m : Map) → start ≡ m → Complete shape (terms_at shape loaded.pages frames) start (behind_opening shape frames loaded) new cs → Complete shape (terms_at shape loaded.pages frames) m loaded new cs
+  pub complete_before : (start m : Map) → start ≡ m → Complete shape (terms_at shape loaded.pages frames) start (behind_opening shape frames loaded) new cs
+      → Complete shape (terms_at shape loaded.pages frames) m loaded new cs
   complete_before start m same c =
       let T : Map → Type 0 = λ s. Complete shape (terms_at shape loaded.pages frames) s loaded new cs in
       subst T same (record { served = c.served; are = c.are; ran = c.ran; posted = c.posted; holds = c.holds })

@@ -9,3 +9,4 @@ mod Images
 mod Runs
 mod Resting
 mod Pairs
+mod Judging

@@ -44,7 +44,8 @@ use Rattle.pk_top.specs.Loads.{load_status, HasReason}
 use Rattle.pk_top.specs.Serves.{NotServed, behind_opening}
 use Rattle.pk_top.specs.Statuses.{GivesNothing, Untouched, Tells}
 use Rattle.pk_top.proofs.Asked.{input_still}
-use Rattle.pk_top.specs.PairRuns.{NotFound, KeepsPair, AskedPair, AsksPair, PairRun, PairTells, LacksPair, PairRefused, PairWhole, no_speaker, first_unopened, second_unopened, pair_asked, no_pair_memory, first_missing, second_missing, shapes_differ, pair_found}
+use Rattle.pk_top.specs.PairRuns.{NotFound, KeepsPair, AskedPair, AsksPair, PairRun, PairTells, LacksPair, PairRefused, PairWhole, no_speaker, first_unopened, second_unopened, pair_asked}
+use Rattle.pk_top.specs.PairRuns.{no_pair_memory, first_missing, second_missing, shapes_differ, pair_found}
 use Rattle.pk_top.proofs.Telling.{tells_refused, tells_not, tells_no_drive, wants_untouched, wants_sound, untouched_same, load_untouched, refused_untouched}
 
 names_len : (es : List (Key × List ℕ)) → length (map (λ e. e.0) es) ≡ length es
@@ -184,7 +185,8 @@ module _ (task : PairTask) (shape : Shape) (loaded new loaded' new' : BoardState
 
 module _ (task : PairTask) (shape : Shape) (loaded new loaded' new' : BoardState) where
   pub AsksPair-opened : (one two : BoardState) (d e : Sight) (status : ℕ) (end : WordEnd) → one ≡ behind_opening shape WORD_FRAMES loaded → two ≡ behind_opening shape WORD_FRAMES loaded'
-      → ((m : Map) × HoldsMap shape (terms_at shape one.pages WORD_FRAMES) one d m) → ((m : Map) × HoldsMap shape (terms_at shape two.pages WORD_FRAMES) two e m) → d.pending ≡ [] → e.pending ≡ [] → status ≡ word_status end
+      → ((m : Map) × HoldsMap shape (terms_at shape one.pages WORD_FRAMES) one d m)
+      → ((m : Map) × HoldsMap shape (terms_at shape two.pages WORD_FRAMES) two e m) → d.pending ≡ [] → e.pending ≡ [] → status ≡ word_status end
       → ((m other : Map) → Holds shape one.pages m → Holds shape two.pages other → PairTold task shape m other one new two new' end)
       → IsShape shape → MapHeld → IsReady loaded shape → IsReady loaded' shape
       → AsksPair task shape loaded new loaded' new' status

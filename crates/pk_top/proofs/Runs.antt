@@ -52,7 +52,8 @@ module _ (shape : Shape) (r : ProgramRun) (is : IsRun shape r) where
   -- what every cut keeps: of a run that serves, of one that asks, and of another
   abbrev ServesCut : ℕ → Type 0
   ServesCut frames =
-      (m : Map) → Holds shape r.old.pages m → EveryCut shape r.old.pages r.marks (λ flash posted. Kept shape (terms_at shape r.old.pages frames) m (script r.input).0 (rise r.old.read_faults r.new.read_faults) posted flash)
+      (m : Map) → Holds shape r.old.pages m
+      → EveryCut shape r.old.pages r.marks (λ flash posted. Kept shape (terms_at shape r.old.pages frames) m (script r.input).0 (rise r.old.read_faults r.new.read_faults) posted flash)
 
   abbrev AsksCut : Task → Type 0
   AsksCut task = (m : Map) → Holds shape r.old.pages m → EveryCut shape r.old.pages r.marks (KeptTask task (opened shape) (meter r.new) shape (terms_at shape r.old.pages WORD_FRAMES) m)

@@ -12,3 +12,5 @@ pub mod Makes
 pub mod PairWords
 pub mod PairRuns
 pub mod Sessions
+pub mod Spared
+pub mod SparedTexts

@@ -12,6 +12,8 @@ mod pair_words;
 mod pairing;
 mod running;
 mod serving;
+mod spared;
+mod spared_words;
 mod status;
 mod texts;
 mod word;
@@ -19,4 +21,5 @@ mod words;
 
 pub use pairing::run_pair;
 pub use running::run;
+pub use spared::run_spared;
 pub use status::Status;

@@ -184,7 +184,7 @@ fn alone(word: Word, operands: &[&str]) -> Option<Word>
 
 /// What a name and its operands ask for, if no value is among them.
 #[tactic(auto, unfolding(crate::specs::Words::plain_of))]
-fn plain(name: &[u8], operands: &[&str]) -> Option<Word>
+pub fn plain(name: &[u8], operands: &[&str]) -> Option<Word>
     ensures { option_map seen result ≡ spec.plain_of name.now (map (λ w. w.now) operands.now) }
 {
     if is(name, b"make") {

@@ -257,7 +257,8 @@ module _ (b c : BoardState) (d : Sight) (rest : OnlyFlash b c) where
       → roots b < 9223372036854775808 → roots c ≤ roots b + most_installs cmd.opcode cmd.size → AddsToGroup b c d e (exchange cmd rep reads)
   adds_next e cmd rep reads reaches stands up unread sound no_stop read unworn few shape terms start a all w =
       grouped_next shape terms start a b d all w c up e cmd rep reads
-      (subst (λ (limits : List ℕ). Reaches shape b c (CrashFinds shape (command limits cmd) b.pages w.left)) (limits_held shape terms b d w.left w.stands) (reaches shape terms w.left w.stands)) (stands shape terms w.left w.stands) rest unread sound no_stop read unworn few
+      (subst (λ (limits : List ℕ). Reaches shape b c (CrashFinds shape (command limits cmd) b.pages w.left)) (limits_held shape terms b d w.left w.stands) (reaches shape terms w.left w.stands))
+      (stands shape terms w.left w.stands) rest unread sound no_stop read unworn few
 
   pub stops_next : (cmd : Command) → CallGoes b c d (command (limits_on b) cmd) → b.read_faults ≤ c.read_faults → Rose b.stop_faults c.stop_faults → StopsGroup b c d (cmd ∷ [])
   stops_next cmd went up stop shape terms start a all w = stopped_next shape terms start a b d all w c up cmd

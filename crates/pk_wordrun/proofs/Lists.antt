@@ -98,7 +98,8 @@ pieces_push place [] all = ((place, refl), tt)
 pieces_push place (c ∷ cs) all = (all.0, pieces_push place cs all.1)
 
 -- a drive that answered a command of a list was not worn before it
-unworn_before : (from : Option Key) (shape : Shape) (terms : Terms) (start : Map) (a b : BoardState) (cs : List Command) → AreOf (list from) shape cs → Ran shape terms start cs (meter a) (meter b) start
+unworn_before : (from : Option Key) (shape : Shape) (terms : Terms) (start : Map) (a b : BoardState) (cs : List Command)
+    → AreOf (list from) shape cs → Ran shape terms start cs (meter a) (meter b) start
     → is_worn a ≡ false
 unworn_before from shape terms start a b cs are r =
     few_unworn a (metered-unworn r.all (meter a) (meter b) (λ none. let clash : asked_at (start_at from) ∷ are.0 ≡ [] = sym are.1 ∙ (sym r.are ∙ ap commands none) in cc) r.metered)
@@ -184,7 +185,8 @@ module _ (from : Option Key) (shape : Shape) (terms : Terms) (start : Map) (a b 
       → (c : BoardState) → c ≡ after_post asked text → IsSaying from shape terms start a c next
   saying_more asked next text is c posted = let T : BoardState → Type 0 = λ x. IsSaying from shape terms start a x next in subst T (sym posted) (goes_on (is.piece.lines (in_space 1 start) told))
     where
-      goes_on : (page : List Key) × (keys_left place (in_space 1 start) ≡ page ++ keys_left next (in_space 1 start)) × (text ≡ key_lines page) → IsSaying from shape terms start a (after_post asked text) next
+      goes_on : (page : List Key) × (keys_left place (in_space 1 start) ≡ page ++ keys_left next (in_space 1 start))
+          × (text ≡ key_lines page) → IsSaying from shape terms start a (after_post asked text) next
       goes_on (page, split, spelled) =
           let begins : (out rest : List ℕ) → out ++ rest ≡ text → (f : Flash) → Holds shape f start → FrontOf shape start lines f (key_lines so_far.front ++ out) =
           λ out rest e f h. (
@@ -192,7 +194,8 @@ module _ (from : Option Key) (shape : Shape) (terms : Terms) (start : Map) (a b 
             (
               rest ++ key_lines (keys_left next (in_space 1 start)),
               append_assoc (key_lines so_far.front) out (rest ++ key_lines (keys_left next (in_space 1 start)))
-                  ∙ (ap (λ t. key_lines so_far.front ++ t) (sym (append_assoc out rest (key_lines (keys_left next (in_space 1 start)))) ∙ ap (λ t. t ++ key_lines (keys_left next (in_space 1 start))) (e ∙ spelled))
+                  ∙ (ap (λ t. key_lines so_far.front ++ t)
+                  (sym (append_assoc out rest (key_lines (keys_left next (in_space 1 start)))) ∙ ap (λ t. t ++ key_lines (keys_left next (in_space 1 start))) (e ∙ spelled))
                   ∙ sym (pieces page (keys_left next (in_space 1 start)) split)),
             ),
           ) in
@@ -239,7 +242,13 @@ module _ (from : Option Key) (shape : Shape) (terms : Terms) (start : Map) (a b 
     )
     | inr failed ↦ (
       refl,
-      inr (so_far.front, keys_left place (in_space 1 start), so_far.split, (let rose = failed.0 in let first = so_far.up in omega (arith, rose, first, later)), ap (λ t. key_lines so_far.front ++ t) failed.1),
+      inr (
+        so_far.front,
+        keys_left place (in_space 1 start),
+        so_far.split,
+        (let rose = failed.0 in let first = so_far.up in omega (arith, rose, first, later)),
+        ap (λ t. key_lines so_far.front ++ t) failed.1,
+      ),
     )
   ]
 
@@ -308,7 +317,8 @@ module _ (from : Option Key) (shape : Shape) (terms : Terms) (start : Map) (a b 
         (
           rest ++ key_lines (keys_left next (in_space 1 start)),
           append_assoc (key_lines so_far.front) out (rest ++ key_lines (keys_left next (in_space 1 start)))
-              ∙ (ap (λ t. key_lines so_far.front ++ t) (sym (append_assoc out rest (key_lines (keys_left next (in_space 1 start)))) ∙ ap (λ t. t ++ key_lines (keys_left next (in_space 1 start))) (e ∙ p.2))
+              ∙ (ap (λ t. key_lines so_far.front ++ t)
+              (sym (append_assoc out rest (key_lines (keys_left next (in_space 1 start)))) ∙ ap (λ t. t ++ key_lines (keys_left next (in_space 1 start))) (e ∙ p.2))
               ∙ sym (pieces p.0 (keys_left next (in_space 1 start)) p.1)),
         ),
       )

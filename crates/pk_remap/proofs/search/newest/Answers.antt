@@ -8,6 +8,7 @@ use Rattle.pk_remap.specs.Newest.{table_in, first_table_page}
 use Rattle.pk_remap.specs.Searched.{table_found, table_read}
 use Rattle.pk_remap.proofs.Finding.{Found}
 use Rattle.pk_remap.proofs.Searching.{read_table, searched-step, searched-all}
+use Rattle.pk_remap.proofs.Searching.{search_failed}
 use Rattle.pk_remap.proofs.search.newest.Goals as goal
 
 pub loop-i-preserved : goal.loop-i-preserved
@@ -48,3 +49,8 @@ returns-clause-found g c =
     let Q : ℕ → Type 0 = λ n. Found shape c.args.spares (page_at old.pages)
     (first_table_page shape c.args.spares) n (table_found c.loop-i.best c.loop-i.serves) in
     searched-all shape c.args.spares (page_at old.pages) (table_found c.loop-i.best c.loop-i.serves) (subst Q count (subst P first c.loop-i.invariant.found))
+
+pub returns-in-Err-clause-err : goal.returns-in-Err-clause-err
+returns-in-Err-clause-err g c =
+    search_failed c.loop-i.i (c.page_in-first.result + c.loop-i.i) (g.N.Nand.state c.args.inner.now) (g.N.Nand.state c.loop-i.inner)
+    (g.N.Nand.state c.read.new.self) c.loop-i.invariant.board c.in-Err.ensures.err

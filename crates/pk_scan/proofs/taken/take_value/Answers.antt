@@ -69,7 +69,7 @@ pub returns-clause-used : goal.returns-clause-used
 returns-clause-used g c is_true taken uses =
     let key = c.space-space.ensures.key in
     use_of_more c.args.shape.now c.args.spaces.now taken c.args.key.now c.args.place (key.space_some, key.space_most)
-    (charge_least c.args.shape.now c.args.place.len c.block_pages.ensures.shape) uses c.change.new.self
+    (let some = charge_least c.args.shape.now c.args.place.len c.block_pages.ensures.shape in omega (arith, some)) uses c.change.new.self
     (rw (c.space-space.ensures.value, c.charge-count.ensures.value) at c.change.ensures)
 
 pub set-requires-clause-free : goal.set-requires-clause-free

@@ -1,8 +1,14 @@
-use Rattle.std.proofs.Common.{inl, inr, ap, nat_le}
-use Rattle.pk_serve.proofs.Closing.{Finish-closed, Finish-broken, no_fault}
+use Rattle.std.proofs.Common.{inl, inr, ap, sym, subst, nat_le}
+use Rattle.pk_serve.specs.Ends.{IsFault}
+use Rattle.pk_serve.proofs.Closing.{Finish-closed, Finish-broken, Runs-fault, no_fault}
 use Rattle.pk_serve.proofs.Blaming.{blames-still, blames-behind}
 use Rattle.pk_serve.proofs.Consuming.{consumes_failed, consumes-still}
 use Rattle.pk_serve.proofs.serve.serve_all.Goals as goal
+
+pub returns-in-Output-clause-runs : goal.returns-in-Output-clause-runs
+returns-in-Output-clause-runs g c =
+    let f : IsFault c.serve_entries-end.result = elim c.in-Output.is [ inl o ↦ subst IsFault (sym o) tt | inr o ↦ subst IsFault (sym o) tt ] in
+    Runs-fault _ _ _ _ _ _ f c.serve_entries-end.ensures.runs
 
 pub returns-in-Ok : goal.returns-in-Ok
 returns-in-Ok g c =

@@ -30,7 +30,8 @@ loop-next-preserved g c =
           let T : Option ListPosition → Type 0 = λ o. PieceTold c.args.shape (mount (g.B.Nand.state c.loop-next.board) (g.D.Engine.sight c.loop-next.drive)).terms b next c.loop-next.place o in
           let F : Terms → Type 0 = λ n. PieceTold c.args.shape n b next c.loop-next.place (Some c.in-Ok-Some.next) in
           let t = subst F v.2 (subst T c.in-Ok-Some.field-0-is c.in-Ok-Some.ensures.told) in
-          saying_more c.args.from c.args.shape (mount (g.B.Nand.state c.args.board.now) (g.D.Engine.sight c.args.drive.now)).terms start (g.B.Nand.state c.args.board.now) b c.loop-next.place (v.3 start holds)
+          saying_more c.args.from c.args.shape (mount (g.B.Nand.state c.args.board.now) (g.D.Engine.sight c.args.drive.now)).terms start
+          (g.B.Nand.state c.args.board.now) b c.loop-next.place (v.3 start holds)
           t.asked c.in-Ok-Some.next t.text t.is next t.posted,
     )
 
@@ -41,7 +42,8 @@ returns-in-Ok-None g c = λ start holds.
     let last = g.B.Nand.state c.tell_piece.new.board in
     let T : Option ListPosition → Type 0 = λ o. PieceTold c.args.shape (mount (g.B.Nand.state c.loop-next.board) (g.D.Engine.sight c.loop-next.drive)).terms b last c.loop-next.place o in
     let F : Terms → Type 0 = λ n. PieceTold c.args.shape n b last c.loop-next.place None in
-    saying_done c.args.from c.args.shape (mount (g.B.Nand.state c.args.board.now) (g.D.Engine.sight c.args.drive.now)).terms start (g.B.Nand.state c.args.board.now) b c.loop-next.place (v.3 start holds)
+    saying_done c.args.from c.args.shape (mount (g.B.Nand.state c.args.board.now) (g.D.Engine.sight c.args.drive.now)).terms start
+    (g.B.Nand.state c.args.board.now) b c.loop-next.place (v.3 start holds)
     last (subst F v.2 (subst T c.in-Ok-None.field-0-is c.in-Ok-None.ensures.told))
 
 pub returns-in-Err : goal.returns-in-Err
@@ -50,5 +52,6 @@ returns-in-Err g c = λ start holds.
     let b = g.B.Nand.state c.loop-next.board in
     let last = g.B.Nand.state c.tell_piece.new.board in
     let F : Terms → Type 0 = λ n. PieceEnds c.args.shape n b last c.loop-next.place c.in-Err.end in
-    saying_ends c.args.from c.args.shape (mount (g.B.Nand.state c.args.board.now) (g.D.Engine.sight c.args.drive.now)).terms start (g.B.Nand.state c.args.board.now) b c.loop-next.place (v.3 start holds)
+    saying_ends c.args.from c.args.shape (mount (g.B.Nand.state c.args.board.now) (g.D.Engine.sight c.args.drive.now)).terms start
+    (g.B.Nand.state c.args.board.now) b c.loop-next.place (v.3 start holds)
     last c.in-Err.end (subst F v.2 c.in-Err.ensures.ends)

@@ -17,7 +17,8 @@ returns-in-Ok-say g c = λ m holds.
     (g.D.Engine.sight c.serve_workload.new.drive) c.counts-counts.result has c.in-Ok.ensures.running c.in-Ok.ensures.none k.numbers.1 k.map w.asked.left w.asked.held in
     let text = c.bytes.ensures ∙ ap (λ (t : RoomyList). t.items) (c.say.ensures w.asked.answered.all w.sums) in
     told_summary c.args.series.start c.args.series.count c.args.shape
-    (mount (g.B.Nand.state c.args.board.now) (g.D.Engine.sight c.args.drive.now)).terms m a b c.in-Ok.summary w c.counts-counts.result.keys c.counts-counts.result.live are (g.B.Nand.state c.say-in-Ok.new.board)
+    (mount (g.B.Nand.state c.args.board.now) (g.D.Engine.sight c.args.drive.now)).terms m a b c.in-Ok.summary w c.counts-counts.result.keys c.counts-counts.result.live are
+    (g.B.Nand.state c.say-in-Ok.new.board)
     (c.in-Ok-say.ensures.posts ∙ ap (λ (t : List ℕ). after_post b t) text)
 
 pub returns-in-Err-say : goal.returns-in-Err-say
@@ -32,5 +33,6 @@ returns-in-Err-say g c = λ m holds.
     let text = c.bytes.ensures ∙ ap (λ (t : RoomyList). t.items) (c.say.ensures w.asked.answered.all w.sums) in
     let T : List ℕ → Type 0 = λ t. PostFailed b (g.B.Nand.state c.say-in-Ok.new.board) t in
     told_unposted c.args.series.start c.args.series.count c.args.shape
-    (mount (g.B.Nand.state c.args.board.now) (g.D.Engine.sight c.args.drive.now)).terms m a b c.in-Ok.summary w c.counts-counts.result.keys c.counts-counts.result.live are (g.B.Nand.state c.say-in-Ok.new.board)
+    (mount (g.B.Nand.state c.args.board.now) (g.D.Engine.sight c.args.drive.now)).terms m a b c.in-Ok.summary w c.counts-counts.result.keys c.counts-counts.result.live are
+    (g.B.Nand.state c.say-in-Ok.new.board)
     (subst T text c.in-Err-say.ensures.fails)

@@ -1,4 +1,5 @@
-use Rattle.std.proofs.Common.{rules, refl, Some}
+use Rattle.std.proofs.Common.{◌≡◌, ◌∙◌, rules, refl, sym, ap, Some, true, false}
+use Rattle.std.specs.Prelude.{is_some}
 use Rattle.pk_file.proofs.Slotting.{ready_flash}
 use Rattle.pk_file.proofs.file_board.FileBoardNand.load.Goals as goal
 
@@ -7,6 +8,10 @@ returns-then-is_some-clause-ok c = record {
   shape_is = refl;
   none_bad = refl;
   ready = λ s e. record { shape_is = e; flash = ready_flash c.args.self.now.shape c.args.self.now.slots.items c.args.self.now.count c.args.self.now.fit s e };
+  bare = λ none.
+      let some : is_some c.args.self.now.shape ≡ true = sym c.is_some.ensures ∙ c.if-is_some.true in
+      let missing : is_some c.args.self.now.shape ≡ false = ap (λ o. is_some o) none in
+      cc;
   held = λ _. (refl, refl);
   rest = refl;
 }
@@ -16,6 +21,7 @@ returns-in-Ok-Some-clause-ok c = record {
   shape_is = refl;
   none_bad = refl;
   ready = λ s e. record { shape_is = e; flash = ready_flash (Some c.in-Ok-Some.image.shape) c.in-Ok-Some.image.slots.items c.in-Ok-Some.image.count c.in-Ok-Some.image.fit s e };
+  bare = λ none. cc;
   held = search rules;
   rest = refl;
 }

@@ -35,7 +35,8 @@ tell-requires-clause-first_runs g c =
     let d = g.D.Engine.sight c.args.first_drive.now in
     let R : Shape → Type 0 = λ s. IsReady b s in
     let H : Shape → Type 0 = λ s. (m : Map) × HoldsMap s (mount b d).terms b d m in
-    serving c.self.inside.shape b d c.known.ensures c.held_map.ensures (subst R (sym c.self.view_is) c.requires.first_ready) c.requires.first_runs c.requires.first_none (subst H (sym c.self.view_is) c.requires.first_stands)
+    serving c.self.inside.shape b d c.known.ensures c.held_map.ensures
+    (subst R (sym c.self.view_is) c.requires.first_ready) c.requires.first_runs c.requires.first_none (subst H (sym c.self.view_is) c.requires.first_stands)
 
 pub tell-requires-clause-second_runs : goal.tell-requires-clause-second_runs
 tell-requires-clause-second_runs g c =
@@ -43,7 +44,8 @@ tell-requires-clause-second_runs g c =
     let d = g.E.Engine.sight c.args.second_drive.now in
     let R : Shape → Type 0 = λ s. IsReady b s in
     let H : Shape → Type 0 = λ s. (m : Map) × HoldsMap s (mount b d).terms b d m in
-    serving c.self.inside.shape b d c.known.ensures c.held_map.ensures (subst R (sym c.self.view_is) c.requires.second_ready) c.requires.second_runs c.requires.second_none (subst H (sym c.self.view_is) c.requires.second_stands)
+    serving c.self.inside.shape b d c.known.ensures c.held_map.ensures
+    (subst R (sym c.self.view_is) c.requires.second_ready) c.requires.second_runs c.requires.second_none (subst H (sym c.self.view_is) c.requires.second_stands)
 
 pub returns : goal.returns
 returns g c =

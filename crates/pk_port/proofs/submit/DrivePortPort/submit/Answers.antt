@@ -37,7 +37,8 @@ returns-in-Ok-clause-took g c = (
   chain_one c.args.self.now.shape _ _ _ _ (c.of-request.ensures c.args.value.now)
       (stepped_ok c.args.self.now.shape (mount (g.B.Nand.state c.args.self.now.board.now) (g.D.Engine.sight c.args.self.now.drive.now))
       (mount (g.B.Nand.state c.serve_lent.new.board) (g.D.Engine.sight c.serve_lent.new.drive)) _ (limits_some _ _)
-      (ap (λ (k : Command). k.namespace) (c.of-request.ensures c.args.value.now) ∙ c.requires.namespace) _ _ _ _ c.in-Ok.ensures.fits.shape_is _ c.in-Ok.ensures.makes (ap (λ t. t.faults) c.answer.ensures) (ap (λ t. t.halt) c.answer.ensures)),
+      (ap (λ (k : Command). k.namespace) (c.of-request.ensures c.args.value.now) ∙ c.requires.namespace) _ _ _ _ c.in-Ok.ensures.fits.shape_is _ c.in-Ok.ensures.makes
+      (ap (λ t. t.faults) c.answer.ensures) (ap (λ t. t.halt) c.answer.ensures)),
 )
 
 pub returns-in-Err-clause-took : goal.returns-in-Err-clause-took
@@ -50,5 +51,6 @@ returns-in-Err-clause-took g c = (
   chain_one c.args.self.now.shape _ _ _ _ (c.of-request.ensures c.args.value.now)
       (stepped_err c.args.self.now.shape (mount (g.B.Nand.state c.args.self.now.board.now) (g.D.Engine.sight c.args.self.now.drive.now))
       (mount (g.B.Nand.state c.serve_lent.new.board) (g.D.Engine.sight c.serve_lent.new.drive)) _ (limits_some _ _)
-      (ap (λ (k : Command). k.namespace) (c.of-request.ensures c.args.value.now) ∙ c.requires.namespace) _ _ _ _ c.in-Err.ensures.fits.shape_is c.in-Err.halt c.in-Err.ensures.makes c.fail.ensures.rose c.fail.ensures.up c.fail.ensures.halt),
+      (ap (λ (k : Command). k.namespace) (c.of-request.ensures c.args.value.now)
+      ∙ c.requires.namespace) _ _ _ _ c.in-Err.ensures.fits.shape_is c.in-Err.halt c.in-Err.ensures.makes c.fail.ensures.rose c.fail.ensures.up c.fail.ensures.halt),
 )

@@ -1,4 +1,4 @@
-use Rattle.std.proofs.Common.{◌≡◌, ◌/◌, ◌<◌, ◌≤◌, length, take, arith}
+use Rattle.std.proofs.Common.{◌≡◌, ◌/◌, length, take, arith}
 use Rattle.std.proofs.lemmas.List.{length-take-le}
 use Rattle.pk_remap.specs.Places.{place}
 use Rattle.pk_remap.specs.Running.{relocation_of}

@@ -1,4 +1,4 @@
-use Rattle.std.proofs.Common.{◌≡◌, ◌+◌, ◌*◌, ◌++◌, ◌≤◌, ℕ, List, length, take, drop, sym, ap, ◌∙◌, arith}
+use Rattle.std.proofs.Common.{◌≡◌, ◌+◌, ◌*◌, ◌++◌, ◌≤◌, ℕ, List, length, take, drop, refl, sym, ap, ◌∙◌, arith}
 use Rattle.std.proofs.Math.Seq.{take-append_seam}
 use Rattle.pk_base.specs.declared.sizes.TheConstants.{MOST_PAGE_BYTES}
 use Rattle.pk_base.specs.Page.{page_at, whole}
@@ -7,6 +7,8 @@ use Rattle.pk_remap.specs.Places.{place, placed_page}
 use Rattle.pk_remap.specs.Relocating.{block}
 use Rattle.pk_remap.specs.Running.{relocation_of}
 use Rattle.pk_remap.proofs.Running.{read_place, page_read, page_torn, page_written_before, page_read_failed, answer_whole, answer_erased, answer_torn}
+use Rattle.pk_remap.proofs.Counting.{only_read, only_read_failed}
+use Rattle.pk_remap.proofs.Stopping.{step_done, step_read}
 use Rattle.pk_remap.proofs.relocation.Relocation.read.Goals as goal
 
 pub page_in-at-requires-clause-block : goal.page_in-at-requires-clause-block
@@ -25,8 +27,8 @@ read_into-requires-clause-exists g c =
     c.page_in-at.ensures ∙ ap (λ (x : ℕ). x * r.shape.block_pages + c.args.page) at ∙ sym own.0 in
     omega (arith, is, own.1)
 
-pub returns-in-Ok-Whole : goal.returns-in-Ok-Whole
-returns-in-Ok-Whole g c before runs =
+pub returns-in-Ok-Whole-clause-steps : goal.returns-in-Ok-Whole-clause-steps
+returns-in-Ok-Whole-clause-steps g c before runs =
     let r = c.args.self.now in
     let board : BoardState = g.N.Nand.state c.args.inner.now in
     let at : c.place-block.result ≡ place r.shape (relocation_of r).table (block (relocation_of r)) = rw c.block.ensures at c.place-block.ensures in
@@ -47,8 +49,8 @@ returns-in-Ok-Whole g c before runs =
     page_read r before board runs c.args.page c.requires.phase _ found.0 (g.N.Nand.state c.read_into.new.inner) c.in-Ok-Whole.ensures.ok here
     (ap (λ (x : List ℕ). take r.shape.page_bytes x) items ∙ taken) (rw items room)
 
-pub returns-in-Ok-Erased : goal.returns-in-Ok-Erased
-returns-in-Ok-Erased g c before runs =
+pub returns-in-Ok-Erased-clause-steps : goal.returns-in-Ok-Erased-clause-steps
+returns-in-Ok-Erased-clause-steps g c before runs =
     let r = c.args.self.now in
     let board : BoardState = g.N.Nand.state c.args.inner.now in
     let at : c.place-block.result ≡ place r.shape (relocation_of r).table (block (relocation_of r)) = rw c.block.ensures at c.place-block.ensures in
@@ -59,8 +61,8 @@ returns-in-Ok-Erased g c before runs =
     (ap (page_at board.pages) (sym is)
     ∙ answer_erased (page_at board.pages c.page_in-at.result) (rw c.in-Ok-Erased.field-0-is at c.in-Ok-Erased.ensures.found)))
 
-pub returns-in-Ok-Torn : goal.returns-in-Ok-Torn
-returns-in-Ok-Torn g c before runs =
+pub returns-in-Ok-Torn-clause-steps : goal.returns-in-Ok-Torn-clause-steps
+returns-in-Ok-Torn-clause-steps g c before runs =
     let r = c.args.self.now in
     let board : BoardState = g.N.Nand.state c.args.inner.now in
     let at : c.place-block.result ≡ place r.shape (relocation_of r).table (block (relocation_of r)) = rw c.block.ensures at c.place-block.ensures in
@@ -77,8 +79,8 @@ returns-in-Ok-Torn g c before runs =
     page_torn r before board runs c.args.page c.requires.phase _ (rw items room) (g.N.Nand.state c.read_into.new.inner) c.in-Ok-Torn.ensures.ok
     (ap (page_at board.pages) (sym is) ∙ answer_torn (page_at board.pages c.page_in-at.result) (rw c.in-Ok-Torn.field-0-is at c.in-Ok-Torn.ensures.found))
 
-pub returns-in-Err : goal.returns-in-Err
-returns-in-Err g c before runs =
+pub returns-in-Err-clause-steps : goal.returns-in-Err-clause-steps
+returns-in-Err-clause-steps g c before runs =
     let r = c.args.self.now in
     let new : List ℕ = c.read_into.new.buffer in
     let a = c.read_into.auto.buffer in
@@ -89,3 +91,38 @@ returns-in-Err g c before runs =
     let room : MOST_PAGE_BYTES ≤ length new = let old = runs.room.read_page in omega (arith, old, c.in-Err.ensures.len, ap length b.value) in
     page_read_failed r before (g.N.Nand.state c.args.inner.now) runs c.args.page c.requires.phase _ (rw items room)
     (g.N.Nand.state c.read_into.new.inner) c.page_in-at.result c.in-Err.ensures.err
+
+pub returns-in-Ok-Whole-clause-counts : goal.returns-in-Ok-Whole-clause-counts
+returns-in-Ok-Whole-clause-counts g c =
+    let board : BoardState = g.N.Nand.state c.args.inner.now in
+    let new : BoardState = g.N.Nand.state c.read_into.new.inner in
+    step_done c.args.self.now c.requires.runs.0 board c.requires.runs.1 _ new
+    (only_read board new c.in-Ok-Whole.ensures.ok) (ap (λ s. s.stop_faults) c.in-Ok-Whole.ensures.ok) refl
+
+pub returns-in-Ok-Erased-clause-counts : goal.returns-in-Ok-Erased-clause-counts
+returns-in-Ok-Erased-clause-counts g c =
+    let r = c.args.self.now in
+    let board : BoardState = g.N.Nand.state c.args.inner.now in
+    let at : c.place-block.result ≡ place r.shape (relocation_of r).table (block (relocation_of r)) = rw c.block.ensures at c.place-block.ensures in
+    let own = read_place r c.requires.runs.0 board c.requires.runs.1 c.args.page c.requires.phase in
+    let is : c.page_in-at.result ≡ placed_page r.shape (relocation_of r).table (block (relocation_of r) * r.shape.block_pages + c.args.page) =
+    c.page_in-at.ensures ∙ ap (λ (x : ℕ). x * r.shape.block_pages + c.args.page) at ∙ sym own.0 in
+    absurd (page_written_before r c.requires.runs.0 board c.requires.runs.1 c.args.page c.requires.phase
+    (ap (page_at board.pages) (sym is)
+    ∙ answer_erased (page_at board.pages c.page_in-at.result) (rw c.in-Ok-Erased.field-0-is at c.in-Ok-Erased.ensures.found)))
+
+pub returns-in-Ok-Torn-clause-counts : goal.returns-in-Ok-Torn-clause-counts
+returns-in-Ok-Torn-clause-counts g c =
+    let board : BoardState = g.N.Nand.state c.args.inner.now in
+    let new : BoardState = g.N.Nand.state c.read_into.new.inner in
+    let is = c.in-Ok-Torn.ensures.ok in
+    step_read c.args.self.now c.requires.runs.0 board c.requires.runs.1 _ c.args.page c.requires.phase new
+    (only_read board new is) (ap (λ s. s.stop_faults) is) (ap (λ s. s.shape) is) (ap (λ s. s.pages) is)
+
+pub returns-in-Err-clause-counts : goal.returns-in-Err-clause-counts
+returns-in-Err-clause-counts g c =
+    let board : BoardState = g.N.Nand.state c.args.inner.now in
+    let new : BoardState = g.N.Nand.state c.read_into.new.inner in
+    let failed = c.in-Err.ensures.err in
+    step_read c.args.self.now c.requires.runs.0 board c.requires.runs.1 _ c.args.page c.requires.phase new
+    (only_read_failed board new _ failed) (ap (λ s. s.stop_faults) failed.rest) (ap (λ s. s.shape) failed.rest) (ap (λ s. s.pages) failed.rest)

@@ -1,4 +1,5 @@
 use Rattle.pk_base.specs.Page.{Flash}
+use Rattle.pk_remap.specs.Counting.{SparesCounted}
 use Rattle.pk_remap.specs.Running.{RelocationRuns, relocation_steps_left}
 use Rattle.pk_remap.proofs.Served.{SoFar}
 use Rattle.pk_remap.proofs.relocation.Relocation.serve.Given as goal
@@ -7,6 +8,7 @@ abbrev pub invariant-loop : goal.invariant-loop
 invariant-loop g l = record {
   far : (before : Flash) → RelocationRuns l.fn.self before (g.N.Nand.state l.fn.inner)
       → SoFar l.fn.self before (g.N.Nand.state l.fn.inner) l.self (g.N.Nand.state l.inner);
+  counts : SparesCounted 0 l.fn.self (g.N.Nand.state l.fn.inner) l.self (g.N.Nand.state l.inner);
 }
 
 abbrev pub decreases-loop : goal.decreases-loop

@@ -76,8 +76,8 @@ release-requires g c =
     ask_release x c.merging-level.result is c.known.ensures c.known-2.ensures.levels old new c.install_merge.new.self merges c.end_first.new.levels c.end_first.new.arena
     c.end_first.new.pool c.end_first.new.self c.requires.may replaces
 
-pub release-requires-2 : goal.release-requires-2
-release-requires-2 g c =
+pub release-requires-else-level-eq1 : goal.release-requires-else-level-eq1
+release-requires-else-level-eq1 g c =
     let old = g.B.Nand.state c.args.board.now in
     let x : Index = index c.args.log.now c.args.levels.now c.args.arena.now c.args.pool.now c.args.self.now in
     let is : c.args.self.now.phase ≡ Ready c.merging-level.result = ready_at c.merging-level.result c.args.self.now.phase c.merging-level.ensures c.requires.phase in
@@ -134,7 +134,7 @@ returns-else-level-eq1-clause-step g c =
     c.end_deep.new.pool c.end_deep.new.self (omega (arith, low, c.if-level-eq1.false)) c.end_deep.ensures.ends in
     let made = made_release x c.merging-level.result is c.known.ensures c.known-2.ensures.levels old new c.install_merge.new.self merges c.end_deep.new.levels c.end_deep.new.arena
     c.end_deep.new.pool c.end_deep.new.self (programs_then c.args.log.now.next c.requires.may.4.settles.whole (sym c.erases_next.ensures ∙ c.if-erases_next.false)) c.end_deep.ensures.rest
-    c.release-2.new.self c.release-2.new.arena c.release-2.ensures replaces (c.end_deep.ensures.counted Values) in
+    c.release-else-level-eq1.new.self c.release-else-level-eq1.new.arena c.release-else-level-eq1.ensures replaces (c.end_deep.ensures.counted Values) in
     record {
       step = record {
         ended = steps_on x c.merging-level.result is c.known.ensures c.known-2.ensures.levels old _ new made;

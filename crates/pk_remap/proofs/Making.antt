@@ -1,0 +1,313 @@
+-- The first table of a flash that was just made.
+use Rattle.std.proofs.Common.{◌≡◌, ◌≢◌, inr, ℕ, zero, suc, ◌+◌, ◌*◌, ◌%◌, ◌<◌, ◌≤◌, Bool, true, false, List, [], length, replicate, refl, sym, ap, subst, ◌∙◌, arith, Option, Some}
+use Rattle.std.specs.Prelude.{nat_le, nat_lt, nat_eq, slice_set, unwrap_or, Vec, Result, Ok, Err}
+use Rattle.std.specs.declared.alloc.Global.{Global}
+use Rattle.std.proofs.lemmas.Bool.Decides.{nat_tests}
+use Rattle.std.proofs.lemmas.List.{length-replicate}
+use Rattle.std.proofs.lemmas.Nat.{div-add-mod'}
+use Rattle.pk_base.specs.Shape.{Shape, IsShape, page_count}
+use Rattle.pk_base.specs.Page.{Flash, page_at, erased, whole, torn, IsPage, IsFlash}
+use Rattle.pk_base.specs.Mark.{program}
+use Rattle.pk_nand.specs.BoardState.{BoardState}
+use Rattle.pk_nand.specs.Calls.{IsReady, Rose, after_program, ProgramFailed}
+use Rattle.pk_nand.specs.Operations.{InOrder}
+use Rattle.pk_nand.specs.Effects.{OnlyFlash}
+use Rattle.pk_nand.specs.declared.types.NandFault.{NandFault}
+use Rattle.pk_nand.proofs.Effects.{works_program, stops_program, only_then}
+use Rattle.pk_nand.proofs.Leaving.{same_pages, page_at-slice_set, page_at-slice_set_same, IsFlash-after, full_program}
+use Rattle.pk_remap.specs.declared.layout.TheConstants.{MOST_SPARES}
+use Rattle.pk_remap.specs.declared.relocation.Relocation.{Relocation as InMemory}
+use Rattle.pk_remap.specs.Table.{SpareTable, is_table}
+use Rattle.pk_remap.specs.Newest.{table_in, first_table_page, IsTablePage, IsNewer, IsNewest}
+use Rattle.pk_remap.specs.Places.{inner_shape, through_by}
+use Rattle.pk_remap.specs.Relocating.{IsNextPair}
+use Rattle.pk_remap.specs.Running.{HasPageBuffers, IsAtRest}
+use Rattle.pk_remap.specs.Remapped.{outer_pages}
+use Rattle.pk_remap.specs.FirstTable.{first_table, first_table_bytes, IsMade, FirstTableWritten, FirstTableFailed, FirstTableOutcome}
+use Rattle.pk_remap.proofs.TableLemmas.{table_parts, page_again}
+use Rattle.pk_remap.proofs.Placing.{mod-of, length-through, page-through, past-through}
+use Rattle.pk_remap.proofs.Finding.{same_table, none_some}
+use Rattle.pk_remap.proofs.Lifting.{times_le}
+use Rattle.pk_remap.proofs.Cutting.{page-past_end}
+use Rattle.pk_remap.proofs.Standing.{shows}
+use Rattle.pk_remap.proofs.Turning.{second_order, following_pair}
+
+erased_at : (n k : ℕ) → k < n → page_at (replicate n erased) k ≡ erased
+erased_at zero k small = absurd (omega (arith, small))
+erased_at (suc n) zero small = refl
+erased_at (suc n) (suc k) small = erased_at n k (omega (arith, small))
+
+not_whole : {X : Type 0} (bytes : List ℕ) → erased ≡ whole bytes → X
+not_whole bytes e = absurd (apart e)
+  where
+    apart : erased ≡ whole bytes → ⊥
+    apart e = cc
+
+torn_whole : {X : Type 0} (bytes : List ℕ) → torn ≡ whole bytes → X
+torn_whole bytes e = absurd (apart e)
+  where
+    apart : torn ≡ whole bytes → ⊥
+    apart e = cc
+
+module _ (r : InMemory) (made : BoardState) (is : IsMade r.shape r.spares made) (shape_is : IsShape r.shape) (few : r.spares ≤ MOST_SPARES) where
+  abbrev shape : Shape
+  shape = r.shape
+
+  abbrev n : ℕ
+  n = r.shape.block_pages
+
+  abbrev inner : Shape
+  inner = inner_shape r.shape r.spares
+
+  abbrev page : ℕ
+  page = first_table_page r.shape r.spares
+
+  abbrev bytes : List ℕ
+  bytes = first_table_bytes r
+
+  some : 0 < n
+  some = let least = shape_is.block_least in omega (arith, least)
+
+  all_pages : page_count inner ≡ page + 2 * n
+  all_pages = turned n (shape.blocks + r.spares)
+    where
+      turned : (a b : ℕ) → a * (b + 2) ≡ b * a + 2 * a
+      turned a b = omega arith
+
+  size : length made.pages ≡ page + 2 * n
+  size = ap length is.all_erased ∙ length-replicate (page_count inner) erased ∙ all_pages
+
+  blank : (k : ℕ) → k < page + 2 * n → page_at made.pages k ≡ erased
+  blank k less = ap (λ (f : Flash). page_at f k) is.all_erased ∙ erased_at (page_count inner) k (let all = all_pages in omega (arith, less, all))
+
+  pub made_ready : IsReady made inner
+  made_ready = record {
+    shape_is = is.shape_is;
+    flash = record {
+      size = ap length is.all_erased ∙ length-replicate (page_count inner) erased;
+      full = λ k bs e. by k bs e (nat_lt k (page + 2 * n)) refl;
+    };
+  } where
+    by : (k : ℕ) (bs : List ℕ) → page_at made.pages k ≡ whole bs → (t : Bool) → nat_lt k (page + 2 * n) ≡ t → IsPage inner bs
+    by k bs e true t = let less : k < page + 2 * n = grind (arith, nat_tests) in not_whole bs (sym (blank k less) ∙ e)
+    by k bs e false t =
+        let past : page + 2 * n ≤ k = grind (arith, nat_tests) in
+        let all = size in
+        torn_whole bs (sym (page-past_end made.pages k (omega (arith, past, all))) ∙ e)
+
+  rest_zero : page % n ≡ 0
+  rest_zero = ap (λ (x : ℕ). x % n) (plus page) ∙ mod-of (shape.blocks + r.spares) n 0 some
+    where
+      plus : (x : ℕ) → x ≡ x + 0
+      plus x = omega arith
+
+  pub first_inside : page < length made.pages
+  first_inside = let all = size in let s = some in omega (arith, all, s)
+
+  pub first_in_order : InOrder inner made.pages page
+  first_in_order =
+      let zero_rest = rest_zero in record {
+        before = λ k from to. absurd (omega (arith, zero_rest, from, to));
+        behind = λ k from to. blank k (omega (arith, zero_rest, to));
+      }
+
+  -- the pair of the first table can be programmed
+  first_pair : IsNextPair shape r.spares (page + 2) made.pages page
+  first_pair =
+      let zero_rest = rest_zero in
+      let least = shape_is.block_least in record {
+        is_table = record { from = omega arith; to = omega (arith, least) };
+        even = ap (λ (x : ℕ). x % 2) zero_rest;
+        room = omega (arith, zero_rest, least);
+        not_first = λ e. omega (arith, e);
+        not_second = λ e. omega (arith, e);
+        order = first_in_order;
+      }
+
+  module _ (full : IsPage shape bytes) (half : BoardState) (board : half ≡ after_program made page bytes) where
+    half_pages : half.pages ≡ slice_set made.pages page (whole bytes)
+    half_pages = ap (λ s. s.pages) board
+
+    pub half_ready : IsReady half inner
+    half_ready = record {
+      shape_is = ap (λ s. s.shape) board ∙ is.shape_is;
+      flash = subst (λ (f : Flash). IsFlash inner f) (sym half_pages) (IsFlash-after inner (program page bytes) made.pages (full_program inner page bytes full) made_ready.flash);
+    }
+
+    half_size : length half.pages ≡ page + 2 * n
+    half_size = half_ready.flash.size ∙ all_pages
+
+    pub second_inside : page + 1 < length half.pages
+    second_inside = let all = half_size in let least = shape_is.block_least in omega (arith, all, least)
+
+    second_order' : InOrder inner half.pages (suc page)
+    second_order' = subst (λ (f : Flash). InOrder inner f (suc page)) (sym half_pages)
+        (second_order shape r.spares (page + 2) some made.pages page bytes first_inside first_pair)
+
+    pub second_in_order : InOrder inner half.pages (page + 1)
+    second_in_order = let one : suc page ≡ page + 1 = omega arith in subst (λ (k : ℕ). InOrder inner half.pages k) one second_order'
+
+    -- ---- after the second program
+
+    module _ (new : BoardState) (last : new ≡ after_program half (page + 1) bytes) where
+      new_pages : new.pages ≡ slice_set half.pages (suc page) (whole bytes)
+      new_pages = let one : page + 1 ≡ suc page = omega arith in ap (λ s. s.pages) last ∙ ap (λ (k : ℕ). slice_set half.pages k (whole bytes)) one
+
+      at_first : page_at new.pages page ≡ whole bytes
+      at_first =
+          ap (λ (f : Flash). page_at f page) new_pages ∙ page_at-slice_set half.pages (suc page) page (whole bytes) (λ e. omega (arith, e))
+          ∙ ap (λ (f : Flash). page_at f page) half_pages ∙ page_at-slice_set_same made.pages page (whole bytes) first_inside
+
+      at_second : page_at new.pages (suc page) ≡ whole bytes
+      at_second = let inside = second_inside in ap (λ (f : Flash). page_at f (suc page)) new_pages ∙ page_at-slice_set_same half.pages (suc page) (whole bytes) (omega (arith, inside))
+
+      at_other : (k : ℕ) → k ≢ page → k ≢ suc page → k < page + 2 * n → page_at new.pages k ≡ erased
+      at_other k one two less =
+          ap (λ (f : Flash). page_at f k) new_pages ∙ page_at-slice_set half.pages (suc page) k (whole bytes) two
+          ∙ ap (λ (f : Flash). page_at f k) half_pages ∙ page_at-slice_set made.pages page k (whole bytes) one ∙ blank k less
+
+      ready : IsReady new inner
+      ready = record {
+        shape_is = ap (λ s. s.shape) last ∙ half_ready.shape_is;
+        flash = subst (λ (f : Flash). IsFlash inner f) (sym new_pages)
+            (IsFlash-after inner (program (suc page) bytes) half.pages (full_program inner (suc page) bytes full) half_ready.flash);
+      }
+
+      grammar : is_table shape r.spares first_table ≡ true
+      grammar = let most : nat_le 0 r.spares ≡ true = grind (arith, nat_tests) in rw most refl
+
+      again : table_in shape r.spares (whole bytes) ≡ Some first_table
+      again = page_again shape shape_is r.spares few first_table (table_parts shape r.spares first_table grammar)
+
+      top : IsNewest shape r.spares (page_at new.pages) page first_table
+      top = record {
+        there = record { from = omega arith; to = (let s = some in omega (arith, s)) };
+        is = ap (table_in shape r.spares) at_first ∙ again;
+        newest = λ k there other e. newer k there other e (nat_eq k page) refl (nat_eq k (suc page)) refl;
+      } where
+        same_newer : (k : ℕ) (other : SpareTable) → page ≤ k → Some first_table ≡ Some other → IsNewer page first_table k other
+        same_newer k other past e = inr (ap (λ (t : SpareTable). t.number) (sym (same_table first_table other e)), past)
+
+        newer : (k : ℕ) → IsTablePage shape r.spares k → (other : SpareTable) → table_in shape r.spares (page_at new.pages k) ≡ Some other
+            → (t : Bool) → nat_eq k page ≡ t → (u : Bool) → nat_eq k (suc page) ≡ u → IsNewer page first_table k other
+        newer k there other e true t u v =
+            let same : k ≡ page = grind (arith, nat_tests) in
+            same_newer k other (omega (arith, same)) (sym again ∙ ap (table_in shape r.spares) (sym at_first)
+            ∙ ap (λ (j : ℕ). table_in shape r.spares (page_at new.pages j)) (sym same) ∙ e)
+        newer k there other e false t true v =
+            let same : k ≡ suc page = grind (arith, nat_tests) in
+            same_newer k other (omega (arith, same)) (sym again ∙ ap (table_in shape r.spares) (sym at_second)
+            ∙ ap (λ (j : ℕ). table_in shape r.spares (page_at new.pages j)) (sym same) ∙ e)
+        newer k there other e false t false v =
+            let one : k ≢ page = grind (arith, nat_tests) in
+            let two : k ≢ suc page = grind (arith, nat_tests) in
+            absurd (none_some other (ap (table_in shape r.spares) (sym (at_other k one two there.to)) ∙ e))
+
+      -- all pages of the outer flash are Erased
+      pub shown : outer_pages shape r.spares new.pages ≡ replicate (page_count shape) erased
+      shown =
+          ap (λ (f : Option Flash). unwrap_or f []) (shows shape r.spares new.pages page first_table top)
+          ∙ same_pages (replicate (page_count shape) erased) (through_by shape first_table (page_at new.pages))
+          (length-through shape first_table (page_at new.pages) ∙ sym (length-replicate (page_count shape) erased)) (λ k. by k (nat_lt k (page_count shape)) refl)
+        where
+          before_tables : page_count shape ≤ page
+          before_tables = let own = times_le shape.blocks (shape.blocks + r.spares) n (omega arith) in omega (arith, own, turned n shape.blocks)
+            where
+              turned : (a b : ℕ) → a * b ≡ b * a
+              turned a b = omega arith
+
+          by : (k : ℕ) (t : Bool) → nat_lt k (page_count shape) ≡ t → page_at (through_by shape first_table (page_at new.pages)) k ≡ page_at (replicate (page_count shape) erased) k
+          by k true t =
+              let inside : k < page_count shape = grind (arith, nat_tests) in
+              let early = before_tables in
+              page-through shape first_table (page_at new.pages) k inside ∙ ap (page_at new.pages) (div-add-mod' k n)
+              ∙ at_other k (λ e. omega (arith, e, inside, early)) (λ e. omega (arith, e, inside, early)) (omega (arith, inside, early))
+              ∙ sym (erased_at (page_count shape) k inside)
+          by k false t =
+              let past : page_count shape ≤ k = grind (arith, nat_tests) in
+              past-through shape first_table (page_at new.pages) k past
+              ∙ sym (page-past_end (replicate (page_count shape) erased) k (let size = length-replicate (page_count shape) erased in omega (arith, past, size)))
+
+      next_pair : IsNextPair shape r.spares page new.pages (page + 2)
+      next_pair =
+          let zero_rest = rest_zero in
+          let least = shape_is.block_least in
+          let inside = second_inside in
+          subst (λ (f : Flash). IsNextPair shape r.spares page f (page + 2)) (sym new_pages)
+          (following_pair shape r.spares page some half.pages bytes shape_is.eights first_pair.is_table (ap (λ (x : ℕ). x % 2) zero_rest) (omega (arith, zero_rest, least))
+          (omega (arith, inside)) second_order' two_over)
+        where
+          two_over : (page + 2) % n ≢ 0
+          two_over e =
+              let least = shape_is.block_least in
+              let own : ((shape.blocks + r.spares) * n + 2) % n ≡ 2 = mod-of (shape.blocks + r.spares) n 2 (omega (arith, least)) in
+              absurd (omega (arith, own, e))
+
+      pub first_rests : (copy : Vec ℕ Global) → HasPageBuffers (record r { copy = copy }) → r.taken ≡ 0
+          → IsAtRest (record r { copy = copy; number = 1; used = 0; top = page; next = Some (page + 2) }) new
+      first_rests copy room none = record {
+        ready = ready;
+        shape_is = shape_is;
+        few = few;
+        grammar = grammar;
+        used = omega arith;
+        taken = omega (arith, none);
+        top = top;
+        turn = λ pair e. subst (λ (k : ℕ). IsNextPair shape r.spares page new.pages k) (same_pair (page + 2) pair e) next_pair;
+        room = record { fits = omega arith; all = room.all; kept_page = room.kept_page; new_page = room.new_page; read_page = room.read_page };
+      } where
+        same_pair : (x y : ℕ) → Some x ≡ Some y → x ≡ y
+        same_pair x y e = cc
+
+      first_rest : OnlyFlash made new
+      first_rest = only_then made half new (works_program made half page bytes board).rest (works_program half new (page + 1) bytes last).rest
+
+      pub first_written : (copy : Vec ℕ Global) → HasPageBuffers (record r { copy = copy }) → r.taken ≡ 0
+          → FirstTableWritten r made (record r { copy = copy; number = 1; used = 0; top = page; next = Some (page + 2) }) new
+      first_written copy room none = record {
+        rests = first_rests copy room none;
+        shape = refl;
+        spares = refl;
+        none = none;
+        unused = refl;
+        shown = shown;
+        rest = first_rest;
+      }
+
+    -- the second program failed
+    pub second_failed : (new : BoardState) → ProgramFailed half new (page + 1) bytes → (copy : Vec ℕ Global) → HasPageBuffers (record r { copy = copy }) → r.taken ≡ 0
+        → FirstTableFailed r made (record r { copy = copy }) new
+    second_failed new failed copy room none = record {
+      faults = (let P : ℕ → Type 0 = λ x. Rose x new.flash_faults in subst P (ap (λ s. s.flash_faults) board) failed.flash);
+      shape = refl;
+      spares = refl;
+      none = none;
+      room = room;
+      rest = only_then made half new (works_program made half page bytes board).rest (stops_program half new (page + 1) bytes failed).rest;
+    }
+
+  -- the first program failed
+  pub first_failed : (new : BoardState) → ProgramFailed made new page bytes → (copy : Vec ℕ Global) → HasPageBuffers (record r { copy = copy }) → r.taken ≡ 0
+      → FirstTableFailed r made (record r { copy = copy }) new
+  first_failed new failed copy room none = record {
+    faults = failed.flash;
+    shape = refl;
+    spares = refl;
+    none = none;
+    room = room;
+    rest = (stops_program made new page bytes failed).rest;
+  }
+
+-- whatever is in the buffer
+pub outcome_copy : (r : InMemory) (copy : Vec ℕ Global) (old : BoardState) (result : Result Unit NandFault) (r' : InMemory) (new : BoardState)
+    → FirstTableOutcome (record r { copy = copy }) old result r' new → FirstTableOutcome r old result r' new
+outcome_copy r copy old (Ok u) r' new own = record {
+  rests = own.rests;
+  shape = own.shape;
+  spares = own.spares;
+  none = own.none;
+  unused = own.unused;
+  shown = own.shown;
+  rest = own.rest;
+}
+outcome_copy r copy old (Err e) r' new own = record { faults = own.faults; shape = own.shape; spares = own.spares; none = own.none; room = own.room; rest = own.rest }

@@ -1,0 +1,89 @@
+use Rattle.std.proofs.Common.{inl, inr, ℕ, refl, sym, subst, ◌∙◌}
+use Rattle.pk_nand.specs.BoardState.{BoardState}
+use Rattle.pk_nand.specs.Operations.{PostFailed, SentFront}
+use Rattle.pk_nand.specs.Calls.{Rose}
+use Rattle.pk_remap.specs.Logged.{told}
+use Rattle.pk_remap.specs.Remapped.{remap_board}
+use Rattle.pk_remap.proofs.Hosting.{posted_all, sent_some, post_failed_board, sent_none, post_refused, post_rest, holds_host}
+use Rattle.pk_remap.proofs.board.RemapBoard.post.Goals as goal
+
+pub note_post-requires : goal.note_post-requires
+note_post-requires g c = c.has_room.ensures.yes c.if-has_room.true
+
+pub post_failed-requires-clause-within : goal.post_failed-requires-clause-within
+post_failed-requires-clause-within g c = c.in-Err.ensures.given.within
+
+pub post_failed-requires-clause-room : goal.post_failed-requires-clause-room
+post_failed-requires-clause-room g c = c.has_room.ensures.yes c.if-has_room.true
+
+pub invariant_of-self : goal.invariant_of-self
+invariant_of-self g c =
+    let self = c.args.self.now in
+    let old : BoardState = g.B.Nand.state self.inner in
+    let new : BoardState = g.B.Nand.state c.post.new.self in
+    let rest = post_rest old new c.args.bytes.now c.post.result c.post.ensures.ok c.post.ensures.err in
+    record {
+      holds = holds_host self.image self.work old new rest.shape rest.pages rest.bare self.holds;
+      logs = record {
+        unfit = λ e. c.note_post.ensures.page ∙ self.logs.unfit e;
+        sized = λ e. c.note_post.ensures.page ∙ self.logs.sized e;
+      };
+    }
+
+pub invariant_of-self-in-Err-1 : goal.invariant_of-self-in-Err-1
+invariant_of-self-in-Err-1 g c =
+    let self = c.args.self.now in
+    let old : BoardState = g.B.Nand.state self.inner in
+    let new : BoardState = g.B.Nand.state c.post.new.self in
+    let rest = post_rest old new c.args.bytes.now c.post.result c.post.ensures.ok c.post.ensures.err in
+    record { holds = holds_host self.image self.work old new rest.shape rest.pages rest.bare self.holds; logs = self.logs }
+
+pub returns-in-Ok-clause-ok : goal.returns-in-Ok-clause-ok
+returns-in-Ok-clause-ok g c =
+    let self = c.args.self.now in
+    posted_all self.image self.work self.log self.counts (g.B.Nand.state self.inner) c.args.bytes.now c.note_post.new.self (g.B.Nand.state c.post.new.self)
+    c.in-Ok.ensures.ok c.note_post.ensures.told
+
+pub returns-in-Err-clause-err : goal.returns-in-Err-clause-err
+returns-in-Err-clause-err g c =
+    let self = c.args.self.now in
+    let old : BoardState = g.B.Nand.state self.inner in
+    let new : BoardState = g.B.Nand.state c.post.new.self in
+    let there = c.post_failed.new.self in
+    let own = post_failed_board self.image self.work self.log self.counts old c.args.bytes.now c.in-Err.fault.given there.log new c.in-Err.ensures.err c.in-Err.ensures.given
+    c.post_failed.ensures.told in
+    let P : BoardState → Type 0 = λ s. PostFailed (remap_board self.image self.work self.log self.counts old) s c.args.bytes.now in
+    subst P (λ i. remap_board (sym c.post_failed.ensures.image i) (sym c.post_failed.ensures.work i) there.log (sym c.post_failed.ensures.counts i)
+    (g.B.Nand.state (sym c.post_failed.ensures.inner i))) own
+
+pub returns-in-Err-clause-given : goal.returns-in-Err-clause-given
+returns-in-Err-clause-given g c =
+    let self = c.args.self.now in
+    let old : BoardState = g.B.Nand.state self.inner in
+    let new : BoardState = g.B.Nand.state c.post.new.self in
+    let there = c.post_failed.new.self in
+    let own = sent_some self.image self.work self.log self.counts old c.args.bytes.now c.in-Err.fault.given there.log new c.in-Err.ensures.given c.post_failed.ensures.told in
+    let P : BoardState → Type 0 = λ s. SentFront c.args.bytes.now c.in-Err.fault.given old.posted s.posted (told self.log) (told there.log) in
+    subst P (λ i. g.B.Nand.state (sym c.post_failed.ensures.inner i)) own
+
+pub returns-in-Err-clause-cause : goal.returns-in-Err-clause-cause
+returns-in-Err-clause-cause g c =
+    let self = c.args.self.now in
+    let P : BoardState → Type 0 = λ s. Rose (g.B.Nand.state self.inner).out_faults s.out_faults in
+    inr (subst P (λ i. g.B.Nand.state (sym c.post_failed.ensures.inner i)) c.in-Err.ensures.err.faults)
+
+pub returns-else-has_room-clause-err : goal.returns-else-has_room-clause-err
+returns-else-has_room-clause-err g c =
+    let self = c.args.self.now in
+    let old : BoardState = g.B.Nand.state self.inner in
+    let P : ℕ → Type 0 = λ n. PostFailed (remap_board self.image self.work self.log self.counts old)
+    (remap_board self.image self.work self.log (record self.counts { out_faults = n }) old) c.args.bytes.now in
+    subst P (sym c.raise.ensures) (post_refused self.image self.work self.log self.counts old c.args.bytes.now)
+
+pub returns-else-has_room-clause-given : goal.returns-else-has_room-clause-given
+returns-else-has_room-clause-given g c =
+    let self = c.args.self.now in
+    sent_none self.image self.work self.log self.counts (g.B.Nand.state self.inner) c.args.bytes.now
+
+pub returns-else-has_room-clause-cause : goal.returns-else-has_room-clause-cause
+returns-else-has_room-clause-cause g c = inl (record { no_room = c.has_room.ensures.no c.if-has_room.false; same = refl })

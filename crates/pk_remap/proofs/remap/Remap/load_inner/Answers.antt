@@ -1,0 +1,76 @@
+use Rattle.std.proofs.Common.{refl, sym, ap, subst, ◌∙◌}
+use Rattle.std.specs.Prelude.{Err}
+use Rattle.pk_nand.specs.BoardState.{BoardState}
+use Rattle.pk_nand.specs.declared.types.LoadFault.{LoadFault}
+use Rattle.pk_remap.specs.declared.image.Image.TheVariants.{Missing}
+use Rattle.pk_remap.specs.Remapped.{is_open, is_sure, is_missing, remap_board, spares_left}
+use Rattle.pk_remap.specs.Causes.{LoadCause}
+use Rattle.pk_remap.specs.Answers.{LoadAnswers}
+use Rattle.pk_remap.proofs.Remapping.{no_bool, holds_closed}
+use Rattle.pk_remap.proofs.Opening.{unknown_refused, unknown_none, unknown_then, load_cause_refused, load_cause_from}
+use Rattle.pk_remap.proofs.remap.Remap.load_inner.Goals as goal
+
+pub invariant_of-self : goal.invariant_of-self
+invariant_of-self g c =
+    let self = c.args.self.now in
+    let h = self.holds in
+    record {
+      holds = holds_closed self.image self.work (g.N.Nand.state c.load.new.self) (ap is_open c.requires.unknown) (ap is_sure c.requires.unknown)
+          (λ e. no_bool (sym (ap is_missing c.requires.unknown) ∙ e)) h.shape_is h.few h.taken h.room;
+      logs = self.logs;
+    }
+
+pub invariant_of-self-in-Ok-None : goal.invariant_of-self-in-Ok-None
+invariant_of-self-in-Ok-None g c =
+    let self = c.args.self.now in
+    let h = self.holds in
+    record {
+      holds = holds_closed Missing self.work (g.N.Nand.state c.load.new.self) refl refl (λ e. c.in-Ok-None.ensures.ok.bare c.in-Ok-None.field-0-is) h.shape_is h.few h.taken h.room;
+      logs = record { unfit = λ e. self.logs.unfit (ap is_open c.requires.unknown); sized = λ e. no_bool e };
+    }
+
+pub open_image-requires-clause-ready : goal.open_image-requires-clause-ready
+open_image-requires-clause-ready g c = c.in-Ok-Some.ensures.ok.ready c.in-Ok-Some.found c.in-Ok-Some.field-0-is
+
+pub returns-in-Ok-Some-clause-answers : goal.returns-in-Ok-Some-clause-answers
+returns-in-Ok-Some-clause-answers g c =
+    let self = c.args.self.now in
+    let rest = c.in-Ok-Some.ensures.ok.rest in
+    unknown_then self.image c.requires.unknown self.work self.work self.log self.log self.counts (g.N.Nand.state self.inner) (g.N.Nand.state c.load.new.self)
+    (ap (λ s. s.input) rest) (ap (λ s. s.posted) rest) refl c.open_image.result _ c.open_image.ensures.answers
+
+pub returns-in-Ok-Some-clause-cause : goal.returns-in-Ok-Some-clause-cause
+returns-in-Ok-Some-clause-cause g c =
+    let self = c.args.self.now in
+    load_cause_from self.work.spares (g.N.Nand.state self.inner) (g.N.Nand.state c.load.new.self) (g.N.Nand.state c.open_image.new.self.inner) c.open_image.result _
+    (ap (λ s. s.flash_faults) c.in-Ok-Some.ensures.ok.rest) c.open_image.ensures.cause
+
+pub returns-in-Ok-None-clause-answers : goal.returns-in-Ok-None-clause-answers
+returns-in-Ok-None-clause-answers g c =
+    let self = c.args.self.now in
+    let rest = c.in-Ok-None.ensures.ok.rest in
+    unknown_none self.image c.requires.unknown self.work self.work self.log self.log self.counts (g.N.Nand.state self.inner) (g.N.Nand.state c.load.new.self)
+    (ap (λ s. s.input) rest) (ap (λ s. s.posted) rest) refl c.requires.none_bad
+
+pub returns-in-Ok-None-clause-cause : goal.returns-in-Ok-None-clause-cause
+returns-in-Ok-None-clause-cause g c = c.in-Ok-None.ensures.ok.shape_is ∙ c.in-Ok-None.field-0-is
+
+pub returns-in-Err-clause-answers : goal.returns-in-Err-clause-answers
+returns-in-Err-clause-answers g c =
+    let self = c.args.self.now in
+    let rest = c.in-Err.ensures.err.rest in
+    let own = unknown_refused self.image c.requires.unknown self.work self.work self.log self.log self.counts (g.N.Nand.state self.inner) (g.N.Nand.state c.load.new.self)
+    (ap (λ s. s.input) rest) (ap (λ s. s.posted) rest) refl c.in-Err.fault in
+    let T : LoadFault → Type 0 = λ f. LoadAnswers (remap_board self.image self.work self.log self.counts (g.N.Nand.state self.inner)) (Err f)
+    (remap_board c.refuse.new.self.image c.refuse.new.self.work c.refuse.new.self.log c.refuse.new.self.counts (g.N.Nand.state c.refuse.new.self.inner)) in
+    let U : BoardState → Type 0 = λ s. LoadAnswers (remap_board self.image self.work self.log self.counts (g.N.Nand.state self.inner)) (Err c.in-Err.fault) s in
+    subst T (sym c.refuse.ensures.fault) (subst U (sym c.refuse.ensures.board) own)
+
+pub returns-in-Err-clause-cause : goal.returns-in-Err-clause-cause
+returns-in-Err-clause-cause g c =
+    let self = c.args.self.now in
+    let own = load_cause_refused self.work.spares (g.N.Nand.state self.inner) (g.N.Nand.state c.load.new.self) c.in-Err.fault _ c.load.result c.in-Err.is c.load.ensures.fault c.load.ensures.bad in
+    let there = c.refuse.new.self in
+    let T : LoadFault → Type 0 = λ f. LoadCause self.work.spares (g.N.Nand.state self.inner) (Err f) (spares_left there.image there.work) (g.N.Nand.state there.inner) in
+    let U : BoardState → Type 0 = λ s. LoadCause self.work.spares (g.N.Nand.state self.inner) (Err c.in-Err.fault) (spares_left there.image there.work) s in
+    subst T (sym c.refuse.ensures.fault) (subst U (λ i. g.N.Nand.state (sym c.refuse.ensures.inner i)) own)

@@ -1,0 +1,68 @@
+use Rattle.std.proofs.Common.{refl, sym, ap, subst, ◌∙◌, Some, replicate}
+use Rattle.std.specs.Prelude.{Err}
+use Rattle.pk_base.specs.Shape.{Shape, page_count}
+use Rattle.pk_base.specs.Page.{erased}
+use Rattle.pk_nand.specs.BoardState.{BoardState}
+use Rattle.pk_nand.specs.declared.types.LoadFault.{LoadFault}
+use Rattle.pk_remap.specs.declared.image.Image.TheVariants.{Unknown}
+use Rattle.pk_remap.specs.Remapped.{is_open, is_missing, remap_board, spares_left}
+use Rattle.pk_remap.proofs.Remapping.{no_bool, holds_closed}
+use Rattle.pk_remap.proofs.Opening.{missing_failed, missing_then, make_cause_from, make_cause_refused}
+use Rattle.pk_remap.specs.Answers.{MakeAnswers}
+use Rattle.pk_remap.specs.Causes.{MakeCause}
+use Rattle.pk_remap.proofs.remap.Remap.make_with.Goals as goal
+
+pub make-requires : goal.make-requires
+make-requires g c = c.args.self.now.holds.missing (ap is_missing c.requires.missing)
+
+pub invariant_of-self : goal.invariant_of-self
+invariant_of-self g c =
+    let self = c.args.self.now in
+    let h = self.holds in
+    record {
+      holds = holds_closed Unknown self.work (g.N.Nand.state c.make.new.self) refl refl (λ e. no_bool e) h.shape_is h.few h.taken h.room;
+      logs = record { unfit = λ e. self.logs.unfit (ap is_open c.requires.missing); sized = λ e. no_bool e };
+    }
+
+pub make_table-requires-clause-made : goal.make_table-requires-clause-made
+make_table-requires-clause-made g c =
+    let made = c.in-Ok.ensures.ok in
+    record {
+      shape_is = made.shape_is ∙ ap (λ (s : Shape). Some s) c.requires.inner;
+      all_erased = made.all_erased ∙ ap (λ (s : Shape). replicate (page_count s) erased) c.requires.inner;
+    }
+
+pub returns-in-Ok-clause-answers : goal.returns-in-Ok-clause-answers
+returns-in-Ok-clause-answers g c =
+    let self = c.args.self.now in
+    let rest = c.in-Ok.ensures.ok.rest in
+    missing_then self.image c.requires.missing self.work self.log self.counts (g.N.Nand.state self.inner) (g.N.Nand.state c.make.new.self)
+    (ap (λ s. s.input) rest) (ap (λ s. s.posted) rest) c.args.shape c.make_table.result _ c.make_table.ensures.answers
+
+pub returns-in-Ok-clause-cause : goal.returns-in-Ok-clause-cause
+returns-in-Ok-clause-cause g c =
+    let self = c.args.self.now in
+    make_cause_from self.work.spares c.args.shape (g.N.Nand.state self.inner) (g.N.Nand.state c.make.new.self) (g.N.Nand.state c.make_table.new.self.inner)
+    c.make_table.result _ c.requires.allowed (ap (λ s. s.flash_faults) c.in-Ok.ensures.ok.rest) c.make_table.ensures.cause
+
+pub returns-in-Err-clause-answers : goal.returns-in-Err-clause-answers
+returns-in-Err-clause-answers g c =
+    let self = c.args.self.now in
+    let rest = c.in-Err.ensures.err in
+    let own = missing_failed self.image c.requires.missing self.work self.log self.counts (g.N.Nand.state self.inner) (g.N.Nand.state c.make.new.self)
+    (ap (λ s. s.input) rest) (ap (λ s. s.posted) rest) c.args.shape c.in-Err.fault
+    (λ at e. c.make.ensures.bad at (c.in-Err.is ∙ ap (λ (f : LoadFault). Err f) e)) in
+    let T : LoadFault → Type 0 = λ f. MakeAnswers (remap_board self.image self.work self.log self.counts (g.N.Nand.state self.inner)) c.args.shape (Err f)
+    (remap_board c.refuse.new.self.image c.refuse.new.self.work c.refuse.new.self.log c.refuse.new.self.counts (g.N.Nand.state c.refuse.new.self.inner)) in
+    let U : BoardState → Type 0 = λ s. MakeAnswers (remap_board self.image self.work self.log self.counts (g.N.Nand.state self.inner)) c.args.shape (Err c.in-Err.fault) s in
+    subst T (sym c.refuse.ensures.fault) (subst U (sym c.refuse.ensures.board) own)
+
+pub returns-in-Err-clause-cause : goal.returns-in-Err-clause-cause
+returns-in-Err-clause-cause g c =
+    let self = c.args.self.now in
+    let own = make_cause_refused self.work.spares c.args.shape (g.N.Nand.state self.inner) (g.N.Nand.state c.make.new.self) c.in-Err.fault _ c.make.result
+    c.requires.allowed c.in-Err.is c.make.ensures.fault c.make.ensures.bad in
+    let there = c.refuse.new.self in
+    let T : LoadFault → Type 0 = λ f. MakeCause self.work.spares c.args.shape (g.N.Nand.state self.inner) (Err f) (spares_left there.image there.work) (g.N.Nand.state there.inner) in
+    let U : BoardState → Type 0 = λ s. MakeCause self.work.spares c.args.shape (g.N.Nand.state self.inner) (Err c.in-Err.fault) (spares_left there.image there.work) s in
+    subst T (sym c.refuse.ensures.fault) (subst U (λ i. g.N.Nand.state (sym c.refuse.ensures.inner i)) own)

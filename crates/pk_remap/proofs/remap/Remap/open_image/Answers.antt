@@ -1,0 +1,78 @@
+use Rattle.std.proofs.Common.{◌≡◌, ℕ, refl, sym, ap, subst, ◌∙◌, arith}
+use Rattle.std.specs.Prelude.{Result, Err, IsErr, None}
+use Rattle.pk_base.specs.declared.shape.ShapeError.{ShapeError}
+use Rattle.pk_base.specs.Shape.{Shape}
+use Rattle.pk_nand.specs.BoardState.{BoardState}
+use Rattle.pk_nand.specs.Calls.{IsReady}
+use Rattle.pk_nand.specs.declared.types.LoadFault.{LoadFault}
+use Rattle.pk_nand.specs.declared.types.LoadFault.TheVariants.{BadImage}
+use Rattle.pk_remap.specs.declared.relocation.Relocation.{Relocation as InMemory}
+use Rattle.pk_remap.specs.Places.{inner_shape}
+use Rattle.pk_remap.specs.Remapped.{RemapHolds, is_open, is_sure, is_missing, spares_left, remap_board}
+use Rattle.pk_remap.specs.Causes.{LoadCause, no_outer_shape}
+use Rattle.pk_remap.proofs.Remapping.{no_bool, holds_closed}
+use Rattle.pk_remap.proofs.Opening.{with_spares, unknown_refused, unknown_then}
+use Rattle.pk_remap.specs.Answers.{LoadAnswers}
+use Rattle.pk_remap.proofs.remap.Remap.open_image.Goals as goal
+
+pub invariant_of-self : goal.invariant_of-self
+invariant_of-self g c =
+    let self = c.args.self.now in
+    let h = self.holds in
+    let inner : BoardState = g.N.Nand.state self.inner in
+    let P : InMemory → Type 0 = λ w. RemapHolds self.image w inner in
+    let fitted : InMemory = record self.work { shape = c.in-Ok.shape; number = 0; used = 0; top = 0; next = None; taken = 0 } in
+    record {
+      holds = subst P (sym c.fit.ensures)
+          (holds_closed self.image fitted inner (ap is_open c.requires.unknown) (ap is_sure c.requires.unknown) (λ e. no_bool (sym (ap is_missing c.requires.unknown) ∙ e))
+          c.known.ensures h.few (omega arith)
+          (record { fits = omega arith; all = h.room.all; kept_page = h.room.kept_page; new_page = h.room.new_page; read_page = h.room.read_page }));
+      logs = record { unfit = self.logs.unfit; sized = λ e. no_bool (sym (ap is_open c.requires.unknown) ∙ e) };
+    }
+
+pub open_table-requires-clause-ready : goal.open_table-requires-clause-ready
+open_table-requires-clause-ready g c =
+    let self = c.args.self.now in
+    let inner : BoardState = g.N.Nand.state self.inner in
+    let same : inner_shape c.in-Ok.shape self.work.spares ≡ c.args.found.now =
+    with_spares c.args.found.now c.in-Ok.shape self.work.spares (sym c.in-Ok.is ∙ c.outer_shape.ensures) c.known.ensures in
+    let P : Shape → Type 0 = λ s. IsReady inner s in
+    let Q : InMemory → Type 0 = λ w. IsReady inner (inner_shape w.shape w.spares) in
+    subst Q (sym c.fit.ensures) (subst P (sym same) c.requires.ready)
+
+pub open_table-requires-clause-none : goal.open_table-requires-clause-none
+open_table-requires-clause-none g c = ap (λ (w : InMemory). w.taken) c.fit.ensures
+
+pub returns-in-Ok-clause-answers : goal.returns-in-Ok-clause-answers
+returns-in-Ok-clause-answers g c =
+    let self = c.args.self.now in
+    unknown_then self.image c.requires.unknown self.work c.fit.new.self self.log self.log self.counts (g.N.Nand.state self.inner) (g.N.Nand.state self.inner)
+    refl refl refl c.open_table.result _ c.open_table.ensures.answers
+
+pub returns-in-Ok-clause-cause : goal.returns-in-Ok-clause-cause
+returns-in-Ok-clause-cause g c =
+    let self = c.args.self.now in
+    let there = c.open_table.new.self in
+    let P : ℕ → Type 0 = λ n. LoadCause n (g.N.Nand.state self.inner) c.open_table.result (spares_left there.image there.work) (g.N.Nand.state there.inner) in
+    subst P (ap (λ (w : InMemory). w.spares) c.fit.ensures) c.open_table.ensures.cause
+
+pub returns-in-Err-clause-answers : goal.returns-in-Err-clause-answers
+returns-in-Err-clause-answers g c =
+    let self = c.args.self.now in
+    let own = unknown_refused self.image c.requires.unknown self.work self.work self.log self.log self.counts (g.N.Nand.state self.inner) (g.N.Nand.state self.inner)
+    refl refl refl (BadImage 32) in
+    let T : LoadFault → Type 0 = λ f. LoadAnswers (remap_board self.image self.work self.log self.counts (g.N.Nand.state self.inner)) (Err f)
+    (remap_board c.refuse.new.self.image c.refuse.new.self.work c.refuse.new.self.log c.refuse.new.self.counts (g.N.Nand.state c.refuse.new.self.inner)) in
+    let U : BoardState → Type 0 = λ s. LoadAnswers (remap_board self.image self.work self.log self.counts (g.N.Nand.state self.inner)) (Err (BadImage 32)) s in
+    subst T (sym c.refuse.ensures.fault) (subst U (sym c.refuse.ensures.board) own)
+
+pub returns-in-Err-clause-cause : goal.returns-in-Err-clause-cause
+returns-in-Err-clause-cause g c =
+    let self = c.args.self.now in
+    let T : Result Shape ShapeError → Type 0 = λ r. IsErr r in
+    let own : LoadCause self.work.spares (g.N.Nand.state self.inner) (Err (BadImage 32)) (spares_left c.refuse.new.self.image c.refuse.new.self.work)
+    (g.N.Nand.state self.inner) = no_outer_shape c.args.found.now c.requires.ready.shape_is (subst T (sym c.in-Err.is ∙ c.outer_shape.ensures) refl) refl in
+    let there = c.refuse.new.self in
+    let T : LoadFault → Type 0 = λ f. LoadCause self.work.spares (g.N.Nand.state self.inner) (Err f) (spares_left there.image there.work) (g.N.Nand.state there.inner) in
+    let U : BoardState → Type 0 = λ s. LoadCause self.work.spares (g.N.Nand.state self.inner) (Err (BadImage 32)) (spares_left there.image there.work) s in
+    subst T (sym c.refuse.ensures.fault) (subst U (λ i. g.N.Nand.state (sym c.refuse.ensures.inner i)) own)

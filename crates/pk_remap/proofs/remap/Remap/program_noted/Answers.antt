@@ -1,0 +1,40 @@
+use Rattle.std.proofs.Common.{refl, ap, subst, ◌∙◌}
+use Rattle.std.specs.Prelude.{Result}
+use Rattle.pk_base.specs.Mark.{program}
+use Rattle.pk_nand.specs.declared.types.NandFault.{NandFault}
+use Rattle.pk_remap.specs.declared.counts.BoardCounts.{BoardCounts}
+use Rattle.pk_remap.specs.declared.mark_log.MarkLog.{MarkLog}
+use Rattle.pk_remap.specs.Logged.{told}
+use Rattle.pk_remap.specs.Remapped.{with_stop}
+use Rattle.pk_remap.specs.Causes.{MarkMade}
+use Rattle.pk_remap.proofs.Remapping.{log_sized}
+use Rattle.pk_remap.proofs.remap.Remap.program_noted.Goals as goal
+
+pub invariant_of-self : goal.invariant_of-self
+invariant_of-self g c =
+    let self = c.args.self.now in
+    record {
+      holds = self.holds;
+      logs = log_sized self.image self.image self.work.shape self.work.shape self.log c.note_program.new.self c.requires.opened c.requires.opened refl c.note_program.ensures.page self.logs;
+    }
+
+pub returns-in-Ok-clause-made : goal.returns-in-Ok-clause-made
+returns-in-Ok-clause-made g c =
+    let T : Result Unit NandFault → Type 0 = λ x. MarkMade c.args.self.now.work (program c.args.page c.args.bytes.now) (g.N.Nand.state c.args.self.now.inner) x
+    c.program_page.new.self.work (g.N.Nand.state c.program_page.new.self.inner) in
+    subst T c.in-Ok.is c.program_page.ensures.made
+
+pub returns-in-Ok-clause-told : goal.returns-in-Ok-clause-told
+returns-in-Ok-clause-told g c = ap (λ (l : MarkLog). told l) c.program_page.ensures.log ∙ c.note_program.ensures.told
+
+pub returns-in-Err-clause-made : goal.returns-in-Err-clause-made
+returns-in-Err-clause-made g c =
+    let T : Result Unit NandFault → Type 0 = λ x. MarkMade c.args.self.now.work (program c.args.page c.args.bytes.now) (g.N.Nand.state c.args.self.now.inner) x
+    c.program_page.new.self.work (g.N.Nand.state c.program_page.new.self.inner) in
+    subst T c.in-Err.is c.program_page.ensures.made
+
+pub returns-in-Err-clause-told : goal.returns-in-Err-clause-told
+returns-in-Err-clause-told g c = ap (λ (l : MarkLog). told l) c.program_page.ensures.log ∙ c.note_program.ensures.told
+
+pub returns-in-Err-clause-err : goal.returns-in-Err-clause-err
+returns-in-Err-clause-err g c = c.stop_failed.ensures ∙ ap (λ (k : BoardCounts). with_stop c.args.block k) c.program_page.ensures.counts

@@ -1,0 +1,55 @@
+-- The first table of a flash that was just made.
+use Rattle.std.specs.Prelude.{◌≡◌, ℕ, List, [], Some, Result, Ok, Err, replicate}
+use Rattle.pk_base.specs.Shape.{Shape, page_count}
+use Rattle.pk_base.specs.Page.{erased, IsPage}
+use Rattle.pk_nand.specs.BoardState.{BoardState}
+use Rattle.pk_nand.specs.Calls.{Rose, after_program}
+use Rattle.pk_nand.specs.Effects.{OnlyFlash}
+use Rattle.pk_nand.specs.declared.types.NandFault.{NandFault}
+use Rattle.pk_remap.specs.declared.relocation.Relocation.{Relocation as InMemory}
+use Rattle.pk_remap.specs.Table.{SpareTable, table_bytes}
+use Rattle.pk_remap.specs.Newest.{first_table_page}
+use Rattle.pk_remap.specs.Places.{inner_shape}
+use Rattle.pk_remap.specs.Remapped.{outer_pages}
+use Rattle.pk_remap.specs.Running.{HasPageBuffers, IsAtRest}
+
+-- by it no spare is used
+abbrev pub first_table : SpareTable
+first_table = record { number = 1; serves = [] }
+
+abbrev pub first_table_bytes : InMemory → List ℕ
+first_table_bytes r = table_bytes r.shape r.spares first_table
+
+-- the board was just made, with all pages Erased
+pub record IsMade (shape : Shape) (spares : ℕ) (board : BoardState) : Type 0 where
+  pub shape_is : board.shape ≡ Some (inner_shape shape spares)
+  pub all_erased : board.pages ≡ replicate (page_count (inner_shape shape spares)) erased
+
+-- and then the first table was programmed in the first page
+pub record IsHalfMade (r : InMemory) (made half : BoardState) : Type 0 where
+  pub was : IsMade r.shape r.spares made
+  pub full : IsPage r.shape (first_table_bytes r)
+  pub board : half ≡ after_program made (first_table_page r.shape r.spares) (first_table_bytes r)
+
+-- the first table was written: the outer flash has all pages Erased
+pub record FirstTableWritten (r : InMemory) (old : BoardState) (r' : InMemory) (new : BoardState) : Type 0 where
+  pub rests : IsAtRest r' new
+  pub shape : r'.shape ≡ r.shape
+  pub spares : r'.spares ≡ r.spares
+  pub none : r'.taken ≡ 0
+  pub unused : r'.used ≡ 0
+  pub shown : outer_pages r.shape r.spares new.pages ≡ replicate (page_count r.shape) erased
+  pub rest : OnlyFlash old new
+
+-- one of its programs failed
+pub record FirstTableFailed (r : InMemory) (old : BoardState) (r' : InMemory) (new : BoardState) : Type 0 where
+  pub faults : Rose old.flash_faults new.flash_faults
+  pub shape : r'.shape ≡ r.shape
+  pub spares : r'.spares ≡ r.spares
+  pub none : r'.taken ≡ 0
+  pub room : HasPageBuffers r'
+  pub rest : OnlyFlash old new
+
+abbrev pub FirstTableOutcome : InMemory → BoardState → Result Unit NandFault → InMemory → BoardState → Type 0
+FirstTableOutcome r old (Ok u) r' new = FirstTableWritten r old r' new
+FirstTableOutcome r old (Err e) r' new = FirstTableFailed r old r' new

@@ -1,0 +1,118 @@
+//! The worked rows: a program that fails in a session moves its block to a spare block, and five that fail use the spare blocks up.
+
+use crate::spared::{
+    BLOCK_PAGES, FIRST_TABLE_BLOCK, Failing, LIST, Ran, made, one, said, serve, serve_failing,
+};
+use pk_flash::{Flash, Left};
+use pk_nand::{Mark, PageState};
+use pk_test_scripts::program::{RECORDS, SCRIPT};
+use pk_top::Status;
+use std::alloc::Global;
+use std::process::Abort;
+use std::test::*;
+
+// How many erases a session makes before its first program, and the page of this program.
+fn first_program(rt: &impl Abort, flash: &Flash) -> (usize, u32) {
+    for mark in 0..flash.marks() {
+        if let Mark::Program { page, .. } = flash.mark(mark) {
+            return (mark, *page);
+        }
+    }
+    panic!(rt; "a program")
+}
+
+// The call of the first program of a value in the worked session: of the calls whose failure uses a spare block, the one after those that
+// erase.
+fn call_of_value(rt: &impl Abort, alloc: Global, pages: &[PageState], erases: usize) -> u64 {
+    let mut found = 0usize;
+    for call in 0..400u64 {
+        let failing = one(rt, alloc, call, Left::Untouched);
+        let ran = serve_failing(rt, alloc, pages, &SCRIPT, failing);
+        if ran.status == Status::DONE && ran.left == 3 {
+            if found == erases {
+                return call;
+            }
+            found = found.saturating_add(1);
+        }
+    }
+    panic!(rt; "a call that programs")
+}
+
+// The bytes of a page of the inner flash, if it is Whole.
+fn bytes_of(flash: &Flash, page: u32) -> Option<&[u8]> {
+    match flash.page(page) {
+        PageState::Whole(bytes) => Some(bytes.bytes()),
+        _ => None,
+    }
+}
+
+// The number of little-endian bytes from this place on.
+fn u16_at(bytes: &[u8], at: usize) -> u16 {
+    u16::from_le_bytes([bytes[at], bytes[at + 1]])
+}
+
+// The page pairs of the newest table says that one spare block is used, and that it serves this block.
+fn check_table(rt: &impl Abort, ran: &Ran, block: u32) {
+    let first = FIRST_TABLE_BLOCK * BLOCK_PAGES;
+    let mut newest = None;
+    for page in first..first + 2 * BLOCK_PAGES {
+        if let Some(bytes) = bytes_of(&ran.flash, page) {
+            if bytes[8] == 2 {
+                newest = Some(bytes);
+            }
+        }
+    }
+    match newest {
+        Some(bytes) => {
+            assert!(rt; &bytes[..8] == b"PINKSPAR".as_slice());
+            assert!(rt; u16_at(bytes, 24) == 4 && u16_at(bytes, 26) == 1);
+            assert!(rt; u32::from(u16_at(bytes, 32)) == block);
+        }
+        None => panic!(rt; "a table with number 2"),
+    }
+}
+
+/// The first program of the value is left Torn: the session is as without the fault, and three spare blocks are left.
+#[test]
+fn a_block_that_moves(rt: HostRuntime) {
+    let alloc = rt.alloc();
+    let pages = made(&rt, alloc);
+    let quiet = serve(&rt, alloc, &pages, &SCRIPT);
+    assert!(rt; quiet.status == Status::DONE && quiet.left == 4);
+    assert!(rt; quiet.flash.posted() == RECORDS.as_slice());
+    let (erases, page) = first_program(&rt, &quiet.flash);
+    let call = call_of_value(&rt, alloc, &pages, erases);
+    let failing = one(&rt, alloc, call, Left::Torn);
+    let ran = serve_failing(&rt, alloc, &pages, &SCRIPT, failing);
+    assert!(rt; ran.status == Status::DONE && ran.left == 3);
+    assert!(rt; ran.flash.posted() == RECORDS.as_slice());
+    check_table(&rt, &ran, page / BLOCK_PAGES);
+}
+
+// The call of this number and every second one after it, five in all.
+fn every_second(rt: &impl Abort, alloc: Global, call: u64) -> Vec<Failing> {
+    let mut all = Vec::new(alloc);
+    for number in 0..5u64 {
+        let call = call.saturating_add(2 * number);
+        let left = Left::Untouched;
+        all.push(Failing { call, left }).expect(rt, "memory");
+    }
+    all
+}
+
+/// Five programs fail one after another, each on the block or the spare block in use: the session stops with nothing posted. The map is
+/// empty when the drive is opened again, and no table was written, so four spare blocks are left.
+#[test]
+fn spare_blocks_that_are_used_up(rt: HostRuntime) {
+    let alloc = rt.alloc();
+    let pages = made(&rt, alloc);
+    let quiet = serve(&rt, alloc, &pages, &SCRIPT);
+    let (erases, _) = first_program(&rt, &quiet.flash);
+    let call = call_of_value(&rt, alloc, &pages, erases);
+    let ran = serve_failing(&rt, alloc, &pages, &SCRIPT, every_second(&rt, alloc, call));
+    assert!(rt; ran.status == Status::FLASH && ran.left == 0);
+    assert!(rt; ran.flash.posted().is_empty());
+    let pages = crate::spared::left(&rt, alloc, &ran.flash);
+    let again = said(&rt, alloc, &pages, &LIST, &[]);
+    assert!(rt; again.left == 4);
+}

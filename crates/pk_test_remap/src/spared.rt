@@ -1,0 +1,188 @@
+//! Boards with four spare blocks, and runs of the program over them. Whatever fails ends the test.
+
+use pk_base::Shape;
+use pk_flash::{Flash, Left, PageLeft, Room};
+use pk_nand::PageState;
+use pk_test_scripts::boards;
+use pk_test_scripts::script::{Answer, Ask, Value, records, script};
+use pk_top::{Status, run_spared};
+use std::alloc::Global;
+use std::process::Abort;
+use std::test::*;
+
+/// The words that make a drive of 64 blocks of 16 pages, with four spare blocks.
+pub const MAKE: [&str; 6] = ["spared", "4", "make", "512", "16", "64"];
+/// Those that serve the input of a board.
+pub const SERVE: [&str; 4] = ["spared", "4", "serve", "36"];
+/// Those that list all keys.
+pub const LIST: [&str; 3] = ["spared", "4", "list"];
+/// Those that ask for the value of the worked script.
+pub const GET: [&str; 4] = ["spared", "4", "get", "61"];
+
+/// The first block of the tables: after 64 blocks of the drive and four spare blocks.
+pub const FIRST_TABLE_BLOCK: u32 = 68;
+/// The pages of a block.
+pub const BLOCK_PAGES: u32 = 16;
+
+// Enough for any run of these trials.
+const ROOM: Room = Room {
+    posted: 4096,
+    marks: 400,
+};
+
+/// What became of a run: its status, how many spare blocks are left, and the inner board.
+#[derive(Drop)]
+pub struct Ran {
+    pub status: Status,
+    pub left: u16,
+    pub flash: Flash,
+}
+
+/// Calls of a run that fail, and what they leave.
+#[derive(Drop)]
+pub struct Failing {
+    pub call: u64,
+    pub left: Left,
+}
+
+/// What a failing call leaves, by its number; the last three are of a program of the second page of a pair.
+pub fn way(number: u8) -> Left {
+    match number {
+        0 => Left::Untouched,
+        1 => Left::Torn,
+        2 => Left::Done,
+        3 => Left::WithEven(PageLeft::Untouched),
+        4 => Left::WithEven(PageLeft::Torn),
+        _ => Left::WithEven(PageLeft::Done),
+    }
+}
+
+/// The value of a step that did not fail.
+pub fn done<T>(rt: &impl Abort, step: Result<T, Fail>) -> T {
+    match step {
+        Ok(value) => value,
+        Err(_) => panic!(rt; "a step that fails"),
+    }
+}
+
+/// The shape of the inner flash: the blocks of the drive, four spare blocks and two for tables.
+pub fn inner(rt: &impl Abort) -> Shape {
+    match Shape::new(512, 16, 70) {
+        Ok(shape) => shape,
+        Err(_) => panic!(rt; "a shape"),
+    }
+}
+
+/// The run of words over this inner board, which are not refused.
+pub fn run_over(rt: &impl Abort, alloc: Global, flash: Flash, words: &[&str]) -> Ran {
+    let (status, remap) = run_spared(alloc, words, flash, 0);
+    match remap {
+        Some(remap) => {
+            let left = remap.spares_left();
+            Ran {
+                status,
+                left,
+                flash: remap.into_inner(),
+            }
+        }
+        None => panic!(rt; "words that are refused"),
+    }
+}
+
+/// The pages that a board has now.
+pub fn left(rt: &impl Abort, alloc: Global, flash: &Flash) -> Vec<PageState> {
+    done(rt, boards::pages_left(alloc, flash))
+}
+
+/// Copies of these pages.
+fn copies(rt: &impl Abort, alloc: Global, pages: &[PageState]) -> Vec<PageState> {
+    let mut own = Vec::new(alloc);
+    for page in pages {
+        own.push(boards::copied(alloc, page).expect(rt, "memory"))
+            .expect(rt, "memory");
+    }
+    own
+}
+
+/// An inner board with copies of these pages, and this input.
+pub fn board_of(rt: &impl Abort, alloc: Global, pages: &[PageState], input: &[u8]) -> Flash {
+    let own = copies(rt, alloc, pages);
+    let input = input.to_vec(alloc).expect(rt, "memory");
+    done(rt, boards::board_in(alloc, inner(rt), own, input, ROOM))
+}
+
+/// The inner pages of a drive that was just made.
+pub fn made(rt: &impl Abort, alloc: Global) -> Vec<PageState> {
+    let flash = boards::blank(alloc, None, Vec::new(alloc)).expect(rt, "memory");
+    let ran = run_over(rt, alloc, flash, &MAKE);
+    assert!(rt; ran.status == Status::DONE && ran.left == 4);
+    left(rt, alloc, &ran.flash)
+}
+
+/// The session of this input on copies of these pages, in which these calls fail.
+pub fn serve_failing(
+    rt: &impl Abort,
+    alloc: Global,
+    pages: &[PageState],
+    input: &[u8],
+    failing: Vec<Failing>,
+) -> Ran {
+    let mut flash = board_of(rt, alloc, pages, input);
+    for one in failing {
+        flash.fail(alloc, one.call, one.left).expect(rt, "memory");
+    }
+    run_over(rt, alloc, flash, &SERVE)
+}
+
+/// The same, in which none does.
+pub fn serve(rt: &impl Abort, alloc: Global, pages: &[PageState], input: &[u8]) -> Ran {
+    serve_failing(rt, alloc, pages, input, Vec::new(alloc))
+}
+
+/// One call that fails.
+pub fn one(rt: &impl Abort, alloc: Global, call: u64, left: Left) -> Vec<Failing> {
+    let mut all = Vec::new(alloc);
+    all.push(Failing { call, left }).expect(rt, "memory");
+    all
+}
+
+/// What a word posts over copies of these pages, which ends with status 0.
+pub fn said(
+    rt: &impl Abort,
+    alloc: Global,
+    pages: &[PageState],
+    words: &[&str],
+    wanted: &[u8],
+) -> Ran {
+    let flash = board_of(rt, alloc, pages, &[]);
+    let ran = run_over(rt, alloc, flash, words);
+    assert!(rt; ran.status == Status::DONE && ran.flash.posted() == wanted);
+    ran
+}
+
+// What the next session asks: the value of the worked script, a Store of another value, and this value.
+const ASKS: [Ask; 3] = [
+    Ask::Retrieve(0x61),
+    Ask::Store(0x62, OTHER),
+    Ask::Retrieve(0x62),
+];
+
+const WORKED: Value = Value {
+    first: 0x61,
+    len: 3,
+};
+
+const OTHER: Value = Value { first: 7, len: 600 };
+
+/// The drive can be used: the value of the worked script is there, or, if it may lack, is not; and another value is stored and read.
+pub fn serves_on(rt: &impl Abort, alloc: Global, pages: &[PageState], may_lack: bool) {
+    let input = script(alloc, &ASKS).expect(rt, "memory");
+    let ran = serve(rt, alloc, pages, &input);
+    let has = [Answer::Found(WORKED), Answer::Done, Answer::Found(OTHER)];
+    let lacks = [Answer::Missing, Answer::Done, Answer::Found(OTHER)];
+    let has = records(alloc, &has).expect(rt, "memory");
+    let lacks = records(alloc, &lacks).expect(rt, "memory");
+    let posted = ran.flash.posted();
+    assert!(rt; ran.status == Status::DONE);
+    assert!(rt; posted == has.as_slice() || (may_lack && posted == lacks.as_slice()));
+}
