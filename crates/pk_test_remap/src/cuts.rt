@@ -1,16 +1,13 @@
 //! A session in which a block moves to a spare block is cut off at each call of the inner flash: what was answered is kept, and the drive
 //! serves on.
 
-use crate::spared::{Failing, left, made, one, serve_failing, serves_on, way};
+use crate::spared::{Failing, left, made, moving, one, serve_failing, serves_on, way};
 use pk_flash::Left;
 use pk_nand::PageState;
 use pk_test_scripts::program::SCRIPT;
 use std::alloc::Global;
 use std::process::Abort;
 use std::test::*;
-
-// More calls than the session has.
-const CALLS: u64 = 200;
 
 // A fault, and a cut after it: every call from the cut on fails, and nothing is done after the one at the cut.
 fn cut_at(rt: &impl Abort, alloc: Global, fault: u64, cut: u64, number: u8) -> Vec<Failing> {
@@ -24,9 +21,9 @@ fn cut_at(rt: &impl Abort, alloc: Global, fault: u64, cut: u64, number: u8) -> V
     all
 }
 
-// The session with a fault is cut off at this call, in each way, and the drive is used after it.
+// The session with a fault is cut off at this call, which is left undone, Torn or done, and the drive is used after it.
 fn check_cut(rt: &impl Abort, alloc: Global, pages: &[PageState], fault: u64, cut: u64) {
-    for number in 0..6u8 {
+    for number in 0..3u8 {
         let failing = cut_at(rt, alloc, fault, cut, number);
         let ran = serve_failing(rt, alloc, pages, &SCRIPT, failing);
         let stored = ran.flash.posted().len() >= 24;
@@ -34,17 +31,14 @@ fn check_cut(rt: &impl Abort, alloc: Global, pages: &[PageState], fault: u64, cu
     }
 }
 
-/// Each call that moves a block fails, and the session is cut off at each of the eight calls after it.
+/// Each of four calls that move a block fails, and the session is cut off at each of the six calls after it.
 #[test]
 fn a_move_that_is_cut_off(rt: HostRuntime) {
     let alloc = rt.alloc();
     let pages = made(&rt, alloc);
-    for fault in 0..CALLS {
-        let failing = one(&rt, alloc, fault, Left::Torn);
-        if serve_failing(&rt, alloc, &pages, &SCRIPT, failing).left == 3 {
-            for more in 1..9u64 {
-                check_cut(&rt, alloc, &pages, fault, fault.saturating_add(more));
-            }
+    for fault in &moving(&rt, alloc, &pages) {
+        for more in 1..7u64 {
+            check_cut(&rt, alloc, &pages, *fault, fault.saturating_add(more));
         }
     }
 }

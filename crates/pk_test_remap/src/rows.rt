@@ -1,7 +1,8 @@
 //! The worked rows: a program that fails in a session moves its block to a spare block, and five that fail use the spare blocks up.
 
 use crate::spared::{
-    BLOCK_PAGES, FIRST_TABLE_BLOCK, Failing, LIST, Ran, made, one, said, serve, serve_failing,
+    BLOCK_PAGES, FIRST_TABLE_BLOCK, Failing, LIST, Ran, call_after_opening, made, one, said, serve,
+    serve_failing,
 };
 use pk_flash::{Flash, Left};
 use pk_nand::{Mark, PageState};
@@ -24,8 +25,10 @@ fn first_program(rt: &impl Abort, flash: &Flash) -> (usize, u32) {
 // The call of the first program of a value in the worked session: of the calls whose failure uses a spare block, the one after those that
 // erase.
 fn call_of_value(rt: &impl Abort, alloc: Global, pages: &[PageState], erases: usize) -> u64 {
+    let quiet = serve(rt, alloc, pages, &SCRIPT);
+    let start = call_after_opening(&quiet.flash);
     let mut found = 0usize;
-    for call in 0..400u64 {
+    for call in start..start.saturating_add(40) {
         let failing = one(rt, alloc, call, Left::Untouched);
         let ran = serve_failing(rt, alloc, pages, &SCRIPT, failing);
         if ran.status == Status::DONE && ran.left == 3 {

@@ -4,6 +4,7 @@ use pk_base::Shape;
 use pk_flash::{Flash, Left, PageLeft, Room};
 use pk_nand::PageState;
 use pk_test_scripts::boards;
+use pk_test_scripts::program::SCRIPT;
 use pk_test_scripts::script::{Answer, Ask, Value, records, script};
 use pk_top::{Status, run_spared};
 use std::alloc::Global;
@@ -158,6 +159,27 @@ pub fn said(
     let ran = run_over(rt, alloc, flash, words);
     assert!(rt; ran.status == Status::DONE && ran.flash.posted() == wanted);
     ran
+}
+
+/// The number of a call near the end of the opening of the worked session, after which it programs and erases.
+pub fn call_after_opening(flash: &Flash) -> u64 {
+    flash.read_count().saturating_sub(12)
+}
+
+/// The first calls of the worked session whose failure moves a block to a spare block, four of them.
+pub fn moving(rt: &impl Abort, alloc: Global, pages: &[PageState]) -> Vec<u64> {
+    let quiet = serve(rt, alloc, pages, &SCRIPT);
+    let start = call_after_opening(&quiet.flash);
+    let mut found = Vec::new(alloc);
+    for call in start..start.saturating_add(40) {
+        let failing = one(rt, alloc, call, Left::Torn);
+        let ran = serve_failing(rt, alloc, pages, &SCRIPT, failing);
+        if ran.left == 3 && found.len() < 4 {
+            found.push(call).expect(rt, "memory");
+        }
+    }
+    assert!(rt; found.len() == 4);
+    found
 }
 
 // What the next session asks: the value of the worked script, a Store of another value, and this value.

@@ -226,7 +226,7 @@ tells_ask task old new status (no_image missing) = tells_no_drive old new status
 tells_ask task old new status (has_image found) = tells_asks found.shape old found.loaded new found.found task status found.asks
 
 pub memory_ask : (task : Task) (old new : BoardState) (status : ℕ) → AskRun task old new status → status ≡ 7 → Untouched old new
-memory_ask task old new status (no_memory is same) is = untouched_same old new same
+memory_ask task old new status (no_memory tells same) is = untouched_same old new same
 memory_ask task old new status (not_loaded refused) is = refused_untouched old new (wants_sound old new refused.fault (sym refused.tells ∙ is) refused.reason) refused.failed
 memory_ask task old new status (no_image missing) is = load_untouched old new None missing.found
 memory_ask task old new status (has_image found) is = memory_asks found.shape old found.loaded new found.found task status found.asks is

@@ -32,14 +32,19 @@ run_of : (shape : Shape) (terms : Terms) (m : Map) (xs : List Exchange) (m' : Ma
 run_of shape terms m [] m' e = e
 run_of shape terms m (x ∷ xs) m' (next, step, rest) = (next, step.0, run_of shape terms next xs m' rest)
 
+none_of : (a b : ℕ) → a + b ≡ 0 → (a ≡ 0) × (b ≡ 0)
+none_of a b sum = (omega arith, omega arith)
+
+none_both : (a b : ℕ) → a ≡ 0 → b ≡ 0 → a + b ≡ 0
+none_both a b first rest = omega arith
+
 faults_in : (space : ℕ) (xs : List Exchange) → faults xs ≡ 0 → faults (exchanges_in space xs) ≡ 0
 faults_in space [] none = refl
 faults_in space (x ∷ xs) none =
-    let first : (if x.reply.status == 0x88 then 1 else 0) ≡ 0 = omega arith in
-    let rest : faults xs ≡ 0 = omega arith in
+    let parts = none_of _ (faults xs) none in
     elim (x.command.namespace == space) as (λ b. faults (if b then record x { command = command_alone x.command } ∷ exchanges_in space xs else exchanges_in space xs) ≡ 0) [
-      | true ↦ (let more = faults_in space xs rest in omega (arith, first, more))
-      | false ↦ faults_in space xs rest
+      | true ↦ none_both _ (faults (exchanges_in space xs)) parts.0 (faults_in space xs parts.1)
+      | false ↦ faults_in space xs parts.1
     ]
 
 -- ---- a script that was served
@@ -117,4 +122,4 @@ module _ (frames : ℕ) (old new : BoardState) (status : ℕ) where
   isolated_whole (no_memory is same) shape has done = absurd (omega (arith, is, done))
   isolated_whole (not_loaded refused) shape has done = absurd (load_not_done refused.fault refused.tells done)
   isolated_whole (no_image missing) shape has done = absurd (let tells = missing.tells in omega (arith, tells, done))
-  isolated_whole (has_image found) = isolated_found found
+  isolated_whole (has_image found) shape has done = isolated_found found shape has done

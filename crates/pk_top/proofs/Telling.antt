@@ -221,7 +221,7 @@ tells_serve frames old new status (no_image missing) = tells_no_drive old new st
 tells_serve frames old new status (has_image found) = tells_serves found.shape old found.loaded new found.found frames status found.serves
 
 pub memory_serve : (frames : ℕ) (old new : BoardState) (status : ℕ) → ServeRun frames old new status → status ≡ 7 → Untouched old new
-memory_serve frames old new status (no_memory is same) is = untouched_same old new same
+memory_serve frames old new status (no_memory tells same) is = untouched_same old new same
 memory_serve frames old new status (not_loaded refused) is = refused_untouched old new (wants_sound old new refused.fault (sym refused.tells ∙ is) refused.reason) refused.failed
 memory_serve frames old new status (no_image missing) is = load_untouched old new None missing.found
 memory_serve frames old new status (has_image found) is = memory_serves found.shape old found.loaded new found.found frames status found.serves is

@@ -50,22 +50,22 @@ spared_form _ = None
 -- ---- a run
 
 -- What `run` promises of these words, between the states of a board before and after it, with this status.
-pub record RunsOver (words : List (List ℕ)) (old new : BoardState) (status : ℕ) : Type 0 where
+pub record RunsOver (asked : List (List ℕ)) (old new : BoardState) (status : ℕ) : Type 0 where
   -- the words, the status and its cause
-  pub words : status ≡ WORDS.0 → (word_of words ≡ None) × (new ≡ old)
-  pub no_words : word_of words ≡ None → (new ≡ old) × ((status ≡ WORDS.0) ⊎ (status ≡ MEMORY.0))
+  pub words : status ≡ WORDS.0 → (word_of asked ≡ None) × (new ≡ old)
+  pub no_words : word_of asked ≡ None → (new ≡ old) × ((status ≡ WORDS.0) ⊎ (status ≡ MEMORY.0))
   pub tells : (status ≡ WORDS.0) ⊎ Tells old new status
-  pub memory : ((shape : Shape) → word_of words ≢ Some (make shape)) → status ≡ MEMORY.0 → Untouched old new
+  pub memory : ((shape : Shape) → word_of asked ≢ Some (make shape)) → status ≡ MEMORY.0 → Untouched old new
   -- the words that touch the flash
-  pub makes : (shape : Shape) → word_of words ≡ Some (make shape) → MakeRun shape old new status
-  pub made : (shape : Shape) → word_of words ≡ Some (make shape) → status ≡ DONE.0 → IsMade shape new
-  pub serves : (frames : ℕ) → word_of words ≡ Some (serve frames) → ServeRun frames old new status
-  pub asks : (task : Task) → word_of words ≡ Some (ask task) → AskRun task old new status
-  pub asks_whole : (task : Task) → word_of words ≡ Some (ask task) → AsksWhole task old new status
-  pub serves_whole : (frames : ℕ) → word_of words ≡ Some (serve frames) → ServesWhole frames old new status
+  pub makes : (shape : Shape) → word_of asked ≡ Some (make shape) → MakeRun shape old new status
+  pub made : (shape : Shape) → word_of asked ≡ Some (make shape) → status ≡ DONE.0 → IsMade shape new
+  pub serves : (frames : ℕ) → word_of asked ≡ Some (serve frames) → ServeRun frames old new status
+  pub asks : (task : Task) → word_of asked ≡ Some (ask task) → AskRun task old new status
+  pub asks_whole : (task : Task) → word_of asked ≡ Some (ask task) → AsksWhole task old new status
+  pub serves_whole : (frames : ℕ) → word_of asked ≡ Some (serve frames) → ServesWhole frames old new status
   -- each namespace is answered as a drive answers that has it alone
-  pub isolated : (frames : ℕ) → word_of words ≡ Some (serve frames) → IsolatesWhole frames old new status
+  pub isolated : (frames : ℕ) → word_of asked ≡ Some (serve frames) → IsolatesWhole frames old new status
   -- those that touch no flash, and what any word leaves of it
-  pub assembles : word_of words ≡ Some assemble → TextRun assembled old new status
-  pub shows : word_of words ≡ Some show → TextRun shown old new status
-  pub rests : Rests (word_of words) old new
+  pub assembles : word_of asked ≡ Some assemble → TextRun assembled old new status
+  pub shows : word_of asked ≡ Some show → TextRun shown old new status
+  pub rests : Rests (word_of asked) old new

@@ -19,7 +19,7 @@ pub struct Spared<'a> {
 }
 
 /// Whether the operands are a key and a value whose length is a field of an entry.
-#[tactic(auto, using(crate::proofs::Judging::put_judged))]
+#[tactic(auto, using(crate::proofs::Judging::two_judged))]
 fn is_put(operands: &[&str]) -> bool
     ensures { result ≡ is_some (spec.put_of (map (λ w. w.now) operands.now)) }
 {
@@ -49,7 +49,7 @@ fn fits(spares: u16, word: &Word) -> bool
 }
 
 /// Whether words may be obeyed over a flash with so many spare blocks.
-#[tactic(auto, unfolding(crate::specs::Words::word_of))]
+#[tactic(auto, unfolding(crate::specs::Words::word_of), using(crate::proofs::Judging::put_fits))]
 fn may_obey(spares: u16, words: &[&str]) -> bool
     requires { spares ≤ MOST_SPARES }
     ensures { result ≡ spared.fits_spares_if spares (spec.word_of (map (λ w. w.now) words.now)) }
@@ -67,6 +67,7 @@ fn may_obey(spares: u16, words: &[&str]) -> bool
 }
 
 /// The words after the number, over this many spare blocks.
+#[tactic(auto, using(crate::proofs::Judging::spared_some, crate::proofs::Judging::spared_unfit, crate::proofs::Judging::spared_none, crate::proofs::Judging::spared_many))]
 fn with_spares<'a>(spares: u32, rest: &'a [&'a str]) -> Option<Spared<'a>>
     ensures seen { option_map seen_spared result
         ≡ spared.spared_with (map (λ w. w.now) rest.now) spares }

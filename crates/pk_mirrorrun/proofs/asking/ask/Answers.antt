@@ -13,7 +13,8 @@ answer_pair-requires-clause-pair g c = told_pair c.args.mirror.now c.args.shape
     (mount (g.B.Nand.state c.args.first.now) (g.D.Engine.sight c.args.first_drive.now))
     (mount (g.C.Nand.state c.args.second.now) (g.E.Engine.sight c.args.second_drive.now))
     c.args.first_tally.now.faults c.args.second_tally.now.faults c.requires.mirror
-    (mounted_one _ _ _ c.requires.first_runs.shape_is) (mounted_one _ _ _ c.requires.second_runs.shape_is) c.requires.first_runs.map c.requires.second_runs.map
+    (mounted_one c.args.shape (g.B.Nand.state c.args.first.now) (g.D.Engine.sight c.args.first_drive.now) c.requires.first_runs.shape_is)
+    (mounted_one c.args.shape (g.C.Nand.state c.args.second.now) (g.E.Engine.sight c.args.second_drive.now) c.requires.second_runs.shape_is) c.requires.first_runs.map c.requires.second_runs.map
     c.requires.first_runs.holds c.requires.second_runs.holds
 
 pub returns-clause-said : goal.returns-clause-said

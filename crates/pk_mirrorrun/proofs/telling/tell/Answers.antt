@@ -12,8 +12,10 @@ returns-in-Some g c = λ m other held also. tells-halted (seen c.args.task.now) 
     (standing (g.C.Nand.state c.args.second.now) (g.E.Engine.sight c.args.second_drive.now) c.new-second_tally.result.faults c.new-second_tally.result.halt)
     (standing (g.C.Nand.state c.ask-answered.new.second) (g.E.Engine.sight c.ask-answered.new.second_drive) c.ask-answered.new.second_tally.faults c.ask-answered.new.second_tally.halt)
     c.requires.first_runs.shape_is c.requires.second_runs.shape_is held also
-    (begins_as c.args.shape m _ _ _ _ c.requires.first_runs held)
-    (begins_as c.args.shape other _ _ _ _ c.requires.second_runs also) c.requires.first_runs.runs c.requires.second_runs.runs c.ask-answered.ensures.first
+    (begins_as c.args.shape m (g.B.Nand.state c.args.first.now) (g.D.Engine.sight c.args.first_drive.now) c.new-first_tally.result.faults c.new-first_tally.result.halt c.requires.first_runs held)
+    (begins_as c.args.shape other (g.C.Nand.state c.args.second.now)
+    (g.E.Engine.sight c.args.second_drive.now) c.new-second_tally.result.faults c.new-second_tally.result.halt c.requires.second_runs also)
+    c.requires.first_runs.runs c.requires.second_runs.runs c.ask-answered.ensures.first
     c.ask-answered.ensures.second c.new-first_tally.ensures.halt c.new-second_tally.ensures.halt c.in-Some.end (sym c.in-Some.is ∙ c.end_by.ensures)
 
 pub returns-in-Ok-say : goal.returns-in-Ok-say
@@ -24,8 +26,10 @@ returns-in-Ok-say g c = λ m other held also.
     (standing (g.C.Nand.state c.args.second.now) (g.E.Engine.sight c.args.second_drive.now) c.new-second_tally.result.faults c.new-second_tally.result.halt)
     (standing (g.C.Nand.state c.ask-answered.new.second) (g.E.Engine.sight c.ask-answered.new.second_drive) c.ask-answered.new.second_tally.faults c.ask-answered.new.second_tally.halt)
     c.requires.first_runs.shape_is c.requires.second_runs.shape_is held also
-    (begins_as c.args.shape m _ _ _ _ c.requires.first_runs held)
-    (begins_as c.args.shape other _ _ _ _ c.requires.second_runs also) c.requires.first_runs.runs c.requires.second_runs.runs c.ask-answered.ensures.first
+    (begins_as c.args.shape m (g.B.Nand.state c.args.first.now) (g.D.Engine.sight c.args.first_drive.now) c.new-first_tally.result.faults c.new-first_tally.result.halt c.requires.first_runs held)
+    (begins_as c.args.shape other (g.C.Nand.state c.args.second.now)
+    (g.E.Engine.sight c.args.second_drive.now) c.new-second_tally.result.faults c.new-second_tally.result.halt c.requires.second_runs also)
+    c.requires.first_runs.runs c.requires.second_runs.runs c.ask-answered.ensures.first
     c.ask-answered.ensures.second c.new-first_tally.ensures.halt c.new-second_tally.ensures.halt
     (sym c.end_by.ensures ∙ c.in-None.is) c.ask-answered.new.room.text (c.in-Ok.ensures.said m held) (g.B.Nand.state c.say.new.board)
     (c.in-Ok-say.ensures.posts ∙ ap (λ (t : List ℕ). after_post (g.B.Nand.state c.ask-answered.new.first) t) c.text.ensures)
@@ -39,8 +43,10 @@ returns-in-Err-say g c = λ m other held also.
     (standing (g.C.Nand.state c.args.second.now) (g.E.Engine.sight c.args.second_drive.now) c.new-second_tally.result.faults c.new-second_tally.result.halt)
     (standing (g.C.Nand.state c.ask-answered.new.second) (g.E.Engine.sight c.ask-answered.new.second_drive) c.ask-answered.new.second_tally.faults c.ask-answered.new.second_tally.halt)
     c.requires.first_runs.shape_is c.requires.second_runs.shape_is held also
-    (begins_as c.args.shape m _ _ _ _ c.requires.first_runs held)
-    (begins_as c.args.shape other _ _ _ _ c.requires.second_runs also) c.requires.first_runs.runs c.requires.second_runs.runs c.ask-answered.ensures.first
+    (begins_as c.args.shape m (g.B.Nand.state c.args.first.now) (g.D.Engine.sight c.args.first_drive.now) c.new-first_tally.result.faults c.new-first_tally.result.halt c.requires.first_runs held)
+    (begins_as c.args.shape other (g.C.Nand.state c.args.second.now)
+    (g.E.Engine.sight c.args.second_drive.now) c.new-second_tally.result.faults c.new-second_tally.result.halt c.requires.second_runs also)
+    c.requires.first_runs.runs c.requires.second_runs.runs c.ask-answered.ensures.first
     c.ask-answered.ensures.second c.new-first_tally.ensures.halt c.new-second_tally.ensures.halt (sym c.end_by.ensures ∙ c.in-None.is) c.ask-answered.new.room.text
     (c.in-Ok.ensures.said m held) (g.B.Nand.state c.say.new.board) (subst T c.text.ensures c.in-Err-say.ensures.fails)
 
@@ -51,7 +57,10 @@ unreachable-requires g c = faults-never (seen c.args.task.now) c.args.shape c.re
     (standing (g.C.Nand.state c.args.second.now) (g.E.Engine.sight c.args.second_drive.now) c.new-second_tally.result.faults c.new-second_tally.result.halt)
     (standing (g.C.Nand.state c.ask-answered.new.second) (g.E.Engine.sight c.ask-answered.new.second_drive) c.ask-answered.new.second_tally.faults c.ask-answered.new.second_tally.halt)
     c.requires.first_runs.shape_is c.requires.second_runs.shape_is c.requires.first_runs.holds c.requires.second_runs.holds
-    (begins_as c.args.shape _ _ _ _ _ c.requires.first_runs c.requires.first_runs.holds)
-    (begins_as c.args.shape _ _ _ _ _ c.requires.second_runs c.requires.second_runs.holds) c.requires.first_runs.runs c.requires.second_runs.runs
+    (begins_as c.args.shape c.requires.first_runs.map (g.B.Nand.state c.args.first.now)
+    (g.D.Engine.sight c.args.first_drive.now) c.new-first_tally.result.faults c.new-first_tally.result.halt c.requires.first_runs c.requires.first_runs.holds)
+    (begins_as c.args.shape c.requires.second_runs.map (g.C.Nand.state c.args.second.now)
+    (g.E.Engine.sight c.args.second_drive.now) c.new-second_tally.result.faults c.new-second_tally.result.halt c.requires.second_runs c.requires.second_runs.holds)
+    c.requires.first_runs.runs c.requires.second_runs.runs
     c.ask-answered.ensures.first c.ask-answered.ensures.second c.new-first_tally.ensures.halt c.new-second_tally.ensures.halt
     (sym c.end_by.ensures ∙ c.in-None.is) c.new-first_tally.ensures.faults c.new-second_tally.ensures.faults c.in-Err.ensures.fault

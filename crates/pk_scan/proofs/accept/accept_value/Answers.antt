@@ -17,3 +17,6 @@ pub returns-in-Err-clause-err : goal.returns-in-Err-clause-err
 returns-in-Err-clause-err g c taken lives uses =
     refused_value c.args.shape.now c.args.limits.now.each (owned_blocks c.args.pool.now) taken c.args.key.now c.args.place (g.B.Nand.state c.args.board.now) (g.B.Nand.state c.check_value.new.board) c.in-Err.error
     (sym (c.take_value.ensures.fits taken lives uses) ∙ c.if-not-take_value.false) c.in-Err.ensures.err
+
+pub returns-in-Ok-clause-used : goal.returns-in-Ok-clause-used
+returns-in-Ok-clause-used g c taken uses = c.take_value.ensures.used c.if-not-take_value.false taken uses

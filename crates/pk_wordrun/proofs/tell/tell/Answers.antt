@@ -13,7 +13,8 @@ pub returns-in-Ok-say : goal.returns-in-Ok-say
 returns-in-Ok-say g c = λ start holds.
     told-done (seen c.args.question.now) c.args.shape start (mount (g.B.Nand.state c.args.board.now) (g.D.Engine.sight c.args.drive.now))
     (mount (g.B.Nand.state c.ask.new.board) (g.D.Engine.sight c.ask.new.drive))
-    c.requires.on_board holds (mounted_limits _ _ _ c.requires.on_board) c.in-Ok.ensures.turns.0 c.in-Ok.ensures.turns.1 c.ask.new.words.text c.in-Ok.ensures.said (g.B.Nand.state c.say.new.board)
+    c.requires.on_board holds (mounted_limits c.args.shape (g.B.Nand.state c.args.board.now) (g.D.Engine.sight c.args.drive.now) c.requires.on_board)
+    c.in-Ok.ensures.turns.0 c.in-Ok.ensures.turns.1 c.ask.new.words.text c.in-Ok.ensures.said (g.B.Nand.state c.say.new.board)
     (c.in-Ok-say.ensures.posts ∙ ap (λ (t : List ℕ). after_post (g.B.Nand.state c.ask.new.board) t) c.text.ensures)
 
 pub returns-in-Err-say : goal.returns-in-Err-say
@@ -21,7 +22,8 @@ returns-in-Err-say g c = λ start holds.
     let T : List ℕ → Type 0 = λ t. PostFailed (g.B.Nand.state c.ask.new.board) (g.B.Nand.state c.say.new.board) t in
     told-output (seen c.args.question.now) c.args.shape start (mount (g.B.Nand.state c.args.board.now) (g.D.Engine.sight c.args.drive.now))
     (mount (g.B.Nand.state c.ask.new.board) (g.D.Engine.sight c.ask.new.drive))
-    c.requires.on_board holds (mounted_limits _ _ _ c.requires.on_board) c.in-Ok.ensures.turns.0 c.in-Ok.ensures.turns.1 c.ask.new.words.text c.in-Ok.ensures.said (g.B.Nand.state c.say.new.board)
+    c.requires.on_board holds (mounted_limits c.args.shape (g.B.Nand.state c.args.board.now) (g.D.Engine.sight c.args.drive.now) c.requires.on_board)
+    c.in-Ok.ensures.turns.0 c.in-Ok.ensures.turns.1 c.ask.new.words.text c.in-Ok.ensures.said (g.B.Nand.state c.say.new.board)
     (subst T c.text.ensures c.in-Err-say.ensures.fails)
 
 pub returns-in-Err : goal.returns-in-Err
@@ -31,4 +33,5 @@ returns-in-Err g c = λ start holds.
     subst T (sym c.end_of.ensures)
     (told-fails (seen c.args.question.now) c.args.shape start (mount (g.B.Nand.state c.args.board.now) (g.D.Engine.sight c.args.drive.now))
     (mount (g.B.Nand.state c.ask.new.board) (g.D.Engine.sight c.ask.new.drive))
-    c.requires.on_board holds (mounted_limits _ _ _ c.requires.on_board) c.in-Err.halt c.requires.runs c.in-Err.ensures.turns)
+    c.requires.on_board holds (mounted_limits c.args.shape (g.B.Nand.state c.args.board.now) (g.D.Engine.sight c.args.drive.now) c.requires.on_board)
+    c.in-Err.halt c.requires.runs c.in-Err.ensures.turns)
