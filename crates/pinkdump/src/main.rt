@@ -57,7 +57,7 @@ impl Refused {
 
 /// What the words ask for: the form, and how many spare blocks the image has, if it has some.
 #[derive(Clone, Copy)]
-struct Asked<'a> {
+struct Request<'a> {
     image: &'a str,
     spares: Option<u16>,
     form: Form,
@@ -105,7 +105,7 @@ fn text_of_spared(
 }
 
 /// Prints the image that is asked for.
-fn tell(rt: &HostRuntime, asked: &Asked) -> Result<(), Refused> {
+fn tell(rt: &HostRuntime, asked: &Request) -> Result<(), Refused> {
     let text = match asked.spares {
         None => text_of(rt, &mut FileBoard::new(rt, asked.image), asked.form)?,
         Some(spares) => text_of_spared(rt, asked.image, spares, asked.form)?,
@@ -126,15 +126,15 @@ fn form_of(words: &[String]) -> Option<Form> {
 }
 
 /// What the words ask for.
-fn asked(words: &[String]) -> Option<Asked<'_>> {
+fn asked(words: &[String]) -> Option<Request<'_>> {
     let (image, rest) = words.split_first()?;
     match rest {
-        [word, spares, form @ ..] if word.as_str() == "spared" => Some(Asked {
+        [word, spares, form @ ..] if word.as_str() == "spared" => Some(Request {
             image: image.as_str(),
             spares: Some(spares.as_str().parse::<u16>().ok()?),
             form: form_of(form)?,
         }),
-        form => Some(Asked {
+        form => Some(Request {
             image: image.as_str(),
             spares: None,
             form: form_of(form)?,

@@ -1,6 +1,6 @@
 -- Marks that are noted in a log.
 use Rattle.std.proofs.Common.{◌≡◌, inl, inr, ℕ, zero, suc, ◌+◌, ◌*◌, ◌<◌, ◌≤◌, List, [], ◌∷◌, ◌++◌, length, take, drop, refl, ap, ◌∙◌, arith}
-use Rattle.std.specs.Prelude.{max, nat_lt, Bool, true, false, Result, Ok, Err, IsOk, is_ok, if◌then◌else◌}
+use Rattle.std.specs.Prelude.{OnOk, max, nat_lt, Bool, true, false, Result, Ok, Err, IsOk, is_ok, if◌then◌else◌}
 use Rattle.std.proofs.lemmas.Bool.Decides.{nat_tests}
 use Rattle.std.proofs.lemmas.Grind.{div_ceil_times}
 use Rattle.std.specs.Int.{div_ceil}
@@ -103,3 +103,8 @@ told_unfit log unfit =
     no_marks_of : (marks : List NotedMark) (bytes : List ℕ) → length marks ≡ 0 → noted_marks marks bytes ≡ []
     no_marks_of [] bytes e = refl
     no_marks_of (m ∷ ms) bytes e = absurd (omega (arith, e))
+
+-- a fact whatever the call answers
+pub if_ok : {X E : Type 0} (r : Result X E) (P : Type 0) → P → OnOk r P
+if_ok (Ok x) P p = p
+if_ok (Err e) P p = tt

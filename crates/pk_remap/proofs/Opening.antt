@@ -393,14 +393,14 @@ ok_or_err (Err e) ok err = let no : false ≡ true = ok in cc
 pub make_cause_from : (spares : ℕ) (shape : Shape) (old mid new : BoardState) (result : Result Unit LoadFault) (left : ℕ) → IsOk (checked (inner_shape shape spares))
     → mid.flash_faults ≡ old.flash_faults → MakeCause spares shape mid result left new → MakeCause spares shape old result left new
 make_cause_from spares shape old mid new (Ok u) left allowed same own = own
-make_cause_from spares shape old mid new (Err Fault) left allowed same (inner_fault rose) = inner_fault (let F : ℕ → Type 0 = λ x. Rose x new.flash_faults in subst F same rose)
+make_cause_from spares shape old mid new (Err Fault) left allowed same (inner_fault ok rose) = inner_fault ok (let F : ℕ → Type 0 = λ x. Rose x new.flash_faults in subst F same rose)
 make_cause_from spares shape old mid new (Err Fault) left allowed same (not_allowed err is) = ok_or_err (checked (inner_shape shape spares)) allowed err
 make_cause_from spares shape old mid new (Err (BadImage at)) left allowed same own = own
 make_cause_from spares shape old mid new (Err Memory) left allowed same own = own
 
 pub make_cause_refused : (spares : ℕ) (shape : Shape) (old new : BoardState) (fault : LoadFault) (left : ℕ) (result : Result Unit LoadFault) → IsOk (checked (inner_shape shape spares))
     → result ≡ Err fault → (result ≡ Err Fault → Rose old.flash_faults new.flash_faults) → ((at : ℕ) → result ≢ Err (BadImage at)) → MakeCause spares shape old (Err fault) left new
-make_cause_refused spares shape old new Fault left result allowed is fault bad = inner_fault (fault is)
+make_cause_refused spares shape old new Fault left result allowed is fault bad = inner_fault allowed (fault is)
 make_cause_refused spares shape old new (BadImage at) left result allowed is fault bad = bad at is
 make_cause_refused spares shape old new Memory left result allowed is fault bad = allowed
 

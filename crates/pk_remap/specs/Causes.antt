@@ -50,9 +50,9 @@ LoadCause spares old (Err Fault) left new = Rose old.flash_faults new.flash_faul
 LoadCause spares old (Err (BadImage at)) left new = BadImageCause spares at new
 LoadCause spares old (Err Memory) left new = ⊤
 
--- why a make failed: the inner flash did; or the inner shape is not allowed, and nothing was done
+-- why a make failed: the inner shape is allowed, and the inner flash failed; or it is not allowed, and nothing was done
 pub data MakeFaultCause (spares : ℕ) (shape : Shape) (old new : BoardState) : Type 0 where
-  inner_fault : Rose old.flash_faults new.flash_faults → MakeFaultCause spares shape old new
+  inner_fault : IsOk (checked (inner_shape shape spares)) → Rose old.flash_faults new.flash_faults → MakeFaultCause spares shape old new
   not_allowed : IsErr (checked (inner_shape shape spares)) → new ≡ old → MakeFaultCause spares shape old new
 
 -- a make, by what the inner flash did

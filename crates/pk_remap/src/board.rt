@@ -40,6 +40,7 @@ impl<B: Board> Board for Remap<B> {
             (⟦<Remap<B> as Nand>⟧.state self.new).posted (⟦<Remap<B> as Nand>⟧.state self.old).trail (⟦<Remap<B> as Nand>⟧.state self.new).trail) }
 
         // What of the inner board, or of the log's room, makes it fail.
+        ensures fits { OnOk result (HasLogRoom self.old.log (length bytes.now)) }
         ensures cause { OnErr result (IsRefused self.old.log (length bytes.now)
             (B.state self.old.inner) (B.state self.new.inner)
             ⊎ Rose (B.state self.old.inner).out_faults (B.state self.new.inner).out_faults) }

@@ -10,6 +10,7 @@ ghost use Rattle.pk_nand.specs.Operations.{filled, InOrder, after_read, after_er
 ghost use Rattle.pk_nand.specs.declared.types.LoadFault.{LoadFault};
 ghost use Rattle.pk_remap.specs.Through.{MayShow};
 ghost use Rattle.pk_remap.specs.Serving.{PassesCalls};
+ghost use Rattle.pk_remap.specs.Logged.{HasLogRoom};
 ghost use Rattle.pk_remap.specs.Remapped.{remap_board, is_open as is_open_image, spares_left as spares_left_of};
 ghost use Rattle.pk_remap.specs.Causes.{LoadCause, MakeCause, StopCause, SparesFallBy, IsRefused};
 
@@ -125,6 +126,7 @@ impl<N: Nand> Nand for Remap<N> {
             (⟦<Remap<N> as Nand>⟧.state self.old).pages (program page bytes.now)) (N.state self.old.inner) (N.state self.new.inner) }
 
         // What of the inner flash, or of the log's room, makes it fail; and how many spares are left.
+        ensures fits { OnOk result (HasLogRoom self.old.log (length bytes.now)) }
         ensures cause { OnErr result (IsRefused self.old.log (length bytes.now) (N.state self.old.inner)
             (N.state self.new.inner) ⊎ StopCause self.old.work.shape self.old.work.spares
             (program page bytes.now) (N.state self.old.inner) (spares_left_of self.new.image self.new.work)
@@ -157,6 +159,7 @@ impl<N: Nand> Nand for Remap<N> {
             (⟦<Remap<N> as Nand>⟧.state self.old).pages (erase block)) (N.state self.old.inner) (N.state self.new.inner) }
 
         // What of the inner flash, or of the log's room, makes it fail; and how many spares are left.
+        ensures fits { OnOk result (HasLogRoom self.old.log 0) }
         ensures cause { OnErr result (IsRefused self.old.log 0 (N.state self.old.inner)
             (N.state self.new.inner) ⊎ StopCause self.old.work.shape self.old.work.spares
             (erase block) (N.state self.old.inner) (spares_left_of self.new.image self.new.work)

@@ -34,6 +34,7 @@ impl<N: Nand + Drop> Remap<N> {
         ensures inner { IfOk result (λ r. r.inner ≡ inner) }
         ensures spares { IfOk result (λ r. r.work.spares ≡ spares) }
         ensures left { IfOk result (λ r. spares_left_of r.image r.work ≡ 0) }
+        ensures room { IfOk result (λ r. r.log.room ≡ log) }
     {
         let marks = MarkLog::new(alloc, log);
         match Relocation::new(alloc, spares) {

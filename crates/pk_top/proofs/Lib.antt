@@ -10,3 +10,4 @@ mod Runs
 mod Resting
 mod Pairs
 mod Judging
+mod SparedRuns

@@ -87,3 +87,6 @@ returns-else-has_room-clause-given g c =
 
 pub returns-else-has_room-clause-cause : goal.returns-else-has_room-clause-cause
 returns-else-has_room-clause-cause g c = inl (record { no_room = c.has_room.ensures.no c.if-has_room.false; same = refl })
+
+pub returns-in-Ok-clause-fits : goal.returns-in-Ok-clause-fits
+returns-in-Ok-clause-fits g c = c.has_room.ensures.yes c.if-has_room.true

@@ -10,6 +10,8 @@ use Rattle.pk_remap.specs.declared.counts.BoardCounts.{BoardCounts}
 use Rattle.pk_remap.specs.Through.{MayShow}
 use Rattle.pk_remap.specs.Serving.{PassesCalls}
 use Rattle.pk_remap.specs.Remapped.{with_stop, remap_board}
+use Rattle.pk_remap.specs.Logged.{HasLogRoom}
+use Rattle.pk_remap.proofs.LogLemmas.{if_ok}
 use Rattle.pk_remap.proofs.Remapping.{opens_block, erase_answer, erase_refused, shape_open, pages_open, cause_open, fall_open}
 use Rattle.pk_remap.proofs.nand.RemapNand.erase.Goals as goal
 
@@ -107,3 +109,6 @@ returns-else-has_room-clause-cause g c = inl (record { no_room = c.has_room.ensu
 
 pub returns-else-has_room-clause-left : goal.returns-else-has_room-clause-left
 returns-else-has_room-clause-left g c = inl (omega arith)
+
+pub returns-then-has_room-clause-fits : goal.returns-then-has_room-clause-fits
+returns-then-has_room-clause-fits g c = if_ok c.erase_noted.result (HasLogRoom c.args.self.now.log 0) (c.has_room.ensures.yes c.if-has_room.true)

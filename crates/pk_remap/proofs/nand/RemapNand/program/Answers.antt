@@ -10,6 +10,8 @@ use Rattle.pk_remap.specs.declared.counts.BoardCounts.{BoardCounts}
 use Rattle.pk_remap.specs.Through.{MayShow}
 use Rattle.pk_remap.specs.Serving.{PassesCalls}
 use Rattle.pk_remap.specs.Remapped.{with_stop, remap_board}
+use Rattle.pk_remap.specs.Logged.{HasLogRoom}
+use Rattle.pk_remap.proofs.LogLemmas.{if_ok}
 use Rattle.pk_remap.proofs.Remapping.{opens_page, program_answer, program_refused, shape_open, pages_open, page_open, cause_open, fall_open}
 use Rattle.pk_remap.proofs.nand.RemapNand.program.Goals as goal
 
@@ -128,3 +130,6 @@ returns-else-has_room-clause-cause g c = inl (record { no_room = c.has_room.ensu
 
 pub returns-else-has_room-clause-left : goal.returns-else-has_room-clause-left
 returns-else-has_room-clause-left g c = inl (omega arith)
+
+pub returns-then-has_room-clause-fits : goal.returns-then-has_room-clause-fits
+returns-then-has_room-clause-fits g c = if_ok c.program_noted.result (HasLogRoom c.args.self.now.log (length c.args.bytes.now)) (c.has_room.ensures.yes c.if-has_room.true)

@@ -127,7 +127,7 @@ returns-in-Err-clause-cause g c =
     let T : Result Unit NandFault → Type 0 = λ x. FirstTableOutcome c.fit.new.self (g.N.Nand.state self.inner) x c.write_first_table.new.self (g.N.Nand.state c.write_first_table.new.inner) in
     let is = subst T c.in-Err.is c.write_first_table.ensures in
     let own : MakeCause self.work.spares c.args.shape (g.N.Nand.state self.inner) (Err Fault)
-    (spares_left c.refuse.new.self.image c.refuse.new.self.work) (g.N.Nand.state c.write_first_table.new.inner) = inner_fault is.faults in
+    (spares_left c.refuse.new.self.image c.refuse.new.self.work) (g.N.Nand.state c.write_first_table.new.inner) = inner_fault c.requires.allowed is.faults in
     let there = c.refuse.new.self in
     let T : LoadFault → Type 0 = λ f. MakeCause self.work.spares c.args.shape (g.N.Nand.state self.inner) (Err f) (spares_left there.image there.work) (g.N.Nand.state there.inner) in
     let U : BoardState → Type 0 = λ s. MakeCause self.work.spares c.args.shape (g.N.Nand.state self.inner) (Err Fault) (spares_left there.image there.work) s in
