@@ -1,5 +1,5 @@
 -- A drive after the reads of its opening.
-use Rattle.std.proofs.Common.{◌≡◌, ℕ, ◌<◌, ◌≤◌, Some, List, [], length, sym, ap, subst, ◌∙◌, arith}
+use Rattle.std.proofs.Common.{◌≡◌, ℕ, ◌<◌, ◌≤◌, Some, List, [], length, refl, sym, ap, subst, ◌∙◌, arith}
 use Rattle.pk_base.specs.Shape.{Shape, IsShape, page_entries}
 use Rattle.pk_base.specs.Page.{Flash, page_at}
 use Rattle.pk_base.specs.Entry.{Entry}

@@ -48,6 +48,14 @@ fn a_table_of_another_shape(rt: HostRuntime) {
     no_drive(&rt, alloc, board_of(&rt, alloc, &own, &[]), &words);
 }
 
+// Another page in place of one that there is.
+fn put(rt: &impl Abort, pages: &mut Vec<PageState>, at: usize, page: PageState) {
+    match pages.get_mut(at) {
+        Some(place) => *place = page,
+        None => panic!(rt; "a page"),
+    }
+}
+
 /// Of two tables with one number the one in the lower page counts: a second copy of the table in the other block changes nothing.
 #[test]
 fn two_tables(rt: HostRuntime) {
@@ -55,8 +63,11 @@ fn two_tables(rt: HostRuntime) {
     let ran = serve(&rt, alloc, &made(&rt, alloc), &SCRIPT);
     let mut pages = left(&rt, alloc, &ran.flash);
     let from = (FIRST_TABLE_BLOCK * BLOCK_PAGES) as usize;
-    let to = from + BLOCK_PAGES as usize;
-    pages[to] = boards::copied(alloc, &pages[from]).expect(&rt, "memory");
+    let table = match pages.get(from) {
+        Some(page) => boards::copied(alloc, page).expect(&rt, "memory"),
+        None => panic!(rt; "a table"),
+    };
+    put(&rt, &mut pages, from + BLOCK_PAGES as usize, table);
     let again = said(&rt, alloc, &pages, &GET, b"ok 616263\n");
     assert!(rt; again.left == 4);
 }
@@ -68,7 +79,7 @@ fn half_a_table(rt: HostRuntime) {
     let ran = serve(&rt, alloc, &made(&rt, alloc), &SCRIPT);
     let mut pages = left(&rt, alloc, &ran.flash);
     let from = (FIRST_TABLE_BLOCK * BLOCK_PAGES) as usize;
-    pages[from] = PageState::Torn;
+    put(&rt, &mut pages, from, PageState::Torn);
     said(&rt, alloc, &pages, &GET, b"ok 616263\n");
 }
 
