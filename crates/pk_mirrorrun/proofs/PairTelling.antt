@@ -11,7 +11,7 @@ use Rattle.pk_nand.specs.Effects.{OnlyFlash}
 use Rattle.pk_model.specs.Growth.{Goes}
 use Rattle.pk_model.specs.Kept.{rise}
 use Rattle.pk_model.specs.Reading.{reading, Holds}
-use Rattle.pk_model.specs.Sight.{Sight}
+use Rattle.pk_call.specs.Sight.{Sight}
 use Rattle.pk_model.specs.Spaces.{limits_at, limit_of, in_space}
 use Rattle.pk_model.specs.Wear.{roots, is_worn}
 use Rattle.pk_model.proofs.Growing.{weaken_went, Goes-reaches}
