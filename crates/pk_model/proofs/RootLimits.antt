@@ -16,6 +16,11 @@ pub limits_under : (shape : Shape) (flash : Flash) (top : ℕ × Root) → newes
 unfolding limits_at root_limits
 limits_under shape flash top is = ap (limits_if shape) is
 
+-- of two flashes with the same newest root
+pub limits_by_newest : (shape : Shape) (old new : Flash) → newest_root shape (page_at new) ≡ newest_root shape (page_at old) → limits_at shape new ≡ limits_at shape old
+unfolding limits_at
+limits_by_newest shape old new same = ap (limits_if shape) same
+
 -- of a root that keeps the limits of another one
 pub limits_alike : (shape : Shape) (old new : Root) → new.limits ≡ old.limits → root_limits shape new ≡ root_limits shape old
 unfolding root_limits
