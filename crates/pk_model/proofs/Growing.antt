@@ -14,7 +14,7 @@ use Rattle.pk_rootfmt.specs.Newest.{newest_root}
 use Rattle.pk_model.specs.Spaces.{limits_at}
 use Rattle.pk_model.specs.Tree.{Tree, TreeFreezes, Merges}
 use Rattle.pk_model.specs.Growth.{Grows, KeepsLimits, GrowsAlong, Reaches, Goes}
-use Rattle.pk_model.proofs.RootLimits.{limits_under, limits_alike, limits_by_newest}
+use Rattle.pk_model.proofs.RootLimits.{limits_by_newest, limits_of_tops}
 
 pub GrowsAlong-append : (shape : Shape) (start : Flash) (first second : List Mark) → GrowsAlong shape start first
     → GrowsAlong shape (after_all shape first start) second → GrowsAlong shape start (first ++ second)
@@ -34,8 +34,7 @@ GrowsAlong-post shape start bytes = (inl refl, post_keeps shape start bytes, tt)
 pub limits_grown : (shape : Shape) (old new : Flash) → Grows shape old new → limits_at shape new ≡ limits_at shape old
 limits_grown shape old new (inl same) = limits_by_newest shape old new same
 limits_grown shape old new (inr step) =
-    limits_under shape new (step.is.page_of_root, step.to.root) step.is.is_newest ∙ limits_alike shape step.from.root step.to.root (same_limits step.from step.to step.step)
-    ∙ sym (limits_under shape old (step.was.page_of_root, step.from.root) step.was.is_newest)
+    limits_of_tops shape old new (step.was.page_of_root, step.from.root) (step.is.page_of_root, step.to.root) step.was.is_newest step.is.is_newest (same_limits step.from step.to step.step)
   where
     same_limits : (from to : Tree) → TreeFreezes from to ⊎ Merges shape from to → to.root.limits ≡ from.root.limits
     same_limits from to (inl freezes) = freezes.limits
