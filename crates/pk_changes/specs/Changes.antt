@@ -4,14 +4,13 @@ use Rattle.std.specs.FinMap.{insert, remove}
 use Rattle.std.specs.FinMap.Entries.{find}
 use Rattle.pk_base.specs.Entry.{Place}
 use Rattle.pk_base.specs.Fields.{AreBytes}
-use Rattle.pk_base.specs.Key.{Key, key_cmp, space_of}
+use Rattle.pk_base.specs.Key.{Key, key_cmp}
 use Rattle.pk_base.specs.Shape.{Shape, limit, greatest, page_entries}
 use Rattle.pk_base.specs.Page.{Flash}
 use Rattle.pk_base.specs.Map.{Map, live}
 use Rattle.pk_nand.specs.BoardState.{BoardState}
 use Rattle.pk_nand.specs.declared.types.Fault.{Fault}
 use Rattle.pk_nand.specs.Calls.{IsReady}
-use Rattle.pk_model.specs.Spaces.{limit_of, in_space, limits_at}
 use Rattle.pk_model.specs.Steps.{Step}
 use Rattle.pk_law_steps.specs.Under.{places}
 use Rattle.pk_model.specs.Growth.{Reaches, Goes}
@@ -20,15 +19,12 @@ use Rattle.pk_model.specs.Crashes.{CrashFinds, change}
 use Rattle.pk_parts.specs.Moves.{StandsFor, KeepsAll}
 use Rattle.pk_background.specs.Emptying.{StepOrRead}
 
--- A key of one of the drive's namespaces may get a value: its value was at this place until now, or there was none, and with the new one all live pages are within
--- their limit, and those of its namespace within the namespace's.
+-- A key may get a value: its value was at this place until now, or there was none, and the live pages are within their limit with the new one.
 pub record MayPut (d : Parts) (shape : Shape) (flash : Flash) (m : Map) (key : Key) (value : List ℕ) (old : Option Place) : Type 0 where
   pub stands : StandsFor d shape flash m
   pub old_is : find key_cmp key (places stands.found d.log.pending) ≡ old
   pub bytes : AreBytes key
   pub room : live shape (insert m key value) ≤ limit shape
-  pub spaced : space_of key ≤ length (limits_at shape flash)
-  pub own_room : live shape (in_space (space_of key) (insert m key value)) ≤ limit_of (limits_at shape flash) (space_of key)
 
 -- a key has its value at this place, and may lose it
 pub record MayTake (d : Parts) (shape : Shape) (flash : Flash) (m : Map) (key : Key) (old : Place) : Type 0 where

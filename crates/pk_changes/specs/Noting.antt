@@ -4,7 +4,7 @@ use Rattle.std.specs.FinMap.{insert}
 use Rattle.std.specs.FinMap.Entries.{find}
 use Rattle.pk_base.specs.Entry.{Place}
 use Rattle.pk_base.specs.Fields.{AreBytes}
-use Rattle.pk_base.specs.Key.{Key, key_cmp, space_of}
+use Rattle.pk_base.specs.Key.{Key, key_cmp}
 use Rattle.pk_base.specs.Shape.{Shape, charge, limit}
 use Rattle.pk_base.specs.Page.{Flash}
 use Rattle.pk_base.specs.EntryChecks.{IsPlace}
@@ -14,7 +14,6 @@ use Rattle.pk_model.specs.Found.{Found}
 use Rattle.pk_law_steps.specs.Under.{places}
 use Rattle.pk_nand.specs.BoardState.{BoardState}
 use Rattle.pk_nand.specs.declared.types.Fault.{Fault}
-use Rattle.pk_model.specs.Spaces.{limit_of, in_space, limits_at}
 use Rattle.pk_model.specs.Steps.{Step}
 use Rattle.pk_values.specs.Placed.{HoldsValues}
 use Rattle.pk_values.specs.Entries.{IsInOpen}
@@ -22,7 +21,7 @@ use Rattle.pk_parts.specs.Parts.{Parts}
 use Rattle.pk_parts.specs.Agreeing.{DriveOnFlashWith, IsWhole}
 use Rattle.pk_parts.specs.Moves.{KeepsAll, BreaksAll, IsWritten}
 
--- A key of a namespace of the drive is to have a value that was written into the open block and is in no map yet. Until now it had the one at old, or none.
+-- A key is to have a value that was written into the open block and is in no map yet. Until now it had the one at old, or none.
 pub record Puts (d : Parts) (shape : Shape) (flash : Flash) (m : Map) (key : Key) (value : List ℕ) (page : ℕ) (old : Option Place) : Type 0 where
   pub top : ℕ × Root
   pub found : Found
@@ -35,8 +34,6 @@ pub record Puts (d : Parts) (shape : Shape) (flash : Flash) (m : Map) (key : Key
   pub in_open : IsInOpen shape d.values page (charge shape (length value))
   pub bytes : AreBytes key
   pub room : live shape (insert m key value) ≤ limit shape
-  pub spaced : space_of key ≤ length (limits_at shape flash)
-  pub own_room : live shape (in_space (space_of key) (insert m key value)) ≤ limit_of (limits_at shape flash) (space_of key)
 
 -- The value of a key is at this place, and the key is to be removed.
 pub record Drops (d : Parts) (shape : Shape) (flash : Flash) (m : Map) (key : Key) (old : Place) : Type 0 where

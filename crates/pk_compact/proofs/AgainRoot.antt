@@ -16,13 +16,11 @@ use Rattle.pk_nand.proofs.Effects.{works_program, stops_program}
 use Rattle.pk_nand.proofs.Pairing.{IsPairCut-cut, IsPairCut-done}
 use Rattle.pk_rootfmt.specs.Root.{Root, root_bytes, is_root}
 use Rattle.pk_model.specs.Found.{Found}
-use Rattle.pk_model.specs.Spaces.{limits_at}
 use Rattle.pk_model.specs.Laws.{IsInstall}
-use Rattle.pk_model.specs.Growth.{Grows, KeepsLimits, Reaches, Goes}
+use Rattle.pk_model.specs.Growth.{Grows, Reaches, Goes}
 use Rattle.pk_model.specs.Crashes.{CrashFinds, background}
 use Rattle.pk_model.specs.Wear.{root_number, roots}
 use Rattle.pk_model.proofs.Roots.{root_pair, newest_sound}
-use Rattle.pk_model.proofs.RootLimits.{limits_by_newest, limits_of_tops}
 use Rattle.pk_model.proofs.Running.{Reaches-program, Goes-program}
 use Rattle.pk_model.proofs.Steps.{roots_few}
 use Rattle.pk_root.specs.declared.next.Next.{Next}
@@ -93,23 +91,11 @@ module _ (shape : Shape) (is_shape : IsShape shape) (root : Root) (next : Next) 
     grows = inl ((again_fits shape old page top.0 top.1 is_shape fits (after_program old (page + 1) bytes) refl both).newest
         ∙ ap (λ (p : ℕ). Some (p, top.1)) (sym fits.possible.at_first) ∙ sym can.under.is_top)
 
-    -- the former root and the new one have the same limits
-    limits_before : limits_at shape old.pages ≡ limits_at shape start
-    limits_before = subst (λ (p : ℕ). limits_at shape old.pages ≡ limits_at shape (before_pair old.pages p)) (ap again_page (sym can.half.again ∙ was)) can.half.same_limits
-
-    keeps : KeepsLimits shape (program (page + 1) bytes) old.pages
-    keeps f cut =
-        elim (root_pair shape start fits.possible.former page bytes top.1 f is_install (IsPairCut-cut shape page bytes is_install.even (page + 1) start old.pages f [] (omega arith) (omega arith) so_far cut)) [
-          | inl former ↦ limits_by_newest shape start f (former ∙ sym is_install.was) ∙ sym limits_before
-          | inr (inl first) ↦ limits_of_tops shape old.pages f top (page, top.1) can.under.is_top first refl
-          | inr (inr second) ↦ limits_of_tops shape old.pages f top (page + 1, top.1) can.under.is_top second refl
-        ]
-
     again_reaches : (new : BoardState) → new ≡ after_program old (page + 1) bytes → Reaches shape old new (CrashFinds shape background old.pages m)
-    again_reaches new made = Reaches-program shape old (CrashFinds shape background old.pages m) ready.shape_is (page + 1) bytes holds grows keeps new made
+    again_reaches new made = Reaches-program shape old (CrashFinds shape background old.pages m) ready.shape_is (page + 1) bytes holds grows new made
 
     again_goes : (new : BoardState) → ProgramFailed old new (page + 1) bytes → Goes shape old new (CrashFinds shape background old.pages m)
-    again_goes new failed = Goes-program shape old (CrashFinds shape background old.pages m) ready.shape_is (page + 1) bytes holds grows keeps new failed
+    again_goes new failed = Goes-program shape old (CrashFinds shape background old.pages m) ready.shape_is (page + 1) bytes holds grows new failed
 
     pub before_less : root_number shape start ≤ root.number
     before_less =

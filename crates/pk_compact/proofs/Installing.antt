@@ -26,9 +26,8 @@ use Rattle.pk_root.specs.Installing.{other_block, InstallerOnFlash}
 use Rattle.pk_root.proofs.Installs.{behind_block}
 use Rattle.pk_law_steps.specs.Under.{IsUnder}
 use Rattle.pk_law_steps.proofs.Untouched.{under_reads}
-use Rattle.pk_model.specs.Growth.{Grows, KeepsLimits, Reaches, Goes}
+use Rattle.pk_model.specs.Growth.{Grows, Reaches, Goes}
 use Rattle.pk_model.specs.Crashes.{CrashFinds, background}
-use Rattle.pk_model.proofs.RootLimits.{limits_by_newest}
 use Rattle.pk_model.proofs.Running.{Reaches-erase, Goes-erase}
 
 -- if the newest root is the same, in whatever page, and nothing after the root blocks differs
@@ -70,14 +69,11 @@ module _ (shape : Shape) (is_shape : IsShape shape) (top : ℕ × Root) (found :
   grows : Grows shape old.pages (after shape (erase other) old.pages)
   grows = inl ((still_under (after shape (erase other) old.pages) finished).is_top ∙ sym under.is_top)
 
-  keeps : KeepsLimits shape (erase other) old.pages
-  keeps f cut = limits_by_newest shape old.pages f ((still_under f cut).is_top ∙ sym under.is_top)
-
   pub other_reaches : (new : BoardState) → new ≡ after_erase old other → Reaches shape old new (CrashFinds shape background old.pages m)
-  other_reaches new made = Reaches-erase shape old (CrashFinds shape background old.pages m) ready.shape_is other holds grows keeps new made
+  other_reaches new made = Reaches-erase shape old (CrashFinds shape background old.pages m) ready.shape_is other holds grows new made
 
   pub other_goes : (new : BoardState) → EraseFailed old new other → Goes shape old new (CrashFinds shape background old.pages m)
-  other_goes new failed = Goes-erase shape old (CrashFinds shape background old.pages m) ready.shape_is other holds grows keeps new failed
+  other_goes new failed = Goes-erase shape old (CrashFinds shape background old.pages m) ready.shape_is other holds grows new failed
 
   pub other_under : (new : BoardState) → new ≡ after_erase old other → IsUnder shape new.pages [] top found m
   other_under new made =

@@ -16,15 +16,13 @@ use Rattle.pk_rootfmt.specs.Root.{Root, root_bytes}
 use Rattle.pk_rootfmt.specs.Newest.{newest_root}
 use Rattle.pk_rootfmt.proofs.AgainLemmas.{reads_back}
 use Rattle.pk_model.specs.Found.{Found}
-use Rattle.pk_model.specs.Spaces.{limits_at}
 use Rattle.pk_model.specs.Laws.{IsInstall}
 use Rattle.pk_model.specs.Tree.{Follows}
-use Rattle.pk_model.specs.Growth.{KeepsLimits, Reaches, Goes}
+use Rattle.pk_model.specs.Growth.{Reaches, Goes}
 use Rattle.pk_model.specs.Crashes.{CrashFinds, background}
 use Rattle.pk_model.specs.Wear.{root_number, roots}
 use Rattle.pk_model.proofs.Growing.{at_end}
 use Rattle.pk_model.proofs.Roots.{root_pair, root_installed}
-use Rattle.pk_model.proofs.RootLimits.{limits_by_newest, limits_of_tops}
 use Rattle.pk_model.proofs.Running.{Reaches-program, Goes-program}
 use Rattle.pk_root.specs.declared.next.Next.{Next}
 use Rattle.pk_root.specs.declared.next.Next.TheVariants.{Erase, Program, Again}
@@ -48,10 +46,6 @@ number_of_top shape flash top is = rw is refl
 -- the root that follows has the next number
 number_next : (shape : Shape) (flash : Flash) (top : ℕ × Root) (found then_found : Found) (root : Root) → IsNext shape flash [] top found root then_found → root.number ≡ top.1.number + 1
 number_next shape flash top found then_found root next = elim next.step [ inl freezes ↦ freezes.number | inr merges ↦ merges.number ]
-
--- and the same limits
-limits_next : (shape : Shape) (flash : Flash) (top : ℕ × Root) (found then_found : Found) (root : Root) → IsNext shape flash [] top found root then_found → root.limits ≡ top.1.limits
-limits_next shape flash top found then_found root next = elim next.step [ inl freezes ↦ freezes.limits | inr merges ↦ merges.limits ]
 
 -- ---- the erase
 
@@ -102,9 +96,6 @@ module _ (shape : Shape) (is_shape : IsShape shape) (root : Root) (next : Next) 
   pub few : root.number ≤ root_number shape old.pages + 1
   few = let a = number_of_top shape old.pages top can.under.is_top in let b = number_next shape old.pages top found then_found root can.follows in omega (arith, a, b)
 
-  same_limits : root.limits ≡ top.1.limits
-  same_limits = limits_next shape old.pages top found then_found root can.follows
-
   module _ (page : ℕ) (was : next ≡ Program page) where
     fits : InstallerOnFlash shape (Program page) top old.pages
     fits = let S : Next → Type 0 = λ n. InstallerOnFlash shape n top old.pages in subst S was can.installs
@@ -141,32 +132,20 @@ module _ (shape : Shape) (is_shape : IsShape shape) (root : Root) (next : Next) 
     there = installed shape old.pages then_pages [] top page found root then_found m is_shape tt can.under can.follows (root_installed shape old.pages top page bytes root is_install).0
         (behind_cut then_pages (IsPairCut-done shape page bytes is_install.even page old.pages old.pages (omega arith) (omega arith) start))
 
-    keeps : KeepsLimits shape (program page bytes) old.pages
-    keeps f cut = elim (root_pair shape old.pages top page bytes root f is_install (IsPairCut-cut shape page bytes is_install.even page old.pages old.pages f [] (omega arith) (omega arith) start cut)) [
-      | inl former ↦ limits_by_newest shape old.pages f (former ∙ sym can.under.is_top)
-      | inr (inl first) ↦ limits_of_tops shape old.pages f top (page, root) can.under.is_top first same_limits
-      | inr (inr second) ↦ limits_of_tops shape old.pages f top (page + 1, root) can.under.is_top second same_limits
-    ]
-
     root_reaches : (new : BoardState) → new ≡ after_program old page bytes → Reaches shape old new (CrashFinds shape background old.pages m)
-    root_reaches new made = Reaches-program shape old (CrashFinds shape background old.pages m) ready.shape_is page bytes holds (inr there.1) keeps new made
+    root_reaches new made = Reaches-program shape old (CrashFinds shape background old.pages m) ready.shape_is page bytes holds (inr there.1) new made
 
     root_goes : (new : BoardState) → ProgramFailed old new page bytes → Goes shape old new (CrashFinds shape background old.pages m)
-    root_goes new failed = Goes-program shape old (CrashFinds shape background old.pages m) ready.shape_is page bytes holds (inr there.1) keeps new failed
+    root_goes new failed = Goes-program shape old (CrashFinds shape background old.pages m) ready.shape_is page bytes holds (inr there.1) new failed
 
     root_under : (new : BoardState) → newest_root shape (page_at new.pages) ≡ Some (page, root) → SameBehind shape old.pages new.pages → IsUnder shape new.pages [] (page, root) then_found m
     root_under new newest behind = (installed shape old.pages new.pages [] top page found root then_found m is_shape tt can.under can.follows newest behind).0
 
     -- the flash before it
-    before_is : (new : BoardState) → new ≡ after_program old page bytes → before_pair new.pages page ≡ old.pages
-    before_is new made = ap (λ (b : BoardState). before_pair b.pages page) made ∙ set_back old.pages page (whole bytes) is_install.first_erased
-
     before_it : (new : BoardState) → new ≡ after_program old page bytes → IsUnder shape (before_pair new.pages page) [] top found m
-    before_it new made = subst (λ (f : Flash). IsUnder shape f [] top found m) (sym (before_is new made)) can.under
-
-    limits_stay : (new : BoardState) → new ≡ after_program old page bytes → newest_root shape (page_at new.pages) ≡ Some (page, root)
-        → limits_at shape new.pages ≡ limits_at shape (before_pair new.pages page)
-    limits_stay new made newest = limits_of_tops shape old.pages new.pages top (page, root) can.under.is_top newest same_limits ∙ ap (limits_at shape) (sym (before_is new made))
+    before_it new made =
+        let same : before_pair new.pages page ≡ old.pages = ap (λ (b : BoardState). before_pair b.pages page) made ∙ set_back old.pages page (whole bytes) is_install.first_erased in
+        subst (λ (f : Flash). IsUnder shape f [] top found m) (sym same) can.under
 
   pub is_installed : (next' : Next) (new : BoardState) → SameBehind shape old.pages new.pages → Installs shape root next old next' new → IsInstalled shape root then_found m old next' new
   is_installed next' new behind i =
@@ -178,7 +157,7 @@ module _ (shape : Shape) (is_shape : IsShape shape) (root : Root) (next : Next) 
         page = i.page;
         under = under;
         installs = i.fits;
-        half = record { page = i.page; again = i.then_next; former = top; former_found = found; was = before_it i.page i.was new i.program; same_limits = limits_stay i.page i.was new i.program i.fits.newest };
+        half = record { page = i.page; again = i.then_next; former = top; former_found = found; was = before_it i.page i.was new i.program };
         number = omega (arith, former, now, step);
         behind = behind;
         cuts = root_reaches i.page i.was new i.program;

@@ -26,12 +26,11 @@ use Rattle.pk_pool.proofs.States.{get-set_other, get-set_same, owned_is_not_free
 use Rattle.pk_pool.proofs.Fitting.{IsReady-erase}
 use Rattle.pk_law_steps.specs.Under.{IsUnder, IsValuePage, places}
 use Rattle.pk_law_steps.proofs.Untouched.{erases, under_reads}
-use Rattle.pk_model.specs.Growth.{Grows, KeepsLimits, Reaches, Goes}
+use Rattle.pk_model.specs.Growth.{Grows, Reaches, Goes}
 use Rattle.pk_model.specs.Crashes.{CrashFinds, background}
 use Rattle.pk_nand.specs.Effects.{Works}
 use Rattle.pk_compact.specs.Steps.{AtMostErases}
 use Rattle.pk_nand.proofs.Effects.{works_none, works_erase}
-use Rattle.pk_model.proofs.RootLimits.{limits_by_newest}
 use Rattle.pk_model.proofs.Running.{Reaches-none, Reaches-erase, Goes-erase}
 
 -- at most one erase works
@@ -102,12 +101,9 @@ module _ (shape : Shape) (is_shape : IsShape shape) (top : ℕ × Root) (found :
   grows : Grows shape old.pages (after shape (erase block) old.pages)
   grows = inl (under_after.is_top ∙ sym under.is_top)
 
-  keeps : KeepsLimits shape (erase block) old.pages
-  keeps f cut = limits_by_newest shape old.pages f ((still_under f cut).is_top ∙ sym under.is_top)
-
   pub take_reaches : (new : BoardState) → AtMostErases block old new → Reaches shape old new (CrashFinds shape background old.pages m)
   take_reaches new (inl same) = Reaches-none shape old (CrashFinds shape background old.pages m) ready.shape_is new same (refl, under_reads shape old.pages [] top found m under)
-  take_reaches new (inr made) = Reaches-erase shape old (CrashFinds shape background old.pages m) ready.shape_is block holds grows keeps new made
+  take_reaches new (inr made) = Reaches-erase shape old (CrashFinds shape background old.pages m) ready.shape_is block holds grows new made
 
   pub take_under : (new : BoardState) → AtMostErases block old new → IsUnder shape new.pages [] top found m
   take_under new (inl same) = let T : BoardState → Type 0 = λ s. IsUnder shape s.pages [] top found m in subst T (sym same) under
@@ -117,4 +113,4 @@ module _ (shape : Shape) (is_shape : IsShape shape) (top : ℕ × Root) (found :
       subst T (sym made) (subst S (sym (shape_is old shape ready)) under_after)
 
   pub take_goes : (new : BoardState) → EraseFailed old new block → Goes shape old new (CrashFinds shape background old.pages m)
-  take_goes new failed = Goes-erase shape old (CrashFinds shape background old.pages m) ready.shape_is block holds grows keeps new failed
+  take_goes new failed = Goes-erase shape old (CrashFinds shape background old.pages m) ready.shape_is block holds grows new failed

@@ -12,9 +12,8 @@ use Rattle.pk_nand.proofs.Touching.{elsewhere}
 use Rattle.pk_nand.proofs.Writing.{shape_is}
 use Rattle.pk_rootfmt.specs.Root.{Root}
 use Rattle.pk_model.specs.Found.{Found}
-use Rattle.pk_model.specs.Growth.{Grows, KeepsLimits, Goes}
+use Rattle.pk_model.specs.Growth.{Grows, Goes}
 use Rattle.pk_model.specs.Crashes.{CrashFinds, background}
-use Rattle.pk_model.proofs.RootLimits.{limits_by_newest}
 use Rattle.pk_model.proofs.Running.{Reaches-program, Goes-program}
 use Rattle.pk_law_steps.specs.Under.{IsUnder}
 use Rattle.pk_law_steps.proofs.Untouched.{erases, under_reads}
@@ -37,20 +36,17 @@ module _ (shape : Shape) (old : BoardState) (top : ℕ × Root) (found : Found) 
   grows : Grows shape old.pages (after shape (program page bytes) old.pages)
   grows = inl (under_after.is_top ∙ sym under.is_top)
 
-  keeps : KeepsLimits shape (program page bytes) old.pages
-  keeps f cut = limits_by_newest shape old.pages f ((still_under f cut).is_top ∙ sym under.is_top)
-
   program_leaves : (new : BoardState) → new ≡ after_program old page bytes → CallLeaves shape old top found m new
   program_leaves new made =
       let P : BoardState → Type 0 = λ s. IsUnder shape s.pages [] top found m in
       let S : Shape → Type 0 = λ s. IsUnder shape (after s (program page bytes) old.pages) [] top found m in
       record {
         under = subst P (sym made) (subst S (sym (shape_is old shape ready)) under_after);
-        cuts = Reaches-program shape old (CrashFinds shape background old.pages m) ready.shape_is page bytes holds grows keeps new made;
+        cuts = Reaches-program shape old (CrashFinds shape background old.pages m) ready.shape_is page bytes holds grows new made;
       }
 
   program_goes : (new : BoardState) → ProgramFailed old new page bytes → Goes shape old new (CrashFinds shape background old.pages m)
-  program_goes new failed = Goes-program shape old (CrashFinds shape background old.pages m) ready.shape_is page bytes holds grows keeps new failed
+  program_goes new failed = Goes-program shape old (CrashFinds shape background old.pages m) ready.shape_is page bytes holds grows new failed
 
 pub program_unread : ProgramUnread
 program_unread shape old new top found m block page bytes is_shape ready under is within = (

@@ -6,7 +6,6 @@ use Rattle.pk_base.specs.Map.{Map}
 use Rattle.pk_nand.specs.BoardState.{BoardState}
 use Rattle.pk_rootfmt.specs.Root.{Root}
 use Rattle.pk_model.specs.Found.{Found}
-use Rattle.pk_model.specs.Spaces.{limits_at}
 use Rattle.pk_model.specs.Growth.{Reaches, Goes}
 use Rattle.pk_model.specs.Crashes.{CrashFinds, background}
 use Rattle.pk_model.specs.Wear.{root_number}
@@ -51,8 +50,6 @@ pub record IsHalf (shape : Shape) (next : Next) (flash : Flash) (m : Map) : Type
   pub former : ℕ × Root
   pub former_found : Found
   pub was : IsUnder shape (before_pair flash page) [] former former_found m
-  -- and within the same limits
-  pub same_limits : limits_at shape flash ≡ limits_at shape (before_pair flash page)
 
 -- the root may follow the newest one of the flash, and what the installer does next can be done
 pub record CanInstall (shape : Shape) (root : Root) (next : Next) (flash : Flash) (top : ℕ × Root) (found then_found : Found) (m : Map) : Type 0 where

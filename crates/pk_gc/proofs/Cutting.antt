@@ -22,9 +22,8 @@ use Rattle.pk_jrn.specs.Appends.{next_bytes, last_bytes, IsHalfMade}
 use Rattle.pk_jrn.proofs.Appending.{takes_more, commit_left}
 use Rattle.pk_model.specs.Found.{Found}
 use Rattle.pk_model.specs.Laws.{IsWholePage, IsCommit}
-use Rattle.pk_model.specs.Growth.{Grows, KeepsLimits, Goes}
+use Rattle.pk_model.specs.Growth.{Grows, Goes}
 use Rattle.pk_model.specs.Crashes.{CrashFinds, background}
-use Rattle.pk_model.proofs.RootLimits.{limits_by_newest}
 use Rattle.pk_model.proofs.Running.{Reaches-program, Goes-program}
 use Rattle.pk_law_steps.specs.Under.{IsUnder}
 use Rattle.pk_law_steps.specs.Roots.{committed}
@@ -77,18 +76,14 @@ module _ (shape : Shape) (former : Flash) (top : ℕ × Root) (was : Found) (m :
     grows : Grows shape old.pages (after shape (program at bytes) old.pages)
     grows = inl (then_under.is_top ∙ sym is_top)
 
-    keeps : KeepsLimits shape (program at bytes) old.pages
-    keeps cut done = limits_by_newest shape old.pages cut (elim (moves_pair shape former cut top was m moves blocks index bytes is_shape stood can commit
-        (IsPairCut-cut shape p bytes even at former old.pages cut [] low high so_far done)) [ inl before ↦ before.is_top | inr behind ↦ behind.is_top ] ∙ sym is_top)
-
     pub program_stands : (new : BoardState) → new ≡ after_program old at bytes → MovesStand shape old top was m moves new
     program_stands new made = record {
       under = subst (λ (b : BoardState). IsUnder shape b.pages [] top now_found m) (sym made) then_under;
-      cuts = Reaches-program shape old (CrashFinds shape background old.pages m) ready.shape_is at bytes holds grows keeps new made;
+      cuts = Reaches-program shape old (CrashFinds shape background old.pages m) ready.shape_is at bytes holds grows new made;
     }
 
     pub program_fails : (new : BoardState) → ProgramFailed old new at bytes → Goes shape old new (CrashFinds shape background old.pages m)
-    program_fails = Goes-program shape old (CrashFinds shape background old.pages m) ready.shape_is at bytes holds grows keeps
+    program_fails = Goes-program shape old (CrashFinds shape background old.pages m) ready.shape_is at bytes holds grows
 
 -- ---- the first program
 

@@ -1,5 +1,5 @@
 -- The namespaces of a drive: they are those of its newest root.
-use Rattle.std.proofs.Common.{◌≡◌, ℕ, ◌≤◌, ap, sym, ◌∙◌, T, List, [], ◌∷◌, ◌++◌, Some, le→leb}
+use Rattle.std.proofs.Common.{◌≡◌, ℕ, ◌≤◌, ap, T, List, [], ◌∷◌, ◌++◌, Some, le→leb}
 use Rattle.pk_base.specs.Key.{space_of}
 use Rattle.pk_base.specs.Shape.{Shape}
 use Rattle.pk_base.specs.Entry.{Entry}
@@ -16,20 +16,10 @@ pub limits_under : (shape : Shape) (flash : Flash) (top : ℕ × Root) → newes
 unfolding limits_at root_limits
 limits_under shape flash top is = ap (limits_if shape) is
 
--- of two flashes with the same newest root
-pub limits_by_newest : (shape : Shape) (old new : Flash) → newest_root shape (page_at new) ≡ newest_root shape (page_at old) → limits_at shape new ≡ limits_at shape old
-unfolding limits_at
-limits_by_newest shape old new same = ap (limits_if shape) same
-
 -- of a root that keeps the limits of another one
 pub limits_alike : (shape : Shape) (old new : Root) → new.limits ≡ old.limits → root_limits shape new ≡ root_limits shape old
 unfolding root_limits
 limits_alike shape old new same = ap (limits_of shape) same
-
--- of two flashes whose newest roots have the same limits
-pub limits_of_tops : (shape : Shape) (old new : Flash) (was is : ℕ × Root) → newest_root shape (page_at old) ≡ Some was → newest_root shape (page_at new) ≡ Some is → is.1.limits ≡ was.1.limits
-    → limits_at shape new ≡ limits_at shape old
-limits_of_tops shape old new was is before now same = limits_under shape new is now ∙ limits_alike shape was.1 is.1 same ∙ sym (limits_under shape old was before)
 
 -- one entry more
 pub in_spaces_last : (spaces : ℕ) (es : List Entry) (e : Entry) → T (in_spaces spaces es) → space_of e.0 ≤ spaces → T (in_spaces spaces (es ++ e ∷ []))

@@ -5,23 +5,17 @@ use Rattle.pk_base.specs.Page.{Flash, page_at}
 use Rattle.pk_base.specs.Mark.{Mark, after}
 use Rattle.pk_rootfmt.specs.Newest.{newest_root}
 use Rattle.pk_nand.specs.BoardState.{BoardState}
-use Rattle.pk_nand.specs.Cut.{Interrupted}
 use Rattle.pk_nand.specs.Crash.{ReachedBy, WentBy}
-use Rattle.pk_model.specs.Spaces.{limits_at}
 use Rattle.pk_model.specs.Tree.{Follows}
 
 -- The newest root is the same, or a freeze or a merge made the next one.
 abbrev pub Grows : Shape → Flash → Flash → Type 0
 Grows shape old new = (newest_root shape (page_at new) ≡ newest_root shape (page_at old)) ⊎ Follows shape old new
 
--- power that is lost within a mark leaves the limits of the namespaces as they were
-abbrev pub KeepsLimits : Shape → Mark → Flash → Type 0
-KeepsLimits shape mark old = (flash : Flash) → Interrupted shape mark old flash [] → limits_at shape flash ≡ limits_at shape old
-
--- so from each state of a trail to the next, and each mark keeps the limits wherever power is lost
+-- so from each state of a trail to the next
 abbrev pub GrowsAlong : Shape → Flash → List Mark → Type 0
 GrowsAlong shape start [] = ⊤
-GrowsAlong shape start (mark ∷ marks) = Grows shape start (after shape mark start) × KeepsLimits shape mark start × GrowsAlong shape (after shape mark start) marks
+GrowsAlong shape start (mark ∷ marks) = Grows shape start (after shape mark start) × GrowsAlong shape (after shape mark start) marks
 
 -- by marks of which every cut has P, and along which the tree grows
 abbrev pub Reaches : Shape → BoardState → BoardState → (Flash → List ℕ → Type 0) → Type 0
