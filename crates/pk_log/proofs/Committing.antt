@@ -31,12 +31,12 @@ use Rattle.pk_model.proofs.Commits.{Blocks, valid_blocks, pair_behind_roots, roo
 use Rattle.pk_law_steps.specs.Under.{IsUnder}
 use Rattle.pk_law_steps.specs.Roots.{committed}
 use Rattle.pk_law_steps.proofs.Committing.{commits_pair, commit_done}
-use Rattle.pk_model.specs.Growth.{Grows, KeepsLimits, Reaches, Goes}
+use Rattle.pk_model.specs.Growth.{Grows, Reaches, Goes}
 use Rattle.pk_log.specs.State.{LogState, all_committed}
 use Rattle.pk_log.specs.Logs.{LogOnFlash}
 use Rattle.pk_log.specs.Commits.{CommitStands, CommitCut, CommitHolds, CommitReaches}
 use Rattle.pk_model.proofs.Growing.{at_end, Reaches-then, Goes-then}
-use Rattle.pk_model.proofs.RootLimits.{limits_by_newest}
+use Rattle.pk_model.specs.Spaces.{limits_at}
 use Rattle.pk_model.proofs.Running.{Reaches-program, Goes-program}
 use Rattle.pk_law_steps.proofs.NewestBlocks.{valid_root}
 use Rattle.pk_log.proofs.Standing.{blocks_are}
@@ -153,16 +153,16 @@ module _ (log : LogState) (board : BoardState) (top : ℕ × Root) (found : Foun
     second_grows : Grows shape half.pages (after shape (program (page + 1) bytes) half.pages)
     second_grows = inl (top_stays done.pages done_cut ∙ sym (top_stays half.pages half_cut))
 
-    first_keeps : KeepsLimits shape (program page bytes) board.pages
-    first_keeps f cut = limits_by_newest shape board.pages f
+    first_limited : (f : Flash) → Interrupted shape (program page bytes) board.pages f [] → limits_at shape f ≡ limits_at shape board.pages
+    first_limited f cut = top_limits shape f board.pages
         (top_stays f (IsPairCut-cut shape page bytes even page board.pages board.pages f [] (omega arith) (omega arith) start cut) ∙ sym logs.is_top)
 
-    second_keeps : KeepsLimits shape (program (page + 1) bytes) half.pages
-    second_keeps f cut = limits_by_newest shape half.pages f
+    second_limited : (f : Flash) → Interrupted shape (program (page + 1) bytes) half.pages f [] → limits_at shape f ≡ limits_at shape half.pages
+    second_limited f cut = top_limits shape f half.pages
         (top_stays f (IsPairCut-cut shape page bytes even (page + 1) board.pages half.pages f [] (omega arith) (omega arith) half_cut cut) ∙ sym (top_stays half.pages half_cut))
 
     begun : Reaches shape board half Holds
-    begun = Reaches-program shape board Holds ready.shape_is page bytes first_holds first_grows first_keeps half refl
+    begun = Reaches-program shape board Holds ready.shape_is page bytes first_holds first_grows first_limited half refl
 
     -- nothing went out before the second program
     later : (f : Flash) (q : List ℕ) → Holds f q → Holds f (all_posted begun.0 ++ q)
@@ -175,13 +175,13 @@ module _ (log : LogState) (board : BoardState) (top : ℕ × Root) (found : Foun
     pub reaches : Reaches shape board (after_programs board (programs_of_pair (next_page e) bytes)) (CommitCut shape top found log.pending m0 m1)
     reaches = subst (λ (b : BoardState). Reaches shape board b Holds) done_is
         (Reaches-then shape begun.0 board half Holds ready.shape_is begun.1 begun.2 done Holds later
-        (Reaches-program shape half Holds ready.shape_is (page + 1) bytes second_holds second_grows second_keeps done refl))
+        (Reaches-program shape half Holds ready.shape_is (page + 1) bytes second_holds second_grows second_limited done refl))
 
     pub goes : (after' : BoardState) → ProgramsFailed board after' (programs_of_pair (next_page e) bytes) → Goes shape board after' (CommitCut shape top found log.pending m0 m1)
     goes after' failed = elim (subst (λ (p : ℕ). ProgramsFailed board after' (programs_of_pair p bytes)) (sym page_is) failed) [
-      | inl one ↦ Goes-program shape board Holds ready.shape_is page bytes first_holds first_grows first_keeps after' one
+      | inl one ↦ Goes-program shape board Holds ready.shape_is page bytes first_holds first_grows first_limited after' one
       | inr other ↦ Goes-then shape begun.0 board half Holds ready.shape_is begun.1 begun.2 after' Holds later
-          (Goes-program shape half Holds ready.shape_is (page + 1) bytes second_holds second_grows second_keeps after' other)
+          (Goes-program shape half Holds ready.shape_is (page + 1) bytes second_holds second_grows second_limited after' other)
     ]
 
   -- ---- the log
