@@ -35,7 +35,7 @@ use Rattle.pk_model.specs.Growth.{Grows, Reaches, Goes}
 use Rattle.pk_log.specs.State.{LogState, all_committed}
 use Rattle.pk_log.specs.Logs.{LogOnFlash}
 use Rattle.pk_log.specs.Commits.{CommitStands, CommitCut, CommitHolds, CommitReaches}
-use Rattle.pk_model.proofs.Growing.{at_end, Reaches-then, Goes-then}
+use Rattle.pk_model.proofs.Growing.{at_end, top_limits, Reaches-then, Goes-then}
 use Rattle.pk_model.specs.Spaces.{limits_at}
 use Rattle.pk_model.proofs.Running.{Reaches-program, Goes-program}
 use Rattle.pk_law_steps.proofs.NewestBlocks.{valid_root}
