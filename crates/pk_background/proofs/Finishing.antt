@@ -137,7 +137,7 @@ module _ (d : Parts) (log' : LogState) (pool' : Blocks) (old new : BoardState) (
       former = λ k is. its.values.owned (k / d.log.shape.block_pages) (h.with.former k is);
       former_read = h.with.former_read;
       reclaim = subst (λ (es : List Entry). ReclaimOnFlash d.log.shape d.reclaim d.values.live pool' new.pages (places h.found es)) (sym none) reclaim_then;
-      keys_are = h.with.keys_are ∙ ap (λ (es : List Entry). length (places h.found es)) (sym same_pending);
+      uses = subst (λ (es : List Entry). IsUseOf d.log.shape d.spaces (places h.found es)) (sym same_pending) h.with.uses;
     }
 
     whole_then : IsWhole then_drive

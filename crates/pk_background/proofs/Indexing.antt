@@ -76,9 +76,10 @@ module _ (d : Parts) (old new : BoardState) (top : ℕ × Root) (found : Found) 
     former = λ k is. moved.values.owned (k / d.log.shape.block_pages) (a.former k (subst (λ es. IsValuePage d.log.shape es k) moved.same_places is));
     former_read = λ k is. a.former_read k (subst (λ es. IsValuePage d.log.shape es k) moved.same_places is);
     reclaim = subst (λ (es : List Entry). ReclaimOnFlash d.log.shape d.reclaim d.values.live free new.pages (places moved.then_found es)) (sym moved.none_pending) still_reclaims;
-    keys_are =
-        a.keys_are ∙ (ap (λ (es : List Entry). length (places found es)) none
-        ∙ (ap length (sym moved.same_places) ∙ ap (λ (es : List Entry). length (places moved.then_found es)) (sym moved.none_pending)));
+    uses =
+        let U : List (Key × Place) → Type 0 = IsUseOf d.log.shape d.spaces in
+        subst (λ (es : List Entry). U (places moved.then_found es)) (sym moved.none_pending)
+        (subst U (sym moved.same_places) (subst (λ (es : List Entry). U (places found es)) none a.uses));
   }
 
   -- the pair of its root may be half made

@@ -169,7 +169,11 @@ module _ (d : Parts) (x' : ReclaimParts) (keeps : KeepsLog (space_of d) x') wher
           former = placed.owned;
           former_read = placed.outputs_are.unread;
           reclaim = subst (λ p. ReclaimOnFlash shape x'.job x'.values.live x'.pool new.pages (places then p)) (sym empty) reclaim;
-          keys_are = with.keys_are ∙ (ap (λ p. length (places found p)) none ∙ (sym moves.as_many ∙ ap (λ p. length (places then p)) (sym empty)));
+          uses =
+              let U : List (Key × Place) → Type 0 = IsUseOf shape d.spaces in
+              let before : IsUnder shape old.pages [] top found m = subst (λ p. IsUnder shape old.pages p top found m) none with.pending in
+              let unchanged = use_elsewhere shape old.pages new.pages top found then m d.spaces is_shape with.is_flash ready_flash before under (subst (λ p. U (places found p)) none with.uses) in
+              subst (λ p. U (places then p)) (sym empty) unchanged;
         }
 
 -- ---- which pair is half made then
@@ -260,7 +264,7 @@ module _ (d : Parts) (page : List ℕ) (flash : Flash) where
     former = with.former;
     former_read = with.former_read;
     reclaim = reclaim;
-    keys_are = with.keys_are;
+    uses = with.uses;
   }
 
 pub cannot_read : (d : Parts) (x' : ReclaimParts) (old new : BoardState) → MayReclaim d old → steps.Unread (space_of d) old x' new → CannotRead d (over_space d x') old new

@@ -127,7 +127,7 @@ module _ (d : Parts) (old new : BoardState) (top : ℕ × Root) (found : Found) 
             subst (λ (es : List (Key × Place)). ReclaimOnFlash its d.reclaim d.values.live d.pool new.pages es) same
             (reclaim_elsewhere its d.reclaim d.values d.pool d.pool old.pages new.pages (places found d.log.pending) agrees.reclaim agrees.placed refl
             (λ k held not_open. values_same its d.pool old.pages new.pages block owned others [] k held (λ none. none)));
-        keys_are = agrees.keys_are ∙ ap length same;
+        uses = subst (IsUseOf its d.spaces) same agrees.uses;
       }
 
 -- ---- cuts
