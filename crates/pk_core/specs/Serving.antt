@@ -11,7 +11,7 @@ use Rattle.pk_nand.specs.Calls.{last_count}
 use Rattle.pk_model.specs.Answer.{early}
 use Rattle.pk_model.specs.Wear.{is_worn}
 use Rattle.pk_call.specs.declared.types.Outcome.{Outcome}
-use Rattle.pk_parts.specs.Parts.{Parts, limits_of}
+use Rattle.pk_parts.specs.Parts.{Parts, drive_limits}
 use Rattle.pk_parts.specs.Agreeing.{DriveOnFlash}
 
 -- The drive matches its board, runs and is not worn out, and the request passed the checks that read it alone.
@@ -19,7 +19,7 @@ pub record IsServable (d : Parts) (board : BoardState) (r : Request) : Type 0 wh
   pub agrees : DriveOnFlash d board.shape board.pages
   pub runs : d.stopped ≡ false
   pub unworn : is_worn board ≡ false
-  pub passed : early (length (limits_of d)) d.log.shape (command_of r []) ≡ None
+  pub passed : early (length (drive_limits d)) d.log.shape (command_of r []) ≡ None
   pub few : length d.log.pending < page_entries d.log.shape
   pub counted : board.reads ≤ last_count
 

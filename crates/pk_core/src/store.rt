@@ -14,7 +14,7 @@ ghost use Rattle.pk_model.specs.Spaces.{limit_of};
 ghost use Rattle.pk_nvme.specs.declared.opcode.TheConstants.{STORE, DELETE};
 ghost use Rattle.pk_law_work.specs.Calls.{commit_calls, pair_calls, room_calls, room_roots, store_roots};
 ghost use Rattle.pk_background.specs.Costs.{Spends, space_and_put_calls};
-ghost use Rattle.pk_parts.specs.Parts.{is_half, limits_of};
+ghost use Rattle.pk_parts.specs.Parts.{is_half, drive_limits};
 ghost use Rattle.pk_parts.specs.Staying.{Stays, StaysOrOpens, IsNoted};
 ghost use Rattle.pk_core.specs.Programming.{QuietStore, QuietDelete};
 ghost use Rattle.pk_core.specs.LookedUp.{IsLookedUp, StoresOver, DeletesAt};
@@ -92,12 +92,12 @@ fn fault_of_store<A: Region>(
         (λ p. p.len ≤ spec.greatest parts.now.log.shape) }
     requires counted { count ≡ spec.charge parts.now.log.shape request.now.size }
     requires space { 1 ≤ request.now.namespace
-        × request.now.namespace ≤ length (limits_of parts.now) }
+        × request.now.namespace ≤ length (drive_limits parts.now) }
     ensures { result ≡ store_fault_of (command_of request.now []) (is_some old.now)
         (space_live parts.now.spaces request.now.namespace
         - pages_at_by parts.now.log.shape old.now
         + spec.charge parts.now.log.shape request.now.size)
-        (limit_of (limits_of parts.now) request.now.namespace) }
+        (limit_of (drive_limits parts.now) request.now.namespace) }
 {
     // so that a drive is known to have at most eight namespaces
     let _ = parts.spaces();

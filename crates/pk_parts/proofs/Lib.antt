@@ -6,6 +6,7 @@ pub mod Keeping
 pub mod Elsewhere
 pub mod Committing
 pub mod Reclaiming
+pub mod OwnLimits
 pub mod Unchanging
 pub mod Opening
 pub mod Sights

@@ -38,7 +38,7 @@ impl<A: Region> Parts<A> {
 
     /// How many namespaces the drive has.
     pub fn spaces(&self) -> u8
-        ensures value { result ≡ length (spec.limits_of self.now) }
+        ensures value { result ≡ length (spec.drive_limits self.now) }
         ensures number { result ≡ length (spec.spaces_of self.now) }
         ensures some { 1 ≤ result }
         ensures most { result ≤ MOST_SPACES }
@@ -48,8 +48,8 @@ impl<A: Region> Parts<A> {
 
     /// The limit of live pages of this namespace.
     pub fn space_limit(&self, space: u8) -> u32
-        requires { 1 ≤ space × space ≤ length (spec.limits_of self.now) }
-        ensures { result ≡ limit_of (spec.limits_of self.now) space }
+        requires { 1 ≤ space × space ≤ length (spec.drive_limits self.now) }
+        ensures { result ≡ limit_of (spec.drive_limits self.now) space }
     {
         self.log.root().space_limit(space)
     }
