@@ -1,5 +1,6 @@
 -- Commands that change the map: what a drive needs to serve one.
 use Rattle.std.specs.Prelude.{◌≡◌, ◌≤◌, ◌<◌, ℕ, [], length, ◌+◌, true, false, None, Result, Ok, Err}
+use Rattle.pk_base.specs.declared.sizes.TheConstants.{MOST_SPACES}
 use Rattle.pk_base.specs.Shape.{page_entries}
 use Rattle.pk_nvme.specs.Seen.{command_of}
 use Rattle.pk_nvme.specs.declared.status.TheConstants.{SUCCESSFUL_COMPLETION, UNRECOVERED_ERROR}
@@ -20,6 +21,7 @@ pub record IsServable (d : Parts) (board : BoardState) (r : Request) : Type 0 wh
   pub runs : d.stopped ≡ false
   pub unworn : is_worn board ≡ false
   pub passed : early (length (drive_limits d)) d.log.shape (command_of r []) ≡ None
+  pub few_spaces : length (drive_limits d) ≤ MOST_SPACES
   pub few : length d.log.pending < page_entries d.log.shape
   pub counted : board.reads ≤ last_count
 

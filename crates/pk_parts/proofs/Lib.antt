@@ -7,6 +7,7 @@ pub mod Elsewhere
 pub mod Committing
 pub mod Reclaiming
 pub mod OwnLimits
+pub mod MapValues
 pub mod Unchanging
 pub mod Opening
 pub mod Sights

@@ -1,6 +1,7 @@
 -- The limits of a drive's namespaces are those on its flash; what each namespace reports.
-use Rattle.std.proofs.Common.{◌≡◌, ℕ, zero, suc, ◌+◌, ◌-◌, ◌<◌, ◌≤◌, refl, sym, ap, subst, ◌∙◌, arith, T, ◌&&◌, nat_le, leb→le, List, [], ◌∷◌, length, Option, Some}
+use Rattle.std.proofs.Common.{◌≡◌, ℕ, zero, suc, ◌+◌, ◌-◌, ◌<◌, ◌≤◌, refl, sym, ap, subst, ◌∙◌, arith, T, ◌&&◌, nat_le, leb→le, List, [], ◌∷◌, length, sum, Option, Some}
 use Rattle.std.specs.Prelude.{slice_index}
+use Rattle.std.proofs.lemmas.List.Sums.{sum_by-cons}
 use Rattle.pk_base.specs.Shape.{Shape, limit}
 use Rattle.pk_base.specs.Page.{Flash, page_at}
 use Rattle.pk_base.specs.Map.{Map}
@@ -48,18 +49,43 @@ limits_kept d e shape old new P told before after reached = sym after ∙ (reach
 few_of : (shape : Shape) (limits : List ℕ) → T (are_limits shape limits) → length (all_limits shape limits) ≤ MOST_SPACES
 few_of shape [] is = omega arith
 few_of shape (l ∷ ls) is =
-    leb→le (length (l ∷ ls)) MOST_SPACES (left_part _ (fit_in (limit shape) (l ∷ ls)) (right_part (has_limits_room shape) (nat_le (length (l ∷ ls)) MOST_SPACES && fit_in (limit shape) (l ∷ ls)) is))
+    leb→le (length (l ∷ ls)) MOST_SPACES
+    (right_part (has_limits_room shape) (nat_le (length (l ∷ ls)) MOST_SPACES) (left_part (has_limits_room shape && nat_le (length (l ∷ ls)) MOST_SPACES) (fit_in (limit shape) (l ∷ ls)) is))
 
 few_under : (shape : Shape) (root : Root) → T (is_root shape root) → length (root_limits shape root) ≤ MOST_SPACES
 unfolding root_limits
 few_under shape root is = few_of shape root.limits (right_part (is_laid_out shape root) (are_limits shape root.limits) is)
 
-pub limits_few : (d : Parts) (told : Option Shape) (flash : Flash) (a : DriveOnFlash d told flash) → length (drive_limits d) ≤ MOST_SPACES
-limits_few d told flash a =
-    let valid = root_valid a.shape (page_at flash a.top.0) a.top.1 (newest_sound a.shape (page_at flash) a.top a.with.committed.is_top).there in
-    let few = few_under a.shape a.top.1 valid in
-    let same : root_limits a.shape a.top.1 ≡ drive_limits d = λ i. root_limits (sym a.with.shape_is i) (sym a.with.index.logs.root_is i) in
-    subst (λ (limits : List ℕ). length limits ≤ MOST_SPACES) same few
+-- together no more than the limit of the shape
+sum_fits : (left : ℕ) (ls : List ℕ) → T (fit_in left ls) → sum ls ≤ left
+sum_fits left [] fit = omega arith
+sum_fits left (l ∷ ls) fit =
+    let first = left_part (nat_le 1 l && nat_le l left) (fit_in (left - l) ls) fit in
+    let less : l ≤ left = leb→le l left (right_part (nat_le 1 l) (nat_le l left) first) in
+    let rest = sum_fits (left - l) ls (right_part (nat_le 1 l && nat_le l left) (fit_in (left - l) ls) fit) in
+    omega (arith, less, rest, sum_by-cons (λ (x : ℕ). x) l ls)
+
+sum_of : (shape : Shape) (limits : List ℕ) → T (are_limits shape limits) → sum (all_limits shape limits) ≤ limit shape
+sum_of shape [] is = let one = sum_by-cons (λ (x : ℕ). x) (limit shape) [] in omega (arith, one)
+sum_of shape (l ∷ ls) is = sum_fits (limit shape) (l ∷ ls) (right_part (has_limits_room shape && nat_le (length (l ∷ ls)) MOST_SPACES) (fit_in (limit shape) (l ∷ ls)) is)
+
+sum_under : (shape : Shape) (root : Root) → T (is_root shape root) → sum (root_limits shape root) ≤ limit shape
+unfolding root_limits
+sum_under shape root is = sum_of shape root.limits (right_part (is_laid_out shape root) (are_limits shape root.limits) is)
+
+-- of a drive
+module _ (d : Parts) (told : Option Shape) (flash : Flash) (a : DriveOnFlash d told flash) where
+  valid : T (is_root a.shape a.top.1)
+  valid = root_valid a.shape (page_at flash a.top.0) a.top.1 (newest_sound a.shape (page_at flash) a.top a.with.committed.is_top).there
+
+  same : root_limits a.shape a.top.1 ≡ drive_limits d
+  same = λ i. root_limits (sym a.with.shape_is i) (sym a.with.index.logs.root_is i)
+
+  pub limits_few : length (drive_limits d) ≤ MOST_SPACES
+  limits_few = subst (λ (limits : List ℕ). length limits ≤ MOST_SPACES) same (few_under a.shape a.top.1 valid)
+
+  pub limits_sum : sum (drive_limits d) ≤ limit d.log.shape
+  limits_sum = subst (λ (s : Shape). sum (drive_limits d) ≤ limit s) (sym a.with.shape_is) (subst (λ (limits : List ℕ). sum limits ≤ limit a.shape) same (sum_under a.shape a.top.1 valid))
 
 -- ---- what each namespace reports
 
