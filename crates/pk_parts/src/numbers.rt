@@ -3,6 +3,7 @@ ghost use Rattle.std.specs.Prelude.{◌≡◌, ◌≤◌, length};
 ghost use Rattle.pk_call.specs.Seen.{counts_of, in_space_of};
 ghost use Rattle.pk_gc.specs.Standing.{held_blocks};
 ghost use Rattle.pk_call.specs.Sight.{in_space_at, live_of_all};
+ghost use Rattle.pk_model.specs.Spaces.{limit_of};
 ghost use Rattle.pk_parts.specs.Parts as spec;
 
 use crate::parts::Parts;
@@ -41,6 +42,14 @@ impl<A: Region> Parts<A> {
         1
     }
 
+    /// The live limit of this namespace, in pages: that of the shape, as there is one.
+    pub fn limit(&self, space: u8) -> u32
+        requires { 1 ≤ space × space ≤ length (spec.spaces_of self.now) }
+        ensures { result ≡ limit_of (spec.terms_of self.now).limits space }
+    {
+        self.shape().limit()
+    }
+
     /// The live pages of all namespaces.
     pub fn live_pages(&self) -> u32
         ensures { result ≡ live_of_all (spec.spaces_of self.now) }
@@ -56,7 +65,7 @@ impl<A: Region> Parts<A> {
     {
         Counts {
             live: self.spaces.live(space),
-            limit: self.shape().limit(),
+            limit: self.limit(space),
             keys: self.spaces.keys(space),
             pinned: self.levels.pinned() as u32,
             frames: self.arena.frames(),
