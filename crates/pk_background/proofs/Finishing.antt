@@ -22,6 +22,7 @@ use Rattle.pk_model.specs.Crashes.{CrashFinds, background}
 use Rattle.pk_model.specs.Wear.{root_number, roots}
 use Rattle.pk_law_steps.specs.Under.{IsUnder, places}
 use Rattle.pk_law_steps.proofs.Untouched.{under_reads}
+use Rattle.pk_scan.specs.Used.{IsUseOf}
 use Rattle.pk_values.specs.Placed.{ValuesOnFlash}
 use Rattle.pk_values.proofs.Unchanged.{ValuesOnFlash-kept}
 use Rattle.pk_gc.specs.Standing.{ReclaimOnFlash}

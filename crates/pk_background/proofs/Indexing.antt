@@ -1,6 +1,7 @@
 -- A step of the jobs moves the index of a drive, and leaves its values where they are.
 use Rattle.std.proofs.Common.{◌≡◌, inl, inr, ℕ, ◌/◌, ◌<◌, sym, ap, subst, ◌∙◌, false, List, [], length}
-use Rattle.pk_base.specs.Entry.{Entry}
+use Rattle.pk_base.specs.Entry.{Entry, Place}
+use Rattle.pk_base.specs.Key.{Key}
 use Rattle.pk_base.specs.Page.{Flash}
 use Rattle.pk_base.specs.Map.{Map}
 use Rattle.pk_rootfmt.specs.Root.{Root}
@@ -8,6 +9,7 @@ use Rattle.pk_nand.specs.BoardState.{BoardState}
 use Rattle.pk_nand.specs.Calls.{IsReady}
 use Rattle.pk_model.specs.Found.{Found}
 use Rattle.pk_law_steps.specs.Under.{IsUnder, IsValuePage, places}
+use Rattle.pk_scan.specs.Used.{IsUseOf}
 use Rattle.pk_values.specs.Placed.{ValuesOnFlash}
 use Rattle.pk_values.proofs.Unchanged.{ValuesOnFlash-kept}
 use Rattle.pk_pool.specs.Blocks.{Blocks, freed}

@@ -1,5 +1,5 @@
 -- The answers of commands that change the map.
-use Rattle.std.proofs.Common.{◌≡◌, ◌≢◌, inl, inr, ℕ, ◌+◌, ◌-◌, ◌/◌, ◌%◌, ◌<◌, ◌≤◌, refl, sym, ap, subst, ◌∙◌, arith, Bool, true, false, not, ◌&&◌, ◌||◌, ◌==◌, List, [], length, sum, nat_le, is_some}
+use Rattle.std.proofs.Common.{◌≡◌, ◌≢◌, inl, inr, ℕ, ◌+◌, ◌-◌, ◌/◌, ◌%◌, ◌<◌, ◌≤◌, refl, sym, ap, subst, ◌∙◌, arith, Bool, true, false, not, ◌&&◌, ◌||◌, ◌==◌, List, [], length, nat_le, is_some}
 use Rattle.std.proofs.Common.{◌∷◌}
 use Rattle.std.proofs.Common.{min, Option, Some, None, Result, Ok, Err, leb-true}
 use Rattle.std.specs.Prelude.{MatchOption}
@@ -7,7 +7,7 @@ use Rattle.std.specs.FinMap.{get, insert, remove, contains_key}
 use Rattle.pk_base.specs.Choices.{or_else}
 use Rattle.pk_base.specs.Entry.{Place}
 use Rattle.pk_base.specs.Fields.{AreBytes}
-use Rattle.pk_base.specs.Key.{Key, IsKey}
+use Rattle.pk_base.specs.Key.{Key, IsKey, space_of}
 use Rattle.pk_base.specs.Shape.{Shape, charge, greatest, limit, page_entries}
 use Rattle.pk_base.specs.Page.{Flash}
 use Rattle.pk_base.specs.Map.{Map, live, pages_if_some}
@@ -51,14 +51,16 @@ use Rattle.pk_changes.specs.Changes.{Changes, StaysBetween}
 use Rattle.pk_core.specs.Whole.{MayPutBetween, MayStoreBetween, MayTakeBetween, CanPutBetween, CanTakeBetween, StoresWhole, TakesWhole}
 use Rattle.pk_background.specs.Spacing.{SameMap}
 use Rattle.pk_parts.proofs.Halves.{between}
-use Rattle.pk_core.specs.Serving.{IsServable, IsCounted, outcome_for, pages_at}
+use Rattle.pk_core.specs.Serving.{IsServable, IsCounted, outcome_for}
+use Rattle.pk_changes.specs.Noting.{pages_at}
+use Rattle.pk_space.specs.Uses.{space_live}
 use Rattle.pk_core.proofs.Standing.{stands_so}
 use Rattle.pk_parts.proofs.Standing.{agrees_so}
 use Rattle.pk_core.proofs.Counting.{counts_own}
 use Rattle.pk_core.proofs.Early.{told_shape}
 use Rattle.pk_core.proofs.Unchanging.{unread_step, refused_step, alone, value_of, same_early, does_reads, AnswersAll}
 use Rattle.pk_parts.proofs.Unchanging.{own, looked, for_its_map, reads_none, agrees_ready, whole_all, limits_are}
-use Rattle.pk_model.specs.Spaces.{Terms, one_space, limits_at, in_space}
+use Rattle.pk_model.specs.Spaces.{Terms, one_space, limit_of, limits_at, in_space}
 
 -- ---- what a Store asks
 
@@ -306,10 +308,10 @@ module _ (d : Parts) (old : BoardState) (r : Request) (value : List ℕ) (k : Ke
   part = in_space r.namespace s.agrees.all
 
   abbrev most : ℕ
-  most = limit_of (drive_limits d) r.namespace
+  most = limit_of (drive_limits d) (space_of k)
 
   abbrev live_before : ℕ
-  live_before = space_live d.spaces r.namespace
+  live_before = space_live d.spaces (space_of k)
 
   abbrev after_pages : ℕ
   after_pages = live_before - pages_at d.log.shape o + charge d.log.shape r.size
@@ -324,11 +326,17 @@ module _ (d : Parts) (old : BoardState) (r : Request) (value : List ℕ) (k : Ke
   own_key : space_of k ≡ r.namespace
   own_key = ap space_of named
 
+  pub key_within : space_of k ≤ length (drive_limits d)
+  key_within = subst (λ (n : ℕ). n ≤ length (drive_limits d)) (sym own_key) its_space.most
+
   own_value : get part (key c) ≡ get all (key c)
   own_value = get_own r.namespace all (take c.key_len c.key_bytes)
 
   live_is : live_before ≡ live d.log.shape part
-  live_is = (counts_own d old s.agrees r.namespace its_space.some its_space.most).live_is
+  live_is = ap (space_live d.spaces) own_key ∙ (counts_own d old s.agrees r.namespace its_space.some its_space.most).live_is
+
+  most_is : most ≡ limit_of (drive_limits d) r.namespace
+  most_is = ap (limit_of (drive_limits d)) own_key
 
   there_is : is_some o ≡ contains_key part (key c)
   there_is = is_there_same d old s.agrees k o is_key looks ∙ ap (contains_key all) named ∙ ap is_some (sym own_value)
@@ -336,8 +344,8 @@ module _ (d : Parts) (old : BoardState) (r : Request) (value : List ℕ) (k : Ke
   held_is : pages_at d.log.shape o ≡ pages_if_some d.log.shape (get part (key c))
   held_is = pages_same d old s.agrees k o is_key looks ∙ ap (λ q. pages_if_some d.log.shape (get all q)) named ∙ ap (pages_if_some d.log.shape) (sym own_value)
 
-  late_is : store_check r.options (is_some o) after_pages most ≡ late_of d.log.shape most part c (Some Store)
-  late_is = λ i. store_check r.options (there_is i) (live_is i - held_is i + charge d.log.shape r.size) most
+  late_is : store_check r.options (is_some o) after_pages most ≡ late_of d.log.shape (limit_of (drive_limits d) r.namespace) part c (Some Store)
+  late_is = λ i. store_check r.options (there_is i) (live_is i - held_is i + charge d.log.shape r.size) (most_is i)
 
   pub store_refused : (status : ℕ) (e : Parts) (into : List ℕ) (outcome : Outcome) (reads : ℕ) → store_check r.options (is_some o) after_pages most ≡ Some status → e ≡ d
       → outcome ≡ record { status = status; result = 0; data_len = 0; reads = reads; stopped = false }
@@ -359,18 +367,17 @@ module _ (d : Parts) (old : BoardState) (r : Request) (value : List ℕ) (k : Ke
         let held = held_is ∙ ap (λ q. pages_if_some d.log.shape (get part q)) (sym named) in
         let same = live_stored d.log.shape part k value live_before (pages_at d.log.shape o) (charge d.log.shape r.size) live_is held (ap (charge d.log.shape) (sym whole)) in
         let put_in = ap (live d.log.shape) (in_space-insert r.namespace all k own_key value) in
-        subst (λ (n : ℕ). live d.log.shape (in_space n (insert all k value)) ≤ limit_of (drive_limits d) n) (sym own_key) (omega (arith, few, same, put_in))
+        subst (λ (n : ℕ). live d.log.shape (in_space n (insert all k value)) ≤ most) (sym own_key) (omega (arith, few, same, put_in))
 
     pub may_put : MayPutBetween d d.log.shape old.pages all k value o
     unfolding its_drive
     may_put =
         let some : 1 ≤ space_of k = subst (λ (n : ℕ). 1 ≤ n) (sym own_key) its_space.some in
-        let most : space_of k ≤ length (drive_limits d) = subst (λ (n : ℕ). n ≤ length (drive_limits d)) (sym own_key) its_space.most in
         record {
           stands = its_drive d old s.agrees k o is_key looks;
           old_is = (placed_there d old s.agrees k o is_key looks).placed;
           bytes = bytes;
-          room = has_room_for d old s.agrees k value some most own_room;
+          room = has_room_for d old s.agrees k value some key_within own_room;
         }
 
     may_store : MayStoreBetween d d.log.shape old.pages all k value
@@ -384,7 +391,7 @@ module _ (d : Parts) (old : BoardState) (r : Request) (value : List ℕ) (k : Ke
       few = s.few;
     }
 
-    late_none : late_of d.log.shape most part c (Some Store) ≡ None
+    late_none : late_of d.log.shape (limit_of (drive_limits d) r.namespace) part c (Some Store) ≡ None
     late_none = sym late_is ∙ passed
 
     leaves_put : map_after d.log.shape (drive_limits d) all c ≡ insert all k value

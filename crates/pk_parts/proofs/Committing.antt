@@ -32,6 +32,7 @@ use Rattle.pk_model.proofs.SamePages.{any_front}
 use Rattle.pk_law_steps.specs.Under.{IsUnder, IsValuePage, places}
 use Rattle.pk_law_steps.specs.Roots.{committed}
 use Rattle.pk_law_steps.proofs.Untouched.{under_reads}
+use Rattle.pk_scan.specs.Used.{IsUseOf}
 use Rattle.pk_values.specs.Placed.{ValuesOnFlash}
 use Rattle.pk_values.proofs.Unchanged.{flash_elsewhere}
 use Rattle.pk_model.specs.Growth.{Goes}

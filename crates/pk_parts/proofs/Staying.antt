@@ -13,6 +13,7 @@ use Rattle.pk_pool.proofs.Sharing.{count-set}
 use Rattle.pk_log.specs.State.{LogState, pushed}
 use Rattle.pk_log.specs.Commits.{CommitsNone, CommitsAll}
 use Rattle.pk_values.specs.State.{ValuesState, fits_open}
+use Rattle.pk_space.specs.Uses.{Use}
 use Rattle.pk_parts.specs.Parts.{Parts, block_if_open}
 use Rattle.pk_parts.specs.Staying.{StaysFresh, SameUse, Stays, StaysOrOpens, StaysOrFrees}
 
