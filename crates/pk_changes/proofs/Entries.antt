@@ -53,8 +53,12 @@ use Rattle.pk_parts.proofs.Halves.{whole_like}
 use Rattle.pk_parts.proofs.Reclaiming.{reclaim_stored, reclaim_gone, zero_fewer, replaced_fewer}
 use Rattle.pk_background.proofs.Beside.{named_owner, journal_or_values, meta_or_values}
 use Rattle.pk_base.proofs.KeyLemmas.{firsts_sorted}
-use Rattle.pk_model.specs.RootLimits.{root_limits}
-use Rattle.pk_model.proofs.RootLimits.{last_in_spaces}
+use Rattle.pk_model.specs.RootLimits.{root_limits, root_spaces}
+use Rattle.pk_model.proofs.RootLimits.{limits_under}
+use Rattle.pk_model.proofs.SpacePages.{within_put}
+use Rattle.pk_model.specs.Spaces.{in_space, limit_of}
+use Rattle.pk_parts.proofs.OwnLimits.{limits_with}
+use Rattle.pk_parts.proofs.MapValues.{page_sizes, some_bytes, map_reads, places_within}
 
 -- ---- numbers
 
@@ -161,14 +165,20 @@ module _ (d : Parts) (flash : Flash) (m : Map) (key : Key) (value : List ℕ) (p
     fit_now : fits d.log.shape (named p.top.1) (all_pages d.log.shape (put key_cmp key place es)) ≡ true
     fit_now =
         let few = lie_in_few d.log.shape values d.pool (outputs_of d) flash (put key_cmp key place es) placed_now in
-        let most = p.room in
+        let most = p.room.all in
         let same = live_put d d.log.shape flash p.top p.found p.without m p.with key place value p.written.there in
         fits_more d.log.shape (named p.top.1) (value_blocks d.pool (outputs_of d)) es key place (fit d d.log.shape flash p.top p.found p.without m p.with)
         unnamed (λ k is is_value. p.written.apart p.top p.found p.without m p.with k is is_value)
         (omega (arith, most, same)) few.1 few.0
 
     under_now : LogOnFlash (pushed d.log e) flash p.top p.found → length (firsts (p.found.newest ++ (d.log.pending ++ e ∷ []))) ≤ buffer d.log.shape → IsUnder d.log.shape flash (d.log.pending ++ e ∷ []) p.top p.found (insert m key value)
-    under_now logs room = stores d.log.shape flash d.log.pending p.top p.found m key place value p.with.pending (last_in_spaces d.log.shape p.top.1 d.log.pending e logs.pending_are) p.written.there room fit_now
+    under_now logs room =
+        let limits = limits_under d.log.shape flash p.top p.with.committed.is_top in
+        let own = subst (λ (ls : List ℕ). live d.log.shape (in_space (space_of key) (insert m key value)) ≤ limit_of ls (space_of key)) limits p.room.own in
+        let within = within_put d.log.shape (page_at flash) (page_sizes d d.log.shape flash p.top p.found p.without m p.with) (some_bytes d d.log.shape flash p.top p.found p.without m p.with)
+        (named p.top.1) es m (map_reads d d.log.shape flash p.top p.found p.without m p.with) key place value p.written.there (root_limits d.log.shape p.top.1)
+        (places_within d d.log.shape flash p.top p.found p.without m p.with) own in
+        stores d.log.shape flash d.log.pending p.top p.found m key place value p.with.pending (subst (λ (ls : List ℕ). space_of key ≤ length ls) limits p.room.spaced) p.written.there room fit_now within
 
     -- a reclaim that runs copies other values than that one
     reclaims_now : ReclaimOnFlash d.log.shape d.reclaim values.live d.pool flash (put key_cmp key place es)
@@ -253,6 +263,14 @@ pub put_moves : (d : Parts) (flash : Flash) (m : Map) (key : Key) (value : List 
 put_moves d flash m key value page len old is_len p o n o_is n_is =
     puts_moves d flash m key value page old p o n o_is (subst (λ (l : ℕ). n ≡ span_of d.log.shape (placed_at page l)) (sym is_len) n_is)
 
+-- the key is of a namespace that the root has
+pub puts_spaced : (d : Parts) (flash : Flash) (m : Map) (key : Key) (value : List ℕ) (page : ℕ) (old : Option Place) → Puts d d.log.shape flash m key value page old
+    → space_of key ≤ root_spaces d.log.shape d.log.root
+puts_spaced d flash m key value page old p = subst (λ (limits : List ℕ). space_of key ≤ length limits) (limits_with d d.log.shape flash p.top p.found p.without m p.with) p.room.spaced
+
+pub drops_spaced : (d : Parts) (flash : Flash) (m : Map) (key : Key) (old : Place) → Drops d d.log.shape flash m key old → space_of key ≤ root_spaces d.log.shape d.log.root
+drops_spaced d flash m key old p = subst (λ (limits : List ℕ). space_of key ≤ length limits) (limits_with d d.log.shape flash p.top p.found p.without m p.with) p.spaced
+
 -- the length of the value that a key had
 pub old_short : (d : Parts) (flash : Flash) (m : Map) (key : Key) (value : List ℕ) (page : ℕ) (old : Option Place) → Puts d d.log.shape flash m key value page old
     → MatchOption old (Unit {0}) (λ p. p.len ≤ greatest d.log.shape)
@@ -308,7 +326,9 @@ module _ (d : Parts) (flash : Flash) (m : Map) (key : Key) (old : Place) (p : Dr
     is_flash = p.with.is_flash;
     index = index_pushed (index_of d) (frames_of d) flash p.top p.found gone p.with.index logs;
     committed = p.with.committed;
-    pending = deletes d.log.shape flash d.log.pending p.top p.found m key p.with.pending (last_in_spaces d.log.shape p.top.1 d.log.pending gone logs.pending_are) room;
+    pending =
+        deletes d.log.shape flash d.log.pending p.top p.found m key p.with.pending
+        (subst (λ (ls : List ℕ). space_of key ≤ length ls) (limits_under d.log.shape flash p.top p.with.committed.is_top) p.spaced) room;
     placed = subst (λ (xs : List (Key × Place)). ValuesOnFlash d.log.shape values d.pool (outputs_of d) flash xs) (sym places_gone) placed_now;
     former = p.with.former;
     former_read = p.with.former_read;

@@ -333,7 +333,7 @@ module _ (d : Parts) (old : BoardState) (r : Request) (value : List ℕ) (k : Ke
   own_value = get_own r.namespace all (take c.key_len c.key_bytes)
 
   live_is : live_before ≡ live d.log.shape part
-  live_is = ap (space_live d.spaces) own_key ∙ (counts_own d old s.agrees r.namespace its_space.some its_space.most).live_is
+  live_is = ap (space_live d.spaces) own_key ∙ live_own d old s.agrees r.namespace its_space.some its_space.most
 
   most_is : most ≡ limit_of (drive_limits d) r.namespace
   most_is = ap (limit_of (drive_limits d)) own_key

@@ -74,18 +74,24 @@ unfolding root_limits
 sum_under shape root is = sum_of shape root.limits (right_part (is_laid_out shape root) (are_limits shape root.limits) is)
 
 -- of a drive
-module _ (d : Parts) (told : Option Shape) (flash : Flash) (a : DriveOnFlash d told flash) where
-  valid : T (is_root a.shape a.top.1)
-  valid = root_valid a.shape (page_at flash a.top.0) a.top.1 (newest_sound a.shape (page_at flash) a.top a.with.committed.is_top).there
+module _ (d : Parts) (shape : Shape) (flash : Flash) (top : ℕ × Root) (found : Found) (without all : Map) (a : DriveOnFlashWith d shape flash top found without all) where
+  valid : T (is_root shape top.1)
+  valid = root_valid shape (page_at flash top.0) top.1 (newest_sound shape (page_at flash) top a.committed.is_top).there
 
-  same : root_limits a.shape a.top.1 ≡ drive_limits d
-  same = λ i. root_limits (sym a.with.shape_is i) (sym a.with.index.logs.root_is i)
+  same : root_limits shape top.1 ≡ drive_limits d
+  same = λ i. root_limits (sym a.shape_is i) (sym a.index.logs.root_is i)
 
-  pub limits_few : length (drive_limits d) ≤ MOST_SPACES
-  limits_few = subst (λ (limits : List ℕ). length limits ≤ MOST_SPACES) same (few_under a.shape a.top.1 valid)
+  pub few_with : length (drive_limits d) ≤ MOST_SPACES
+  few_with = subst (λ (limits : List ℕ). length limits ≤ MOST_SPACES) same (few_under shape top.1 valid)
 
-  pub limits_sum : sum (drive_limits d) ≤ limit d.log.shape
-  limits_sum = subst (λ (s : Shape). sum (drive_limits d) ≤ limit s) (sym a.with.shape_is) (subst (λ (limits : List ℕ). sum limits ≤ limit a.shape) same (sum_under a.shape a.top.1 valid))
+  pub sum_with : sum (drive_limits d) ≤ limit shape
+  sum_with = subst (λ (limits : List ℕ). sum limits ≤ limit shape) same (sum_under shape top.1 valid)
+
+pub limits_few : (d : Parts) (told : Option Shape) (flash : Flash) (a : DriveOnFlash d told flash) → length (drive_limits d) ≤ MOST_SPACES
+limits_few d told flash a = few_with (settled_parts d) a.shape flash a.top a.found a.without a.all a.with
+
+pub limits_sum : (d : Parts) (told : Option Shape) (flash : Flash) (a : DriveOnFlash d told flash) → sum (drive_limits d) ≤ limit d.log.shape
+limits_sum d told flash a = subst (λ (s : Shape). sum (drive_limits d) ≤ limit s) (sym a.with.shape_is) (sum_with (settled_parts d) a.shape flash a.top a.found a.without a.all a.with)
 
 -- ---- what each namespace reports
 

@@ -1,4 +1,4 @@
-use Rattle.pk_changes.proofs.Entries.{old_short, spaces_small, puts_leave, put_moves, put_stands}
+use Rattle.pk_changes.proofs.Entries.{old_short, puts_spaced, spaces_small, puts_leave, put_moves, put_stands}
 use Rattle.std.proofs.Common.{◌≡◌, ℕ, ◌∙◌, ap, subst, sym, arith}
 use Rattle.pk_base.specs.Shape.{Shape}
 use Rattle.pk_base.specs.Key.{space_of}
@@ -78,3 +78,8 @@ pub push-requires-clause-whole : goal.push-requires-clause-whole
 push-requires-clause-whole g c =
     let p = rw (← c.parts.view_is) at c.requires.puts in
     p.4.whole.epoch
+
+pub push-requires-clause-spaced : goal.push-requires-clause-spaced
+push-requires-clause-spaced g c =
+    let p = rw (← c.parts.view_is) at c.requires.puts in
+    puts_spaced _ p.0 p.1 c.args.key p.2 c.args.page c.args.old p.4
