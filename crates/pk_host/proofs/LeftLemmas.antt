@@ -19,7 +19,7 @@ use Rattle.pk_model.proofs.HeldMap.{key_is_bytes}
 use Rattle.pk_model.proofs.Machines.{live-empty, live-remove, live_stored}
 use Rattle.pk_host.specs.Good.{IsGood, IsHanded, holding}
 use Rattle.pk_model.specs.Spaces.{limit_of, in_space, one_space}
-use Rattle.pk_model.proofs.SpaceLemmas.{is_whole, in_space-insert, in_space-remove}
+use Rattle.pk_model.proofs.SpaceLemmas.{in_space-empty, in_space-insert, in_space-remove}
 use Rattle.pk_host.proofs.EntryLemmas.{map_empty, map_insert, map_remove}
 
 -- ---- checks that passed
@@ -69,7 +69,7 @@ store_alone n =
 -- ---- the map afterwards
 
 pub good_empty : (shape : Shape) → IsGood (holding shape empty)
-good_empty shape = let none = live-empty shape in record { sized = map_empty shape; few = omega (arith, none) }
+good_empty shape = let none = live-empty shape in record { sized = map_empty shape; alone = in_space-empty 1; few = omega (arith, none) }
 
 module _ (shape : Shape) (m : Map) (c : Command) (good : IsGood (holding shape m)) (handed : IsHanded c) where
   -- the checks on the namespace, which is the only one, are those on the map
@@ -79,7 +79,7 @@ module _ (shape : Shape) (m : Map) (c : Command) (good : IsGood (holding shape m
       let spaced = key_spaced 1 shape c Store (λ n k. refl) is passed in
       let one : c.namespace ≡ 1 = omega (arith, spaced.some, spaced.most) in
       ap (λ (n : ℕ). late_of shape (limit_of (limit shape ∷ []) n) (in_space n m) c (Some Store)) one
-      ∙ ap (λ (n : Map). late_of shape (limit shape) n c (Some Store)) (is_whole shape m good.sized)
+      ∙ ap (λ (n : Map). late_of shape (limit shape) n c (Some Store)) good.alone
 
   -- a Store that passed all checks
   good_store : op_of c.opcode ≡ Some Store → early 1 shape c ≡ None
@@ -98,23 +98,29 @@ module _ (shape : Shape) (m : Map) (c : Command) (good : IsGood (holding shape m
       let is_live : live_after shape m c ≡ live shape (insert m (key c) c.value) =
       live_stored shape m (key c) c.value (live shape m) (pages_if_some shape (get m (key c))) (charge shape c.size) refl refl (ap (charge shape) (sym whole)) in
       let is_key : IsKey (key c) =
-      record { some = omega (arith, key_length, sized.some); most = omega (arith, key_length, sized.most); space_some = spaced.some; space_most = spaced.most } in
+      record { some = omega (arith, key_length, sized.some); most = omega (arith, key_length, sized.most); space_some = spaced.some; space_most = omega (arith, spaced.most) } in
       record {
         sized = map_insert shape m (key c) c.value good.sized is_key (key_is_bytes (key c) is_key handed.key_bytes)
             (omega (arith, whole, small)) handed.value_bytes;
+        alone = in_space-insert 1 m (key c) (omega (arith, spaced.some, spaced.most)) c.value ∙ ap (λ (n : Map). insert n (key c) c.value) good.alone;
         few = omega (arith, is_live, most);
       }
 
-  good_delete : IsGood (holding shape (remove m (key c)))
-  good_delete =
+  good_delete : op_of c.opcode ≡ Some Delete → early 1 shape c ≡ None → IsGood (holding shape (remove m (key c)))
+  good_delete is passed =
+      let spaced = key_spaced 1 shape c Delete (λ n k. refl) is passed in
       let whole = live-remove shape m (key c) in
       let few = good.few in
-      record { sized = map_remove shape m (key c) good.sized; few = omega (arith, whole, few) }
+      record {
+        sized = map_remove shape m (key c) good.sized;
+        alone = in_space-remove 1 m (key c) (omega (arith, spaced.some, spaced.most)) ∙ ap (λ (n : Map). remove n (key c)) good.alone;
+        few = omega (arith, whole, few);
+      }
 
   good_effect : (k : Opcode) → op_of c.opcode ≡ Some k → early 1 shape c ≡ None
       → late_of shape (limit_of (limit shape ∷ []) c.namespace) (in_space c.namespace m) c (Some k) ≡ None → IsGood (holding shape (effect m c (Some k)))
   good_effect Store is passed late = good_store is passed late
-  good_effect Delete is passed late = good_delete
+  good_effect Delete is passed late = good_delete is passed
   good_effect Flush is passed late = good
   good_effect Retrieve is passed late = good
   good_effect ListKeys is passed late = good
