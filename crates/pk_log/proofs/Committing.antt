@@ -1,5 +1,5 @@
 -- What a commit leaves of a log and of a flash, cut or not.
-use Rattle.std.proofs.Common.{◌≡◌, ◌≢◌, inl, inr, ℕ, ◌+◌, ◌-◌, ◌*◌, ◌%◌, ◌<◌, ◌≤◌, refl, sym, ap, subst, ◌∙◌, arith, Bool, if◌then◌else◌, List, [], ◌++◌, length, Some, Ok, append-nil, le→leb, true}
+use Rattle.std.proofs.Common.{◌≡◌, ◌≢◌, inl, inr, ℕ, ◌+◌, ◌-◌, ◌*◌, ◌%◌, ◌<◌, ◌≤◌, refl, sym, ap, subst, ◌∙◌, arith, Bool, if◌then◌else◌, List, [], ◌++◌, length, Some, Ok, append-nil, le→leb, true, T}
 use Rattle.pk_base.specs.Shape.{Shape, buffer, epoch_pages, epoch_commits}
 use Rattle.pk_base.specs.Page.{Page, Flash, page_at, erased, whole, page_in, commit_page, commit_at}
 use Rattle.pk_base.specs.Firsts.{firsts}
@@ -35,14 +35,13 @@ use Rattle.pk_model.specs.Growth.{Grows, Reaches, Goes}
 use Rattle.pk_log.specs.State.{LogState, all_committed}
 use Rattle.pk_log.specs.Logs.{LogOnFlash}
 use Rattle.pk_log.specs.Commits.{CommitStands, CommitCut, CommitHolds, CommitReaches}
-use Rattle.pk_model.proofs.Growing.{at_end, Reaches-then, Goes-then}
+use Rattle.pk_model.proofs.Growing.{at_end, top_limits, Reaches-then, Goes-then}
 use Rattle.pk_model.specs.Spaces.{limits_at}
 use Rattle.pk_model.proofs.Running.{Reaches-program, Goes-program}
 use Rattle.pk_law_steps.proofs.NewestBlocks.{valid_root}
 use Rattle.pk_log.proofs.Standing.{blocks_are}
 use Rattle.pk_law_steps.proofs.UnderRoot.{newest_found}
 use Rattle.pk_model.specs.RootLimits.{root_spaces}
-use Rattle.pk_model.proofs.RootLimits.{storable_in_spaces}
 use Rattle.pk_base.proofs.Logic.{is_true, both}
 
 -- ---- the programs
@@ -206,7 +205,7 @@ module _ (log : LogState) (board : BoardState) (top : ℕ × Root) (found : Foun
 
   -- they may follow those of the epoch
   may_commit : length log.active.entries ≤ log.active.capacity → may_follow e.shape (root_spaces shape top.1) found.newest log.pending ≡ true
-  may_commit bound = is_true _ (both _ _ (le→leb _ _ (have_room bound)) (storable_in_spaces log.shape top.1 log.pending logs.pending_are))
+  may_commit bound = is_true _ (both _ _ (le→leb _ _ (have_room bound)) (subst T (sym logs.spaced) tt))
 
   reads_all : length log.active.entries ≤ log.active.capacity → AddsAll e log.pending board.pages then_pages → newest_epoch shape (page_at then_pages) top.1 ≡ Ok (found.newest ++ log.pending)
   reads_all bound adds =
@@ -231,6 +230,7 @@ module _ (log : LogState) (board : BoardState) (top : ℕ × Root) (found : Foun
     active_is = logs.active_is ∙ ap (buffer_of shape) (sym (append-nil (found.newest ++ log.pending)));
     frozen_is = logs.frozen_is;
     pending_are = tt;
+    spaced = refl;
     pending_few = omega arith;
     pending_room = λ other. absurd (other refl);
     pending_whole = λ other. absurd (other refl);
