@@ -63,7 +63,7 @@ fn existed_by(status: u8) -> Result<bool, HostError>
 
 /// The bytes of a key; none if there is no key.
 pub(crate) fn start_bytes(from: Option<&Key>) -> &[u8]
-    requires own { IfSome (option_copied from.entry) IsOwnKey }
+    requires own { IfSome (option_copied from) IsOwnKey }
     ensures bytes { result.now ≡ bytes_of (key_or_none (option_copied from.entry)) }
     ensures short { length result.now ≤ KEY_BYTES }
     ensures key { IsStart (key_or_none (option_copied from.entry)) }
@@ -193,7 +193,7 @@ impl Host {
         from: Option<&Key>,
         page: &mut KeyPage,
     ) -> Result<bool, HostError>
-        requires own { IfSome (option_copied from.entry) IsOwnKey }
+        requires own { IfSome (option_copied from) IsOwnKey }
 
         // The page of keys, and what it says of the drive's.
         ensures gives { Gives (P.state port.old) (P.state port.new)

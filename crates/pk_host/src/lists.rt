@@ -39,7 +39,7 @@ impl Host {
         from: Option<&Key>,
         page: &mut KeyPage,
     ) -> Result<bool, HostError>
-        requires own { IfSome (option_copied from.entry) IsOwnKey }
+        requires own { IfSome (option_copied from) IsOwnKey }
 
         // What is answered, and why nothing is.
         ensures gives { Gives (P.state port.old) (P.state port.new)

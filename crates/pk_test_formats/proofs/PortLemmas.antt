@@ -26,7 +26,7 @@ module _ (old new : Machine) (faults : ℕ) (c : Command) (a : Answer) (h : Answ
 
   -- the machine afterwards is good again
   pub good_again : IsGood old → IsHanded c → IsGood new
-  good_again good handed = subst IsGood (sym h.map_is) (good_left old.shape old.map c good handed)
+  good_again good handed = subst IsGood (sym h.map_is) (good_left old.shape (limit old.shape) old.map c good handed)
 
   -- the data of the answer fit the buffer
   pub answer_fits : length a.bytes.items ≤ room_of c
