@@ -9,6 +9,7 @@ use Rattle.pk_base.specs.declared.sizes.TheConstants.{MOST_SPACES}
 use Rattle.pk_base.proofs.Logic.{left_part, right_part}
 use Rattle.pk_nand.specs.BoardState.{BoardState}
 use Rattle.pk_rootfmt.specs.Root.{Root, is_root, is_laid_out, are_limits, has_limits_room, fit_in, limits_of as all_limits}
+use Rattle.pk_rootfmt.specs.Held.{Held}
 use Rattle.pk_space.specs.Uses.{Use, space_live, space_keys}
 use Rattle.pk_model.specs.Found.{Found}
 use Rattle.pk_model.specs.Growth.{Reaches}
@@ -43,6 +44,11 @@ limits_on d told flash a = ap (λ (s : Shape). limits_at s flash) a.with.shape_i
 pub limits_kept : (d e : Parts) (shape : Shape) (old new : BoardState) (P : Flash → List ℕ → Type 0) → old.shape ≡ Some shape → limits_at shape old.pages ≡ drive_limits d
     → limits_at shape new.pages ≡ drive_limits e → Reaches shape old new P → drive_limits e ≡ drive_limits d
 limits_kept d e shape old new P told before after reached = sym after ∙ (reached_limits shape old new P told reached ∙ before)
+
+-- those of a root that memory holds
+pub held_limits : (held : Held) (shape : Shape) (root : Root) → held ≡ record { shape = shape; root = root } → all_limits held.shape held.root.limits ≡ root_limits shape root
+unfolding root_limits
+held_limits held shape root is = ap (λ (h : Held). all_limits h.shape h.root.limits) is
 
 -- ---- at least one, and at most eight
 
