@@ -97,7 +97,7 @@ here_own : (own n : ℕ) → here own own n ≡ n
 here_own own n = rw (eq-eqb own own refl) refl
 
 here_none : (own space : ℕ) → here own space 0 ≡ 0
-here_none own space = elim (own == space) as (λ b. (if b then 0 else 0) ≡ 0) [ true ↦ refl | false ↦ refl ]
+here_none own space = elim (own == space) as (λ b. ◌≡◌ {A = ℕ} (if b then 0 else 0) 0) [ true ↦ refl | false ↦ refl ]
 
 module _ (own : ℕ) (is_own : IsSpace own) (xs : List ℕ) (room : length xs ≡ MOST_SPACES) (former later : ℕ → ℕ) (was : (space : ℕ) → IsSpace space → slice_index xs (space - 1) ≡ former space)
     (gone come : ℕ) (moves : (space : ℕ) → later space + here own space gone ≡ former space + here own space come) where
