@@ -1,6 +1,6 @@
 -- The limits of a drive's namespaces are those on its flash; what each namespace reports.
 use Rattle.std.proofs.Common.{◌≡◌, ℕ, zero, suc, ◌+◌, ◌-◌, ◌<◌, ◌≤◌, refl, sym, ap, subst, ◌∙◌, arith, T, ◌&&◌, nat_le, leb→le, List, [], ◌∷◌, length, sum, Option, Some}
-use Rattle.std.specs.Prelude.{slice_index}
+use Rattle.std.specs.Prelude.{slice_index, slice_index_or}
 use Rattle.std.proofs.lemmas.List.Sums.{sum_by-cons}
 use Rattle.pk_base.specs.Shape.{Shape, limit}
 use Rattle.pk_base.specs.Page.{Flash, page_at}
@@ -109,8 +109,12 @@ reported_length u space (most ∷ limits) = ap suc (reported_length u (space + 1
 abbrev pub report_in : Use → List ℕ → ℕ → InSpace
 report_in u limits space = record { live = space_live u space; limit = limit_of limits space; keys = space_keys u space }
 
+-- of a namespace that the drive does not have
+abbrev nothing_reported : InSpace
+nothing_reported = record { live = 0; limit = 0; keys = 0 }
+
 reported_at : (u : Use) (first i : ℕ) (limits : List ℕ) → i < length limits
-    → in_space_at (reported_from u first limits) (i + 1) ≡ record { live = space_live u (first + i); limit = slice_index limits i; keys = space_keys u (first + i) }
+    → slice_index_or (reported_from u first limits) i nothing_reported ≡ record { live = space_live u (first + i); limit = slice_index limits i; keys = space_keys u (first + i) }
 reported_at u first i [] less = absurd (omega (arith, less))
 reported_at u first zero (most ∷ limits) less =
     let same : first ≡ first + 0 = omega arith in
@@ -121,7 +125,6 @@ reported_at u first (suc i) (most ∷ limits) less =
 
 pub reported_here : (d : Parts) (space : ℕ) → 1 ≤ space → space ≤ length (drive_limits d) → in_space_at (spaces_of d) space ≡ report_in d.spaces (drive_limits d) space
 reported_here d space some most =
-    let before : space ≡ space - 1 + 1 = omega (arith, some) in
     let again : 1 + (space - 1) ≡ space = omega (arith, some) in
-    ap (in_space_at (spaces_of d)) before ∙ reported_at d.spaces 1 (space - 1) (drive_limits d) (omega (arith, some, most))
+    reported_at d.spaces 1 (space - 1) (drive_limits d) (omega (arith, some, most))
     ∙ ap (λ (n : ℕ). record { live = space_live d.spaces n; limit = slice_index (drive_limits d) (space - 1); keys = space_keys d.spaces n }) again
