@@ -45,13 +45,21 @@ def ending(name, fields):
     return f"reading fails at page {fields['page']}"
 
 
+def use(fields):
+    """What a namespace uses, in a few words."""
+    return f"namespace {fields['number']}: {fields['keys']} keys in {fields['live']} of {fields['limit']} pages"
+
+
 def read(lines):
-    """The heading, the blocks as pairs of a label and letters, and the page at which reading fails."""
-    heading, blocks, failing, moved = "", [], None, {}
+    """The heading, a line for each namespace if there are several, the blocks as pairs of a label and letters, and the page at which
+    reading fails."""
+    heading, spaces, blocks, failing, moved = "", [], [], None, {}
     for name, fields in items(lines):
         if name == "image":
             shape = fields["blocks"], fields["block_pages"], fields["page_bytes"]
             heading = "{} blocks of {} pages of {} bytes".format(*shape)
+        elif name == "space":
+            spaces.append(use(fields))
         elif name == "block":
             blocks.append((f"{fields['number']} {fields['use'].replace('-', ' ')}", fields["pages"]))
         elif name in ("map", "no-root", "fails"):
@@ -63,7 +71,8 @@ def read(lines):
             heading += f", table {fields['number']} at page {fields['page']}"
         elif name == "spare":
             moved[fields["serves"]] = fields["number"]
-    return heading, [(with_spare(label, moved), letters) for label, letters in blocks], failing
+    rows = [(with_spare(label, moved), letters) for label, letters in blocks]
+    return heading, spaces if len(spaces) > 1 else [], rows, failing
 
 
 def with_spare(label, moved):
@@ -121,10 +130,13 @@ def frame(x, y):
     return f'<rect x="{x}" y="{y}" width="{size}" height="{size}" fill="none" stroke="#000000" stroke-width="3"/>'
 
 
-def drawn(heading, blocks, failing):
+def drawn(heading, spaces, blocks, failing):
     """The picture as text."""
     pages = max(len(letters) for _, letters in blocks)
     words, parts, frames, y = [text(10, 20, heading, 14), text(10, 40, "a row is a block, a cell a page")], [], [], TOP
+    for line in spaces:
+        words.append(text(10, y - 4, line))
+        y += CELL + 2
     for number, label, letters in folded(blocks):
         words.append(text(10, y + CELL - 4, label))
         if letters:
@@ -138,7 +150,7 @@ def drawn(heading, blocks, failing):
             parts += [f'<rect x="9" y="{y - 1}" width="{CELL}" height="{CELL}" fill="{EDGE}"/>', cells(10, y, letter, 1, "legend")]
             words.append(text(30, y + CELL - 4, COLOURS[letter][1]))
             y += CELL + 4
-    width = max(LABEL + pages * CELL + 10, 9 * len(heading) + 20)
+    width = max(LABEL + pages * CELL + 10, 9 * len(heading) + 20, *(7 * len(line) + 20 for line in spaces))
     head = f'<svg xmlns="http://www.w3.org/2000/svg" width="{width}" height="{y + 10}" font-family="sans-serif">'
     group = f'<g stroke-width="{CELL - 2}" stroke-dasharray="{CELL - 2} 2">'
     return "\n".join([head, '<rect width="100%" height="100%" fill="#ffffff"/>', *words, group, *parts, "</g>", *frames, "</svg>"])
@@ -148,10 +160,10 @@ def main():
     parser = argparse.ArgumentParser(description=__doc__, formatter_class=argparse.RawDescriptionHelpFormatter)
     parser.add_argument("-o", metavar="FILE", help="the file of the picture (standard output)")
     chosen = parser.parse_args()
-    heading, blocks, failing = read(sys.stdin)
+    heading, spaces, blocks, failing = read(sys.stdin)
     if not blocks:
         sys.exit("picture.py: no line of a block; it reads what `pinkdump IMAGE lines` prints")
-    picture = drawn(heading, blocks, failing)
+    picture = drawn(heading, spaces, blocks, failing)
     if chosen.o:
         with open(chosen.o, "w") as file:
             print(picture, file=file)

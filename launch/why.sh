@@ -56,7 +56,17 @@ key_fault() { # WORD: prints nothing if it is a key
     fi
 }
 
-shape_fault() { # P N M: the first rule of docs/FORMATS.md that they break; prints nothing if they break none
+count_index() { # P N M: sets `held`, the entries of a page, `quarters`, and `index`, the blocks of the index
+    held=$((($1 - 32) / 32))
+    quarters=$((3 * $2 / 4))
+    # the blocks of runs of 4, 16 and 64 pages and of the last run, and of the longer of the last two again
+    last=$(((($3 * quarters + held - 1) / held + 24 + $2 - 1) / $2))
+    third=$(((64 + $2 - 1) / $2))
+    longer=$((last > third ? last : third))
+    index=$(((4 + $2 - 1) / $2 + (16 + $2 - 1) / $2 + third + last + longer))
+}
+
+shape_fault() { # P N M: the first rule of docs/FORMATS.md that they break; nothing if they break none
     case $1 in
         512 | 1024 | 2048 | 4096 | 8192 | 16384) ;;
         *) echo "a page has 512, 1024, 2048, 4096, 8192 or 16384 bytes, not $1" && return ;;
@@ -65,25 +75,36 @@ shape_fault() { # P N M: the first rule of docs/FORMATS.md that they break; prin
         8 | 16 | 32 | 64 | 128 | 256) ;;
         *) echo "a block has 8, 16, 32, 64, 128 or 256 pages, not $2" && return ;;
     esac
-    held=$((($1 - 32) / 32))
-    quarters=$((3 * $2 / 4))
+    count_index "$@"
     if [ "$quarters" -gt "$held" ]; then
         echo "with pages of $1 bytes a block has fewer than $2 pages"
     elif [ "$3" -gt 4096 ]; then
         echo "a drive has at most 4096 blocks, not $3"
     elif [ $(($1 * $2 * $3)) -gt 268435456 ]; then
         echo "a drive has at most 256 MiB (268435456 bytes), not $(($1 * $2 * $3)) bytes"
-    else
-        # the blocks of runs of 4, 16 and 64 pages and of the last run, and of the longer of the last two again
-        last=$(((($3 * quarters + held - 1) / held + 24 + $2 - 1) / $2))
-        third=$(((64 + $2 - 1) / $2))
-        longer=$((last > third ? last : third))
-        index=$(((4 + $2 - 1) / $2 + (16 + $2 - 1) / $2 + third + last + longer))
-        if [ $((64 + 2 * (index + 4))) -gt "$1" ]; then
-            echo "a root with $((index + 4)) block numbers does not fit a page of $1 bytes"
-        elif [ "$3" -lt $((9 + index)) ]; then
-            echo "a drive of this page and block has at least $((9 + index)) blocks, not $3"
-        fi
+    elif [ $((64 + 2 * (index + 4))) -gt "$1" ]; then
+        echo "a root with $((index + 4)) block numbers does not fit a page of $1 bytes"
+    elif [ "$3" -lt $((9 + index)) ]; then
+        echo "a drive of this page and block has at least $((9 + index)) blocks, not $3"
+    fi
+}
+
+limits_fault() { # P N M LIMITS..: the first rule of docs/FORMATS.md that limits of an allowed shape break
+    count_index "$1" "$2" "$3"
+    most=$((($3 - 7 - index) * quarters)) page=$1
+    shift 3
+    if [ $# -gt 8 ]; then
+        echo "a drive has at most 8 namespaces, not $#" && return
+    fi
+    sum=0
+    for limit; do
+        [ "$limit" -gt 0 ] || { echo "a namespace has a limit of at least one page" && return; }
+        sum=$((sum + limit))
+    done
+    if [ "$sum" -gt "$most" ]; then
+        echo "the limits are together $sum pages; this drive has $most"
+    elif [ $((96 + 2 * (index + 4))) -gt "$page" ]; then
+        echo "a root with limits does not fit a page of $page bytes"
     fi
 }
 
@@ -97,11 +118,8 @@ spared_fault() { # IMAGE spared S WORDS..
     shift $(($# < 4 ? $# : 4))
     case $word in
         make)
-            if [ $# -eq 3 ] && is_number "$1" && is_number "$2" && is_number "$3" && [ -z "$(shape_fault "$1" "$2" "$3")" ]; then
-                echo "with $spares spare blocks and two of tables: $(shape_fault "$1" "$2" $(($3 + spares + 2)))"
-            else
-                operands_fault make "$@"
-            fi
+            fault=$(operands_fault make "$@")
+            echo "${fault:-with $spares spare blocks and two of tables: $(shape_fault "$1" "$2" $(($3 + spares + 2)))}"
             ;;
         serve | put | get | del | has | list | stat | gen) operands_fault "$word" "$@" ;;
         *) echo "there is no word '$word' for a drive with spare blocks; the words are make serve put get del has list stat gen" ;;
@@ -134,7 +152,7 @@ operands_fault() { # WORD OPERANDS..
     word=$1
     shift
     case $word in
-        make) wanted=3 operands='P N M' ;;
+        make) wanted=$(($# > 3 ? $# : 3)) operands='P N M and at most 8 limits' ;;
         serve) wanted=1 operands=FRAMES ;;
         put) wanted=2 operands='KEY BYTES' ;;
         gen) wanted=2 operands='START COUNT' ;;
@@ -154,7 +172,10 @@ operands_fault() { # WORD OPERANDS..
             ;;
     esac
     case $word in
-        make) shape_fault "$@" ;;
+        make)
+            fault=$(shape_fault "$1" "$2" "$3")
+            echo "${fault:-$(limits_fault "$@")}"
+            ;;
         serve) echo "there are at most 16384 frames, not $1" ;;
         get | del | has | list) key_fault "$1" ;;
         put)

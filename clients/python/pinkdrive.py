@@ -15,7 +15,9 @@ Sending and waiting. A command is sent as an entry of 64 bytes, and the records 
 of the commands. `d[key] = value` does not wait: as with a buffered file, the value is on the flash
 after `flush()` or `close()` (the end of the `with`), which raise a refusal of it. Every other call
 waits, and raises the error that the drive reports. `send` sends any command without waiting, for a
-pipeline of one's own. A drive that is not closed is closed when it is collected or the process ends;
+pipeline of one's own. A drive may have up to eight namespaces, each with its own keys and its own limit
+(`make(.., limits=(100, 392))`); a `Drive` uses the one that it was opened with, 1 unless said, and each
+call may name another one. A drive that is not closed is closed when it is collected or the process ends;
 a refusal that was not raised is then a `DriveWarning`.
 
 Exceptions. A status of the drive other than success is an exception with the standard's name, such as
@@ -81,6 +83,8 @@ MOST_SPARES = 64
 """The most spare blocks of a drive."""
 TABLE_BLOCKS = 2
 """The blocks of tables that a drive with spare blocks has."""
+NAMESPACES = 8
+"""The most namespaces of a drive."""
 ENTRY = struct.Struct("<BxHI8s24xIBB10x8s")
 """A submission entry: opcode, identifier, namespace, key, size, key length, options, key."""
 RECORD = struct.Struct("<I4xHHIII")
@@ -148,6 +152,11 @@ class Shape(NamedTuple):
         return sum(blocks) + max(blocks[2:])
 
     @property
+    def live_pages(self) -> int:
+        """The pages that the values of all keys of all namespaces may take."""
+        return (self.blocks - 7 - self.index_blocks) * (3 * self.block_pages // 4)
+
+    @property
     def image_bytes(self) -> int:
         """The length of the image file."""
         return 32 + self.block_pages * self.blocks * (self.page_bytes + 1)
@@ -175,6 +184,19 @@ class Shape(NamedTuple):
         if blocks < 9 + index:
             return f"a drive of this page and block has at least {9 + index} blocks, not {blocks}"
         return None
+
+
+def limits_fault(shape: Shape, limits: Sequence[int]) -> Optional[str]:
+    """The first rule that the limits of namespaces break, in words; None if they are allowed."""
+    if len(limits) > NAMESPACES:
+        return f"a drive has at most {NAMESPACES} namespaces, not {len(limits)}"
+    if 0 in limits:
+        return "a namespace has a limit of at least one page"
+    if sum(limits) > shape.live_pages:
+        return f"the limits are together {sum(limits)} pages; this drive has {shape.live_pages}"
+    if limits and 96 + 2 * (shape.index_blocks + 4) > shape.page_bytes:
+        return f"a root with limits does not fit a page of {shape.page_bytes} bytes"
+    return None
 
 
 def shape_of(image: Path) -> Optional[Shape]:
@@ -316,21 +338,25 @@ STATUS_ERRORS: Dict[int, Type[StatusError]] = {it.status: it for it in StatusErr
 
 
 class Limits(NamedTuple):
-    """The shape of a drive, and the pages that the values of all keys may take."""
+    """The shape of a drive, and the pages that the values of a namespace may take; 0 if not known."""
 
     shape: Shape
     live_pages: int
 
 
-def refusal_text(status: int, opcode: int, key: bytes, size: int, limits: Optional[Limits]) -> str:
+def refusal_text(
+    status: int, opcode: int, key: bytes, size: int, limits: Optional[Limits], namespace: int = 1
+) -> str:
     """What the status of a command means, in words, with the limit; `size` as in the command."""
     if status == 0x01:
         return f"the drive has no command {opcode:02X}h (status 01h)"
     if status == 0x02:
         return f"a List needs a buffer of at least 4 bytes, not {size} (status 02h)"
+    if status == 0x0B:
+        return f"the drive has no namespace {namespace} (status 0Bh)"
     if status == 0x81:
         tail = ""
-        if limits:
+        if limits and limits.live_pages:
             pages, all_pages = limits.shape.pages_of(size), limits.live_pages
             tail = f": its value takes {pages} pages, and the values of all keys at most {all_pages}"
         return f"no space for the key {key!r}{tail} (status 81h)"
@@ -423,7 +449,8 @@ def cause_of(status: int, image: Path, words: Sequence[str] = ("serve",)) -> Opt
             name = "unknown"
         return f"ended by signal {number} ({name}); what was answered is on the flash"
     if status == 2 and making:
-        return _shape_fault(spares, Shape(*map(int, words[1:4])))
+        shape, limits = Shape(*map(int, words[1:4])), list(map(int, words[4:]))
+        return _shape_fault(spares, shape) or limits_fault(shape, limits)
     if status == 2:
         several = f"frames are 0 to 16384, and spare blocks 1 to {MOST_SPARES}"
         return several if spares else "frames are 0 to 16384"
@@ -491,15 +518,27 @@ class Reply(NamedTuple):
 class Pending:
     """A command that was sent. `result()` waits for its record."""
 
-    __slots__ = ("_session", "_number", "_waiters", "opcode", "key", "size", "status", "reply", "unheard")
+    __slots__ = (
+        "_session",
+        "_number",
+        "_waiters",
+        "opcode",
+        "key",
+        "size",
+        "namespace",
+        "status",
+        "reply",
+        "unheard",
+    )
 
-    def __init__(self, session: _Session, opcode: int, key: bytes, size: int) -> None:
+    def __init__(self, session: _Session, opcode: int, key: bytes, size: int, namespace: int = 1) -> None:
         self._session = session
         self._number = 0
         self._waiters: List[threading.Lock] = []
         self.opcode = opcode
         self.key = key
         self.size = size
+        self.namespace = namespace
         self.status: Optional[int] = None
         self.reply = Reply(0, 0, b"")
         self.unheard = False  # if nobody waits for it, flush or close raises a refusal
@@ -518,7 +557,8 @@ class Pending:
     def error(self) -> DriveError:
         """The exception of its status."""
         status = self.status or 0
-        text = refusal_text(status, self.opcode, self.key, self.size, self._session.limits)
+        limits = self._session.limits_in(self.namespace)
+        text = refusal_text(status, self.opcode, self.key, self.size, limits, self.namespace)
         known = STATUS_ERRORS.get(status)
         return known(self.key, text) if known else DriveError(text)
 
@@ -531,8 +571,11 @@ class _Session:
     thread that reads takes the second alone, and never waits for one that sends.
     """
 
-    def __init__(self, program: str, image: str, frames: int, stderr: Any, spares: int) -> None:
+    def __init__(
+        self, program: str, image: str, frames: int, stderr: Any, spares: int, namespace: int
+    ) -> None:
         self.image = image
+        self.namespace = namespace
         self.words = spared(spares, ["serve", str(frames)])
         self.limits: Optional[Limits] = None
         self.pid = os.getpid()
@@ -563,8 +606,16 @@ class _Session:
         self._reader.start()
         _open_sessions.add(self)
 
-    def send(self, opcode: int, key: bytes, size: int, options: int, value: bytes, unheard: bool) -> Pending:
-        pending = Pending(self, opcode, key, size)
+    def limits_in(self, namespace: int) -> Optional[Limits]:
+        """The limits in a namespace; that of its pages is known of the session's own namespace alone."""
+        if self.limits is None or namespace == self.namespace:
+            return self.limits
+        return self.limits._replace(live_pages=0)
+
+    def send(
+        self, opcode: int, key: bytes, size: int, options: int, value: bytes, unheard: bool, namespace: int
+    ) -> Pending:
+        pending = Pending(self, opcode, key, size, namespace)
         pending.unheard = unheard
         with self._sending:
             self._append(pending, options, value)
@@ -581,8 +632,9 @@ class _Session:
         number, key = self._sent, pending.key
         front = key[:KEY_BYTES].ljust(KEY_BYTES, b"\0")
         length = min(len(key), 255)
+        space = pending.namespace
         entry = ENTRY.pack(
-            pending.opcode, number % 65536, 1, front[:8], pending.size, length, options, front[8:]
+            pending.opcode, number % 65536, space, front[:8], pending.size, length, options, front[8:]
         )
         pending._number = number
         try:
@@ -806,13 +858,17 @@ class Drive(MutableMapping[bytes, bytes]):
         stderr: Any = None,
         timeout: float = 0,
         spares: int = 0,
+        namespace: int = 1,
     ) -> None:
-        """Opens the drive. One that was made with spare blocks names their number again.
+        """Opens the drive, for calls in a namespace of it.
+
+        One that was made with spare blocks names their number again.
 
         It waits for at most `timeout` seconds while another process has the image open, and raises
         `ImageInUse` then. `stderr`, as subprocess takes it, gets what building the program says.
         """
         self.image = os.fspath(image)
+        self.namespace = namespace
         last = time.monotonic() + timeout
         pause = 0.005
         while True:
@@ -829,9 +885,9 @@ class Drive(MutableMapping[bytes, bytes]):
         weakref.finalize(self, _close_collected, self._session).atexit = False
 
     def _open(self, program: str, frames: int, stderr: Any, spares: int) -> _Session:
-        session = _Session(program, self.image, frames, stderr, spares)
+        session = _Session(program, self.image, frames, stderr, spares, self.namespace)
         try:
-            report = session.send(Opcode.REPORT, b"", 0, 0, b"", False).result().data
+            report = session.send(Opcode.REPORT, b"", 0, 0, b"", False, self.namespace).result().data
         except BaseException:
             session.abandon()
             raise
@@ -860,31 +916,51 @@ class Drive(MutableMapping[bytes, bytes]):
         return f"<Drive {self.image!r}{', closed' if self.closed else ''}>"
 
     def send(
-        self, opcode: int, key: Bytes = b"", size: int = 0, options: int = 0, value: Bytes = b""
+        self,
+        opcode: int,
+        key: Bytes = b"",
+        size: int = 0,
+        options: int = 0,
+        value: Bytes = b"",
+        namespace: Optional[int] = None,
     ) -> Pending:
         """Sends a command and waits for nothing. Its `Pending` has the answer.
 
         `size` is the buffer of a Retrieve or a List and the steps of a Tick; of a Store it is the
-        value's length, whatever is named.
+        value's length, whatever is named. `namespace` is the drive's own unless it is named.
         """
-        return self._send(opcode, key, size, options, value, False)
+        return self._send(opcode, key, size, options, value, False, namespace)
 
     def _send(
-        self, opcode: int, key: Bytes, size: int, options: int, value: Bytes, unheard: bool
+        self,
+        opcode: int,
+        key: Bytes,
+        size: int,
+        options: int,
+        value: Bytes,
+        unheard: bool,
+        namespace: Optional[int] = None,
     ) -> Pending:
         key = _bytes(key)
+        space = self.namespace if namespace is None else namespace
         if opcode != STORE:
-            return self._session.send(opcode, key, size, options, b"", unheard)
+            return self._session.send(opcode, key, size, options, b"", unheard, space)
         value = _bytes(value)
         if len(value) >= 2**32:
             text = refusal_text(InvalidValueSize.status, opcode, key, len(value), self.limits)
             raise InvalidValueSize(key, text)
-        return self._session.send(opcode, key, len(value), options, value, unheard)
+        return self._session.send(opcode, key, len(value), options, value, unheard, space)
 
     # Commands that are waited for.
 
     def store(
-        self, key: Bytes, value: Bytes, *, if_absent: bool = False, if_exists: bool = False
+        self,
+        key: Bytes,
+        value: Bytes,
+        *,
+        if_absent: bool = False,
+        if_exists: bool = False,
+        namespace: Optional[int] = None,
     ) -> None:
         """Stores a value, and returns when it is on the flash.
 
@@ -892,67 +968,79 @@ class Drive(MutableMapping[bytes, bytes]):
         `KeyDoesNotExist` if it is not.
         """
         options = bool(if_exists) + 2 * bool(if_absent)
-        self.send(Opcode.STORE, key, options=options, value=value).result()
+        self.send(Opcode.STORE, key, options=options, value=value, namespace=namespace).result()
 
-    def retrieve(self, key: Bytes, size: int = GREATEST_VALUE) -> bytes:
+    def retrieve(
+        self, key: Bytes, size: int = GREATEST_VALUE, *, namespace: Optional[int] = None
+    ) -> bytes:
         """The first bytes of a value, at most `size`."""
-        return self.send(Opcode.RETRIEVE, key, size).result().data
+        return self.send(Opcode.RETRIEVE, key, size, namespace=namespace).result().data
 
-    def length(self, key: Bytes) -> int:
+    def length(self, key: Bytes, *, namespace: Optional[int] = None) -> int:
         """The length of a value in bytes."""
-        return self.send(Opcode.RETRIEVE, key, 0).result().result
+        return self.send(Opcode.RETRIEVE, key, 0, namespace=namespace).result().result
 
-    def delete(self, key: Bytes) -> None:
+    def delete(self, key: Bytes, *, namespace: Optional[int] = None) -> None:
         """Deletes a key, and returns when that is on the flash."""
-        self.send(Opcode.DELETE, key).result()
+        self.send(Opcode.DELETE, key, namespace=namespace).result()
 
-    def exist(self, key: Bytes) -> bool:
+    def exist(self, key: Bytes, *, namespace: Optional[int] = None) -> bool:
         """Whether a key exists."""
         try:
-            self.send(Opcode.EXIST, key).result()
+            self.send(Opcode.EXIST, key, namespace=namespace).result()
         except KeyDoesNotExist:
             return False
         return True
 
     def flush(self) -> None:
         """Returns when all that was sent is on the flash; raises refusals nobody waited for."""
-        self.send(Opcode.FLUSH).result()
+        self.send(Opcode.FLUSH, namespace=1).result()
         refusal = self._session.refusal()
         if refusal:
             raise refusal
 
-    def report(self) -> Report:
-        """The drive's numbers."""
-        return Report._make(struct.unpack("<16I", self.send(Opcode.REPORT).result().data))
+    def report(self, *, namespace: Optional[int] = None) -> Report:
+        """The drive's numbers: `live`, `limit` and `keys` of the namespace, the others of the whole drive."""
+        data = self.send(Opcode.REPORT, namespace=namespace).result().data
+        return Report._make(struct.unpack("<16I", data))
 
-    def tick(self, steps: int = 16) -> None:
-        """Lets the drive make this many steps of its background work, or fewer."""
-        self.send(Opcode.TICK, size=steps).result()
+    def tick(self, steps: int = 16, *, namespace: Optional[int] = None) -> None:
+        """Lets the drive make this many steps of its background work, or fewer, for all namespaces."""
+        self.send(Opcode.TICK, size=steps, namespace=namespace).result()
 
-    def keys_from(self, start: Bytes = b"") -> Iterator[bytes]:
+    def keys_from(self, start: Bytes = b"", *, namespace: Optional[int] = None) -> Iterator[bytes]:
         """The keys in their order, from `start` on."""
-        for page in self._pages_of_keys(_bytes(start)):
+        for page in self._pages_of_keys(_bytes(start), namespace):
             yield from page
 
-    def items_from(self, start: Bytes = b"") -> Iterator[Tuple[bytes, bytes]]:
+    def items_from(
+        self, start: Bytes = b"", *, namespace: Optional[int] = None
+    ) -> Iterator[Tuple[bytes, bytes]]:
         """The keys in their order, from `start` on, each with its value."""
-        for key, value in self._values_of(self.keys_from(start)):
+        keys = self.keys_from(start, namespace=namespace)
+        for key, value in self._values_of(keys, namespace):
             if value is not None:  # else it was deleted meanwhile
                 yield key, value
 
     def get_many(
-        self, keys: Iterable[Bytes], default: Optional[Default] = None
+        self,
+        keys: Iterable[Bytes],
+        default: Optional[Default] = None,
+        *,
+        namespace: Optional[int] = None,
     ) -> Iterator[Union[bytes, Optional[Default]]]:
         """The values of these keys, in their order, asked for in a pipeline."""
-        for _, value in self._values_of(keys):
+        for _, value in self._values_of(keys, namespace):
             yield default if value is None else value
 
-    def _values_of(self, keys: Iterable[Bytes]) -> Iterator[Tuple[bytes, Optional[bytes]]]:
+    def _values_of(
+        self, keys: Iterable[Bytes], namespace: Optional[int] = None
+    ) -> Iterator[Tuple[bytes, Optional[bytes]]]:
         """Keys with their values: the first is asked for alone, the next further and further ahead."""
         ahead: Deque[Pending] = collections.deque()
         most, longest = 1, 1
         for key in keys:
-            ahead.append(self.send(Opcode.RETRIEVE, key, GREATEST_VALUE))
+            ahead.append(self.send(Opcode.RETRIEVE, key, GREATEST_VALUE, namespace=namespace))
             if len(ahead) >= most:
                 found = _value_of(ahead.popleft())
                 longest = max(longest, len(found[1] or b""))
@@ -960,12 +1048,12 @@ class Drive(MutableMapping[bytes, bytes]):
                 most = max(1, min(2 * most, AHEAD, AHEAD_BYTES // longest))
         yield from map(_value_of, ahead)
 
-    def _pages_of_keys(self, start: bytes) -> Iterator[List[bytes]]:
+    def _pages_of_keys(self, start: bytes, namespace: Optional[int] = None) -> Iterator[List[bytes]]:
         last: Optional[bytes] = None
         turn = 0
         while True:
             size = LIST_BYTES[min(turn, len(LIST_BYTES) - 1)]
-            listed = _keys_in(self.send(Opcode.LIST, start, size).result().data)
+            listed = _keys_in(self.send(Opcode.LIST, start, size, namespace=namespace).result().data)
             page = listed[1:] if listed and listed[0] == last else listed
             if not page:
                 return
@@ -1042,13 +1130,15 @@ def make(
     program: Optional[str] = None,
     stderr: Any = None,
     spares: int = 0,
+    limits: Sequence[int] = (),
 ) -> None:
     """Makes the image of a drive without keys; `DriveEnded` with status 9 if there is one.
 
     With spare blocks, 1 to 64, the drive goes on if a program or an erase of a block fails: the
-    block moves to a spare one.
+    block moves to a spare one. `limits` are the pages that the values of namespaces 1, 2 and so on
+    may take, of one to eight namespaces; without them there is one, whose values may take all pages.
     """
-    words = spared(spares, ["make", *map(str, (page_bytes, block_pages, blocks))])
+    words = spared(spares, ["make", *map(str, (page_bytes, block_pages, blocks, *limits))])
     run = subprocess.run(
         [program or PROGRAM, image_word(image), *words],
         stdin=subprocess.DEVNULL,

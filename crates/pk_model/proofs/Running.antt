@@ -58,8 +58,11 @@ module _ (shape : Shape) (old : BoardState) (P : Flash → List ℕ → Type 0) 
     pub Reaches-erase : (new : BoardState) → new ≡ after_erase old block → Reaches shape old new P
     Reaches-erase new made =
         let Q : BoardState → Type 0 = λ b. Reaches shape old b P in
-        subst Q (sym made) (erase block ∷ [], Reached-erase old P block (within_board (erase block) refl within grows limited) (done (erase block) refl within grows limited),
-        ((grows, keeps (erase block) refl within grows limited), tt))
+        subst Q (sym made) (
+          erase block ∷ [],
+          Reached-erase old P block (within_board (erase block) refl within grows limited) (done (erase block) refl within grows limited),
+          ((grows, keeps (erase block) refl within grows limited), tt),
+        )
 
     pub Goes-erase : (new : BoardState) → EraseFailed old new block → Goes shape old new P
     Goes-erase new failed = Goes-failed (erase block) refl within grows limited new failed.left (ap (λ s. s.shape) failed.rest) (ap (λ s. s.posted) failed.rest) refl
@@ -70,8 +73,11 @@ module _ (shape : Shape) (old : BoardState) (P : Flash → List ℕ → Type 0) 
     pub Reaches-program : (new : BoardState) → new ≡ after_program old page bytes → Reaches shape old new P
     Reaches-program new made =
         let Q : BoardState → Type 0 = λ b. Reaches shape old b P in
-        subst Q (sym made) (program page bytes ∷ [], Reached-program old P page bytes (within_board (program page bytes) refl within grows limited) (done (program page bytes) refl within grows limited),
-        ((grows, keeps (program page bytes) refl within grows limited), tt))
+        subst Q (sym made) (
+          program page bytes ∷ [],
+          Reached-program old P page bytes (within_board (program page bytes) refl within grows limited) (done (program page bytes) refl within grows limited),
+          ((grows, keeps (program page bytes) refl within grows limited), tt),
+        )
 
     pub Goes-program : (new : BoardState) → ProgramFailed old new page bytes → Goes shape old new P
     Goes-program new failed = Goes-failed (program page bytes) refl within grows limited new failed.left (ap (λ s. s.shape) failed.rest) (ap (λ s. s.posted) failed.rest) refl

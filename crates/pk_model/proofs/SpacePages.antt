@@ -1,5 +1,5 @@
 -- The live pages of a namespace are the pages of its values; what one more value makes of them.
-use Rattle.std.proofs.Common.{◌≡◌, ℕ, ◌+◌, ◌<◌, ◌≤◌, refl, sym, ap, subst, ◌∙◌, arith, true, false, List, [], ◌∷◌, length, ◌==◌, if◌then◌else◌, Ok, eqb-true}
+use Rattle.std.proofs.Common.{◌≡◌, ℕ, ◌+◌, ◌<◌, ◌≤◌, refl, sym, ap, subst, ◌∙◌, arith, true, false, List, [], ◌∷◌, length, ◌==◌, if◌then◌else◌, Ok, eqb-true, eq-eqb}
 use Rattle.std.specs.FinMap.{entries, entries-insert, insert}
 use Rattle.std.specs.FinMap.Entries.{put, where_key}
 use Rattle.pk_base.specs.Key.{Key, key_cmp, space_of}
