@@ -1,5 +1,5 @@
 -- The live pages of a namespace are the pages of its values; what one more value makes of them.
-use Rattle.std.proofs.Common.{◌≡◌, ℕ, ◌+◌, ◌<◌, ◌≤◌, refl, sym, ap, subst, ◌∙◌, Bool, true, false, List, [], ◌∷◌, length, ◌==◌, if◌then◌else◌, Ok, eqb-true, eq-eqb}
+use Rattle.std.proofs.Common.{◌≡◌, ℕ, ◌+◌, ◌<◌, ◌≤◌, refl, sym, ap, subst, ◌∙◌, arith, true, false, List, [], ◌∷◌, length, ◌==◌, if◌then◌else◌, Ok, eqb-true, eq-eqb}
 use Rattle.std.specs.FinMap.{entries, entries-insert, insert}
 use Rattle.std.specs.FinMap.Entries.{put, where_key}
 use Rattle.pk_base.specs.Key.{Key, key_cmp, space_of}
@@ -27,7 +27,7 @@ pages_of_part shape space (v ∷ vs) =
     elim (space_of v.0 == space) as (λ t. pages_in shape (if t then v ∷ where_key key_cmp (λ k. space_of k == space) vs else where_key key_cmp (λ k. space_of k == space) vs)
     ≡ (if t then pages_of shape v.1 else 0) + pages_in_space shape space vs) [
       | true ↦ ap (λ n. pages_of shape v.1 + n) (pages_of_part shape space vs)
-      | false ↦ pages_of_part shape space vs
+      | false ↦ let rest = pages_of_part shape space vs in omega (arith, rest)
     ]
 
 pub live_of_part : (shape : Shape) (space : ℕ) (m : Map) → live shape (in_space space m) ≡ pages_in_space shape space (entries m)
