@@ -15,8 +15,9 @@ use Rattle.pk_nand.proofs.Leaving.{interrupted_done}
 use Rattle.pk_nand.proofs.Touching.{untouched}
 use Rattle.pk_seg.specs.Stored.{written, WriteFailed}
 use Rattle.pk_model.specs.Found.{Found}
+use Rattle.pk_model.specs.Spaces.{limits_at}
 use Rattle.pk_model.specs.Growth.{Grows, Reaches, Goes}
-use Rattle.pk_model.proofs.Growing.{at_end, Reaches-then, Goes-then}
+use Rattle.pk_model.proofs.Growing.{at_end, top_limits, Reaches-then, Goes-then}
 use Rattle.pk_nand.specs.Effects.{Works, Stops}
 use Rattle.pk_model.proofs.Running.{Reaches-none, Reaches-erase, Goes-erase, Reaches-program, Goes-program}
 use Rattle.pk_nand.proofs.Effects.{works_none, works_program, works_then, stops_program, stops_then}
@@ -41,6 +42,10 @@ module _ (shape : Shape) (root : Root) (found : Found) (pending : List Entry) (k
 
   grows_still : (a b : Flash) → SameStill a → SameStill b → Grows shape a b
   grows_still a b first second = inl (same_top shape root found pending start b (read_still b second) ∙ sym (same_top shape root found pending start a (read_still a first)))
+
+  limits_still : (a b : Flash) → SameStill a → SameStill b → limits_at shape b ≡ limits_at shape a
+  limits_still a b first second =
+      top_limits shape b a (same_top shape root found pending start b (read_still b second) ∙ sym (same_top shape root found pending start a (read_still a first)))
 
   module _ (a b c : BoardState) (has : a.shape ≡ Some shape) (begun : Reaches shape a b StillCut) where
     silent : all_posted begun.0 ≡ []
@@ -73,11 +78,14 @@ module _ (shape : Shape) (root : Root) (found : Found) (pending : List Entry) (k
       grows_erase : Grows shape old.pages (after shape (erase block) old.pages)
       grows_erase = grows_still old.pages (after shape (erase block) old.pages) so_far (within_erase (after shape (erase block) old.pages) (interrupted_done shape (erase block) old.pages)).1
 
+      limited_erase : (f : Flash) → Interrupted shape (erase block) old.pages f [] → limits_at shape f ≡ limits_at shape old.pages
+      limited_erase f cut = limits_still old.pages f so_far (within_erase f cut).1
+
       pub still_erase : (new : BoardState) → new ≡ after_erase old block → Reaches shape old new StillCut
-      still_erase new made = Reaches-erase shape old StillCut has block within_erase grows_erase new made
+      still_erase new made = Reaches-erase shape old StillCut has block within_erase grows_erase limited_erase new made
 
       pub still_erase_failed : (new : BoardState) → EraseFailed old new block → Goes shape old new StillCut
-      still_erase_failed new failed = Goes-erase shape old StillCut has block within_erase grows_erase new failed
+      still_erase_failed new failed = Goes-erase shape old StillCut has block within_erase grows_erase limited_erase new failed
 
     -- a program of a page that is not read, in a pair of which no page is
     module _ (page : ℕ) (bytes : List ℕ) (unread : (k : ℕ) → Touches shape (program page bytes) k → IsStill shape root found pending kept k → ⊥) where
@@ -88,11 +96,14 @@ module _ (shape : Shape) (root : Root) (found : Found) (pending : List Entry) (k
       grows_program = grows_still old.pages (after shape (program page bytes) old.pages) so_far
           (within_program (after shape (program page bytes) old.pages) (interrupted_done shape (program page bytes) old.pages)).1
 
+      limited_program : (f : Flash) → Interrupted shape (program page bytes) old.pages f [] → limits_at shape f ≡ limits_at shape old.pages
+      limited_program f cut = limits_still old.pages f so_far (within_program f cut).1
+
       pub still_program : (new : BoardState) → new ≡ after_program old page bytes → Reaches shape old new StillCut
-      still_program new made = Reaches-program shape old StillCut has page bytes within_program grows_program new made
+      still_program new made = Reaches-program shape old StillCut has page bytes within_program grows_program limited_program new made
 
       pub still_program_failed : (new : BoardState) → ProgramFailed old new page bytes → Goes shape old new StillCut
-      still_program_failed new failed = Goes-program shape old StillCut has page bytes within_program grows_program new failed
+      still_program_failed new failed = Goes-program shape old StillCut has page bytes within_program grows_program limited_program new failed
 
   -- the pages of a value, whole pairs
   module _ (old : BoardState) (has : old.shape ≡ Some shape) (so_far : SameStill old.pages) (key : Key) (page : ℕ) (value : List ℕ)

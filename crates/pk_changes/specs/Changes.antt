@@ -4,7 +4,7 @@ use Rattle.std.specs.FinMap.{insert, remove}
 use Rattle.std.specs.FinMap.Entries.{find}
 use Rattle.pk_base.specs.Entry.{Place}
 use Rattle.pk_base.specs.Fields.{AreBytes}
-use Rattle.pk_base.specs.Key.{Key, key_cmp}
+use Rattle.pk_base.specs.Key.{Key, key_cmp, space_of}
 use Rattle.pk_base.specs.Shape.{Shape, limit, greatest, page_entries}
 use Rattle.pk_base.specs.Page.{Flash}
 use Rattle.pk_base.specs.Map.{Map, live}
@@ -13,24 +13,33 @@ use Rattle.pk_nand.specs.declared.types.Fault.{Fault}
 use Rattle.pk_nand.specs.Calls.{IsReady}
 use Rattle.pk_model.specs.Steps.{Step}
 use Rattle.pk_law_steps.specs.Under.{places}
+use Rattle.pk_model.specs.Spaces.{in_space, limit_of, limits_at}
 use Rattle.pk_model.specs.Growth.{Reaches, Goes}
 use Rattle.pk_parts.specs.Parts.{Parts, frames_of}
 use Rattle.pk_model.specs.Crashes.{CrashFinds, change}
 use Rattle.pk_parts.specs.Moves.{StandsFor, KeepsAll}
 use Rattle.pk_background.specs.Emptying.{StepOrRead}
 
--- A key may get a value: its value was at this place until now, or there was none, and the live pages are within their limit with the new one.
+-- There is room for a value of a key: the key is of a namespace of the drive, whose live pages are within its limit with the value, and all
+-- live pages are within theirs.
+pub record HasRoomFor (shape : Shape) (flash : Flash) (m : Map) (key : Key) (value : List ℕ) : Type 0 where
+  pub spaced : space_of key ≤ length (limits_at shape flash)
+  pub own : live shape (in_space (space_of key) (insert m key value)) ≤ limit_of (limits_at shape flash) (space_of key)
+  pub all : live shape (insert m key value) ≤ limit shape
+
+-- A key may get a value: its value was at this place until now, or there was none, and there is room for the new one.
 pub record MayPut (d : Parts) (shape : Shape) (flash : Flash) (m : Map) (key : Key) (value : List ℕ) (old : Option Place) : Type 0 where
   pub stands : StandsFor d shape flash m
   pub old_is : find key_cmp key (places stands.found d.log.pending) ≡ old
   pub bytes : AreBytes key
-  pub room : live shape (insert m key value) ≤ limit shape
+  pub room : HasRoomFor shape flash m key value
 
--- a key has its value at this place, and may lose it
+-- a key of a namespace of the drive has its value at this place, and may lose it
 pub record MayTake (d : Parts) (shape : Shape) (flash : Flash) (m : Map) (key : Key) (old : Place) : Type 0 where
   pub stands : StandsFor d shape flash m
   pub old_is : find key_cmp key (places stands.found d.log.pending) ≡ Some old
   pub bytes : AreBytes key
+  pub spaced : space_of key ≤ length (limits_at shape flash)
 
 -- The drive represents the map after the change. At every cut the flash holds what it held, or the map before it, or the one after it.
 pub record Changes (after : Parts) (shape : Shape) (m m' : Map) (old new : BoardState) : Type 0 where

@@ -1,24 +1,25 @@
 -- An entry in memory: what must hold before it, so that the drive represents the map with it afterwards.
 use Rattle.std.specs.Prelude.{◌≡◌, ℕ, ◌+◌, ◌/◌, ◌≤◌, List, length, Option, Some, None, Result}
-use Rattle.std.specs.FinMap.{insert}
 use Rattle.std.specs.FinMap.Entries.{find}
 use Rattle.pk_base.specs.Entry.{Place}
 use Rattle.pk_base.specs.Fields.{AreBytes}
-use Rattle.pk_base.specs.Key.{Key, key_cmp}
-use Rattle.pk_base.specs.Shape.{Shape, charge, limit}
+use Rattle.pk_base.specs.Key.{Key, key_cmp, space_of}
+use Rattle.pk_base.specs.Shape.{Shape, charge}
 use Rattle.pk_base.specs.Page.{Flash}
 use Rattle.pk_base.specs.EntryChecks.{IsPlace}
-use Rattle.pk_base.specs.Map.{Map, live}
+use Rattle.pk_base.specs.Map.{Map}
 use Rattle.pk_rootfmt.specs.Root.{Root}
 use Rattle.pk_model.specs.Found.{Found}
 use Rattle.pk_law_steps.specs.Under.{places}
 use Rattle.pk_nand.specs.BoardState.{BoardState}
 use Rattle.pk_nand.specs.declared.types.Fault.{Fault}
+use Rattle.pk_model.specs.Spaces.{limits_at}
 use Rattle.pk_model.specs.Steps.{Step}
 use Rattle.pk_values.specs.Placed.{HoldsValues}
 use Rattle.pk_values.specs.Entries.{IsInOpen}
 use Rattle.pk_parts.specs.Parts.{Parts}
 use Rattle.pk_parts.specs.Agreeing.{DriveOnFlashWith, IsWhole}
+use Rattle.pk_changes.specs.Changes.{HasRoomFor}
 use Rattle.pk_parts.specs.Moves.{KeepsAll, BreaksAll, IsWritten}
 
 -- A key is to have a value that was written into the open block and is in no map yet. Until now it had the one at old, or none.
@@ -33,7 +34,7 @@ pub record Puts (d : Parts) (shape : Shape) (flash : Flash) (m : Map) (key : Key
   pub place : IsPlace shape (record { page = page; len = length value })
   pub in_open : IsInOpen shape d.values page (charge shape (length value))
   pub bytes : AreBytes key
-  pub room : live shape (insert m key value) ≤ limit shape
+  pub room : HasRoomFor shape flash m key value
 
 -- The value of a key is at this place, and the key is to be removed.
 pub record Drops (d : Parts) (shape : Shape) (flash : Flash) (m : Map) (key : Key) (old : Place) : Type 0 where
@@ -44,11 +45,12 @@ pub record Drops (d : Parts) (shape : Shape) (flash : Flash) (m : Map) (key : Ke
   pub whole : IsWhole d
   pub old_is : find key_cmp key (places found d.log.pending) ≡ Some old
   pub bytes : AreBytes key
+  pub spaced : space_of key ≤ length (limits_at shape flash)
 
--- one more key if there was none
-abbrev pub more_keys : ℕ → Option Place → ℕ
-more_keys keys None = keys + 1
-more_keys keys (Some p) = keys
+-- the pages of the value at a place; none if there is none
+abbrev pub pages_at : Shape → Option Place → ℕ
+pages_at shape None = 0
+pages_at shape (Some p) = charge shape p.len
 
 -- whatever was under the root is still there, with the same places of values
 abbrev pub KeepsFound : Parts → Parts → BoardState → BoardState → Type 0

@@ -15,12 +15,16 @@ use Rattle.pk_nand.specs.declared.types.Fault.TheVariants.{Stopped}
 use Rattle.pk_nand.proofs.Effects.{works_program, stops_program}
 use Rattle.pk_nand.proofs.Pairing.{IsPairCut-cut, IsPairCut-done}
 use Rattle.pk_rootfmt.specs.Root.{Root, root_bytes, is_root}
+use Rattle.pk_rootfmt.specs.Newest.{newest_root}
 use Rattle.pk_model.specs.Found.{Found}
 use Rattle.pk_model.specs.Laws.{IsInstall}
+use Rattle.pk_model.specs.Spaces.{limits_at}
 use Rattle.pk_model.specs.Growth.{Grows, Reaches, Goes}
 use Rattle.pk_model.specs.Crashes.{CrashFinds, background}
 use Rattle.pk_model.specs.Wear.{root_number, roots}
 use Rattle.pk_model.proofs.Roots.{root_pair, newest_sound}
+use Rattle.pk_model.proofs.Growing.{top_limits}
+use Rattle.pk_model.proofs.RootLimits.{limits_under}
 use Rattle.pk_model.proofs.Running.{Reaches-program, Goes-program}
 use Rattle.pk_model.proofs.Steps.{roots_few}
 use Rattle.pk_root.specs.declared.next.Next.{Next}
@@ -63,6 +67,10 @@ module _ (shape : Shape) (is_shape : IsShape shape) (root : Root) (next : Next) 
     formerly : IsUnder shape start [] can.half.former can.half.former_found m
     formerly = subst (λ (p : ℕ). IsUnder shape (before_pair old.pages p) [] can.half.former can.half.former_found m) (ap again_page (sym can.half.again ∙ was)) can.half.was
 
+    -- with the same limits
+    formerly_limited : limits_at shape start ≡ limits_at shape old.pages
+    formerly_limited = subst (λ (p : ℕ). limits_at shape (before_pair old.pages p) ≡ limits_at shape old.pages) (ap again_page (sym can.half.again ∙ was)) can.half.same_limits
+
     behind_cut : (f : Flash) → IsPairCut page bytes start f → SameBehind shape old.pages f
     behind_cut = again_behind shape old page top.0 top.1 is_shape fits
 
@@ -84,6 +92,18 @@ module _ (shape : Shape) (is_shape : IsShape shape) (root : Root) (next : Next) 
     holds : (f : Flash) → Interrupted shape (program (page + 1) bytes) old.pages f [] → CrashFinds shape background old.pages m f []
     holds f cut = cut_reads f (IsPairCut-cut shape page bytes is_install.even (page + 1) start old.pages f [] (omega arith) (omega arith) so_far cut)
 
+    same_root : (at : ℕ) (f : Flash) → newest_root shape (page_at f) ≡ Some (at, top.1) → limits_at shape f ≡ limits_at shape old.pages
+    same_root at f newest = limits_under shape f (at, top.1) newest ∙ sym (limits_under shape old.pages top can.under.is_top)
+
+    limited : (f : Flash) → Interrupted shape (program (page + 1) bytes) old.pages f [] → limits_at shape f ≡ limits_at shape old.pages
+    limited f cut =
+        elim (root_pair shape start fits.possible.former page bytes top.1 f is_install
+        (IsPairCut-cut shape page bytes is_install.even (page + 1) start old.pages f [] (omega arith) (omega arith) so_far cut)) [
+          | inl former ↦ top_limits shape f start (former ∙ sym is_install.was) ∙ formerly_limited
+          | inr (inl first) ↦ same_root page f first
+          | inr (inr second) ↦ same_root (page + 1) f second
+        ]
+
     both : IsPairCut page bytes start (after shape (program (page + 1) bytes) old.pages)
     both = IsPairCut-done shape page bytes is_install.even (page + 1) start old.pages (omega arith) (omega arith) so_far
 
@@ -92,10 +112,10 @@ module _ (shape : Shape) (is_shape : IsShape shape) (root : Root) (next : Next) 
         ∙ ap (λ (p : ℕ). Some (p, top.1)) (sym fits.possible.at_first) ∙ sym can.under.is_top)
 
     again_reaches : (new : BoardState) → new ≡ after_program old (page + 1) bytes → Reaches shape old new (CrashFinds shape background old.pages m)
-    again_reaches new made = Reaches-program shape old (CrashFinds shape background old.pages m) ready.shape_is (page + 1) bytes holds grows new made
+    again_reaches new made = Reaches-program shape old (CrashFinds shape background old.pages m) ready.shape_is (page + 1) bytes holds grows limited new made
 
     again_goes : (new : BoardState) → ProgramFailed old new (page + 1) bytes → Goes shape old new (CrashFinds shape background old.pages m)
-    again_goes new failed = Goes-program shape old (CrashFinds shape background old.pages m) ready.shape_is (page + 1) bytes holds grows new failed
+    again_goes new failed = Goes-program shape old (CrashFinds shape background old.pages m) ready.shape_is (page + 1) bytes holds grows limited new failed
 
     pub before_less : root_number shape start ≤ root.number
     before_less =

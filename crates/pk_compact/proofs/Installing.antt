@@ -28,6 +28,8 @@ use Rattle.pk_law_steps.specs.Under.{IsUnder}
 use Rattle.pk_law_steps.proofs.Untouched.{under_reads}
 use Rattle.pk_model.specs.Growth.{Grows, Reaches, Goes}
 use Rattle.pk_model.specs.Crashes.{CrashFinds, background}
+use Rattle.pk_model.specs.Spaces.{limits_at}
+use Rattle.pk_model.proofs.Growing.{top_limits}
 use Rattle.pk_model.proofs.Running.{Reaches-erase, Goes-erase}
 
 -- if the newest root is the same, in whatever page, and nothing after the root blocks differs
@@ -69,11 +71,14 @@ module _ (shape : Shape) (is_shape : IsShape shape) (top : ℕ × Root) (found :
   grows : Grows shape old.pages (after shape (erase other) old.pages)
   grows = inl ((still_under (after shape (erase other) old.pages) finished).is_top ∙ sym under.is_top)
 
+  limited : (f : Flash) → Interrupted shape (erase other) old.pages f [] → limits_at shape f ≡ limits_at shape old.pages
+  limited f cut = top_limits shape f old.pages ((still_under f cut).is_top ∙ sym under.is_top)
+
   pub other_reaches : (new : BoardState) → new ≡ after_erase old other → Reaches shape old new (CrashFinds shape background old.pages m)
-  other_reaches new made = Reaches-erase shape old (CrashFinds shape background old.pages m) ready.shape_is other holds grows new made
+  other_reaches new made = Reaches-erase shape old (CrashFinds shape background old.pages m) ready.shape_is other holds grows limited new made
 
   pub other_goes : (new : BoardState) → EraseFailed old new other → Goes shape old new (CrashFinds shape background old.pages m)
-  other_goes new failed = Goes-erase shape old (CrashFinds shape background old.pages m) ready.shape_is other holds grows new failed
+  other_goes new failed = Goes-erase shape old (CrashFinds shape background old.pages m) ready.shape_is other holds grows limited new failed
 
   pub other_under : (new : BoardState) → new ≡ after_erase old other → IsUnder shape new.pages [] top found m
   other_under new made =

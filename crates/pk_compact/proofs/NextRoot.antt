@@ -17,11 +17,14 @@ use Rattle.pk_rootfmt.specs.Newest.{newest_root}
 use Rattle.pk_rootfmt.proofs.AgainLemmas.{reads_back}
 use Rattle.pk_model.specs.Found.{Found}
 use Rattle.pk_model.specs.Laws.{IsInstall}
+use Rattle.pk_model.specs.Spaces.{limits_at}
+use Rattle.pk_model.specs.RootLimits.{root_limits}
 use Rattle.pk_model.specs.Tree.{Follows}
 use Rattle.pk_model.specs.Growth.{Reaches, Goes}
 use Rattle.pk_model.specs.Crashes.{CrashFinds, background}
 use Rattle.pk_model.specs.Wear.{root_number, roots}
-use Rattle.pk_model.proofs.Growing.{at_end}
+use Rattle.pk_model.proofs.Growing.{at_end, top_limits}
+use Rattle.pk_model.proofs.RootLimits.{limits_under, limits_alike}
 use Rattle.pk_model.proofs.Roots.{root_pair, root_installed}
 use Rattle.pk_model.proofs.Running.{Reaches-program, Goes-program}
 use Rattle.pk_root.specs.declared.next.Next.{Next}
@@ -46,6 +49,10 @@ number_of_top shape flash top is = rw is refl
 -- the root that follows has the next number
 number_next : (shape : Shape) (flash : Flash) (top : ℕ × Root) (found then_found : Found) (root : Root) → IsNext shape flash [] top found root then_found → root.number ≡ top.1.number + 1
 number_next shape flash top found then_found root next = elim next.step [ inl freezes ↦ freezes.number | inr merges ↦ merges.number ]
+
+-- and the same limits
+limits_next : (shape : Shape) (flash : Flash) (top : ℕ × Root) (found then_found : Found) (root : Root) → IsNext shape flash [] top found root then_found → root_limits shape root ≡ root_limits shape top.1
+limits_next shape flash top found then_found root next = limits_alike shape top.1 root (elim next.step [ inl freezes ↦ freezes.limits | inr merges ↦ merges.limits ])
 
 -- ---- the erase
 
@@ -125,6 +132,18 @@ module _ (shape : Shape) (is_shape : IsShape shape) (root : Root) (next : Next) 
     holds : (f : Flash) → Interrupted shape (program page bytes) old.pages f [] → CrashFinds shape background old.pages m f []
     holds f cut = cut_reads f (IsPairCut-cut shape page bytes is_install.even page old.pages old.pages f [] (omega arith) (omega arith) start cut)
 
+    limits_new : (at : ℕ) (f : Flash) → newest_root shape (page_at f) ≡ Some (at, root) → limits_at shape f ≡ limits_at shape old.pages
+    limits_new at f newest =
+        limits_under shape f (at, root) newest ∙ limits_next shape old.pages top found then_found root can.follows ∙ sym (limits_under shape old.pages top can.under.is_top)
+
+    limited : (f : Flash) → Interrupted shape (program page bytes) old.pages f [] → limits_at shape f ≡ limits_at shape old.pages
+    limited f cut =
+        elim (root_pair shape old.pages top page bytes root f is_install (IsPairCut-cut shape page bytes is_install.even page old.pages old.pages f [] (omega arith) (omega arith) start cut)) [
+          | inl former ↦ top_limits shape f old.pages (former ∙ sym can.under.is_top)
+          | inr (inl first) ↦ limits_new page f first
+          | inr (inr second) ↦ limits_new (page + 1) f second
+        ]
+
     abbrev then_pages : Flash
     then_pages = after shape (program page bytes) old.pages
 
@@ -133,19 +152,23 @@ module _ (shape : Shape) (is_shape : IsShape shape) (root : Root) (next : Next) 
         (behind_cut then_pages (IsPairCut-done shape page bytes is_install.even page old.pages old.pages (omega arith) (omega arith) start))
 
     root_reaches : (new : BoardState) → new ≡ after_program old page bytes → Reaches shape old new (CrashFinds shape background old.pages m)
-    root_reaches new made = Reaches-program shape old (CrashFinds shape background old.pages m) ready.shape_is page bytes holds (inr there.1) new made
+    root_reaches new made = Reaches-program shape old (CrashFinds shape background old.pages m) ready.shape_is page bytes holds (inr there.1) limited new made
 
     root_goes : (new : BoardState) → ProgramFailed old new page bytes → Goes shape old new (CrashFinds shape background old.pages m)
-    root_goes new failed = Goes-program shape old (CrashFinds shape background old.pages m) ready.shape_is page bytes holds (inr there.1) new failed
+    root_goes new failed = Goes-program shape old (CrashFinds shape background old.pages m) ready.shape_is page bytes holds (inr there.1) limited new failed
 
     root_under : (new : BoardState) → newest_root shape (page_at new.pages) ≡ Some (page, root) → SameBehind shape old.pages new.pages → IsUnder shape new.pages [] (page, root) then_found m
     root_under new newest behind = (installed shape old.pages new.pages [] top page found root then_found m is_shape tt can.under can.follows newest behind).0
 
     -- the flash before it
+    set_before : (new : BoardState) → new ≡ after_program old page bytes → before_pair new.pages page ≡ old.pages
+    set_before new made = ap (λ (b : BoardState). before_pair b.pages page) made ∙ set_back old.pages page (whole bytes) is_install.first_erased
+
     before_it : (new : BoardState) → new ≡ after_program old page bytes → IsUnder shape (before_pair new.pages page) [] top found m
-    before_it new made =
-        let same : before_pair new.pages page ≡ old.pages = ap (λ (b : BoardState). before_pair b.pages page) made ∙ set_back old.pages page (whole bytes) is_install.first_erased in
-        subst (λ (f : Flash). IsUnder shape f [] top found m) (sym same) can.under
+    before_it new made = subst (λ (f : Flash). IsUnder shape f [] top found m) (sym (set_before new made)) can.under
+
+    before_limits : (new : BoardState) → new ≡ after_program old page bytes → newest_root shape (page_at new.pages) ≡ Some (page, root) → limits_at shape (before_pair new.pages page) ≡ limits_at shape new.pages
+    before_limits new made newest = ap (limits_at shape) (set_before new made) ∙ sym (limits_new page new.pages newest)
 
   pub is_installed : (next' : Next) (new : BoardState) → SameBehind shape old.pages new.pages → Installs shape root next old next' new → IsInstalled shape root then_found m old next' new
   is_installed next' new behind i =
@@ -157,7 +180,7 @@ module _ (shape : Shape) (is_shape : IsShape shape) (root : Root) (next : Next) 
         page = i.page;
         under = under;
         installs = i.fits;
-        half = record { page = i.page; again = i.then_next; former = top; former_found = found; was = before_it i.page i.was new i.program };
+        half = record { page = i.page; again = i.then_next; former = top; former_found = found; was = before_it i.page i.was new i.program; same_limits = before_limits i.page i.was new i.program i.fits.newest };
         number = omega (arith, former, now, step);
         behind = behind;
         cuts = root_reaches i.page i.was new i.program;

@@ -31,6 +31,8 @@ use Rattle.pk_model.specs.Crashes.{CrashFinds, background}
 use Rattle.pk_nand.specs.Effects.{Works}
 use Rattle.pk_compact.specs.Steps.{AtMostErases}
 use Rattle.pk_nand.proofs.Effects.{works_none, works_erase}
+use Rattle.pk_model.specs.Spaces.{limits_at}
+use Rattle.pk_model.proofs.Growing.{top_limits}
 use Rattle.pk_model.proofs.Running.{Reaches-none, Reaches-erase, Goes-erase}
 
 -- at most one erase works
@@ -101,9 +103,12 @@ module _ (shape : Shape) (is_shape : IsShape shape) (top : ℕ × Root) (found :
   grows : Grows shape old.pages (after shape (erase block) old.pages)
   grows = inl (under_after.is_top ∙ sym under.is_top)
 
+  limited : (f : Flash) → Interrupted shape (erase block) old.pages f [] → limits_at shape f ≡ limits_at shape old.pages
+  limited f cut = top_limits shape f old.pages ((still_under f cut).is_top ∙ sym under.is_top)
+
   pub take_reaches : (new : BoardState) → AtMostErases block old new → Reaches shape old new (CrashFinds shape background old.pages m)
   take_reaches new (inl same) = Reaches-none shape old (CrashFinds shape background old.pages m) ready.shape_is new same (refl, under_reads shape old.pages [] top found m under)
-  take_reaches new (inr made) = Reaches-erase shape old (CrashFinds shape background old.pages m) ready.shape_is block holds grows new made
+  take_reaches new (inr made) = Reaches-erase shape old (CrashFinds shape background old.pages m) ready.shape_is block holds grows limited new made
 
   pub take_under : (new : BoardState) → AtMostErases block old new → IsUnder shape new.pages [] top found m
   take_under new (inl same) = let T : BoardState → Type 0 = λ s. IsUnder shape s.pages [] top found m in subst T (sym same) under
@@ -113,4 +118,4 @@ module _ (shape : Shape) (is_shape : IsShape shape) (top : ℕ × Root) (found :
       subst T (sym made) (subst S (sym (shape_is old shape ready)) under_after)
 
   pub take_goes : (new : BoardState) → EraseFailed old new block → Goes shape old new (CrashFinds shape background old.pages m)
-  take_goes new failed = Goes-erase shape old (CrashFinds shape background old.pages m) ready.shape_is block holds grows new failed
+  take_goes new failed = Goes-erase shape old (CrashFinds shape background old.pages m) ready.shape_is block holds grows limited new failed

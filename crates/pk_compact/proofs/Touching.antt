@@ -14,6 +14,8 @@ use Rattle.pk_rootfmt.specs.Root.{Root}
 use Rattle.pk_model.specs.Found.{Found}
 use Rattle.pk_model.specs.Growth.{Grows, Goes}
 use Rattle.pk_model.specs.Crashes.{CrashFinds, background}
+use Rattle.pk_model.specs.Spaces.{limits_at}
+use Rattle.pk_model.proofs.Growing.{top_limits}
 use Rattle.pk_model.proofs.Running.{Reaches-program, Goes-program}
 use Rattle.pk_law_steps.specs.Under.{IsUnder}
 use Rattle.pk_law_steps.proofs.Untouched.{erases, under_reads}
@@ -36,17 +38,20 @@ module _ (shape : Shape) (old : BoardState) (top : ℕ × Root) (found : Found) 
   grows : Grows shape old.pages (after shape (program page bytes) old.pages)
   grows = inl (under_after.is_top ∙ sym under.is_top)
 
+  limited : (f : Flash) → Interrupted shape (program page bytes) old.pages f [] → limits_at shape f ≡ limits_at shape old.pages
+  limited f cut = top_limits shape f old.pages ((still_under f cut).is_top ∙ sym under.is_top)
+
   program_leaves : (new : BoardState) → new ≡ after_program old page bytes → CallLeaves shape old top found m new
   program_leaves new made =
       let P : BoardState → Type 0 = λ s. IsUnder shape s.pages [] top found m in
       let S : Shape → Type 0 = λ s. IsUnder shape (after s (program page bytes) old.pages) [] top found m in
       record {
         under = subst P (sym made) (subst S (sym (shape_is old shape ready)) under_after);
-        cuts = Reaches-program shape old (CrashFinds shape background old.pages m) ready.shape_is page bytes holds grows new made;
+        cuts = Reaches-program shape old (CrashFinds shape background old.pages m) ready.shape_is page bytes holds grows limited new made;
       }
 
   program_goes : (new : BoardState) → ProgramFailed old new page bytes → Goes shape old new (CrashFinds shape background old.pages m)
-  program_goes new failed = Goes-program shape old (CrashFinds shape background old.pages m) ready.shape_is page bytes holds grows new failed
+  program_goes new failed = Goes-program shape old (CrashFinds shape background old.pages m) ready.shape_is page bytes holds grows limited new failed
 
 pub program_unread : ProgramUnread
 program_unread shape old new top found m block page bytes is_shape ready under is within = (

@@ -5,6 +5,7 @@ use Rattle.pk_base.specs.Page.{Flash, SameBehind}
 use Rattle.pk_base.specs.Map.{Map}
 use Rattle.pk_nand.specs.BoardState.{BoardState}
 use Rattle.pk_rootfmt.specs.Root.{Root}
+use Rattle.pk_model.specs.Spaces.{limits_at}
 use Rattle.pk_model.specs.Found.{Found}
 use Rattle.pk_model.specs.Growth.{Reaches, Goes}
 use Rattle.pk_model.specs.Crashes.{CrashFinds, background}
@@ -43,13 +44,14 @@ PrepareBreaks shape next old new =
 
 -- ---- the first program
 
--- The pair of the newest root is half made: its second program is next. Before its first program the map was under a former root.
+-- The pair of the newest root is half made: its second program is next. Before its first program the map was under a former root with the same limits.
 pub record IsHalf (shape : Shape) (next : Next) (flash : Flash) (m : Map) : Type 0 where
   pub page : ℕ
   pub again : next ≡ Again page
   pub former : ℕ × Root
   pub former_found : Found
   pub was : IsUnder shape (before_pair flash page) [] former former_found m
+  pub same_limits : limits_at shape (before_pair flash page) ≡ limits_at shape flash
 
 -- the root may follow the newest one of the flash, and what the installer does next can be done
 pub record CanInstall (shape : Shape) (root : Root) (next : Next) (flash : Flash) (top : ℕ × Root) (found then_found : Found) (m : Map) : Type 0 where

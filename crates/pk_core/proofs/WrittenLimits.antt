@@ -11,6 +11,7 @@ use Rattle.pk_space.specs.Limits.{AcceptsLimits, has_zero, has_no_room}
 use Rattle.pk_rootfmt.specs.Root.{fit_in, has_limits_room, are_limits, limits_of, written_limits}
 use Rattle.pk_rootfmt.specs.Held.{first_with}
 use Rattle.pk_rootfmt.specs.Newest.{newest_root, limits_if}
+use Rattle.pk_model.specs.Spaces.{limits_at}
 use Rattle.pk_rootfmt.proofs.LimitLemmas.{by_test}
 use Rattle.pk_rootfmt.proofs.PageLemmas.{bytes_same, same_bytes}
 
@@ -61,5 +62,6 @@ limits_again shape (l ∷ ls) some = by_test (bytes_eq (l ∷ ls) (limit shape �
     (λ no. ap (λ (b : Bool). limits_of shape (if b then [] else l ∷ ls)) no)
 
 pub limits_read : (shape : Shape) (flash : Flash) (limits : List ℕ) → newest_root shape (page_at flash) ≡ Some (0, first_with (written_limits shape limits)) → 1 ≤ length limits
-    → limits_if shape (newest_root shape (page_at flash)) ≡ limits
+    → limits_at shape flash ≡ limits
+unfolding limits_at
 limits_read shape flash limits is some = ap (limits_if shape) is ∙ limits_again shape limits some

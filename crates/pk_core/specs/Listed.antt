@@ -1,8 +1,8 @@
 -- The data of a List: keys that follow their number in a buffer.
-use Rattle.std.specs.Prelude.{◌≡◌, ◌⊎◌, false, ℕ, ◌+◌, ◌-◌, ◌<◌, ◌≤◌, List, [], ◌∷◌, ◌++◌, length, take, drop, flat_map, Option, Some, None}
+use Rattle.std.specs.Prelude.{◌≡◌, ◌⊎◌, false, ℕ, ◌+◌, ◌-◌, ◌<◌, ◌≤◌, List, [], ◌∷◌, ◌++◌, length, take, drop, flat_map, ◌==◌, if◌then◌else◌, Option, Some, None}
 use Rattle.pk_nvme.specs.declared.limits.TheConstants.{COUNT_BYTES, MOST_LIST_BYTES}
 use Rattle.pk_nvme.specs.declared.status.TheConstants.{SUCCESSFUL_COMPLETION, UNRECOVERED_ERROR}
-use Rattle.pk_base.specs.Key.{Key, bytes_of}
+use Rattle.pk_base.specs.Key.{Key, bytes_of, space_of}
 use Rattle.pk_base.specs.Entry.{Place}
 use Rattle.pk_nand.specs.BoardState.{BoardState}
 use Rattle.pk_nand.specs.Calls.{Rose, last_count}
@@ -10,6 +10,7 @@ use Rattle.pk_pin.specs.Frames.{Frames}
 use Rattle.pk_level.specs.Levels.{Levels}
 use Rattle.pk_walk.specs.Walking.{Walk, IsLeft}
 use Rattle.pk_log.specs.State.{LogState}
+use Rattle.pk_index.specs.Keys.{keys_of}
 use Rattle.pk_nand.specs.Effects.{NoFault}
 use Rattle.pk_call.specs.Meter.{reads_after}
 use Rattle.pk_call.specs.declared.types.Outcome.{Outcome}
@@ -36,10 +37,15 @@ OffersBytes old at room bytes (Some next) new =
 abbrev pub OffersKey : List ℕ → Filled → ℕ → Key → Option Filled → List ℕ → Type 0
 OffersKey old at room key next new = OffersBytes old at room (bytes_of key) next new
 
--- the same of the first key that remains, if there is one; and these remain
-abbrev pub OffersFirst : List ℕ → Filled → ℕ → List (Key × Place) → Option Filled → List ℕ → List (Key × Place) → Type 0
+-- the keys at the start that are of this namespace
+abbrev pub own_keys : ℕ → List Key → List Key
+own_keys space [] = []
+own_keys space (k ∷ ks) = if space_of k == space then k ∷ own_keys space ks else []
+
+-- the same of the first of these keys, if there is one; and the others remain
+abbrev pub OffersFirst : List ℕ → Filled → ℕ → List Key → Option Filled → List ℕ → List Key → Type 0
 OffersFirst old at room [] next new later = (next ≡ None) × (new ≡ old)
-OffersFirst old at room (x ∷ rest) next new later = OffersKey old at room x.0 next new × (later ≡ rest)
+OffersFirst old at room (k ∷ ks) next new later = OffersKey old at room k next new × (later ≡ ks)
 
 -- there is room for as many bytes as it says, in a buffer of this size
 pub record IsFilled (at : Filled) (size : ℕ) : Type 0 where
@@ -48,11 +54,11 @@ pub record IsFilled (at : Filled) (size : ℕ) : Type 0 where
   pub small : at.room ≤ MOST_LIST_BYTES
   pub enough : at.room ≤ size
 
--- whatever remained: the first key of it was written, or there is no room for it
-abbrev pub OffersNext : Walk → Walk → BoardState → BoardState → Levels → Frames → LogState → Filled → Option Filled → List ℕ → List ℕ → Type 0
-OffersNext before after old new levels arena log at next into into' =
+-- whatever remained: its first key was written if it is of this namespace, or there is no room for it
+abbrev pub OffersNext : Walk → Walk → BoardState → BoardState → Levels → Frames → LogState → ℕ → Filled → Option Filled → List ℕ → List ℕ → Type 0
+OffersNext before after old new levels arena log space at next into into' =
     (rest : List (Key × Place)) → IsLeft before old.pages arena levels.runs log.active.entries log.frozen.entries rest
-    → (later : List (Key × Place)) × OffersFirst into at at.room rest next into' later
+    → (later : List (Key × Place)) × OffersFirst into at at.room (own_keys space (keys_of rest)) next into' (own_keys space (keys_of later))
     × IsLeft after new.pages arena levels.runs log.active.entries log.frozen.entries later
 
 -- A prefix of all the keys is in the buffer after the bytes of their count, and the others remain.

@@ -24,7 +24,7 @@ use Rattle.pk_background.specs.Spacing.{SameMapAll}
 pub record MayStore (d : Parts) (shape : Shape) (flash : Flash) (m : Map) (key : Key) (value : List ℕ) : Type 0 where
   pub stands : StandsFor d shape flash m
   pub bytes : AreBytes key
-  pub room : live shape (insert m key value) ≤ limit shape
+  pub room : HasRoomFor shape flash m key value
 
 -- for every map in which the key may get it
 abbrev pub StoresAll : Parts → Parts → BoardState → BoardState → Key → List ℕ → Type 0

@@ -25,13 +25,13 @@ pub record MayPutBetween (d : Parts) (shape : Shape) (flash : Flash) (m : Map) (
   pub stands : StandsBetween d shape flash m
   pub old_is : find key_cmp key (places stands.found d.log.pending) ≡ old
   pub bytes : AreBytes key
-  pub room : live shape (insert m key value) ≤ limit shape
+  pub room : HasRoomFor shape flash m key value
 
 -- the same, wherever its value stood
 pub record MayStoreBetween (d : Parts) (shape : Shape) (flash : Flash) (m : Map) (key : Key) (value : List ℕ) : Type 0 where
   pub stands : StandsBetween d shape flash m
   pub bytes : AreBytes key
-  pub room : live shape (insert m key value) ≤ limit shape
+  pub room : HasRoomFor shape flash m key value
 
 -- a key has its value at this place, and may lose it
 pub record MayTakeBetween (d : Parts) (shape : Shape) (flash : Flash) (m : Map) (key : Key) (old : Place) : Type 0 where

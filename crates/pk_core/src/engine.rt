@@ -27,9 +27,6 @@ use pk_nvme::opcode::{DELETE, EXIST, FLUSH, LIST, REPORT, RETRIEVE, STORE, TICK}
 use pk_parts::Parts;
 use pk_region::Region;
 
-/// How many namespaces a drive has.
-const SPACES: u32 = 1;
-
 // Executes a command that passed the checks that read it alone.
 fn perform<B: Nand, A: Region>(
     parts: &mut Parts<A>,
@@ -89,7 +86,7 @@ impl<A: Region> Engine for Drive<A> {
     ) -> Outcome {
         // so that the board's counts are known to be of 64 bits
         let _ = board.read_count();
-        match early_fault(&self.parts.shape(), SPACES, request) {
+        match early_fault(&self.parts.shape(), self.parts.spaces() as u32, request) {
             Some(status) => {
                 self.parts.known();
                 refusal(status, 0)
@@ -142,6 +139,7 @@ impl<A: Region> Engine for Drive<A> {
     }
 
     fn live_pages(&self) -> u32 {
-        self.parts.total()
+        self.parts.known();
+        self.parts.live_pages()
     }
 }

@@ -9,14 +9,14 @@ ghost use Rattle.pk_nvme.specs.Seen.{command_of};
 ghost use Rattle.pk_index.specs.Keys.{MayWalk, Walked, keys_of};
 ghost use Rattle.pk_core.specs.Serving.{IsServable};
 ghost use Rattle.pk_core.specs.Done.{Executes};
-ghost use Rattle.pk_core.specs.Listed.{IsFilled, OffersNext, ListsAll, first_listed};
+ghost use Rattle.pk_core.specs.Listed.{IsFilled, OffersNext, ListsAll, first_listed, own_keys};
 ghost use Rattle.pk_nvme.specs.declared.limits.TheConstants.{COUNT_BYTES, MOST_LIST_BYTES};
 ghost use Rattle.pk_nvme.specs.declared.opcode.TheConstants.{LIST};
 ghost use Rattle.pk_core.specs.Quiet.{OnlyLooks};
 
 use crate::counts::{reads_since, reads_so_far};
 use crate::filled::Filled;
-use crate::listed::put_key;
+use crate::listed::put_own;
 use crate::quiet::{refusal, served};
 use pk_base::{Key, put_u32};
 use pk_call::Outcome;
@@ -27,10 +27,12 @@ use pk_nvme::status::UNRECOVERED_ERROR;
 use pk_parts::Parts;
 use pk_region::Region;
 
-// Writes the next key of the walk, if there is one and it fits into the room.
+// Writes the next key of the walk, if there is one, it is of this namespace and it fits into the
+// room.
 fn put_next<B: Nand, A: Region>(
     parts: &mut Parts<A>,
     board: &mut B,
+    space: u8,
     at: Filled,
     into: &mut [u8],
 ) -> Result<Option<Filled>, Fault>
@@ -41,7 +43,7 @@ fn put_next<B: Nand, A: Region>(
     // The key, and the pages that were read for it.
     ensures offers { IfOk result (λ next. OffersNext parts.old.walk parts.new.walk
         (B.state board.old) (B.state board.new) parts.old.levels parts.old.arena parts.old.log
-        at next into.old into.new) }
+        space at next into.old into.new) }
     ensures walked { Walked parts.old.walk parts.new.walk (B.state board.old) (B.state board.new)
         parts.old.levels }
     ensures reads { OnOk result (Reads (pages_read parts.old.levels.runs parts.old.walk.cursors)
@@ -57,16 +59,18 @@ fn put_next<B: Nand, A: Region>(
     ensures len { length into.new ≡ length into.old }
 {
     match parts.next_key(board) {
-        Ok(Some(entry)) => Ok(put_key(into, at, entry.key())),
+        Ok(Some(entry)) => Ok(put_own(into, space, at, entry.key())),
         Ok(None) => Ok(None),
         Err(fault) => Err(fault),
     }
 }
 
-// Writes the keys that remain, after the bytes of their count, as many as fit into the room.
+// Writes the keys of this namespace at the start of those that remain, after the bytes of their
+// count, as many as fit into the room.
 fn put_left<B: Nand, A: Region>(
     parts: &mut Parts<A>,
     board: &mut B,
+    space: u8,
     room: u32,
     into: &mut [u8],
 ) -> Result<Filled, Fault>
@@ -80,7 +84,7 @@ fn put_left<B: Nand, A: Region>(
     ensures lists { IfOk result (λ at. (at.end ≤ room) × ((rest : List (KeySpec × Place))
         → IsLeft parts.old.walk (B.state board.old).pages parts.old.arena parts.old.levels.runs
         parts.old.log.active.entries parts.old.log.frozen.entries rest
-        → ListsAll (keys_of rest) room into.new at)) }
+        → ListsAll (own_keys space (keys_of rest)) room into.new at)) }
     ensures reads { OnOk result (Reads 0 (most_read parts.old.levels.runs)
         (B.state board.old) (B.state board.new)) }
     ensures err { OnErr result (ReadsFail 0 (most_read parts.old.levels.runs)
@@ -96,7 +100,7 @@ fn put_left<B: Nand, A: Region>(
         room,
     };
     loop {
-        match put_next(parts, board, at, into) {
+        match put_next(parts, board, space, at, into) {
             Ok(Some(next)) => {
                 at = next;
             }
@@ -121,9 +125,10 @@ fn first_key(request: &Request) -> Key
     }
 }
 
-/// Executes a List that passed the checks that read it alone: the number of keys that exist from the
-/// one that it names on, or from the least of its namespace if it names none, and as many of them as fit into its size, of which no more than
-/// `MOST_LIST_BYTES` count; `UNRECOVERED_ERROR` without data if a read fails.
+/// Executes a List that passed the checks that read it alone: the number of keys of its namespace
+/// from the one that it names on, or from the least one if it names none, and as many of them as fit
+/// into its size, of which no more than `MOST_LIST_BYTES` count; `UNRECOVERED_ERROR` without data if
+/// a read fails.
 pub(crate) fn list<B: Nand, A: Region>(
     parts: &mut Parts<A>,
     board: &mut B,
@@ -145,10 +150,12 @@ pub(crate) fn list<B: Nand, A: Region>(
     ensures room { length into.new ≡ length into.old }
 {
     let before = reads_so_far(board);
+    // so that a drive is known to have at most eight namespaces
+    let _ = parts.spaces();
     let room = request.size.min(MOST_LIST_BYTES);
     let first = first_key(request);
     parts.start_keys(&first);
-    match put_left(parts, board, room, into) {
+    match put_left(parts, board, request.namespace as u8, room, into) {
         Ok(at) => {
             put_u32(into, 0, at.count);
             served(0, at.end, reads_since(board, before))

@@ -1,8 +1,8 @@
 //! The bytes of a List: keys one after another, each with its length.
-ghost use Rattle.std.specs.Prelude.{◌≡◌, ◌+◌, ◌≤◌, ◌++◌, length, replicate, take};
+ghost use Rattle.std.specs.Prelude.{◌≡◌, ◌+◌, ◌≤◌, ◌++◌, ◌∷◌, [], length, replicate, take};
 ghost use Rattle.pk_base.specs.declared.sizes.TheConstants.{KEY_BYTES};
 ghost use Rattle.pk_model.specs.Answer.{item_bytes};
-ghost use Rattle.pk_core.specs.Listed.{OffersBytes, OffersKey, IsFilled};
+ghost use Rattle.pk_core.specs.Listed.{OffersBytes, OffersFirst, OffersKey, IsFilled, own_keys};
 
 use crate::filled::Filled;
 use pk_base::{KEY_BYTES, Key, put_text, put_u16, put_zeros};
@@ -51,9 +51,23 @@ fn put_padding(into: &mut [u8], at: usize, count: usize)
     }
 }
 
-/// Writes one more key, if it fits into the room; a whole one by itself, whose sizes are all numbers
-/// then, which is faster.
-pub(crate) fn put_key(into: &mut [u8], at: Filled, key: &Key) -> Option<Filled>
+/// Writes one more key, if it is of this namespace and fits into the room.
+pub(crate) fn put_own(into: &mut [u8], space: u8, at: Filled, key: &Key) -> Option<Filled>
+    requires filled { IsFilled at (length into.old) }
+    ensures offers { OffersFirst into.old at at.room (own_keys space (key.now ∷ [])) result
+        into.new [] }
+    ensures len { length into.new ≡ length into.old }
+{
+    if key.space() == space {
+        put_key(into, at, key)
+    } else {
+        None
+    }
+}
+
+// Writes one more key, if it fits into the room; a whole one by itself, whose sizes are all numbers
+// then, which is faster.
+fn put_key(into: &mut [u8], at: Filled, key: &Key) -> Option<Filled>
     requires filled { IsFilled at (length into.old) }
     ensures offers { OffersKey into.old at at.room key.now result into.new }
     ensures len { length into.new ≡ length into.old }

@@ -7,9 +7,10 @@ ghost use Rattle.pk_nand.specs.Operations.{IsErased};
 ghost use Rattle.pk_nand.specs.Pairs.{programs_of_pair};
 ghost use Rattle.pk_base.specs.Page.{page_at};
 ghost use Rattle.pk_rootfmt.specs.Held.{first_with};
-ghost use Rattle.pk_rootfmt.specs.Newest.{newest_root, limits_if};
+ghost use Rattle.pk_rootfmt.specs.Newest.{newest_root};
 ghost use Rattle.pk_rootfmt.specs.Root.{root_bytes, are_limits, written_limits};
 ghost use Rattle.pk_model.specs.Reading.{Holds};
+ghost use Rattle.pk_model.specs.Spaces.{limits_at};
 
 use pk_base::{MOST_PAGE_BYTES, Shape};
 use pk_nand::{Nand, NandFault};
@@ -73,8 +74,7 @@ pub fn format<B: Nand>(board: &mut B, shape: Shape, limits: &Limits) -> Result<(
     requires erased { (q : ℕ) → q < page_count shape → IsErased (B.state board.old).pages q }
     requires limits { limits.now.shape ≡ shape }
     ensures holds { OnOk result (Holds shape (B.state board.new).pages empty) }
-    ensures limits { OnOk result (limits_if shape
-        (newest_root shape (page_at (B.state board.new).pages)) ≡ limits.now.each) }
+    ensures limits { OnOk result (limits_at shape (B.state board.new).pages ≡ limits.now.each) }
     ensures programs { OnOk result (B.state board.new ≡ after_programs (B.state board.old)
         (programs_of_pair 0 (root_bytes shape
         (first_with (written_limits shape limits.now.each))))) }

@@ -24,6 +24,8 @@ use Rattle.pk_model.specs.Found.{Found}
 use Rattle.pk_model.specs.Laws.{IsWholePage, IsCommit}
 use Rattle.pk_model.specs.Growth.{Grows, Goes}
 use Rattle.pk_model.specs.Crashes.{CrashFinds, background}
+use Rattle.pk_model.specs.Spaces.{limits_at}
+use Rattle.pk_model.proofs.Growing.{top_limits}
 use Rattle.pk_model.proofs.Running.{Reaches-program, Goes-program}
 use Rattle.pk_law_steps.specs.Under.{IsUnder}
 use Rattle.pk_law_steps.specs.Roots.{committed}
@@ -60,6 +62,13 @@ module _ (shape : Shape) (former : Flash) (top : ℕ × Root) (was : Found) (m :
     ],
   )
 
+  -- and has the same newest root
+  finds_top : (cut : Flash) → IsPairCut p bytes former cut → newest_root shape (page_at cut) ≡ Some top
+  finds_top cut is_cut = elim (moves_pair shape former cut top was m moves blocks index bytes is_shape stood can commit is_cut) [
+    | inl before ↦ before.is_top
+    | inr behind ↦ behind.is_top
+  ]
+
   -- with the entries, once the first page holds them
   stands : (now : Flash) → IsPairCut p bytes former now → page_at now p ≡ whole bytes → IsUnder shape now [] top now_found m
   stands now is_cut here = moves_committed shape former now top was m moves blocks index bytes is_shape stood can commit is_cut here
@@ -76,14 +85,18 @@ module _ (shape : Shape) (former : Flash) (top : ℕ × Root) (was : Found) (m :
     grows : Grows shape old.pages (after shape (program at bytes) old.pages)
     grows = inl (then_under.is_top ∙ sym is_top)
 
+    limited : (cut : Flash) → Interrupted shape (program at bytes) old.pages cut [] → limits_at shape cut ≡ limits_at shape old.pages
+    limited cut done = top_limits shape cut old.pages
+        (finds_top cut (IsPairCut-cut shape p bytes even at former old.pages cut [] low high so_far done) ∙ sym is_top)
+
     pub program_stands : (new : BoardState) → new ≡ after_program old at bytes → MovesStand shape old top was m moves new
     program_stands new made = record {
       under = subst (λ (b : BoardState). IsUnder shape b.pages [] top now_found m) (sym made) then_under;
-      cuts = Reaches-program shape old (CrashFinds shape background old.pages m) ready.shape_is at bytes holds grows new made;
+      cuts = Reaches-program shape old (CrashFinds shape background old.pages m) ready.shape_is at bytes holds grows limited new made;
     }
 
     pub program_fails : (new : BoardState) → ProgramFailed old new at bytes → Goes shape old new (CrashFinds shape background old.pages m)
-    program_fails = Goes-program shape old (CrashFinds shape background old.pages m) ready.shape_is at bytes holds grows
+    program_fails = Goes-program shape old (CrashFinds shape background old.pages m) ready.shape_is at bytes holds grows limited
 
 -- ---- the first program
 

@@ -1,5 +1,5 @@
 -- What a commit leaves of a log and of a flash, cut or not.
-use Rattle.std.proofs.Common.{◌≡◌, ◌≢◌, inl, inr, ℕ, ◌+◌, ◌-◌, ◌*◌, ◌%◌, ◌<◌, ◌≤◌, refl, sym, ap, subst, ◌∙◌, arith, Bool, if◌then◌else◌, List, [], ◌++◌, length, Some, Ok, append-nil, le→leb, true}
+use Rattle.std.proofs.Common.{◌≡◌, ◌≢◌, inl, inr, ℕ, ◌+◌, ◌-◌, ◌*◌, ◌%◌, ◌<◌, ◌≤◌, refl, sym, ap, subst, ◌∙◌, arith, Bool, if◌then◌else◌, List, [], ◌++◌, length, Some, Ok, append-nil, le→leb, true, T}
 use Rattle.pk_base.specs.Shape.{Shape, buffer, epoch_pages, epoch_commits}
 use Rattle.pk_base.specs.Page.{Page, Flash, page_at, erased, whole, page_in, commit_page, commit_at}
 use Rattle.pk_base.specs.Firsts.{firsts}
@@ -35,13 +35,13 @@ use Rattle.pk_model.specs.Growth.{Grows, Reaches, Goes}
 use Rattle.pk_log.specs.State.{LogState, all_committed}
 use Rattle.pk_log.specs.Logs.{LogOnFlash}
 use Rattle.pk_log.specs.Commits.{CommitStands, CommitCut, CommitHolds, CommitReaches}
-use Rattle.pk_model.proofs.Growing.{at_end, Reaches-then, Goes-then}
+use Rattle.pk_model.proofs.Growing.{at_end, top_limits, Reaches-then, Goes-then}
+use Rattle.pk_model.specs.Spaces.{limits_at}
 use Rattle.pk_model.proofs.Running.{Reaches-program, Goes-program}
 use Rattle.pk_law_steps.proofs.NewestBlocks.{valid_root}
 use Rattle.pk_log.proofs.Standing.{blocks_are}
 use Rattle.pk_law_steps.proofs.UnderRoot.{newest_found}
 use Rattle.pk_model.specs.RootLimits.{root_spaces}
-use Rattle.pk_model.proofs.RootLimits.{storable_in_spaces}
 use Rattle.pk_base.proofs.Logic.{is_true, both}
 
 -- ---- the programs
@@ -153,8 +153,16 @@ module _ (log : LogState) (board : BoardState) (top : ℕ × Root) (found : Foun
     second_grows : Grows shape half.pages (after shape (program (page + 1) bytes) half.pages)
     second_grows = inl (top_stays done.pages done_cut ∙ sym (top_stays half.pages half_cut))
 
+    first_limited : (f : Flash) → Interrupted shape (program page bytes) board.pages f [] → limits_at shape f ≡ limits_at shape board.pages
+    first_limited f cut = top_limits shape f board.pages
+        (top_stays f (IsPairCut-cut shape page bytes even page board.pages board.pages f [] (omega arith) (omega arith) start cut) ∙ sym logs.is_top)
+
+    second_limited : (f : Flash) → Interrupted shape (program (page + 1) bytes) half.pages f [] → limits_at shape f ≡ limits_at shape half.pages
+    second_limited f cut = top_limits shape f half.pages
+        (top_stays f (IsPairCut-cut shape page bytes even (page + 1) board.pages half.pages f [] (omega arith) (omega arith) half_cut cut) ∙ sym (top_stays half.pages half_cut))
+
     begun : Reaches shape board half Holds
-    begun = Reaches-program shape board Holds ready.shape_is page bytes first_holds first_grows half refl
+    begun = Reaches-program shape board Holds ready.shape_is page bytes first_holds first_grows first_limited half refl
 
     -- nothing went out before the second program
     later : (f : Flash) (q : List ℕ) → Holds f q → Holds f (all_posted begun.0 ++ q)
@@ -167,13 +175,13 @@ module _ (log : LogState) (board : BoardState) (top : ℕ × Root) (found : Foun
     pub reaches : Reaches shape board (after_programs board (programs_of_pair (next_page e) bytes)) (CommitCut shape top found log.pending m0 m1)
     reaches = subst (λ (b : BoardState). Reaches shape board b Holds) done_is
         (Reaches-then shape begun.0 board half Holds ready.shape_is begun.1 begun.2 done Holds later
-        (Reaches-program shape half Holds ready.shape_is (page + 1) bytes second_holds second_grows done refl))
+        (Reaches-program shape half Holds ready.shape_is (page + 1) bytes second_holds second_grows second_limited done refl))
 
     pub goes : (after' : BoardState) → ProgramsFailed board after' (programs_of_pair (next_page e) bytes) → Goes shape board after' (CommitCut shape top found log.pending m0 m1)
     goes after' failed = elim (subst (λ (p : ℕ). ProgramsFailed board after' (programs_of_pair p bytes)) (sym page_is) failed) [
-      | inl one ↦ Goes-program shape board Holds ready.shape_is page bytes first_holds first_grows after' one
+      | inl one ↦ Goes-program shape board Holds ready.shape_is page bytes first_holds first_grows first_limited after' one
       | inr other ↦ Goes-then shape begun.0 board half Holds ready.shape_is begun.1 begun.2 after' Holds later
-          (Goes-program shape half Holds ready.shape_is (page + 1) bytes second_holds second_grows after' other)
+          (Goes-program shape half Holds ready.shape_is (page + 1) bytes second_holds second_grows second_limited after' other)
     ]
 
   -- ---- the log
@@ -197,7 +205,7 @@ module _ (log : LogState) (board : BoardState) (top : ℕ × Root) (found : Foun
 
   -- they may follow those of the epoch
   may_commit : length log.active.entries ≤ log.active.capacity → may_follow e.shape (root_spaces shape top.1) found.newest log.pending ≡ true
-  may_commit bound = is_true _ (both _ _ (le→leb _ _ (have_room bound)) (storable_in_spaces log.shape top.1 log.pending logs.pending_are))
+  may_commit bound = is_true _ (both _ _ (le→leb _ _ (have_room bound)) (subst T (sym logs.spaced) tt))
 
   reads_all : length log.active.entries ≤ log.active.capacity → AddsAll e log.pending board.pages then_pages → newest_epoch shape (page_at then_pages) top.1 ≡ Ok (found.newest ++ log.pending)
   reads_all bound adds =
@@ -222,6 +230,7 @@ module _ (log : LogState) (board : BoardState) (top : ℕ × Root) (found : Foun
     active_is = logs.active_is ∙ ap (buffer_of shape) (sym (append-nil (found.newest ++ log.pending)));
     frozen_is = logs.frozen_is;
     pending_are = tt;
+    spaced = refl;
     pending_few = omega arith;
     pending_room = λ other. absurd (other refl);
     pending_whole = λ other. absurd (other refl);

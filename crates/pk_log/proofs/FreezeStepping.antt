@@ -11,6 +11,7 @@ use Rattle.pk_base.specs.Map.{Map}
 use Rattle.pk_law_work.specs.Rest.{Lowers}
 use Rattle.pk_plan.specs.declared.owner.Owner.TheVariants.{Journal}
 use Rattle.pk_nand.specs.BoardState.{BoardState}
+use Rattle.pk_space.specs.Entries.{in_spaces}
 use Rattle.pk_rootfmt.specs.Root.{Root, named}
 use Rattle.pk_rootfmt.specs.Held.{Held, two_of}
 use Rattle.pk_root.specs.declared.next.Next.{Next}
@@ -21,6 +22,7 @@ use Rattle.pk_jrn.specs.Replays.{buffer_of}
 use Rattle.pk_jrn.proofs.Places.{EpochOnFlash-same}
 use Rattle.pk_jrn.proofs.Puts.{firsts-reverse}
 use Rattle.pk_model.specs.Found.{Found}
+use Rattle.pk_model.specs.RootLimits.{root_spaces}
 use Rattle.pk_model.proofs.Commits.{blocks_of_root, member}
 use Rattle.pk_model.proofs.SamePages.{any_front}
 use Rattle.pk_pool.specs.declared.state.BlockState.TheVariants.{Leaving}
@@ -160,6 +162,7 @@ module _ (log : LogState) (pool : Blocks) (job : FreezeJob) (old : BoardState) (
       active_is = can.logs.active_is;
       frozen_is = can.logs.frozen_is;
       pending_are = can.logs.pending_are;
+      spaced = can.logs.spaced;
       pending_few = can.logs.pending_few;
       pending_room = can.logs.pending_room;
       pending_whole = can.logs.pending_whole;
@@ -251,6 +254,7 @@ module _ (log : LogState) (pool : Blocks) (job : FreezeJob) (old : BoardState) (
               active_is = logs.frozen_is ∙ ap (buffer_of log.shape) (none_older ∙ sym can.none_pending);
               frozen_is = logs.active_is ∙ ap (buffer_of log.shape) (ap (λ (es : List Entry). found.newest ++ es) can.none_pending ∙ append-nil found.newest);
               pending_are = logs.pending_are;
+              spaced = ap (in_spaces (root_spaces log.shape root')) can.none_pending;
               pending_few = logs.pending_few;
               pending_room = λ some. absurd (some can.none_pending);
               pending_whole = λ some. absurd (some can.none_pending);

@@ -1,10 +1,11 @@
 -- The install of a merge over a log, and the second program of a root.
-use Rattle.std.proofs.Common.{◌≡◌, ℕ, ◌*◌, ◌≤◌, refl, sym, ap, subst, ◌∙◌, arith, Bool, true, false, List, [], slice_index, ◌==◌, if◌then◌else◌, mul-le-mul_right}
+use Rattle.std.proofs.Common.{◌≡◌, ℕ, ◌*◌, ◌≤◌, refl, sym, ap, subst, ◌∙◌, arith, Bool, true, false, List, [], length, slice_index, ◌==◌, if◌then◌else◌, mul-le-mul_right}
 use Rattle.pk_base.specs.Shape.{Shape, IsShape}
 use Rattle.pk_base.specs.Page.{Flash, page_at, SameBehind}
 use Rattle.pk_base.specs.Entry.{Entry}
 use Rattle.pk_base.specs.Map.{Map}
 use Rattle.pk_nand.specs.BoardState.{BoardState}
+use Rattle.pk_space.specs.Entries.{in_spaces}
 use Rattle.pk_rootfmt.specs.Root.{Root}
 use Rattle.pk_root.specs.declared.next.Next.{Next}
 use Rattle.pk_buf.specs.Table.{Table}
@@ -13,6 +14,8 @@ use Rattle.pk_jrn.specs.Laws.{SameBlocks}
 use Rattle.pk_jrn.specs.Replays.{buffer_of}
 use Rattle.pk_jrn.proofs.Places.{EpochOnFlash-same}
 use Rattle.pk_model.specs.Found.{Found}
+use Rattle.pk_model.specs.RootLimits.{root_spaces}
+use Rattle.pk_model.proofs.RootLimits.{limits_alike}
 use Rattle.pk_model.proofs.Commits.{blocks_of_root}
 use Rattle.pk_law_steps.proofs.NewestBlocks.{valid_root}
 use Rattle.pk_compact.specs.Installing.{CanPrepare, IsPrepared, CanRepeat, IsRepeated}
@@ -58,6 +61,7 @@ log_prepared log old new top found m next' may is =
         active_is = logs.active_is;
         frozen_is = logs.frozen_is;
         pending_are = logs.pending_are;
+        spaced = logs.spaced;
         pending_few = logs.pending_few;
         pending_room = logs.pending_room;
         pending_whole = logs.pending_whole;
@@ -68,6 +72,10 @@ log_prepared log old new top found m next' may is =
     }
 
 -- ---- the first program
+
+-- a root that keeps the limits has the same namespaces
+spaced_alike : (shape : Shape) (old new : Root) (es : List Entry) → new.limits ≡ old.limits → in_spaces (root_spaces shape old) es ≡ true → in_spaces (root_spaces shape new) es ≡ true
+spaced_alike shape old new es same all = ap (λ (limits : List ℕ). in_spaces (length limits) es) (limits_alike shape old new same) ∙ all
 
 pub can_merge : (log : LogState) (flash : Flash) (top : ℕ × Root) (found : Found) (m : Map) (level count : ℕ) (taken : List ℕ) → MayMerge log flash top found m level count taken
     → CanMerge (record { shape = log.shape; root = log.root }) log.next flash top found m level count taken
@@ -107,6 +115,7 @@ log_merged log old new top found m level count taken root' next' frozen' log' ma
         active_is = logs.active_is;
         frozen_is = emptied_is ∙ emptied (level == 1) log.shape log.frozen found.older logs.frozen_is;
         pending_are = logs.pending_are;
+        spaced = spaced_alike log.shape top.1 root' log.pending (ap (λ (r : Root). r.limits) is.root_is) logs.spaced;
         pending_few = logs.pending_few;
         pending_room = logs.pending_room;
         pending_whole = logs.pending_whole;
@@ -146,6 +155,7 @@ log_finished log old new top found m next' may is =
         active_is = logs.active_is;
         frozen_is = logs.frozen_is;
         pending_are = logs.pending_are;
+        spaced = logs.spaced;
         pending_few = logs.pending_few;
         pending_room = logs.pending_room;
         pending_whole = logs.pending_whole;

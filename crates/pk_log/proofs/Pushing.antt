@@ -1,20 +1,24 @@
 -- One more entry that waits for a commit.
-use Rattle.std.proofs.Common.{◌≡◌, ◌≢◌, ℕ, zero, suc, ◌+◌, ◌<◌, ◌≤◌, refl, ap, ◌∙◌, arith, Bool, true, false, ◌&&◌, ◌||◌, ◌==◌, List, [], ◌∷◌, ◌++◌, reverse, length, append_assoc}
+use Rattle.std.proofs.Common.{◌≡◌, ◌≢◌, ℕ, zero, suc, ◌+◌, ◌<◌, ◌≤◌, refl, sym, ap, subst, ◌∙◌, arith, T, Bool, true, false, ◌&&◌, ◌||◌, ◌==◌, List, [], ◌∷◌, ◌++◌, reverse, length, append_assoc}
 use Rattle.std.specs.List.{AllByRecursion}
 use Rattle.std.specs.FinMap.Entries.{put}
-use Rattle.pk_base.specs.Key.{key_cmp}
+use Rattle.pk_base.specs.Key.{key_cmp, space_of}
 use Rattle.pk_base.specs.Shape.{buffer, page_entries}
 use Rattle.pk_base.specs.Page.{Flash}
 use Rattle.pk_base.specs.Entry.{Entry, key_of}
 use Rattle.pk_base.specs.Firsts.{firsts}
 use Rattle.pk_base.specs.Seen.{entry as seen, entries as seen_all}
 use Rattle.pk_base.specs.declared.entry.Entry.{Entry as RustEntry}
+use Rattle.pk_base.proofs.Logic.{is_true}
+use Rattle.pk_space.specs.Entries.{in_spaces}
 use Rattle.pk_rootfmt.specs.Root.{Root}
 use Rattle.pk_buf.specs.Table.{Table}
 use Rattle.pk_jrn.specs.Epochs.{left_of}
 use Rattle.pk_jrn.proofs.Puts.{puts_are_firsts, firsts-reverse}
 use Rattle.pk_model.specs.Found.{Found}
 use Rattle.pk_model.specs.Laws.{IsStorable}
+use Rattle.pk_model.specs.RootLimits.{root_spaces}
+use Rattle.pk_model.proofs.RootLimits.{in_spaces_last}
 use Rattle.pk_log.specs.State.{LogState, is_full_for, needs_freeze, pushed}
 use Rattle.pk_log.specs.Logs.{LogOnFlash}
 
@@ -70,8 +74,15 @@ module _ (log : LogState) (e : Entry) (flash : Flash) (top : ℕ × Root) (found
       ∙ firsts-reverse (found.newest ++ (log.pending ++ e ∷ [])) in
       omega (arith, bound, capacity, same)
 
-  pub stands_pushed : needs_freeze log (key_of e) ≡ false → length log.pending < page_entries log.shape → log.epoch.half ≡ false → IsStorable log.shape e → LogOnFlash (pushed log e) flash top found
-  stands_pushed no_freeze few whole storable = record {
+  -- the namespaces of the pending entries with it
+  spaced_push : space_of (key_of e) ≤ root_spaces log.shape log.root → in_spaces (root_spaces log.shape top.1) (log.pending ++ e ∷ []) ≡ true
+  spaced_push own =
+      let here : space_of e.0 ≤ root_spaces log.shape top.1 = subst (λ (r : Root). space_of e.0 ≤ root_spaces log.shape r) logs.root_is own in
+      is_true _ (in_spaces_last (root_spaces log.shape top.1) log.pending e (subst T (sym logs.spaced) tt) here)
+
+  pub stands_pushed : needs_freeze log (key_of e) ≡ false → length log.pending < page_entries log.shape → log.epoch.half ≡ false → IsStorable log.shape e
+      → space_of (key_of e) ≤ root_spaces log.shape log.root → LogOnFlash (pushed log e) flash top found
+  stands_pushed no_freeze few whole storable own = record {
     is_shape = logs.is_shape;
     is_top = logs.is_top;
     root_is = logs.root_is;
@@ -84,6 +95,7 @@ module _ (log : LogState) (e : Entry) (flash : Flash) (top : ℕ × Root) (found
     active_is = λ i. record { capacity = (logs.active_is i).capacity; entries = entries_are i };
     frozen_is = logs.frozen_is;
     pending_are = all_push (IsStorable log.shape) log.pending e logs.pending_are storable;
+    spaced = spaced_push own;
     pending_few = let more = length-push log.pending e in omega (arith, few, more);
     pending_room = λ some. left_for_first log.pending (left_of log.epoch) (is_full_for log.active (key_of e)) no_freeze logs.pending_room;
     pending_whole = λ some. whole;

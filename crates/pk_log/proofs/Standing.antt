@@ -51,6 +51,7 @@ opens held page epoch active frozen flash found is_shape is = record {
   active_is = is.active_is ∙ ap (buffer_of held.shape) (sym (append-nil found.newest));
   frozen_is = is.frozen_is;
   pending_are = tt;
+  spaced = refl;
   pending_few = omega arith;
   pending_room = λ some. absurd (some refl);
   pending_whole = λ some. absurd (some refl);
@@ -113,6 +114,7 @@ module _ (log : LogState) (old new : Flash) (top : ℕ × Root) (found : Found) 
     active_is = logs.active_is;
     frozen_is = logs.frozen_is;
     pending_are = logs.pending_are;
+    spaced = logs.spaced;
     pending_few = logs.pending_few;
     pending_room = logs.pending_room;
     pending_whole = logs.pending_whole;

@@ -1,8 +1,9 @@
 -- How a log matches a flash.
-use Rattle.std.specs.Prelude.{◌≡◌, ◌≢◌, ℕ, ◌<◌, ◌≤◌, [], ◌++◌, length, false, Some, Ok}
+use Rattle.std.specs.Prelude.{◌≡◌, ◌≢◌, ℕ, ◌<◌, ◌≤◌, [], ◌++◌, length, true, false, Some, Ok}
 use Rattle.std.specs.List.{AllByRecursion}
 use Rattle.pk_base.specs.Shape.{IsShape, page_entries}
 use Rattle.pk_base.specs.Page.{Flash, page_at}
+use Rattle.pk_space.specs.Entries.{in_spaces}
 use Rattle.pk_rootfmt.specs.Root.{Root}
 use Rattle.pk_rootfmt.specs.Held.{Held}
 use Rattle.pk_rootfmt.specs.Newest.{newest_root}
@@ -12,6 +13,7 @@ use Rattle.pk_jrn.specs.Epochs.{JournalEpoch, left_of, EpochOnFlash}
 use Rattle.pk_jrn.specs.Replays.{buffer_of}
 use Rattle.pk_model.specs.Found.{Found, found_under}
 use Rattle.pk_model.specs.Laws.{IsStorable}
+use Rattle.pk_model.specs.RootLimits.{root_spaces}
 use Rattle.pk_log.specs.State.{LogState}
 
 -- The newest root with its page, and what is found under it, are what the log keeps: the epoch is the root's newest one, the
@@ -29,6 +31,8 @@ pub record LogOnFlash (log : LogState) (flash : Flash) (top : ℕ × Root) (foun
   pub active_is : log.active ≡ buffer_of log.shape (found.newest ++ log.pending)
   pub frozen_is : log.frozen ≡ buffer_of log.shape found.older
   pub pending_are : AllByRecursion (IsStorable log.shape) log.pending
+  -- their keys are of namespaces of the drive
+  pub spaced : in_spaces (root_spaces log.shape top.1) log.pending ≡ true
   pub pending_few : length log.pending ≤ page_entries log.shape
   -- the epoch has a commit left for them, and none of its commits is half made
   pub pending_room : log.pending ≢ [] → 0 < left_of log.epoch

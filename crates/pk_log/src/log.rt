@@ -2,6 +2,7 @@
 ghost use Rattle.std.specs.Prelude.{◌≡◌, ◌⊎◌, ◌++◌, ◌∷◌, [], ℕ, ◌<◌, ◌≤◌, length, false, Some, None, IfOk, IfErr, OnOk, OnErr, MatchOption};
 ghost use Rattle.pk_base.specs.Entry.{key_of};
 ghost use Rattle.pk_base.specs.Firsts.{firsts};
+ghost use Rattle.pk_base.specs.Key.{space_of};
 ghost use Rattle.pk_base.specs.Page.{Flash};
 ghost use Rattle.pk_base.specs.Seen.{entry as seen};
 ghost use Rattle.pk_base.specs.Shape.{IsShape, buffer, page_entries};
@@ -12,6 +13,7 @@ ghost use Rattle.pk_rootfmt.specs.Root.{Root as RootValue};
 ghost use Rattle.pk_jrn.specs.Epochs.{left_of};
 ghost use Rattle.pk_model.specs.Found.{Found};
 ghost use Rattle.pk_model.specs.Laws.{IsStorable};
+ghost use Rattle.pk_model.specs.RootLimits.{root_spaces};
 ghost use Rattle.pk_log.specs.State.{opened, entry_of, is_full_for as is_full_for_key, needs_freeze as needs_freeze_for, pushed};
 ghost use Rattle.pk_log.specs.Logs.{LogOnFlash, Opens};
 ghost use Rattle.pk_log.specs.Commits.{CommitsNone, CommitsAll, CommitFailed, CommitStands, CommitHolds, CommitReaches, CommitGoes};
@@ -180,12 +182,14 @@ impl<A: Region> Log<A> {
         is_full_for(&self.active, key) || (self.pending.is_empty() && self.epoch.left() == 0)
     }
 
-    /// Adds an entry after the pending ones, and puts it into the active buffer. No commit of the epoch may be half made.
+    /// Adds an entry of one of the drive's namespaces after the pending ones, and puts it into the
+    /// active buffer. No commit of the epoch may be half made.
     pub fn push(&mut self, new: Entry)
         requires room { needs_freeze_for self.old (key_of (seen new)) ≡ false }
         requires few { length self.old.pending < page_entries self.old.shape }
         requires whole { self.old.epoch.half ≡ false }
         requires storable { IsStorable self.old.shape (seen new) }
+        requires spaced { space_of (key_of (seen new)) ≤ root_spaces self.old.shape self.old.root }
         ensures pushed { self.new ≡ pushed self.old (seen new) }
         ensures stands { (flash : Flash) (top : ℕ × RootValue) (found : Found)
             → LogOnFlash self.old flash top found → LogOnFlash self.new flash top found }

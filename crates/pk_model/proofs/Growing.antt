@@ -1,24 +1,46 @@
 -- Consecutive runs along which the tree grows.
 use Rattle.std.proofs.Common.{◌≡◌, ℕ, List, [], ◌∷◌, ◌++◌, Some, refl, sym, ◌∙◌, ap, subst, inl, inr, append_assoc, append-nil}
 use Rattle.pk_base.specs.Shape.{Shape}
-use Rattle.pk_base.specs.Page.{Flash}
+use Rattle.pk_base.specs.Page.{Flash, page_at}
 use Rattle.pk_base.specs.Mark.{Mark, after, after_all, all_posted, post}
 use Rattle.pk_nand.specs.BoardState.{BoardState, shape_of, shape_or_none}
 use Rattle.pk_nand.specs.Calls.{longer}
 use Rattle.pk_nand.specs.Operations.{after_post, PostFailed}
 use Rattle.pk_nand.specs.Crash.{ReachedBy, WentBy}
+use Rattle.pk_nand.specs.Cut.{Cut}
 use Rattle.pk_nand.proofs.Reaching.{Reached-then, Went-then, Went-reached, Reached-start, Reached-post, longer-nil}
 use Rattle.pk_nand.proofs.CutLemmas.{cut_end}
-use Rattle.pk_model.specs.Growth.{GrowsAlong, Reaches, Goes}
+use Rattle.pk_nand.proofs.Leaving.{interrupted_done, same_pages}
+use Rattle.pk_rootfmt.specs.Newest.{newest_root, limits_if}
+use Rattle.pk_model.specs.Spaces.{limits_at}
+use Rattle.pk_model.specs.Growth.{KeepsLimits, GrowsAlong, Reaches, Goes}
 
 pub GrowsAlong-append : (shape : Shape) (start : Flash) (first second : List Mark) → GrowsAlong shape start first
     → GrowsAlong shape (after_all shape first start) second → GrowsAlong shape start (first ++ second)
 GrowsAlong-append shape start [] second before behind = behind
 GrowsAlong-append shape start (mark ∷ first) second before behind = (before.0, GrowsAlong-append shape (after shape mark start) first second before.1 behind)
 
+-- ---- limits
+
+-- those of flashes with the same newest root
+pub top_limits : (shape : Shape) (f g : Flash) → newest_root shape (page_at f) ≡ newest_root shape (page_at g) → limits_at shape f ≡ limits_at shape g
+unfolding limits_at
+top_limits shape f g same = ap (limits_if shape) same
+
+-- a post leaves the pages
+KeepsLimits-post : (shape : Shape) (start : Flash) (bytes : List ℕ) → KeepsLimits shape start (post bytes)
+KeepsLimits-post shape start bytes flash posted cut = ap (limits_at shape) (same_pages start flash cut.same_size cut.pages)
+
+-- wherever a trail is cut
+pub cut_limits : (shape : Shape) (start : Flash) (marks : List Mark) → GrowsAlong shape start marks → (flash : Flash) (posted : List ℕ) → Cut shape start marks flash posted → limits_at shape flash ≡ limits_at shape start
+cut_limits shape start [] along flash posted cut = ap (limits_at shape) cut.0
+cut_limits shape start (mark ∷ marks) along flash posted (inl cut) = along.0.1 flash posted cut
+cut_limits shape start (mark ∷ marks) along flash posted (inr (later, is, cut)) =
+    cut_limits shape (after shape mark start) marks along.1 flash later cut ∙ along.0.1 (after shape mark start) [] (interrupted_done shape mark start)
+
 -- a post leaves the tree
 pub GrowsAlong-post : (shape : Shape) (start : Flash) (bytes : List ℕ) → GrowsAlong shape start (post bytes ∷ [])
-GrowsAlong-post shape start bytes = (inl refl, tt)
+GrowsAlong-post shape start bytes = ((inl refl, KeepsLimits-post shape start bytes), tt)
 
 -- ---- what holds at every cut may be weakened
 
@@ -56,6 +78,37 @@ module _ (shape : Shape) (first : List Mark) (a b : BoardState) (P : Flash → L
     Went-then first more.0 a b c P begun (weaken_went more.0 b c Q (λ f q. P f (all_posted first ++ q)) seen more.1),
     grows_behind more.0 more.2,
   )
+
+-- ---- limits of a run
+
+-- the flash has the limits of this board besides
+abbrev pub Limited : Shape → BoardState → (Flash → List ℕ → Type 0) → Flash → List ℕ → Type 0
+Limited shape old P flash posted = P flash posted × (limits_at shape flash ≡ limits_at shape old.pages)
+
+module _ (shape : Shape) (a b : BoardState) (P : Flash → List ℕ → Type 0) (has : a.shape ≡ Some shape) where
+  limited_cut : (marks : List Mark) → GrowsAlong shape a.pages marks → (f : Flash) (q : List ℕ) → Cut (shape_of a) a.pages marks f q → limits_at shape f ≡ limits_at shape a.pages
+  limited_cut marks along f q cut = cut_limits shape a.pages marks along f q (subst (λ s. Cut s a.pages marks f q) (ap shape_or_none has) cut)
+
+  pub Reaches-limited : Reaches shape a b P → Reaches shape a b (Limited shape a P)
+  Reaches-limited (marks, run, along) = (
+    marks,
+    record { trail = run.trail; posted = run.posted; same_shape = run.same_shape; cuts = λ f q cut. (run.cuts f q cut, limited_cut marks along f q cut); stands = run.stands },
+    along,
+  )
+
+  pub Goes-limited : Goes shape a b P → Goes shape a b (Limited shape a P)
+  Goes-limited (marks, run, along) = (
+    marks,
+    record { trail = run.trail; posted = run.posted; same_shape = run.same_shape; cuts = λ f q cut. (run.cuts f q cut, limited_cut marks along f q cut); stands = run.stands },
+    along,
+  )
+
+  -- and so it is at the end
+  pub reached_limits : Reaches shape a b P → limits_at shape b.pages ≡ limits_at shape a.pages
+  reached_limits (marks, run, along) = ap (limits_at shape) run.stands ∙ limited_cut marks along (after_all (shape_of a) marks a.pages) (all_posted marks) (cut_end (shape_of a) a.pages marks)
+
+  pub went_limits : Goes shape a b P → limits_at shape b.pages ≡ limits_at shape a.pages
+  went_limits (marks, run, along) = limited_cut marks along b.pages (all_posted marks) run.stands
 
 -- a run that did not fail is one that may have
 pub Goes-reaches : (shape : Shape) (a b : BoardState) (P : Flash → List ℕ → Type 0) → Reaches shape a b P → Goes shape a b P

@@ -11,7 +11,8 @@ use Rattle.pk_nand.specs.Operations.{after_erase, EraseFailed}
 use Rattle.pk_nand.proofs.Leaving.{interrupted_done}
 use Rattle.pk_nand.proofs.CutLemmas.{interrupted_none}
 use Rattle.pk_nand.proofs.Reaching.{Reached-start, Reached-erase, Reached-program, Went-reached, silent_cuts, longer-nil}
-use Rattle.pk_model.specs.Growth.{Grows, Reaches, Goes}
+use Rattle.pk_model.specs.Spaces.{limits_at}
+use Rattle.pk_model.specs.Growth.{Grows, KeepsLimits, Reaches, Goes}
 use Rattle.pk_model.specs.Crashes.{CrashFinds, background}
 use Rattle.pk_model.proofs.Growing.{at_end, Reaches-then, Goes-then}
 
@@ -24,9 +25,13 @@ module _ (shape : Shape) (old : BoardState) (P : Flash → List ℕ → Type 0) 
   Reaches-none new same here = ([], Reached-start old new P (ap (λ s. s.shape) same) (ap (λ s. s.pages) same) (ap (λ s. s.trail) same) (ap (λ s. s.posted) same) here, tt)
 
   -- a mark that gives nothing out, done or interrupted
-  module _ (mark : Mark) (silent : posted_by mark ≡ []) (within : (f : Flash) → Interrupted shape mark old.pages f [] → P f []) (grows : Grows shape old.pages (after shape mark old.pages)) where
+  module _ (mark : Mark) (silent : posted_by mark ≡ []) (within : (f : Flash) → Interrupted shape mark old.pages f [] → P f [])
+      (grows : Grows shape old.pages (after shape mark old.pages)) (limited : (f : Flash) → Interrupted shape mark old.pages f [] → limits_at shape f ≡ limits_at shape old.pages) where
     within_board : (f : Flash) → Interrupted (shape_of old) mark old.pages f [] → P f []
     within_board f cut = within f (subst (λ s. Interrupted s mark old.pages f []) is_shape_of cut)
+
+    keeps : KeepsLimits shape old.pages mark
+    keeps f posted cut = limited f (record { same_size = cut.same_size; pages = cut.pages; posted = (posted_by mark, refl) })
 
     done : P (after (shape_of old) mark old.pages) []
     done = within_board _ (interrupted_done (shape_of old) mark old.pages)
@@ -43,29 +48,39 @@ module _ (shape : Shape) (old : BoardState) (P : Flash → List ℕ → Type 0) 
           cuts = silent_cuts (shape_of old) mark old.pages silent P within_board done;
           stands = let T : List ℕ → Type 0 = λ t. Cut (shape_of old) old.pages (mark ∷ []) new.pages t in subst T (sym none) (inl marked.0);
         },
-        (grows, tt),
+        ((grows, keeps), tt),
       )
       | inr same ↦ ([], Went-reached [] old new P (Reached-start old new P same_shape same.0 same.1 same_posted (within old.pages (interrupted_none shape mark old.pages))), tt)
     ]
 
-  module _ (block : ℕ) (within : (f : Flash) → Interrupted shape (erase block) old.pages f [] → P f []) (grows : Grows shape old.pages (after shape (erase block) old.pages)) where
+  module _ (block : ℕ) (within : (f : Flash) → Interrupted shape (erase block) old.pages f [] → P f [])
+      (grows : Grows shape old.pages (after shape (erase block) old.pages)) (limited : (f : Flash) → Interrupted shape (erase block) old.pages f [] → limits_at shape f ≡ limits_at shape old.pages) where
     pub Reaches-erase : (new : BoardState) → new ≡ after_erase old block → Reaches shape old new P
     Reaches-erase new made =
         let Q : BoardState → Type 0 = λ b. Reaches shape old b P in
-        subst Q (sym made) (erase block ∷ [], Reached-erase old P block (within_board (erase block) refl within grows) (done (erase block) refl within grows), (grows, tt))
+        subst Q (sym made) (
+          erase block ∷ [],
+          Reached-erase old P block (within_board (erase block) refl within grows limited) (done (erase block) refl within grows limited),
+          ((grows, keeps (erase block) refl within grows limited), tt),
+        )
 
     pub Goes-erase : (new : BoardState) → EraseFailed old new block → Goes shape old new P
-    Goes-erase new failed = Goes-failed (erase block) refl within grows new failed.left (ap (λ s. s.shape) failed.rest) (ap (λ s. s.posted) failed.rest) refl
+    Goes-erase new failed = Goes-failed (erase block) refl within grows limited new failed.left (ap (λ s. s.shape) failed.rest) (ap (λ s. s.posted) failed.rest) refl
 
   module _ (page : ℕ) (bytes : List ℕ) (within : (f : Flash) → Interrupted shape (program page bytes) old.pages f [] → P f [])
-      (grows : Grows shape old.pages (after shape (program page bytes) old.pages)) where
+      (grows : Grows shape old.pages (after shape (program page bytes) old.pages))
+      (limited : (f : Flash) → Interrupted shape (program page bytes) old.pages f [] → limits_at shape f ≡ limits_at shape old.pages) where
     pub Reaches-program : (new : BoardState) → new ≡ after_program old page bytes → Reaches shape old new P
     Reaches-program new made =
         let Q : BoardState → Type 0 = λ b. Reaches shape old b P in
-        subst Q (sym made) (program page bytes ∷ [], Reached-program old P page bytes (within_board (program page bytes) refl within grows) (done (program page bytes) refl within grows), (grows, tt))
+        subst Q (sym made) (
+          program page bytes ∷ [],
+          Reached-program old P page bytes (within_board (program page bytes) refl within grows limited) (done (program page bytes) refl within grows limited),
+          ((grows, keeps (program page bytes) refl within grows limited), tt),
+        )
 
     pub Goes-program : (new : BoardState) → ProgramFailed old new page bytes → Goes shape old new P
-    Goes-program new failed = Goes-failed (program page bytes) refl within grows new failed.left (ap (λ s. s.shape) failed.rest) (ap (λ s. s.posted) failed.rest) refl
+    Goes-program new failed = Goes-failed (program page bytes) refl within grows limited new failed.left (ap (λ s. s.shape) failed.rest) (ap (λ s. s.posted) failed.rest) refl
 
 -- ---- two parts of a run that holds a map throughout
 

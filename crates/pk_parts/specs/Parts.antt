@@ -1,11 +1,13 @@
 -- What a drive keeps in memory, and what contracts see of it.
-use Rattle.std.specs.Prelude.{ℕ, ◌-◌, Bool, true, List, [], ◌∷◌, length, sum, count_by, Option, Some, None, ◌==◌, ◌&&◌, not, if◌then◌else◌, ◌||◌, false}
-use Rattle.pk_base.specs.Shape.{Shape, charge, limit, data_blocks, most_pages}
+use Rattle.std.specs.Prelude.{ℕ, ◌+◌, ◌-◌, Bool, true, List, [], ◌∷◌, length, count_by, Option, Some, None, ◌==◌, ◌&&◌, not, if◌then◌else◌, ◌||◌, false}
+use Rattle.pk_base.specs.Shape.{Shape, charge, data_blocks, most_pages}
 use Rattle.pk_plan.specs.declared.owner.Owner.TheVariants.{Values}
 use Rattle.pk_pin.specs.Frames.{Frames, leased_frames}
 use Rattle.pk_pool.specs.Blocks.{Blocks, IsShared, is_ready, used_by, freed}
 use Rattle.pk_level.specs.Levels.{Levels, IsLevels, run_of}
-use Rattle.pk_model.specs.Spaces.{Terms, one_space}
+use Rattle.pk_space.specs.Uses.{Use, space_live, space_keys}
+use Rattle.pk_model.specs.Spaces.{Terms}
+use Rattle.pk_model.specs.RootLimits.{root_limits}
 use Rattle.pk_call.specs.Sight.{Sight, Counts, InSpace}
 use Rattle.pk_log.specs.State.{LogState}
 use Rattle.pk_values.specs.State.{ValuesState, fits_open}
@@ -25,8 +27,8 @@ use Rattle.pk_gc.specs.Standing.{held_blocks}
 use Rattle.pk_root.specs.Installing.{repeats_next}
 use Rattle.pk_walk.specs.Walking.{Walk}
 
--- The log, the runs with the arena of their frames, the jobs that keep both short, where values lie, the reclaim, the blocks, how many
--- keys there are, whether it stopped, and the walk of a List.
+-- The log, the runs with the arena of their frames, the jobs that keep both short, where values lie, the reclaim, the blocks, the live
+-- pages and the keys of each namespace, whether it stopped, and the walk of a List.
 pub record Parts : Type 0 where
   pub log : LogState
   pub levels : Levels
@@ -35,7 +37,7 @@ pub record Parts : Type 0 where
   pub values : ValuesState
   pub reclaim : JobState
   pub pool : Blocks
-  pub keys : ℕ
+  pub spaces : Use
   pub stopped : Bool
   pub walk : Walk
 
@@ -43,9 +45,13 @@ pub record Parts : Type 0 where
 abbrev pub frames_of : Parts → ℕ
 frames_of d = length d.arena.used
 
--- its frames, and the limit of its only namespace
+-- the limits of its namespaces, which its root has
+abbrev pub limits_of : Parts → List ℕ
+limits_of d = root_limits d.log.shape d.log.root
+
+-- its frames and these limits
 abbrev pub terms_of : Parts → Terms
-terms_of d = one_space (frames_of d) (limit d.log.shape)
+terms_of d = record { frames = frames_of d; limits = limits_of d }
 
 -- the part that records where the value of each key is
 abbrev pub index_of : Parts → Index
@@ -84,9 +90,14 @@ held_of d = record {
 abbrev pub outputs_of : Parts → List ℕ
 outputs_of d = (held_of d).values
 
--- what a Report says of each namespace
+-- what a Report says of namespaces with these limits, numbered from `space` on
+abbrev pub reported_from : Use → ℕ → List ℕ → List InSpace
+reported_from u space [] = []
+reported_from u space (most ∷ limits) = record { live = space_live u space; limit = most; keys = space_keys u space } ∷ reported_from u (space + 1) limits
+
+-- and of the namespaces of the drive
 abbrev pub spaces_of : Parts → List InSpace
-spaces_of d = record { live = sum d.values.live.heads; limit = limit d.log.shape; keys = d.keys } ∷ []
+spaces_of d = reported_from d.spaces 1 (limits_of d)
 
 -- and of the drive
 abbrev pub counts_of : Parts → Counts

@@ -1,9 +1,12 @@
 //! The numbers that a drive reports of itself.
-ghost use Rattle.std.specs.Prelude.{◌≡◌, ◌≤◌, length};
+ghost use Rattle.std.specs.Prelude.{◌≡◌, ◌≤◌, length, min};
 ghost use Rattle.pk_call.specs.Seen.{counts_of, in_space_of};
 ghost use Rattle.pk_gc.specs.Standing.{held_blocks};
-ghost use Rattle.pk_call.specs.Sight.{in_space_at};
+ghost use Rattle.pk_call.specs.Sight.{in_space_at, live_of_all};
+ghost use Rattle.pk_base.specs.declared.sizes.TheConstants.{MOST_SPACES};
+ghost use Rattle.pk_model.specs.Spaces.{limit_of};
 ghost use Rattle.pk_parts.specs.Parts as spec;
+ghost use Rattle.pk_space.specs.Uses.{IsSpace, space_live};
 
 use crate::parts::Parts;
 use pk_call::Counts;
@@ -33,12 +36,41 @@ impl<A: Region> Parts<A> {
             .saturating_sub(held_count(self.reclaim.phase()))
     }
 
-    /// How many namespaces the drive has: one, as no root has limits of its own.
+    /// How many namespaces the drive has.
     pub fn spaces(&self) -> u8
+        ensures value { result ≡ length (spec.limits_of self.now) }
         ensures number { result ≡ length (spec.spaces_of self.now) }
         ensures some { 1 ≤ result }
+        ensures most { result ≤ MOST_SPACES }
     {
-        1
+        self.log.root().spaces()
+    }
+
+    /// The limit of live pages of this namespace.
+    pub fn space_limit(&self, space: u8) -> u32
+        requires { 1 ≤ space × space ≤ length (spec.limits_of self.now) }
+        ensures { result ≡ limit_of (spec.limits_of self.now) space }
+    {
+        self.log.root().space_limit(space)
+    }
+
+    /// The live pages of this namespace.
+    pub fn space_live(&self, space: u8) -> u32
+        requires { IsSpace space }
+        ensures { result ≡ space_live self.now.spaces space }
+    {
+        self.spaces.live(space)
+    }
+
+    /// The live pages of all namespaces, or the greatest number if they are more.
+    pub fn live_pages(&self) -> u32
+        ensures { result ≡ min (live_of_all (spec.spaces_of self.now)) 4294967295 }
+    {
+        let mut total = 0u32;
+        for i in 0..self.spaces() {
+            total = total.saturating_add(self.spaces.live(i + 1));
+        }
+        total
     }
 
     /// The sixteen numbers of a Report in this namespace.
@@ -48,9 +80,9 @@ impl<A: Region> Parts<A> {
         ensures here { in_space_of result ≡ in_space_at (spec.spaces_of self.now) space }
     {
         Counts {
-            live: self.values.total(),
-            limit: self.shape().limit(),
-            keys: self.keys,
+            live: self.spaces.live(space),
+            limit: self.log.root().space_limit(space),
+            keys: self.spaces.keys(space),
             pinned: self.levels.pinned() as u32,
             frames: self.arena.frames(),
             leased: self.arena.frames() - self.arena.free(),

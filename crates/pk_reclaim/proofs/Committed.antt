@@ -251,6 +251,7 @@ module _ (log : LogState) (values : ValuesState) (pool : Blocks) (c : Course) (m
           ∙ ap (λ (xs : List Entry). buffer_of shape ((found.newest ++ left_entries) ++ xs)) (sym stands.none_pending);
       frozen_is = stands.logs.frozen_is;
       pending_are = stands.logs.pending_are;
+      spaced = stands.logs.spaced;
       pending_few = stands.logs.pending_few;
       pending_room = λ some. absurd (some stands.none_pending);
       pending_whole = λ some. absurd (some stands.none_pending);

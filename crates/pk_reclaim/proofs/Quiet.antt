@@ -18,8 +18,10 @@ use Rattle.pk_pool.specs.declared.state.BlockState.TheVariants.{Owned}
 use Rattle.pk_pool.specs.Blocks.{Blocks}
 use Rattle.pk_model.specs.Found.{Found}
 use Rattle.pk_model.specs.Laws.{AnyByRecursion}
+use Rattle.pk_model.specs.Spaces.{limits_at}
 use Rattle.pk_model.specs.Growth.{Grows, Reaches, Goes}
 use Rattle.pk_model.specs.Crashes.{CrashFinds, background}
+use Rattle.pk_model.proofs.Growing.{top_limits}
 use Rattle.pk_model.proofs.Running.{Reaches-none, Reaches-erase, Goes-erase, Reaches-program, Goes-program}
 use Rattle.pk_law_steps.specs.Under.{IsUnder, IsValuePage, places}
 use Rattle.pk_law_steps.proofs.Places.{in_append}
@@ -103,6 +105,9 @@ module _ {log : LogState} {pool : Blocks} {old : BoardState} {top : ℕ × Root}
   grows : (flash : Flash) → SameBut flash → Grows shape old.pages flash
   grows flash same = inl ((under_quiet flash same).is_top ∙ sym q.under.is_top)
 
+  limited : (flash : Flash) → SameBut flash → limits_at shape flash ≡ limits_at shape old.pages
+  limited flash same = top_limits shape flash old.pages ((under_quiet flash same).is_top ∙ sym q.under.is_top)
+
   pub none_reaches : (new : BoardState) → new ≡ old → Reaches shape old new Finds
   none_reaches new same = Reaches-none shape old Finds q.has new same (finds old.pages (λ k other. refl))
 
@@ -120,10 +125,12 @@ module _ {log : LogState} {pool : Blocks} {old : BoardState} {top : ℕ × Root}
   erase_quiet new made = subst (λ (s : BoardState). SameBut s.pages) (sym made) (subst (λ (s : Shape). SameBut (after s (erase b) old.pages)) (sym (ap shape_or_none q.has)) (done (erase b) in_erased))
 
   pub erase_reaches : (new : BoardState) → new ≡ after_erase old b → Reaches shape old new Finds
-  erase_reaches new made = Reaches-erase shape old Finds q.has b (λ f cut. finds f (within (erase b) in_erased f cut)) (grows _ (done (erase b) in_erased)) new made
+  erase_reaches new made = Reaches-erase shape old Finds q.has b (λ f cut. finds f (within (erase b) in_erased f cut)) (grows _ (done (erase b) in_erased))
+      (λ f cut. limited f (within (erase b) in_erased f cut)) new made
 
   pub erase_goes : (new : BoardState) → EraseFailed old new b → Goes shape old new Finds
-  erase_goes new failed = Goes-erase shape old Finds q.has b (λ f cut. finds f (within (erase b) in_erased f cut)) (grows _ (done (erase b) in_erased)) new failed
+  erase_goes new failed = Goes-erase shape old Finds q.has b (λ f cut. finds f (within (erase b) in_erased f cut)) (grows _ (done (erase b) in_erased))
+      (λ f cut. limited f (within (erase b) in_erased f cut)) new failed
 
   -- a program of a page in it
   module _ (at : ℕ) (bytes : List ℕ) (here : at / n ≡ b) where
@@ -137,8 +144,10 @@ module _ {log : LogState} {pool : Blocks} {old : BoardState} {top : ℕ × Root}
 
     pub program_reaches : (new : BoardState) → new ≡ after_program old at bytes → Reaches shape old new Finds
     program_reaches new made = Reaches-program shape old Finds q.has at bytes
-        (λ f cut. finds f (within (program at bytes) in_programmed f cut)) (grows _ (done (program at bytes) in_programmed)) new made
+        (λ f cut. finds f (within (program at bytes) in_programmed f cut)) (grows _ (done (program at bytes) in_programmed))
+        (λ f cut. limited f (within (program at bytes) in_programmed f cut)) new made
 
     pub program_goes : (new : BoardState) → ProgramFailed old new at bytes → Goes shape old new Finds
     program_goes new failed = Goes-program shape old Finds q.has at bytes
-        (λ f cut. finds f (within (program at bytes) in_programmed f cut)) (grows _ (done (program at bytes) in_programmed)) new failed
+        (λ f cut. finds f (within (program at bytes) in_programmed f cut)) (grows _ (done (program at bytes) in_programmed))
+        (λ f cut. limited f (within (program at bytes) in_programmed f cut)) new failed

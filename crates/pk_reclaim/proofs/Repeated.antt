@@ -140,6 +140,7 @@ module _ (log : LogState) (values : ValuesState) (pool : Blocks) (victim : ℕ) 
       active_is = stands.logs.active_is;
       frozen_is = stands.logs.frozen_is;
       pending_are = stands.logs.pending_are;
+      spaced = stands.logs.spaced;
       pending_few = stands.logs.pending_few;
       pending_room = λ some. absurd (some stands.none_pending);
       pending_whole = λ some. absurd (some stands.none_pending);

@@ -9,7 +9,7 @@ ghost use Rattle.pk_nand.specs.Counts.{after_reads};
 ghost use Rattle.pk_live.specs.Lives.{Lives};
 ghost use Rattle.pk_scan.specs.Accepted.{Accepted, NotAccepted};
 ghost use Rattle.pk_scan.specs.Adopts.{owned_blocks};
-ghost use Rattle.pk_scan.specs.Used.{IsUseOf};
+ghost use Rattle.pk_scan.specs.Used.{IsUseOf, held_limits};
 ghost use Rattle.pk_scan.specs.Board.{StaysReady};
 
 use crate::errors::PageError;
@@ -19,12 +19,13 @@ use pk_base::{Key, Place, Shape};
 use pk_live::Live;
 use pk_nand::Nand;
 use pk_pool::Pool;
-use pk_space::{Limits, Use};
+use pk_rootfmt::Root;
+use pk_space::Use;
 use std::alloc::Allocator;
 
 /// Takes the pages of a value and checks them: one step of the reading of a flash, whose earlier
-/// values `live` represents and `spaces` counts, of a drive with these limits. In the pool the blocks that the root names have their owners. `buf`
-/// has the size of a page and is overwritten.
+/// values `live` represents and `spaces` counts, of a drive with this root. In the pool the blocks
+/// that the root names have their owners. `buf` has the size of a page and is overwritten.
 ///
 /// `Damaged` names the first page of a value whose pages may not be taken, before any read, or the
 /// first page that is wrong. `Fault` if a read failed. After either the live map represents
@@ -32,7 +33,7 @@ use std::alloc::Allocator;
 pub fn accept_value<B: Nand, A: Allocator>(
     board: &mut B,
     shape: &Shape,
-    limits: &Limits,
+    root: &Root<A>,
     pool: &Pool<A>,
     live: &mut Live<A>,
     spaces: &mut Use,
@@ -51,8 +52,8 @@ pub fn accept_value<B: Nand, A: Allocator>(
     ensures accepted { OnOk result ((taken : List (KeySpec × Place))
         → Lives shape.now (owned_blocks pool.now) live.old taken
         → IsUseOf shape.now spaces.old taken
-        → Accepted shape.now (B.state board.old).pages limits.now.each
-        (owned_blocks pool.now) taken key.now place) }
+        → Accepted shape.now (B.state board.old).pages
+        (held_limits root.now) (owned_blocks pool.now) taken key.now place) }
     ensures lives { OnOk result ((taken : List (KeySpec × Place))
         → Lives shape.now (owned_blocks pool.now) live.old taken
         → Lives shape.now (owned_blocks pool.now) live.new (taken ++ (key.now, place) ∷ [])) }
@@ -65,8 +66,8 @@ pub fn accept_value<B: Nand, A: Allocator>(
     ensures err { IfErr result (λ e. (taken : List (KeySpec × Place))
         → Lives shape.now (owned_blocks pool.now) live.old taken
         → IsUseOf shape.now spaces.old taken
-        → NotAccepted shape.now (B.state board.old) (B.state board.new) limits.now.each
-        (owned_blocks pool.now) taken key.now place e) }
+        → NotAccepted shape.now (B.state board.old) (B.state board.new)
+        (held_limits root.now) (owned_blocks pool.now) taken key.now place e) }
 
     // Nothing but its pages is read.
     ensures ok { OnOk result
@@ -74,7 +75,7 @@ pub fn accept_value<B: Nand, A: Allocator>(
     ensures board { StaysReady shape.now (B.state board.old) (B.state board.new) }
     ensures buffer { length buf.new ≡ length buf.old }
 {
-    if !take_value(shape, limits, pool, live, spaces, key, place) {
+    if !take_value(shape, root, pool, live, spaces, key, place) {
         return Err(PageError::Damaged { page: place.page });
     }
     match check_value(board, shape, key, place, buf) {

@@ -22,7 +22,6 @@ use crate::adopt::{adopt_blocks, adopt_values};
 use crate::contents::{Found, Memory};
 use crate::errors::OpenError;
 use crate::lists::{find_root, read_lists};
-use crate::namespaces::limits_under;
 use crate::visible::{Lists, read_values};
 use pk_base::Shape;
 use pk_nand::Nand;
@@ -81,8 +80,8 @@ fn fill_lists<B: Nand, A: Region>(
     }
 }
 
-// Gives the blocks that the root names their owners, reads the values of all keys that exist under it, takes their pages, and
-// counts what each namespace uses.
+// Gives the blocks that the root names their owners, reads the values of all keys that exist under
+// it, takes their pages, and counts what each namespace uses.
 fn fill_values<B: Nand, A: Region>(board: &mut B, memory: &mut Memory<A>) -> Result<(), OpenError>
     requires ready { IsReady (B.state board.old) memory.old.found.root.shape }
     requires awaits { AwaitsValues memory.old }
@@ -119,7 +118,6 @@ fn fill_values<B: Nand, A: Region>(board: &mut B, memory: &mut Memory<A>) -> Res
     shape.known();
     // first of all: no value may be in a block that has its owner
     adopt_blocks(&mut memory.found.pool, &memory.found.root);
-    let limits = limits_under(&memory.found.root);
     let lists = Lists {
         arena: &memory.found.arena,
         levels: &memory.found.levels,
@@ -129,7 +127,7 @@ fn fill_values<B: Nand, A: Region>(board: &mut B, memory: &mut Memory<A>) -> Res
     match read_values(
         board,
         &shape,
-        &limits,
+        &memory.found.root,
         &memory.found.pool,
         &mut memory.walk,
         &lists,

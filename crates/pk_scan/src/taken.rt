@@ -12,13 +12,15 @@ ghost use Rattle.pk_model.specs.Values.{fits, all_pages, fits_after};
 ghost use Rattle.pk_space.specs.Uses.{IsSpace, space_live};
 ghost use Rattle.pk_scan.specs.Adopts as spec;
 ghost use Rattle.pk_scan.specs.Adopts.{owned_blocks};
-ghost use Rattle.pk_scan.specs.Used.{IsUseOf};
+ghost use Rattle.pk_scan.specs.Used.{IsUseOf, held_limits};
 ghost use Rattle.pk_live.specs.Lives.{Lives, StartsWithNone};
 
+use crate::namespaces::{limit_under, spaces_under};
 use pk_base::{Key, Place, Shape};
 use pk_live::Live;
 use pk_pool::{BlockState, Pool};
-use pk_space::{Limits, Use};
+use pk_rootfmt::Root;
+use pk_space::Use;
 use std::alloc::Allocator;
 
 // Whether a block of this state has an owner; a block past the last one has none.
@@ -112,13 +114,14 @@ fn has_room<A: Allocator>(shape: &Shape, pool: &Pool<A>, live: &Live<A>, place: 
 }
 
 // Whether a namespace may have this many pages more.
-fn is_within(limits: &Limits, spaces: &Use, space: u8, count: u32) -> bool
+fn is_within<A: Allocator>(root: &Root<A>, spaces: &Use, space: u8, count: u32) -> bool
     requires space { IsSpace space }
     requires some { 0 < count }
-    ensures { result ≡ nat_le (space_live spaces.now space + count) (limit_of limits.now.each space) }
+    ensures { result ≡ nat_le (space_live spaces.now space + count)
+        (limit_of (held_limits root.now) space) }
 {
-    space <= limits.count()
-        && spaces.live(space) as u64 + count as u64 <= limits.limit(space) as u64
+    space <= spaces_under(root)
+        && spaces.live(space) as u64 + count as u64 <= limit_under(root, space) as u64
 }
 
 /// Whether the pages of a value are in no block that has an owner, none of them belongs to a value
@@ -128,7 +131,7 @@ fn is_within(limits: &Limits, spaces: &Use, space: u8, count: u32) -> bool
 /// is counted are unchanged. The block gets its owner when all values are taken.
 pub fn take_value<A: Allocator>(
     shape: &Shape,
-    limits: &Limits,
+    root: &Root<A>,
     pool: &Pool<A>,
     live: &mut Live<A>,
     spaces: &mut Use,
@@ -142,8 +145,8 @@ pub fn take_value<A: Allocator>(
     ensures fits { (taken : List (KeySpec × PlaceSpec))
         → Lives shape.now (owned_blocks pool.now) live.old taken
         → IsUseOf shape.now spaces.old taken
-        → result ≡ fits_after shape.now limits.now.each (owned_blocks pool.now) taken
-        (key.now, place) }
+        → result ≡ fits_after shape.now (held_limits root.now)
+        (owned_blocks pool.now) taken (key.now, place) }
     ensures taken { result ≡ true → (taken : List (KeySpec × PlaceSpec))
         → Lives shape.now (owned_blocks pool.now) live.old taken
         → Lives shape.now (owned_blocks pool.now) live.new (taken ++ (key.now, place) ∷ []) }
@@ -158,7 +161,7 @@ pub fn take_value<A: Allocator>(
     let block = place.page / shape.block_pages();
     let count = shape.charge(place.len);
     let space = key.space();
-    if !is_within(limits, spaces, space, count) {
+    if !is_within(root, spaces, space, count) {
         return false;
     }
     live.set(place.page, count);

@@ -14,6 +14,7 @@ ghost use Rattle.pk_scan.specs.Adopts.{owned_blocks};
 ghost use Rattle.pk_scan.specs.OpeningParts.{PartNotOpened};
 ghost use Rattle.pk_scan.specs.Board.{StaysReady};
 ghost use Rattle.pk_scan.specs.Taken.{TakesValues, ReadsExactly};
+ghost use Rattle.pk_scan.specs.Used.{held_limits};
 
 use crate::accept::accept_value;
 use crate::errors::OpenError;
@@ -25,7 +26,8 @@ use pk_nand::Nand;
 use pk_pin::PinArena;
 use pk_pool::Pool;
 use pk_region::Region;
-use pk_space::{Limits, Use};
+use pk_rootfmt::Root;
+use pk_space::Use;
 use pk_walk::Walk;
 
 /// The lists of entries that a walk goes over, and the frames of the runs.
@@ -39,16 +41,16 @@ pub struct Lists<'a, A: Region> {
 
 /// Reads the values of all keys that the walk returns, in its order, and takes their pages: those
 /// of blocks that have an owner, which are those that the root names, are not free for them.
-/// Counts what each namespace uses; it is within its limit. Returns how many keys there are. `Damaged` names the first value whose pages may not be taken,
-/// or its first page that is wrong; `Fault` if a read failed. `buf` has the size of a page and is
-/// overwritten.
+/// Counts what each namespace uses; it is within the limit that the root has for it. Returns how
+/// many keys there are. `Damaged` names the first value whose pages may not be taken, or its first
+/// page that is wrong; `Fault` if a read failed. `buf` has the size of a page and is overwritten.
 ///
 /// A walk that begins at the first key reads each page of the runs without frames once; the pages
 /// of the values are read in addition.
 pub fn read_values<B: Nand, A: Region>(
     board: &mut B,
     shape: &Shape,
-    limits: &Limits,
+    root: &Root<A>,
     pool: &Pool<A>,
     walk: &mut Walk<A>,
     lists: &Lists<A>,
@@ -71,7 +73,7 @@ pub fn read_values<B: Nand, A: Region>(
         → IsLeft walk.old (B.state board.old).pages lists.now.arena.now lists.now.levels.now.runs
         lists.now.active.now.entries lists.now.frozen.now.entries es
         → TakesValues shape.now (B.state board.old).pages
-        limits.now.each (owned_blocks pool.now) live.new spaces.new keys es) }
+        (held_limits root.now) (owned_blocks pool.now) live.new spaces.new keys es) }
     ensures exact { OnOk result ((es : List (Key × Place))
         → IsLeft walk.old (B.state board.old).pages lists.now.arena.now lists.now.levels.now.runs
         lists.now.active.now.entries lists.now.frozen.now.entries es
@@ -83,8 +85,8 @@ pub fn read_values<B: Nand, A: Region>(
         → IsLeft walk.old (B.state board.old).pages lists.now.arena.now lists.now.levels.now.runs
         lists.now.active.now.entries lists.now.frozen.now.entries es
         → PartNotOpened
-        (values_of shape.now (page_at (B.state board.old).pages) limits.now.each
-        (owned_blocks pool.now) [] es)
+        (values_of shape.now (page_at (B.state board.old).pages)
+        (held_limits root.now) (owned_blocks pool.now) [] es)
         (B.state board.old) (B.state board.new) e) }
 
     // Either way nothing but reads was done.
@@ -96,7 +98,7 @@ pub fn read_values<B: Nand, A: Region>(
         match walk.next(board, lists.arena, lists.levels, lists.active, lists.frozen) {
             Ok(Some(Entry::Put { key, page, len })) => {
                 let place = Place { page, len };
-                match accept_value(board, shape, limits, pool, live, spaces, &key, place, buf) {
+                match accept_value(board, shape, root, pool, live, spaces, &key, place, buf) {
                     Ok(()) => {}
                     Err(error) => return Err(OpenError::from(error)),
                 }

@@ -2,14 +2,13 @@
 use Rattle.std.specs.Prelude.{◌≡◌, ◌⊎◌, ℕ, List, Some, None}
 use Rattle.std.specs.FinMap.{empty}
 use Rattle.pk_base.specs.Shape.{Shape}
-use Rattle.pk_base.specs.Page.{page_at}
 use Rattle.pk_nand.specs.BoardState.{BoardState}
 use Rattle.pk_nand.specs.Calls.{Loaded, Made, ProgramsFailed, after_programs}
 use Rattle.pk_nand.specs.Pairs.{programs_of_pair}
 use Rattle.pk_rootfmt.specs.Held.{first_with}
-use Rattle.pk_rootfmt.specs.Newest.{newest_root, limits_if}
 use Rattle.pk_rootfmt.specs.Root.{root_bytes, written_limits}
 use Rattle.pk_model.specs.Reading.{Holds}
+use Rattle.pk_model.specs.Spaces.{limits_at}
 use Rattle.pk_top.specs.declared.status.TheConstants.Status.{DONE, FLASH, IMAGE_EXISTS}
 use Rattle.pk_top.specs.Loads.{MakeRefused, WordRun}
 
@@ -21,7 +20,7 @@ made_root shape limits = root_bytes shape (first_with (written_limits shape limi
 pub record Formatted (shape : Shape) (limits : List ℕ) (made new : BoardState) (status : ℕ) : Type 0 where
   pub tells : status ≡ DONE.0
   pub holds : Holds shape new.pages empty
-  pub limits_are : limits_if shape (newest_root shape (page_at new.pages)) ≡ limits
+  pub limits_are : limits_at shape new.pages ≡ limits
   pub programs : new ≡ after_programs made (programs_of_pair 0 (made_root shape limits))
 
 -- An image of this shape was made; its flash was formatted, or a program of that failed.
@@ -54,4 +53,4 @@ MakeRun shape limits old new status = WordRun (MakesNew shape limits old new sta
 pub record IsMade (shape : Shape) (limits : List ℕ) (board : BoardState) : Type 0 where
   pub shape_is : board.shape ≡ Some shape
   pub holds : Holds shape board.pages empty
-  pub limits_are : limits_if shape (newest_root shape (page_at board.pages)) ≡ limits
+  pub limits_are : limits_at shape board.pages ≡ limits

@@ -65,10 +65,9 @@ returns-in-Ok-clause-finds g c found held =
     let pool = c.adopt_blocks.new.pool in
     let same = owned_named f.root.shape f.root.root (rw c.shape.ensures at c.known.ensures) c.requires.awaits.grammar pool
     (named_now f.root.shape f.root.root f.pool pool c.requires.awaits.pool_unused c.adopt_blocks.ensures.named) in
-    let limits : c.limits_under-limits.result.each ≡ root_limits f.root.shape f.root.root = ap (λ l. l.each) c.limits_under-limits.ensures in
     let taken = c.in-Ok.ensures.read (places found []) left in
     let read = subst (λ (s : Shape). ReadsValues s old.pages (root_limits f.root.shape f.root.root) (owned_blocks pool) c.read_values.new.live (places found [])) c.shape.ensures
-    (rw limits at taken.values) in
+    taken.values in
     record {
       values = record {
         values = read.values;
@@ -85,7 +84,6 @@ returns-in-Err-clause-err g c found held =
     let f = c.args.memory.now.found in
     let old = g.B.Nand.state c.args.board.now in
     let new = g.B.Nand.state c.read_values.new.board in
-    let limits : c.limits_under-limits.result.each ≡ root_limits f.root.shape f.root.root = ap (λ l. l.each) c.limits_under-limits.ensures in
     let left = left_to_give f.root.shape old.pages f.root.root f.active f.frozen f.epoch f.arena f.levels found held c.args.memory.now.walk c.requires.awaits.starts in
     let pool = c.adopt_blocks.new.pool in
     let same = owned_named f.root.shape f.root.root (rw c.shape.ensures at c.known.ensures) c.requires.awaits.grammar pool
@@ -93,4 +91,4 @@ returns-in-Err-clause-err g c found held =
     subst (λ (part : Result (List (Key × List ℕ)) Refusal). PartNotOpened part old new c.in-Err.error)
     (values_same f.root.shape (owned_blocks pool) (named f.root.root) same (page_at old.pages) (root_limits f.root.shape f.root.root) [] (places found []))
     (subst (λ (s : Shape). PartNotOpened (values_of s (page_at old.pages) (root_limits f.root.shape f.root.root) (owned_blocks pool) [] (places found [])) old new c.in-Err.error) c.shape.ensures
-    (rw limits at (c.in-Err.ensures.err (places found []) left)))
+    (c.in-Err.ensures.err (places found []) left))

@@ -1,3 +1,4 @@
+use Rattle.pk_scan.specs.Used.{held_limits}
 use Rattle.std.proofs.Common.{◌≡◌, ℕ, ◌/◌, ◌∙◌, true, length, sym, ap, arith}
 use Rattle.std.proofs.Math.ListN.{set}
 use Rattle.pk_base.specs.Shape.{charge}
@@ -11,7 +12,7 @@ use Rattle.pk_scan.proofs.taken.take_value.Goals as goal
 
 pub returns-then-not-has_room-clause-fits : goal.returns-then-not-has_room-clause-fits
 returns-then-not-has_room-clause-fits g c taken lives uses =
-    not_fitting c.args.shape.now c.args.limits.now.each (owned_blocks c.args.pool.now) taken c.args.key.now c.args.place (sym (c.has_room.ensures taken lives) ∙ c.if-not-has_room.true)
+    not_fitting c.args.shape.now (held_limits c.args.root.now) (owned_blocks c.args.pool.now) taken c.args.key.now c.args.place (sym (c.has_room.ensures taken lives) ∙ c.if-not-has_room.true)
 
 pub is_within-requires-clause-space : goal.is_within-requires-clause-space
 is_within-requires-clause-space g c =
@@ -29,14 +30,14 @@ pub returns-then-not-is_within-clause-fits : goal.returns-then-not-is_within-cla
 returns-then-not-is_within-clause-fits g c taken lives uses =
     let key = c.space-space.ensures.key in
     let told = rw (c.space-space.ensures.value, c.charge-count.ensures.value) at c.is_within.ensures in
-    sym c.if-not-is_within.true ∙ fitting c.args.shape.now c.args.limits.now.each (owned_blocks c.args.pool.now) taken c.args.key.now c.args.place
+    sym c.if-not-is_within.true ∙ fitting c.args.shape.now (held_limits c.args.root.now) (owned_blocks c.args.pool.now) taken c.args.key.now c.args.place
     (sym (c.has_room.ensures taken lives) ∙ c.if-not-has_room.false) c.args.spaces.now (key.space_some, key.space_most) uses _ told
 
 pub returns-clause-fits : goal.returns-clause-fits
 returns-clause-fits g c taken lives uses =
     let key = c.space-space.ensures.key in
     let told = rw (c.space-space.ensures.value, c.charge-count.ensures.value) at c.is_within.ensures in
-    sym c.if-not-is_within.false ∙ fitting c.args.shape.now c.args.limits.now.each (owned_blocks c.args.pool.now) taken c.args.key.now c.args.place
+    sym c.if-not-is_within.false ∙ fitting c.args.shape.now (held_limits c.args.root.now) (owned_blocks c.args.pool.now) taken c.args.key.now c.args.place
     (sym (c.has_room.ensures taken lives) ∙ c.if-not-has_room.false) c.args.spaces.now (key.space_some, key.space_most) uses _ told
 
 pub change-requires-clause-space : goal.change-requires-clause-space

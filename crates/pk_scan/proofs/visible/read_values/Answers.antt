@@ -1,3 +1,4 @@
+use Rattle.pk_scan.specs.Used.{held_limits}
 use Rattle.std.proofs.Common.{◌∙◌, List, [], sym, subst, arith}
 use Rattle.pk_base.specs.Key.{Key}
 use Rattle.pk_base.specs.Entry.{Place}
@@ -18,7 +19,7 @@ overflow_add-keys-end g c = let few = limit_few c.args.shape.now c.known.ensures
 pub loop-keys-init : goal.loop-keys-init
 loop-keys-init g c =
     let first = TakenTo-start c.args.shape.now (g.B.Nand.state c.args.board.now).pages c.args.lists.now.arena.now c.args.lists.now.levels.now.runs c.args.lists.now.active.now.entries
-    c.args.lists.now.frozen.now.entries c.args.limits.now.each (owned_blocks c.args.pool.now) c.args.walk.now c.args.live.now c.args.spaces.now c.requires.left.0 c.requires.left.1 c.requires.left.2 c.requires.none c.requires.unused in record {
+    c.args.lists.now.frozen.now.entries (held_limits c.args.root.now) (owned_blocks c.args.pool.now) c.args.walk.now c.args.live.now c.args.spaces.now c.requires.left.0 c.requires.left.1 c.requires.left.2 c.requires.none c.requires.unused in record {
       taken = first.0;
       walk = c.requires.shapes.1;
       read = subst (λ (xs : List (Key × Place)). HaveRead c.args.shape.now c.args.lists.now.levels.now.runs c.args.walk.now c.args.walk.now xs
@@ -34,11 +35,11 @@ accept_value-requires-clause-place g c =
     let pages = c.loop-keys.invariant.board.pages in
     let still = c.in-Ok-Some-Put.ensures.same ∙ pages in
     let put = put_next c.args.shape.now (g.B.Nand.state c.args.board.now).pages c.args.lists.now.arena.now c.args.lists.now.levels.now.runs c.args.lists.now.active.now.entries
-    c.args.lists.now.frozen.now.entries c.args.limits.now.each (owned_blocks c.args.pool.now) c.args.walk.now c.loop-keys.walk c.loop-keys.live c.loop-keys.spaces c.loop-keys.keys c.loop-keys.invariant.taken c.next.new.self
+    c.args.lists.now.frozen.now.entries (held_limits c.args.root.now) (owned_blocks c.args.pool.now) c.args.walk.now c.loop-keys.walk c.loop-keys.live c.loop-keys.spaces c.loop-keys.keys c.loop-keys.invariant.taken c.next.new.self
     (g.B.Nand.state c.loop-keys.board).pages (g.B.Nand.state c.next.new.board).pages pages c.in-Ok-Some-Put.key c.in-Ok-Some-Put.page c.in-Ok-Some-Put.len still
     (rw (c.in-Ok-Some-Put.field-0-is, c.in-Ok-Some-Put.field-0-0-is) at c.in-Ok-Some-Put.ensures.gives) in
     place_next c.args.shape.now (g.B.Nand.state c.args.board.now).pages c.args.lists.now.arena.now c.args.lists.now.levels.now.runs c.args.lists.now.active.now.entries
-    c.args.lists.now.frozen.now.entries c.args.limits.now.each (owned_blocks c.args.pool.now) c.args.walk.now c.loop-keys.walk c.loop-keys.live c.loop-keys.spaces c.loop-keys.keys c.loop-keys.invariant.taken c.in-Ok-Some-Put.key
+    c.args.lists.now.frozen.now.entries (held_limits c.args.root.now) (owned_blocks c.args.pool.now) c.args.walk.now c.loop-keys.walk c.loop-keys.live c.loop-keys.spaces c.loop-keys.keys c.loop-keys.invariant.taken c.in-Ok-Some-Put.key
     (place c.in-Ok-Some-Put.page c.in-Ok-Some-Put.len) put.0 put.1
 
 pub returns-in-Err-accept_value-clause-err : goal.returns-in-Err-accept_value-clause-err
@@ -46,32 +47,32 @@ returns-in-Err-accept_value-clause-err g c es left =
     let pages = c.loop-keys.invariant.board.pages in
     let still = c.in-Ok-Some-Put.ensures.same ∙ pages in
     let put = put_next c.args.shape.now (g.B.Nand.state c.args.board.now).pages c.args.lists.now.arena.now c.args.lists.now.levels.now.runs c.args.lists.now.active.now.entries
-    c.args.lists.now.frozen.now.entries c.args.limits.now.each (owned_blocks c.args.pool.now) c.args.walk.now c.loop-keys.walk c.loop-keys.live c.loop-keys.spaces c.loop-keys.keys c.loop-keys.invariant.taken c.next.new.self
+    c.args.lists.now.frozen.now.entries (held_limits c.args.root.now) (owned_blocks c.args.pool.now) c.args.walk.now c.loop-keys.walk c.loop-keys.live c.loop-keys.spaces c.loop-keys.keys c.loop-keys.invariant.taken c.next.new.self
     (g.B.Nand.state c.loop-keys.board).pages (g.B.Nand.state c.next.new.board).pages pages c.in-Ok-Some-Put.key c.in-Ok-Some-Put.page c.in-Ok-Some-Put.len still
     (rw (c.in-Ok-Some-Put.field-0-is, c.in-Ok-Some-Put.field-0-0-is) at c.in-Ok-Some-Put.ensures.gives) in
     let old = g.B.Nand.state c.args.board.now in
     let now = g.B.Nand.state c.next.new.board in
     let step = c.in-Ok-Some-Put.ensures.reads in
     let t = c.loop-keys.invariant.taken in
-    subst (λ (e : OpenError). PartNotOpened (values_of c.args.shape.now (page_at old.pages) c.args.limits.now.each (owned_blocks c.args.pool.now) [] es) old (g.B.Nand.state c.accept_value.new.board) e) (sym c.from.ensures)
+    subst (λ (e : OpenError). PartNotOpened (values_of c.args.shape.now (page_at old.pages) (held_limits c.args.root.now) (owned_blocks c.args.pool.now) [] es) old (g.B.Nand.state c.accept_value.new.board) e) (sym c.from.ensures)
     (TakenTo-refused c.args.shape.now (g.B.Nand.state c.args.board.now).pages c.args.lists.now.arena.now c.args.lists.now.levels.now.runs c.args.lists.now.active.now.entries
-    c.args.lists.now.frozen.now.entries c.args.limits.now.each (owned_blocks c.args.pool.now) c.args.walk.now c.loop-keys.walk c.loop-keys.live c.loop-keys.spaces c.loop-keys.keys c.loop-keys.invariant.taken c.in-Ok-Some-Put.key
+    c.args.lists.now.frozen.now.entries (held_limits c.args.root.now) (owned_blocks c.args.pool.now) c.args.walk.now c.loop-keys.walk c.loop-keys.live c.loop-keys.spaces c.loop-keys.keys c.loop-keys.invariant.taken c.in-Ok-Some-Put.key
     (place c.in-Ok-Some-Put.page c.in-Ok-Some-Put.len) put.0 put.1 old now (g.B.Nand.state c.accept_value.new.board) c.in-Err-accept_value.error
     (reads_both old (g.B.Nand.state c.loop-keys.board) now c.loop-keys.invariant.reads (step.0, step.2)) still (c.in-Err-accept_value.ensures.err t.taken t.to.lives t.uses) es left)
 
 pub unreachable-requires : goal.unreachable-requires
 unreachable-requires g c =
     gone_next c.args.shape.now (g.B.Nand.state c.args.board.now).pages c.args.lists.now.arena.now c.args.lists.now.levels.now.runs c.args.lists.now.active.now.entries
-    c.args.lists.now.frozen.now.entries c.args.limits.now.each (owned_blocks c.args.pool.now) c.args.walk.now c.loop-keys.walk c.loop-keys.live c.loop-keys.spaces c.loop-keys.keys c.loop-keys.invariant.taken c.next.new.self
+    c.args.lists.now.frozen.now.entries (held_limits c.args.root.now) (owned_blocks c.args.pool.now) c.args.walk.now c.loop-keys.walk c.loop-keys.live c.loop-keys.spaces c.loop-keys.keys c.loop-keys.invariant.taken c.next.new.self
     (g.B.Nand.state c.loop-keys.board).pages (g.B.Nand.state c.next.new.board).pages c.loop-keys.invariant.board.pages c.in-Ok-Some-Gone.field-0-0-0
     (rw (c.in-Ok-Some-Gone.field-0-is, c.in-Ok-Some-Gone.field-0-0-is) at c.in-Ok-Some-Gone.ensures.gives)
 
 pub returns-in-Ok-None-clause-read : goal.returns-in-Ok-None-clause-read
 returns-in-Ok-None-clause-read g c es left =
     let taken = TakenTo-end c.args.shape.now (g.B.Nand.state c.args.board.now).pages c.args.lists.now.arena.now c.args.lists.now.levels.now.runs c.args.lists.now.active.now.entries
-    c.args.lists.now.frozen.now.entries c.args.limits.now.each (owned_blocks c.args.pool.now) c.args.walk.now c.loop-keys.walk c.loop-keys.live c.loop-keys.spaces c.loop-keys.keys c.loop-keys.invariant.taken
+    c.args.lists.now.frozen.now.entries (held_limits c.args.root.now) (owned_blocks c.args.pool.now) c.args.walk.now c.loop-keys.walk c.loop-keys.live c.loop-keys.spaces c.loop-keys.keys c.loop-keys.invariant.taken
     (none_next c.args.shape.now (g.B.Nand.state c.args.board.now).pages c.args.lists.now.arena.now c.args.lists.now.levels.now.runs c.args.lists.now.active.now.entries
-    c.args.lists.now.frozen.now.entries c.args.limits.now.each (owned_blocks c.args.pool.now) c.args.walk.now c.loop-keys.walk c.loop-keys.live c.loop-keys.spaces c.loop-keys.keys c.loop-keys.invariant.taken c.next.new.self
+    c.args.lists.now.frozen.now.entries (held_limits c.args.root.now) (owned_blocks c.args.pool.now) c.args.walk.now c.loop-keys.walk c.loop-keys.live c.loop-keys.spaces c.loop-keys.keys c.loop-keys.invariant.taken c.next.new.self
     (g.B.Nand.state c.loop-keys.board).pages (g.B.Nand.state c.next.new.board).pages c.loop-keys.invariant.board.pages (rw c.in-Ok-None.field-0-is at c.in-Ok-None.ensures.gives)) es left in
     record { values = taken.0; uses = taken.1; keys_are = taken.2 }
 
@@ -80,9 +81,9 @@ returns-in-Ok-None-clause-exact g c es left =
     let step = c.in-Ok-None.ensures.reads in
     let t = c.loop-keys.invariant.taken in
     let end = TakenTo-all c.args.shape.now (g.B.Nand.state c.args.board.now).pages c.args.lists.now.arena.now c.args.lists.now.levels.now.runs c.args.lists.now.active.now.entries
-    c.args.lists.now.frozen.now.entries c.args.limits.now.each (owned_blocks c.args.pool.now) c.args.walk.now c.loop-keys.walk c.loop-keys.live c.loop-keys.spaces c.loop-keys.keys t
+    c.args.lists.now.frozen.now.entries (held_limits c.args.root.now) (owned_blocks c.args.pool.now) c.args.walk.now c.loop-keys.walk c.loop-keys.live c.loop-keys.spaces c.loop-keys.keys t
     (none_next c.args.shape.now (g.B.Nand.state c.args.board.now).pages c.args.lists.now.arena.now c.args.lists.now.levels.now.runs c.args.lists.now.active.now.entries
-    c.args.lists.now.frozen.now.entries c.args.limits.now.each (owned_blocks c.args.pool.now) c.args.walk.now c.loop-keys.walk c.loop-keys.live c.loop-keys.spaces c.loop-keys.keys t c.next.new.self
+    c.args.lists.now.frozen.now.entries (held_limits c.args.root.now) (owned_blocks c.args.pool.now) c.args.walk.now c.loop-keys.walk c.loop-keys.live c.loop-keys.spaces c.loop-keys.keys t c.next.new.self
     (g.B.Nand.state c.loop-keys.board).pages (g.B.Nand.state c.next.new.board).pages c.loop-keys.invariant.board.pages (rw c.in-Ok-None.field-0-is at c.in-Ok-None.ensures.gives)) es left in
     record {
       reads = reads_both (g.B.Nand.state c.args.board.now) (g.B.Nand.state c.loop-keys.board) (g.B.Nand.state c.next.new.board) c.loop-keys.invariant.reads (step.0, step.2);
@@ -116,7 +117,7 @@ loop-keys-preserved g c =
     let pages = c.loop-keys.invariant.board.pages in
     let still = c.in-Ok-Some-Put.ensures.same ∙ pages in
     let put = put_next c.args.shape.now (g.B.Nand.state c.args.board.now).pages c.args.lists.now.arena.now c.args.lists.now.levels.now.runs c.args.lists.now.active.now.entries
-    c.args.lists.now.frozen.now.entries c.args.limits.now.each (owned_blocks c.args.pool.now) c.args.walk.now c.loop-keys.walk c.loop-keys.live c.loop-keys.spaces c.loop-keys.keys c.loop-keys.invariant.taken c.next.new.self
+    c.args.lists.now.frozen.now.entries (held_limits c.args.root.now) (owned_blocks c.args.pool.now) c.args.walk.now c.loop-keys.walk c.loop-keys.live c.loop-keys.spaces c.loop-keys.keys c.loop-keys.invariant.taken c.next.new.self
     (g.B.Nand.state c.loop-keys.board).pages (g.B.Nand.state c.next.new.board).pages pages c.in-Ok-Some-Put.key c.in-Ok-Some-Put.page c.in-Ok-Some-Put.len still
     (rw (c.in-Ok-Some-Put.field-0-is, c.in-Ok-Some-Put.field-0-0-is) at c.in-Ok-Some-Put.ensures.gives) in
     let old = g.B.Nand.state c.args.board.now in
@@ -124,9 +125,9 @@ loop-keys-preserved g c =
     let step = c.in-Ok-Some-Put.ensures.reads in
     let t = c.loop-keys.invariant.taken in
     let next = TakenTo-next c.args.shape.now (g.B.Nand.state c.args.board.now).pages c.args.lists.now.arena.now c.args.lists.now.levels.now.runs c.args.lists.now.active.now.entries
-    c.args.lists.now.frozen.now.entries c.args.limits.now.each (owned_blocks c.args.pool.now) c.args.walk.now c.loop-keys.walk c.loop-keys.live c.loop-keys.spaces c.loop-keys.keys c.loop-keys.invariant.taken c.in-Ok-Some-Put.key
+    c.args.lists.now.frozen.now.entries (held_limits c.args.root.now) (owned_blocks c.args.pool.now) c.args.walk.now c.loop-keys.walk c.loop-keys.live c.loop-keys.spaces c.loop-keys.keys c.loop-keys.invariant.taken c.in-Ok-Some-Put.key
     (place c.in-Ok-Some-Put.page c.in-Ok-Some-Put.len) put.0 put.1 c.next.new.self c.accept_value.new.live c.accept_value.new.spaces put.2
-    (subst (λ (f : Flash). Accepted c.args.shape.now f c.args.limits.now.each (owned_blocks c.args.pool.now) t.taken c.in-Ok-Some-Put.key (place c.in-Ok-Some-Put.page c.in-Ok-Some-Put.len)) still
+    (subst (λ (f : Flash). Accepted c.args.shape.now f (held_limits c.args.root.now) (owned_blocks c.args.pool.now) t.taken c.in-Ok-Some-Put.key (place c.in-Ok-Some-Put.page c.in-Ok-Some-Put.len)) still
     (c.in-Ok.ensures.accepted t.taken t.to.lives t.uses)) (c.in-Ok.ensures.lives t.taken t.to.lives) (c.in-Ok.ensures.used t.taken t.uses) in
     record {
       taken = next.0;
@@ -146,5 +147,5 @@ loop-keys-preserved g c =
 pub unreachable-requires-2 : goal.unreachable-requires-2
 unreachable-requires-2 g c =
     let few = few_taken c.args.shape.now (g.B.Nand.state c.args.board.now).pages c.args.lists.now.arena.now c.args.lists.now.levels.now.runs c.args.lists.now.active.now.entries
-    c.args.lists.now.frozen.now.entries c.args.limits.now.each (owned_blocks c.args.pool.now) c.args.walk.now c.known.ensures c.loop-keys.walk c.loop-keys.live c.loop-keys.spaces c.loop-keys.keys c.loop-keys.invariant.taken in
+    c.args.lists.now.frozen.now.entries (held_limits c.args.root.now) (owned_blocks c.args.pool.now) c.args.walk.now c.known.ensures c.loop-keys.walk c.loop-keys.live c.loop-keys.spaces c.loop-keys.keys c.loop-keys.invariant.taken in
     absurd (omega (arith, few, c.loop-keys-test.false, c.limit-keys-end.ensures.value))

@@ -1,3 +1,4 @@
+use Rattle.pk_scan.specs.Used.{held_limits}
 use Rattle.std.proofs.Common.{◌≡◌, length}
 use Rattle.pk_scan.specs.Adopts.{owned_blocks}
 use Rattle.pk_scan.specs.Board.{StaysReady}
@@ -9,7 +10,7 @@ use Rattle.pk_scan.proofs.visible.read_values.Given as goal
 abbrev pub invariant-loop-keys : goal.invariant-loop-keys
 invariant-loop-keys g l = record {
   taken : TakenTo l.shape (g.B.Nand.state l.initial.board).pages l.lists.arena.now l.lists.levels.now.runs l.lists.active.now.entries l.lists.frozen.now.entries
-      l.limits.each (owned_blocks l.pool) l.initial.walk l.walk l.live l.spaces l.keys;
+      (held_limits l.root) (owned_blocks l.pool) l.initial.walk l.walk l.live l.spaces l.keys;
   walk : l.walk.shape ≡ l.shape;
   read : HaveRead l.shape l.lists.levels.now.runs l.initial.walk l.walk taken.taken (g.B.Nand.state l.initial.board) (g.B.Nand.state l.board);
   reads : OnlyReads (g.B.Nand.state l.initial.board) (g.B.Nand.state l.board);
