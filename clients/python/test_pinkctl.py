@@ -704,7 +704,7 @@ class Namespaces(unittest.TestCase):
         flash = self.read([], [(1, b"a", b"x")])
         self.assertEqual((flash.opens, flash.limits), (True, (492,)))
 
-    def test_a_namespace_that_the_drive_has_not(self):
+    def test_a_namespace_that_the_drive_does_not_have(self):
         for limits, space in ([100, 392], 3), ([492], 2), ([], 2):
             self.assertEqual(self.read(limits, [(space, b"a", b"x")]).fault.page, 32)
 
