@@ -54,7 +54,7 @@ use Rattle.pk_call.specs.Seen.{stopped_by}
 use Rattle.pk_model.specs.Crashes.{CrashFinds, background}
 use Rattle.pk_call.specs.declared.types.Ticked.{Ticked}
 use Rattle.pk_call.specs.declared.types.Ticked.TheVariants.{Worked, Idle, Fault}
-use Rattle.pk_model.proofs.Growing.{weaken, weaken_went}
+use Rattle.pk_model.proofs.Growing.{reached_limits, weaken, weaken_went}
 use Rattle.pk_values.specs.Laws.{SameValues}
 use Rattle.pk_gc.specs.Stepping.{runs_in}
 use Rattle.pk_parts.specs.Parts.{Parts, sight_of, counts_of, index_of, block_if_open, outputs_of, backlog_of, is_reclaim_due, reclaim_left, has_moves, may_freeze, is_half, settled_parts}
@@ -65,7 +65,8 @@ use Rattle.pk_background.proofs.Unread.{KeepsOwners, SameRead, same_top, still_w
 use Rattle.pk_background.proofs.Stills.{IsStill, SameStill, StillCut, read_still, still_end, went_end, still_erase, still_erase_failed}
 use Rattle.pk_background.proofs.Beside.{IsIndexed, spare_still, beside_still, same_roots}
 use Rattle.pk_parts.proofs.Halves.{with_settled, whole_of, whole_like, is_whole, counted_of, pool_same}
-use Rattle.pk_parts.proofs.Unchanging.{own, own_whole, for_its_map, limits_are}
+use Rattle.pk_parts.proofs.OwnLimits.{limits_on}
+use Rattle.pk_parts.proofs.Unchanging.{own, own_whole, for_its_map}
 use Rattle.pk_base.proofs.Logic.{not_both, both_true}
 
 pub yes_no : (b : Bool) → b ≡ false → b ≡ true → ⊥
@@ -268,7 +269,7 @@ module _ (d : Parts) (old new : BoardState) (a : DriveOnFlash d old.shape old.pa
               (record {
                 shape_is = ready.shape_is;
                 frames_is = refl;
-                limits_is = limits_are d.log.shape new.pages;
+                limits_is = reached_limits d.log.shape old new Still has reached ∙ limits_on d old.shape old.pages a;
                 map_is = under_reads d.log.shape new.pages d.log.pending a.top a.found a.all
                     (still_all d d.values d.pool d.log.shape old.pages new.pages a.top a.found a.without a.all (own_whole d old a whole) same);
               });

@@ -175,9 +175,14 @@ module _ (a b : Parts) (s0 s1 : BoardState) (n : ℕ) (key : Key) (value : List 
       let P : Shape → Type 0 = λ s. MayStore b s s1.pages m key value in
       let some = entries_some a.log.shape may.stands.with.index.logs.is_shape in
       let empty = no_entries in
+      let same = step.came.0 a.log.shape m may.stands in
       record {
         ready = subst (λ (s : Shape). IsReady s1 s) (sym stays.same_shape) step.ready;
-        may = (m, subst P (sym stays.same_shape) (record { stands = (step.came.0 a.log.shape m may.stands).stands; bytes = may.bytes; room = may.room }));
+        may = (m, subst P (sym stays.same_shape) (record {
+          stands = same.stands;
+          bytes = may.bytes;
+          room = room_after a.log.shape s0 s1 (CrashFinds a.log.shape commit s0.pages m) can.ready.shape_is same.cuts key m value may.room;
+        }));
         short = subst (λ (s : Shape). length value ≤ greatest s) (sym stays.same_shape) can.short;
         few = subst (λ (s : Shape). length b.log.pending < page_entries s) (sym stays.same_shape) (omega (arith, some, empty));
       }
@@ -193,7 +198,13 @@ module _ (a b : Parts) (s0 s1 : BoardState) (n : ℕ) (key : Key) (value : List 
 
   module _ (c : Parts) (s2 : BoardState) where
     store_may : (shape : Shape) (m : Map) → MayStore a shape s0.pages m key value → MayStore b shape s1.pages m key value
-    store_may shape m may = record { stands = (step.came.0 shape m may.stands).stands; bytes = may.bytes; room = may.room }
+    store_may shape m may =
+        let same = step.came.0 shape m may.stands in
+        record {
+          stands = same.stands;
+          bytes = may.bytes;
+          room = room_after shape s0 s1 (CrashFinds shape commit s0.pages m) (board_has a s0 shape m can.ready may.stands) same.cuts key m value may.room;
+        }
 
     stores_then : StoresAll b c s1 s2 key value → StoresAll a c s0 s2 key value
     stores_then stores shape m may =

@@ -5,10 +5,10 @@ use Rattle.std.proofs.lemmas.List.{take_min}
 use Rattle.std.specs.List.{AllByRecursion, flat_map}
 use Rattle.pk_base.specs.Fields.{u32}
 use Rattle.std.specs.Ordering.{eq_by_cmp}
-use Rattle.std.specs.FinMap.{get, len}
+use Rattle.std.specs.FinMap.{get}
 use Rattle.std.specs.FinMap.Entries.{find}
 use Rattle.pk_base.specs.Key.{Key, IsKey, key_cmp}
-use Rattle.pk_base.specs.Shape.{Shape, IsShape, limit, greatest, pinned, fetched}
+use Rattle.pk_base.specs.Shape.{Shape, IsShape, greatest, pinned, fetched}
 use Rattle.pk_base.specs.Page.{Flash, page_at}
 use Rattle.pk_base.proofs.ShapeLemmas.{fetched_charge, charge_most}
 use Rattle.pk_base.specs.Entry.{Place}
@@ -35,7 +35,8 @@ use Rattle.pk_model.specs.Bounds.{most_reads, most_reads_of}
 use Rattle.pk_model.specs.Found.{Found}
 use Rattle.pk_model.specs.Run.{Step}
 use Rattle.pk_call.specs.Sight.{Sight, Counts, InSpace}
-use Rattle.pk_model.proofs.Answering.{refuses_late, serves, IsAlone, serves_alone, refuses_alone}
+use Rattle.pk_model.proofs.Answering.{refuses_late, serves}
+use Rattle.pk_model.proofs.SpaceLemmas.{get_own}
 use Rattle.pk_law_steps.specs.Under.{places}
 use Rattle.pk_call.specs.Call.{command_on}
 use Rattle.pk_call.specs.Drive.{HoldsMap, CountsMap}
@@ -43,14 +44,14 @@ use Rattle.pk_call.specs.Seen.{reply_of as shown}
 use Rattle.pk_call.specs.declared.types.Outcome.{Outcome}
 use Rattle.pk_call.specs.Exec.{report_of}
 use Rattle.pk_model.specs.Crashes.{CrashFinds}
-use Rattle.pk_parts.specs.Parts.{Parts, sight_of, frames_of, settled_parts, terms_of}
+use Rattle.pk_parts.specs.Parts.{Parts, drive_limits, sight_of, frames_of, settled_parts, terms_of}
 use Rattle.pk_parts.specs.Agreeing.{DriveOnFlashWith, DriveOnFlash}
 use Rattle.pk_parts.specs.Finding.{IsPlaceIn}
 use Rattle.pk_core.specs.Done.{Does}
 use Rattle.pk_core.specs.Quiet.{ValueThere, eleven}
 use Rattle.pk_parts.specs.Quiet.{ReadsOnly, ReadsFailing, Looks}
-use Rattle.pk_parts.proofs.Unchanging.{reads_more, reads_break, own, for_its_map, looked, whole_all}
-use Rattle.pk_model.specs.Spaces.{Terms, one_space, in_space}
+use Rattle.pk_parts.proofs.Unchanging.{reads_more, reads_break, own, for_its_map, looked}
+use Rattle.pk_model.specs.Spaces.{Terms, limit_of, in_space}
 
 -- ---- the clauses of a command that only reads
 
@@ -162,70 +163,71 @@ value_there d flash top found without all k p is_key a is =
 
 -- ---- answers
 
-pub same_early : (shape : Shape) (r : Request) (v : List ℕ) → early 1 shape (command_of r v) ≡ early 1 shape (command_of r [])
-same_early shape r v = elim (op_of r.opcode) as (λ o. fault_of 1 shape (command_of r v) o ≡ fault_of 1 shape (command_of r []) o) [ None ↦ refl | Some k ↦ refl ]
+pub same_early : (spaces : ℕ) (shape : Shape) (r : Request) (v : List ℕ) → early spaces shape (command_of r v) ≡ early spaces shape (command_of r [])
+same_early spaces shape r v = elim (op_of r.opcode) as (λ o. fault_of spaces shape (command_of r v) o ≡ fault_of spaces shape (command_of r []) o) [ None ↦ refl | Some k ↦ refl ]
 
-module _ (shape : Shape) (frames : ℕ) (m : Map) (c : Command) (passed : early 1 shape c ≡ None) where
-  abbrev terms : Terms
-  terms = one_space frames (limit shape)
+module _ (shape : Shape) (terms : Terms) (m : Map) (c : Command) (passed : early (length terms.limits) shape c ≡ None) where
+  -- the keys of its namespace, and the limit
+  abbrev part : Map
+  part = in_space c.namespace m
+
+  abbrev most : ℕ
+  most = limit_of terms.limits c.namespace
 
   pub unread_step : Step shape terms m c (refusal 0x88) m
   unread_step = inr (record { not_early = passed; replied = refl; leaves = refl })
 
   -- how many pages it may read
-  pub most_missing : get m (key c) ≡ None → most_reads shape terms m c ≡ 4 - pinned shape frames
-  most_missing missing = λ i. most_reads_of shape frames c (passed i) (missing i)
+  pub most_missing : get m (key c) ≡ None → most_reads shape terms m c ≡ 4 - pinned shape terms.frames
+  most_missing missing = λ i. most_reads_of shape terms.frames c (passed i) (missing i)
 
-  pub most_there : (v : List ℕ) → get m (key c) ≡ Some v → most_reads shape terms m c ≡ 4 - pinned shape frames + fetched shape (min (length v) c.size)
-  most_there v there = λ i. most_reads_of shape frames c (passed i) (there i)
+  pub most_there : (v : List ℕ) → get m (key c) ≡ Some v → most_reads shape terms m c ≡ 4 - pinned shape terms.frames + fetched shape (min (length v) c.size)
+  most_there v there = λ i. most_reads_of shape terms.frames c (passed i) (there i)
 
-  pub most_least : 4 - pinned shape frames ≤ most_reads shape terms m c
-  most_least = subst (λ e. 4 - pinned shape frames ≤ most_reads_of shape frames c e (get m (key c))) (sym passed) (by_value (get m (key c)))
+  pub most_least : 4 - pinned shape terms.frames ≤ most_reads shape terms m c
+  most_least = subst (λ e. 4 - pinned shape terms.frames ≤ most_reads_of shape terms.frames c e (get m (key c))) (sym passed) (by_value (get m (key c)))
     where
-      by_value : (o : Option (List ℕ)) → 4 - pinned shape frames ≤ most_reads_of shape frames c None o
+      by_value : (o : Option (List ℕ)) → 4 - pinned shape terms.frames ≤ most_reads_of shape terms.frames c None o
       by_value None = omega arith
       by_value (Some v) = omega arith
 
-  -- a map of which each key is of the drive's only namespace
-  module _ (whole : in_space 1 m ≡ m) where
-    pub alone : IsAlone terms (limit shape) m
-    alone = record { one = refl; whole = whole }
+  -- its key is of its namespace
+  pub own_value : get part (key c) ≡ get m (key c)
+  own_value = get_own c.namespace m (take c.key_len c.key_bytes)
 
-    served : (k : Opcode) (own : List ℕ) (a : Reply) → length own ≡ 11 → op_of c.opcode ≡ Some k → late_of shape (limit shape) m c (Some k) ≡ None → effect m c (Some k) ≡ m
-        → a ≡ reply_of shape (limit shape) frames m own c (Some k) → Step shape terms m c a m
-    served k own a eleven is late left answer =
-        let s = serves_alone shape terms (limit shape) m alone c own k is passed late in
-        inl (record { own = own; eleven = eleven; replied = answer ∙ sym s.replied; leaves = sym (s.leaves ∙ left) })
+  served : (k : Opcode) (own : List ℕ) (a : Reply) → length own ≡ 11 → op_of c.opcode ≡ Some k → late_of shape most part c (Some k) ≡ None → effect m c (Some k) ≡ m
+      → a ≡ reply_of shape most terms.frames part own c (Some k) → Step shape terms m c a m
+  served k own a eleven is late left answer =
+      let s = serves shape terms m own c k is passed late in
+      inl (record { own = own; eleven = eleven; replied = answer ∙ sym s.replied; leaves = sym (s.leaves ∙ left) })
 
-    pub refused_step : (k : Opcode) (status : ℕ) → op_of c.opcode ≡ Some k → late_of shape (limit shape) m c (Some k) ≡ Some status → Step shape terms m c (refusal status) m
-    refused_step k status is late =
-        let s = refuses_alone shape terms (limit shape) m alone c eleven k status is passed late in
-        inl (record { own = eleven; eleven = refl; replied = sym s.replied; leaves = sym s.leaves })
+  pub refused_step : (k : Opcode) (status : ℕ) → op_of c.opcode ≡ Some k → late_of shape most part c (Some k) ≡ Some status → Step shape terms m c (refusal status) m
+  refused_step k status is late =
+      let s = refuses_late shape terms m eleven c k status is passed late in
+      inl (record { own = eleven; eleven = refl; replied = sym s.replied; leaves = sym s.leaves })
 
-    pub flush_step : c.opcode ≡ 0x00 → Step shape terms m c (success 0 []) m
-    flush_step is = served Flush eleven (success 0 []) refl (ap op_of is) refl refl refl
+  pub flush_step : c.opcode ≡ 0x00 → Step shape terms m c (success 0 []) m
+  flush_step is = served Flush eleven (success 0 []) refl (ap op_of is) refl refl refl
 
-    pub report_step : (here : InSpace) (n : Counts) (bytes : List ℕ) → c.opcode ≡ 0xC2 → CountsMap shape terms 1 m here n → bytes ≡ report_of here n → Step shape terms m c (success 0 bytes) m
-    report_step here n bytes is told same =
-        let live_is : here.live ≡ live shape m = told.live_is ∙ ap (live shape) whole in
-        let keys_is : here.keys ≡ len m = told.keys_is ∙ ap len whole in
-        let more : List ℕ = n.leased ∷ n.active ∷ n.frozen ∷ n.run1 ∷ n.run2 ∷ n.run3 ∷ n.run4 ∷ n.epoch ∷ n.blocks ∷ n.ready ∷ n.merge ∷ [] in
-        served Report more (success 0 bytes) refl (ap op_of is) refl refl
-        (ap (success 0) same ∙ (λ i. success 0 (flat_map u32 (live_is i ∷ told.limit_is i ∷ keys_is i ∷ told.pinned_is i ∷ told.frames_is i ∷ more))))
+  pub report_step : (here : InSpace) (n : Counts) (bytes : List ℕ) → c.opcode ≡ 0xC2 → CountsMap shape terms c.namespace m here n → bytes ≡ report_of here n → Step shape terms m c (success 0 bytes) m
+  report_step here n bytes is told same =
+      let more : List ℕ = n.leased ∷ n.active ∷ n.frozen ∷ n.run1 ∷ n.run2 ∷ n.run3 ∷ n.run4 ∷ n.epoch ∷ n.blocks ∷ n.ready ∷ n.merge ∷ [] in
+      served Report more (success 0 bytes) refl (ap op_of is) refl refl
+      (ap (success 0) same ∙ (λ i. success 0 (flat_map u32 (told.live_is i ∷ told.limit_is i ∷ told.keys_is i ∷ told.pinned_is i ∷ told.frames_is i ∷ more))))
 
-    pub exist_there : (v : List ℕ) → c.opcode ≡ 0x14 → get m (key c) ≡ Some v → Step shape terms m c (success 0 []) m
-    exist_there v is there = served Exist eleven (success 0 []) refl (ap op_of is) (ap (λ o. check (is_some o) 0x87) there) refl refl
+  pub exist_there : (v : List ℕ) → c.opcode ≡ 0x14 → get m (key c) ≡ Some v → Step shape terms m c (success 0 []) m
+  exist_there v is there = served Exist eleven (success 0 []) refl (ap op_of is) (ap (λ o. check (is_some o) 0x87) (own_value ∙ there)) refl refl
 
-    pub exist_missing : c.opcode ≡ 0x14 → get m (key c) ≡ None → Step shape terms m c (refusal 0x87) m
-    exist_missing is missing = refused_step Exist 0x87 (ap op_of is) (ap (λ o. check (is_some o) 0x87) missing)
+  pub exist_missing : c.opcode ≡ 0x14 → get m (key c) ≡ None → Step shape terms m c (refusal 0x87) m
+  exist_missing is missing = refused_step Exist 0x87 (ap op_of is) (ap (λ o. check (is_some o) 0x87) (own_value ∙ missing))
 
-    pub retrieve_missing : c.opcode ≡ 0x02 → get m (key c) ≡ None → Step shape terms m c (refusal 0x87) m
-    retrieve_missing is missing = refused_step Retrieve 0x87 (ap op_of is) (ap (λ o. check (is_some o) 0x87) missing)
+  pub retrieve_missing : c.opcode ≡ 0x02 → get m (key c) ≡ None → Step shape terms m c (refusal 0x87) m
+  retrieve_missing is missing = refused_step Retrieve 0x87 (ap op_of is) (ap (λ o. check (is_some o) 0x87) (own_value ∙ missing))
 
-    pub retrieve_there : (v bytes : List ℕ) (len : ℕ) → c.opcode ≡ 0x02 → get m (key c) ≡ Some v → length v ≡ len → bytes ≡ take c.size v → Step shape terms m c (success len bytes) m
-    retrieve_there v bytes len is there size same =
-        served Retrieve eleven (success len bytes) refl (ap op_of is) (ap (λ o. check (is_some o) 0x87) there) refl
-        ((λ i. success (sym size i) (same i)) ∙ ap (λ o. success (length (unwrap_or o [])) (take c.size (unwrap_or o []))) (sym there))
+  pub retrieve_there : (v bytes : List ℕ) (len : ℕ) → c.opcode ≡ 0x02 → get m (key c) ≡ Some v → length v ≡ len → bytes ≡ take c.size v → Step shape terms m c (success len bytes) m
+  retrieve_there v bytes len is there size same =
+      served Retrieve eleven (success len bytes) refl (ap op_of is) (ap (λ o. check (is_some o) 0x87) (own_value ∙ there)) refl
+      ((λ i. success (sym size i) (same i)) ∙ ap (λ o. success (length (unwrap_or o [])) (take c.size (unwrap_or o []))) (sym (own_value ∙ there)))
 
 -- ---- pages of a value
 
@@ -287,7 +289,7 @@ few_of d old a k p n size is_key looks is =
     let most = few_fetched d.log.shape n (own d old a).index.logs.is_shape (omega (arith, is, short)) in
     omega (arith, most)
 
-module _ (d d' : Parts) (old new : BoardState) (r : Request) (v into : List ℕ) (a : DriveOnFlash d old.shape old.pages) (same : d' ≡ d) (passed : early 1 d.log.shape (command_of r []) ≡ None)
+module _ (d d' : Parts) (old new : BoardState) (r : Request) (v into : List ℕ) (a : DriveOnFlash d old.shape old.pages) (same : d' ≡ d) (passed : early (length (drive_limits d)) d.log.shape (command_of r []) ≡ None)
     (few : old.reads ≤ last_count) (few' : new.reads ≤ last_count) where
   shape : Shape
   shape = d.log.shape
@@ -299,8 +301,8 @@ module _ (d d' : Parts) (old new : BoardState) (r : Request) (v into : List ℕ)
   abbrev pub Done : Outcome → Type 0
   Done o = Does old new (sight_of d) (sight_of d') (command_of r v) (shown o into) o.reads o.stopped
 
-  passes : early 1 d.log.shape (command_of r v) ≡ None
-  passes = same_early d.log.shape r v ∙ passed
+  passes : early (length (drive_limits d)) d.log.shape (command_of r v) ≡ None
+  passes = same_early (length (drive_limits d)) d.log.shape r v ∙ passed
 
   same_sight : (reply : Reply) (reads : ℕ) → Does old new (sight_of d) (sight_of d) (command_of r v) reply reads false → Does old new (sight_of d) (sight_of d') (command_of r v) reply reads false
   same_sight reply reads is = subst (λ x. Does old new (sight_of d) (sight_of x) (command_of r v) reply reads false) (sym same) is
@@ -325,13 +327,13 @@ module _ (d d' : Parts) (old new : BoardState) (r : Request) (v into : List ℕ)
   by_unread most reads faults made is bound =
       same_sight (refusal 0x88) reads
       (does_unread old new (sight_of d) (command_of r v) most reads few few' faults made is
-      (on_all (refusal 0x88) reads (unread_step d.log.shape (frames_of d) a.all (command_of r v) passes, bound)))
+      (on_all (refusal 0x88) reads (unread_step d.log.shape (terms_of d) a.all (command_of r v) passes, bound)))
 
   -- a lookup whose read failed
   pub unread_look : (o : Outcome) (reads : ℕ) → o ≡ record { status = 0x88; result = 0; data_len = 0; reads = reads; stopped = false } → old.read_faults ≤ last_count
       → ReadsFailing old new (4 - d.levels.pinned) → reads ≡ new.reads - old.reads → Done o
   unread_look o reads told faults made is =
-      let least = most_least d.log.shape (frames_of d) a.all (command_of r v) passes in
+      let least = most_least d.log.shape (terms_of d) a.all (command_of r v) passes in
       let within = made.within in
       let p = pinned_is in
       subst Done (sym told) (by_unread (4 - d.levels.pinned) reads faults made is (λ _. omega (arith, least, within, p, is)))
@@ -342,7 +344,7 @@ module _ (d d' : Parts) (old new : BoardState) (r : Request) (v into : List ℕ)
       let there = (looked d old a k (Some p) looks).there in
       let here : get a.all (key (command_of r v)) ≡ Some there.0 = subst (λ q. get a.all q ≡ Some there.0) named there.2 in
       subst Done (sym told) (by_reads (4 - d.levels.pinned) reads (success 0 []) made is ok_sound
-      (exist_there d.log.shape (frames_of d) a.all (command_of r v) passes (whole_all d old a) there.0 op here, λ e. absurd (other_kind r.opcode op e)))
+      (exist_there d.log.shape (terms_of d) a.all (command_of r v) passes there.0 op here, λ e. absurd (other_kind r.opcode op e)))
 
   pub exist_none : (o : Outcome) (reads : ℕ) (k : Key) → r.opcode ≡ 0x14 → k ≡ key (command_of r v) → Looks d old.pages k None
       → o ≡ record { status = 0x87; result = 0; data_len = 0; reads = reads; stopped = false } → ReadsOnly old new (4 - d.levels.pinned) → reads ≡ new.reads - old.reads → Done o
@@ -350,18 +352,18 @@ module _ (d d' : Parts) (old new : BoardState) (r : Request) (v into : List ℕ)
       let there = (looked d old a k None looks).there in
       let here : get a.all (key (command_of r v)) ≡ None = subst (λ q. get a.all q ≡ None) named there in
       subst Done (sym told) (by_reads (4 - d.levels.pinned) reads (refusal 0x87) made is missing_sound
-      (exist_missing d.log.shape (frames_of d) a.all (command_of r v) passes (whole_all d old a) op here, λ e. absurd (other_kind r.opcode op e)))
+      (exist_missing d.log.shape (terms_of d) a.all (command_of r v) passes op here, λ e. absurd (other_kind r.opcode op e)))
 
   pub retrieve_none : (o : Outcome) (reads : ℕ) (k : Key) → r.opcode ≡ 0x02 → k ≡ key (command_of r v) → Looks d old.pages k None
       → o ≡ record { status = 0x87; result = 0; data_len = 0; reads = reads; stopped = false } → ReadsOnly old new (4 - d.levels.pinned) → reads ≡ new.reads - old.reads → Done o
   retrieve_none o reads k op named looks told made is =
       let there = (looked d old a k None looks).there in
       let here : get a.all (key (command_of r v)) ≡ None = subst (λ q. get a.all q ≡ None) named there in
-      let least = most_least d.log.shape (frames_of d) a.all (command_of r v) passes in
+      let least = most_least d.log.shape (terms_of d) a.all (command_of r v) passes in
       let within = made.within in
       let p = pinned_is in
       subst Done (sym told) (by_reads (4 - d.levels.pinned) reads (refusal 0x87) made is missing_sound
-      (retrieve_missing d.log.shape (frames_of d) a.all (command_of r v) passes (whole_all d old a) op here, λ _. omega (arith, least, within, p, is)))
+      (retrieve_missing d.log.shape (terms_of d) a.all (command_of r v) passes op here, λ _. omega (arith, least, within, p, is)))
 
   -- how much may be read of the value that was found
   most_found : (k : Key) (p : Place) (n : ℕ) → IsKey k → k ≡ key (command_of r v) → Looks d old.pages k (Some p) → n ≡ min p.len r.size
@@ -370,7 +372,7 @@ module _ (d d' : Parts) (old new : BoardState) (r : Request) (v into : List ℕ)
       let there = value_of d old a k p is_key looks in
       let here : get a.all (key (command_of r v)) ≡ Some there.value = subst (λ q. get a.all q ≡ Some there.value) named there.is_there in
       let same_n : min (length there.value) r.size ≡ n = ap (λ x. min x r.size) there.size ∙ sym size in
-      most_there d.log.shape (frames_of d) a.all (command_of r v) passes there.value here ∙ (λ i. 4 - sym pinned_is i + fetched d.log.shape (same_n i))
+      most_there d.log.shape (terms_of d) a.all (command_of r v) passes there.value here ∙ (λ i. 4 - sym pinned_is i + fetched d.log.shape (same_n i))
 
   pub retrieve_found : (o : Outcome) (reads : ℕ) (k : Key) (p : Place) (n : ℕ) → r.opcode ≡ 0x02 → IsKey k → k ≡ key (command_of r v) → Looks d old.pages k (Some p)
       → n ≡ min p.len r.size
@@ -387,7 +389,7 @@ module _ (d d' : Parts) (old new : BoardState) (r : Request) (v into : List ℕ)
       let most = most_found k p n is_key named looks size in
       let within = made.within in
       subst Done (sym told) (by_reads (4 - d.levels.pinned + fetched d.log.shape n) reads (success p.len (take n into)) made is ok_sound
-      (retrieve_there d.log.shape (frames_of d) a.all (command_of r v) passes (whole_all d old a) w (take n into) p.len op here there.size bytes, λ _. omega (arith, most, within, is)))
+      (retrieve_there d.log.shape (terms_of d) a.all (command_of r v) passes w (take n into) p.len op here there.size bytes, λ _. omega (arith, most, within, is)))
 
   pub unread_value : (o : Outcome) (reads : ℕ) (k : Key) (p : Place) (n : ℕ) → IsKey k → k ≡ key (command_of r v) → Looks d old.pages k (Some p) → n ≡ min p.len r.size
       → o ≡ record { status = 0x88; result = 0; data_len = 0; reads = reads; stopped = false } → old.read_faults ≤ last_count

@@ -5,7 +5,7 @@ ghost use Rattle.pk_nand.specs.Calls.{IsReady};
 ghost use Rattle.pk_call.specs.Drive.{HoldsMap};
 ghost use Rattle.pk_model.specs.Reading.{Holds};
 ghost use Rattle.pk_port.specs.Steps.{mount};
-ghost use Rattle.pk_mirrorwords.specs.PairTasks.{seen, IsShort};
+ghost use Rattle.pk_mirrorwords.specs.PairTasks.{seen, IsAllowed};
 ghost use Rattle.pk_mirrorrun.specs.PairTold.{PairTold};
 
 use crate::telling::tell;
@@ -105,7 +105,7 @@ impl PairSpeaker {
             (E.sight second_drive.old) m }
 
         // The word.
-        requires short { IsShort (seen task) }
+        requires allowed { IsAllowed (seen task) }
 
         // What it did, from the maps that the flashes hold.
         ensures { (m other : Map) → Holds self (B.state first.old).pages m

@@ -176,7 +176,7 @@ pub in_step_after : (old new : Mirrored) (p p' q q' : PortState) (cs : List Comm
 in_step_after old new p p' q q' cs told t pair keeps off = record {
   pair = record {
     pair = pair;
-    limit_is = t.limit ∙ told.limit_is ∙ ap limit (sym t.shape);
+    limit_most = subst (λ (s : Shape). p'.limit ≤ limit s) (sym t.shape) (let most = told.limit_most in let same = t.limit in omega (arith, most, same));
     map = told.map;
     told = keeps ∙ told.told;
   };

@@ -18,10 +18,10 @@ use Rattle.pk_mirror.specs.declared.error.MirrorError.{MirrorError}
 use Rattle.pk_mirror.specs.declared.error.MirrorError.TheVariants.{Refused, Port, Split}
 use Rattle.pk_mirrorwords.specs.PairTasks.{PairTask, change_of, map_left, text_of}
 
--- a pair of which the maps are known, within the limit of their shape
+-- a pair of which the maps are known, and whose limit is at most that of their shape
 pub record IsToldPair (mirror : Mirrored) (first second : PortState) : Type 0 where
   pub pair : IsPair mirror first second
-  pub limit_is : first.limit ≡ limit first.shape
+  pub limit_most : first.limit ≤ limit first.shape
   pub map : Map
   pub told : first.map ≡ Some map
 

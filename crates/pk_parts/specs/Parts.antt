@@ -46,12 +46,12 @@ abbrev pub frames_of : Parts → ℕ
 frames_of d = length d.arena.used
 
 -- the limits of its namespaces, which its root has
-abbrev pub limits_of : Parts → List ℕ
-limits_of d = root_limits d.log.shape d.log.root
+abbrev pub drive_limits : Parts → List ℕ
+drive_limits d = root_limits d.log.shape d.log.root
 
 -- its frames and these limits
 abbrev pub terms_of : Parts → Terms
-terms_of d = record { frames = frames_of d; limits = limits_of d }
+terms_of d = record { frames = frames_of d; limits = drive_limits d }
 
 -- the part that records where the value of each key is
 abbrev pub index_of : Parts → Index
@@ -97,7 +97,7 @@ reported_from u space (most ∷ limits) = record { live = space_live u space; li
 
 -- and of the namespaces of the drive
 abbrev pub spaces_of : Parts → List InSpace
-spaces_of d = reported_from d.spaces 1 (limits_of d)
+spaces_of d = reported_from d.spaces 1 (drive_limits d)
 
 -- and of the drive
 abbrev pub counts_of : Parts → Counts

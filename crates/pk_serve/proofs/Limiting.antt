@@ -1,25 +1,32 @@
--- A flash has the same limits whatever its pages are.
-use Rattle.std.proofs.Common.{◌≡◌, ◌≤◌, List, ℕ, [], ◌∷◌, length, refl, ap, ◌∙◌, arith}
-use Rattle.pk_base.specs.Shape.{Shape, limit}
-use Rattle.pk_base.specs.Page.{Flash}
+-- The limits of a drive on its board.
+use Rattle.std.proofs.Common.{◌≡◌, ◌≤◌, List, ℕ, [], ◌∷◌, length, Ok, sym, ap, subst, ◌∙◌, arith}
+use Rattle.pk_base.specs.Shape.{Shape}
+use Rattle.pk_base.specs.Page.{Flash, page_at}
+use Rattle.pk_base.specs.Entry.{Entry}
 use Rattle.pk_base.specs.Map.{Map}
+use Rattle.pk_base.specs.Refusal.{some_or, not_formatted}
 use Rattle.pk_nand.specs.BoardState.{BoardState, shape_of, shape_or_none}
-use Rattle.pk_call.specs.Sight.{Sight}
+use Rattle.pk_rootfmt.specs.Root.{limits_of}
+use Rattle.pk_rootfmt.specs.Newest.{newest_root}
+use Rattle.pk_model.specs.Reading.{reading, reading_of}
+use Rattle.pk_model.specs.RootLimits.{root_limits}
 use Rattle.pk_model.specs.Spaces.{Terms, limits_at}
+use Rattle.pk_model.proofs.RootLimits.{limits_under}
+use Rattle.pk_model.proofs.StrangePages.{bind_ok, some_ok}
+use Rattle.pk_call.specs.Sight.{Sight}
 use Rattle.pk_call.specs.Drive.{HoldsMap}
 
-pub limits_same : (shape : Shape) (f g : Flash) → limits_at shape f ≡ limits_at shape g
-unfolding limits_at
-limits_same shape f g = refl
+some_of : (shape : Shape) (limits : List ℕ) → 1 ≤ length (limits_of shape limits)
+some_of shape [] = omega arith
+some_of shape (l ∷ ls) = omega arith
 
--- they are one limit, that of the shape
-pub limits_one : (shape : Shape) (f : Flash) → limits_at shape f ≡ limit shape ∷ []
-unfolding limits_at
-limits_one shape f = refl
-
-pub limits_some : (shape : Shape) (f : Flash) → 1 ≤ length (limits_at shape f)
-unfolding limits_at
-limits_some shape f = omega arith
+-- a flash that is read has at least one
+pub limits_some : (shape : Shape) (flash : Flash) (extra : List Entry) (m : Map) → reading shape flash extra ≡ Ok m → 1 ≤ length (limits_at shape flash)
+unfolding reading_of root_limits
+limits_some shape flash extra m reads =
+    let top = bind_ok (some_or (newest_root shape (page_at flash)) not_formatted) _ m reads in
+    let is = some_ok (newest_root shape (page_at flash)) not_formatted top.0 top.1 in
+    subst (λ (limits : List ℕ). 1 ≤ length limits) (sym (limits_under shape flash top.0 is)) (some_of shape top.0.1.limits)
 
 -- those of a board are those of the drive on it
 abbrev pub limits_on : BoardState → List ℕ

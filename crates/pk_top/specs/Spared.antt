@@ -23,7 +23,7 @@ use Rattle.pk_top.specs.Resting.{Rests}
 -- The word may be obeyed over a flash with this many spare blocks: it needs a drive, and with the spare blocks the shape of a drive that
 -- it makes is still allowed.
 abbrev pub fits_spares : ℕ → Word → Bool
-fits_spares spares (make shape) = is_ok (checked (inner_shape shape spares))
+fits_spares spares (make shape limits) = is_ok (checked (inner_shape shape spares))
 fits_spares spares (serve frames) = true
 fits_spares spares (ask task) = true
 fits_spares spares assemble = false
@@ -55,10 +55,10 @@ pub record RunsOver (asked : List (List ℕ)) (old new : BoardState) (status : �
   pub words : status ≡ WORDS.0 → (word_of asked ≡ None) × (new ≡ old)
   pub no_words : word_of asked ≡ None → (new ≡ old) × ((status ≡ WORDS.0) ⊎ (status ≡ MEMORY.0))
   pub tells : (status ≡ WORDS.0) ⊎ Tells old new status
-  pub memory : ((shape : Shape) → word_of asked ≢ Some (make shape)) → status ≡ MEMORY.0 → Untouched old new
+  pub memory : ((shape : Shape) (limits : List ℕ) → word_of asked ≢ Some (make shape limits)) → status ≡ MEMORY.0 → Untouched old new
   -- the words that touch the flash
-  pub makes : (shape : Shape) → word_of asked ≡ Some (make shape) → MakeRun shape old new status
-  pub made : (shape : Shape) → word_of asked ≡ Some (make shape) → status ≡ DONE.0 → IsMade shape new
+  pub makes : (shape : Shape) (limits : List ℕ) → word_of asked ≡ Some (make shape limits) → MakeRun shape limits old new status
+  pub made : (shape : Shape) (limits : List ℕ) → word_of asked ≡ Some (make shape limits) → status ≡ DONE.0 → IsMade shape limits new
   pub serves : (frames : ℕ) → word_of asked ≡ Some (serve frames) → ServeRun frames old new status
   pub asks : (task : Task) → word_of asked ≡ Some (ask task) → AskRun task old new status
   pub asks_whole : (task : Task) → word_of asked ≡ Some (ask task) → AsksWhole task old new status

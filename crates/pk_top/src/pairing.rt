@@ -1,7 +1,7 @@
 //! The words that ask a pair of drives, on two images.
 ghost use Rattle.std.specs.Prelude.{◌≡◌, ◌≢◌, ◌⊎◌, None, Some, map, IfOk, IfErr, MatchBool};
 ghost use Rattle.pk_nand.specs.Calls.{IsReady, Loaded};
-ghost use Rattle.pk_mirrorwords.specs.PairTasks.{PairTask as Asked, seen, IsShort};
+ghost use Rattle.pk_mirrorwords.specs.PairTasks.{PairTask as Asked, seen, IsAllowed};
 ghost use Rattle.pk_top.specs.PairWords as spec;
 ghost use Rattle.pk_top.specs.PairRuns.{NotFound, AsksPair, PairRun, PairRefused, PairTells, PairWhole};
 ghost use Rattle.pk_top.specs.declared.status.TheConstants.Status.{WORDS, MEMORY};
@@ -89,7 +89,7 @@ fn ask_images<B: Board, C: Board>(
 ) -> Status
     requires first { IsReady (B.state first.old) shape }
     requires second { IsReady (C.state second.old) shape }
-    requires short { IsShort (seen task) }
+    requires allowed { IsAllowed (seen task) }
     ensures { AsksPair (seen task) shape (B.state first.old) (B.state first.new)
         (C.state second.old) (C.state second.new) result.0 }
 {
@@ -114,7 +114,7 @@ fn ask_pair<B: Board, C: Board>(
     first: &mut B,
     second: &mut C,
 ) -> Status
-    requires { IsShort (seen task) }
+    requires { IsAllowed (seen task) }
     ensures { PairRun (seen task) (B.state first.old) (B.state first.new) (C.state second.old)
         (C.state second.new) result.0 }
 {

@@ -8,7 +8,7 @@ ghost use Rattle.pk_top.specs.Statuses.{Tells, Untouched};
 ghost use Rattle.pk_top.specs.Resting.{Rests, RestsIn};
 ghost use Rattle.pk_top.specs.Texts.{seen};
 ghost use Rattle.pk_top.specs.TextRuns.{TextRun};
-ghost use Rattle.pk_wordrun.specs.Seen.{IsShortTask};
+ghost use Rattle.pk_wordrun.specs.Seen.{IsAllowedTask};
 ghost use Rattle.pk_wordrun.specs.Tasks.{Task};
 ghost use Rattle.pk_top.specs.Asks.{AskRun, AsksWhole};
 ghost use Rattle.pk_top.specs.Isolates.{IsolatesWhole};
@@ -88,7 +88,7 @@ pub fn run<B: Board>(alloc: Global, words: &[&str], board: &mut B) -> Status
 
 fn obey<B: Board>(alloc: Global, word: Word, board: &mut B) -> Status
     requires frames { (frames : ℕ) → seen word ≡ spec.serve frames → frames ≤ MOST_FRAMES }
-    requires short { (task : Task) → seen word ≡ spec.ask task → IsShortTask task }
+    requires allowed { (task : Task) → seen word ≡ spec.ask task → IsAllowedTask task }
 
     // The status and its cause.
     ensures tells { Tells (B.state board.old) (B.state board.new) result.0 }

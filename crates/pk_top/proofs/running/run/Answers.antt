@@ -16,8 +16,8 @@ obey-requires-clause-frames g c =
     let T : Option Word → Type 0 = λ o. option_map seen o ≡ spec.word_of words in
     frames_within words (seen c.in-Ok-Some.word) (subst T c.in-Ok-Some.field-0-is c.in-Ok-Some.ensures)
 
-pub obey-requires-clause-short : goal.obey-requires-clause-short
-obey-requires-clause-short g c =
+pub obey-requires-clause-allowed : goal.obey-requires-clause-allowed
+obey-requires-clause-allowed g c =
     let words = map (λ w. w.now) c.args.words.now in
     let T : Option Word → Type 0 = λ o. option_map seen o ≡ spec.word_of words in
     short_within words (seen c.in-Ok-Some.word) (subst T c.in-Ok-Some.field-0-is c.in-Ok-Some.ensures)
