@@ -40,7 +40,7 @@ impl Draws {
         match drawn % 32 {
             0 => spaces.saturating_add(1),
             1 => 0xffff_ffff,
-            _ => drawn / 32 % spaces.max(1) + 1,
+            _ => (drawn / 32 % spaces.max(1)).saturating_add(1),
         }
     }
 
@@ -173,7 +173,7 @@ impl Trial {
             };
             if is_in {
                 request.namespace = if only.is_some() { 1 } else { request.namespace };
-                push(rt, &mut script, &request, number as u8);
+                push(rt, &mut script, &request, (number % 256) as u8);
             }
         }
         script
@@ -238,15 +238,11 @@ fn is_same_answer(
 }
 
 // Each command of this namespace is answered as on the drive of its own. How many are refused for want of space.
-fn check_space(
-    rt: &impl Abort,
-    trial: &Trial,
-    together: &[u8],
-    alone: &[u8],
-    space: u32,
-) -> u32 {
+fn check_space(rt: &impl Abort, trial: &Trial, together: &[u8], alone: &[u8], space: u32) -> u32 {
     let mut draws = Draws { state: trial.start };
-    let (mut at, mut own, mut full) = (0usize, 0usize, 0u32);
+    let mut at = 0usize;
+    let mut own = 0usize;
+    let mut full = 0u32;
     for number in 0..SESSIONS * COMMANDS {
         let request = draws.request(trial.spaces(), 0);
         let record = record_at(together, at).expect(rt, "a record");
@@ -276,7 +272,12 @@ fn check(rt: &impl Abort, alloc: Global, trial: &Trial) {
         let alone = trial.posted(rt, alloc, pages, Some(space));
         let full = check_space(rt, trial, &together, &alone, space);
         let is_so = space > 1 || !trial.is_full || full > 0;
-        holds(rt, is_so, "a refusal for want of space", Place::Named(trial.name));
+        holds(
+            rt,
+            is_so,
+            "a refusal for want of space",
+            Place::Named(trial.name),
+        );
     }
 }
 

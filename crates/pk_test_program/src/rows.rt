@@ -10,9 +10,9 @@ use pk_nvme::status::{
     SUCCESSFUL_COMPLETION,
 };
 use pk_test_scripts::boards::Session;
-use pk_test_scripts::{MAKE_WORKED, Place};
 use pk_test_scripts::exits::DONE;
 use pk_test_scripts::script::{Ask, UNKNOWN, Value, push_head};
+use pk_test_scripts::{MAKE_WORKED, Place};
 use std::alloc::Global;
 use std::process::Abort;
 use std::test::*;
@@ -124,7 +124,16 @@ const ELSEWHERE: &[Row] = &[
     (EXIST, 256, A, 1, 0, 0, INVALID_NAMESPACE_OR_FORMAT, b""),
     (EXIST, 257, A, 1, 0, 0, INVALID_NAMESPACE_OR_FORMAT, b""),
     (EXIST, 65_538, A, 1, 0, 0, INVALID_NAMESPACE_OR_FORMAT, b""),
-    (EXIST, 0x8000_0001, A, 1, 0, 0, INVALID_NAMESPACE_OR_FORMAT, b""),
+    (
+        EXIST,
+        0x8000_0001,
+        A,
+        1,
+        0,
+        0,
+        INVALID_NAMESPACE_OR_FORMAT,
+        b"",
+    ),
     (EXIST, ALL, A, 1, 0, 0, INVALID_NAMESPACE_OR_FORMAT, b""),
     (UNKNOWN, 0, A, 1, 0, 0, INVALID_COMMAND_OPCODE, b""),
     (UNKNOWN, 2, A, 1, 0, 0, INVALID_COMMAND_OPCODE, b""),

@@ -176,7 +176,8 @@ fn session_of_roots(rt: &impl Abort, alloc: Global, pages: Vec<PageState>) -> Se
             first: number,
             len: 100,
         };
-        asks.push(Ask::Store(number % 40, value)).expect(rt, "memory");
+        asks.push(Ask::Store(number % 40, value))
+            .expect(rt, "memory");
         asks.push(Ask::Tick(40)).expect(rt, "memory");
     }
     let input = script_of(rt, alloc, &asks);
@@ -239,21 +240,19 @@ fn is_of_first(page: &[u8]) -> bool {
     page.get(24..32) != Some(b"PINKDATA".as_slice()) || page.get(2) == Some(&0)
 }
 
+// Each root of a session on a drive that these words made has these limits.
+fn check_limits(rt: &impl Abort, alloc: Global, words: &[&str], limits: &[u32]) {
+    let session = session_of_roots(rt, alloc, made(rt, alloc, words));
+    ended(rt, &session, DONE, Place::Named("a session of roots"));
+    let roots = roots_with(rt, &session.flash, limits);
+    holds(rt, roots >= 6, "several roots", Place::Named("roots"));
+}
+
 /// Each root of freezes and merges has the limits of the drive, or none if it was made without.
 #[test]
 fn limits_of_roots(rt: HostRuntime) {
-    let alloc = rt.alloc();
-    for limits in [[].as_slice(), [100, 392].as_slice()] {
-        let pages = if limits.is_empty() {
-            made(&rt, alloc, &MAKE_WORKED)
-        } else {
-            made(&rt, alloc, &TWO)
-        };
-        let session = session_of_roots(&rt, alloc, pages);
-        ended(&rt, &session, DONE, Place::Named("a session of roots"));
-        let roots = roots_with(&rt, &session.flash, limits);
-        holds(&rt, roots >= 6, "several roots", Place::Named("roots"));
-    }
+    check_limits(&rt, rt.alloc(), &MAKE_WORKED, &[]);
+    check_limits(&rt, rt.alloc(), &TWO, &[100, 392]);
 }
 
 /// A drive of one namespace with all pages is made as one without limits, and all that is written on one without limits is in namespace

@@ -2,8 +2,8 @@
 
 use crate::sessions::large_board;
 use crate::steps::{
-    MAKE_WORKED, Pink, add, blank, ended, holds, made, made_board, pages_left, posted, same, same_pages, serve,
-    worked_board, wrote,
+    MAKE_WORKED, Pink, add, blank, ended, holds, made, made_board, pages_left, posted, same,
+    same_pages, serve, worked_board, wrote,
 };
 use pk_flash::{Flash, Left};
 use pk_gen::{MOST_VALUE_BYTES, Workload};

@@ -165,10 +165,7 @@ pub fn with_limits(root: &[u8; 512], limits: &[u32]) -> [u8; 512] {
 
 // Puts the entry or head that begins here into namespace 2, if its key begins with at least this byte.
 fn put_second(page: &mut [u8], at: usize, first: u8) {
-    let key = page
-        .get(at.saturating_add(4))
-        .copied()
-        .unwrap_or(0);
+    let key = page.get(at.saturating_add(4)).copied().unwrap_or(0);
     match page.get_mut(at.saturating_add(2)) {
         Some(byte) if key >= first => *byte = 1,
         _ => {}
@@ -190,7 +187,11 @@ fn split_page(page: &mut [u8], first: u8) {
     }
 }
 
-fn split_state(alloc: Global, page: &PageState, first: u8) -> Result<Option<PageState>, AllocError> {
+fn split_state(
+    alloc: Global,
+    page: &PageState,
+    first: u8,
+) -> Result<Option<PageState>, AllocError> {
     match page {
         PageState::Whole(bytes) => {
             let mut own = bytes.bytes().to_vec(alloc)?;

@@ -95,12 +95,7 @@ pub fn value_bytes(alloc: Global, value: &Value) -> Result<Vec<u8>, AllocError> 
     Ok(bytes)
 }
 
-fn push_ask(
-    into: &mut Vec<u8>,
-    cid: u16,
-    namespace: u32,
-    ask: &Ask,
-) -> Result<(), AllocError> {
+fn push_ask(into: &mut Vec<u8>, cid: u16, namespace: u32, ask: &Ask) -> Result<(), AllocError> {
     let mut request = request_of(cid, ask);
     request.namespace = namespace;
     into.extend_from_slice(&request.entry())?;

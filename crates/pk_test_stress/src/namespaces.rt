@@ -14,23 +14,56 @@ const FIRST: u8 = 30;
 
 // A page of an epoch or of a run, and how many entries it has.
 #[derive(Clone, Copy)]
-struct Listed {
+struct EntryPage {
     page: u32,
     entries: u8,
 }
 
-const LISTED: [Listed; 11] = [
-    Listed { page: 64, entries: 3 },
-    Listed { page: 32, entries: 2 },
-    Listed { page: 34, entries: 2 },
-    Listed { page: 96, entries: 2 },
-    Listed { page: 112, entries: 15 },
-    Listed { page: 113, entries: 1 },
-    Listed { page: 128, entries: 15 },
-    Listed { page: 129, entries: 15 },
-    Listed { page: 130, entries: 1 },
-    Listed { page: 144, entries: 15 },
-    Listed { page: 145, entries: 2 },
+const LISTED: [EntryPage; 11] = [
+    EntryPage {
+        page: 64,
+        entries: 3,
+    },
+    EntryPage {
+        page: 32,
+        entries: 2,
+    },
+    EntryPage {
+        page: 34,
+        entries: 2,
+    },
+    EntryPage {
+        page: 96,
+        entries: 2,
+    },
+    EntryPage {
+        page: 112,
+        entries: 15,
+    },
+    EntryPage {
+        page: 113,
+        entries: 1,
+    },
+    EntryPage {
+        page: 128,
+        entries: 15,
+    },
+    EntryPage {
+        page: 129,
+        entries: 15,
+    },
+    EntryPage {
+        page: 130,
+        entries: 1,
+    },
+    EntryPage {
+        page: 144,
+        entries: 15,
+    },
+    EntryPage {
+        page: 145,
+        entries: 2,
+    },
 ];
 
 // The page, but for its entry with this number, which is of another namespace.
@@ -50,7 +83,7 @@ fn moved(alloc: Global, page: &PageState, entry: u8, space: u8) -> Result<PageSt
 fn check_listed<O: Opens>(
     alloc: Global,
     pages: &[PageState],
-    listed: &Listed,
+    listed: &EntryPage,
     spaces: u8,
 ) -> Result<(), Fail> {
     let Some(page) = pages.get(listed.page as usize) else {
@@ -82,79 +115,79 @@ pub fn entries_elsewhere<O: Opens>(alloc: Global) -> Result<(), Fail> {
 // The limits of a root, and what opening answers: 19 values of two pages each are in namespace 1, and 24 of them in namespace 2. The
 // value of a key begins at page 320 and twice the key.
 #[derive(Clone, Copy)]
-struct Limited {
+struct LimitsRow {
     name: &'static str,
     limits: &'static [u32],
     opened: Opened,
 }
 
-const LIMITED: [Limited; 14] = [
-    Limited {
+const LIMITED: [LimitsRow; 14] = [
+    LimitsRow {
         name: "limits that are reached",
         limits: &[38, 48],
         opened: Opened::Keys(19),
     },
-    Limited {
+    LimitsRow {
         name: "limits of all pages",
         limits: &[444, 48],
         opened: Opened::Keys(19),
     },
-    Limited {
+    LimitsRow {
         name: "a third namespace",
         limits: &[38, 48, 406],
         opened: Opened::Keys(19),
     },
-    Limited {
+    LimitsRow {
         name: "eight namespaces",
         limits: &[38, 48, 1, 1, 1, 1, 1, 401],
         opened: Opened::Keys(19),
     },
-    Limited {
+    LimitsRow {
         name: "a limit of namespace 1 that its last value passes",
         limits: &[37, 455],
         opened: Opened::Damaged(376),
     },
-    Limited {
+    LimitsRow {
         name: "a limit of namespace 1 that its second value passes",
         limits: &[3, 48],
         opened: Opened::Damaged(322),
     },
-    Limited {
+    LimitsRow {
         name: "a limit of namespace 1 that its first value passes",
         limits: &[1, 491],
         opened: Opened::Damaged(320),
     },
-    Limited {
+    LimitsRow {
         name: "a limit of namespace 2 that its last value passes",
         limits: &[444, 47],
         opened: Opened::Damaged(480),
     },
-    Limited {
+    LimitsRow {
         name: "a limit of namespace 2 that its first value passes",
         limits: &[491, 1],
         opened: Opened::Damaged(384),
     },
-    Limited {
+    LimitsRow {
         name: "both limits",
         limits: &[37, 47],
         opened: Opened::Damaged(376),
     },
-    Limited {
+    LimitsRow {
         name: "one namespace",
         limits: &[492],
         opened: Opened::Damaged(64),
     },
-    Limited {
+    LimitsRow {
         name: "limits of more pages than the drive has",
         limits: &[445, 48],
         opened: Opened::NotFormatted,
     },
-    Limited {
+    LimitsRow {
         name: "a limit of no page",
         limits: &[444, 48, 0],
         opened: Opened::NotFormatted,
     },
-    Limited {
+    LimitsRow {
         name: "no namespace",
         limits: &[],
         opened: Opened::NotFormatted,

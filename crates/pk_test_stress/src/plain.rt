@@ -296,15 +296,17 @@ fn is_top(shape: &Shape, page: &[u8]) -> bool {
 fn limits_at(shape: &Shape, page: &[u8], count: u8) -> Option<Spaces> {
     let mut limits = [0u32; 8];
     let mut sum = 0u64;
-    for i in 0..usize::from(count.min(8)) {
-        let limit = small(page, 64 + 4 * i, 4);
-        if limit == 0 {
-            return None;
+    let mut end = 64usize;
+    for i in 0..usize::from(count) {
+        let limit = small(page, end, 4);
+        end = end.saturating_add(4);
+        match limits.get_mut(i) {
+            Some(place) if limit > 0 => *place = limit,
+            _ => return None,
         }
-        limits[i] = limit;
         sum = sum.saturating_add(u64::from(limit));
     }
-    let is_empty = zeros(page, 64 + 4 * usize::from(count.min(8)), 96);
+    let is_empty = zeros(page, end, 96);
     if sum > u64::from(shape.limit()) || !is_empty {
         return None;
     }

@@ -414,7 +414,11 @@ pub fn journal_bytes_by_all<O: Opens>(alloc: Global) -> Result<(), Fail> {
 const BY: [u8; 3] = [1, 128, 255];
 
 // Each byte of a page is changed in three ways.
-pub(crate) fn check_bytes<O: Opens>(alloc: Global, pages: &[PageState], page: u32) -> Result<(), Fail> {
+pub(crate) fn check_bytes<O: Opens>(
+    alloc: Global,
+    pages: &[PageState],
+    page: u32,
+) -> Result<(), Fail> {
     for way in 0..512 * 3usize {
         let _ = check_byte::<O>(alloc, pages, page, way / 3, BY[way % 3])?;
     }
