@@ -24,6 +24,8 @@ mod halves;
 #[cfg(test)]
 mod image;
 #[cfg(test)]
+mod isolation;
+#[cfg(test)]
 mod layered;
 #[cfg(test)]
 mod machine;
@@ -41,6 +43,8 @@ mod runs;
 mod sessions;
 #[cfg(test)]
 mod space;
+#[cfg(test)]
+mod space_cuts;
 #[cfg(test)]
 mod spaces;
 #[cfg(test)]
