@@ -14,7 +14,7 @@ use Rattle.pk_pool.specs.Blocks.{PoolOnFlash, IsShared, IsOwned}
 use Rattle.pk_pool.specs.Taking.{ErasesOne, ErasesNone, FailsToErase}
 use Rattle.pk_compact.specs.FreezeSteps.{taken_by}
 use Rattle.pk_model.specs.Found.{Found}
-use Rattle.pk_model.specs.Sight.{IsIdle}
+use Rattle.pk_call.specs.Sight.{IsIdle}
 use Rattle.pk_call.specs.declared.types.Ticked.TheVariants.{Worked, Idle, Fault}
 use Rattle.pk_schedule.specs.declared.phase.Phase.{Phase}
 use Rattle.pk_schedule.specs.declared.phase.Phase.TheVariants.{Idle as NoMerge, Running, Ready}

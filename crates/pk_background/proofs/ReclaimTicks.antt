@@ -31,7 +31,7 @@ use Rattle.pk_background.proofs.Stored.{blocks_between, blocks_at}
 use Rattle.pk_background.proofs.Ticking.{busy_reclaim}
 use Rattle.pk_background.proofs.ReclaimWork.{worked_less, ended_less}
 use Rattle.pk_background.proofs.TickSteps.{its_whole, whole_fails, made_advances, unread_advances, stop_advances}
-use Rattle.pk_model.specs.Sight.{IsIdle}
+use Rattle.pk_call.specs.Sight.{IsIdle}
 use Rattle.pk_pool.specs.Blocks.{IsShared}
 use Rattle.pk_base.proofs.Logic.{not_both}
 

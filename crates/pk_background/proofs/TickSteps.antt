@@ -12,7 +12,7 @@ use Rattle.pk_model.specs.Growth.{Grows, Reaches, Goes}
 use Rattle.pk_model.specs.Wear.{roots}
 use Rattle.pk_model.specs.Crashes.{CrashFinds, background}
 use Rattle.pk_model.specs.Reading.{reading}
-use Rattle.pk_model.specs.Sight.{IsIdle}
+use Rattle.pk_call.specs.Sight.{IsIdle}
 use Rattle.pk_call.specs.Drive.{HoldsMap}
 use Rattle.pk_call.specs.declared.types.Ticked.TheVariants.{Worked, Fault}
 use Rattle.pk_parts.specs.Parts.{Parts, frames_of, sight_of, is_half}

@@ -38,7 +38,7 @@ use Rattle.pk_schedule.specs.declared.phase.Phase.{Phase}
 use Rattle.pk_schedule.specs.declared.phase.Phase.TheVariants.{Idle as NoMerge, Running, Ready as ReadyOutput}
 use Rattle.pk_schedule.specs.Index.{Index, MergeStands, merging, output}
 use Rattle.pk_schedule.specs.Steps.{merge_left, has_no_merge, is_between}
-use Rattle.pk_model.specs.Sight.{is_erased, has_open_room, IsIdle}
+use Rattle.pk_call.specs.Sight.{is_erased, has_open_room, IsIdle}
 use Rattle.pk_law_steps.specs.Under.{places}
 use Rattle.pk_law_steps.proofs.Untouched.{under_reads}
 use Rattle.pk_nand.proofs.Effects.{works_erase, stops_erase}

@@ -4,7 +4,7 @@ use Rattle.pk_pool.specs.declared.state.BlockState.TheVariants.{Free}
 use Rattle.pk_pool.specs.Blocks.{IsNowhere}
 use Rattle.pk_nand.specs.BoardState.{BoardState, shape_of}
 use Rattle.pk_nand.specs.Calls.{Rose, last_count}
-use Rattle.pk_model.specs.Sight.{Sight, IsIdle}
+use Rattle.pk_call.specs.Sight.{Sight, IsIdle}
 use Rattle.pk_model.specs.Growth.{Grows}
 use Rattle.pk_model.specs.Wear.{roots}
 use Rattle.pk_nand.specs.Effects.{OnlyFlash, OnlyReading, NoFault, AtMostOneCall, OneProgram}

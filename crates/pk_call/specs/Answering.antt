@@ -11,7 +11,7 @@ use Rattle.pk_nand.specs.Calls.{Rose}
 use Rattle.pk_nand.specs.Effects.{OnlyReading, NoFault}
 use Rattle.pk_model.specs.Spaces.{limits_at}
 use Rattle.pk_model.specs.Answer.{early}
-use Rattle.pk_model.specs.Sight.{Sight}
+use Rattle.pk_call.specs.Sight.{Sight, in_space_at}
 use Rattle.pk_model.specs.Wear.{roots}
 use Rattle.pk_call.specs.Calling.{FewCalls, most_calls_of, only_looks}
 use Rattle.pk_call.specs.Exec.{ExecStands, IsNextMerge, most_installs, report_of}
@@ -29,7 +29,7 @@ pub record AnswersCommand (old new : BoardState) (before after : Sight) (r : Req
   pub early : IsSome (early (length (limits_at (shape_of old) old.pages)) (shape_of old) (command_of r value)) → (o.stopped ≡ false) × (new ≡ old) × (after ≡ before)
   pub looks : only_looks r.opcode ≡ true → (after ≡ before) × OnlyReading old new
   pub report : r.opcode ≡ REPORT → (o.status ≢ UNRECOVERED_ERROR) × (new ≡ old)
-  pub report_data : r.opcode ≡ REPORT → o.status ≡ SUCCESSFUL_COMPLETION → take o.data_len into ≡ report_of after.counts
+  pub report_data : r.opcode ≡ REPORT → o.status ≡ SUCCESSFUL_COMPLETION → take o.data_len into ≡ report_of (in_space_at after.spaces r.namespace) after.counts
   -- its data
   pub fits : o.data_len ≤ length into
   pub room : length into ≡ length buffer

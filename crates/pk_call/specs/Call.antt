@@ -7,7 +7,7 @@ use Rattle.pk_model.specs.Spaces.{Terms, limits_at}
 use Rattle.pk_nvme.specs.Command.{Command}
 use Rattle.pk_model.specs.Crashes.{Moment, CrashFinds, command}
 use Rattle.pk_model.specs.Growth.{Reaches, Goes}
-use Rattle.pk_model.specs.Sight.{Sight}
+use Rattle.pk_call.specs.Sight.{Sight}
 use Rattle.pk_call.specs.Drive.{HoldsMap}
 
 -- it represents the same map after the call

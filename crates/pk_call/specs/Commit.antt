@@ -7,7 +7,7 @@ use Rattle.pk_nand.specs.Calls.{Rose}
 use Rattle.pk_nand.specs.Counts.{counted_by}
 use Rattle.pk_nand.specs.Effects.{NoFault}
 use Rattle.pk_model.specs.Spaces.{Terms}
-use Rattle.pk_model.specs.Sight.{Sight}
+use Rattle.pk_call.specs.Sight.{Sight}
 use Rattle.pk_model.specs.Wear.{roots}
 use Rattle.pk_call.specs.Call.{KeepsMap}
 use Rattle.pk_call.specs.Drive.{HoldsMap}

@@ -13,7 +13,7 @@ use Rattle.pk_nvme.specs.declared.opcode.Opcode.TheVariants.{Retrieve}
 use Rattle.pk_model.specs.Spaces.{Terms}
 use Rattle.pk_model.specs.Run.{Step}
 use Rattle.pk_model.specs.Bounds.{most_reads}
-use Rattle.pk_model.specs.Sight.{Sight, Counts, numbers}
+use Rattle.pk_call.specs.Sight.{InSpace, Sight, Counts, numbers}
 use Rattle.pk_call.specs.Drive.{HoldsMap}
 
 -- a command that did not stop the drive
@@ -36,8 +36,8 @@ abbrev pub most_installs : ℕ → ℕ → ℕ
 most_installs opcode size = if opcode == TICK then size else most_store_roots
 
 -- the bytes of a Report
-abbrev pub report_of : Counts → List ℕ
-report_of counts = flat_map u32 (numbers counts)
+abbrev pub report_of : InSpace → Counts → List ℕ
+report_of here counts = flat_map u32 (numbers here counts)
 
 -- a merge that runs is the next one, by the entries of the frozen buffer and of the runs
 abbrev pub IsNextMerge : Shape → Counts → Type 0

@@ -1,3 +1,4 @@
+pub mod Sight
 pub mod Drive
 pub mod Call
 pub mod Meter

@@ -16,7 +16,7 @@ use Rattle.pk_nand.specs.Counts.{counted_by}
 use Rattle.pk_model.specs.Spaces.{Terms}
 use Rattle.pk_model.specs.Found.{entries_in_order}
 use Rattle.pk_model.specs.Tree.{Tree, IsTree}
-use Rattle.pk_model.specs.Sight.{Sight, free_pages}
+use Rattle.pk_call.specs.Sight.{Sight, free_pages}
 use Rattle.pk_call.specs.Drive.{HoldsMap}
 
 -- ---- a commit

@@ -7,7 +7,7 @@ use Rattle.pk_nvme.specs.declared.opcode.TheConstants.{STORE, TICK}
 use Rattle.pk_nand.specs.BoardState.{BoardState}
 use Rattle.pk_nand.specs.Effects.{OnlyFlash}
 use Rattle.pk_model.specs.Crashes.{Moment}
-use Rattle.pk_model.specs.Sight.{Sight}
+use Rattle.pk_call.specs.Sight.{Sight}
 use Rattle.pk_model.specs.Wear.{is_worn}
 use Rattle.pk_call.specs.Call.{CallReaches, CallGoes}
 

@@ -1,7 +1,7 @@
 -- How contracts see what a drive answers.
 use Rattle.std.specs.Prelude.{ℕ, List, take, Bool, false}
 use Rattle.pk_nvme.specs.Reply.{Reply}
-use Rattle.pk_model.specs.Sight as model
+use Rattle.pk_call.specs.Sight as sight
 use Rattle.pk_call.specs.declared.types.Outcome.{Outcome}
 use Rattle.pk_call.specs.declared.types.Counts.{Counts}
 use Rattle.pk_call.specs.declared.types.Ticked.{Ticked}
@@ -17,11 +17,13 @@ stopped_by Worked = false
 stopped_by Idle = false
 stopped_by (Fault stopped) = stopped
 
-abbrev pub counts_of : Counts → model.Counts
+-- what a Report says of its namespace
+abbrev pub in_space_of : Counts → sight.InSpace
+in_space_of c = record { live = c.live; limit = c.limit; keys = c.keys }
+
+-- and of the drive
+abbrev pub counts_of : Counts → sight.Counts
 counts_of c = record {
-  live = c.live;
-  limit = c.limit;
-  keys = c.keys;
   pinned = c.pinned;
   frames = c.frames;
   leased = c.leased;

@@ -5,7 +5,7 @@ use Rattle.pk_base.specs.Shape.{Shape}
 use Rattle.pk_base.specs.Map.{Map}
 use Rattle.pk_nand.specs.BoardState.{BoardState}
 use Rattle.pk_model.specs.Spaces.{Terms}
-use Rattle.pk_model.specs.Sight.{Sight, IsIdle, most_work}
+use Rattle.pk_call.specs.Sight.{Sight, IsIdle, most_work}
 use Rattle.pk_call.specs.Drive.{HoldsMap}
 
 -- the commands that may raise it

@@ -14,7 +14,7 @@ use Rattle.pk_model.specs.Found.{Found, entries_in_order}
 use Rattle.pk_model.specs.Values.{placed, blocks_with, all_pages}
 use Rattle.pk_model.specs.Laws.{AnyByRecursion}
 use Rattle.pk_model.specs.Tree.{Tree, IsTree}
-use Rattle.pk_model.specs.Sight.{Sight, Counts, most_work}
+use Rattle.pk_call.specs.Sight.{Sight, Counts, most_work}
 use Rattle.pk_call.specs.Drive.{HoldsMap}
 use Rattle.pk_call.specs.Exec.{IsNextMerge}
 

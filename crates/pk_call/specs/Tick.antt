@@ -7,7 +7,7 @@ use Rattle.pk_nand.specs.Calls.{Rose}
 use Rattle.pk_nand.specs.Effects.{OnlyReading, NoFault, AtMostOneCall, OneProgram}
 use Rattle.pk_model.specs.Spaces.{Terms}
 use Rattle.pk_model.specs.Growth.{Grows}
-use Rattle.pk_model.specs.Sight.{Sight, IsIdle}
+use Rattle.pk_call.specs.Sight.{Sight, IsIdle}
 use Rattle.pk_model.specs.Wear.{roots}
 use Rattle.pk_call.specs.Call.{KeepsMap}
 use Rattle.pk_call.specs.Drive.{HoldsMap}

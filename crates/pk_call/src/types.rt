@@ -27,14 +27,14 @@ pub enum Ticked {
     Fault { stopped: bool },
 }
 
-/// The sixteen numbers of a Report, in its order.
+/// The sixteen numbers of a Report, in its order: three of its namespace, and those of the drive.
 #[derive(Clone, Copy, Debug)]
 pub struct Counts {
-    /// Live pages of the map.
+    /// Live pages of the namespace.
     pub live: u32,
     /// Most live pages.
     pub limit: u32,
-    /// Keys of the map.
+    /// Keys of the namespace.
     pub keys: u32,
     /// Levels whose pages are all kept in frames.
     pub pinned: u32,

@@ -3,7 +3,7 @@ use Rattle.std.proofs.Common.{◌≡◌}
 use Rattle.std.specs.Prelude.{◌↔◌}
 use Rattle.pk_nand.specs.BoardState.{BoardState}
 use Rattle.pk_pool.specs.Blocks.{IsShared}
-use Rattle.pk_model.specs.Sight.{IsIdle}
+use Rattle.pk_call.specs.Sight.{IsIdle}
 use Rattle.pk_call.specs.Tick.{TellsIdle, LowersWork}
 use Rattle.pk_call.specs.declared.types.Ticked.{Ticked}
 use Rattle.pk_call.specs.declared.types.Ticked.TheVariants.{Idle}

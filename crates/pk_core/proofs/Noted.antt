@@ -16,7 +16,7 @@ use Rattle.pk_nand.specs.BoardState.{BoardState}
 use Rattle.pk_nand.specs.Effects.{OnlyFlash}
 use Rattle.pk_pool.specs.Blocks.{Blocks, freed}
 use Rattle.pk_model.specs.Found.{Found, entries_in_order}
-use Rattle.pk_model.specs.Sight.{free_pages}
+use Rattle.pk_call.specs.Sight.{free_pages}
 use Rattle.pk_model.proofs.Lookups.{find-firsts}
 use Rattle.pk_values.specs.State.{OpenBlock, fits_open, has_left}
 use Rattle.pk_values.specs.Placed.{IsOpenIn}

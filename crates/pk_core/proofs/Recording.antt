@@ -28,6 +28,7 @@ use Rattle.pk_core.proofs.Statuses.{early_refuses, early_sound, told_refused, to
 use Rattle.pk_core.proofs.Staying.{keeps_fresh, blocks_grow}
 use Rattle.pk_core.proofs.Steadying.{steadies}
 use Rattle.pk_model.specs.Spaces.{limits_at}
+use Rattle.pk_call.specs.Sight.{in_space_at}
 
 -- what is known of it
 pub record HasEnded (d e : Parts) (old new : BoardState) (r : Request) (v : List ℕ) (o : Outcome) (into : List ℕ) : Type 0 where
@@ -41,7 +42,7 @@ pub record HasEnded (d e : Parts) (old new : BoardState) (r : Request) (v : List
 pub record AnswersBy (d e : Parts) (old new : BoardState) (r : Request) (v : List ℕ) (o : Outcome) (buffer into : List ℕ) : Type 0 where
   pub refused : IsSome (early (length (limits_at (shape_of old) old.pages)) (shape_of old) (command_of r v)) → (o.stopped ≡ false) × (new ≡ old) × (e ≡ d)
   pub fine : r.opcode ≡ 0xC2 → (o.status ≢ 0x88) × (new ≡ old)
-  pub bytes : r.opcode ≡ 0xC2 → o.status ≡ 0 → take o.data_len into ≡ report_of (sight_of e).counts
+  pub bytes : r.opcode ≡ 0xC2 → o.status ≡ 0 → take o.data_len into ≡ report_of (in_space_at (sight_of e).spaces r.namespace) (sight_of e).counts
   pub fits : o.data_len ≤ length into
   pub same : length into ≡ length buffer
 

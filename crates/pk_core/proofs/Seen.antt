@@ -6,7 +6,7 @@ use Rattle.pk_plan.specs.declared.owner.Owner.TheVariants.{Values}
 use Rattle.pk_pool.specs.Blocks.{is_ready, used_by, freed}
 use Rattle.pk_pool.specs.Unready.{unready}
 use Rattle.pk_pool.proofs.Leaving.{freed_unready}
-use Rattle.pk_model.specs.Sight.{Sight}
+use Rattle.pk_call.specs.Sight.{Sight}
 use Rattle.pk_law_work.specs.Backlog.{Backlog, is_tight}
 use Rattle.pk_law_work.specs.Work.{work}
 use Rattle.pk_jrn.specs.Epochs.{left_of}

@@ -25,7 +25,7 @@ use Rattle.pk_nvme.specs.declared.opcode.Opcode.TheVariants.{Store, Retrieve, De
 use Rattle.pk_model.specs.Answer.{early, check, late_of, success, map_after}
 use Rattle.pk_model.specs.Bounds.{most_reads}
 use Rattle.pk_model.specs.Run.{Step}
-use Rattle.pk_model.specs.Sight.{Sight}
+use Rattle.pk_call.specs.Sight.{Sight}
 use Rattle.pk_model.proofs.Answering.{serves, refuses_late, store_sized, serves_alone, ServesAlone}
 use Rattle.pk_model.proofs.Machines.{store_check, store_late, live_stored}
 use Rattle.pk_nand.specs.Effects.{NoFault, OnlyFlash}
@@ -303,7 +303,7 @@ module _ (d : Parts) (old : BoardState) (r : Request) (value : List ℕ) (k : Ke
   passes = same_early d.log.shape r value ∙ s.passed
 
   live_is : sum d.values.live.heads ≡ live d.log.shape all
-  live_is = (counts_own d old s.agrees).live_is
+  live_is = (counts_own d old s.agrees).live_is ∙ ap (live d.log.shape) (whole_all d old s.agrees)
 
   late_is : store_check r.options (is_some o) after_pages (limit d.log.shape) ≡ late_of d.log.shape (limit d.log.shape) all c (Some Store)
   late_is = store_late d.log.shape all r value (is_some o) (sum d.values.live.heads) (pages_at d.log.shape o) (charge d.log.shape r.size) (limit d.log.shape)

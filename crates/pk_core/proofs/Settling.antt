@@ -4,7 +4,7 @@ use Rattle.pk_base.specs.Shape.{Shape}
 use Rattle.pk_nand.specs.BoardState.{BoardState}
 use Rattle.pk_nand.specs.Effects.{OnlyFlash}
 use Rattle.pk_pool.specs.Blocks.{IsShared}
-use Rattle.pk_model.specs.Sight.{IsIdle}
+use Rattle.pk_call.specs.Sight.{IsIdle}
 use Rattle.pk_call.specs.Settling.{Settles, RestsAfter}
 use Rattle.pk_parts.specs.Parts.{Parts, sight_of}
 use Rattle.pk_parts.specs.Agreeing.{DriveOnFlash}

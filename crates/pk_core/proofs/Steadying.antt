@@ -28,7 +28,7 @@ use Rattle.pk_run.specs.Kept.{Kept, empty}
 use Rattle.pk_jrn.proofs.Puts.{firsts-reverse}
 use Rattle.pk_model.specs.Found.{Found}
 use Rattle.pk_model.specs.Values.{all_pages}
-use Rattle.pk_model.specs.Sight.{Sight, most_work}
+use Rattle.pk_call.specs.Sight.{Sight, most_work}
 use Rattle.pk_law_steps.specs.Under.{IsValuePage, places}
 use Rattle.pk_law_steps.proofs.Places.{In, in_append, few_blocks, in_value}
 use Rattle.pk_live.proofs.Ranges.{has}

@@ -18,7 +18,7 @@ use Rattle.pk_nvme.specs.declared.opcode.Opcode.TheVariants.{Retrieve, Tick}
 use Rattle.pk_model.specs.Answer.{early, success}
 use Rattle.pk_model.specs.Reading.{reading}
 use Rattle.pk_model.specs.Run.{Step}
-use Rattle.pk_model.specs.Sight.{Sight}
+use Rattle.pk_call.specs.Sight.{Sight}
 use Rattle.pk_model.proofs.Answering.{serves}
 use Rattle.pk_rootfmt.specs.Root.{Root}
 use Rattle.pk_rootfmt.specs.Newest.{newest_root}

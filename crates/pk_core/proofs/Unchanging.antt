@@ -5,7 +5,7 @@ use Rattle.std.proofs.lemmas.List.{take_min}
 use Rattle.std.specs.List.{AllByRecursion, flat_map}
 use Rattle.pk_base.specs.Fields.{u32}
 use Rattle.std.specs.Ordering.{eq_by_cmp}
-use Rattle.std.specs.FinMap.{get}
+use Rattle.std.specs.FinMap.{get, len}
 use Rattle.std.specs.FinMap.Entries.{find}
 use Rattle.pk_base.specs.Key.{Key, IsKey, key_cmp}
 use Rattle.pk_base.specs.Shape.{Shape, IsShape, limit, greatest, pinned, fetched}
@@ -34,7 +34,7 @@ use Rattle.pk_model.specs.Answer.{early, fault_of, late_of, success, reply_of, c
 use Rattle.pk_model.specs.Bounds.{most_reads, most_reads_of}
 use Rattle.pk_model.specs.Found.{Found}
 use Rattle.pk_model.specs.Run.{Step}
-use Rattle.pk_model.specs.Sight.{Sight, Counts}
+use Rattle.pk_call.specs.Sight.{Sight, Counts, InSpace}
 use Rattle.pk_model.proofs.Answering.{refuses_late, serves, IsAlone, serves_alone, refuses_alone}
 use Rattle.pk_law_steps.specs.Under.{places}
 use Rattle.pk_call.specs.Call.{command_on}
@@ -205,11 +205,13 @@ module _ (shape : Shape) (frames : ℕ) (m : Map) (c : Command) (passed : early 
     pub flush_step : c.opcode ≡ 0x00 → Step shape terms m c (success 0 []) m
     flush_step is = served Flush eleven (success 0 []) refl (ap op_of is) refl refl refl
 
-    pub report_step : (n : Counts) (bytes : List ℕ) → c.opcode ≡ 0xC2 → CountsMap shape frames m n → bytes ≡ report_of n → Step shape terms m c (success 0 bytes) m
-    report_step n bytes is told same =
+    pub report_step : (here : InSpace) (n : Counts) (bytes : List ℕ) → c.opcode ≡ 0xC2 → CountsMap shape terms 1 m here n → bytes ≡ report_of here n → Step shape terms m c (success 0 bytes) m
+    report_step here n bytes is told same =
+        let live_is : here.live ≡ live shape m = told.live_is ∙ ap (live shape) whole in
+        let keys_is : here.keys ≡ len m = told.keys_is ∙ ap len whole in
         let more : List ℕ = n.leased ∷ n.active ∷ n.frozen ∷ n.run1 ∷ n.run2 ∷ n.run3 ∷ n.run4 ∷ n.epoch ∷ n.blocks ∷ n.ready ∷ n.merge ∷ [] in
         served Report more (success 0 bytes) refl (ap op_of is) refl refl
-        (ap (success 0) same ∙ (λ i. success 0 (flat_map u32 (told.live_is i ∷ told.limit_is i ∷ told.keys_is i ∷ told.pinned_is i ∷ told.frames_is i ∷ more))))
+        (ap (success 0) same ∙ (λ i. success 0 (flat_map u32 (live_is i ∷ told.limit_is i ∷ keys_is i ∷ told.pinned_is i ∷ told.frames_is i ∷ more))))
 
     pub exist_there : (v : List ℕ) → c.opcode ≡ 0x14 → get m (key c) ≡ Some v → Step shape terms m c (success 0 []) m
     exist_there v is there = served Exist eleven (success 0 []) refl (ap op_of is) (ap (λ o. check (is_some o) 0x87) there) refl refl

@@ -5,7 +5,7 @@ use Rattle.pk_nvme.specs.Command.{Command}
 use Rattle.pk_nvme.specs.Reply.{Reply}
 use Rattle.pk_nand.specs.BoardState.{BoardState}
 use Rattle.pk_nand.specs.Calls.{Rose, last_count}
-use Rattle.pk_model.specs.Sight.{Sight}
+use Rattle.pk_call.specs.Sight.{Sight}
 use Rattle.pk_model.specs.Wear.{roots}
 use Rattle.pk_nand.specs.Effects.{OnlyFlash, NoFault}
 use Rattle.pk_call.specs.Call.{command_on}

@@ -12,7 +12,8 @@ use Rattle.pk_call.specs.Exec.{report_of}
 use Rattle.pk_call.specs.Calling.{FewCalls, most_calls_of, only_looks}
 use Rattle.pk_call.specs.Settling.{may_raise}
 use Rattle.pk_call.specs.declared.types.Outcome.{Outcome}
-use Rattle.pk_parts.specs.Parts.{Parts, counts_of, sight_of, is_half}
+use Rattle.pk_call.specs.Sight.{in_space_at}
+use Rattle.pk_parts.specs.Parts.{Parts, counts_of, spaces_of, sight_of, is_half}
 use Rattle.pk_parts.specs.Staying.{StaysFresh, Stays, StaysOrOpens, IsNoted}
 use Rattle.pk_core.specs.Programming.{QuietStore, QuietDelete}
 use Rattle.pk_core.specs.Stepping.{Lessens}
@@ -34,8 +35,8 @@ pub record Performs (before after : Parts) (old new : BoardState) (r : Request) 
   pub no_more_work : may_raise r.opcode ≡ false → o.stopped ≡ false → (sight_of after).work ≤ (sight_of before).work
   pub lessens : r.opcode ≡ TICK → o.status ≡ SUCCESSFUL_COMPLETION → Lessens before after r.size
 
--- A Report gives the numbers of the drive, and makes no call.
-pub record Reports (d : Parts) (old new : BoardState) (o : Outcome) (into : List ℕ) : Type 0 where
+-- A Report gives the numbers of its namespace and of the drive, and makes no call.
+pub record Reports (d : Parts) (old new : BoardState) (r : Request) (o : Outcome) (into : List ℕ) : Type 0 where
   pub fine : o.status ≢ UNRECOVERED_ERROR
   pub rests : new ≡ old
-  pub bytes : take o.data_len into ≡ report_of (counts_of d)
+  pub bytes : take o.data_len into ≡ report_of (in_space_at (spaces_of d) r.namespace) (counts_of d)

@@ -59,7 +59,7 @@ fn perform<B: Nand, A: Region>(
     ensures fits { result.data_len ≤ length into.new }
     ensures len { length into.new ≡ length into.old }
     ensures report { request.now.opcode ≡ REPORT
-        → Reports parts.new (B.state board.old) (B.state board.new) result into.new }
+        → Reports parts.new (B.state board.old) (B.state board.new) request.now result into.new }
 {
     match request.opcode {
         FLUSH => flush(parts),
@@ -69,7 +69,7 @@ fn perform<B: Nand, A: Region>(
         DELETE => delete(parts, board, request),
         EXIST => exist(parts, board, request),
         TICK => tick_command(parts, board, request),
-        REPORT => report(parts, into),
+        REPORT => report(parts, request, into),
         // no other opcode passed the checks
         _ => unreachable!(),
     }
@@ -132,9 +132,13 @@ impl<A: Region> Engine for Drive<A> {
         self.parts.root_number() >= WORN_FROM
     }
 
-    fn counts(&self) -> Counts {
+    fn spaces(&self) -> u8 {
+        self.parts.spaces()
+    }
+
+    fn counts(&self, space: u8) -> Counts {
         self.parts.known();
-        self.parts.counts()
+        self.parts.counts(space)
     }
 
     fn live_pages(&self) -> u32 {

@@ -1,7 +1,8 @@
 //! The numbers of a Report, and its bytes.
 ghost use Rattle.std.specs.Prelude.{◌≡◌, ◌≤◌, length, take, false};
 ghost use Rattle.pk_call.specs.Exec.{report_of};
-ghost use Rattle.pk_call.specs.Seen.{counts_of};
+ghost use Rattle.pk_call.specs.Seen.{counts_of, in_space_of};
+ghost use Rattle.pk_call.specs.Sight.{in_space_at};
 ghost use Rattle.pk_parts.specs.Parts as spec;
 ghost use Rattle.pk_core.specs.Quiet.{DoneWithout};
 ghost use Rattle.pk_nvme.specs.declared.status.TheConstants.{SUCCESSFUL_COMPLETION};
@@ -10,14 +11,15 @@ ghost use Rattle.pk_nvme.specs.declared.opcode.TheConstants.{REPORT};
 use crate::quiet::served;
 use pk_base::put_u32;
 use pk_call::{Counts, Outcome};
-use pk_nvme::{REPORT_BYTES, REPORT_NUMBERS};
+use pk_nvme::{REPORT_BYTES, REPORT_NUMBERS, Request};
 use pk_parts::Parts;
 use pk_region::Region;
 
 // Writes the numbers in their order.
 fn put_counts(counts: &Counts, into: &mut [u8])
     requires { REPORT_BYTES ≤ length into.old }
-    ensures bytes { take REPORT_BYTES into.new ≡ report_of (counts_of counts.now) }
+    ensures bytes { take REPORT_BYTES into.new ≡ report_of (in_space_of counts.now)
+        (counts_of counts.now) }
     ensures len { length into.new ≡ length into.old }
 {
     let numbers = [
@@ -43,15 +45,18 @@ fn put_counts(counts: &Counts, into: &mut [u8])
     }
 }
 
-/// Writes the numbers of a Report.
-pub(crate) fn report<A: Region>(parts: &Parts<A>, into: &mut [u8]) -> Outcome
+/// Writes the numbers of a Report in the namespace of its request.
+pub(crate) fn report<A: Region>(parts: &Parts<A>, request: &Request, into: &mut [u8]) -> Outcome
+    requires space { 1 ≤ request.now.namespace
+        × request.now.namespace ≤ length (spec.spaces_of parts.now) }
     requires room { REPORT_BYTES ≤ length into.old }
     ensures does { DoneWithout parts.now REPORT result into.new }
     ensures told { (result.status ≡ SUCCESSFUL_COMPLETION) × (result.stopped ≡ false) }
-    ensures bytes { take result.data_len into.new ≡ report_of (spec.counts_of parts.now) }
+    ensures bytes { take result.data_len into.new ≡ report_of
+        (in_space_at (spec.spaces_of parts.now) request.now.namespace) (spec.counts_of parts.now) }
     ensures fits { result.data_len ≤ length into.new }
     ensures len { length into.new ≡ length into.old }
 {
-    put_counts(&parts.counts(), into);
+    put_counts(&parts.counts(request.namespace as u8), into);
     served(0, REPORT_BYTES as u32, 0)
 }

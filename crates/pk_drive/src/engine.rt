@@ -1,12 +1,13 @@
 //! The trait of a drive over the board that it is handed.
-ghost use Rattle.std.specs.Prelude.{◌≡◌, ℕ, [], length, false, nat_le, is_err, Some, Option, Ok};
+ghost use Rattle.std.specs.Prelude.{◌≡◌, ◌≤◌, ℕ, [], length, false, nat_le, is_err, Some, Option, Ok};
 ghost use Rattle.pk_base.specs.Shape.{Shape};
 ghost use Rattle.pk_base.specs.Page.{Flash};
 ghost use Rattle.pk_base.specs.Map.{Map, live};
 ghost use Rattle.pk_nvme.specs.Seen.{command_of};
 ghost use Rattle.pk_nand.specs.BoardState.{shape_of};
 ghost use Rattle.pk_model.specs.Crashes.{background, commit};
-ghost use Rattle.pk_model.specs.Sight.{Sight, map_of};
+ghost use Rattle.pk_call.specs.Sight.{Sight, in_space_at, live_of_all, map_of};
+ghost use Rattle.pk_model.specs.Spaces.{terms_at};
 ghost use Rattle.pk_model.specs.Wear.{root_number};
 ghost use Rattle.pk_model.specs.declared.wear.TheConstants.{WORN_FROM};
 ghost use Rattle.pk_call.specs.Answering.{AnswersCommand, CountsCalls, SettlesBackground, ShowsItself, WaitsForNothing};
@@ -14,7 +15,7 @@ ghost use Rattle.pk_call.specs.Call.{command_on};
 ghost use Rattle.pk_call.specs.Commit.{AnswersCommit, CountsPrograms, ShowsCommit};
 ghost use Rattle.pk_call.specs.Drive.{CountsMap};
 ghost use Rattle.pk_call.specs.Running.{DriveRuns, CanServe, CanExecute, PassesValue, HasRoomForData, LeavesDrive, FoundAfterCrash};
-ghost use Rattle.pk_call.specs.Seen.{stopped_by, counts_of};
+ghost use Rattle.pk_call.specs.Seen.{stopped_by, counts_of, in_space_of};
 ghost use Rattle.pk_call.specs.Steady.{IsSteady};
 ghost use Rattle.pk_call.specs.Tick.{AnswersStep, CountsStep, SettlesStep, ShowsStep};
 
@@ -114,21 +115,30 @@ pub trait Engine {
             → (sight self.now).stopped ≡ false
             → result ≡ nat_le WORN_FROM (root_number shape flash) };
 
-    /// The numbers of a Report. On a drive that is not stopped the first five are those of its map
-    /// and its frames; of the others those of the lists and of the journal are those of its flash,
-    /// and those of blocks are bounds.
-    fn counts(&self) -> Counts
-        ensures numbers { counts_of result ≡ (sight self.now).counts }
+    /// How many namespaces the drive has.
+    fn spaces(&self) -> u8
+        ensures number { result ≡ length (sight self.now).spaces }
+        ensures some { 1 ≤ result };
+
+    /// The numbers of a Report in this namespace. On a drive that is not stopped the first five are
+    /// those of its part of the map, of its limit and of the frames; of the others those of the
+    /// lists and of the journal are those of the flash, and those of blocks are bounds.
+    fn counts(&self, space: u8) -> Counts
+        requires { 1 ≤ space × space ≤ length (sight self.now).spaces }
+
+        ensures numbers { (counts_of result ≡ (sight self.now).counts)
+            × (in_space_of result ≡ in_space_at (sight self.now).spaces space) }
         ensures map { (shape : Shape) (flash : Flash) (m : Map) → agrees self.now (Some shape) flash
             → (sight self.now).stopped ≡ false → map_of shape flash (sight self.now) ≡ Ok m
-            → CountsMap shape (sight self.now).counts.frames m (sight self.now).counts }
+            → CountsMap shape (terms_at shape flash (sight self.now).counts.frames) space m
+            (in_space_at (sight self.now).spaces space) (sight self.now).counts }
         ensures steady { (shape : Shape) (flash : Flash) (m : Map)
             → agrees self.now (Some shape) flash → (sight self.now).stopped ≡ false
             → map_of shape flash (sight self.now) ≡ Ok m → IsSteady shape flash (sight self.now) };
 
     /// The live pages of its map, on a drive that is not stopped.
     fn live_pages(&self) -> u32
-        ensures number { result ≡ (sight self.now).counts.live }
+        ensures number { result ≡ live_of_all (sight self.now).spaces }
         ensures map { (shape : Shape) (flash : Flash) (m : Map) → agrees self.now (Some shape) flash
             → (sight self.now).stopped ≡ false → map_of shape flash (sight self.now) ≡ Ok m
             → result ≡ live shape m };

@@ -11,7 +11,7 @@ use Rattle.pk_model.specs.Growth.{Goes}
 use Rattle.pk_nvme.specs.declared.limits.TheConstants.{NAMESPACE}
 use Rattle.pk_model.specs.Spaces.{in_space}
 use Rattle.pk_model.specs.Reading.{Holds}
-use Rattle.pk_model.specs.Sight.{Sight}
+use Rattle.pk_call.specs.Sight.{Sight}
 use Rattle.pk_model.specs.Wear.{is_worn, roots}
 use Rattle.pk_port.specs.Steps.{Standing, Chain}
 use Rattle.pk_words.specs.Lines.{failed_line}

@@ -1,12 +1,12 @@
 -- What a drive keeps in memory, and what contracts see of it.
-use Rattle.std.specs.Prelude.{ℕ, ◌-◌, Bool, true, List, length, sum, count_by, Option, Some, None, ◌==◌, ◌&&◌, not, if◌then◌else◌, ◌||◌, false}
+use Rattle.std.specs.Prelude.{ℕ, ◌-◌, Bool, true, List, [], ◌∷◌, length, sum, count_by, Option, Some, None, ◌==◌, ◌&&◌, not, if◌then◌else◌, ◌||◌, false}
 use Rattle.pk_base.specs.Shape.{Shape, charge, limit, data_blocks, most_pages}
 use Rattle.pk_plan.specs.declared.owner.Owner.TheVariants.{Values}
 use Rattle.pk_pin.specs.Frames.{Frames, leased_frames}
 use Rattle.pk_pool.specs.Blocks.{Blocks, IsShared, is_ready, used_by, freed}
 use Rattle.pk_level.specs.Levels.{Levels, IsLevels, run_of}
 use Rattle.pk_model.specs.Spaces.{Terms, one_space}
-use Rattle.pk_model.specs.Sight.{Sight, Counts}
+use Rattle.pk_call.specs.Sight.{Sight, Counts, InSpace}
 use Rattle.pk_log.specs.State.{LogState}
 use Rattle.pk_values.specs.State.{ValuesState, fits_open}
 use Rattle.pk_live.specs.declared.open_block.OpenBlock.{OpenBlock}
@@ -84,12 +84,13 @@ held_of d = record {
 abbrev pub outputs_of : Parts → List ℕ
 outputs_of d = (held_of d).values
 
--- the sixteen numbers of a Report
+-- what a Report says of each namespace
+abbrev pub spaces_of : Parts → List InSpace
+spaces_of d = record { live = sum d.values.live.heads; limit = limit d.log.shape; keys = d.keys } ∷ []
+
+-- and of the drive
 abbrev pub counts_of : Parts → Counts
 counts_of d = record {
-  live = sum d.values.live.heads;
-  limit = limit d.log.shape;
-  keys = d.keys;
   pinned = d.levels.pinned;
   frames = frames_of d;
   leased = leased_frames d.arena;
@@ -154,6 +155,7 @@ sight_of d = record {
   pending = d.log.pending;
   stopped = d.stopped;
   counts = counts_of d;
+  spaces = spaces_of d;
   open_block = block_if_open d.values.open_block;
   reclaims = runs_in d.reclaim.phase;
   fresh = d.log.epoch.takes_more;

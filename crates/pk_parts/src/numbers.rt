@@ -1,7 +1,8 @@
 //! The numbers that a drive reports of itself.
-ghost use Rattle.std.specs.Prelude.{◌≡◌, length};
-ghost use Rattle.pk_call.specs.Seen.{counts_of};
+ghost use Rattle.std.specs.Prelude.{◌≡◌, ◌≤◌, length};
+ghost use Rattle.pk_call.specs.Seen.{counts_of, in_space_of};
 ghost use Rattle.pk_gc.specs.Standing.{held_blocks};
+ghost use Rattle.pk_call.specs.Sight.{in_space_at};
 ghost use Rattle.pk_parts.specs.Parts as spec;
 
 use crate::parts::Parts;
@@ -32,9 +33,19 @@ impl<A: Region> Parts<A> {
             .saturating_sub(held_count(self.reclaim.phase()))
     }
 
-    /// The sixteen numbers of a Report.
-    pub fn counts(&self) -> Counts
-        ensures { counts_of result ≡ spec.counts_of self.now }
+    /// How many namespaces the drive has: one, as no root has limits of its own.
+    pub fn spaces(&self) -> u8
+        ensures number { result ≡ length (spec.spaces_of self.now) }
+        ensures some { 1 ≤ result }
+    {
+        1
+    }
+
+    /// The sixteen numbers of a Report in this namespace.
+    pub fn counts(&self, space: u8) -> Counts
+        requires { 1 ≤ space × space ≤ length (spec.spaces_of self.now) }
+        ensures drive { counts_of result ≡ spec.counts_of self.now }
+        ensures here { in_space_of result ≡ in_space_at (spec.spaces_of self.now) space }
     {
         Counts {
             live: self.values.total(),

@@ -17,7 +17,7 @@ use Rattle.pk_model.specs.Reading.{reading, Holds}
 use Rattle.pk_model.specs.Spaces.{Terms, limits_at, limit_of, in_space}
 use Rattle.pk_model.proofs.SpaceLemmas.{is_whole}
 use Rattle.pk_call.specs.Drive.{HoldsMap}
-use Rattle.pk_model.specs.Sight.{Sight}
+use Rattle.pk_call.specs.Sight.{Sight}
 use Rattle.pk_model.specs.Wear.{root_number, roots, is_worn}
 use Rattle.pk_call.specs.Exec.{most_installs, IsValue}
 use Rattle.pk_call.specs.Meter.{reads_after}

@@ -14,7 +14,7 @@ use Rattle.pk_model.specs.Growth.{Reaches, Goes}
 use Rattle.pk_model.specs.Reading.{reading, Holds}
 use Rattle.pk_model.specs.Run.{Exchange}
 use Rattle.pk_model.specs.Wear.{is_worn}
-use Rattle.pk_model.specs.Sight.{Sight}
+use Rattle.pk_call.specs.Sight.{Sight}
 use Rattle.pk_call.specs.Calling.{only_looks}
 use Rattle.pk_call.specs.Meter.{meter, Metered}
 use Rattle.pk_call.specs.Seen.{reply_of}

@@ -11,7 +11,7 @@ use Rattle.pk_model.specs.Reading.{reading}
 use Rattle.pk_model.specs.Script.{script}
 use Rattle.pk_model.specs.Run.{Exchange, commands}
 use Rattle.std.proofs.lemmas.List.{length-map}
-use Rattle.pk_model.specs.Sight.{Sight}
+use Rattle.pk_call.specs.Sight.{Sight}
 use Rattle.pk_model.specs.Growth.{Goes}
 use Rattle.pk_model.specs.Wear.{is_worn, roots}
 use Rattle.pk_model.proofs.Growing.{Goes-reaches, weaken_went}

@@ -7,7 +7,7 @@ use Rattle.pk_nvme.specs.Reply.{Reply, reply_record}
 use Rattle.pk_nand.specs.BoardState.{BoardState}
 use Rattle.pk_nand.specs.Calls.{Rose}
 use Rattle.pk_model.specs.Run.{Exchange, commands}
-use Rattle.pk_model.specs.Sight.{Sight}
+use Rattle.pk_call.specs.Sight.{Sight}
 use Rattle.pk_nand.specs.Effects.{OnlyFlash}
 use Rattle.pk_model.specs.Wear.{roots}
 use Rattle.pk_call.specs.Meter.{reads_after}

@@ -17,7 +17,7 @@ use Rattle.pk_model.specs.Run.{Exchange, Step, commands, faults, map_after_all}
 use Rattle.pk_model.specs.Reading.{reading}
 use Rattle.pk_model.specs.Script.{script, commands_in, begins_whole}
 use Rattle.pk_model.specs.Kept.{AtMost, rise}
-use Rattle.pk_model.specs.Sight.{Sight}
+use Rattle.pk_call.specs.Sight.{Sight}
 use Rattle.pk_call.specs.Exec.{most_installs, most_store_roots}
 use Rattle.pk_model.specs.Wear.{is_worn, roots}
 use Rattle.pk_serve.specs.Answered.{installs}

@@ -7,7 +7,7 @@ use Rattle.pk_queue.specs.Queue.{bytes_of}
 use Rattle.pk_base.specs.Shape.{Shape}
 use Rattle.pk_base.specs.Map.{Map}
 use Rattle.pk_model.specs.Run.{Exchange}
-use Rattle.pk_model.specs.Sight.{Sight}
+use Rattle.pk_call.specs.Sight.{Sight}
 use Rattle.pk_call.specs.Seen.{reply_of}
 use Rattle.pk_call.specs.declared.types.Outcome.{Outcome}
 use Rattle.pk_serve.specs.Serving.{Serving, Flushed, ServingBroken, Posts, PostBreaks, Keeps}

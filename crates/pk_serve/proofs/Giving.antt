@@ -6,7 +6,7 @@ use Rattle.pk_nand.specs.BoardState.{BoardState}
 use Rattle.pk_nand.specs.Calls.{Rose}
 use Rattle.pk_nand.specs.Operations.{after_post, PostFailed}
 use Rattle.pk_model.specs.Run.{Exchange}
-use Rattle.pk_model.specs.Sight.{Sight}
+use Rattle.pk_call.specs.Sight.{Sight}
 use Rattle.pk_nand.specs.Effects.{OnlyFlash}
 use Rattle.pk_model.specs.Wear.{roots}
 use Rattle.pk_model.specs.Crashes.{commit}

@@ -4,7 +4,7 @@ use Rattle.pk_base.specs.Shape.{Shape, limit}
 use Rattle.pk_base.specs.Page.{Flash}
 use Rattle.pk_base.specs.Map.{Map}
 use Rattle.pk_nand.specs.BoardState.{BoardState, shape_of, shape_or_none}
-use Rattle.pk_model.specs.Sight.{Sight}
+use Rattle.pk_call.specs.Sight.{Sight}
 use Rattle.pk_model.specs.Spaces.{Terms, limits_at}
 use Rattle.pk_call.specs.Drive.{HoldsMap}
 

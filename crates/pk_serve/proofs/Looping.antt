@@ -6,7 +6,7 @@ use Rattle.pk_nvme.specs.Command.{Command}
 use Rattle.pk_nand.specs.BoardState.{BoardState}
 use Rattle.pk_nand.specs.Calls.{Rose, put_back}
 use Rattle.pk_model.specs.Run.{commands}
-use Rattle.pk_model.specs.Sight.{Sight}
+use Rattle.pk_call.specs.Sight.{Sight}
 use Rattle.pk_call.specs.Drive.{HoldsMap}
 use Rattle.pk_model.specs.Wear.{is_worn}
 use Rattle.pk_serve.specs.Ends.{IsFault}

@@ -11,7 +11,7 @@ use Rattle.pk_nand.specs.Calls.{Rose, put_back}
 use Rattle.pk_base.specs.Map.{Map}
 use Rattle.pk_model.specs.Script.{value_follows as value_bytes}
 use Rattle.pk_model.specs.Run.{Exchange}
-use Rattle.pk_model.specs.Sight.{Sight}
+use Rattle.pk_call.specs.Sight.{Sight}
 use Rattle.pk_call.specs.Exec.{IsValue}
 use Rattle.pk_serve.specs.Serving.{Serving, CommandServed, CommandStops}
 use Rattle.pk_serve.specs.declared.end.End.{End}

@@ -3,7 +3,7 @@ use Rattle.std.proofs.Common.{◌≡◌, sym, subst, Option}
 use Rattle.pk_base.specs.Shape.{Shape}
 use Rattle.pk_base.specs.Page.{Flash as Pages}
 use Rattle.pk_nand.specs.BoardState.{BoardState}
-use Rattle.pk_model.specs.Sight.{Sight}
+use Rattle.pk_call.specs.Sight.{Sight}
 use Rattle.pk_serve.specs.Ends.{NoFaults}
 use Rattle.pk_call.specs.Running.{DriveRuns}
 use Rattle.pk_serve.specs.Part.{KeepsRunning, Faulted}

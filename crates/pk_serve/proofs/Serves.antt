@@ -19,7 +19,7 @@ use Rattle.pk_model.specs.Answer.{reply, map_after}
 use Rattle.pk_model.specs.Run.{Exchange, commands, faults}
 use Rattle.pk_model.specs.Reading.{reading}
 use Rattle.pk_model.specs.Kept.{AtMost, rise}
-use Rattle.pk_model.specs.Sight.{Sight}
+use Rattle.pk_call.specs.Sight.{Sight}
 use Rattle.pk_call.specs.Drive.{HoldsMap}
 use Rattle.pk_nand.specs.Effects.{OnlyFlash}
 use Rattle.pk_model.specs.Wear.{roots}

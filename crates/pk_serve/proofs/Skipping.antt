@@ -12,7 +12,7 @@ use Rattle.pk_nvme.specs.Opcode.{op_of}
 use Rattle.pk_nvme.specs.declared.opcode.Opcode.TheVariants.{Store, Retrieve}
 use Rattle.pk_model.specs.Answer.{check, is_namespace, is_key_length, fault_of, early, late_of, refused, reply, map_after}
 use Rattle.pk_model.specs.Run.{Step}
-use Rattle.pk_model.specs.Sight.{Sight}
+use Rattle.pk_call.specs.Sight.{Sight}
 use Rattle.pk_model.specs.Growth.{Reaches, Goes}
 use Rattle.pk_model.specs.Crashes.{CrashFinds, command}
 use Rattle.pk_call.specs.Call.{CallReaches, CallGoes}

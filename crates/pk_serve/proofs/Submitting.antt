@@ -11,7 +11,7 @@ use Rattle.pk_base.specs.Map.{Map}
 use Rattle.pk_model.specs.Answer.{map_after}
 use Rattle.pk_model.specs.Run.{Step}
 use Rattle.pk_model.specs.Reading.{reading, Holds}
-use Rattle.pk_model.specs.Sight.{Sight}
+use Rattle.pk_call.specs.Sight.{Sight}
 use Rattle.pk_call.specs.Drive.{HoldsMap}
 use Rattle.pk_model.specs.Growth.{Reaches}
 use Rattle.pk_model.specs.Crashes.{CrashFinds, commit, command}

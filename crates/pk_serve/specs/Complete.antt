@@ -11,7 +11,7 @@ use Rattle.pk_model.specs.Answer.{Answer}
 use Rattle.pk_model.specs.Run.{Exchange, commands, records, map_after_all}
 use Rattle.pk_model.specs.Reading.{Holds}
 use Rattle.pk_model.specs.Script.{script}
-use Rattle.pk_model.specs.Sight.{Sight}
+use Rattle.pk_call.specs.Sight.{Sight}
 use Rattle.pk_call.specs.Drive.{HoldsMap}
 use Rattle.pk_model.specs.Wear.{roots}
 use Rattle.pk_serve.specs.declared.end.End.{End}

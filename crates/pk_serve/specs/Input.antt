@@ -6,7 +6,7 @@ use Rattle.pk_nand.specs.BoardState.{BoardState}
 use Rattle.pk_nand.specs.Calls.{Rose, put_back, AtEnd}
 use Rattle.pk_model.specs.Script.{script}
 use Rattle.pk_base.specs.Shape.{Shape}
-use Rattle.pk_model.specs.Sight.{Sight}
+use Rattle.pk_call.specs.Sight.{Sight}
 use Rattle.pk_model.specs.Wear.{is_worn}
 use Rattle.pk_call.specs.Exec.{IsValue}
 use Rattle.pk_serve.specs.Ends.{IsFault}

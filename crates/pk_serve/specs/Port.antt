@@ -16,7 +16,7 @@ use Rattle.pk_model.specs.Answer.{map_after}
 use Rattle.pk_model.specs.Run.{Step}
 use Rattle.pk_model.specs.Bounds.{most_reads}
 use Rattle.pk_model.specs.Reading.{Holds}
-use Rattle.pk_model.specs.Sight.{Sight}
+use Rattle.pk_call.specs.Sight.{Sight}
 use Rattle.pk_model.specs.Wear.{roots}
 use Rattle.pk_call.specs.Drive.{HoldsMap}
 use Rattle.pk_call.specs.Exec.{most_installs}

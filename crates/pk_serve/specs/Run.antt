@@ -9,7 +9,7 @@ use Rattle.pk_model.specs.Run.{Exchange, RunWithin, commands, records, faults}
 use Rattle.pk_model.specs.Reading.{Holds}
 use Rattle.pk_model.specs.Kept.{AtMost, rise}
 use Rattle.pk_model.specs.Script.{script}
-use Rattle.pk_model.specs.Sight.{Sight}
+use Rattle.pk_call.specs.Sight.{Sight}
 use Rattle.pk_call.specs.Drive.{HoldsMap}
 use Rattle.pk_model.specs.Wear.{is_worn, roots}
 use Rattle.pk_model.specs.Growth.{Goes}

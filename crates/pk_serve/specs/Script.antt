@@ -6,7 +6,7 @@ use Rattle.pk_model.specs.Script.{script}
 use Rattle.pk_model.specs.Wear.{is_worn}
 use Rattle.pk_serve.specs.Input.{Spells, IsPart}
 use Rattle.pk_nand.specs.Calls.{put_back, AtEnd}
-use Rattle.pk_model.specs.Sight.{Sight}
+use Rattle.pk_call.specs.Sight.{Sight}
 use Rattle.pk_serve.specs.Ends.{Blames}
 use Rattle.pk_serve.specs.Loop.{Ends}
 use Rattle.pk_serve.specs.Further.{most_entries}

@@ -12,7 +12,7 @@ use Rattle.pk_nvme.specs.declared.opcode.Opcode.TheVariants.{Retrieve}
 use Rattle.pk_model.specs.Bounds.{most_reads}
 use Rattle.pk_model.specs.Run.{Exchange, Step, RunWithin, commands, records, faults}
 use Rattle.pk_model.specs.Kept.{Kept, AtMost, rise}
-use Rattle.pk_model.specs.Sight.{Sight}
+use Rattle.pk_call.specs.Sight.{Sight}
 use Rattle.pk_call.specs.Drive.{HoldsMap}
 use Rattle.pk_model.specs.Growth.{GrowsAlong, Goes}
 use Rattle.pk_call.specs.Meter.{meter, MeteredAll}

@@ -26,7 +26,7 @@ impl Opens for Pink {
             return Opened::Failed;
         };
         match Drive::open(alloc, flash, shape, 36) {
-            Ok(drive) => Opened::Keys(drive.counts().keys),
+            Ok(drive) => Opened::Keys(drive.counts(1).keys),
             Err(OpenError::NotFormatted) => Opened::NotFormatted,
             Err(OpenError::Damaged { page }) => Opened::Damaged(page),
             Err(_) => Opened::Failed,

@@ -19,7 +19,7 @@ use Rattle.pk_port.specs.Steps.{mount}
 use Rattle.pk_port.proofs.Serving.{mounted_terms}
 use Rattle.pk_model.specs.Kept.{Kept, rise}
 use Rattle.pk_model.specs.Reading.{reading, Holds}
-use Rattle.pk_model.specs.Sight.{Sight}
+use Rattle.pk_call.specs.Sight.{Sight}
 use Rattle.pk_model.specs.Wear.{root_number}
 use Rattle.pk_serve.proofs.Counting.{at_most-zero}
 use Rattle.pk_call.specs.Drive.{HoldsMap}

@@ -19,7 +19,7 @@ use Rattle.pk_model.specs.Spaces.{terms_at}
 use Rattle.pk_model.specs.Growth.{Goes}
 use Rattle.pk_model.specs.Laws.{MapHeld}
 use Rattle.pk_model.specs.Reading.{reading, Holds, Refuses}
-use Rattle.pk_model.specs.Sight.{Sight}
+use Rattle.pk_call.specs.Sight.{Sight}
 use Rattle.pk_model.specs.Wear.{root_number, roots, is_worn}
 use Rattle.pk_serve.specs.Complete.{NoneRose}
 use Rattle.pk_call.specs.Drive.{HoldsMap}

@@ -11,7 +11,7 @@ use Rattle.pk_model.specs.Spaces.{terms_at}
 use Rattle.pk_model.specs.Kept.{rise}
 use Rattle.pk_model.specs.Reading.{reading, Holds}
 use Rattle.pk_model.specs.Script.{script}
-use Rattle.pk_model.specs.Sight.{Sight}
+use Rattle.pk_call.specs.Sight.{Sight}
 use Rattle.pk_call.specs.Drive.{HoldsMap}
 use Rattle.pk_model.specs.Growth.{Goes}
 use Rattle.pk_serve.specs.Ends.{Blames}

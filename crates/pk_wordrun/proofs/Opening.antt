@@ -9,7 +9,7 @@ use Rattle.pk_nand.specs.BoardState.{BoardState}
 use Rattle.pk_nand.specs.Calls.{IsReady}
 use Rattle.pk_model.specs.Laws.{MapHeld}
 use Rattle.pk_model.specs.Reading.{reading}
-use Rattle.pk_model.specs.Sight.{Sight}
+use Rattle.pk_call.specs.Sight.{Sight}
 use Rattle.pk_call.specs.Drive.{HoldsMap}
 use Rattle.pk_port.specs.Ready.{Fits}
 use Rattle.pk_port.specs.Steps.{mount}

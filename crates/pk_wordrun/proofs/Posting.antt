@@ -5,7 +5,7 @@ use Rattle.pk_base.specs.Shape.{Shape}
 use Rattle.pk_base.specs.Page.{Flash}
 use Rattle.pk_nand.specs.BoardState.{BoardState}
 use Rattle.pk_nand.specs.Operations.{after_post}
-use Rattle.pk_model.specs.Sight.{Sight}
+use Rattle.pk_call.specs.Sight.{Sight}
 use Rattle.pk_port.specs.Ready.{Fits}
 
 module _ (agrees : Option Shape → Flash → Type 0) (shape : Shape) (b : BoardState) (text : List ℕ) (d : Sight) where

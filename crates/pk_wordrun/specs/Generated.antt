@@ -6,7 +6,7 @@ use Rattle.pk_nand.specs.BoardState.{BoardState}
 use Rattle.pk_model.specs.Growth.{Goes}
 use Rattle.pk_model.specs.Kept.{rise}
 use Rattle.pk_model.specs.Run.{Exchange, commands}
-use Rattle.pk_model.specs.Sight.{Sight}
+use Rattle.pk_call.specs.Sight.{Sight}
 use Rattle.pk_model.specs.Wear.{roots}
 use Rattle.pk_gen.specs.Workload.{workload}
 use Rattle.pk_port.specs.Asking.{Asked, KeptSilently}

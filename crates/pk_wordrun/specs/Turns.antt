@@ -4,7 +4,7 @@ use Rattle.pk_base.specs.Shape.{Shape}
 use Rattle.pk_nvme.specs.Command.{Command}
 use Rattle.pk_nand.specs.BoardState.{BoardState}
 use Rattle.pk_model.specs.Run.{Exchange}
-use Rattle.pk_model.specs.Sight.{Sight}
+use Rattle.pk_call.specs.Sight.{Sight}
 use Rattle.pk_port.specs.Steps.{Mounted, Serves, Fails}
 use Rattle.pk_port.specs.declared.halt.Halt.{Halt}
 use Rattle.pk_wordrun.specs.Grouped.{AddsToGroup, StopsGroup}

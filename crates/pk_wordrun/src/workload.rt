@@ -183,7 +183,9 @@ pub fn tell_workload<D: Engine, B: Board>(
     let Series { start, count } = series;
     match serve_workload(drive, board, &shape, value, buffer, start, count) {
         Ok(summary) => {
-            let counts = drive.counts();
+            // so that the first namespace is known to be there
+            let _ = drive.spaces();
+            let counts = drive.counts(1);
             summary.say(counts.keys, counts.live, text);
             match say(board, text.bytes()) {
                 Ok(()) => WordEnd::Done,

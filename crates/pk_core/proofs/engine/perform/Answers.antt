@@ -1,5 +1,8 @@
-use Rattle.std.proofs.Common.{refl, ap, arith}
+use Rattle.std.proofs.Common.{refl, ap, arith, []}
 use Rattle.pk_nvme.specs.Seen.{command_of}
+use Rattle.pk_nvme.specs.Opcode.{op_of}
+use Rattle.pk_nvme.specs.declared.opcode.Opcode.TheVariants.{Report}
+use Rattle.pk_model.proofs.Answering.{key_spaced}
 use Rattle.pk_core.proofs.Executing.{executes_quiet}
 use Rattle.pk_call.specs.Calling.{only_looks}
 use Rattle.pk_core.proofs.Performing.{performs_looking, performs_store, performs_delete, performs_tick}
@@ -84,3 +87,8 @@ returns-in-192-clause-performs g c =
     performs_tick c.args.parts.now c.tick_command.new.parts (g.B.Nand.state c.args.board.now)
     (g.B.Nand.state c.tick_command.new.board) c.args.request.now c.args.value.now c.tick_command.result c.in-192.is
     c.tick_command.ensures.moves c.tick_command.ensures.calls c.tick_command.ensures.no_more c.tick_command.ensures.done
+
+pub report-requires-clause-space : goal.report-requires-clause-space
+report-requires-clause-space g c =
+    let spaced = key_spaced 1 c.args.parts.now.log.shape (command_of c.args.request.now []) Report (λ n k. refl) (ap op_of c.in-194.is) c.requires.servable.passed in
+    (spaced.some, spaced.most)

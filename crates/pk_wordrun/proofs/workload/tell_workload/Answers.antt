@@ -14,7 +14,7 @@ returns-in-Ok-say g c = λ m holds.
     let k = c.counts-counts.ensures in
     let has = ap (λ (x : BoardState). x.shape) w.asked.rest ∙ w.asked.shape_is in
     let are = counted (g.D.Engine.agrees c.serve_workload.new.drive) c.args.shape b
-    (g.D.Engine.sight c.serve_workload.new.drive) c.counts-counts.result has c.in-Ok.ensures.running c.in-Ok.ensures.none k.numbers k.map w.asked.left w.asked.held in
+    (g.D.Engine.sight c.serve_workload.new.drive) c.counts-counts.result has c.in-Ok.ensures.running c.in-Ok.ensures.none k.numbers.1 k.map w.asked.left w.asked.held in
     let text = c.bytes.ensures ∙ ap (λ (t : RoomyList). t.items) (c.say.ensures w.asked.answered.all w.sums) in
     told_summary c.args.series.start c.args.series.count c.args.shape
     (mount (g.B.Nand.state c.args.board.now) (g.D.Engine.sight c.args.drive.now)).terms m a b c.in-Ok.summary w c.counts-counts.result.keys c.counts-counts.result.live are
@@ -29,7 +29,7 @@ returns-in-Err-say g c = λ m holds.
     let k = c.counts-counts.ensures in
     let has = ap (λ (x : BoardState). x.shape) w.asked.rest ∙ w.asked.shape_is in
     let are = counted (g.D.Engine.agrees c.serve_workload.new.drive) c.args.shape b
-    (g.D.Engine.sight c.serve_workload.new.drive) c.counts-counts.result has c.in-Ok.ensures.running c.in-Ok.ensures.none k.numbers k.map w.asked.left w.asked.held in
+    (g.D.Engine.sight c.serve_workload.new.drive) c.counts-counts.result has c.in-Ok.ensures.running c.in-Ok.ensures.none k.numbers.1 k.map w.asked.left w.asked.held in
     let text = c.bytes.ensures ∙ ap (λ (t : RoomyList). t.items) (c.say.ensures w.asked.answered.all w.sums) in
     let T : List ℕ → Type 0 = λ t. PostFailed b (g.B.Nand.state c.say-in-Ok.new.board) t in
     told_unposted c.args.series.start c.args.series.count c.args.shape
