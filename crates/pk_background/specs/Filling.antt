@@ -11,7 +11,7 @@ abbrev pub lacks_frames : Parts → Bool
 lacks_frames d = not (unfilled d.levels (frames_of d) == 0)
 
 -- One of them was read into a frame. The runs have the same entries, and nothing else changed.
-pub record FillsFrame (before after : Parts) (old new : BoardState) : Type 0 where
+pub record FillsSpare (before after : Parts) (old new : BoardState) : Type 0 where
   pub fills : FillsOne before.levels before.arena old after.levels after.arena new
   pub rest : after ≡ record before { levels = after.levels; arena = after.arena }
   pub stand : (ess : List (List Entry)) → RunsOnFlash old.pages before.arena before.levels.runs ess → RunsOnFlash new.pages after.arena after.levels.runs ess

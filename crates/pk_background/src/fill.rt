@@ -6,7 +6,7 @@ ghost use Rattle.pk_nand.specs.declared.types.Fault.TheVariants.{Reading};
 ghost use Rattle.pk_schedule.specs.Steps.{has_no_merge};
 ghost use Rattle.pk_parts.specs.Parts.{index_of, is_half};
 ghost use Rattle.pk_background.specs.Ticking.{MayTick};
-ghost use Rattle.pk_background.specs.Filling.{FillsFrame, lacks_frames};
+ghost use Rattle.pk_background.specs.Filling.{FillsSpare, lacks_frames};
 
 use pk_nand::{Fault, Nand};
 use pk_parts::Parts;
@@ -36,7 +36,7 @@ pub(crate) fn fill_once<B: Nand, A: Region>(
     requires unfilled { lacks_frames parts.old ≡ true }
 
     // A page was read into a frame.
-    ensures fills { OnOk result (FillsFrame parts.old parts.new (B.state board.old)
+    ensures fills { OnOk result (FillsSpare parts.old parts.new (B.state board.old)
         (B.state board.new)) }
 
     // Or that read failed, and nothing else changed.

@@ -147,6 +147,8 @@ fn fill_step<B: Nand, A: Region>(parts: &mut Parts<A>, board: &mut B) -> Ticked
     requires unfilled { lacks_frames parts.old ≡ true }
     ensures { Advances parts.old parts.new (B.state board.old) (B.state board.new) result }
 {
+    // no run has more pages than its level may have
+    parts.levels.known();
     match fill_once(parts, board) {
         Ok(()) => Ticked::Worked,
         // only a read can fail here
