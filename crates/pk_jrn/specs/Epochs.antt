@@ -65,6 +65,6 @@ pub record EpochOnFlash (e : JournalEpoch) (flash : Flash) : Type 0 where
   pub filled : e.takes_more ≡ true → (j : ℕ) → j < pages_of e → page_at flash (page_in e.shape e.blocks j) ≢ erased
   pub behind : e.takes_more ≡ true → (j : ℕ) → pages_of e ≤ j → j < epoch_pages e.shape → page_at flash (page_in e.shape e.blocks j) ≡ erased
 
--- these are the entries of the epoch of this flash, in a drive with so many namespaces
+-- these are the entries of the epoch of this flash, in a drive with n namespaces
 abbrev pub Reads : JournalEpoch → ℕ → Flash → List Entry → Type 0
 Reads e spaces flash es = epoch e.shape spaces (page_at flash) e.number e.blocks ≡ Ok es

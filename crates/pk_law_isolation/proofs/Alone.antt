@@ -93,7 +93,7 @@ module _ (shape : Shape) (c : Command) (some : 1 ≤ c.namespace) (m : Map) wher
   same_reply most frames own (Some Report) =
       λ i. success 0 (flat_map u32 (live_alone c.namespace some shape m i ∷ most ∷ len_alone c.namespace some m i ∷ pinned shape frames ∷ frames ∷ own))
 
-  -- ---- the map that is left
+  -- ---- the map after the command
 
   same_effect : (op : Option Opcode) → map_alone c.namespace (effect m c op) ≡ effect (map_alone c.namespace m) (command_alone c) op
   same_effect None = refl

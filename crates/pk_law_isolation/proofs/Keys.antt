@@ -1,4 +1,4 @@
--- Keys with their namespaces, and how they stand to each other.
+-- Keys with their namespaces, and their order.
 use Rattle.std.proofs.lemmas.Bool.{eqb-false}
 use Rattle.std.proofs.Common.{◌≡◌, ℕ, ◌≤◌, ◌∷◌, [], List, true, false, cond, refl, sym, ap, subst, ◌∙◌, arith, ◌==◌, eqb-true, is_eq, Ordering, Less, Equal, Greater, nat_cmp, T}
 use Rattle.std.specs.Ordering.{eq_by_cmp, ordering_then}
@@ -16,7 +16,7 @@ pub is_in : (space : ℕ) (k : Key) → 1 ≤ space → (space_of k == space) �
 is_in space [] some is = absurd (omega (arith, some, eqb-true 0 space is))
 is_in space (s ∷ bytes) some is = ap (λ n. n ∷ bytes) (eqb-true s space is)
 
--- within one namespace keys stand as their bytes do
+-- within one namespace keys are in the order of their bytes
 pub tagged_cmp : (space : ℕ) (a b : List ℕ) → key_cmp (space ∷ a) (space ∷ b) ≡ key_cmp a b
 tagged_cmp space a b = ap (λ r. ordering_then r (slice_cmp nat_cmp a b)) (tied_itself nat_cmp_total space)
 

@@ -21,7 +21,7 @@ module _ (space : ℕ) (some : 1 ≤ space) where
   entries_alone m = entries-from_sorted key_cmp (entries_moved (entries (in_space space m)))
       (subst T (sym (sorted_moved space (entries (in_space space m)) (part_in m))) (entries_sorted (in_space space m)))
 
-  -- what stands under a key of that drive
+  -- the value of a key of that drive
   pub get_alone : (m : Map) (q : Key) → get (map_alone space m) q ≡ cond (space_of q == 1) (get m (space ∷ bytes_of q)) None
   get_alone m q = get-entries (map_alone space m) q ∙ ap (find key_cmp q) (entries_alone m)
       ∙ elim (space_of q == 1) as (λ t. (space_of q == 1) ≡ t → find key_cmp q (entries_moved (entries (in_space space m))) ≡ cond t (get m (space ∷ bytes_of q)) None) [

@@ -19,7 +19,7 @@ module _ (shape : Shape) where
   abbrev part : ℕ → Entries → ℕ
   part space es = pages_in shape (where_key key_cmp (λ k. space_of k == space) es)
 
-  -- the pages of so many namespaces from this one on
+  -- the pages of n namespaces from this one on
   abbrev parts_sum : ℕ → ℕ → Entries → ℕ
   parts_sum from zero es = 0
   parts_sum from (suc n) es = part from es + parts_sum (from + 1) n es
@@ -64,7 +64,7 @@ module _ (shape : Shape) where
   all_parts n (e ∷ es) all =
       ap (λ k. pages_of shape e.1 + k) (all_parts n es all.1) ∙ sym (within 1 n e es all.0.0 (omega (arith, all.0.1)))
 
-  -- so many namespaces within their limits
+  -- n namespaces within their limits
   bounded : (from : ℕ) (limits : List ℕ) (es : Entries) → ((i : ℕ) → i < length limits → part (from + i) es ≤ slice_index limits i) → parts_sum from (length limits) es ≤ sum limits
   bounded from [] es each = omega arith
   bounded from (l ∷ ls) es each =

@@ -13,7 +13,7 @@ use Rattle.pk_model.specs.Spaces.{Terms}
 use Rattle.pk_model.specs.Answer.{is_namespace, Answer}
 use Rattle.pk_law_isolation.specs.Isolation.{map_alone, terms_alone, command_alone}
 
--- the maps of so many namespaces from this one on, each as the map of a drive that has it alone
+-- the maps of n namespaces from this one on, each as the map of a drive that has it alone
 abbrev pub space_maps_from : ℕ → ℕ → Map → List Map
 space_maps_from space zero m = []
 space_maps_from space (suc n) m = map_alone space m ∷ space_maps_from (space + 1) n m

@@ -57,7 +57,7 @@ begins_as shape start board drive faults halt s holds = record {
 one_limit : (shape : Shape) (start : Map) (p : Standing) → Begins shape start p → p.on.terms.limits ≡ limit shape ∷ []
 one_limit shape start p begun = sym begun.within ∙ limits_one shape p.on.board.pages
 
--- what the port tells is the map that was left
+-- what the port reports is the map after the session
 left_is : (shape : Shape) (start : Map) (cs : List Command) (p q : Standing) (begun : Begins shape start p) (w : AllServed shape start cs p q) (m : Map)
     → part_of (reading shape q.on.board.pages []) ≡ Some m → w.asked.left ≡ m
 left_is shape start cs p q begun w m told =

@@ -20,7 +20,7 @@ one_space frames most = record { frames = frames; limits = most ∷ [] }
 abbrev pub limit_of : List ℕ → ℕ → ℕ
 limit_of limits space = slice_index limits (space - 1)
 
--- one of so many namespaces
+-- one of n namespaces
 abbrev pub is_space : ℕ → ℕ → Bool
 is_space spaces space = nat_le 1 space && nat_le space spaces
 
@@ -28,7 +28,7 @@ is_space spaces space = nat_le 1 space && nat_le space spaces
 unfoldable pub in_space : ℕ → Map → Map
 in_space space m = from_sorted (filter (λ e. space_of e.0 == space) (entries m))
 
--- each key is of one of so many namespaces
+-- each key is of one of n namespaces
 abbrev pub AreInSpaces : ℕ → Map → Type 0
 AreInSpaces spaces m = AllByRecursion (λ e. (1 ≤ space_of e.0) × (space_of e.0 ≤ spaces)) (entries m)
 
@@ -36,6 +36,6 @@ AreInSpaces spaces m = AllByRecursion (λ e. (1 ≤ space_of e.0) × (space_of e
 unfoldable pub limits_at : Shape → Flash → List ℕ
 limits_at shape flash = limit shape ∷ []
 
--- what a drive with so many frames has on a flash
+-- the frames of a drive, and the limits on its flash
 abbrev pub terms_at : Shape → Flash → ℕ → Terms
 terms_at shape flash frames = record { frames = frames; limits = limits_at shape flash }

@@ -150,7 +150,7 @@ outer_served a b c old mid new (Err e) rest rose same own = record {
   rose_then (inl q) = let P : ℕ → Type 0 = λ x. Rose old.stop_faults x in subst P (sym q) rose
   rose_then (inr q) = omega (arith, rose, q)
 
--- no spare is left for it
+-- no spare block remains for it
 pub outer_none_left : (r : InMemory) (old new : BoardState) → OnlyFlash old new → Rose old.stop_faults new.stop_faults → HasTable r new → OuterFailed r old r new
 outer_none_left r old new rest rose table = record { counts = counted_failed r r old new rest 0 rose (omega arith); table = table; faults = inr rose }
 

@@ -31,7 +31,7 @@ pub bytes_more : (marks : List NotedMark) (mark : NotedMark) → noted_bytes (ma
 bytes_more [] mark = omega arith
 bytes_more (m ∷ ms) mark = let own = bytes_more ms mark in omega (arith, own)
 
--- a log with room tells its marks, one without tells none
+-- a log with room reports its marks, one without reports none
 pub told_some : (room : ℕ) (marks : List Mark) (mark : Mark) → 0 < room → told_of room (marks ++ mark ∷ []) ≡ longer (told_of room marks) (mark ∷ [])
 told_some zero marks mark some = absurd (omega (arith, some))
 told_some (suc room) marks mark some = refl
@@ -40,7 +40,7 @@ pub told_none : (room : ℕ) (marks : List Mark) (mark : Mark) → room ≤ 0 �
 told_none zero marks mark none = refl
 told_none (suc room) marks mark none = absurd (omega (arith, none))
 
--- so many marks have room for the bytes
+-- n marks have room for the bytes
 pub marks_hold : (p len : ℕ) → 1 ≤ p → len ≤ marks_for p len * p
 marks_hold p len some =
     let q : ℕ = div_ceil len p in

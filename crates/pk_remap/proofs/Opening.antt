@@ -353,7 +353,7 @@ module _ (image : Image) (unknown : image ≡ Unknown) (work work' : InMemory) (
       subst T (sym unknown) (subst U (λ i. opened work'.shape pages (sym noted i) counts (sym input i) (sym posted i))
       (make_done false (told log) counts old.input old.posted work'.shape u pages all (whole_table work' new table)))
 
--- over a board that was told to have no image
+-- over a board that a load found without an image
 module _ (image : Image) (missing : image ≡ Missing) (work : InMemory) (log : MarkLog) (counts : BoardCounts) (old : BoardState) where
   abbrev absent : BoardState
   absent = remap_board image work log counts old

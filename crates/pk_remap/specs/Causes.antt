@@ -64,7 +64,7 @@ MakeCause spares shape old (Err Memory) left new = IsOk (checked (inner_shape sh
 
 -- ---- programs and erases
 
--- Why a program or an erase failed: a read failed; or a program or an erase failed, and that was in a table block, no spare is left, or a
+-- Why a program or an erase failed: a read failed; or a program or an erase failed, and that was in a table block, no spare block remains, or a
 -- page to copy is Torn.
 pub data StopCause (shape : Shape) (spares : ℕ) (mark : Mark) (old : BoardState) (left : ℕ) (new : BoardState) : Type 0 where
   read_fault : Rose old.read_faults new.read_faults → StopCause shape spares mark old left new

@@ -1,4 +1,4 @@
--- The marks of a log, whose bytes stand one after another.
+-- The marks of a log, whose bytes are one after another.
 use Rattle.std.specs.Prelude.{ℕ, zero, suc, ◌+◌, max, List, [], ◌∷◌, take, drop, Option, Some, None}
 use Rattle.std.specs.Int.{div_ceil}
 use Rattle.pk_base.specs.Mark.{Mark, program, erase, post}
@@ -25,7 +25,7 @@ abbrev pub noted_marks : List NotedMark → List ℕ → List Mark
 noted_marks [] bytes = []
 noted_marks (mark ∷ marks) bytes = mark_with mark (take (bytes_of_mark mark) bytes) ∷ noted_marks marks (drop (bytes_of_mark mark) bytes)
 
--- a log without room tells no marks
+-- a log without room reports no marks
 abbrev pub told_of : ℕ → List Mark → Option (List Mark)
 told_of zero marks = None
 told_of (suc room) marks = Some marks
@@ -34,6 +34,6 @@ told_of (suc room) marks = Some marks
 abbrev pub no_marks : ℕ → Option (List Mark)
 no_marks room = told_of room []
 
--- how many marks of the room a mark with so many bytes takes
+-- how many marks of the room a mark with n bytes takes
 abbrev pub marks_for : ℕ → ℕ → ℕ
 marks_for page_bytes len = max (div_ceil len page_bytes) 1

@@ -1,8 +1,8 @@
-//! The marks that a flash tells, in room that was taken before.
+//! The marks that a flash reports, in room that was taken before.
 ghost use Rattle.std.specs.Prelude.{◌≡◌, ◌≤◌, ◌*◌, vec_len, vec_capacity};
 ghost use Rattle.pk_remap.specs.Noted.{noted_bytes};
 
-/// A mark, of which the bytes stand elsewhere: their number is here.
+/// A mark, whose bytes are elsewhere: their number is here.
 #[derive(Clone, Copy, Debug)]
 pub enum NotedMark {
     Program { page: u32, len: usize },
@@ -11,7 +11,7 @@ pub enum NotedMark {
 }
 
 /// Marks in order, and the bytes of all of them one after another. The room is a number of marks with a page of bytes each; without room
-/// no mark is told.
+/// no mark is reported.
 #[derive(Drop)]
 pub struct MarkLog {
     pub(crate) room: usize,

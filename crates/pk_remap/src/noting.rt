@@ -53,7 +53,7 @@ impl MarkLog {
         len.div_ceil(self.page_bytes).max(1)
     }
 
-    /// Whether a mark with so many bytes has room.
+    /// Whether a mark with `len` bytes has room.
     pub fn has_room(&self, len: usize) -> bool
         ensures yes { result ≡ true → HasLogRoom self.now len }
         ensures no { result ≡ false → HasLogRoom self.now len → ⊥ }
@@ -102,7 +102,7 @@ impl MarkLog {
         self.note(mark, bytes);
     }
 
-    /// Notes a mark with its bytes, if marks are told.
+    /// Notes a mark with its bytes, if marks are reported.
     fn note(&mut self, mark: NotedMark, bytes: &[u8])
         requires sized { bytes_of_mark mark ≡ length bytes.now }
         requires room { HasLogRoom self.old (length bytes.now) }

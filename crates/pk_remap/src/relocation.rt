@@ -40,7 +40,7 @@ pub struct Relocation {
 }
 
 impl Relocation {
-    /// The buffers for a flash with so many spares, whose shape is not known yet.
+    /// The buffers for a flash with `spares` spare blocks, whose shape is not known yet.
     pub(crate) fn new(alloc: Global, spares: u16) -> Result<Relocation, AllocError>
         ensures room { IfOk result (λ r. HasPageBuffers r) }
         ensures spares { IfOk result (λ r. r.spares ≡ spares) }

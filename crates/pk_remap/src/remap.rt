@@ -24,7 +24,7 @@ pub struct Remap<N: Nand> {
 }
 
 impl<N: Nand + Drop> Remap<N> {
-    /// A flash over this one, of which `spares` blocks are spare blocks; it tells its marks if the log has room for some. The memory of its
+    /// A flash over this one, of which `spares` blocks are spare blocks; it reports its marks if the log has room for some. The memory of its
     /// three page buffers is taken here, that of the log by `load` and `make`. Without memory the inner flash is dropped.
     pub fn new(alloc: Global, inner: N, spares: u16, log: usize) -> Result<Remap<N>, AllocError>
         requires some { 1 ≤ spares }
@@ -65,7 +65,7 @@ impl<N: Nand> Remap<N> {
         inner
     }
 
-    /// The spare blocks that no block was moved to and that did not fail, as far as the newest table and the faults since tell. 0 before
+    /// The spare blocks that no block was moved to and that did not fail, by the newest table and the faults since. 0 before
     /// `load` or `make` answered Ok with a shape.
     pub fn spares_left(&self) -> u16
         ensures { result ≡ spares_left_of self.now.image self.now.work }

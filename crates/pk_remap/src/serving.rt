@@ -125,7 +125,7 @@ impl Relocation {
         }
     }
 
-    /// Programs a page of the outer flash, with the first page of its pair in memory meanwhile. If a spare is left, a relocation serves a
+    /// Programs a page of the outer flash, with the first page of its pair in memory meanwhile. If a spare block remains, a relocation serves a
     /// call that failed.
     pub fn program_outer<N: Nand>(
         &mut self,
@@ -148,7 +148,7 @@ impl Relocation {
         }
     }
 
-    /// Programs a page of the outer flash. If a spare is left, a relocation serves a call that failed.
+    /// Programs a page of the outer flash. If a spare block remains, a relocation serves a call that failed.
     fn program_with_partner<N: Nand>(
         &mut self,
         inner: &mut N,
@@ -181,7 +181,7 @@ impl Relocation {
         }
     }
 
-    /// Erases a block of the outer flash. If a spare is left, a relocation serves a call that failed.
+    /// Erases a block of the outer flash. If a spare block remains, a relocation serves a call that failed.
     pub fn erase_outer<N: Nand>(&mut self, inner: &mut N, block: u32) -> Result<(), NandFault>
         requires rests { IsAtRest self.old (N.state inner.old) }
         requires inside { block < self.old.shape.blocks }

@@ -77,7 +77,7 @@ fn has_table(rt: &impl Abort, alloc: Global, flash: &Flash, block: u32) -> bool 
     false
 }
 
-/// The first program of the value is left Torn: the session is as without the fault, and three spare blocks are left.
+/// The first program of the value is left Torn: the session is as without the fault, and three spare blocks remain.
 #[test]
 fn a_block_that_moves(rt: HostRuntime) {
     let alloc = rt.alloc();

@@ -34,7 +34,7 @@ fn is_put(operands: &[&str]) -> bool
     }
 }
 
-/// Whether a word may be obeyed over a flash with so many spare blocks.
+/// Whether a word may be obeyed over a flash with `spares` spare blocks.
 fn fits(spares: u16, word: &Word) -> bool
     requires { spares ≤ MOST_SPARES }
     ensures { result ≡ spared.fits_spares spares (seen word.now) }
@@ -48,7 +48,7 @@ fn fits(spares: u16, word: &Word) -> bool
     }
 }
 
-/// Whether words may be obeyed over a flash with so many spare blocks.
+/// Whether words may be obeyed over a flash with `spares` spare blocks.
 #[tactic(auto, unfolding(crate::specs::Words::word_of), using(crate::proofs::Judging::put_fits))]
 fn may_obey(spares: u16, words: &[&str]) -> bool
     requires { spares ≤ MOST_SPARES }

@@ -41,7 +41,7 @@ not_below a b e = by (key_cmp a b) refl e
     by Equal is e = cc
     by Greater is e = cc
 
--- of keys above a key, none is left out
+-- of keys above a key, none is missing
 all_kept : (key : Key) (ks : List Key) → AllByRecursion (λ k. is_lt (key_cmp key k) ≡ true) ks
     → (filter (λ k. not (is_lt (key_cmp k key))) ks ≡ ks) × (above key ks ≡ ks)
 all_kept key [] h = (refl, refl)
