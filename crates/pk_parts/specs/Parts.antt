@@ -1,11 +1,13 @@
 -- What a drive keeps in memory, and what contracts see of it.
-use Rattle.std.specs.Prelude.{ℕ, ◌-◌, Bool, true, List, [], ◌∷◌, length, sum, count_by, Option, Some, None, ◌==◌, ◌&&◌, not, if◌then◌else◌, ◌||◌, false}
+use Rattle.std.specs.Prelude.{ℕ, ◌-◌, Bool, true, List, [], ◌∷◌, length, map, sum, count_by, Option, Some, None, ◌==◌, ◌&&◌, not, if◌then◌else◌, ◌||◌, false}
 use Rattle.pk_base.specs.Shape.{Shape, charge, limit, data_blocks, most_pages}
 use Rattle.pk_plan.specs.declared.owner.Owner.TheVariants.{Values}
 use Rattle.pk_pin.specs.Frames.{Frames, leased_frames}
 use Rattle.pk_pool.specs.Blocks.{Blocks, IsShared, is_ready, used_by, freed}
+use Rattle.pk_run.specs.Kept.{is_pinned}
 use Rattle.pk_level.specs.Levels.{Levels, IsLevels, run_of}
-use Rattle.pk_model.specs.Spaces.{Terms, one_space}
+use Rattle.pk_model.specs.Spaces.{Terms, one_space, limit_of}
+use Rattle.pk_space.specs.Uses.{Use, space_live, space_keys}
 use Rattle.pk_call.specs.Sight.{Sight, Counts, InSpace}
 use Rattle.pk_log.specs.State.{LogState}
 use Rattle.pk_values.specs.State.{ValuesState, fits_open}
@@ -25,8 +27,8 @@ use Rattle.pk_gc.specs.Standing.{held_blocks}
 use Rattle.pk_root.specs.Installing.{repeats_next}
 use Rattle.pk_walk.specs.Walking.{Walk}
 
--- The log, the runs with the arena of their frames, the jobs that keep both short, where values lie, the reclaim, the blocks, how many
--- keys there are, whether it stopped, and the walk of a List.
+-- The log, the runs with the arena of their frames, the jobs that keep both short, where values lie, the reclaim, the blocks, the live
+-- pages and the keys of each namespace, whether it stopped, and the walk of a List.
 pub record Parts : Type 0 where
   pub log : LogState
   pub levels : Levels
@@ -35,7 +37,7 @@ pub record Parts : Type 0 where
   pub values : ValuesState
   pub reclaim : JobState
   pub pool : Blocks
-  pub keys : ℕ
+  pub spaces : Use
   pub stopped : Bool
   pub walk : Walk
 
@@ -84,9 +86,9 @@ held_of d = record {
 abbrev pub outputs_of : Parts → List ℕ
 outputs_of d = (held_of d).values
 
--- what a Report says of each namespace
+-- what a Report says of each namespace, of which there is one
 abbrev pub spaces_of : Parts → List InSpace
-spaces_of d = record { live = sum d.values.live.heads; limit = limit d.log.shape; keys = d.keys } ∷ []
+spaces_of d = record { live = space_live d.spaces 1; limit = limit_of (terms_of d).limits 1; keys = space_keys d.spaces 1 } ∷ []
 
 -- and of the drive
 abbrev pub counts_of : Parts → Counts
@@ -105,6 +107,14 @@ counts_of d = record {
   ready = count_by is_ready d.pool.states;
   merge = merging d.schedule.phase;
 }
+
+-- of each level whether all its pages are in frames
+abbrev pub held_by : Parts → List Bool
+held_by d = map is_pinned d.levels.runs
+
+-- most reads of a lookup: a page of each level that has pages without a frame
+abbrev pub most_looks : Parts → ℕ
+most_looks d = 4 - count_by (λ held. held) (held_by d)
 
 -- how many pages a value takes
 abbrev pub pages_for : Parts → List ℕ → ℕ
@@ -160,6 +170,7 @@ sight_of d = record {
   reclaims = runs_in d.reclaim.phase;
   fresh = d.log.epoch.takes_more;
   half = is_half d;
+  held = held_by d;
   work = work d.log.shape (backlog_of d);
 }
 
