@@ -178,11 +178,14 @@ module _ (a b : Parts) (s0 s1 : BoardState) (n : ℕ) (key : Key) (value : List 
       let same = step.came.0 a.log.shape m may.stands in
       record {
         ready = subst (λ (s : Shape). IsReady s1 s) (sym stays.same_shape) step.ready;
-        may = (m, subst P (sym stays.same_shape) (record {
-          stands = same.stands;
-          bytes = may.bytes;
-          room = room_after a.log.shape s0 s1 (CrashFinds a.log.shape commit s0.pages m) can.ready.shape_is same.cuts key m value may.room;
-        }));
+        may = (
+          m,
+          subst P (sym stays.same_shape) (record {
+            stands = same.stands;
+            bytes = may.bytes;
+            room = room_after a.log.shape s0 s1 (CrashFinds a.log.shape commit s0.pages m) can.ready.shape_is same.cuts key m value may.room;
+          }),
+        );
         short = subst (λ (s : Shape). length value ≤ greatest s) (sym stays.same_shape) can.short;
         few = subst (λ (s : Shape). length b.log.pending < page_entries s) (sym stays.same_shape) (omega (arith, some, empty));
       }
