@@ -5,7 +5,7 @@ use Rattle.std.specs.Str.Parse.{digits_value}
 use Rattle.std.proofs.lemmas.Bool.{and_parts}
 use Rattle.std.proofs.lemmas.Bool.Decides.{nat_tests}
 use Rattle.pk_base.specs.Fields.{AreBytes}
-use Rattle.pk_base.specs.Key.{Key, IsKey, bytes_of as bytes_in}
+use Rattle.pk_base.specs.Key.{Key, IsKey, bytes_of as bytes_in, space_of}
 use Rattle.pk_nvme.specs.Text.{is_number, number_of, number_text, hex_text, bytes_text, some_bytes_of, bytes_of}
 use Rattle.pk_asm.specs.Words.{key_of}
 use Rattle.pk_asm.specs.Line.{retrieve_of, delete_of, exist_of, from_of, list_form, flush_of, report_of, tick_of, plain_of, options_of, store_with, store_of, named_of}
@@ -17,6 +17,7 @@ use Rattle.pk_asm.proofs.TextLemmas.{some_bytes_of-is, number_of-text, key_of-te
 -- a key of bytes
 pub record IsByteKey (key : Key) : Type 0 where
   pub is_key : IsKey key
+  pub first : space_of key ≡ 1
   pub fits : AreBytes (bytes_in key)
 
 -- a key that may be missing
@@ -63,7 +64,7 @@ key_is word key e =
     let some = some_is (λ (bytes : List ℕ). 1 ∷ bytes) (some_bytes_of word) key h.1 in
     let is = some_bytes_of-is word some.0 some.1 in
     let short : length word ≤ 32 = let le = h.0 in grind (arith, nat_tests) in
-    subst IsByteKey some.2 (record { is_key = record { some = is.0; most = omega (arith, is.1); space_some = omega arith; space_most = omega arith }; fits = is.2 })
+    subst IsByteKey some.2 (record { is_key = record { some = is.0; most = omega (arith, is.1); space_some = omega arith; space_most = omega arith }; first = refl; fits = is.2 })
 
 both_are : {A B C : Type 0} (f : A → B → C) (o : Option A) (p : Option B) (z : C) → option_and_then (λ x. option_and_then (λ y. Some (f x y)) p) o ≡ Some z
     → (x : A) × (y : B) × (o ≡ Some x) × (p ≡ Some y) × (f x y ≡ z)
@@ -254,13 +255,13 @@ operands_free Flush bytes h = tt
 operands_free Report bytes h = tt
 operands_free (Tick steps) bytes h = (free_number steps h.0, tt)
 
-from_key : (from : Option Key) → IsFrom from → (key : Key) → from ≡ Some key → IsKey key × AreBytes (bytes_in key)
-from_key (Some k) h key e = let same : k ≡ key = cc in subst (λ (x : Key). IsKey x × AreBytes (bytes_in x)) same (h.is_key, h.fits)
+from_key : (from : Option Key) → IsFrom from → (key : Key) → from ≡ Some key → IsKey key × (space_of key ≡ 1) × AreBytes (bytes_in key)
+from_key (Some k) h key e = let same : k ≡ key = cc in subst (λ (x : Key). IsKey x × (space_of x ≡ 1) × AreBytes (bytes_in x)) same (h.is_key, h.first, h.fits)
 from_key None h key e = cc
 
 stored : (key : Key) (bytes : List ℕ) (size : ℕ) (o : Option ℕ) (n : ℕ) → IsByteKey key → AreBytes bytes → size ≡ length bytes → o ≡ Some n
     → store_with (key_of (hex_text (bytes_in key))) (bytes_of (bytes_text bytes)) o ≡ Some (Store key size n, bytes)
-stored key bytes size o n k fits sized e = rw (key_of-text key k.is_key k.fits, bytes_of-text bytes fits, e) (ap (λ (m : ℕ). Some (Store key m n, bytes)) (sym sized))
+stored key bytes size o n k fits sized e = rw (key_of-text key k.is_key k.first k.fits, bytes_of-text bytes fits, e) (ap (λ (m : ℕ). Some (Store key m n, bytes)) (sym sized))
 
 store_said : (key : Key) (bytes : List ℕ) (size options : ℕ) → IsByteKey key → AreBytes bytes → size ≡ length bytes → options < 4
     → store_of (hex_text (bytes_in key) ∷ bytes_text bytes ∷ option_words options) ≡ Some (Store key size options, bytes)
@@ -273,9 +274,9 @@ store_said key bytes size (suc (suc (suc (suc n)))) k fits sized few = absurd (o
 pub form_said : (form : Form) (bytes : List ℕ) → IsForm form bytes → AreBytes bytes → named_of (form_name form) (form_operands form bytes) ≡ Some (form, bytes)
 unfolding plain_of
 form_said (Store key size options) bytes h fits = store_said key bytes size options h.0 fits h.1 h.3
-form_said (Retrieve key size) bytes h fits = rw (key_of-text key h.0.is_key h.0.fits, number_of-text size h.1) (ap (λ (xs : List ℕ). Some (Retrieve key size, xs)) (sym h.2))
-form_said (Delete key) bytes h fits = rw (key_of-text key h.0.is_key h.0.fits) (ap (λ (xs : List ℕ). Some (Delete key, xs)) (sym h.1))
-form_said (Exist key) bytes h fits = rw (key_of-text key h.0.is_key h.0.fits) (ap (λ (xs : List ℕ). Some (Exist key, xs)) (sym h.1))
+form_said (Retrieve key size) bytes h fits = rw (key_of-text key h.0.is_key h.0.first h.0.fits, number_of-text size h.1) (ap (λ (xs : List ℕ). Some (Retrieve key size, xs)) (sym h.2))
+form_said (Delete key) bytes h fits = rw (key_of-text key h.0.is_key h.0.first h.0.fits) (ap (λ (xs : List ℕ). Some (Delete key, xs)) (sym h.1))
+form_said (Exist key) bytes h fits = rw (key_of-text key h.0.is_key h.0.first h.0.fits) (ap (λ (xs : List ℕ). Some (Exist key, xs)) (sym h.1))
 form_said (ListFrom from size) bytes h fits = rw (from_of-text from (from_key from h.0), number_of-text size h.1) (ap (λ (xs : List ℕ). Some (ListFrom from size, xs)) (sym h.2))
 form_said Flush bytes h fits = ap (λ (xs : List ℕ). Some (Flush, xs)) (sym h)
 form_said Report bytes h fits = ap (λ (xs : List ℕ). Some (Report, xs)) (sym h)

@@ -6,7 +6,7 @@ use Rattle.std.proofs.lemmas.Bool.{and_parts}
 use Rattle.std.proofs.lemmas.Bool.Decides.{nat_tests}
 use Rattle.std.proofs.lemmas.List.{take_at, take_all, take-append-drop, length-take-le, get_or-drop}
 use Rattle.pk_base.specs.Fields.{AreBytes, padded, zeros, u16, u32}
-use Rattle.pk_base.specs.Key.{Key, IsKey, bytes_of}
+use Rattle.pk_base.specs.Key.{Key, IsKey, bytes_of, space_of}
 use Rattle.pk_base.proofs.Tables.{spelled_stand, stands_byte, stands_number, length-padded, number_fits, ◌⊕◌}
 use Rattle.pk_nvme.specs.Command.{Command, command}
 use Rattle.pk_asm.specs.Form.{entry_with, form_entry}
@@ -55,13 +55,13 @@ fields_of number opcode key size options bytes short small =
 
 -- ---- the form of these fields
 
-key_read : (key : Key) → IsKey key → key_at (length (bytes_of key)) (padded 16 (bytes_of key)) ≡ Some key
-key_read key h =
+key_read : (key : Key) → IsKey key → space_of key ≡ 1 → key_at (length (bytes_of key)) (padded 16 (bytes_of key)) ≡ Some key
+key_read key h first =
     let bytes : List ℕ = bytes_of key in
     let some : nat_le 1 (length bytes) ≡ true = let le = h.some in grind (arith, nat_tests) in
     let most : nat_le (length bytes) 16 ≡ true = let le = h.most in grind (arith, nat_tests) in
     let whole : take (length bytes) (padded 16 bytes) ≡ bytes = take_at bytes (zeros (16 - length bytes)) (length bytes) refl in
-    rw (some, most) (ap (λ (xs : List ℕ). Some (1 ∷ xs)) whole ∙ ap Some (in_first key h))
+    rw (some, most) (ap (λ (xs : List ℕ). Some (1 ∷ xs)) whole ∙ ap Some (in_first key h first))
 
 same_number : (n m : ℕ) → n ≡ m → (n == m) ≡ true
 same_number n m e = grind (arith, nat_tests)
@@ -72,19 +72,19 @@ candidate_of number (Store key size options) bytes h =
     let f = fields_of number 1 (bytes_of key) size options bytes h.0.is_key.most h.2 in
     let sized = same_number size (length bytes) h.1 in
     let few : nat_le options 3 ≡ true = let lt = h.3 in grind (arith, nat_tests) in
-    rw (f.opcode_is, f.key_len_is, f.key_bytes_is, f.size_is, f.options_is, sized, few, key_read key h.0.is_key) refl
+    rw (f.opcode_is, f.key_len_is, f.key_bytes_is, f.size_is, f.options_is, sized, few, key_read key h.0.is_key h.0.first) refl
 candidate_of number (Retrieve key size) bytes h =
     let f = fields_of number 0x02 (bytes_of key) size 0 [] h.0.is_key.most h.1 in
     subst (λ xs. candidate (command (form_entry number (Retrieve key size)) xs) ≡ Some (Retrieve key size)) (sym h.2)
-    (rw (f.opcode_is, f.key_len_is, f.key_bytes_is, f.size_is, key_read key h.0.is_key) refl)
+    (rw (f.opcode_is, f.key_len_is, f.key_bytes_is, f.size_is, key_read key h.0.is_key h.0.first) refl)
 candidate_of number (Delete key) bytes h =
     let f = fields_of number 0x10 (bytes_of key) 0 0 [] h.0.is_key.most (omega arith) in
     subst (λ xs. candidate (command (form_entry number (Delete key)) xs) ≡ Some (Delete key)) (sym h.1)
-    (rw (f.opcode_is, f.key_len_is, f.key_bytes_is, key_read key h.0.is_key) refl)
+    (rw (f.opcode_is, f.key_len_is, f.key_bytes_is, key_read key h.0.is_key h.0.first) refl)
 candidate_of number (Exist key) bytes h =
     let f = fields_of number 0x14 (bytes_of key) 0 0 [] h.0.is_key.most (omega arith) in
     subst (λ xs. candidate (command (form_entry number (Exist key)) xs) ≡ Some (Exist key)) (sym h.1)
-    (rw (f.opcode_is, f.key_len_is, f.key_bytes_is, key_read key h.0.is_key) refl)
+    (rw (f.opcode_is, f.key_len_is, f.key_bytes_is, key_read key h.0.is_key h.0.first) refl)
 candidate_of number (ListFrom None size) bytes h =
     let f = fields_of number 0x06 [] size 0 [] (omega arith) h.1 in
     subst (λ xs. candidate (command (form_entry number (ListFrom None size)) xs) ≡ Some (ListFrom None size)) (sym h.2)
@@ -93,7 +93,7 @@ candidate_of number (ListFrom (Some key) size) bytes h =
     let f = fields_of number 0x06 (bytes_of key) size 0 [] h.0.is_key.most h.1 in
     let some : (length (bytes_of key) == 0) ≡ false = let le = h.0.is_key.some in grind (arith, nat_tests) in
     subst (λ xs. candidate (command (form_entry number (ListFrom (Some key) size)) xs) ≡ Some (ListFrom (Some key) size)) (sym h.2)
-    (rw (f.opcode_is, f.key_len_is, f.key_bytes_is, f.size_is, some, key_read key h.0.is_key) refl)
+    (rw (f.opcode_is, f.key_len_is, f.key_bytes_is, f.size_is, some, key_read key h.0.is_key h.0.first) refl)
 candidate_of number Flush bytes h =
     let f = fields_of number 0x00 [] 0 0 [] (omega arith) (omega arith) in
     subst (λ xs. candidate (command (form_entry number Flush) xs) ≡ Some Flush) (sym h) (rw f.opcode_is refl)
@@ -136,7 +136,7 @@ key_at_is n place key sized fits e =
     let high : n ≤ 16 = let le = parts.1 in grind (arith, nat_tests) in
     let same : 1 ∷ take n place ≡ key = cc in
     let long : length (take n place) ≡ n = length-take-le n place (omega arith) in
-    subst IsByteKey same (record { is_key = record { some = omega arith; most = omega arith; space_some = omega arith; space_most = omega arith }; fits = bytes_take n place fits })
+    subst IsByteKey same (record { is_key = record { some = omega arith; most = omega arith; space_some = omega arith; space_most = omega arith }; first = refl; fits = bytes_take n place fits })
 
 unheld : {A : Type 0} (b : Bool) (y : Option A) (z : A) → cond b None y ≡ Some z → (b ≡ false) × (y ≡ Some z)
 unheld true y z e = cc

@@ -16,7 +16,7 @@ use Rattle.hex.specs.Hex.{encode_with, lower_digits, decode_of}
 use Rattle.hex.specs.declared.error.FromHexError.{FromHexError}
 use Rattle.hex.proofs.HexLemmas.{length-encode_with, decode_of-encode_lower, decode_of-ok}
 use Rattle.pk_base.specs.Fields.{AreBytes}
-use Rattle.pk_base.specs.Key.{Key, IsKey, bytes_of as bytes_in}
+use Rattle.pk_base.specs.Key.{Key, IsKey, bytes_of as bytes_in, space_of}
 use Rattle.pk_nvme.specs.Text.{is_number, number_of, number_text, hex_text, bytes_text, some_bytes_of, bytes_of}
 use Rattle.pk_asm.specs.Words.{words, key_of, hex_entry}
 use Rattle.pk_asm.specs.Line.{from_of}
@@ -60,18 +60,18 @@ some_bytes_of-text bytes some fits =
     let long : (length (hex_text bytes) == 0) ≡ false = grind (arith, nat_tests) in
     rw (long, decode_of-encode_lower bytes fits) refl
 
--- a key is in namespace 1, since there is no other
-pub in_first : (key : Key) → IsKey key → 1 ∷ bytes_in key ≡ key
-in_first [] h = let some = h.some in absurd (omega arith)
-in_first (n ∷ bytes) h = let some = h.space_some in let most = h.space_most in ap (λ (m : ℕ). m ∷ bytes) (omega (arith, some, most))
+-- a key of namespace 1
+pub in_first : (key : Key) → IsKey key → space_of key ≡ 1 → 1 ∷ bytes_in key ≡ key
+in_first [] h first = let some = h.some in absurd (omega arith)
+in_first (n ∷ bytes) h first = ap (λ (m : ℕ). m ∷ bytes) (sym first)
 
-pub key_of-text : (key : Key) → IsKey key → AreBytes (bytes_in key) → key_of (hex_text (bytes_in key)) ≡ Some key
-key_of-text key is_key fits =
+pub key_of-text : (key : Key) → IsKey key → space_of key ≡ 1 → AreBytes (bytes_in key) → key_of (hex_text (bytes_in key)) ≡ Some key
+key_of-text key is_key first fits =
     let sized = length-encode_with lower_digits (bytes_in key) in
     let some = is_key.some in
     let most = is_key.most in
     let short : nat_le (length (hex_text (bytes_in key))) 32 ≡ true = grind (arith, nat_tests) in
-    rw (short, some_bytes_of-text (bytes_in key) some fits) (ap Some (in_first key is_key))
+    rw (short, some_bytes_of-text (bytes_in key) some fits) (ap Some (in_first key is_key first))
 
 pub hex_entry-text : (e : List ℕ) → length e ≡ 64 → AreBytes e → hex_entry (hex_text e) ≡ Some e
 hex_entry-text e sized fits =
@@ -96,11 +96,11 @@ no_dash_key : (key : List ℕ) → 1 ≤ length key → bytes_eq (hex_text key) 
 no_dash_key [] some = absurd (omega arith)
 no_dash_key (byte ∷ bytes) some = no_dash byte bytes
 
-pub from_of-text : (from : Option Key) → ((key : Key) → from ≡ Some key → IsKey key × AreBytes (bytes_in key)) → from_of (from_text from) ≡ Some from
+pub from_of-text : (from : Option Key) → ((key : Key) → from ≡ Some key → IsKey key × (space_of key ≡ 1) × AreBytes (bytes_in key)) → from_of (from_text from) ≡ Some from
 from_of-text None h = refl
 from_of-text (Some key) h =
     let k = h key refl in
-    rw (no_dash_key (bytes_in key) k.0.some, key_of-text key k.0 k.1) refl
+    rw (no_dash_key (bytes_in key) k.0.some, key_of-text key k.0 k.1 k.2) refl
 
 -- ---- words without blanks
 

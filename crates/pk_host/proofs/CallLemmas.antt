@@ -4,7 +4,7 @@ use Rattle.std.proofs.Common.{subst, ◌∙◌, arith}
 use Rattle.std.proofs.lemmas.Bool.{eqb-true}
 use Rattle.std.proofs.lemmas.List.{length-take-le, length-take}
 use Rattle.std.specs.FinMap.{get, contains_key, insert, remove}
-use Rattle.pk_base.specs.Key.{Key, IsKey, bytes_of}
+use Rattle.pk_base.specs.Key.{Key, IsKey, bytes_of, space_of}
 use Rattle.pk_base.specs.Map.{Map}
 use Rattle.pk_nvme.specs.Command.{Command, key}
 use Rattle.pk_nvme.specs.Reply.{Reply}
@@ -34,7 +34,7 @@ found_cases hit miss a r P e at_hit at_miss = subst (λ x. IfOk x P) (sym e) (
     ] refl)
 
 -- the bytes of the command's key are those that were passed
-module _ (old new : PortState) (k : Key) (k' : List ℕ) (same : k' ≡ bytes_of k) (h : IsKey k) (a : Reply) where
+module _ (old new : PortState) (k : Key) (k' : List ℕ) (same : k' ≡ bytes_of k) (h : IsKey k) (first : space_of k ≡ 1) (a : Reply) where
   for_key : (of : List ℕ → Command) → Replies old new (of k') a → Replies old new (of (bytes_of k)) a
   for_key of x = subst (λ (q : List ℕ). Replies old new (of q) a) same x
 
@@ -45,7 +45,7 @@ module _ (old new : PortState) (k : Key) (k' : List ℕ) (same : k' ≡ bytes_of
   for_exist x = for_key (λ q. of_bytes EXIST q 0 0 []) x
 
   key_is : (opcode : ℕ) → key (of_key opcode k 0 0 []) ≡ k
-  key_is opcode = key-of_key opcode k 0 0 [] h
+  key_is opcode = key-of_key opcode k 0 0 [] (h, first)
 
   pub delete_tests : (r : Result Bool HostError) → Replies old new (of_bytes DELETE k' 0 0 []) a → r ≡ existed a → IfOk r (λ b. Tests old k b)
   delete_tests r x e = found_cases true false a r (λ b. Tests old k b) e
@@ -80,7 +80,7 @@ module _ (old new : PortState) (k : Key) (k' : List ℕ) (same : k' ≡ bytes_of
       let s = (for_key (λ q. of_bytes STORE q (length value) options value) x).answers m told in
       let served = success_served old.shape old.limit s.frames m (of_key STORE k (length value) options value) Store refl s.within.alone a s.left refl
       (store_by old.shape old.limit m k h s.within.alone options value) zero s.stepped in
-      s.told ∙ ap (λ (n : Map). Some n) (served.leaves ∙ ap (λ (q : Key). insert m q value) (key-of_key STORE k (length value) options value h))
+      s.told ∙ ap (λ (n : Map). Some n) (served.leaves ∙ ap (λ (q : Key). insert m q value) (key-of_key STORE k (length value) options value (h, first)))
 
   -- a prefix of a value that exists
   front_there : (m : Map) (value : Option (List ℕ)) (into : List ℕ) (len size status : ℕ) → is_some value ≡ true → length into ≡ size → len ≤ length into
@@ -99,7 +99,7 @@ module _ (old new : PortState) (k : Key) (k' : List ℕ) (same : k' ≡ bytes_of
   retrieve_there into size len x zero sized fits front_is m told =
       let s = (for_key (λ q. of_bytes RETRIEVE q size 0 []) x).answers m told in
       let both = there old.shape old.limit s.frames m (retrieve_of k size) Retrieve refl s.within.alone a s.left refl (retrieve_by old.shape old.limit m k h s.within.alone size) zero s.stepped in
-      let is : key (retrieve_of k size) ≡ k = key-of_key RETRIEVE k size 0 [] h in
+      let is : key (retrieve_of k size) ≡ k = key-of_key RETRIEVE k size 0 [] (h, first) in
       front_there m (get m k) into len size 0 (sym (ap (contains_key m) is) ∙ both.0) sized fits
       (both.1.replied ∙ ap (λ (q : Key). success (length (unwrap_or (get m q) [])) (take size (unwrap_or (get m q) []))) is) front_is
 
@@ -112,7 +112,7 @@ module _ (old new : PortState) (k : Key) (k' : List ℕ) (same : k' ≡ bytes_of
       let s = (for_key (λ q. of_bytes RETRIEVE q size 0 []) x).answers m told in
       let both = missing old.shape old.limit s.frames m (retrieve_of k size) Retrieve refl s.within.alone a s.left refl
       (retrieve_by old.shape old.limit m k h s.within.alone size) (λ own. refl) none s.stepped in
-      none_there (get m k) into (sym (ap (contains_key m) (key-of_key RETRIEVE k size 0 [] h)) ∙ both.0)
+      none_there (get m k) into (sym (ap (contains_key m) (key-of_key RETRIEVE k size 0 [] (h, first))) ∙ both.0)
 
 -- a command of a kind that leaves the map leaves the port's
 pub leaves_map : (old new : PortState) (c : Command) (k : Opcode) (a : Reply) → op_of c.opcode ≡ Some k → ((m : Map) → effect m c (Some k) ≡ m) → Replies old new c a → Leaves old new (λ m. m)

@@ -19,7 +19,7 @@ use Rattle.pk_model.specs.Run.{Step}
 use Rattle.pk_model.specs.Spaces.{one_space, limit_of, in_space}
 use Rattle.pk_host.specs.Calls.{of_key, report}
 use Rattle.pk_host.specs.Outcomes.{list_of}
-use Rattle.pk_host.proofs.SpellingLemmas.{in_first}
+use Rattle.pk_host.proofs.SpellingLemmas.{IsFirstKey, in_first}
 
 zero_is_not_87 : ◌≡◌ {A = ℕ} 0 KEY_DOES_NOT_EXIST → ⊥
 zero_is_not_87 e = omega (arith, e)
@@ -129,7 +129,7 @@ module _ (shape : Shape) (most frames : ℕ) (m : Map) (c : Command) (k : Opcode
 pub key_named : (opcode : ℕ) (k : Key) (size options : ℕ) (value : List ℕ) → key (of_key opcode k size options value) ≡ 1 ∷ bytes_of k
 key_named opcode k size options value = ap (λ (bytes : List ℕ). 1 ∷ bytes) (take_at (bytes_of k) _ (length (bytes_of k)) refl)
 
-pub key-of_key : (opcode : ℕ) (k : Key) (size options : ℕ) (value : List ℕ) → IsKey k → key (of_key opcode k size options value) ≡ k
+pub key-of_key : (opcode : ℕ) (k : Key) (size options : ℕ) (value : List ℕ) → IsFirstKey k → key (of_key opcode k size options value) ≡ k
 key-of_key opcode k size options value h = key_named opcode k size options value ∙ in_first k h
 
 key_length : (k : Key) → IsKey k → (nat_le 1 (length (bytes_of k)) && nat_le (length (bytes_of k)) 16) ≡ true

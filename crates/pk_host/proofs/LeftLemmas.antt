@@ -4,7 +4,7 @@ use Rattle.std.proofs.lemmas.Bool.{leb-true}
 use Rattle.std.proofs.lemmas.List.{length-take-le}
 use Rattle.std.specs.FinMap.{get, contains_key, insert, remove, empty}
 use Rattle.pk_base.specs.Choices.{or_else}
-use Rattle.pk_base.specs.Shape.{Shape, limit, charge}
+use Rattle.pk_base.specs.Shape.{Shape, charge}
 use Rattle.pk_base.specs.Key.{IsKey, bytes_of, space_of}
 use Rattle.pk_base.specs.Map.{Map, live, pages_if_some}
 use Rattle.pk_nvme.specs.declared.opcode.TheConstants.{FLUSH, STORE, RETRIEVE, LIST, DELETE, EXIST, TICK, REPORT}
@@ -17,9 +17,9 @@ use Rattle.pk_model.specs.Answer.{check, fault_of, early, late_of, live_after, r
 use Rattle.pk_model.proofs.Answering.{NamesSpace, refuses_with, serves, key_sized, key_spaced, store_sized}
 use Rattle.pk_model.proofs.HeldMap.{key_is_bytes}
 use Rattle.pk_model.proofs.Machines.{live-empty, live-remove, live_stored}
-use Rattle.pk_host.specs.Good.{IsGood, IsHanded, holding}
+use Rattle.pk_host.specs.Good.{IsGoodMap, IsHanded}
 use Rattle.pk_model.specs.Spaces.{limit_of, in_space, one_space}
-use Rattle.pk_model.proofs.SpaceLemmas.{is_whole, in_space-insert, in_space-remove}
+use Rattle.pk_model.proofs.SpaceLemmas.{in_space-empty, in_space-insert, in_space-remove}
 use Rattle.pk_host.proofs.EntryLemmas.{map_empty, map_insert, map_remove}
 
 -- ---- checks that passed
@@ -68,53 +68,59 @@ store_alone n =
 
 -- ---- the map afterwards
 
-pub good_empty : (shape : Shape) → IsGood (holding shape empty)
-good_empty shape = let none = live-empty shape in record { sized = map_empty shape; few = omega (arith, none) }
+pub good_empty : (shape : Shape) (most : ℕ) → IsGoodMap shape most empty
+good_empty shape most = let none = live-empty shape in record { sized = map_empty shape; alone = in_space-empty 1; few = omega (arith, none) }
 
-module _ (shape : Shape) (m : Map) (c : Command) (good : IsGood (holding shape m)) (handed : IsHanded c) where
+module _ (shape : Shape) (most : ℕ) (m : Map) (c : Command) (good : IsGoodMap shape most m) (handed : IsHanded c) where
   -- the checks on the namespace, which is the only one, are those on the map
   own_late : op_of c.opcode ≡ Some Store → early 1 shape c ≡ None
-      → late_of shape (limit_of (limit shape ∷ []) c.namespace) (in_space c.namespace m) c (Some Store) ≡ late_of shape (limit shape) m c (Some Store)
+      → late_of shape (limit_of (most ∷ []) c.namespace) (in_space c.namespace m) c (Some Store) ≡ late_of shape most m c (Some Store)
   own_late is passed =
       let spaced = key_spaced 1 shape c Store (λ n k. refl) is passed in
       let one : c.namespace ≡ 1 = omega (arith, spaced.some, spaced.most) in
-      ap (λ (n : ℕ). late_of shape (limit_of (limit shape ∷ []) n) (in_space n m) c (Some Store)) one
-      ∙ ap (λ (n : Map). late_of shape (limit shape) n c (Some Store)) (is_whole shape m good.sized)
+      ap (λ (n : ℕ). late_of shape (limit_of (most ∷ []) n) (in_space n m) c (Some Store)) one
+      ∙ ap (λ (n : Map). late_of shape most n c (Some Store)) good.alone
 
   -- a Store that passed all checks
   good_store : op_of c.opcode ≡ Some Store → early 1 shape c ≡ None
-      → late_of shape (limit_of (limit shape ∷ []) c.namespace) (in_space c.namespace m) c (Some Store) ≡ None → IsGood (holding shape (insert m (key c) c.value))
+      → late_of shape (limit_of (most ∷ []) c.namespace) (in_space c.namespace m) c (Some Store) ≡ None → IsGoodMap shape most (insert m (key c) c.value)
   good_store is passed there =
-      let late : late_of shape (limit shape) m c (Some Store) ≡ None = sym (own_late is passed) ∙ there in
+      let late : late_of shape most m c (Some Store) ≡ None = sym (own_late is passed) ∙ there in
       let sized = key_sized 1 shape c Store (λ n. refl) is passed in
       let spaced = key_spaced 1 shape c Store (λ n k. refl) is passed in
       let key_length : length (bytes_of (key c)) ≡ c.key_len = length-take-le c.key_len c.key_bytes (omega (arith, sized.most, handed.place_size)) in
       let whole : length c.value ≡ c.size = handed.whole.whole ∙ ap (λ b. if b then c.size else 0) (store_alone c.opcode is) in
       let small = store_sized 1 shape c is passed in
-      let behind = first_none (check (not (must_be_new c && contains_key m (key c))) KEY_EXISTS) (check (nat_le (live_after shape m c) (limit shape)) CAPACITY_EXCEEDED)
+      let behind = first_none (check (not (must_be_new c && contains_key m (key c))) KEY_EXISTS) (check (nat_le (live_after shape m c) most) CAPACITY_EXCEEDED)
       (first_none (check (not (must_exist c) || contains_key m (key c)) KEY_DOES_NOT_EXIST)
-      (or_else (check (not (must_be_new c && contains_key m (key c))) KEY_EXISTS) (check (nat_le (live_after shape m c) (limit shape)) CAPACITY_EXCEEDED)) late).1 in
-      let most = leb-true (live_after shape m c) (limit shape) (check_none (nat_le (live_after shape m c) (limit shape)) CAPACITY_EXCEEDED behind.1) in
+      (or_else (check (not (must_be_new c && contains_key m (key c))) KEY_EXISTS) (check (nat_le (live_after shape m c) most) CAPACITY_EXCEEDED)) late).1 in
+      let within = leb-true (live_after shape m c) most (check_none (nat_le (live_after shape m c) most) CAPACITY_EXCEEDED behind.1) in
       let is_live : live_after shape m c ≡ live shape (insert m (key c) c.value) =
       live_stored shape m (key c) c.value (live shape m) (pages_if_some shape (get m (key c))) (charge shape c.size) refl refl (ap (charge shape) (sym whole)) in
       let is_key : IsKey (key c) =
-      record { some = omega (arith, key_length, sized.some); most = omega (arith, key_length, sized.most); space_some = spaced.some; space_most = spaced.most } in
+      record { some = omega (arith, key_length, sized.some); most = omega (arith, key_length, sized.most); space_some = spaced.some; space_most = omega (arith, spaced.most) } in
       record {
         sized = map_insert shape m (key c) c.value good.sized is_key (key_is_bytes (key c) is_key handed.key_bytes)
             (omega (arith, whole, small)) handed.value_bytes;
-        few = omega (arith, is_live, most);
+        alone = in_space-insert 1 m (key c) (omega (arith, spaced.some, spaced.most)) c.value ∙ ap (λ (n : Map). insert n (key c) c.value) good.alone;
+        few = omega (arith, is_live, within);
       }
 
-  good_delete : IsGood (holding shape (remove m (key c)))
-  good_delete =
+  good_delete : op_of c.opcode ≡ Some Delete → early 1 shape c ≡ None → IsGoodMap shape most (remove m (key c))
+  good_delete is passed =
+      let spaced = key_spaced 1 shape c Delete (λ n k. refl) is passed in
       let whole = live-remove shape m (key c) in
       let few = good.few in
-      record { sized = map_remove shape m (key c) good.sized; few = omega (arith, whole, few) }
+      record {
+        sized = map_remove shape m (key c) good.sized;
+        alone = in_space-remove 1 m (key c) (omega (arith, spaced.some, spaced.most)) ∙ ap (λ (n : Map). remove n (key c)) good.alone;
+        few = omega (arith, whole, few);
+      }
 
   good_effect : (k : Opcode) → op_of c.opcode ≡ Some k → early 1 shape c ≡ None
-      → late_of shape (limit_of (limit shape ∷ []) c.namespace) (in_space c.namespace m) c (Some k) ≡ None → IsGood (holding shape (effect m c (Some k)))
+      → late_of shape (limit_of (most ∷ []) c.namespace) (in_space c.namespace m) c (Some k) ≡ None → IsGoodMap shape most (effect m c (Some k))
   good_effect Store is passed late = good_store is passed late
-  good_effect Delete is passed late = good_delete
+  good_effect Delete is passed late = good_delete is passed
   good_effect Flush is passed late = good
   good_effect Retrieve is passed late = good
   good_effect ListKeys is passed late = good
@@ -123,15 +129,15 @@ module _ (shape : Shape) (m : Map) (c : Command) (good : IsGood (holding shape m
   good_effect Report is passed late = good
 
   good_served : (o : Option Opcode) → op_of c.opcode ≡ o → early 1 shape c ≡ None
-      → late_of shape (limit_of (limit shape ∷ []) c.namespace) (in_space c.namespace m) c o ≡ None → IsGood (holding shape (map_after shape (limit shape ∷ []) m c))
+      → late_of shape (limit_of (most ∷ []) c.namespace) (in_space c.namespace m) c o ≡ None → IsGoodMap shape most (map_after shape (most ∷ []) m c)
   good_served None is passed late = absurd (let clash : ◌≡◌ {A = Option ℕ} (Some 1) None = sym (ap (λ (o : Option Opcode). fault_of 1 shape c o) is) ∙ passed in cc)
-  good_served (Some k) is passed late = subst (λ (x : Map). IsGood (holding shape x)) (sym (serves shape (one_space 0 (limit shape)) m [] c k is passed late).leaves) (good_effect k is passed late)
+  good_served (Some k) is passed late = subst (λ (x : Map). IsGoodMap shape most x) (sym (serves shape (one_space 0 most) m [] c k is passed late).leaves) (good_effect k is passed late)
 
-  pub good_left : IsGood (holding shape (map_after shape (limit shape ∷ []) m c))
-  good_left = elim (refused shape (limit shape ∷ []) m c) as (λ r. refused shape (limit shape ∷ []) m c ≡ r → IsGood (holding shape (map_after shape (limit shape ∷ []) m c))) [
-    | Some status ↦ λ e. subst (λ (x : Map). IsGood (holding shape x)) (sym (refuses_with shape (one_space 0 (limit shape)) m [] c status e).leaves) good
+  pub good_left : IsGoodMap shape most (map_after shape (most ∷ []) m c)
+  good_left = elim (refused shape (most ∷ []) m c) as (λ r. refused shape (most ∷ []) m c ≡ r → IsGoodMap shape most (map_after shape (most ∷ []) m c)) [
+    | Some status ↦ λ e. subst (λ (x : Map). IsGoodMap shape most x) (sym (refuses_with shape (one_space 0 most) m [] c status e).leaves) good
     | None ↦ λ e. let both = first_none (early 1 shape c)
-        (late_of shape (limit_of (limit shape ∷ []) c.namespace) (in_space c.namespace m) c (op_of c.opcode)) e in good_served (op_of c.opcode) refl both.0 both.1
+        (late_of shape (limit_of (most ∷ []) c.namespace) (in_space c.namespace m) c (op_of c.opcode)) e in good_served (op_of c.opcode) refl both.0 both.1
   ] refl
 
 -- ---- a map of the first namespace alone

@@ -97,7 +97,7 @@ page_read old new from a each short start x zero read m told =
     let bytes : a.data_bytes ≡ list_bytes (fitting list_room (keys_from (key (list_of from)) m)) = ap (λ (r : Reply). r.data_bytes) served.replied in
     read ∙ ap (λ (xs : List ℕ). above from (keys_of xs)) (bytes ∙ ap (λ (q : Key). list_bytes (fitting list_room (keys_from q m))) (key_named LIST from MOST_LIST_BYTES 0 [])
     ∙ ap (λ (ks : List Key). list_bytes (fitting list_room ks)) (keys_started old.shape m from start s.within.sized))
-    ∙ ap (above from) (read_back old.shape m from s.within.sized)
+    ∙ ap (above from) (read_back old.shape m from s.within.sized s.within.alone)
 
 -- a List for the bytes of a key, or for none
 pub for_start : (old new : PortState) (from : Key) (bytes : List ℕ) (a : Reply) → bytes ≡ bytes_of from
@@ -169,7 +169,7 @@ not_below from (k ∷ ks) = elim (is_lt (key_cmp k from)) as (λ b. is_lt (key_c
 none_follows : (from : Key) (m : Map) → AllByRecursion IsKey (keys m) → page_after from m ≡ [] → above from (keys m) ≡ []
 none_follows from m are e =
     sym (above_from from (keys m))
-    ∙ two_fit from (keys_from from m) (filter_all (λ k. not (is_lt (key_cmp k from))) (keys m) are)
+    ∙ two_fit from (keys_from from m) (filter_all IsKey (λ k. not (is_lt (key_cmp k from))) (keys m) are)
     (rising_filter (λ k. not (is_lt (key_cmp k from))) (keys m) (keys_rising m)) (not_below from (keys m)) e
 
 same_some : (page rest all : List Key) → (page ≡ [] → all ≡ []) → all ≡ page ++ rest → nat_lt 0 (length page) ≡ nat_lt 0 (length all)

@@ -1,17 +1,20 @@
 -- The keys that a List spells are read back.
 use Rattle.std.proofs.Common.{◌≡◌, ℕ, ◌+◌, ◌-◌, ◌*◌, ◌%◌, ◌≤◌, min, if◌then◌else◌, List, [], ◌∷◌, ◌++◌, length, take, drop, filter, map, flat_map, replicate, Bool, true, false, not, ◌&&◌, nat_le}
-use Rattle.std.proofs.Common.{Some, None, refl, ap, ◌∙◌, arith, append_assoc, length-append}
+use Rattle.std.proofs.Common.{Some, None, refl, sym, ap, subst, cond, ◌==◌, ◌∙◌, arith, append_assoc, length-append}
 use Rattle.std.proofs.lemmas.List.{take_at, length-replicate}
-use Rattle.std.proofs.lemmas.Bool.{le-leb, leb-true}
+use Rattle.std.proofs.lemmas.Bool.{le-leb, leb-true, eqb-true}
 use Rattle.std.specs.List.{AllByRecursion}
 use Rattle.std.specs.Ordering.{is_lt}
 use Rattle.std.specs.FinMap.{keys, entries}
-use Rattle.pk_base.specs.Key.{Key, IsKey, key_cmp, bytes_of}
+use Rattle.std.specs.FinMap.Entries.{where_key}
+use Rattle.pk_base.specs.Key.{Key, IsKey, key_cmp, bytes_of, space_of}
 use Rattle.pk_base.specs.Fields.{AreBytes, u16, u16_at, u32_at}
 use Rattle.pk_base.specs.Shape.{Shape}
 use Rattle.pk_base.specs.Map.{Map, IsMap, keys_from}
 use Rattle.pk_base.proofs.Tables.{stands_number}
 use Rattle.pk_model.specs.Answer.{listed, fitting, list_bytes}
+use Rattle.pk_model.specs.Spaces.{in_space}
+use Rattle.pk_model.proofs.SpaceLemmas.{entries_in}
 use Rattle.pk_host.specs.declared.sizes.TheConstants.{MOST_KEYS}
 use Rattle.pk_host.specs.Listing.{list_room, first_key, and_then, keys_in, keys_of}
 
@@ -21,10 +24,13 @@ drop_front (x ∷ a) b = drop_front a b
 
 -- ---- one key
 
--- a key is in namespace 1, since there is no other
-pub in_first : (k : Key) → IsKey k → 1 ∷ bytes_of k ≡ k
-in_first [] h = let some = h.some in absurd (omega (arith, some))
-in_first (n ∷ bytes) h = let some = h.space_some in let most = h.space_most in ap (λ (m : ℕ). m ∷ bytes) (omega (arith, some, most))
+-- a key of namespace 1
+abbrev pub IsFirstKey : Key → Type 0
+IsFirstKey k = IsKey k × (space_of k ≡ 1)
+
+pub in_first : (k : Key) → IsFirstKey k → 1 ∷ bytes_of k ≡ k
+in_first [] h = let some = h.0.some in absurd (omega (arith, some))
+in_first (n ∷ bytes) h = ap (λ (m : ℕ). m ∷ bytes) (sym h.1)
 
 size_at : (k : Key) (rest : List ℕ) → IsKey k → u16_at (listed k ++ rest) 0 ≡ length (bytes_of k)
 size_at k rest h = stands_number 2 0 (length (bytes_of k)) _ (listed k ++ rest) (append_assoc (u16 (length (bytes_of k))) _ rest) (omega (arith, h.most))
@@ -38,20 +44,20 @@ room_at k rest =
     let b = length-append (bytes_of k) (replicate ((6 - (length (bytes_of k) % 4)) % 4) 0) in
     omega (arith, a, b)
 
-spelled_first : (k : Key) (rest : List ℕ) → IsKey k → first_key (listed k ++ rest) ≡ Some k
+spelled_first : (k : Key) (rest : List ℕ) → IsFirstKey k → first_key (listed k ++ rest) ≡ Some k
 spelled_first k rest h =
     let bytes : List ℕ = listed k ++ rest in
     let n : ℕ = length (bytes_of k) in
-    let size = size_at k rest h in
+    let size = size_at k rest h.0 in
     let fits : (nat_le 1 (u16_at bytes 0) && nat_le (u16_at bytes 0) 16 && nat_le (2 + u16_at bytes 0) (length bytes)) ≡ true =
     ap (λ (n : ℕ). nat_le 1 n && nat_le n 16 && nat_le (2 + n) (length bytes)) size
-    ∙ rw (le-leb 1 n h.some, le-leb n 16 h.most, le-leb (2 + n) (length bytes) (room_at k rest)) refl in
+    ∙ rw (le-leb 1 n h.0.some, le-leb n 16 h.0.most, le-leb (2 + n) (length bytes) (room_at k rest)) refl in
     ap (λ b. if b then Some (1 ∷ take (u16_at bytes 0) (drop 2 bytes)) else None) fits ∙ ap (λ (n : ℕ). Some (1 ∷ take n (drop 2 bytes))) size
     ∙ ap (λ (xs : List ℕ). Some (1 ∷ xs)) (bytes_at k rest) ∙ ap (λ (x : Key). Some x) (in_first k h)
 
 -- ---- all keys
 
-pub keys_in-listed : (ks : List Key) → AllByRecursion IsKey ks → keys_in (length ks) (flat_map listed ks) ≡ ks
+pub keys_in-listed : (ks : List Key) → AllByRecursion IsFirstKey ks → keys_in (length ks) (flat_map listed ks) ≡ ks
 keys_in-listed [] h = refl
 keys_in-listed (k ∷ ks) h =
     ap (λ o. and_then o (λ key. keys_in (length ks) (drop (length (listed key)) (listed k ++ flat_map listed ks)))) (spelled_first k (flat_map listed ks) h.0)
@@ -59,7 +65,7 @@ keys_in-listed (k ∷ ks) h =
     ∙ ap (λ (xs : List Key). k ∷ xs) (keys_in-listed ks h.1)
 
 -- the data of a List give its keys
-pub keys_of-list_bytes : (ks : List Key) → AllByRecursion IsKey ks → length ks ≤ MOST_KEYS → keys_of (list_bytes ks) ≡ ks
+pub keys_of-list_bytes : (ks : List Key) → AllByRecursion IsFirstKey ks → length ks ≤ MOST_KEYS → keys_of (list_bytes ks) ≡ ks
 keys_of-list_bytes ks h few =
     let count : u32_at (list_bytes ks) 0 ≡ length ks = stands_number 4 0 (length ks) (flat_map listed ks) (list_bytes ks) refl (omega (arith, few)) in
     let all : min (u32_at (list_bytes ks) 0) MOST_KEYS ≡ length ks = omega (arith, count, few) in
@@ -73,10 +79,10 @@ listed_least k h =
     let b = length-replicate {A = ℕ} ((6 - (length (bytes_of k) % 4)) % 4) 0 in
     (omega (arith, a, b, h.some), omega (arith, a, b, h.most))
 
-pub fitting_all : (room : ℕ) (ks : List Key) → AllByRecursion IsKey ks → AllByRecursion IsKey (fitting room ks)
-fitting_all room [] h = tt
-fitting_all room (k ∷ ks) h = elim (nat_le (length (listed k)) room) as (λ b. AllByRecursion IsKey (if b then k ∷ fitting (room - length (listed k)) ks else [])) [
-  | true ↦ (h.0, fitting_all (room - length (listed k)) ks h.1)
+pub fitting_all : (P : Key → Type 0) (room : ℕ) (ks : List Key) → AllByRecursion P ks → AllByRecursion P (fitting room ks)
+fitting_all P room [] h = tt
+fitting_all P room (k ∷ ks) h = elim (nat_le (length (listed k)) room) as (λ b. AllByRecursion P (if b then k ∷ fitting (room - length (listed k)) ks else [])) [
+  | true ↦ (h.0, fitting_all P (room - length (listed k)) ks h.1)
   | false ↦ tt
 ]
 
@@ -93,11 +99,11 @@ fitting_few room (k ∷ ks) h = elim (nat_le (length (listed k)) room) as (λ b.
 
 -- ---- the keys of a map
 
-pub filter_all : (p : Key → Bool) (ks : List Key) → AllByRecursion IsKey ks → AllByRecursion IsKey (filter p ks)
-filter_all p [] h = tt
-filter_all p (k ∷ ks) h = elim (p k) as (λ b. AllByRecursion IsKey (if b then k ∷ filter p ks else filter p ks)) [
-  | true ↦ (h.0, filter_all p ks h.1)
-  | false ↦ filter_all p ks h.1
+pub filter_all : (P : Key → Type 0) (p : Key → Bool) (ks : List Key) → AllByRecursion P ks → AllByRecursion P (filter p ks)
+filter_all P p [] h = tt
+filter_all P p (k ∷ ks) h = elim (p k) as (λ b. AllByRecursion P (if b then k ∷ filter p ks else filter p ks)) [
+  | true ↦ (h.0, filter_all P p ks h.1)
+  | false ↦ filter_all P p ks h.1
 ]
 
 names_all : (es : List (Key × List ℕ)) → AllByRecursion (λ e. IsKey e.0 × AreBytes e.0) es → AllByRecursion IsKey (map (λ e. e.0) es)
@@ -107,9 +113,28 @@ names_all (e ∷ es) h = (h.0.0, names_all es h.1)
 pub are_keys : (shape : Shape) (m : Map) → IsMap shape m → AllByRecursion IsKey (keys m)
 are_keys shape m h = names_all (entries m) h.keys
 
+-- of a map of namespace 1 alone
+spaced_all : (es : List (Key × List ℕ)) → AllByRecursion (λ k. space_of k ≡ 1) (map (λ e. e.0) (where_key key_cmp (λ k. space_of k == 1) es))
+spaced_all [] = tt
+spaced_all (e ∷ es) =
+    elim (space_of e.0 == 1) as (λ b. (space_of e.0 == 1) ≡ b
+    → AllByRecursion (λ k. space_of k ≡ 1) (map (λ e. e.0) (cond b (e ∷ where_key key_cmp (λ k. space_of k == 1) es) (where_key key_cmp (λ k. space_of k == 1) es)))) [
+      | true ↦ λ is. (eqb-true (space_of e.0) 1 is, spaced_all es)
+      | false ↦ λ other. spaced_all es
+    ] refl
+
+both_all : (ks : List Key) → AllByRecursion IsKey ks → AllByRecursion (λ k. space_of k ≡ 1) ks → AllByRecursion IsFirstKey ks
+both_all [] h g = tt
+both_all (k ∷ ks) h g = ((h.0, g.0), both_all ks h.1 g.1)
+
+pub are_first_keys : (shape : Shape) (m : Map) → IsMap shape m → in_space 1 m ≡ m → AllByRecursion IsFirstKey (keys m)
+are_first_keys shape m h alone = both_all (keys m) (are_keys shape m h)
+    (subst (λ (es : List (Key × List ℕ)). AllByRecursion (λ k. space_of k ≡ 1) (map (λ e. e.0) es)) (sym (entries_in 1 m) ∙ ap entries alone) (spaced_all (entries m)))
+
 -- the data of one List, read back
-pub read_back : (shape : Shape) (m : Map) (from : Key) → IsMap shape m → keys_of (list_bytes (fitting list_room (keys_from from m))) ≡ fitting list_room (keys_from from m)
-read_back shape m from h =
-    let all : AllByRecursion IsKey (keys_from from m) = filter_all (λ k. not (is_lt (key_cmp k from))) (keys m) (are_keys shape m h) in
+pub read_back : (shape : Shape) (m : Map) (from : Key) → IsMap shape m → in_space 1 m ≡ m → keys_of (list_bytes (fitting list_room (keys_from from m))) ≡ fitting list_room (keys_from from m)
+read_back shape m from h alone =
+    let all : AllByRecursion IsKey (keys_from from m) = filter_all IsKey (λ k. not (is_lt (key_cmp k from))) (keys m) (are_keys shape m h) in
+    let first : AllByRecursion IsFirstKey (keys_from from m) = filter_all IsFirstKey (λ k. not (is_lt (key_cmp k from))) (keys m) (are_first_keys shape m h alone) in
     let few = fitting_few list_room (keys_from from m) all in
-    keys_of-list_bytes (fitting list_room (keys_from from m)) (fitting_all list_room (keys_from from m) all) (omega (arith, few))
+    keys_of-list_bytes (fitting list_room (keys_from from m)) (fitting_all IsFirstKey list_room (keys_from from m) first) (omega (arith, few))

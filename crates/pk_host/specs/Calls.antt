@@ -1,6 +1,6 @@
 -- The calls of a host: the one command of each, and what it makes of the reply.
-use Rattle.std.specs.Prelude.{ℕ, List, [], length}
-use Rattle.pk_base.specs.Key.{Key, bytes_of}
+use Rattle.std.specs.Prelude.{◌≡◌, ℕ, List, [], length}
+use Rattle.pk_base.specs.Key.{Key, bytes_of, space_of}
 use Rattle.pk_base.specs.Fields.{padded}
 use Rattle.pk_base.specs.declared.sizes.TheConstants.{KEY_BYTES}
 use Rattle.pk_nvme.specs.declared.opcode.TheConstants.{STORE, RETRIEVE, DELETE, EXIST, REPORT}
@@ -11,6 +11,10 @@ use Rattle.pk_host.specs.declared.types.StoreRule.{StoreRule}
 use Rattle.pk_host.specs.declared.types.StoreRule.TheVariants.{Any, IfExists, IfAbsent}
 
 -- ---- the commands
+
+-- a key of the namespace in which commands are passed
+abbrev pub IsOwnKey : Key → Type 0
+IsOwnKey key = space_of key ≡ NAMESPACE
 
 -- a command in the drive's namespace for these bytes of a key, with the CID 0
 abbrev pub of_bytes : ℕ → List ℕ → ℕ → ℕ → List ℕ → Command

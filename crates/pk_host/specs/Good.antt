@@ -1,12 +1,14 @@
 -- What commands are passed, and which maps they keep.
-use Rattle.std.specs.Prelude.{◌≡◌, ◌≤◌, length}
+use Rattle.std.specs.Prelude.{◌≡◌, ◌≤◌, ℕ, length}
 use Rattle.pk_base.specs.Fields.{AreBytes}
 use Rattle.pk_base.specs.Key.{bytes_of}
 use Rattle.pk_base.specs.Shape.{Shape, limit}
 use Rattle.pk_base.specs.Map.{Map, IsMap, live}
 use Rattle.pk_base.specs.declared.sizes.TheConstants.{KEY_BYTES}
 use Rattle.pk_nvme.specs.Command.{Command, IsWhole, key}
+use Rattle.pk_nvme.specs.declared.limits.TheConstants.{NAMESPACE}
 use Rattle.pk_model.specs.Machine.{Machine}
+use Rattle.pk_model.specs.Spaces.{in_space}
 
 -- a machine of this shape with this map
 abbrev pub holding : Shape → Map → Machine
@@ -19,7 +21,12 @@ pub record IsHanded (c : Command) : Type 0 where
   pub value_bytes : AreBytes c.value
   pub whole : IsWhole c
 
--- the map is one of the machine's shape, within its limit of live pages
-pub record IsGood (m : Machine) : Type 0 where
-  pub sized : IsMap m.shape m.map
-  pub few : live m.shape m.map ≤ limit m.shape
+-- a map of this shape, of the namespace in which commands are passed alone, within this limit of live pages
+pub record IsGoodMap (shape : Shape) (most : ℕ) (m : Map) : Type 0 where
+  pub sized : IsMap shape m
+  pub alone : in_space NAMESPACE m ≡ m
+  pub few : live shape m ≤ most
+
+-- a machine with one, within the limit of its shape
+abbrev pub IsGood : Machine → Type 0
+IsGood m = IsGoodMap m.shape (limit m.shape) m.map

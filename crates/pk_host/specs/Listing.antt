@@ -12,6 +12,7 @@ use Rattle.pk_nvme.specs.Reply.{Reply}
 use Rattle.pk_nvme.specs.declared.limits.TheConstants.{NAMESPACE, COUNT_BYTES, MOST_LIST_BYTES}
 use Rattle.pk_nvme.specs.declared.status.TheConstants.{SUCCESSFUL_COMPLETION}
 use Rattle.pk_host.specs.declared.sizes.TheConstants.{MOST_KEYS}
+use Rattle.pk_host.specs.Calls.{IsOwnKey}
 use Rattle.pk_host.specs.declared.types.HostError.{HostError}
 use Rattle.pk_host.specs.declared.types.HostError.TheVariants.{Refused}
 use Rattle.pk_host.specs.Port.{PortState}
@@ -42,9 +43,9 @@ keys_of bytes = keys_in (min (u32_at bytes 0) MOST_KEYS) (drop COUNT_BYTES bytes
 
 -- ---- pages of keys
 
--- a key, or none
+-- a key of the namespace in which commands are passed, or none
 abbrev pub IsStart : Key → Type 0
-IsStart from = (from ≡ []) ⊎ IsKey from
+IsStart from = (from ≡ []) ⊎ (IsKey from × IsOwnKey from)
 
 abbrev pub above : Key → List Key → List Key
 above from ks = filter (λ k. is_lt (key_cmp from k)) ks

@@ -1,11 +1,11 @@
 //! The host: a buffer for keys, and the typed calls of one command each.
-ghost use Rattle.std.specs.Prelude.{◌≡◌, ◌≤◌, ◌<◌, ◌^◌, [], ◌∷◌, length, OnOk, OnErr, IfOk};
+ghost use Rattle.std.specs.Prelude.{◌≡◌, ◌≤◌, ◌<◌, ◌^◌, [], ◌∷◌, length, OnOk, OnErr, IfOk, IfSome};
 ghost use Rattle.std.specs.FinMap as map;
 ghost use Rattle.std.specs.List.{AllByRecursion};
 ghost use Rattle.std.specs.Option.{option_copied};
 ghost use Rattle.pk_base.specs.Key.{IsBelow, bytes_of};
 ghost use Rattle.pk_nvme.specs.Command.{key_or_none};
-ghost use Rattle.pk_host.specs.Calls.{store_of, retrieve_of, delete_of, exist_of};
+ghost use Rattle.pk_host.specs.Calls.{IsOwnKey, store_of, retrieve_of, delete_of, exist_of};
 ghost use Rattle.pk_host.specs.Outcomes.{Gives, stored, retrieved, existed, list_of, Leaves, Deletes, Fetches, Tests};
 ghost use Rattle.pk_host.specs.Listing.{IsStart, Pages, Follows, TellsKeys, listed_by};
 
@@ -63,6 +63,7 @@ fn existed_by(status: u8) -> Result<bool, HostError>
 
 /// The bytes of a key; none if there is no key.
 pub(crate) fn start_bytes(from: Option<&Key>) -> &[u8]
+    requires own { IfSome (option_copied from) IsOwnKey }
     ensures bytes { result.now ≡ bytes_of (key_or_none (option_copied from.entry)) }
     ensures short { length result.now ≤ KEY_BYTES }
     ensures key { IsStart (key_or_none (option_copied from.entry)) }
@@ -82,7 +83,7 @@ impl Host {
         })
     }
 
-    /// Stores a value under a key, by a rule. `Refused` with what the drive answers, `Port` if the
+    /// Stores a value under a key of the namespace in which commands are passed, by a rule. `Refused` with what the drive answers, `Port` if the
     /// port failed.
     pub fn store<P: Port>(
         &mut self,
@@ -91,7 +92,8 @@ impl Host {
         value: &[u8],
         rule: StoreRule,
     ) -> Result<(), HostError>
-        requires { length value.now < 2 ^ 32 }
+        requires own { IsOwnKey key.now }
+        requires size { length value.now < 2 ^ 32 }
         ensures gives { Gives (P.state port.old) (P.state port.new)
             (store_of key.now value.now rule) stored result }
         ensures stores { OnOk result (Leaves (P.state port.old) (P.state port.new)
@@ -120,7 +122,8 @@ impl Host {
         key: &Key,
         into: &mut [u8],
     ) -> Result<Option<u32>, HostError>
-        requires { length into.old < 2 ^ 32 }
+        requires own { IsOwnKey key.now }
+        requires size { length into.old < 2 ^ 32 }
         ensures gives { Gives (P.state port.old) (P.state port.new)
             (retrieve_of key.now (length into.old)) retrieved result }
         ensures fetches { IfOk result (λ len. Fetches (P.state port.old) key.now len into.new) }
@@ -144,6 +147,7 @@ impl Host {
 
     /// Deletes a key; false if it is missing. `Refused` if a read failed, `Port` if the port did.
     pub fn delete<P: Port>(&mut self, port: &mut P, key: &Key) -> Result<bool, HostError>
+        requires own { IsOwnKey key.now }
         ensures gives { Gives (P.state port.old) (P.state port.new) (delete_of key.now)
             existed result }
         ensures tests { IfOk result (λ there. Tests (P.state port.old) key.now there) }
@@ -164,6 +168,7 @@ impl Host {
 
     /// Whether a key exists. `Refused` if a read failed, `Port` if the port did.
     pub fn exist<P: Port>(&mut self, port: &mut P, key: &Key) -> Result<bool, HostError>
+        requires own { IsOwnKey key.now }
         ensures gives { Gives (P.state port.old) (P.state port.new) (exist_of key.now)
             existed result }
         ensures tests { IfOk result (λ there. Tests (P.state port.old) key.now there) }
@@ -188,6 +193,8 @@ impl Host {
         from: Option<&Key>,
         page: &mut KeyPage,
     ) -> Result<bool, HostError>
+        requires own { IfSome (option_copied from) IsOwnKey }
+
         // The page of keys, and what it says of the drive's.
         ensures gives { Gives (P.state port.old) (P.state port.new)
             (list_of (key_or_none (option_copied from.entry))) (listed_by page.new) result }

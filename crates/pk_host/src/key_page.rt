@@ -1,13 +1,14 @@
 //! A page of keys, with room for as many as one List can give.
 ghost use Rattle.std.specs.Prelude.{◌≡◌, ◌≤◌, ◌<◌, ◌++◌, [], ◌∷◌, length, slice_index_or, IfOk};
 ghost use Rattle.pk_host.specs.declared.sizes.TheConstants.{MOST_KEYS};
+ghost use Rattle.pk_host.specs.Calls.{IsOwnKey};
 
 use crate::sizes::MOST_KEYS;
 use pk_base::Key;
 use std::alloc::{AllocError, Global};
 use std::marker::Model;
 
-/// Keys in order. Contracts see them as a list.
+/// Keys of the namespace in which commands are passed, in order. Contracts see them as a list.
 #[derive(Drop)]
 pub struct KeyPage {
     keys: Vec<Key>,
@@ -15,6 +16,8 @@ pub struct KeyPage {
 
 impl Model for KeyPage {
     ghost use Rattle.std.specs.Prelude.{◌≤◌, List, length, vec_capacity};
+    ghost use Rattle.std.specs.List.{AllByRecursion};
+    ghost use Rattle.pk_host.specs.Calls.{IsOwnKey};
     ghost use Rattle.pk_base.specs.Key.{Key};
     ghost use Rattle.pk_host.specs.declared.sizes.TheConstants.{MOST_KEYS};
 
@@ -23,7 +26,7 @@ impl Model for KeyPage {
     ghost view = { λ p. p.keys.items };
 
     ghost invariant = { λ p. (length p.keys.items ≤ MOST_KEYS)
-        × (MOST_KEYS ≤ vec_capacity p.keys) };
+        × (MOST_KEYS ≤ vec_capacity p.keys) × AllByRecursion IsOwnKey p.keys.items };
 }
 
 impl KeyPage {
@@ -48,7 +51,8 @@ impl KeyPage {
     /// The key at this place, counted from 0.
     pub fn at(&self, i: u32) -> &Key
         requires { i < length self.now }
-        ensures { result.now ≡ slice_index_or self.now i [] }
+        ensures value { result.now ≡ slice_index_or self.now i [] }
+        ensures own { IsOwnKey result.now }
     {
         &self.keys[i as usize]
     }
@@ -62,7 +66,8 @@ impl KeyPage {
 
     /// One more key, for which there is room.
     pub(crate) fn push(&mut self, key: Key)
-        requires { length self.old < MOST_KEYS }
+        requires own { IsOwnKey key }
+        requires room { length self.old < MOST_KEYS }
         ensures { self.new ≡ self.old ++ key ∷ [] }
     {
         self.keys.push_reserved(key);

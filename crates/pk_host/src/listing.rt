@@ -1,9 +1,10 @@
 //! The keys that the data of a List spell.
-ghost use Rattle.std.specs.Prelude.{◌≡◌, ◌≤◌, ◌+◌, ◌++◌, [], ◌∷◌, drop, length, min};
+ghost use Rattle.std.specs.Prelude.{◌≡◌, ◌≤◌, ◌+◌, ◌++◌, [], ◌∷◌, drop, length, min, IfSome};
 ghost use Rattle.std.specs.Option.{option_copied};
 ghost use Rattle.std.specs.Ordering.{is_lt};
 ghost use Rattle.pk_base.specs.Key.{key_cmp};
 ghost use Rattle.pk_nvme.specs.Command.{key_or_none};
+ghost use Rattle.pk_host.specs.Calls.{IsOwnKey};
 ghost use Rattle.pk_host.specs.Listing.{first_key, keys_of, above};
 
 use crate::key_page::KeyPage;
@@ -14,7 +15,8 @@ use pk_nvme::limits::{COUNT_BYTES, NAMESPACE};
 
 /// The key that is spelled at the head of these bytes.
 fn head_key(bytes: &[u8]) -> Option<Key>
-    ensures { result ≡ first_key bytes.now }
+    ensures value { result ≡ first_key bytes.now }
+    ensures own { IfSome result IsOwnKey }
 {
     if bytes.len() < 2 {
         return None;
@@ -28,7 +30,8 @@ fn head_key(bytes: &[u8]) -> Option<Key>
 
 /// The key that is spelled at this place.
 fn key_at(bytes: &[u8], at: usize) -> Option<Key>
-    ensures { result ≡ first_key (drop at bytes.now) }
+    ensures value { result ≡ first_key (drop at bytes.now) }
+    ensures own { IfSome result IsOwnKey }
 {
     if bytes.len() < at {
         return None;
@@ -50,7 +53,8 @@ fn is_above(key: &Key, from: Option<&Key>) -> bool
 
 /// One more key, unless it is not above the one that the page begins after.
 fn offer(page: &mut KeyPage, from: Option<&Key>, key: Key)
-    requires { length page.old + 1 ≤ MOST_KEYS }
+    requires own { IsOwnKey key }
+    requires room { length page.old + 1 ≤ MOST_KEYS }
     ensures keys { page.new
         ≡ page.old ++ above (key_or_none (option_copied from.entry)) (key ∷ []) }
     ensures most { length page.new ≤ length page.old + 1 }

@@ -1,10 +1,11 @@
 //! Pages of keys, and all keys.
-ghost use Rattle.std.specs.Prelude.{◌≡◌, [], ◌∷◌, ◌++◌, true, OnOk, OnErr, IfOk, IfErr};
+ghost use Rattle.std.specs.Prelude.{◌≡◌, [], ◌∷◌, ◌++◌, true, OnOk, OnErr, IfOk, IfErr, IfSome};
 ghost use Rattle.std.specs.List.{AllByRecursion};
 ghost use Rattle.std.specs.Option.{option_copied};
 ghost use Rattle.pk_base.specs.Key.{IsBelow};
 ghost use Rattle.pk_nvme.specs.Command.{key_or_none};
 ghost use Rattle.pk_host.specs.Outcomes.{IsCause, Gives, list_of, Leaves, AreLists, TookSome};
+ghost use Rattle.pk_host.specs.Calls.{IsOwnKey};
 ghost use Rattle.pk_host.specs.Listing.{Pages, Follows, TellsKeys, ListsAll, listed_by};
 
 use crate::host::{Host, start_bytes};
@@ -38,6 +39,8 @@ impl Host {
         from: Option<&Key>,
         page: &mut KeyPage,
     ) -> Result<bool, HostError>
+        requires own { IfSome (option_copied from) IsOwnKey }
+
         // What is answered, and why nothing is.
         ensures gives { Gives (P.state port.old) (P.state port.new)
             (list_of (key_or_none (option_copied from.entry))) (listed_by page.new) result }

@@ -1,7 +1,7 @@
 //! Values that are fetched whole.
 ghost use Rattle.std.specs.Prelude.{[], ◌∷◌, OnOk, IfOk, IfErr};
 ghost use Rattle.std.specs.Option.{option_map};
-ghost use Rattle.pk_host.specs.Calls.{retrieve_of};
+ghost use Rattle.pk_host.specs.Calls.{IsOwnKey, retrieve_of};
 ghost use Rattle.pk_host.specs.Outcomes.{IsCause, retrieved, AtMostOne, AreRetrieves, TookSome, Leaves, Gets, Cuts, KeyHas};
 
 use crate::host::Host;
@@ -27,6 +27,7 @@ impl Host {
         port: &mut P,
         key: &Key,
     ) -> Result<Option<Vec<u8>>, HostError>
+        requires own { IsOwnKey key.now }
         ensures gets { IfOk result (λ value.
             Gets (P.state port.old) key.now (option_map (λ v. v.items) value)) }
         ensures causes { IfErr result (λ e. IsCause (P.state port.old) (P.state port.new)
@@ -54,6 +55,7 @@ impl Host {
         key: &Key,
         most: u32,
     ) -> Result<Option<Vec<u8>>, HostError>
+        requires own { IsOwnKey key.now }
         ensures gets { IfOk result (λ value.
             KeyHas (P.state port.old) key.now most (option_map (λ v. v.items) value)) }
         ensures causes { IfErr result (λ e. IsCause (P.state port.old) (P.state port.new)
@@ -76,6 +78,7 @@ impl Host {
         key: &Key,
         most: u32,
     ) -> Result<Option<Front>, HostError>
+        requires own { IsOwnKey key.now }
         ensures cuts { IfOk result (λ front. Cuts (P.state port.old) key.now most
             (option_map (λ f. f.bytes.items) front) (option_map (λ f. f.whole) front)) }
         ensures causes { IfErr result (λ e. IsCause (P.state port.old) (P.state port.new)

@@ -5,7 +5,7 @@ use Rattle.std.proofs.lemmas.Bool.{le-leb}
 use Rattle.std.proofs.lemmas.List.{take_all}
 use Rattle.std.specs.FinMap.{get, contains_key, insert, remove}
 use Rattle.pk_base.specs.Choices.{or_else}
-use Rattle.pk_base.specs.Key.{Key, IsKey, bytes_of}
+use Rattle.pk_base.specs.Key.{Key, IsKey, bytes_of, space_of}
 use Rattle.pk_base.specs.Shape.{Shape, greatest, charge}
 use Rattle.pk_base.specs.Map.{Map, live, pages_if_some}
 use Rattle.pk_nvme.specs.Command.{Command, key}
@@ -192,11 +192,11 @@ exist_unread k is old new a e r err m told =
 key_length : (k : Key) → IsKey k → (nat_le 1 (length (bytes_of k)) && nat_le (length (bytes_of k)) 16) ≡ true
 key_length k h = rw (le-leb 1 (length (bytes_of k)) h.some, le-leb (length (bytes_of k)) 16 h.most) refl
 
-store_fits : (shape : Shape) (most : ℕ) (m : Map) (k : Key) (v : List ℕ) → in_space 1 m ≡ m → IsKey k
+store_fits : (shape : Shape) (most : ℕ) (m : Map) (k : Key) (v : List ℕ) → in_space 1 m ≡ m → IsKey k → space_of k ≡ 1
     → length v ≤ greatest shape → live shape (insert m k v) ≤ most → refused shape (most ∷ []) m (store_of k v Any) ≡ None
-store_fits shape most m k v alone is small fits =
+store_fits shape most m k v alone is first_space small fits =
     let c : Command = store_of k v Any in
-    let named : key c ≡ k = key-of_key STORE k (length v) 0 v is in
+    let named : key c ≡ k = key-of_key STORE k (length v) 0 v (is, first_space) in
     let pages : live_after shape m c ≡ live shape (insert m k v) =
     live_stored shape m k v (live shape m) (pages_if_some shape (get m (key c))) (charge shape (length v)) refl (ap (λ (q : Key). pages_if_some shape (get m q)) named) refl in
     let first : refused shape (most ∷ []) m c ≡ or_else (check (nat_le (length v) (greatest shape)) INVALID_VALUE_SIZE) (late_of shape most m c (Some Store)) =
@@ -208,9 +208,9 @@ store_fits shape most m k v alone is small fits =
 
 -- a value of the first that the second lacks is not refused, but for a failed read
 pub store_unread : (p p1 q q' : PortState) (k : Key) (into value : List ℕ) (len size : ℕ) (x : Option ℕ) (error : HostError) (e : MirrorError)
-    → IsKey k → Alike p q → Gives p p1 (retrieve_of k size) retrieved (Ok x)
+    → IsKey k → space_of k ≡ 1 → Alike p q → Gives p p1 (retrieve_of k size) retrieved (Ok x)
     → greatest p.shape ≤ length into → Fetches p k (Some len) into → value ≡ take len into → Gives q q' (store_of k value Any) stored (Err error) → IsOn Second error e → OnlyReadsFail IsPart p q e
-store_unread p p1 q q' k into value len size x error e is alike found wide f front g on a b ea eb part =
+store_unread p p1 q q' k into value len size x error e is first_space alike found wide f front g on a b ea eb part =
     refused_or_port stored stored_tells q q' (store_of k value Any) error (IsReadError e) g
     (λ r replies err same fails.
     let s = replies.answers b eb in
@@ -237,7 +237,7 @@ store_unread p p1 q q' k into value len size x error e is alike found wide f fro
         subst (λ (z : Shape). live z (insert b k value) ≤ q.limit) (sym alike.shape) here
 
     fits : in_space 1 b ≡ b → refused q.shape (q.limit ∷ []) b (store_of k value Any) ≡ None
-    fits alone = store_fits q.shape q.limit b k value alone is small few
+    fits alone = store_fits q.shape q.limit b k value alone is first_space small few
 
 -- ---- the same from states that have the same map
 

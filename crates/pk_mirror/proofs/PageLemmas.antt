@@ -1,6 +1,6 @@
 -- Pages of keys that are visited, one after another.
 use Rattle.std.proofs.Common.{◌≡◌, inl, inr, ◌==◌, ℕ, ◌-◌, ◌<◌, ◌≤◌, if◌then◌else◌, nat_lt, List, [], ◌∷◌, ◌++◌, length, filter, slice_index_or, Bool, true, false, Option, Some, None, is_some, Result}
-use Rattle.std.proofs.Common.{Ok, Err, IfErr, refl, sym, ap, subst, ◌∙◌, arith, length-append}
+use Rattle.std.proofs.Common.{Ok, Err, IfErr, IfSome, refl, sym, ap, subst, ◌∙◌, arith, length-append}
 use Rattle.std.proofs.lemmas.Bool.{ltb-true}
 use Rattle.std.specs.List.{AllByRecursion}
 use Rattle.std.specs.Ordering.{is_lt}
@@ -15,6 +15,7 @@ use Rattle.pk_host.specs.Outcomes.{Gives, TookSome}
 use Rattle.pk_host.specs.Listing.{above, page_after, Pages, Follows, TellsKeys, listed_by}
 use Rattle.pk_host.proofs.PageLemmas.{next_page, nothing_above}
 use Rattle.pk_host.proofs.RisingLemmas.{are_above, all_middle, snoc_of}
+use Rattle.pk_host.specs.Calls.{IsOwnKey}
 use Rattle.pk_mirror.specs.Ranks.{IsText, keys_left}
 use Rattle.pk_mirror.specs.declared.error.MirrorError.{MirrorError}
 use Rattle.pk_mirror.specs.Pair.{Mirrored, IsPair}
@@ -203,6 +204,10 @@ module _ (Keeps : Map → Map → Type 0) (Done : Map → Map → Key → Type 0
 pub short_from : (o : Option Key) → ((k : Key) → o ≡ Some k → IsText k) → length (bytes_of (key_or_none o)) ≤ 16
 short_from None text = omega arith
 short_from (Some k) text = (text k refl).is_key.most
+
+pub own_from : (o : Option Key) → ((k : Key) → o ≡ Some k → IsText k) → IfSome o IsOwnKey
+own_from None text = tt
+own_from (Some k) text = (text k refl).own
 
 pub falls_next : (last : Option Key) (next : Key) → IsText next → keys_left (Some next) < keys_left last
     → (key : Key) → ◌≡◌ {A = Option Key} (Some next) (Some key) → IsText key × (keys_left (Some next) < keys_left last)

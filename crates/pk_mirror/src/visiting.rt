@@ -4,6 +4,7 @@ ghost use Rattle.std.specs.Prelude.{◌≡◌, ◌<◌, ◌≤◌, ◌^◌, [], 
 ghost use Rattle.std.specs.FinMap as map;
 ghost use Rattle.pk_base.specs.Map.{Map};
 ghost use Rattle.pk_base.specs.Shape.{greatest};
+ghost use Rattle.pk_host.specs.Calls.{IsOwnKey};
 ghost use Rattle.pk_host.specs.Outcomes.{TookSome};
 ghost use Rattle.pk_host.specs.Port.{PortState};
 ghost use Rattle.pk_mirror.specs.Pair.{Alike};
@@ -29,6 +30,7 @@ fn has_other<P: Port, Q: Port>(
     one: &mut [u8],
     two: &mut [u8],
 ) -> Result<bool, MirrorError>
+    requires own { IsOwnKey key.now }
     requires one { length one.old < 2 ^ 32 }
     requires two { length two.old < 2 ^ 32 }
     requires alike { Alike (P.state first.old) (Q.state second.old) }
@@ -69,6 +71,7 @@ fn drop_other<P: Port, Q: Port>(
     one: &mut [u8],
     two: &mut [u8],
 ) -> Result<(), MirrorError>
+    requires own { IsOwnKey key.now }
     requires one { length one.old < 2 ^ 32 }
     requires two { length two.old < 2 ^ 32 }
     requires alike { Alike (P.state first.old) (Q.state second.old) }
@@ -145,6 +148,7 @@ fn copy<P: Port, Q: Port>(
     key: &Key,
     one: &mut [u8],
 ) -> Result<(), MirrorError>
+    requires own { IsOwnKey key.now }
     requires one { length one.old < 2 ^ 32 }
     requires alike { Alike (P.state first.old) (Q.state second.old) }
     requires room { greatest (P.state first.old).shape ≤ length one.old }
@@ -183,6 +187,7 @@ fn copy_missing<P: Port, Q: Port>(
     key: &Key,
     one: &mut [u8],
 ) -> Result<(), MirrorError>
+    requires own { IsOwnKey key.now }
     requires one { length one.old < 2 ^ 32 }
     requires alike { Alike (P.state first.old) (Q.state second.old) }
     requires room { greatest (P.state first.old).shape ≤ length one.old }

@@ -5,8 +5,8 @@ ghost use Rattle.pk_nand.specs.Calls.{IsReady};
 ghost use Rattle.pk_call.specs.Drive.{HoldsMap};
 ghost use Rattle.pk_model.specs.Reading.{Holds};
 ghost use Rattle.pk_port.specs.Steps.{mount};
-ghost use Rattle.pk_mirrorwords.specs.PairTasks.{seen, IsShort};
-ghost use Rattle.pk_mirrorrun.specs.PairTold.{PairTold};
+ghost use Rattle.pk_mirrorwords.specs.PairTasks.{seen, IsAllowed};
+ghost use Rattle.pk_mirrorrun.specs.PairTold.{first_limit, PairTold};
 
 use crate::telling::tell;
 use pk_base::Shape;
@@ -104,8 +104,10 @@ impl PairSpeaker {
             (mount (C.state second.old) (E.sight second_drive.old)).terms (C.state second.old)
             (E.sight second_drive.old) m }
 
-        // The word.
-        requires short { IsShort (seen task) }
+        // The limit that both have, and the word.
+        requires one_limit { first_limit self (C.state second.old).pages
+            ≡ first_limit self (B.state first.old).pages }
+        requires allowed { IsAllowed (seen task) }
 
         // What it did, from the maps that the flashes hold.
         ensures { (m other : Map) → Holds self (B.state first.old).pages m

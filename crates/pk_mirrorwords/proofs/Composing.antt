@@ -133,8 +133,8 @@ module _ (task : PairTask) (p p1 p' q q1 q' : PortState) (cs ds : List Command) 
   pub done_later : (text : List ℕ) → PairDone task p1 p' q' m text → PairDone task p p' q' m text
   done_later text h = record {
     spelled = h.spelled ∙ ap (λ (s : Shape). text_of s p1.limit task m) t.shape ∙ ap (λ (n : ℕ). text_of p.shape n task m) t.limit;
-    first_left = h.first_left ∙ ap (λ (s : Shape). Some (map_left s p1.limit task m)) t.shape ∙ ap (λ (n : ℕ). Some (map_left p.shape n task m)) t.limit;
-    second_left = h.second_left ∙ ap (λ (s : Shape). Some (map_left s p1.limit task m)) t.shape ∙ ap (λ (n : ℕ). Some (map_left p.shape n task m)) t.limit;
+    first_left = h.first_left ∙ ap (λ (s : Shape). Some (map_left s (p1.limit ∷ []) task m)) t.shape ∙ ap (λ (n : ℕ). Some (map_left p.shape (n ∷ []) task m)) t.limit;
+    second_left = h.second_left ∙ ap (λ (s : Shape). Some (map_left s (p1.limit ∷ []) task m)) t.shape ∙ ap (λ (n : ℕ). Some (map_left p.shape (n ∷ []) task m)) t.limit;
   }
 
   pub fails_later : (e : MirrorError) → PairFails task p1 p' q1 q' m e → PairFails task p p' q q' m e
@@ -176,7 +176,7 @@ pub in_step_after : (old new : Mirrored) (p p' q q' : PortState) (cs : List Comm
 in_step_after old new p p' q q' cs told t pair keeps off = record {
   pair = record {
     pair = pair;
-    limit_is = t.limit ∙ told.limit_is ∙ ap limit (sym t.shape);
+    limit_most = subst (λ (s : Shape). p'.limit ≤ limit s) (sym t.shape) (let most = told.limit_most in let same = t.limit in omega (arith, most, same));
     map = told.map;
     told = keeps ∙ told.told;
   };

@@ -107,14 +107,14 @@ module _ (p : PortState) (last : Option Key) (text : List ℕ) (listed : IsListe
         let (front, e) = parts page next some is in
         left_above p.shape last m (sized m told) ∙ next_page (key_or_none last) m front next (sym (pages m told) ∙ e) ∙ ap (λ (ks : List Key). ks ++ above next (keys m)) (sym (pages m told))
 
-    pub page_room : 0 < length page → (shape : Shape) → IsShape shape → p.shape ≡ shape → p.limit ≡ limit p.shape
+    pub page_room : 0 < length page → (shape : Shape) → IsShape shape → p.shape ≡ shape → p.limit ≤ limit p.shape
         → (room : ℕ) → 33 * limit shape ≤ room → (m : Map) → p.map ≡ Some m → live p.shape m ≤ p.limit
         → length text + 33 * length page ≤ room
-    page_room some shape is_shape same limit_is room wide m told within =
+    page_room some shape is_shape same limit_most room wide m told within =
         let next : Key = slice_index_or page (length page - 1) [] in
         let (front, split, lines, most) = listed.lines m told in
         let rest = rest_of next some refl m told in
-        let few : live shape m ≤ limit shape = subst (λ (s : Shape). live s m ≤ limit s) same (subst (λ (n : ℕ). live p.shape m ≤ n) limit_is within) in
+        let few : live shape m ≤ limit shape = subst (λ (s : Shape). live s m ≤ limit s) same (omega (arith, within, limit_most)) in
         let all = keys_few shape m is_shape in
         let one : length (keys m) ≡ length front + length (keys_after last m) = ap (λ (ks : List Key). length ks) split ∙ length-append front (keys_after last m) in
         let two : length (keys_after last m) ≡ length page + length (above next (keys m)) = ap (λ (ks : List Key). length ks) rest ∙ length-append page (above next (keys m)) in
@@ -262,7 +262,7 @@ module _ {P Q : Type 0} (stateP : P → PortState) (tookP : P → List Command �
 pub told_after : (old new : Mirrored) (p p' q q' : PortState) (cs : List Command) → IsToldPair old p q → Took p p' cs → IsPair new p' q' → p'.map ≡ p.map → IsToldPair new p' q'
 told_after old new p p' q q' cs told t pair keeps = record {
   pair = pair;
-  limit_is = t.limit ∙ told.limit_is ∙ ap limit (sym t.shape);
+  limit_most = subst (λ (s : Shape). p'.limit ≤ limit s) (sym t.shape) (let most = told.limit_most in let same = t.limit in omega (arith, most, same));
   map = told.map;
   told = keeps ∙ told.told;
 }

@@ -1,5 +1,5 @@
 -- What a word asks of two ports, and what it says of their maps.
-use Rattle.std.specs.Prelude.{◌≡◌, ◌⊎◌, ℕ, ◌+◌, ◌≤◌, List, [], ◌++◌, Option, Some, None, Result, Ok, Err, false}
+use Rattle.std.specs.Prelude.{◌≡◌, ◌⊎◌, ℕ, ◌+◌, ◌≤◌, List, [], ◌∷◌, ◌++◌, Option, Some, None, Result, Ok, Err, false}
 use Rattle.std.specs.List.{AllByRecursion}
 use Rattle.std.specs.FinMap.{len}
 use Rattle.pk_base.specs.Shape.{limit}
@@ -18,10 +18,10 @@ use Rattle.pk_mirror.specs.declared.error.MirrorError.{MirrorError}
 use Rattle.pk_mirror.specs.declared.error.MirrorError.TheVariants.{Refused, Port, Split}
 use Rattle.pk_mirrorwords.specs.PairTasks.{PairTask, change_of, map_left, text_of}
 
--- a pair of which the maps are known, within the limit of their shape
+-- a pair of which the maps are known, and whose limit is at most that of their shape
 pub record IsToldPair (mirror : Mirrored) (first second : PortState) : Type 0 where
   pub pair : IsPair mirror first second
-  pub limit_is : first.limit ≡ limit first.shape
+  pub limit_most : first.limit ≤ limit first.shape
   pub map : Map
   pub told : first.map ≡ Some map
 
@@ -41,8 +41,8 @@ PairFault first first' second second' = Rose first.port_faults first'.port_fault
 -- The word was done: the text is the definition's, and both drives hold the map that the word leaves.
 pub record PairDone (task : PairTask) (first first' second' : PortState) (m : Map) (text : List ℕ) : Type 0 where
   pub spelled : text ≡ text_of first.shape first.limit task m
-  pub first_left : first'.map ≡ Some (map_left first.shape first.limit task m)
-  pub second_left : second'.map ≡ Some (map_left first.shape first.limit task m)
+  pub first_left : first'.map ≡ Some (map_left first.shape (first.limit ∷ []) task m)
+  pub second_left : second'.map ≡ Some (map_left first.shape (first.limit ∷ []) task m)
 
 -- that, after commands of which this is said; or a read failed and the text says so
 abbrev pub PairSaid : Type 0 → PairTask → PortState → PortState → PortState → PortState → Map → List ℕ → Type 0

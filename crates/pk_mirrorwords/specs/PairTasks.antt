@@ -7,7 +7,7 @@ use Rattle.pk_base.specs.Map.{Map}
 use Rattle.pk_nvme.specs.Command.{Command}
 use Rattle.pk_nvme.specs.declared.status.TheConstants.{SUCCESSFUL_COMPLETION}
 use Rattle.pk_model.specs.Answer.{refused, map_after}
-use Rattle.pk_host.specs.Calls.{store_of, delete_of}
+use Rattle.pk_host.specs.Calls.{IsOwnKey, store_of, delete_of}
 use Rattle.pk_host.specs.declared.types.StoreRule.TheVariants.{Any}
 use Rattle.pk_words.specs.Lines.{status_line, value_line, key_lines}
 use Rattle.pk_mirrorwords.specs.declared.task.PairTask.{PairTask as Code}
@@ -27,13 +27,13 @@ seen (Delete key) = delete key
 seen Listed = list
 seen Resync = resync
 
--- a value whose length is a field of an entry
-abbrev pub IsShort : PairTask → Type 0
-IsShort (put key value) = length value < 2 ^ 32
-IsShort (get key) = Unit {0}
-IsShort (delete key) = Unit {0}
-IsShort list = Unit {0}
-IsShort resync = Unit {0}
+-- a key of the namespace in which commands are passed, and a value whose length is a field of an entry
+abbrev pub IsAllowed : PairTask → Type 0
+IsAllowed (put key value) = IsOwnKey key × (length value < 2 ^ 32)
+IsAllowed (get key) = IsOwnKey key
+IsAllowed (delete key) = IsOwnKey key
+IsAllowed list = Unit {0}
+IsAllowed resync = Unit {0}
 
 -- the command that changes the maps, if one does
 abbrev pub change_of : PairTask → Option Command
@@ -43,13 +43,13 @@ change_of (delete key) = Some (delete_of key)
 change_of list = None
 change_of resync = None
 
-abbrev pub after_change : Shape → ℕ → Map → Option Command → Map
-after_change shape most m None = m
-after_change shape most m (Some c) = map_after shape (most ∷ []) m c
+abbrev pub after_change : Shape → List ℕ → Map → Option Command → Map
+after_change shape limits m None = m
+after_change shape limits m (Some c) = map_after shape limits m c
 
--- the map that a word leaves, on drives with this limit of live pages
-abbrev pub map_left : Shape → ℕ → PairTask → Map → Map
-map_left shape most task m = after_change shape most m (change_of task)
+-- the map that a word leaves, on a drive with these limits
+abbrev pub map_left : Shape → List ℕ → PairTask → Map → Map
+map_left shape limits task m = after_change shape limits m (change_of task)
 
 -- the status of a command by the definition
 abbrev pub status_by : Option ℕ → ℕ

@@ -3,14 +3,14 @@ ghost use Rattle.std.specs.Prelude.{◌≡◌, ◌⊎◌, ◌+◌, ◌*◌, ◌<
 ghost use Rattle.pk_base.specs.Map.{Map};
 ghost use Rattle.pk_base.specs.Shape.{greatest};
 ghost use Rattle.pk_nvme.specs.Bytes.{RoomyList};
-ghost use Rattle.pk_host.specs.Calls.{store_of, delete_of, retrieve_of};
+ghost use Rattle.pk_host.specs.Calls.{IsOwnKey, store_of, delete_of, retrieve_of};
 ghost use Rattle.pk_host.specs.Outcomes.{AtMostOne, TookSome};
 ghost use Rattle.pk_host.specs.declared.types.StoreRule.TheVariants.{Any};
 ghost use Rattle.pk_words.specs.Lines.{key_lines};
 ghost use Rattle.pk_words.specs.declared.sizes.TheConstants.{LINE_BYTES};
 ghost use Rattle.pk_mirror.specs.Causes.{AreAsking, BothAsked};
 ghost use Rattle.pk_mirror.specs.Pair.{Mirrored};
-ghost use Rattle.pk_mirrorwords.specs.PairTasks.{seen, IsShort, put, get, delete, list};
+ghost use Rattle.pk_mirrorwords.specs.PairTasks.{seen, IsAllowed, put, get, delete, list};
 ghost use Rattle.pk_mirrorwords.specs.PairAnswers.{IsToldPair, IsInStep, PairDone, PairSaid, PairFails, PairFault, ResyncFails, AreOfFirst, AreOfSecond, HaveOneChange};
 
 use crate::pages::list;
@@ -35,6 +35,7 @@ fn put<P: Port, Q: Port>(
     text: &mut Bytes,
 ) -> Result<(), MirrorError>
     requires pair { IsInStep mirror.old (P.state first.old) (Q.state second.old) }
+    requires own { IsOwnKey key.now }
     requires short { length value.now < 2 ^ 32 }
     requires room { 11 ≤ text.old.room }
     ensures done { OnOk result ((m : Map) → (P.state first.old).map ≡ Some m
@@ -67,6 +68,7 @@ fn delete<P: Port, Q: Port>(
     text: &mut Bytes,
 ) -> Result<(), MirrorError>
     requires pair { IsInStep mirror.old (P.state first.old) (Q.state second.old) }
+    requires own { IsOwnKey key.now }
     requires room { 11 ≤ text.old.room }
     ensures done { OnOk result ((m : Map) → (P.state first.old).map ≡ Some m
         → PairDone (delete key.now) (P.state first.old) (P.state first.new) (Q.state second.new) m
@@ -101,6 +103,7 @@ fn get<P: Port, Q: Port>(
     text: &mut Bytes,
 ) -> Result<(), MirrorError>
     requires pair { IsInStep mirror.old (P.state first.old) (Q.state second.old) }
+    requires own { IsOwnKey key.now }
     requires value { length value.old ≡ greatest (P.state first.old).shape }
     requires short { length value.old < 2 ^ 32 }
     requires room { 2 * length value.old + 11 ≤ text.old.room }
@@ -140,7 +143,7 @@ fn ask_in_step<P: Port, Q: Port>(
     task: &PairTask,
 ) -> Result<(), MirrorError>
     requires pair { IsInStep mirror.old (P.state first.old) (Q.state second.old) }
-    requires short { IsShort (seen task.now) }
+    requires allowed { IsAllowed (seen task.now) }
     requires shape { (P.state first.old).shape ≡ room.old.shape }
     ensures done { OnOk result ((m : Map) → (P.state first.old).map ≡ Some m
         → PairDone (seen task.now) (P.state first.old) (P.state first.new) (Q.state second.new) m
@@ -186,7 +189,7 @@ fn ask_pair<P: Port, Q: Port>(
     task: &PairTask,
 ) -> Result<(), MirrorError>
     requires pair { IsToldPair mirror.old (P.state first.old) (Q.state second.old) }
-    requires short { IsShort (seen task.now) }
+    requires allowed { IsAllowed (seen task.now) }
     requires shape { (P.state first.old).shape ≡ room.old.shape }
     ensures done { OnOk result ((m : Map) → (P.state first.old).map ≡ Some m
         → PairDone (seen task.now) (P.state first.old) (P.state first.new) (Q.state second.new) m
@@ -218,7 +221,7 @@ pub fn answer_pair<P: Port, Q: Port>(
     task: &PairTask,
 ) -> Result<(), PortFault>
     requires pair { IsToldPair mirror.old (P.state first.old) (Q.state second.old) }
-    requires short { IsShort (seen task.now) }
+    requires allowed { IsAllowed (seen task.now) }
     requires shape { (P.state first.old).shape ≡ room.old.shape }
     ensures said { OnOk result ((m : Map) → (P.state first.old).map ≡ Some m
         → PairSaid (BothAsked P.took Q.took first.old first.new second.old second.new)

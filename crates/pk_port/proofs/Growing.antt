@@ -14,7 +14,7 @@ use Rattle.pk_model.specs.Growth.{Reaches, Goes}
 use Rattle.pk_model.specs.Kept.{AtMost, rise}
 use Rattle.pk_model.specs.Reading.{Holds}
 use Rattle.pk_model.specs.Run.{Exchange, commands, faults, records}
-use Rattle.pk_model.proofs.Growing.{weaken, weaken_went, at_end, Reaches-then, Goes-then, Goes-post_failed, GrowsAlong-post}
+use Rattle.pk_model.proofs.Growing.{weaken, weaken_went, at_end, Reaches-then, Goes-then, Goes-post_failed, GrowsAlong-post, Limited, Reaches-limited, Goes-limited, reached_limits}
 use Rattle.pk_call.specs.Meter.{Meter, meter, Metered}
 use Rattle.pk_serve.specs.Port.{StepCut}
 use Rattle.pk_serve.specs.Serving.{StepWithin}
@@ -25,7 +25,6 @@ use Rattle.pk_port.specs.Steps.{Mounted, Serves, Stops}
 use Rattle.pk_base.proofs.Logic.{ok_same}
 use Rattle.pk_nand.proofs.Effects.{only_then}
 use Rattle.pk_model.specs.Spaces.{Terms, limits_at}
-use Rattle.pk_serve.proofs.Limiting.{limits_same}
 
 -- more commands, and more faults
 pub silent-more : (shape : Shape) (terms : Terms) (start : Map) (cs more : List Command) (n later : Option ℕ) → ((k : ℕ) → AtMost n k → AtMost later k)
@@ -115,13 +114,13 @@ module _ (shape : Shape) (terms : Terms) (start : Map) (a b : BoardState) (cs : 
     few_now = at_most-more a.read_faults b.read_faults later (faults w.answered.all) up w.answered.few
 
     -- a cut of one more command
-    cut_more : (f : Flash) (q : List ℕ) → StepCut shape terms.limits w.left c f q → KeptSilently shape terms start (cs ++ c ∷ []) now f (all_posted w.reached.0 ++ q)
+    cut_more : (f : Flash) (q : List ℕ) → Limited shape b (StepCut shape terms.limits w.left c) f q → KeptSilently shape terms start (cs ++ c ∷ []) now f (all_posted w.reached.0 ++ q)
     cut_more f q cut =
         let quiet : all_posted w.reached.0 ≡ [] = (at_end w.reached.0 a b (KeptSilently shape terms start cs (rise a.read_faults b.read_faults)) w.reached.1).0 in
         let x : Exchange = record { command = c; reply = reply shape terms w.left (replicate 11 0) c; reads = 0 } in
         let other : faults (x ∷ []) ≡ 0 = elim (faults-one x) [ inl good ↦ good.1 | inr bad ↦ absurd (reply_other shape terms w.left (replicate 11 0) c bad.0) ] in (
-          ap (λ t. t ++ q) quiet ∙ cut.0,
-          elim cut.1 [
+          ap (λ t. t ++ q) quiet ∙ cut.0.0,
+          elim cut.0.1 [
             | inl before ↦ record {
               served = w.answered.all;
               unserved = c ∷ [];
@@ -129,7 +128,7 @@ module _ (shape : Shape) (terms : Terms) (start : Map) (a b : BoardState) (cs : 
               map_left = w.left;
               ran = w.answered.ran;
               held = before;
-              same_limits = limits_same shape f b.pages ∙ w.same_limits;
+              same_limits = cut.1 ∙ w.same_limits;
               unposted = records 0 w.answered.all;
               begins = refl;
               few_faults = few_now;
@@ -142,7 +141,7 @@ module _ (shape : Shape) (terms : Terms) (start : Map) (a b : BoardState) (cs : 
               ran = FoldsTo-push (StepWithin shape terms) start w.answered.all w.left x
                   (map_after shape terms.limits w.left c) w.answered.ran (inl (answers shape terms w.left c), λ _. omega arith);
               held = behind;
-              same_limits = limits_same shape f b.pages ∙ w.same_limits;
+              same_limits = cut.1 ∙ w.same_limits;
               unposted = records 0 (w.answered.all ++ x ∷ []);
               begins = refl;
               few_faults = few_more now w.answered.all x 0 other (few_same now w.answered.all few_now);
@@ -163,10 +162,14 @@ module _ (shape : Shape) (start : Map) (a : BoardState) (cs : List Command) (old
   same_map : (map : Map) → Holds shape old.board.pages map → map ≡ w.left
   same_map map h = ok_same map w.left (sym h ∙ w.held)
 
-  seen_cut : (map : Map) → map ≡ w.left → old.board.read_faults ≤ new.board.read_faults → (f : Flash) (q : List ℕ) → StepCut shape old.terms.limits map c f q
+  -- the board has the shape
+  on_board : old.board.shape ≡ Some shape
+  on_board = ap (λ (s : BoardState). s.shape) w.rest ∙ w.shape_is
+
+  seen_cut : (map : Map) → map ≡ w.left → old.board.read_faults ≤ new.board.read_faults → (f : Flash) (q : List ℕ) → Limited shape old.board (StepCut shape old.terms.limits map c) f q
       → KeptSilently shape old.terms start (cs ++ c ∷ []) (rise a.read_faults new.board.read_faults) f (all_posted w.reached.0 ++ q)
   seen_cut map same up f q cut =
-      let T : Map → Type 0 = λ m. StepCut shape old.terms.limits m c f q in cut_more shape old.terms start a old.board cs w c new.board.read_faults up f q (subst T same cut)
+      let T : Map → Type 0 = λ m. Limited shape old.board (StepCut shape old.terms.limits m c) f q in cut_more shape old.terms start a old.board cs w c new.board.read_faults up f q (subst T same cut)
 
   -- one more command was served
   pub asked-next : (x : Exchange) → Serves shape old new c x → Asked shape old.terms start a new.board (cs ++ c ∷ [])
@@ -179,10 +182,11 @@ module _ (shape : Shape) (start : Map) (a : BoardState) (cs : List Command) (old
         left = s.left;
         answered = ran-next shape old.terms start cs (meter a) (meter old.board) w.left w.answered (meter new.board) c x s.left w.rose s.up s.is (subst W same s.step) s.metered;
         held = s.holds;
-        same_limits = limits_same shape new.board.pages old.board.pages ∙ w.same_limits;
+        same_limits = reached_limits shape old.board new.board (StepCut shape old.terms.limits s.map c) on_board s.reached ∙ w.same_limits;
         shape_is = w.shape_is;
         reached = Reaches-then shape more.0 a old.board (KeptSilently shape old.terms start (cs ++ c ∷ []) n) w.shape_is more.1 more.2 new.board
-            (StepCut shape old.terms.limits s.map c) (seen_cut s.map same s.up) s.reached;
+            (Limited shape old.board (StepCut shape old.terms.limits s.map c)) (seen_cut s.map same s.up)
+            (Reaches-limited shape old.board new.board (StepCut shape old.terms.limits s.map c) on_board s.reached);
         rose = (let up = s.up in let rose = w.rose in omega (arith, up, rose));
         no_stop = s.no_stop ∙ w.no_stop;
         rest = only_then a old.board new.board w.rest s.rest;
@@ -193,8 +197,8 @@ module _ (shape : Shape) (start : Map) (a : BoardState) (cs : List Command) (old
   asked-stops s =
       let more = before_more shape old.terms start a old.board cs w c new.board.read_faults s.up in
       Goes-then shape more.0 a old.board (KeptSilently shape old.terms start (cs ++ c ∷ []) (rise a.read_faults new.board.read_faults)) w.shape_is more.1 more.2 new.board
-      (StepCut shape old.terms.limits s.map c)
-      (seen_cut s.map (same_map s.map s.held) s.up) s.went
+      (Limited shape old.board (StepCut shape old.terms.limits s.map c))
+      (seen_cut s.map (same_map s.map s.held) s.up) (Goes-limited shape old.board new.board (StepCut shape old.terms.limits s.map c) on_board s.went)
 
 -- ---- what is said after the commands
 

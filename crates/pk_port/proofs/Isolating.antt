@@ -1,16 +1,21 @@
 -- A command in the first namespace of a drive, as a drive answers it that has this namespace alone.
-use Rattle.std.proofs.Common.{◌≡◌, ℕ, ◌≤◌, List, [], ◌∷◌, length, true, ◌&&◌, nat_le, sym, ap, subst, ◌∙◌, arith}
+use Rattle.std.proofs.Common.{◌≡◌, ◌≢◌, ℕ, ◌≤◌, List, [], ◌∷◌, length, Bool, true, false, ◌==◌, cond, ◌&&◌, nat_le, Option, Some, None, refl, sym, ap, subst, ◌∙◌, arith, ne_eqb}
 use Rattle.std.proofs.lemmas.Bool.{le-leb}
 use Rattle.pk_base.specs.Shape.{Shape}
-use Rattle.pk_base.specs.Map.{Map}
+use Rattle.std.specs.List.{AllByRecursion}
+use Rattle.std.specs.FinMap.{get, entries}
+use Rattle.std.specs.FinMap.Entries.{where_key}
+use Rattle.pk_base.specs.Key.{Key, key_cmp, space_of}
+use Rattle.pk_base.specs.Map.{Map, IsMap}
 use Rattle.pk_nvme.specs.Command.{Command}
 use Rattle.pk_nvme.specs.Reply.{Reply}
 use Rattle.pk_model.specs.Answer.{Answer, map_after}
 use Rattle.pk_model.specs.Run.{Step}
 use Rattle.pk_model.specs.Spaces.{Terms, one_space, limit_of, is_space, in_space}
 use Rattle.pk_law_isolation.specs.Isolation.{map_alone, terms_alone, command_alone}
-use Rattle.pk_law_isolation.proofs.Alone.{own_answer, own_step}
+use Rattle.pk_law_isolation.proofs.Alone.{own_answer, own_step, other_step}
 use Rattle.pk_law_isolation.proofs.Sums.{first_is_part}
+use Rattle.pk_model.proofs.SpaceLemmas.{by_keys, entries_in, get_in_space}
 use Rattle.pk_serve.proofs.Answering.{answers}
 
 module _ (shape : Shape) (terms : Terms) (some : 1 ≤ length terms.limits) (c : Command) (first : c.namespace ≡ 1) where
@@ -44,3 +49,32 @@ module _ (shape : Shape) (terms : Terms) (some : 1 ≤ length terms.limits) (c :
   -- the map that it leaves
   pub first_left : (m : Map) → in_space 1 (map_after shape terms.limits m c) ≡ map_after shape (limit_of terms.limits 1 ∷ []) (in_space 1 m) c
   first_left m = (first_answer m _ _ (answers shape terms m c)).leaves
+
+-- a command in another namespace leaves the first one
+pub others_left : (shape : Shape) (terms : Terms) (c : Command) → c.namespace ≢ 1 → (m : Map) (a : Reply) (m' : Map) → Step shape terms m c a m' → in_space 1 m' ≡ in_space 1 m
+others_left shape terms c other m a m' step =
+    sym (first_is_part m') ∙ other_step shape terms 1 (omega arith) c (ne_eqb 1 c.namespace (λ e. other (sym e))) m a m' step ∙ first_is_part m
+
+-- ---- the first namespace of a map
+
+twice : (own : Bool) (v : Option (List ℕ)) → cond own (cond own v None) None ≡ cond own v None
+twice true v = refl
+twice false v = refl
+
+pub part_alone : (m : Map) → in_space 1 (in_space 1 m) ≡ in_space 1 m
+part_alone m = by_keys _ _ (λ q.
+    get_in_space 1 (in_space 1 m) q ∙ ap (λ (v : Option (List ℕ)). cond (space_of q == 1) v None) (get_in_space 1 m q) ∙ twice (space_of q == 1) (get m q) ∙ sym (get_in_space 1 m q))
+
+-- what holds of each entry holds of each of the namespace
+some_pass : (P : Key × List ℕ → Type 0) (p : Key → Bool) (es : List (Key × List ℕ)) → AllByRecursion P es → AllByRecursion P (where_key key_cmp p es)
+some_pass P p [] all = tt
+some_pass P p (e ∷ es) all = elim (p e.0) as (λ b. AllByRecursion P (cond b (e ∷ where_key key_cmp p es) (where_key key_cmp p es))) [
+  | true ↦ (all.0, some_pass P p es all.1)
+  | false ↦ some_pass P p es all.1
+]
+
+part_all : (P : Key × List ℕ → Type 0) (m : Map) → AllByRecursion P (entries m) → AllByRecursion P (entries (in_space 1 m))
+part_all P m all = subst (AllByRecursion P) (sym (entries_in 1 m)) (some_pass P (λ k. space_of k == 1) (entries m) all)
+
+pub part_sized : (shape : Shape) (m : Map) → IsMap shape m → IsMap shape (in_space 1 m)
+part_sized shape m is = record { keys = part_all _ m is.keys; values = part_all _ m is.values }

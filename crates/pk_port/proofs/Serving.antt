@@ -1,11 +1,12 @@
 -- What a command that was served leaves of a drive on its board, and what it reports to a host.
-use Rattle.std.proofs.Common.{◌≡◌, ◌≢◌, inl, inr, ℕ, ◌+◌, ◌≤◌, ◌<◌, ◌^◌, refl, sym, ap, subst, ◌∙◌, arith, List, [], ◌∷◌, length, take, Bool, true, false, nat_le, Option, Some, Result, Ok, Err}
+use Rattle.std.proofs.Common.{◌≡◌, ◌≢◌, inl, inr, ℕ, ◌+◌, ◌≤◌, ◌<◌, ◌^◌, refl, sym, ap, subst, ◌∙◌, arith, List, [], ◌∷◌, length, take, Bool, true, false, ◌==◌, nat_le, Option, Some, Result, Ok, Err}
+use Rattle.std.proofs.lemmas.Bool.{eqb-true, eqb-false}
 use Rattle.std.proofs.lemmas.Bool.Decides.{nat_tests}
 use Rattle.std.proofs.lemmas.List.{length-take-le}
-use Rattle.pk_base.specs.Shape.{Shape, limit}
+use Rattle.pk_base.specs.Shape.{Shape}
 use Rattle.pk_base.specs.Page.{Flash}
 use Rattle.pk_base.specs.Entry.{Entry}
-use Rattle.pk_base.specs.Map.{Map, IsMap, live}
+use Rattle.pk_base.specs.Map.{Map}
 use Rattle.pk_nvme.specs.Command.{Command}
 use Rattle.pk_nvme.specs.Reply.{Reply}
 use Rattle.pk_nand.specs.BoardState.{BoardState, shape_of, shape_or_none}
@@ -15,23 +16,23 @@ use Rattle.pk_call.specs.Calling.{only_looks}
 use Rattle.pk_model.specs.Answer.{map_after}
 use Rattle.pk_model.specs.Reading.{reading, Holds}
 use Rattle.pk_model.specs.Spaces.{Terms, limits_at, limit_of, in_space}
-use Rattle.pk_model.proofs.SpaceLemmas.{is_whole}
 use Rattle.pk_call.specs.Drive.{HoldsMap}
 use Rattle.pk_call.specs.Sight.{Sight}
 use Rattle.pk_model.specs.Wear.{root_number, roots, is_worn}
 use Rattle.pk_call.specs.Exec.{most_installs, IsValue}
 use Rattle.pk_call.specs.Meter.{reads_after}
-use Rattle.pk_serve.specs.Port.{Submitted, Submits, SubmitStops}
-use Rattle.pk_host.specs.Good.{IsGood, IsHanded, holding}
+use Rattle.pk_serve.specs.Port.{StepCut, Submitted, Submits, SubmitStops}
+use Rattle.pk_host.specs.Good.{IsGoodMap, IsHanded}
 use Rattle.pk_host.specs.Port.{IsWithin, PortSteps, Replies, room_of}
 use Rattle.pk_host.proofs.LeftLemmas.{good_left}
 use Rattle.pk_host.proofs.DataLemmas.{data_fit}
 use Rattle.pk_port.specs.Ready.{Ready, Fits}
 use Rattle.pk_port.specs.Steps.{mount, seen, Serves, Fails}
 use Rattle.pk_port.specs.declared.halt.Halt.TheVariants.{Stopped}
-use Rattle.pk_port.proofs.Isolating.{first_step}
+use Rattle.pk_port.proofs.Isolating.{first_step, others_left}
 use Rattle.pk_port.proofs.Stepping.{part_of, part_held}
-use Rattle.pk_serve.proofs.Limiting.{limits_same, limits_one, limits_held}
+use Rattle.pk_serve.proofs.Limiting.{limits_some, limits_held}
+use Rattle.pk_model.proofs.Growing.{went_limits}
 
 -- what is passed, of a board of this shape
 pub value_on : (shape : Shape) (board : BoardState) (opcode size : ℕ) (handed value : List ℕ)
@@ -49,10 +50,6 @@ unworn_on agrees shape board worn has agreed says not_worn =
 pub mounted_limits : (shape : Shape) (board : BoardState) (drive : Sight) → board.shape ≡ Some shape → limits_at shape board.pages ≡ (mount board drive).terms.limits
 mounted_limits shape board drive has = sym (ap (λ s. limits_at (shape_or_none s) board.pages) has)
 
--- they are one
-pub mounted_one : (shape : Shape) (board : BoardState) (drive : Sight) → board.shape ≡ Some shape → (mount board drive).terms.limits ≡ limit shape ∷ []
-mounted_one shape board drive has = sym (mounted_limits shape board drive has) ∙ limits_one shape board.pages
-
 -- the frames and the limits of a drive on its board
 pub mounted_terms : (shape : Shape) (terms : Terms) (board : BoardState) (drive : Sight) (m : Map) → HoldsMap shape terms board drive m → (mount board drive).terms ≡ terms
 mounted_terms shape terms board drive m stands = λ k. record { frames = stands.frames_is k; limits = limits_held shape terms board drive m stands k }
@@ -62,30 +59,38 @@ module _ (agrees : Option Shape → Flash → Type 0) (shape : Shape) (old : Boa
   pub ready_holds : Holds shape old.pages ready.map
   ready_holds = let M : List Entry → Type 0 = λ p. reading shape old.pages p ≡ Ok ready.map in subst M ready.none ready.stands.map_is
 
-  -- its limits are one, that of the shape
-  one_limit : (mount old d).terms.limits ≡ limit shape ∷ []
-  one_limit = ap (λ s. limits_at (shape_or_none s) old.pages) ready.stands.shape_is ∙ limits_one shape old.pages
+  -- it has at least one namespace
+  pub some_limit : 1 ≤ length (mount old d).terms.limits
+  some_limit = subst (λ (limits : List ℕ). 1 ≤ length limits) (mounted_limits shape old d ready.stands.shape_is) (limits_some shape old.pages [] ready.map ready_holds)
 
-  some_limit : 1 ≤ length (mount old d).terms.limits
-  some_limit = subst (λ (limits : List ℕ). 1 ≤ length limits) (sym one_limit) (omega arith)
+  abbrev first_limit : ℕ
+  first_limit = limit_of (mount old d).terms.limits 1
 
   module _ (new : BoardState) (e : Sight) (c : Command) where
     -- ---- a command that was served
 
     module _ (rep : Reply) (reads : ℕ) (submits : Submits old new d e c rep reads) where
-      abbrev done : Submitted shape (mount old d).terms old new e ready.map c rep reads
+      abbrev done : Submitted shape (mount old d).terms old new d e ready.map c rep reads
       done = submits shape (mount old d).terms ready.map ready.stands ready.none
 
       -- the frames and the limits are the same
       same_terms : (mount new e).terms ≡ (mount old d).terms
       same_terms = mounted_terms shape (mount old d).terms new e done.left done.stands
 
-      good_now : IsHanded c → IsGood (holding shape done.left)
-      good_now handed = elim done.stepped [
-        | inl answer ↦ subst (λ (m : Map). IsGood (holding shape m))
-            (sym (answer.leaves ∙ ap (λ (limits : List ℕ). map_after shape limits ready.map c) one_limit)) (good_left shape ready.map c ready.good handed)
-        | inr fault ↦ subst (λ (m : Map). IsGood (holding shape m)) (sym fault.leaves) ready.good
+      good_first : IsHanded c → c.namespace ≡ 1 → IsGoodMap shape first_limit (in_space 1 done.left)
+      good_first handed first = elim (first_step shape (mount old d).terms some_limit c first ready.map rep done.left done.stepped) [
+        | inl answer ↦ subst (λ (m : Map). IsGoodMap shape first_limit m) (sym answer.leaves) (good_left shape first_limit (in_space 1 ready.map) c ready.good handed)
+        | inr fault ↦ subst (λ (m : Map). IsGoodMap shape first_limit m) (sym fault.leaves) ready.good
       ]
+
+      good_other : c.namespace ≢ 1 → IsGoodMap shape first_limit (in_space 1 done.left)
+      good_other other = subst (λ (m : Map). IsGoodMap shape first_limit m) (sym (others_left shape (mount old d).terms c other ready.map rep done.left done.stepped)) ready.good
+
+      good_now : IsHanded c → IsGoodMap shape first_limit (in_space 1 done.left)
+      good_now handed = elim (c.namespace == 1) as (λ b. (c.namespace == 1) ≡ b → IsGoodMap shape first_limit (in_space 1 done.left)) [
+        | true ↦ λ is. good_first handed (eqb-true c.namespace 1 is)
+        | false ↦ λ other. good_other (eqb-false c.namespace 1 other)
+      ] refl
 
       -- the drive is ready again
       pub fits_again : (agrees' : Option Shape → Flash → Type 0) → IsHanded c → agrees' new.shape new.pages → e.pending ≡ [] → Fits agrees' shape new e
@@ -96,7 +101,7 @@ module _ (agrees : Option Shape → Flash → Type 0) (shape : Shape) (old : Boa
           none = none;
           map = done.left;
           stands = subst (λ (t : Terms). HoldsMap shape t new e done.left) (sym same_terms) done.stands;
-          good = good_now handed;
+          good = subst (λ (t : Terms). IsGoodMap shape (limit_of t.limits 1) (in_space 1 done.left)) (sym same_terms) (good_now handed);
         };
       }
 
@@ -109,6 +114,7 @@ module _ (agrees : Option Shape → Flash → Type 0) (shape : Shape) (old : Boa
         is = refl;
         map = ready.map;
         held = ready_holds;
+        its_limits = mounted_limits shape old d ready.stands.shape_is;
         left = done.left;
         step = (done.stepped, done.bounded);
         holds = done.holds;
@@ -121,16 +127,8 @@ module _ (agrees : Option Shape → Flash → Type 0) (shape : Shape) (old : Boa
         new_is = λ k. record { board = new; stopped = (goes_on ∙ sym going) k; terms = same_terms k };
       }
 
-      -- the first namespace is the whole map
-      whole : in_space 1 ready.map ≡ ready.map
-      whole = is_whole shape ready.map ready.good.sized
-
       within : (before : ℕ) → IsWithin (seen shape (mount old d) before) (in_space 1 ready.map)
-      within before = record {
-        sized = subst (λ (m : Map). IsMap shape m) (sym whole) ready.good.sized;
-        alone = ap (in_space 1) whole;
-        few = subst (λ (limits : List ℕ). live shape (in_space 1 ready.map) ≤ limit_of limits 1) (sym one_limit) (subst (λ (m : Map). live shape m ≤ limit shape) (sym whole) ready.good.few);
-      }
+      within before = record { sized = ready.good.sized; alone = ready.good.alone; few = ready.good.few }
 
       pub replies_so : rep.status < 256 → rep.result < 2 ^ 32 → (rep.status ≡ 0x88 → Rose old.read_faults new.read_faults)
           → c.namespace ≡ 1 → (before behind : ℕ) → Replies (seen shape (mount old d) before) (seen shape (mount new e) behind) c rep
@@ -162,16 +160,20 @@ module _ (agrees : Option Shape → Flash → Type 0) (shape : Shape) (old : Boa
 
     pub fails_so : SubmitStops old new d c → d.stopped ≡ false → e.stopped ≡ true → is_worn old ≡ false → OnlyFlash old new → (only_looks c.opcode ≡ true → OnlyReading old new)
         → old.read_faults ≤ new.read_faults → Rose old.stop_faults new.stop_faults → Fails shape (mount old d) (mount new e) c Stopped
-    fails_so stops going stopped unworn rest looks up stop = inl (
+    fails_so stops going stopped unworn rest looks up stop =
+        let went_now = stops shape (mount old d).terms ready.map ready.stands ready.none in inl (
       refl,
       record {
         runs = record { going = going; unworn = unworn };
         map = ready.map;
         held = ready_holds;
-        went = stops shape (mount old d).terms ready.map ready.stands ready.none;
+        its_limits = mounted_limits shape old d ready.stands.shape_is;
+        went = went_now;
         stopped = stopped;
         same_limits =
-            ap (λ s. limits_at (shape_or_none s) new.pages) (ap (λ b. b.shape) rest) ∙ limits_same (shape_or_none old.shape) new.pages old.pages;
+            sym (mounted_limits shape new e (ap (λ b. b.shape) rest ∙ ready.stands.shape_is))
+            ∙ went_limits shape old new (StepCut shape (mount old d).terms.limits ready.map c) ready.stands.shape_is went_now
+            ∙ mounted_limits shape old d ready.stands.shape_is;
         stop = stop;
         up = up;
         looks = looks;

@@ -10,10 +10,11 @@ use Rattle.pk_nand.specs.Calls.{Rose}
 use Rattle.pk_model.specs.Answer.{map_after}
 use Rattle.pk_model.specs.Reading.{reading, Holds}
 use Rattle.pk_model.specs.Run.{Exchange}
-use Rattle.pk_model.specs.Spaces.{limit_of, in_space}
+use Rattle.pk_model.specs.Spaces.{limits_at, limit_of, in_space}
 use Rattle.pk_host.specs.Port.{Took, LeftBySome}
 use Rattle.pk_port.specs.Steps.{Mounted, Standing, Serves, Stops, Fails, Stepped, Chain, seen}
 use Rattle.pk_port.specs.declared.halt.Halt.{Halt}
+use Rattle.pk_serve.proofs.Limiting.{limits_some}
 use Rattle.pk_port.proofs.Isolating.{first_left}
 
 -- the first namespace of a map that is read
@@ -30,13 +31,17 @@ part_held r map m held told = some_same (in_space 1 map) m (sym (ap part_of held
 told_not : {A : Type 0} (r : Result Map Refusal) (m : Map) → r ≡ Ok m → part_of r ≡ None → A
 told_not r m e none = absurd (let h : ◌≡◌ {A = Option Map} None (Some (in_space 1 m)) = sym none ∙ ap part_of e in cc)
 
-module _ (shape : Shape) (old new : Mounted) (c : Command) (some : 1 ≤ length old.terms.limits) (first : c.namespace ≡ 1) where
+-- a drive on a flash that is read has a namespace
+some_limit : (shape : Shape) (on : Mounted) (map : Map) → Holds shape on.board.pages map → limits_at shape on.board.pages ≡ on.terms.limits → 1 ≤ length on.terms.limits
+some_limit shape on map held its_limits = subst (λ (limits : List ℕ). 1 ≤ length limits) its_limits (limits_some shape on.board.pages [] map held)
+
+module _ (shape : Shape) (old new : Mounted) (c : Command) (first : c.namespace ≡ 1) where
   -- the map afterwards is that before the command or the one after it
   abbrev OneOf : Map → Type 0
   OneOf m = (m' : Map) × (part_of (reading shape new.board.pages []) ≡ Some m') × LeftBySome shape (limit_of old.terms.limits 1) m (c ∷ []) m'
 
-  after_is : (map m : Map) → in_space 1 map ≡ m → in_space 1 (map_after shape old.terms.limits map c) ≡ map_after shape (limit_of old.terms.limits 1 ∷ []) m c
-  after_is map m same = first_left shape old.terms some c first map ∙ ap (λ (n : Map). map_after shape (limit_of old.terms.limits 1 ∷ []) n c) same
+  after_is : (some : 1 ≤ length old.terms.limits) (map m : Map) → in_space 1 map ≡ m → in_space 1 (map_after shape old.terms.limits map c) ≡ map_after shape (limit_of old.terms.limits 1 ∷ []) m c
+  after_is some map m same = first_left shape old.terms some c first map ∙ ap (λ (n : Map). map_after shape (limit_of old.terms.limits 1 ∷ []) n c) same
 
   served_left : (x : Exchange) → Serves shape old new c x → (m : Map) → part_of (reading shape old.board.pages []) ≡ Some m → OneOf m
   served_left x s m told =
@@ -44,7 +49,7 @@ module _ (shape : Shape) (old new : Mounted) (c : Command) (some : 1 ≤ length 
         in_space 1 s.left,
         ap part_of s.holds,
         elim s.step.0 [
-          | inl answer ↦ inr (ap (in_space 1) (answer.leaves ∙ ap (map_after shape old.terms.limits s.map) s.is) ∙ after_is s.map m same)
+          | inl answer ↦ inr (ap (in_space 1) (answer.leaves ∙ ap (map_after shape old.terms.limits s.map) s.is) ∙ after_is (some_limit shape old s.map s.held s.its_limits) s.map m same)
           | inr fault ↦ inl (ap (in_space 1) fault.leaves ∙ same)
         ],
       )
@@ -54,7 +59,7 @@ module _ (shape : Shape) (old new : Mounted) (c : Command) (some : 1 ≤ length 
       let same = part_held (reading shape old.board.pages []) s.map m s.held told in
       elim (s.went.1.cuts _ _ s.went.1.stands).1 [
         | inl before ↦ (in_space 1 s.map, ap part_of before, inl same)
-        | inr behind ↦ (in_space 1 (map_after shape old.terms.limits s.map c), ap part_of behind, inr (after_is s.map m same))
+        | inr behind ↦ (in_space 1 (map_after shape old.terms.limits s.map c), ap part_of behind, inr (after_is (some_limit shape old s.map s.held s.its_limits) s.map m same))
       ]
 
   same_left : new ≡ old → (m : Map) → part_of (reading shape old.board.pages []) ≡ Some m → OneOf m

@@ -9,7 +9,7 @@ use Rattle.pk_nand.specs.BoardState.{BoardState, shape_of}
 use Rattle.pk_nand.specs.Calls.{Rose}
 use Rattle.pk_nand.specs.Effects.{OnlyFlash, OnlyReading}
 use Rattle.pk_nvme.specs.declared.limits.TheConstants.{NAMESPACE}
-use Rattle.pk_model.specs.Spaces.{Terms, terms_at, limit_of, in_space}
+use Rattle.pk_model.specs.Spaces.{Terms, limits_at, terms_at, limit_of, in_space}
 use Rattle.pk_model.specs.Growth.{Reaches, Goes}
 use Rattle.pk_model.specs.Reading.{reading, Holds}
 use Rattle.pk_model.specs.Run.{Exchange}
@@ -63,12 +63,14 @@ pub record Runs (on : Mounted) : Type 0 where
   pub going : on.stopped ≡ false
   pub unworn : is_worn on.board ≡ false
 
--- A command was served, from the map that the flash held to the one that it holds now. Wherever it is cut, the flash holds one of both.
+-- A command was served, from the map that the flash held, within its limits, to the one that it holds now. Wherever it is cut, the flash holds
+-- one of both.
 pub record Serves (shape : Shape) (old new : Mounted) (c : Command) (x : Exchange) : Type 0 where
   pub runs : Runs old
   pub is : x.command ≡ c
   pub map : Map
   pub held : Holds shape old.board.pages map
+  pub its_limits : limits_at shape old.board.pages ≡ old.terms.limits
   pub left : Map
   pub step : StepWithin shape old.terms map x left
   pub holds : Holds shape new.board.pages left
@@ -85,6 +87,7 @@ pub record Stops (shape : Shape) (old new : Mounted) (c : Command) : Type 0 wher
   pub runs : Runs old
   pub map : Map
   pub held : Holds shape old.board.pages map
+  pub its_limits : limits_at shape old.board.pages ≡ old.terms.limits
   pub went : Goes shape old.board new.board (StepCut shape old.terms.limits map c)
   pub stopped : new.stopped ≡ true
   pub same_limits : new.terms.limits ≡ old.terms.limits

@@ -9,7 +9,8 @@ use Rattle.pk_base.specs.Mark.{Mark, post, all_posted}
 use Rattle.pk_base.specs.Map.{Map}
 use Rattle.pk_nvme.specs.Command.{Command}
 use Rattle.pk_nvme.specs.Reply.{Reply, reply_record}
-use Rattle.pk_nand.specs.BoardState.{BoardState}
+use Rattle.pk_nand.specs.BoardState.{BoardState, shape_or_none}
+use Rattle.pk_nand.specs.Cut.{Cut}
 use Rattle.pk_nand.specs.Calls.{Rose, longer}
 use Rattle.pk_nand.specs.Operations.{after_post, PostFailed}
 use Rattle.pk_nand.specs.Crash.{ReachedBy}
@@ -27,7 +28,7 @@ use Rattle.pk_model.specs.Growth.{GrowsAlong, Reaches, Goes}
 use Rattle.pk_call.specs.Meter.{Meter, Metered, MeteredAll, meter, reads_after}
 use Rattle.pk_call.specs.Exec.{Executed, most_installs}
 use Rattle.pk_model.specs.Crashes.{CrashFinds, commit, command}
-use Rattle.pk_model.proofs.Growing.{weaken, at_end, grows_behind, Goes-then, GrowsAlong-post, Goes-post_failed}
+use Rattle.pk_model.proofs.Growing.{weaken, at_end, grows_behind, Goes-then, GrowsAlong-post, Goes-post_failed, Limited, Goes-limited, cut_limits}
 use Rattle.pk_call.specs.Calling.{most_calls_of}
 use Rattle.pk_serve.specs.Calling.{calls_of, owed, most_calls_of_all}
 use Rattle.pk_serve.specs.Serving.{KeptAt, Serving, Cutoff, Next, StepWithin}
@@ -35,8 +36,7 @@ use Rattle.pk_serve.specs.Answered.{Answered}
 use Rattle.pk_serve.proofs.Calling.{owed_most, most_calls-append}
 use Rattle.pk_serve.proofs.Counting.{at_most-zero, at_most-more, at_most-one, commands-push, records-push, faults-push, faults-one}
 use Rattle.pk_serve.proofs.Answering.{reply_other, answers}
-use Rattle.pk_model.specs.Spaces.{Terms}
-use Rattle.pk_serve.proofs.Limiting.{limits_same}
+use Rattle.pk_model.specs.Spaces.{Terms, limits_at}
 
 -- more commands and more faults
 pub kept-more : (shape : Shape) (terms : Terms) (start : Map) (cs more : List Command) (n later : Option ℕ) → ((k : ℕ) → AtMost n k → AtMost later k)
@@ -67,6 +67,16 @@ ReadBehind b c more = (c.reads ≡ b.reads) ⊎ ((n : ℕ) × (c.reads ≡ reads
 none_more : (P : List ℕ → Type 0) (out q : List ℕ) → q ≡ [] → P out → P (out ++ q)
 none_more P out q e h = subst P (sym (ap (λ t. out ++ t) e ∙ append-nil out)) h
 
+-- at every cut of a call the limits are those of the board before it
+limited_by : (shape : Shape) (b c : BoardState) (P : Flash → List ℕ → Type 0) → b.shape ≡ Some shape → (reached : Reaches shape b c P) → ReachedBy reached.0 b c (Limited shape b P)
+limited_by shape b c P has reached = record {
+  trail = reached.1.trail;
+  posted = reached.1.posted;
+  same_shape = reached.1.same_shape;
+  cuts = λ f q cut. (reached.1.cuts f q cut, cut_limits shape b.pages reached.0 reached.2 f q (subst (λ s. Cut s b.pages reached.0 f q) (ap shape_or_none has) cut));
+  stands = reached.1.stands;
+}
+
 -- the bound on faults for a list with one more
 few_more : (n : Option ℕ) (xs : List Exchange) (x : Exchange) (k : ℕ) → faults (x ∷ []) ≡ k → AtMost n (faults xs + k) → AtMost n (faults (xs ++ x ∷ []))
 few_more n xs x k e h = let T : ℕ → Type 0 = λ f. AtMost n f in subst T (sym (faults-push xs x ∙ ap (λ f. faults xs + f) e)) h
@@ -77,41 +87,42 @@ module _ (shape : Shape) (terms : Terms) (start : Map) (a b : BoardState) (drive
   present : KeptAt shape terms start (commands all) (rise a.read_faults b.read_faults) b.pages (all_posted w.marks)
   present = at_end w.marks a b (KeptAt shape terms start (commands all) (rise a.read_faults b.read_faults)) w.run
 
-  -- a flash that holds what this one holds
-  kept_same : (f : Flash) → reading shape f [] ≡ reading shape b.pages [] → KeptAt shape terms start (commands all) (rise a.read_faults b.read_faults) f (all_posted w.marks)
-  kept_same f e = let k = present in record {
+  -- a flash that holds what this one holds, within the same limits
+  kept_same : (f : Flash) → reading shape f [] ≡ reading shape b.pages [] → limits_at shape f ≡ limits_at shape b.pages
+      → KeptAt shape terms start (commands all) (rise a.read_faults b.read_faults) f (all_posted w.marks)
+  kept_same f e limited = let k = present in record {
     served = k.served;
     unserved = k.unserved;
     from_front = k.from_front;
     map_left = k.map_left;
     ran = k.ran;
     held = e ∙ k.held;
-    same_limits = limits_same shape f b.pages ∙ k.same_limits;
+    same_limits = limited ∙ k.same_limits;
     unposted = k.unposted;
     begins = k.begins;
     few_faults = k.few_faults;
   }
 
   -- a flash that holds all that was served, if a prefix of what is not posted was sent
-  kept_all : (f : Flash) → reading shape f [] ≡ Ok m → (out rest : List ℕ) → out ++ rest ≡ unposted
+  kept_all : (f : Flash) → reading shape f [] ≡ Ok m → limits_at shape f ≡ limits_at shape b.pages → (out rest : List ℕ) → out ++ rest ≡ unposted
       → KeptAt shape terms start (commands all) (rise a.read_faults b.read_faults) f (all_posted w.marks ++ out)
-  kept_all f e out rest front = record {
+  kept_all f e limited out rest front = record {
     served = all;
     unserved = [];
     from_front = append-nil (commands all);
     map_left = m;
     ran = w.ran;
     held = e;
-    same_limits = limits_same shape f b.pages ∙ w.stands.limits_is;
+    same_limits = limited ∙ w.stands.limits_is;
     unposted = rest;
     begins = append_assoc (all_posted w.marks) out rest ∙ (ap (λ t. all_posted w.marks ++ t) front ∙ w.records_are);
     few_faults = w.few_faults;
   }
 
   -- a flash that holds the map after one more command
-  kept_next : (c : Command) (f : Flash) → reading shape f [] ≡ Ok (map_after shape terms.limits m c)
+  kept_next : (c : Command) (f : Flash) → reading shape f [] ≡ Ok (map_after shape terms.limits m c) → limits_at shape f ≡ limits_at shape b.pages
       → KeptAt shape terms start (commands all ++ c ∷ []) (rise a.read_faults b.read_faults) f (all_posted w.marks)
-  kept_next c f e =
+  kept_next c f e limited =
       let x : Exchange = record { command = c; reply = reply shape terms m (replicate 11 0) c; reads = 0 } in
       let r : List ℕ = reply_record (suc (length all)) c.cid (reply shape terms m (replicate 11 0) c) 0 in
       record {
@@ -121,7 +132,7 @@ module _ (shape : Shape) (terms : Terms) (start : Map) (a b : BoardState) (drive
         map_left = map_after shape terms.limits m c;
         ran = FoldsTo-push (StepWithin shape terms) start all m x (map_after shape terms.limits m c) w.ran (inl (answers shape terms m c), λ _. omega arith);
         held = e;
-        same_limits = limits_same shape f b.pages ∙ w.stands.limits_is;
+        same_limits = limited ∙ w.stands.limits_is;
         unposted = unposted ++ r;
         begins = sym (append_assoc (all_posted w.marks) unposted r) ∙ (ap (λ t. t ++ r) w.records_are ∙ sym (records-push 0 all x (length all) (omega arith)));
         few_faults = elim (faults-one x) [
@@ -134,20 +145,20 @@ module _ (shape : Shape) (terms : Terms) (start : Map) (a b : BoardState) (drive
   -- ---- a command
 
   -- every cut of a command
-  exec_cut : (c : Command) (later : ℕ) → b.read_faults ≤ later → (f : Flash) (q : List ℕ) → CrashFinds shape (command terms.limits c) b.pages m f q
+  exec_cut : (c : Command) (later : ℕ) → b.read_faults ≤ later → (f : Flash) (q : List ℕ) → Limited shape b (CrashFinds shape (command terms.limits c) b.pages m) f q
       → KeptAt shape terms start (commands all ++ c ∷ []) (rise a.read_faults later) f (all_posted w.marks ++ q)
   exec_cut c later up f q cut =
       let P : List ℕ → Type 0 = λ t. KeptAt shape terms start (commands all ++ c ∷ []) (rise a.read_faults later) f t in
-      none_more P (all_posted w.marks) q cut.0 (elim cut.1 [
+      none_more P (all_posted w.marks) q cut.0.0 (elim cut.0.1 [
         | inl same ↦ kept-more shape terms start (commands all) (c ∷ []) (rise a.read_faults b.read_faults)
-            (rise a.read_faults later) (λ k h. at_most-more a.read_faults b.read_faults later k up h) f (all_posted w.marks) (kept_same f same)
+            (rise a.read_faults later) (λ k h. at_most-more a.read_faults b.read_faults later k up h) f (all_posted w.marks) (kept_same f same cut.1)
         | inr more ↦ elim more [
           | inl held ↦
               subst P (append-nil (all_posted w.marks))
               (kept-more shape terms start (commands all) (c ∷ []) (rise a.read_faults b.read_faults) (rise a.read_faults later)
-              (λ k h. at_most-more a.read_faults b.read_faults later k up h) f (all_posted w.marks ++ []) (kept_all f held [] unposted refl))
+              (λ k h. at_most-more a.read_faults b.read_faults later k up h) f (all_posted w.marks ++ []) (kept_all f held cut.1 [] unposted refl))
           | inr next ↦
-              let k = kept_next c f next in
+              let k = kept_next c f next cut.1 in
               record {
                 served = k.served;
                 unserved = k.unserved;
@@ -221,14 +232,15 @@ module _ (shape : Shape) (terms : Terms) (start : Map) (a b : BoardState) (drive
 
   -- a command was served
   pub Serving-exec : (c : BoardState) (e : Sight) (cmd : Command) (rep : Reply) (reads taken : ℕ) → taken ≡ length all
-      → Reaches shape b c (CrashFinds shape (command terms.limits cmd) b.pages m) → Executed shape terms c e m cmd rep reads → OnlyFlash b c
+      → Reaches shape b c (CrashFinds shape (command terms.limits cmd) b.pages m) → Executed shape terms drive c e m cmd rep reads → OnlyFlash b c
       → b.read_faults ≤ c.read_faults → (rep.status ≡ 0x88 → Rose b.read_faults c.read_faults) → (rep.status ≢ 0x88 → c.read_faults ≡ b.read_faults)
       → c.stop_faults ≡ b.stop_faults → c.reads ≡ reads_after b.reads reads → roots b < 9223372036854775808 → roots c ≤ roots b + most_installs cmd.opcode cmd.size
       → calls_of c ≤ calls_of b + most_calls_of shape cmd.opcode cmd.size → Next shape terms start a c e (unposted ++ reply_record (suc taken) cmd.cid rep reads) all m cmd
   Serving-exec c e cmd rep reads taken size reached done rest up unread sound no_stop read unworn few_roots few_calls =
       let x : Exchange = record { command = cmd; reply = rep; reads = reads } in
       let silent : all_posted reached.0 ≡ [] = (at_end reached.0 b c (CrashFinds shape (command terms.limits cmd) b.pages m) reached.1).0 in
-      let more = extend (cmd ∷ []) c (CrashFinds shape (command terms.limits cmd) b.pages m) up (exec_cut cmd c.read_faults up) reached.0 reached.1 in
+      let limited = limited_by shape b c (CrashFinds shape (command terms.limits cmd) b.pages m) w.stands.shape_is reached in
+      let more = extend (cmd ∷ []) c (Limited shape b (CrashFinds shape (command terms.limits cmd) b.pages m)) up (exec_cut cmd c.read_faults up) reached.0 limited in
       let R : List Command → Type 0 = λ l. ReachedBy (w.marks ++ reached.0) a c (KeptAt shape terms start l (rise a.read_faults c.read_faults)) in
       let C : List Command → Type 0 = λ l. calls_of c + owed e.pending ≤ calls_of a + most_calls_of_all shape l in
       record {
@@ -269,21 +281,22 @@ module _ (shape : Shape) (terms : Terms) (start : Map) (a b : BoardState) (drive
       → calls_of c ≤ calls_of b + most_calls_of shape cmd.opcode cmd.size → Cutoff shape terms start a c (commands all ++ cmd ∷ [])
   Cutoff-exec c cmd went up reads read few_calls =
       let next = calls_next c cmd 0 (omega arith) few_calls in
-      extend_went (cmd ∷ []) c (CrashFinds shape (command terms.limits cmd) b.pages m) up (exec_cut cmd c.read_faults up)
-      (λ f q cut. (unposted, ap (λ t. t ++ unposted) cut.0)) (inr (reads, read, λ e. cc)) (omega (arith, next)) went
+      extend_went (cmd ∷ []) c (Limited shape b (CrashFinds shape (command terms.limits cmd) b.pages m)) up (exec_cut cmd c.read_faults up)
+      (λ f q cut. (unposted, ap (λ t. t ++ unposted) cut.0.0)) (inr (reads, read, λ e. cc)) (omega (arith, next))
+      (Goes-limited shape b c (CrashFinds shape (command terms.limits cmd) b.pages m) w.stands.shape_is went)
 
   -- ---- a commit
 
-  commit_cut : (later : ℕ) → b.read_faults ≤ later → (f : Flash) (q : List ℕ) → CrashFinds shape commit b.pages m f q
+  commit_cut : (later : ℕ) → b.read_faults ≤ later → (f : Flash) (q : List ℕ) → Limited shape b (CrashFinds shape commit b.pages m) f q
       → KeptAt shape terms start (commands all ++ []) (rise a.read_faults later) f (all_posted w.marks ++ q)
   commit_cut later up f q cut =
       let P : List ℕ → Type 0 = λ t. KeptAt shape terms start (commands all ++ []) (rise a.read_faults later) f t in
-      none_more P (all_posted w.marks) q cut.0 (elim cut.1 [
+      none_more P (all_posted w.marks) q cut.0.0 (elim cut.0.1 [
         | inl same ↦ kept-more shape terms start (commands all) [] (rise a.read_faults b.read_faults) (rise a.read_faults later)
-            (λ k h. at_most-more a.read_faults b.read_faults later k up h) f (all_posted w.marks) (kept_same f same)
+            (λ k h. at_most-more a.read_faults b.read_faults later k up h) f (all_posted w.marks) (kept_same f same cut.1)
         | inr held ↦ subst P (append-nil (all_posted w.marks))
             (kept-more shape terms start (commands all) [] (rise a.read_faults b.read_faults) (rise a.read_faults later)
-            (λ k h. at_most-more a.read_faults b.read_faults later k up h) f (all_posted w.marks ++ []) (kept_all f held [] unposted refl))
+            (λ k h. at_most-more a.read_faults b.read_faults later k up h) f (all_posted w.marks ++ []) (kept_all f held cut.1 [] unposted refl))
       ])
 
   -- the calls of a run that ends here, and a commit that was owed
@@ -300,7 +313,8 @@ module _ (shape : Shape) (terms : Terms) (start : Map) (a b : BoardState) (drive
   Serving-commit c e reached stands rest same_reads no_stop read same_roots few_calls =
       let up : b.read_faults ≤ c.read_faults = omega (arith, same_reads) in
       let silent : all_posted reached.0 ≡ [] = (at_end reached.0 b c (CrashFinds shape commit b.pages m) reached.1).0 in
-      let more = extend [] c (CrashFinds shape commit b.pages m) up (commit_cut c.read_faults up) reached.0 reached.1 in
+      let limited = limited_by shape b c (CrashFinds shape commit b.pages m) w.stands.shape_is reached in
+      let more = extend [] c (Limited shape b (CrashFinds shape commit b.pages m)) up (commit_cut c.read_faults up) reached.0 limited in
       let R : List Command → Type 0 = λ l. ReachedBy (w.marks ++ reached.0) a c (KeptAt shape terms start l (rise a.read_faults c.read_faults)) in
       let same : meter b ≡ meter c = λ k. record { reads = sym read k; read_faults = sym same_reads k; roots = sym same_roots k } in
       let M : Meter → Type 0 = λ t. MeteredAll (meter a) all t in
@@ -328,7 +342,8 @@ module _ (shape : Shape) (terms : Terms) (start : Map) (a b : BoardState) (drive
       let up : b.read_faults ≤ c.read_faults = omega (arith, same_reads) in
       let R : List Command → Type 0 = λ l. Cutoff shape terms start a c l in
       subst R (append-nil (commands all))
-      (extend_went [] c (CrashFinds shape commit b.pages m) up (commit_cut c.read_faults up) (λ f q cut. (unposted, ap (λ t. t ++ unposted) cut.0)) (inl read) (calls_here c few_calls) went)
+      (extend_went [] c (Limited shape b (CrashFinds shape commit b.pages m)) up (commit_cut c.read_faults up) (λ f q cut. (unposted, ap (λ t. t ++ unposted) cut.0.0)) (inl read)
+      (calls_here c few_calls) (Goes-limited shape b c (CrashFinds shape commit b.pages m) w.stands.shape_is went))
 
   -- ---- a post of a prefix of what is not posted, if nothing is pending
 
@@ -340,7 +355,7 @@ module _ (shape : Shape) (terms : Terms) (start : Map) (a b : BoardState) (drive
       → KeptAt shape terms start (commands all ++ []) (rise a.read_faults b.read_faults) b.pages (all_posted w.marks ++ out)
   post_cut held bytes behind front out rest is = kept-more shape terms start (commands all) []
       (rise a.read_faults b.read_faults) (rise a.read_faults b.read_faults) (λ k h. h) b.pages (all_posted w.marks ++ out)
-      (kept_all b.pages held out (rest ++ behind) (sym (append_assoc out rest behind) ∙ (ap (λ t. t ++ behind) is ∙ front)))
+      (kept_all b.pages held refl out (rest ++ behind) (sym (append_assoc out rest behind) ∙ (ap (λ t. t ++ behind) is ∙ front)))
 
   pub Serving-post : (bytes behind : List ℕ) → drive.pending ≡ [] → bytes ++ behind ≡ unposted → Serving shape terms start a (after_post b bytes) drive behind all m
   Serving-post bytes behind none front =

@@ -6,7 +6,6 @@ use Rattle.pk_nvme.specs.Command.{Command}
 use Rattle.pk_nvme.specs.Reply.{Reply, completion}
 use Rattle.pk_model.specs.Answer.{map_after}
 use Rattle.pk_model.specs.Machine.{Machine, Answers, no_numbers, replied, machine_terms}
-use Rattle.pk_model.proofs.SpaceLemmas.{is_whole}
 use Rattle.pk_model.specs.declared.answer.Answer.{Answer}
 use Rattle.pk_host.specs.Port.{PortState, PortSteps, Replies, Completes, Took, room_of}
 use Rattle.pk_host.specs.declared.types.Completed.{Completed}
@@ -27,7 +26,7 @@ module _ (old new : Machine) (faults : ℕ) (c : Command) (a : Answer) (h : Answ
 
   -- the machine afterwards is good again
   pub good_again : IsGood old → IsHanded c → IsGood new
-  good_again good handed = subst IsGood (sym h.map_is) (good_left old.shape old.map c good handed)
+  good_again good handed = subst IsGood (sym h.map_is) (good_left old.shape (limit old.shape) old.map c good handed)
 
   -- the data of the answer fit the buffer
   pub answer_fits : length a.bytes.items ≤ room_of c
@@ -38,7 +37,7 @@ module _ (old new : Machine) (faults : ℕ) (c : Command) (a : Answer) (h : Answ
     status_size = status;
     result_size = field;
     answers = λ m told. subst (λ (x : Map). PortSteps (seen old faults) (seen new faults) c (replied a) x) (some_map old.map m told) (record {
-      within = record { sized = good.sized; alone = is_whole old.shape old.map good.sized; few = good.few };
+      within = record { sized = good.sized; alone = good.alone; few = good.few };
       frames = 0;
       frames_is = tt;
       left = map_after old.shape (limit old.shape ∷ []) old.map c;

@@ -19,7 +19,7 @@ use Rattle.pk_scan.specs.Opening.{NotOpened}
 use Rattle.pk_scan.specs.declared.errors.OpenError.{OpenError}
 use Rattle.pk_scan.specs.declared.errors.OpenError.TheVariants.{NotFormatted, Damaged, Fault as ReadFault, Memory as NoMemory}
 use Rattle.pk_wordrun.specs.Tasks.{Task, answer, list, generate, SaysTask}
-use Rattle.pk_wordrun.specs.Seen.{IsShortTask}
+use Rattle.pk_wordrun.specs.Seen.{IsAllowedTask}
 use Rattle.pk_wordrun.specs.Told.{EndsBy, WordDone, most_roots}
 use Rattle.pk_wordrun.specs.declared.end.WordEnd.{WordEnd}
 use Rattle.pk_wordrun.specs.declared.end.WordEnd.TheVariants.{Done, Output, Flash as FlashFailed, Worn}
@@ -157,7 +157,7 @@ module _ (task : Task) (few : most_roots task < 4611686018427387904) (old new : 
   whole_ask (has_image found) = whole_found found
 
 -- no word uses up the roots
-pub few_roots : (task : Task) → IsShortTask task → most_roots task < 4611686018427387904
+pub few_roots : (task : Task) → IsAllowedTask task → most_roots task < 4611686018427387904
 few_roots (answer q) short = omega arith
 few_roots (list from) short = omega arith
 few_roots (generate begin count) short = omega (arith, short)

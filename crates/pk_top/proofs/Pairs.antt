@@ -32,7 +32,7 @@ use Rattle.pk_wordrun.specs.declared.end.WordEnd.{WordEnd}
 use Rattle.pk_wordrun.specs.declared.end.WordEnd.TheVariants.{Done, Output, Flash as FlashFailed, Worn}
 use Rattle.pk_words.specs.Question.{put as put_one, get as get_one, delete as delete_one, has as has_one, stat as stat_one}
 use Rattle.pk_wordrun.specs.Tasks.{answer, list as list_keys, generate}
-use Rattle.pk_mirrorwords.specs.PairTasks.{PairTask, put, get, delete, list as list_all, resync, IsShort}
+use Rattle.pk_mirrorwords.specs.PairTasks.{PairTask, put, get, delete, list as list_all, resync, IsAllowed}
 use Rattle.pk_top.specs.Words.{Word, make, serve, ask, assemble, show, word_of}
 use Rattle.pk_top.specs.PairWords.{for_pair, is_resync, pair_task_of}
 use Rattle.pk_top.proofs.Within.{short_within}
@@ -613,7 +613,7 @@ short_of words key value o true is e = absurd (cc)
 short_of words key value None false is e = absurd (cc)
 short_of words key value (Some w) false is e = short_by words key value w is e
 
-pub short_pair : (words : List (List ℕ)) (task : PairTask) → Some task ≡ pair_task_of words → IsShort task
+pub short_pair : (words : List (List ℕ)) (task : PairTask) → Some task ≡ pair_task_of words → IsAllowed task
 short_pair words (put key value) e = short_of words key value (word_of words) (is_resync words) refl (sym e)
 short_pair words (get key) e = tt
 short_pair words (delete key) e = tt

@@ -6,7 +6,7 @@ use Rattle.pk_nvme.specs.Text.{number_of, is_number, bytes_of}
 use Rattle.std.specs.Str.Parse.{digits_value}
 use Rattle.pk_asm.specs.Words.{key_of}
 use Rattle.pk_words.specs.Question.{put, get, delete, has, stat}
-use Rattle.pk_wordrun.specs.Seen.{IsShortTask}
+use Rattle.pk_wordrun.specs.Seen.{IsAllowedTask}
 use Rattle.pk_wordrun.specs.Tasks.{Task, list, generate}
 use Rattle.pk_top.specs.Words.{Word, make, serve, ask, question, assemble, show, limits_in_words, make_if, make_of, serve_with, serve_of, put_with, put_of, only_key, list_word, alone, generate_of}
 use Rattle.pk_top.specs.Words.{plain_of, word_of}
@@ -15,7 +15,7 @@ use Rattle.pk_top.specs.Words.{plain_of, word_of}
 abbrev WordWithin : Word → Type 0
 WordWithin (make shape limits) = Unit {0}
 WordWithin (serve frames) = frames ≤ 16384
-WordWithin (ask task) = IsShortTask task
+WordWithin (ask task) = IsAllowedTask task
 WordWithin assemble = Unit {0}
 WordWithin show = Unit {0}
 
@@ -124,7 +124,7 @@ frames_within words word is frames same =
     subst Within e (words-within words)
 
 -- a value that words ask to store is not too long
-pub short_within : (words : List (List ℕ)) (word : Word) → Some word ≡ word_of words → (task : Task) → word ≡ ask task → IsShortTask task
+pub short_within : (words : List (List ℕ)) (word : Word) → Some word ≡ word_of words → (task : Task) → word ≡ ask task → IsAllowedTask task
 short_within words word is task same =
     let e : word_of words ≡ Some (ask task) = sym is ∙ ap (λ w. Some w) same in
     subst Within e (words-within words)

@@ -1,7 +1,7 @@
 //! The words that ask the drive.
 ghost use Rattle.std.specs.Prelude.{◌≡◌};
 ghost use Rattle.pk_nand.specs.Calls.{IsReady};
-ghost use Rattle.pk_wordrun.specs.Seen.{seen, IsShortTask};
+ghost use Rattle.pk_wordrun.specs.Seen.{seen, IsAllowedTask};
 ghost use Rattle.pk_top.specs.Asks.{Asks, AskRun, word_status};
 ghost use Rattle.pk_top.specs.Statuses.{Tells};
 
@@ -33,7 +33,7 @@ pub fn of_word_end(end: WordEnd) -> Status
 /// Opens the drive of an image and does what a word asks of it. All memory is taken before the first byte goes out.
 fn ask_image<B: Board>(alloc: Global, shape: Shape, task: Task, board: &mut B) -> Status
     requires ready { IsReady (B.state board.old) shape }
-    requires short { IsShortTask (seen task) }
+    requires allowed { IsAllowedTask (seen task) }
     ensures { Asks (seen task) shape (B.state board.old) (B.state board.new) result.0 }
 {
     let Ok(speaker) = Speaker::new(alloc, shape) else {
@@ -47,7 +47,7 @@ fn ask_image<B: Board>(alloc: Global, shape: Shape, task: Task, board: &mut B) -
 
 /// Asks the drive of the image that is found.
 pub fn ask<B: Board>(alloc: Global, task: Task, board: &mut B) -> Status
-    requires { IsShortTask (seen task) }
+    requires { IsAllowedTask (seen task) }
     ensures runs { AskRun (seen task) (B.state board.old) (B.state board.new) result.0 }
     ensures tells { Tells (B.state board.old) (B.state board.new) result.0 }
 {

@@ -40,7 +40,7 @@ fn fits(spares: u16, word: &Word) -> bool
     ensures { result ≡ spared.fits_spares spares (seen word.now) }
 {
     match word {
-        Word::Make(shape) => inner_shape(shape, spares).is_ok(),
+        Word::Make(limits) => inner_shape(limits.shape(), spares).is_ok(),
         Word::Serve(_) => true,
         Word::Ask(_) => true,
         Word::Assemble => false,

@@ -2,14 +2,11 @@
 use Rattle.std.proofs.Common.{◌≡◌, ℕ, zero, suc, ◌+◌, ◌*◌, ◌%◌, ◌<◌, ◌≤◌, ◌==◌, nat_le, nat_lt, if◌then◌else◌, List, [], ◌∷◌, ◌++◌, length, Option, Some, Ok, Bool, true, false, not, refl, sym, ◌∙◌}
 use Rattle.std.proofs.Common.{ap, subst, arith, append-nil, append_assoc, length-append}
 use Rattle.std.specs.FinMap.{entries, len}
-use Rattle.std.specs.List.{AllByRecursion}
 use Rattle.std.proofs.lemmas.List.{length-map}
-use Rattle.std.proofs.lemmas.Bool.{eq-eqb}
 use Rattle.std.proofs.lemmas.Bool.Decides.{nat_tests}
 use Rattle.pk_base.specs.Shape.{Shape}
 use Rattle.pk_base.specs.Page.{Flash as Pages}
 use Rattle.pk_base.specs.Entry.{Entry}
-use Rattle.pk_base.specs.Key.{Key, space_of}
 use Rattle.pk_base.specs.Map.{Map, live}
 use Rattle.pk_nvme.specs.Command.{Command}
 use Rattle.pk_nvme.specs.Seen.{command_of}
@@ -50,8 +47,7 @@ use Rattle.pk_wordrun.specs.declared.summary.Summary.{Summary}
 use Rattle.pk_wordrun.proofs.Grouping.{grouped_none, grouped_asked}
 use Rattle.pk_wordrun.proofs.Resting.{never_both}
 use Rattle.pk_wordrun.proofs.Telling.{keeps-flash, done_unworn, output_unworn, flash_unworn}
-use Rattle.pk_model.specs.Spaces.{Terms, AreInSpaces, in_space, limits_at, terms_at}
-use Rattle.pk_model.proofs.SpaceLemmas.{whole_map}
+use Rattle.pk_model.specs.Spaces.{Terms, in_space, terms_at}
 use Rattle.pk_port.specs.Steps.{mount}
 use Rattle.pk_port.proofs.Serving.{mounted_limits}
 
@@ -238,32 +234,19 @@ module _ (begin turn : ℕ) (shape : Shape) (terms : Terms) (start : Map) (a b :
 
 -- ---- the summary
 
--- the map of a drive with one namespace is that namespace of itself
-one_space_whole : (m : Map) → AreInSpaces 1 m → in_space 1 m ≡ m
-one_space_whole m are = whole_map 1 m (only (entries m) are)
-  where
-    only : (es : List (Key × List ℕ)) → AllByRecursion (λ e. (1 ≤ space_of e.0) × (space_of e.0 ≤ 1)) es → AllByRecursion (λ e. (space_of e.0 == 1) ≡ true) es
-    only [] all = tt
-    only (e ∷ es) all = (eq-eqb (space_of e.0) 1 (omega (arith, all.0.0, all.0.1)), only es all.1)
-
-one_limit : (shape : Shape) (flash : Pages) → length (limits_at shape flash) ≡ 1
-unfolding limits_at
-one_limit shape flash = refl
-
--- the numbers that a drive counts are those of the map that the flash holds
+-- the numbers that a drive counts of its first namespace are those of the map that the flash holds
 pub counted : (agrees : Option Shape → Pages → Type 0) (shape : Shape) (b : BoardState) (d : Sight) (counts : Counts)
     → b.shape ≡ Some shape → DriveRuns agrees d b → d.pending ≡ [] → in_space_of counts ≡ in_space_at d.spaces 1
     → ((s : Shape) (f : Pages) (m : Map) → agrees (Some s) f → d.stopped ≡ false → map_of s f d ≡ Ok m → CountsMap s (terms_at s f d.counts.frames) 1 m (in_space_at d.spaces 1) d.counts)
-    → (m : Map) → Holds shape b.pages m → (counts.keys ≡ len m) × (counts.live ≡ live shape m)
+    → (m : Map) → Holds shape b.pages m → (counts.keys ≡ len (in_space 1 m)) × (counts.live ≡ live shape (in_space 1 m))
 counted agrees shape b d counts has running none numbers told m held =
     let A : Option Shape → Type 0 = λ o. agrees o b.pages in
     let R : List Entry → Type 0 = λ p. reading shape b.pages p ≡ Ok m in
     let is = told shape b.pages m (subst A has running.agrees) running.runs (subst R (sym none) held) in
-    let all : in_space 1 m ≡ m = one_space_whole m (subst (λ (n : ℕ). AreInSpaces n m) (one_limit shape b.pages) is.in_spaces) in
-    (ap (λ (c : InSpace). c.keys) numbers ∙ is.keys_is ∙ ap len all, ap (λ (c : InSpace). c.live) numbers ∙ is.live_is ∙ ap (live shape) all)
+    (ap (λ (c : InSpace). c.keys) numbers ∙ is.keys_is, ap (λ (c : InSpace). c.live) numbers ∙ is.live_is)
 
 module _ (begin count : ℕ) (shape : Shape) (terms : Terms) (start : Map) (a b : BoardState) (s : Summary) (w : Generated begin count shape terms start a b s) (keys pages : ℕ)
-    (are : (keys ≡ len w.asked.left) × (pages ≡ live shape w.asked.left)) where
+    (are : (keys ≡ len (in_space 1 w.asked.left)) × (pages ≡ live shape (in_space 1 w.asked.left))) where
   abbrev text : List ℕ
   text = summary_lines w.asked.answered.all keys pages
 
@@ -271,7 +254,7 @@ module _ (begin count : ℕ) (shape : Shape) (terms : Terms) (start : Map) (a b 
   Says = SaysTask (generate begin count) a.read_faults b.read_faults shape terms start
 
   says_left : Says w.asked.answered.all text w.asked.left
-  says_left = ap (λ k. summary_lines w.asked.answered.all k pages) are.0 ∙ ap (λ p. summary_lines w.asked.answered.all (len w.asked.left) p) are.1
+  says_left = ap (λ k. summary_lines w.asked.answered.all k pages) are.0 ∙ ap (λ p. summary_lines w.asked.answered.all (len (in_space 1 w.asked.left)) p) are.1
 
   -- a workload that has a command does not begin on a worn drive
   unworn_before : not (count == 0) ≡ true → is_worn a ≡ false

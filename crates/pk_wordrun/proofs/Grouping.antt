@@ -19,7 +19,7 @@ use Rattle.pk_model.specs.Reading.{reading, Holds}
 use Rattle.pk_model.specs.Run.{Exchange, commands, faults, records}
 use Rattle.pk_call.specs.Sight.{Sight}
 use Rattle.pk_model.specs.Wear.{roots}
-use Rattle.pk_model.proofs.Growing.{weaken, weaken_went, at_end, Reaches-then, Goes-then}
+use Rattle.pk_model.proofs.Growing.{weaken, weaken_went, at_end, Reaches-then, Goes-then, Limited, Reaches-limited, Goes-limited}
 use Rattle.pk_call.specs.Call.{KeepsMap, CallReaches, CallGoes}
 use Rattle.pk_call.specs.Drive.{HoldsMap}
 use Rattle.pk_call.specs.Exec.{Executed, ExecStands, most_installs}
@@ -31,8 +31,8 @@ use Rattle.pk_port.specs.Asking.{KeptSilently, Asked}
 use Rattle.pk_port.proofs.Growing.{few_more, few_same, silent-more, asked-none}
 use Rattle.pk_wordrun.specs.Grouped.{exchange, Grouped, StoppedIn, KeepsGroup, AddsToGroup, StopsGroup}
 use Rattle.pk_nand.proofs.Effects.{only_then}
-use Rattle.pk_model.specs.Spaces.{Terms}
-use Rattle.pk_serve.proofs.Limiting.{limits_same, limits_on, limits_held}
+use Rattle.pk_model.specs.Spaces.{Terms, limits_at}
+use Rattle.pk_serve.proofs.Limiting.{limits_on, limits_held}
 
 module _ (shape : Shape) (terms : Terms) (start : Map) (a b : BoardState) (drive : Sight) (all : List Exchange) (w : Grouped shape terms start a b drive all) where
   abbrev now : Option ℕ
@@ -42,31 +42,31 @@ module _ (shape : Shape) (terms : Terms) (start : Map) (a b : BoardState) (drive
   present : KeptSilently shape terms start (commands all) now b.pages (all_posted w.reached.0)
   present = at_end w.reached.0 a b (KeptSilently shape terms start (commands all) now) w.reached.1
 
-  -- a flash that holds what this one holds
-  kept_same : (f : Flash) → reading shape f [] ≡ reading shape b.pages [] → Kept shape terms start (commands all) now [] f
-  kept_same f e = let k = present.1 in record {
+  -- a flash that holds what this one holds, within the same limits
+  kept_same : (f : Flash) → reading shape f [] ≡ reading shape b.pages [] → limits_at shape f ≡ limits_at shape b.pages → Kept shape terms start (commands all) now [] f
+  kept_same f e limited = let k = present.1 in record {
     served = k.served;
     unserved = k.unserved;
     from_front = k.from_front;
     map_left = k.map_left;
     ran = k.ran;
     held = e ∙ k.held;
-    same_limits = limits_same shape f b.pages ∙ k.same_limits;
+    same_limits = limited ∙ k.same_limits;
     unposted = k.unposted;
     begins = k.begins;
     few_faults = k.few_faults;
   }
 
   -- a flash that holds all that was served
-  kept_all : (f : Flash) → reading shape f [] ≡ Ok w.left → Kept shape terms start (commands all) now [] f
-  kept_all f e = record {
+  kept_all : (f : Flash) → reading shape f [] ≡ Ok w.left → limits_at shape f ≡ limits_at shape b.pages → Kept shape terms start (commands all) now [] f
+  kept_all f e limited = record {
     served = all;
     unserved = [];
     from_front = append-nil (commands all);
     map_left = w.left;
     ran = w.ran;
     held = e;
-    same_limits = limits_same shape f b.pages ∙ w.stands.limits_is;
+    same_limits = limited ∙ w.stands.limits_is;
     unposted = records 0 all;
     begins = refl;
     few_faults = w.few;
@@ -84,8 +84,9 @@ module _ (shape : Shape) (terms : Terms) (start : Map) (a b : BoardState) (drive
     with_more more f k = (silent-more shape terms start (commands all) more now bound (λ n h. at_most-more a.read_faults b.read_faults later n up h) f [] (refl, k)).1
 
     -- a flash that holds the map after one more command
-    kept_next : (c : Command) (f : Flash) → reading shape f [] ≡ Ok (map_after shape terms.limits w.left c) → Kept shape terms start (commands all ++ c ∷ []) bound [] f
-    kept_next c f e =
+    kept_next : (c : Command) (f : Flash) → reading shape f [] ≡ Ok (map_after shape terms.limits w.left c) → limits_at shape f ≡ limits_at shape b.pages
+        → Kept shape terms start (commands all ++ c ∷ []) bound [] f
+    kept_next c f e limited =
         let x : Exchange = exchange c (reply shape terms w.left (replicate 11 0) c) 0 in
         let other : faults (x ∷ []) ≡ 0 = elim (faults-one x) [ inl good ↦ good.1 | inr bad ↦ absurd (reply_other shape terms w.left (replicate 11 0) c bad.0) ] in
         record {
@@ -95,28 +96,28 @@ module _ (shape : Shape) (terms : Terms) (start : Map) (a b : BoardState) (drive
           map_left = map_after shape terms.limits w.left c;
           ran = FoldsTo-push (StepWithin shape terms) start all w.left x (map_after shape terms.limits w.left c) w.ran (inl (answers shape terms w.left c), λ _. omega arith);
           held = e;
-          same_limits = limits_same shape f b.pages ∙ w.stands.limits_is;
+          same_limits = limited ∙ w.stands.limits_is;
           unposted = records 0 (all ++ x ∷ []);
           begins = refl;
           few_faults = few_more bound all x 0 other (few_same bound all few_later);
         }
 
     -- every cut of one more command
-    command_cut : (c : Command) (f : Flash) (q : List ℕ) → CrashFinds shape (command terms.limits c) b.pages w.left f q
+    command_cut : (c : Command) (f : Flash) (q : List ℕ) → Limited shape b (CrashFinds shape (command terms.limits c) b.pages w.left) f q
         → KeptSilently shape terms start (commands all ++ c ∷ []) bound f (all_posted w.reached.0 ++ q)
     command_cut c f q cut = (
-      ap (λ t. t ++ q) present.0 ∙ cut.0,
-      elim cut.1 [
-        | inl same ↦ with_more (c ∷ []) f (kept_same f same)
-        | inr more ↦ elim more [ inl held ↦ with_more (c ∷ []) f (kept_all f held) | inr next ↦ kept_next c f next ]
+      ap (λ t. t ++ q) present.0 ∙ cut.0.0,
+      elim cut.0.1 [
+        | inl same ↦ with_more (c ∷ []) f (kept_same f same cut.1)
+        | inr more ↦ elim more [ inl held ↦ with_more (c ∷ []) f (kept_all f held cut.1) | inr next ↦ kept_next c f next cut.1 ]
       ],
     )
 
     -- every cut of a commit
-    commit_cut : (f : Flash) (q : List ℕ) → CrashFinds shape commit b.pages w.left f q → KeptSilently shape terms start (commands all ++ []) bound f (all_posted w.reached.0 ++ q)
+    commit_cut : (f : Flash) (q : List ℕ) → Limited shape b (CrashFinds shape commit b.pages w.left) f q → KeptSilently shape terms start (commands all ++ []) bound f (all_posted w.reached.0 ++ q)
     commit_cut f q cut = (
-      ap (λ t. t ++ q) present.0 ∙ cut.0,
-      elim cut.1 [ inl same ↦ with_more [] f (kept_same f same) | inr held ↦ with_more [] f (kept_all f held) ],
+      ap (λ t. t ++ q) present.0 ∙ cut.0.0,
+      elim cut.0.1 [ inl same ↦ with_more [] f (kept_same f same cut.1) | inr held ↦ with_more [] f (kept_all f held cut.1) ],
     )
 
     -- what was kept so far, with more commands
@@ -134,24 +135,26 @@ module _ (shape : Shape) (terms : Terms) (start : Map) (a b : BoardState) (drive
 
     -- the marks so far, and those of a call whose cuts are kept
     reaches_more : (more : List Command) (P : Flash → List ℕ → Type 0)
-        → ((f : Flash) (q : List ℕ) → P f q → kept_then more f (all_posted w.reached.0 ++ q)) → Reaches shape b c P → Reaches shape a c (kept_then more)
-    reaches_more more P cuts reached = let so_far = before c.read_faults up more in Reaches-then shape so_far.0 a b (kept_then more) w.shape_is so_far.1 so_far.2 c P cuts reached
+        → ((f : Flash) (q : List ℕ) → Limited shape b P f q → kept_then more f (all_posted w.reached.0 ++ q)) → Reaches shape b c P → Reaches shape a c (kept_then more)
+    reaches_more more P cuts reached =
+        let so_far = before c.read_faults up more in
+        Reaches-then shape so_far.0 a b (kept_then more) w.shape_is so_far.1 so_far.2 c (Limited shape b P) cuts (Reaches-limited shape b c P w.stands.shape_is reached)
 
     -- the same of a call that stopped the drive
-    stopped_more : (more : List Command) (P : Flash → List ℕ → Type 0) → ((f : Flash) (q : List ℕ) → P f q → kept_then more f (all_posted w.reached.0 ++ q)) → Goes shape b c P
+    stopped_more : (more : List Command) (P : Flash → List ℕ → Type 0) → ((f : Flash) (q : List ℕ) → Limited shape b P f q → kept_then more f (all_posted w.reached.0 ++ q)) → Goes shape b c P
         → Rose b.stop_faults c.stop_faults → OnlyFlash b c → StoppedIn shape terms start a c (commands all ++ more)
     stopped_more more P cuts went stop rest =
         let so_far = before c.read_faults up more in
         let R : ℕ → Type 0 = λ n. Rose n c.stop_faults in
         record {
-          kept = Goes-then shape so_far.0 a b (kept_then more) w.shape_is so_far.1 so_far.2 c P cuts went;
+          kept = Goes-then shape so_far.0 a b (kept_then more) w.shape_is so_far.1 so_far.2 c (Limited shape b P) cuts (Goes-limited shape b c P w.stands.shape_is went);
           stop = subst R w.no_stop stop;
           rest = only_then a b c w.rest rest;
         }
 
     -- one more command was served
     pub grouped_next : (e : Sight) (cmd : Command) (rep : Reply) (reads : ℕ)
-        → Reaches shape b c (CrashFinds shape (command terms.limits cmd) b.pages w.left) → Executed shape terms c e w.left cmd rep reads → OnlyFlash b c
+        → Reaches shape b c (CrashFinds shape (command terms.limits cmd) b.pages w.left) → Executed shape terms drive c e w.left cmd rep reads → OnlyFlash b c
         → (rep.status ≡ 0x88 → Rose b.read_faults c.read_faults) → (rep.status ≢ 0x88 → c.read_faults ≡ b.read_faults) → c.stop_faults ≡ b.stop_faults → c.reads ≡ reads_after b.reads reads
         → roots b < 9223372036854775808 → roots c ≤ roots b + most_installs cmd.opcode cmd.size → Grouped shape terms start a c e (all ++ exchange cmd rep reads ∷ [])
     grouped_next e cmd rep reads reached done rest unread sound no_stop read unworn few_roots =

@@ -1,5 +1,5 @@
 -- A list that goes out piece by piece.
-use Rattle.std.proofs.Common.{◌≡◌, ◌⊎◌, inl, inr, ℕ, ◌≤◌, nat_le, true, false, List, [], ◌∷◌, ◌++◌, Option, Some, None, refl, sym, ◌∙◌, ap, subst, append-nil, append_assoc, arith}
+use Rattle.std.proofs.Common.{IfSome, ◌≡◌, ◌⊎◌, inl, inr, ℕ, ◌≤◌, nat_le, true, false, List, [], ◌∷◌, ◌++◌, Option, Some, None, refl, sym, ◌∙◌, ap, subst, append-nil, append_assoc, arith}
 use Rattle.std.proofs.lemmas.Grind.{flat_map-append}
 use Rattle.std.specs.List.{AllByRecursion}
 use Rattle.pk_base.specs.Key.{Key}
@@ -31,25 +31,42 @@ use Rattle.pk_wordrun.proofs.Resting.{rests-reading, rests-posted, rests-unposte
 use Rattle.pk_wordrun.proofs.Telling.{done_unworn, output_unworn, flash_unworn}
 use Rattle.pk_words.specs.Lines.{key_line, key_lines}
 use Rattle.pk_words.specs.Says.{SaysKeys, wanted_keys}
-use Rattle.pk_words.specs.Listing.{keys_left, start_at, asked_at}
+use Rattle.pk_host.specs.Calls.{IsOwnKey}
+use Rattle.pk_words.specs.Listing.{IsOwnPlace, keys_left, start_at, asked_at}
 use Rattle.pk_words.specs.declared.listing.ListPosition.{ListPosition}
 use Rattle.pk_wordrun.specs.Pieces.{PieceAsked, PieceTold, PieceEnds}
 use Rattle.pk_wordrun.specs.Tasks.{list, KeptTask, KeptList}
 use Rattle.pk_wordrun.specs.Told.{Told, AreOf}
 use Rattle.pk_wordrun.specs.declared.end.WordEnd.{WordEnd}
 use Rattle.pk_wordrun.specs.declared.end.WordEnd.TheVariants.{Done, Output, Flash as FlashFailed, Worn}
-use Rattle.pk_model.specs.Spaces.{Terms, limit_of, in_space}
+use Rattle.pk_model.specs.Spaces.{Terms, limits_at, limit_of, in_space}
 use Rattle.pk_port.proofs.Stepping.{part_of}
 
--- the map is unchanged, and what was posted begins these lines
-abbrev FrontOf : Shape → Map → List ℕ → Flash → List ℕ → Type 0
-FrontOf shape start lines flash posted = Holds shape flash start × ((rest : List ℕ) × (posted ++ rest ≡ lines))
+-- ---- places
+
+pub own_start : (from : Option Key) → IfSome from IsOwnKey → IsOwnPlace (start_at from)
+own_start None own = tt
+own_start (Some key) own = own
+
+pub own_next : (o : Option ListPosition) (next : ListPosition) → o ≡ Some next → IfSome o IsOwnPlace → IsOwnPlace next
+own_next o next is own = subst (λ (x : Option ListPosition). IfSome x IsOwnPlace) is own
+
+-- ---- what was said
+
+-- the flash holds this map, within these limits
+abbrev HeldHere : Shape → List ℕ → Map → Flash → Type 0
+HeldHere shape limits start flash = Holds shape flash start × (limits_at shape flash ≡ limits)
+
+-- the map and the limits are unchanged, and what was posted begins these lines
+abbrev FrontOf : Shape → List ℕ → Map → List ℕ → Flash → List ℕ → Type 0
+FrontOf shape limits start lines flash posted = HeldHere shape limits start flash × ((rest : List ℕ) × (posted ++ rest ≡ lines))
 
 -- So far: nothing was done but reads, and the lines of the first keys were posted; the others remain at this place.
 pub record IsSaying (from : Option Key) (shape : Shape) (terms : Terms) (start : Map) (a b : BoardState) (place : ListPosition) : Type 0 where
   pub has : a.shape ≡ Some shape
   pub holds : Holds shape a.pages start
-  pub reached : Reaches shape a b (FrontOf shape start (key_lines (wanted_keys from (in_space 1 start))))
+  pub within : limits_at shape a.pages ≡ terms.limits
+  pub reached : Reaches shape a b (FrontOf shape terms.limits start (key_lines (wanted_keys from (in_space 1 start))))
   pub front : List Key
   pub said : all_posted reached.0 ≡ key_lines front
   pub split : wanted_keys from (in_space 1 start) ≡ front ++ keys_left place (in_space 1 start)
@@ -68,12 +85,13 @@ wanted_at : (from : Option Key) (m : Map) → wanted_keys from m ≡ keys_left (
 wanted_at None m = refl
 wanted_at (Some key) m = refl
 
-pub saying_none : (from : Option Key) (shape : Shape) (terms : Terms) (start : Map) (a : BoardState) → a.shape ≡ Some shape → Holds shape a.pages start
+pub saying_none : (from : Option Key) (shape : Shape) (terms : Terms) (start : Map) (a : BoardState) → a.shape ≡ Some shape → Holds shape a.pages start → limits_at shape a.pages ≡ terms.limits
     → IsSaying from shape terms start a a (start_at from)
-saying_none from shape terms start a has holds = record {
+saying_none from shape terms start a has holds within = record {
   has = has;
   holds = holds;
-  reached = ([], Reached-start a a (FrontOf shape start (key_lines (wanted_keys from (in_space 1 start)))) refl refl refl refl (holds, (key_lines (wanted_keys from (in_space 1 start)), refl)), tt);
+  within = within;
+  reached = ([], Reached-start a a (FrontOf shape terms.limits start (key_lines (wanted_keys from (in_space 1 start)))) refl refl refl refl ((holds, within), (key_lines (wanted_keys from (in_space 1 start)), refl)), tt);
   front = [];
   said = refl;
   split = wanted_at from (in_space 1 start);
@@ -127,6 +145,9 @@ module _ (from : Option Key) (shape : Shape) (terms : Terms) (start : Map) (a b 
   held : Holds shape b.pages start
   held = ap (λ f. reading shape f []) so_far.pages ∙ so_far.holds
 
+  within : limits_at shape b.pages ≡ terms.limits
+  within = ap (limits_at shape) so_far.pages ∙ so_far.within
+
   told : part_of (reading shape b.pages []) ≡ Some (in_space 1 start)
   told = ap part_of held
 
@@ -136,16 +157,16 @@ module _ (from : Option Key) (shape : Shape) (terms : Terms) (start : Map) (a b 
 
   -- one more text after what was posted: what every cut before it has, and every prefix of it
   module _ (asked : BoardState) (only : OnlyReading b asked) (text : List ℕ) (P : Flash → List ℕ → Type 0)
-      (before : (f : Flash) (q : List ℕ) → FrontOf shape start lines f q → P f q)
-      (begins : (out rest : List ℕ) → out ++ rest ≡ text → (f : Flash) → Holds shape f start → P f (key_lines so_far.front ++ out)) where
+      (before : (f : Flash) (q : List ℕ) → FrontOf shape terms.limits start lines f q → P f q)
+      (begins : (out rest : List ℕ) → out ++ rest ≡ text → (f : Flash) → HeldHere shape terms.limits start f → P f (key_lines so_far.front ++ out)) where
     held_asked : Holds shape asked.pages start
     held_asked = ap (λ f. reading shape f []) (ap (λ (s : BoardState). s.pages) only) ∙ held
 
     fronts : (out rest : List ℕ) → out ++ rest ≡ text → P asked.pages (all_posted marks ++ out)
-    fronts out rest e = let T : List ℕ → Type 0 = λ t. P asked.pages (t ++ out) in subst T (sym so_far.said) (begins out rest e asked.pages held_asked)
+    fronts out rest e = let T : List ℕ → Type 0 = λ t. P asked.pages (t ++ out) in subst T (sym so_far.said) (begins out rest e asked.pages (held_asked, ap (limits_at shape) (ap (λ (s : BoardState). s.pages) only) ∙ within))
 
     behind : ReachedBy marks a asked P
-    behind = weaken marks a asked (FrontOf shape start lines) P before (reads_on marks a b asked (FrontOf shape start lines) only so_far.reached.1)
+    behind = weaken marks a asked (FrontOf shape terms.limits start lines) P before (reads_on marks a b asked (FrontOf shape terms.limits start lines) only so_far.reached.1)
 
     more : ReachedBy (post text ∷ []) asked (after_post asked text) (λ f q. P f (all_posted marks ++ q))
     more = Reached-post asked text (λ f q. P f (all_posted marks ++ q)) fronts
@@ -188,7 +209,7 @@ module _ (from : Option Key) (shape : Shape) (terms : Terms) (start : Map) (a b 
       goes_on : (page : List Key) × (keys_left place (in_space 1 start) ≡ page ++ keys_left next (in_space 1 start))
           × (text ≡ key_lines page) → IsSaying from shape terms start a (after_post asked text) next
       goes_on (page, split, spelled) =
-          let begins : (out rest : List ℕ) → out ++ rest ≡ text → (f : Flash) → Holds shape f start → FrontOf shape start lines f (key_lines so_far.front ++ out) =
+          let begins : (out rest : List ℕ) → out ++ rest ≡ text → (f : Flash) → HeldHere shape terms.limits start f → FrontOf shape terms.limits start lines f (key_lines so_far.front ++ out) =
           λ out rest e f h. (
             h,
             (
@@ -202,7 +223,8 @@ module _ (from : Option Key) (shape : Shape) (terms : Terms) (start : Map) (a b 
           record {
             has = so_far.has;
             holds = so_far.holds;
-            reached = posts_more asked is.reads text (FrontOf shape start lines) (λ f q h. h) begins;
+            within = so_far.within;
+            reached = posts_more asked is.reads text (FrontOf shape terms.limits start lines) (λ f q h. h) begins;
             front = so_far.front ++ page;
             said = posted-append marks (post text ∷ []) ∙ (ap (λ t. t ++ (text ++ [])) so_far.said
                 ∙ (ap (λ t. key_lines so_far.front ++ t) (append-nil text ∙ spelled) ∙ sym (flat_map-append key_line so_far.front page)));
@@ -226,8 +248,8 @@ module _ (from : Option Key) (shape : Shape) (terms : Terms) (start : Map) (a b 
   kept_to c = KeptTask (list from) (meter a) (meter c) shape terms start
 
   -- every cut so far begins the lines of all keys
-  all_lines : (x y : ℕ) (f : Flash) (q : List ℕ) → FrontOf shape start lines f q → KeptList from x y shape terms start f q
-  all_lines x y f q (h, (rest, e)) = record { held = h; text = lines; says = (refl, inl refl); unposted = rest; front = e }
+  all_lines : (x y : ℕ) (f : Flash) (q : List ℕ) → FrontOf shape terms.limits start lines f q → KeptList from x y shape terms start f q
+  all_lines x y f q (h, (rest, e)) = record { held = h.0; same_limits = h.1; text = lines; says = (refl, inl refl); unposted = rest; front = e }
 
   -- the whole text with this piece, whatever the piece is
   abbrev Ending : List ℕ → ℕ → ℕ → Type 0
@@ -252,10 +274,11 @@ module _ (from : Option Key) (shape : Shape) (terms : Terms) (start : Map) (a b 
     )
   ]
 
-  begins_ending : (text : List ℕ) (x y : ℕ) → Ending text x y → (out rest : List ℕ) → out ++ rest ≡ text → (f : Flash) → Holds shape f start
+  begins_ending : (text : List ℕ) (x y : ℕ) → Ending text x y → (out rest : List ℕ) → out ++ rest ≡ text → (f : Flash) → HeldHere shape terms.limits start f
       → KeptList from x y shape terms start f (key_lines so_far.front ++ out)
   begins_ending text x y says out rest e f h = record {
-    held = h;
+    held = h.0;
+    same_limits = h.1;
     text = key_lines so_far.front ++ text;
     says = says;
     unposted = rest;
@@ -292,7 +315,7 @@ module _ (from : Option Key) (shape : Shape) (terms : Terms) (start : Map) (a b 
 
   -- the output failed in this piece
   unposted : (asked : BoardState) (text : List ℕ) → OnlyReading b asked → (c : BoardState) → PostFailed asked c text
-      → ((out rest : List ℕ) → out ++ rest ≡ text → (f : Flash) → Holds shape f start → KeptList from a.read_faults c.read_faults shape terms start f (key_lines so_far.front ++ out))
+      → ((out rest : List ℕ) → out ++ rest ≡ text → (f : Flash) → HeldHere shape terms.limits start f → KeptList from a.read_faults c.read_faults shape terms start f (key_lines so_far.front ++ out))
       → Told (list from) shape terms start a c Output
   unposted asked text only c failed begins =
       let R : ℕ → Type 0 = λ n. Rose n c.out_faults in
@@ -309,7 +332,7 @@ module _ (from : Option Key) (shape : Shape) (terms : Terms) (start : Map) (a b 
 
   -- a prefix of the lines of the next keys
   begins_lines : (next : ListPosition) (asked : BoardState) (text : List ℕ) → PieceAsked shape terms b asked place (Some next) text → (x y : ℕ)
-      → (out rest : List ℕ) → out ++ rest ≡ text → (f : Flash) → Holds shape f start → KeptList from x y shape terms start f (key_lines so_far.front ++ out)
+      → (out rest : List ℕ) → out ++ rest ≡ text → (f : Flash) → HeldHere shape terms.limits start f → KeptList from x y shape terms start f (key_lines so_far.front ++ out)
   begins_lines next asked text is x y out rest e f h =
       let p = is.piece.lines (in_space 1 start) told in
       all_lines x y f (key_lines so_far.front ++ out) (
@@ -335,7 +358,7 @@ module _ (from : Option Key) (shape : Shape) (terms : Terms) (start : Map) (a b 
   stands_still c only = (
     marks,
     Went-reached marks a c (kept_to c)
-        (weaken marks a c (FrontOf shape start lines) (kept_to c) (all_lines a.read_faults c.read_faults) (reads_on marks a b c (FrontOf shape start lines) only so_far.reached.1)),
+        (weaken marks a c (FrontOf shape terms.limits start lines) (kept_to c) (all_lines a.read_faults c.read_faults) (reads_on marks a b c (FrontOf shape terms.limits start lines) only so_far.reached.1)),
     so_far.reached.2,
   )
 

@@ -1,5 +1,5 @@
 -- A drive that was opened fits its board.
-use Rattle.std.proofs.Common.{◌≡◌, [], Option, Ok, subst}
+use Rattle.std.proofs.Common.{◌≡◌, ◌≤◌, ℕ, [], length, Option, Ok, subst, arith}
 use Rattle.pk_base.specs.Shape.{Shape, IsShape}
 use Rattle.pk_base.specs.Entry.{Entry}
 use Rattle.pk_base.specs.Page.{Flash}
@@ -7,7 +7,12 @@ use Rattle.pk_base.specs.Map.{Map}
 use Rattle.std.proofs.Common.{List}
 use Rattle.pk_nand.specs.BoardState.{BoardState}
 use Rattle.pk_nand.specs.Calls.{IsReady}
-use Rattle.pk_model.specs.Laws.{MapHeld}
+use Rattle.pk_model.specs.Laws.{IsHeldMap, MapHeld}
+use Rattle.pk_model.specs.Spaces.{limits_at, limit_of, in_space}
+use Rattle.pk_host.specs.Good.{IsGoodMap}
+use Rattle.pk_serve.proofs.Limiting.{limits_some}
+use Rattle.pk_port.proofs.Isolating.{part_alone, part_sized}
+use Rattle.pk_port.proofs.Serving.{mounted_limits}
 use Rattle.pk_model.specs.Reading.{reading}
 use Rattle.pk_call.specs.Sight.{Sight}
 use Rattle.pk_call.specs.Drive.{HoldsMap}
@@ -15,13 +20,24 @@ use Rattle.pk_port.specs.Ready.{Fits}
 use Rattle.pk_port.specs.Steps.{mount}
 
 module _ (agrees : Option Shape → Flash → Type 0) (shape : Shape) (b : BoardState) (d : Sight) where
+  -- the first namespace of a map that is held
+  first_good : (m : Map) → IsHeldMap shape (limits_at shape b.pages) m → 1 ≤ length (limits_at shape b.pages) → IsGoodMap shape (limit_of (limits_at shape b.pages) 1) (in_space 1 m)
+  first_good m held some = record { sized = part_sized shape m held.is_map; alone = part_alone m; few = held.each_few 1 (omega arith) some }
+
   pub fits-opened : IsShape shape → MapHeld → IsReady b shape → agrees b.shape b.pages → d.pending ≡ [] → (m : Map) × HoldsMap shape (mount b d).terms b d m → Fits agrees shape b d
   fits-opened is_shape law ready agreed none stands =
       let R : List Entry → Type 0 = λ p. reading shape b.pages p ≡ Ok stands.0 in
-      let held = law shape b.pages [] stands.0 is_shape ready.flash tt (subst R none stands.1.map_is) in
+      let reads = subst R none stands.1.map_is in
+      let good = first_good stands.0 (law shape b.pages [] stands.0 is_shape ready.flash tt reads) (limits_some shape b.pages [] stands.0 reads) in
       record {
         shape_is = ready.shape_is;
-        ready = λ going. record { agreed = agreed; none = none; map = stands.0; stands = stands.1; good = record { sized = held.is_map; few = held.few } };
+        ready = λ going. record {
+          agreed = agreed;
+          none = none;
+          map = stands.0;
+          stands = stands.1;
+          good = subst (λ (limits : List ℕ). IsGoodMap shape (limit_of limits 1) (in_space 1 stands.0)) (mounted_limits shape b d ready.shape_is) good;
+        };
       }
 
   pub fits-somehow : IsShape shape → MapHeld → IsReady b shape → agrees b.shape b.pages → d.pending ≡ [] → (m : Map) × HoldsMap shape (mount b d).terms b d m → ∥ Fits agrees shape b d ∥₁

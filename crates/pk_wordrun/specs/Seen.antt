@@ -1,6 +1,7 @@
 -- How contracts see what the words ask of a drive.
-use Rattle.std.specs.Prelude.{◌<◌, ◌^◌}
-use Rattle.pk_words.specs.Question.{IsShort, seen as seen_question}
+use Rattle.std.specs.Prelude.{◌<◌, ◌^◌, IfSome}
+use Rattle.pk_host.specs.Calls.{IsOwnKey}
+use Rattle.pk_words.specs.Question.{IsAllowed, seen as seen_question}
 use Rattle.pk_wordrun.specs.Tasks.{Task, answer, list, generate}
 use Rattle.pk_wordrun.specs.declared.task.Task.{Task as Code}
 use Rattle.pk_wordrun.specs.declared.task.Task.TheVariants.{Answer, List as Listed, Generate}
@@ -10,8 +11,8 @@ seen (Answer question) = answer (seen_question question)
 seen (Listed from) = list from
 seen (Generate series) = generate series.start series.count
 
--- a value whose length is a field of an entry, and a number of commands below 2^32
-abbrev pub IsShortTask : Task → Type 0
-IsShortTask (answer question) = IsShort question
-IsShortTask (list from) = Unit {0}
-IsShortTask (generate begin count) = count < 2 ^ 32
+-- a key of the namespace in which commands are passed, a value whose length is a field of an entry, and a number of commands below 2^32
+abbrev pub IsAllowedTask : Task → Type 0
+IsAllowedTask (answer question) = IsAllowed question
+IsAllowedTask (list from) = IfSome from IsOwnKey
+IsAllowedTask (generate begin count) = count < 2 ^ 32

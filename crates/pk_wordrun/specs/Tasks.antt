@@ -13,7 +13,7 @@ use Rattle.pk_port.specs.Asking.{KeptWord}
 use Rattle.pk_words.specs.Question.{Question, put, get, delete, has, stat, command_of, QuestionAnswers}
 use Rattle.pk_words.specs.Says.{SaysKeys}
 use Rattle.pk_wordrun.specs.Summary.{SaysSummary}
-use Rattle.pk_model.specs.Spaces.{Terms, limit_of, in_space}
+use Rattle.pk_model.specs.Spaces.{Terms, limit_of, limits_at, in_space}
 use Rattle.pk_nvme.specs.declared.limits.TheConstants.{NAMESPACE}
 
 -- a question, a list of the keys from one on, or a workload from a start, of n commands
@@ -43,11 +43,12 @@ SaysTask (answer q) before behind shape terms m all text m' =
     QuestionAnswers q (Rose before behind) shape (limit_of terms.limits NAMESPACE) terms.frames (in_space NAMESPACE m) text (in_space NAMESPACE m')
 SaysTask (list from) before behind shape terms m all text m' =
     SaysKeys from (Rose before behind) shape (limit_of terms.limits NAMESPACE) terms.frames (in_space NAMESPACE m) text (in_space NAMESPACE m')
-SaysTask (generate begin count) before behind shape terms m all text m' = SaysSummary shape all text m'
+SaysTask (generate begin count) before behind shape terms m all text m' = SaysSummary shape all text (in_space NAMESPACE m')
 
--- The map is unchanged, and what was posted begins a text of the list.
+-- The map and the limits are unchanged, and what was posted begins a text of the list.
 pub record KeptList (from : Option Key) (before behind : ℕ) (shape : Shape) (terms : Terms) (start : Map) (flash : Flash) (posted : List ℕ) : Type 0 where
   pub held : Holds shape flash start
+  pub same_limits : limits_at shape flash ≡ terms.limits
   pub text : List ℕ
   pub says : SaysKeys from (Rose before behind) shape (limit_of terms.limits NAMESPACE) terms.frames (in_space NAMESPACE start) text (in_space NAMESPACE start)
   pub unposted : List ℕ

@@ -1,6 +1,6 @@
 //! One question to a drive.
 ghost use Rattle.std.specs.Prelude.{◌≡◌, length, OnOk};
-ghost use Rattle.pk_words.specs.Question.{seen, command_of, IsShort, QuestionAnswers};
+ghost use Rattle.pk_words.specs.Question.{seen, command_of, IsAllowed, QuestionAnswers};
 ghost use Rattle.pk_words.specs.Said.{Said, Spoken};
 ghost use Rattle.pk_call.specs.Running.{HasRoomForData};
 ghost use Rattle.pk_port.specs.Ready.{Fits};
@@ -25,7 +25,7 @@ pub fn ask<D: Engine, B: Nand>(
     // The drive on its board, the question, and the buffer for data.
     requires fits { ∥ Fits (D.agrees drive.old) shape (B.state board.old) (D.sight drive.old) ∥₁ }
     requires shape { words.old.shape ≡ shape }
-    requires short { IsShort (seen question.now) }
+    requires allowed { IsAllowed (seen question.now) }
     requires room { HasRoomForData shape buffer.old }
 
     // The drive on its board, and what it made of the command.

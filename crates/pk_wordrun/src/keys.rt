@@ -1,6 +1,6 @@
 //! A list of keys, piece by piece: one command, then its lines.
-ghost use Rattle.std.specs.Prelude.{◌≡◌, length, false, Some, IfOk, IfErr};
-ghost use Rattle.pk_words.specs.Listing.{Piece, asked_at};
+ghost use Rattle.std.specs.Prelude.{◌≡◌, length, false, Some, IfOk, IfErr, IfSome};
+ghost use Rattle.pk_words.specs.Listing.{IsOwnPlace, Piece, asked_at};
 ghost use Rattle.pk_words.specs.Said.{Spoken};
 ghost use Rattle.pk_call.specs.Running.{HasRoomForData};
 ghost use Rattle.pk_port.specs.Ready.{Fits};
@@ -25,6 +25,8 @@ fn ask_keys<D: Engine, B: Nand>(
     shape: Shape,
     place: ListPosition,
 ) -> Result<Option<ListPosition>, Halt>
+    requires own { IsOwnPlace place }
+
     // The drive on its board, and the buffer for data.
     requires fits { ∥ Fits (D.agrees drive.old) shape (B.state board.old) (D.sight drive.old) ∥₁ }
     requires room { HasRoomForData shape buffer.old }
@@ -37,6 +39,7 @@ fn ask_keys<D: Engine, B: Nand>(
     // The text.
     ensures piece { IfOk result (λ next. Piece (seen_on shape (mount (B.state board.old) (D.sight drive.old)) 0)
         (seen_on shape (mount (B.state board.new) (D.sight drive.new)) 0) place next words.new.text) }
+    ensures own { IfOk result (λ next. IfSome next IsOwnPlace) }
     ensures shape { words.new.shape ≡ words.old.shape }
     ensures room { length buffer.new ≡ length buffer.old }
 {
@@ -70,6 +73,8 @@ pub fn tell_piece<D: Engine, B: Board>(
     shape: Shape,
     place: ListPosition,
 ) -> Result<Option<ListPosition>, WordEnd>
+    requires own { IsOwnPlace place }
+
     // The drive on its board, and the buffer for data.
     requires fits { ∥ Fits (D.agrees drive.old) shape (B.state board.old) (D.sight drive.old) ∥₁ }
     requires runs { (D.sight drive.old).stopped ≡ false }
@@ -85,6 +90,7 @@ pub fn tell_piece<D: Engine, B: Board>(
     ensures room { length buffer.new ≡ length buffer.old }
 
     // The piece, or why there is none.
+    ensures own { IfOk result (λ next. IfSome next IsOwnPlace) }
     ensures told { IfOk result (λ next. PieceTold shape
         (mount (B.state board.old) (D.sight drive.old)).terms (B.state board.old)
         (B.state board.new) place next) }

@@ -1,6 +1,7 @@
 //! A list of keys to the host.
-ghost use Rattle.std.specs.Prelude.{◌≡◌, false, Some};
+ghost use Rattle.std.specs.Prelude.{◌≡◌, false, Some, IfSome};
 ghost use Rattle.pk_base.specs.Map.{Map};
+ghost use Rattle.pk_host.specs.Calls.{IsOwnKey};
 ghost use Rattle.pk_model.specs.Reading.{Holds};
 ghost use Rattle.pk_words.specs.Said.{Spoken};
 ghost use Rattle.pk_call.specs.Running.{HasRoomForData};
@@ -25,6 +26,8 @@ pub fn tell_keys<D: Engine, B: Board>(
     shape: Shape,
     from: Option<Key>,
 ) -> WordEnd
+    requires own { IfSome from IsOwnKey }
+
     // The drive on its board, and the buffer for data.
     requires fits { ∥ Fits (D.agrees drive.old) shape (B.state board.old) (D.sight drive.old) ∥₁ }
     requires on_board { (B.state board.old).shape ≡ Some shape }

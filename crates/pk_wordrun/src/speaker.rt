@@ -4,7 +4,7 @@ ghost use Rattle.pk_base.specs.Map.{Map};
 ghost use Rattle.pk_nand.specs.Calls.{IsReady};
 ghost use Rattle.pk_model.specs.Reading.{Holds};
 ghost use Rattle.pk_call.specs.Drive.{HoldsMap};
-ghost use Rattle.pk_wordrun.specs.Seen.{seen, IsShortTask};
+ghost use Rattle.pk_wordrun.specs.Seen.{seen, IsAllowedTask};
 ghost use Rattle.pk_wordrun.specs.Told.{Told};
 ghost use Rattle.pk_port.specs.Steps.{mount};
 
@@ -94,7 +94,7 @@ impl Speaker {
             (B.state board.old) (D.sight drive.old) m }
 
         // The word.
-        requires short { IsShortTask (seen task) }
+        requires allowed { IsAllowedTask (seen task) }
 
         // What it did, from the map that the flash holds.
         ensures { (start : Map) → Holds self (B.state board.old).pages start

@@ -2,7 +2,7 @@
 ghost use Rattle.std.specs.Prelude.{◌≡◌, false, Some};
 ghost use Rattle.pk_base.specs.Map.{Map};
 ghost use Rattle.pk_model.specs.Reading.{Holds};
-ghost use Rattle.pk_words.specs.Question.{seen, IsShort};
+ghost use Rattle.pk_words.specs.Question.{seen, IsAllowed};
 ghost use Rattle.pk_words.specs.Said.{Spoken};
 ghost use Rattle.pk_call.specs.Running.{HasRoomForData};
 ghost use Rattle.pk_port.specs.Ready.{Fits};
@@ -32,7 +32,7 @@ pub fn tell<D: Engine, B: Board>(
     requires on_board { (B.state board.old).shape ≡ Some shape }
     requires runs { (D.sight drive.old).stopped ≡ false }
     requires shape { words.old.shape ≡ shape }
-    requires short { IsShort (seen question.now) }
+    requires allowed { IsAllowed (seen question.now) }
     requires room { HasRoomForData shape buffer.old }
 
     ensures { (start : Map) → Holds shape (B.state board.old).pages start

@@ -1,5 +1,5 @@
 -- The keys of a list, piece by piece.
-use Rattle.std.proofs.Common.{◌≡◌, inl, inr, ◌⊎◌, ℕ, ◌-◌, ◌<◌, ◌==◌, nat_lt, if◌then◌else◌, cond, List, [], ◌∷◌, ◌++◌, length, filter, map, slice_index_or, Bool, true, false, not, Option, Some, None}
+use Rattle.std.proofs.Common.{IfSome, ◌≡◌, inl, inr, ◌⊎◌, ℕ, ◌-◌, ◌<◌, ◌==◌, nat_lt, if◌then◌else◌, cond, List, [], ◌∷◌, ◌++◌, length, filter, map, slice_index_or, Bool, true, false, not, Option, Some, None}
 use Rattle.std.proofs.Common.{is_some, Result, Ok, Err, refl, sym, ap, subst, ◌∙◌, arith, length-append}
 use Rattle.std.proofs.lemmas.Bool.{ltb-true}
 use Rattle.std.proofs.lemmas.List.{append-nil}
@@ -19,7 +19,7 @@ use Rattle.pk_model.proofs.MapLemmas.{key_total, key_antisymm}
 use Rattle.pk_host.specs.declared.types.HostError.{HostError}
 use Rattle.pk_host.specs.declared.types.HostError.TheVariants.{Refused, Port}
 use Rattle.pk_host.specs.Port.{PortState}
-use Rattle.pk_host.specs.Calls.{exist_of}
+use Rattle.pk_host.specs.Calls.{IsOwnKey, exist_of}
 use Rattle.pk_host.specs.Outcomes.{Gives, Tests, existed}
 use Rattle.pk_host.specs.Listing.{above, Pages, Follows, TellsKeys, listed_by}
 use Rattle.pk_host.proofs.RisingLemmas.{all_middle, snoc_of, keys_rising, second_above}
@@ -133,6 +133,10 @@ left_behind p None m known told = none_below (keys m) (known m told)
 left_behind p (Some key) m known told = refl
 
 -- ---- a page
+
+pub own_from : (o : Option Key) → ((k : Key) → o ≡ Some k → IsText k) → IfSome o IsOwnKey
+own_from None text = tt
+own_from (Some k) text = (text k refl).own
 
 last_at : (xs : List Key) (p : Key) → slice_index_or (xs ++ p ∷ []) (length xs) [] ≡ p
 last_at [] p = refl

@@ -8,7 +8,7 @@ use Rattle.pk_base.specs.declared.sizes.TheConstants.{KEY_BYTES}
 use Rattle.pk_nand.specs.Calls.{Rose}
 use Rattle.pk_nvme.specs.Command.{Command}
 use Rattle.pk_host.specs.Port.{PortState}
-use Rattle.pk_host.specs.Calls.{exist_of}
+use Rattle.pk_host.specs.Calls.{IsOwnKey, exist_of}
 use Rattle.pk_host.specs.Outcomes.{Leaves, list_of}
 use Rattle.pk_host.specs.Listing.{above}
 use Rattle.pk_words.specs.Lines.{failed_line, key_lines}
@@ -21,6 +21,12 @@ abbrev pub keys_left : ListPosition → Map → List Key
 keys_left First m = keys_from [] m
 keys_left (From key) m = keys_from key m
 keys_left (After key) m = above key (keys m)
+
+-- at a key of the namespace in which commands are passed
+abbrev pub IsOwnPlace : ListPosition → Type 0
+IsOwnPlace First = Unit {0}
+IsOwnPlace (From key) = IsOwnKey key
+IsOwnPlace (After key) = IsOwnKey key
 
 -- where a list begins
 abbrev pub start_at : Option Key → ListPosition
@@ -46,9 +52,10 @@ rank zero key = 0
 rank (suc n) [] = 0
 rank (suc n) (byte ∷ key) = suc byte * 257 ^ n + rank n key
 
--- A key of 1 to 16 bytes, in a namespace that is a byte too.
+-- A key of 1 to 16 bytes, of the namespace in which commands are passed.
 pub record IsText (key : Key) : Type 0 where
   pub is_key : IsKey key
+  pub own : IsOwnKey key
   pub bytes : AreBytes key
 
 -- at most n pieces come after a key

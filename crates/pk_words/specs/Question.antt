@@ -3,7 +3,7 @@ use Rattle.std.specs.Prelude.{ℕ, ◌<◌, ◌^◌, List, length}
 use Rattle.pk_base.specs.Key.{Key}
 use Rattle.pk_base.specs.Shape.{Shape, greatest}
 use Rattle.pk_nvme.specs.Command.{Command}
-use Rattle.pk_host.specs.Calls.{store_of, retrieve_of, delete_of, exist_of, report}
+use Rattle.pk_host.specs.Calls.{IsOwnKey, store_of, retrieve_of, delete_of, exist_of, report}
 use Rattle.pk_host.specs.declared.types.StoreRule.TheVariants.{Any}
 use Rattle.pk_words.specs.Says.{Saying, SaysStatus, SaysValue, SaysNumbers}
 use Rattle.pk_words.specs.declared.question.Question.{Question as Code}
@@ -32,13 +32,13 @@ command_of shape (delete key) = delete_of key
 command_of shape (has key) = exist_of key
 command_of shape stat = report
 
--- a value whose length is a field of an entry
-abbrev pub IsShort : Question → Type 0
-IsShort (put key value) = length value < 2 ^ 32
-IsShort (get key) = Unit {0}
-IsShort (delete key) = Unit {0}
-IsShort (has key) = Unit {0}
-IsShort stat = Unit {0}
+-- a key of the namespace in which commands are passed, and a value whose length is a field of an entry
+abbrev pub IsAllowed : Question → Type 0
+IsAllowed (put key value) = IsOwnKey key × (length value < 2 ^ 32)
+IsAllowed (get key) = IsOwnKey key
+IsAllowed (delete key) = IsOwnKey key
+IsAllowed (has key) = IsOwnKey key
+IsAllowed stat = Unit {0}
 
 -- what it says of the map that it finds, and which map it leaves
 abbrev pub QuestionAnswers : Question → Saying

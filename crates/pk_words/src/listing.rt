@@ -1,11 +1,11 @@
 //! A list of keys, piece by piece.
-ghost use Rattle.std.specs.Prelude.{◌≡◌, ◌<◌, ◌-◌, ℕ, List, [], ◌∷◌, length, slice_index_or, Some, OnErr, IfOk};
+ghost use Rattle.std.specs.Prelude.{◌≡◌, ◌<◌, ◌-◌, ℕ, List, [], ◌∷◌, length, slice_index_or, Some, OnErr, IfOk, IfSome};
 ghost use Rattle.std.specs.Option.{option_copied};
 ghost use Rattle.pk_nand.specs.Calls.{Rose};
 ghost use Rattle.pk_nvme.specs.Command.{key_or_none};
-ghost use Rattle.pk_host.specs.Calls.{exist_of};
+ghost use Rattle.pk_host.specs.Calls.{IsOwnKey, exist_of};
 ghost use Rattle.pk_host.specs.Outcomes.{Leaves, list_of};
-ghost use Rattle.pk_words.specs.Listing.{Piece, IsText, asked_at, position_after, start_at};
+ghost use Rattle.pk_words.specs.Listing.{Piece, IsOwnPlace, IsText, asked_at, position_after, start_at};
 ghost use Rattle.pk_words.specs.declared.listing.ListPosition.TheVariants.{From};
 
 use crate::lines::{add_key, say_keys, say_status};
@@ -44,8 +44,10 @@ impl Words {
         port: &mut P,
         place: ListPosition,
     ) -> Result<Option<ListPosition>, PortFault>
+        requires { IsOwnPlace place }
         ensures piece { IfOk result (λ next. Piece (P.state port.old) (P.state port.new) place next
             self.new.text) }
+        ensures own { IfOk result (λ next. IfSome next IsOwnPlace) }
         ensures leaves { Leaves (P.state port.old) (P.state port.new) (λ m. m) }
         ensures fault { OnErr result
             (Rose (P.state port.old).port_faults (P.state port.new).port_faults) }
@@ -68,8 +70,10 @@ impl Words {
         port: &mut P,
         key: Key,
     ) -> Result<Option<ListPosition>, PortFault>
+        requires { IsOwnKey key }
         ensures piece { IfOk result (λ next. Piece (P.state port.old) (P.state port.new)
             (From key) next self.new.text) }
+        ensures own { IfOk result (λ next. IfSome next IsOwnPlace) }
         ensures leaves { Leaves (P.state port.old) (P.state port.new) (λ m. m) }
         ensures fault { OnErr result
             (Rose (P.state port.old).port_faults (P.state port.new).port_faults) }
@@ -102,6 +106,7 @@ impl Words {
         requires { (key : List ℕ) → option_copied from ≡ Some key → IsText key }
         ensures piece { IfOk result (λ next. Piece (P.state port.old) (P.state port.new)
             (position_after (option_copied from.entry)) next self.new.text) }
+        ensures own { IfOk result (λ next. IfSome next IsOwnPlace) }
         ensures leaves { Leaves (P.state port.old) (P.state port.new) (λ m. m) }
         ensures fault { OnErr result
             (Rose (P.state port.old).port_faults (P.state port.new).port_faults) }
@@ -138,8 +143,9 @@ fn last_of(page: &KeyPage) -> Key
     last.copy()
 }
 
-/// A key is 1 to 16 bytes.
+/// A key of the namespace in which commands are passed is one, and 1 to 16 bytes.
 fn is_text(key: &Key)
+    requires { IsOwnKey key.now }
     ensures { IsText key.now }
 {
     are_bytes(key.bytes());

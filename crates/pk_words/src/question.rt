@@ -1,7 +1,7 @@
 //! The words of one command each.
 ghost use Rattle.std.specs.Prelude.{◌≡◌, [], ◌∷◌, OnOk, OnErr};
 ghost use Rattle.pk_nand.specs.Calls.{Rose};
-ghost use Rattle.pk_words.specs.Question.{seen, command_of, IsShort, QuestionAnswers};
+ghost use Rattle.pk_words.specs.Question.{seen, command_of, IsAllowed, QuestionAnswers};
 ghost use Rattle.pk_words.specs.Said.{Said, Spoken};
 
 use crate::words::Words;
@@ -27,7 +27,7 @@ pub enum Question {
 impl Words {
     /// Says the answer of a question, by its one command, over a drive of the shape of these words.
     pub fn answer<P: Port>(&mut self, port: &mut P, question: &Question) -> Result<(), PortFault>
-        requires { IsShort (seen question.now) }
+        requires { IsAllowed (seen question.now) }
         ensures said { OnOk result ((P.state port.old).shape ≡ self.old.shape
             → Said (QuestionAnswers (seen question.now)) (P.state port.old) (P.state port.new)
             self.new.text) }

@@ -2,7 +2,7 @@
 ghost use Rattle.std.specs.Prelude.{◌≡◌, ◌+◌, ◌*◌, ◌<◌, ◌≤◌, ◌^◌, [], ◌∷◌, length, OnOk, OnErr, IfOk};
 ghost use Rattle.pk_base.specs.Shape.{greatest};
 ghost use Rattle.pk_nand.specs.Calls.{Rose};
-ghost use Rattle.pk_host.specs.Calls.{store_of, delete_of, exist_of, retrieve_of};
+ghost use Rattle.pk_host.specs.Calls.{IsOwnKey, store_of, delete_of, exist_of, retrieve_of};
 ghost use Rattle.pk_host.specs.declared.types.StoreRule.TheVariants.{Any};
 ghost use Rattle.pk_words.specs.Says.{SaysStatus, SaysValue};
 ghost use Rattle.pk_words.specs.Said.{Said, Spoken};
@@ -80,7 +80,8 @@ impl Words {
 
     /// Stores a value under a key, and says how that was answered.
     pub fn put<P: Port>(&mut self, port: &mut P, key: &Key, value: &[u8]) -> Result<(), PortFault>
-        requires { length value.now < 2 ^ 32 }
+        requires own { IsOwnKey key.now }
+        requires short { length value.now < 2 ^ 32 }
         ensures said { OnOk result (Said (SaysStatus (store_of key.now value.now Any))
             (P.state port.old) (P.state port.new) self.new.text) }
         ensures fault { OnErr result
@@ -99,6 +100,7 @@ impl Words {
 
     /// Takes a key away, and says how that was answered.
     pub fn delete<P: Port>(&mut self, port: &mut P, key: &Key) -> Result<(), PortFault>
+        requires own { IsOwnKey key.now }
         ensures said { OnOk result (Said (SaysStatus (delete_of key.now))
             (P.state port.old) (P.state port.new) self.new.text) }
         ensures fault { OnErr result
@@ -117,6 +119,7 @@ impl Words {
 
     /// Says whether a key exists.
     pub fn has<P: Port>(&mut self, port: &mut P, key: &Key) -> Result<(), PortFault>
+        requires own { IsOwnKey key.now }
         ensures said { OnOk result (Said (SaysStatus (exist_of key.now))
             (P.state port.old) (P.state port.new) self.new.text) }
         ensures fault { OnErr result
@@ -135,6 +138,7 @@ impl Words {
 
     /// Says the whole value of a key, over a drive of the shape of these words.
     pub fn get<P: Port>(&mut self, port: &mut P, key: &Key) -> Result<(), PortFault>
+        requires own { IsOwnKey key.now }
         ensures said { OnOk result ((P.state port.old).shape ≡ self.old.shape
             → Said (SaysValue key.now) (P.state port.old) (P.state port.new) self.new.text) }
         ensures fault { OnErr result
@@ -156,6 +160,7 @@ fn say_found<P: Port>(
     buffer: &mut [u8],
     text: &mut Bytes,
 ) -> Result<(), PortFault>
+    requires own { IsOwnKey key.now }
     requires small { length buffer.old < 2 ^ 32 }
     requires room { 2 * length buffer.old + 11 ≤ text.old.room }
     ensures said { OnOk result (length buffer.old ≡ greatest (P.state port.old).shape

@@ -14,7 +14,7 @@ use Rattle.pk_mirror.proofs.AskLemmas.{list_unread}
 use Rattle.pk_mirror.proofs.KeyLemmas.{first_cause, side_unread, list_keeps, lacks_both}
 use Rattle.pk_mirror.proofs.VisitLemmas.{asking_one, asking_more, cause_later, fails_kept, asked_one, asked_before}
 use Rattle.pk_mirror.proofs.SpendLemmas.{spent_none, spending_looks, looks_no_store, moved_first, moved_first_spent}
-use Rattle.pk_mirror.proofs.PageLemmas.{page_some, page_falls, falls_next, short_from, turns_some, turns_none}
+use Rattle.pk_mirror.proofs.PageLemmas.{page_some, page_falls, falls_next, short_from, own_from, turns_some, turns_none}
 use Rattle.pk_mirror.proofs.resync.copy_page.Goals as goal
 
 pub copy_all_missing-requires-clause-alike : goal.copy_all_missing-requires-clause-alike
@@ -123,3 +123,6 @@ returns-in-Ok-clause-asked_first g c = asked_before g.P.Port.took g.met.P.Port.t
 
 pub returns-in-Ok-false-clause-asked_first : goal.returns-in-Ok-false-clause-asked_first
 returns-in-Ok-false-clause-asked_first g c = asked_one g.P.Port.took _ _ _ c.list_page.ensures.took
+
+pub list_page-requires-clause-own : goal.list_page-requires-clause-own
+list_page-requires-clause-own g c = own_from (option_copied c.args.last) c.requires.text

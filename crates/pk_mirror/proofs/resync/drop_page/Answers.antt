@@ -13,7 +13,7 @@ use Rattle.pk_mirror.proofs.AskLemmas.{list_unread}
 use Rattle.pk_mirror.proofs.KeyLemmas.{second_cause, side_unread, list_keeps}
 use Rattle.pk_mirror.proofs.VisitLemmas.{asking_none, cause_later, fails_kept, asked_one, asked_before}
 use Rattle.pk_mirror.proofs.SpendLemmas.{took_spent, took_spending, goes_same, spent_looks, spending_looks, looks_no_delete}
-use Rattle.pk_mirror.proofs.PageLemmas.{page_some, page_falls, falls_next, short_from, turns_some, turns_none}
+use Rattle.pk_mirror.proofs.PageLemmas.{page_some, page_falls, falls_next, short_from, own_from, turns_some, turns_none}
 use Rattle.pk_mirror.proofs.resync.drop_page.Goals as goal
 
 pub drop_others-requires-clause-alike : goal.drop_others-requires-clause-alike
@@ -131,3 +131,6 @@ returns-in-Ok-clause-asked_second g c = asked_before g.Q.Port.took g.met.Q.Port.
 
 pub returns-in-Ok-false-clause-asked_second : goal.returns-in-Ok-false-clause-asked_second
 returns-in-Ok-false-clause-asked_second g c = asked_one g.Q.Port.took _ _ _ c.list_page.ensures.took
+
+pub list_page-requires-clause-own : goal.list_page-requires-clause-own
+list_page-requires-clause-own g c = own_from (option_copied c.args.last) c.requires.text

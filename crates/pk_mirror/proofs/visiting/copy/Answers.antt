@@ -78,7 +78,7 @@ returns-in-Err-store-clause-causes g c = second_cause stored stored_tells _ _ _ 
 
 pub returns-in-Err-store-clause-unread : goal.returns-in-Err-store-clause-unread
 returns-in-Err-store-clause-unread g c = store_unread _ _ _ _ c.args.key.now c.retrieve.new.into c.front.result.now c.in-Ok-Some.len _ _ c.in-Err-store.error c.on.result
-    c.bytes.ensures.key c.requires.alike c.in-Ok-Some.ensures.gives (omega (arith, c.requires.room, c.retrieve.auto.into))
+    c.bytes.ensures.key c.requires.own c.requires.alike c.in-Ok-Some.ensures.gives (omega (arith, c.requires.room, c.retrieve.auto.into))
     (fetched_as (g.P.Port.state c.args.first.now) c.args.key.now c.retrieve.new.into _ (Some c.in-Ok-Some.len) c.in-Ok-Some.field-0-is c.in-Ok-Some.ensures.fetches)
     c.front.ensures c.in-Err-store.ensures.gives c.on.ensures
 

@@ -8,8 +8,8 @@ use Rattle.pk_mirrorwords.specs.PairTasks.{delete}
 use Rattle.pk_mirrorwords.proofs.Replying.{write_done, write_fails, true_line, false_line}
 use Rattle.pk_mirrorwords.proofs.answering.delete.Goals as goal
 
-pub delete-requires : goal.delete-requires
-delete-requires g c = c.requires.pair.pair.pair
+pub delete-requires-clause-pair : goal.delete-requires-clause-pair
+delete-requires-clause-pair g c = c.requires.pair.pair.pair
 
 pub returns-in-Ok-true-clause-done : goal.returns-in-Ok-true-clause-done
 returns-in-Ok-true-clause-done g c = λ m told. write_done c.args.mirror.now c.delete.new.self _ _ _ _ (delete_of c.args.key.now) Delete existed existed_tells refl

@@ -3,13 +3,16 @@ use Rattle.std.specs.Option.{option_copied}
 use Rattle.pk_nvme.specs.Bytes.{RoomyList}
 use Rattle.pk_nvme.specs.Command.{key_or_none}
 use Rattle.pk_host.specs.Listing.{listed_by}
-use Rattle.pk_mirror.proofs.PageLemmas.{page_falls}
+use Rattle.pk_mirror.proofs.PageLemmas.{own_from, page_falls}
 use Rattle.pk_mirrorwords.proofs.Replying.{asks_within}
 use Rattle.pk_mirrorwords.proofs.Paging.{asked_some, page_room, goes_some, goes_none, page_fails, told_after, lists_ask}
 use Rattle.pk_mirrorwords.proofs.pages.add_page.Goals as goal
 
-pub list_page-requires : goal.list_page-requires
-list_page-requires g c = c.requires.pair.pair
+pub list_page-requires-clause-pair : goal.list_page-requires-clause-pair
+list_page-requires-clause-pair g c = c.requires.pair.pair
+
+pub list_page-requires-clause-own : goal.list_page-requires-clause-own
+list_page-requires-clause-own g c = own_from (option_copied c.args.last) c.requires.from
 
 pub add_keys-requires : goal.add_keys-requires
 add_keys-requires g c =
@@ -17,7 +20,7 @@ add_keys-requires g c =
     page_room (g.P.Port.state c.args.first.now) (option_copied c.args.last) c.args.text.now.items c.requires.listed
     (λ m told. (asks_within _ _ _ _ _ _ _ (listed_by c.list_page.new.page) _ c.in-Ok-true.ensures.asks c.requires.pair.pair m told).0) c.list_page.new.page c.in-Ok-true.ensures.pages
     (asked_some _ _ _ _ _ _ _ c.list_page.new.page c.in-Ok-true.field-0 c.in-Ok-true.field-0-test c.in-Ok-true.ensures.asks) c.args.shape.now
-    c.known.ensures c.requires.shape c.requires.pair.limit_is c.args.text.now.room c.requires.room c.requires.pair.map c.requires.pair.told within.1
+    c.known.ensures c.requires.shape c.requires.pair.limit_most c.args.text.now.room c.requires.room c.requires.pair.map c.requires.pair.told within.1
 
 pub last_of-requires : goal.last_of-requires
 last_of-requires g c = asked_some _ _ _ _ _ _ _ c.list_page.new.page c.in-Ok-true.field-0 c.in-Ok-true.field-0-test c.in-Ok-true.ensures.asks

@@ -1,9 +1,11 @@
 use Rattle.std.proofs.Common.{ℕ, Option, Some, None, refl, sym, subst, ◌∙◌}
 use Rattle.pk_words.specs.declared.listing.ListPosition.{ListPosition}
 use Rattle.pk_wordrun.specs.Pieces.{PieceTold, PieceEnds}
-use Rattle.pk_wordrun.proofs.Lists.{IsSaying, saying_none, saying_more, saying_done, saying_ends}
+use Rattle.pk_words.specs.Listing.{IsOwnPlace}
+use Rattle.pk_wordrun.proofs.Lists.{own_start, own_next, IsSaying, saying_none, saying_more, saying_done, saying_ends}
 use Rattle.pk_model.specs.Spaces.{Terms}
 use Rattle.pk_port.specs.Steps.{mount}
+use Rattle.pk_port.proofs.Serving.{mounted_limits}
 use Rattle.pk_wordrun.proofs.list.tell_keys.Goals as goal
 
 pub loop-next-init : goal.loop-next-init
@@ -15,7 +17,9 @@ loop-next-init g c = (
       let a = g.B.Nand.state c.args.board.now in
       let terms = (mount (g.B.Nand.state c.args.board.now) (g.D.Engine.sight c.args.drive.now)).terms in
       let T : ListPosition → Type 0 = λ p. IsSaying c.args.from c.args.shape terms start a a p in
-      subst T (sym c.from-place.ensures) (saying_none c.args.from c.args.shape terms start a c.requires.on_board holds),
+      subst T (sym c.from-place.ensures) (saying_none c.args.from c.args.shape terms start a c.requires.on_board holds
+      (mounted_limits c.args.shape a (g.D.Engine.sight c.args.drive.now) c.requires.on_board)),
+  subst IsOwnPlace (sym c.from-place.ensures) (own_start c.args.from c.requires.own),
 )
 
 pub loop-next-preserved : goal.loop-next-preserved
@@ -33,6 +37,7 @@ loop-next-preserved g c =
           saying_more c.args.from c.args.shape (mount (g.B.Nand.state c.args.board.now) (g.D.Engine.sight c.args.drive.now)).terms start
           (g.B.Nand.state c.args.board.now) b c.loop-next.place (v.3 start holds)
           t.asked c.in-Ok-Some.next t.text t.is next t.posted,
+      own_next c.in-Ok-Some.field-0 c.in-Ok-Some.next c.in-Ok-Some.field-0-is c.in-Ok-Some.ensures.own,
     )
 
 pub returns-in-Ok-None : goal.returns-in-Ok-None

@@ -4,7 +4,6 @@ use Rattle.pk_call.specs.Seen.{reply_of}
 use Rattle.pk_host.specs.Good.{IsHanded}
 use Rattle.pk_host.specs.Port.{Replies, room_of}
 use Rattle.pk_port.specs.Steps.{mount, seen}
-use Rattle.pk_serve.proofs.Limiting.{limits_some}
 use Rattle.pk_port.proofs.Stepping.{stepped_ok, stepped_err, chain_one}
 use Rattle.pk_port.proofs.submit.DrivePortPort.submit.Goals as goal
 
@@ -36,7 +35,7 @@ returns-in-Ok-clause-took g c = (
   refl,
   chain_one c.args.self.now.shape _ _ _ _ (c.of-request.ensures c.args.value.now)
       (stepped_ok c.args.self.now.shape (mount (g.B.Nand.state c.args.self.now.board.now) (g.D.Engine.sight c.args.self.now.drive.now))
-      (mount (g.B.Nand.state c.serve_lent.new.board) (g.D.Engine.sight c.serve_lent.new.drive)) _ (limits_some _ _)
+      (mount (g.B.Nand.state c.serve_lent.new.board) (g.D.Engine.sight c.serve_lent.new.drive)) _
       (ap (λ (k : Command). k.namespace) (c.of-request.ensures c.args.value.now) ∙ c.requires.namespace) _ _ _ _ c.in-Ok.ensures.fits.shape_is _ c.in-Ok.ensures.makes
       (ap (λ t. t.faults) c.answer.ensures) (ap (λ t. t.halt) c.answer.ensures)),
 )
@@ -50,7 +49,7 @@ returns-in-Err-clause-took g c = (
   refl,
   chain_one c.args.self.now.shape _ _ _ _ (c.of-request.ensures c.args.value.now)
       (stepped_err c.args.self.now.shape (mount (g.B.Nand.state c.args.self.now.board.now) (g.D.Engine.sight c.args.self.now.drive.now))
-      (mount (g.B.Nand.state c.serve_lent.new.board) (g.D.Engine.sight c.serve_lent.new.drive)) _ (limits_some _ _)
+      (mount (g.B.Nand.state c.serve_lent.new.board) (g.D.Engine.sight c.serve_lent.new.drive)) _
       (ap (λ (k : Command). k.namespace) (c.of-request.ensures c.args.value.now)
       ∙ c.requires.namespace) _ _ _ _ c.in-Err.ensures.fits.shape_is c.in-Err.halt c.in-Err.ensures.makes c.fail.ensures.rose c.fail.ensures.up c.fail.ensures.halt),
 )

@@ -1,6 +1,6 @@
 use Rattle.std.proofs.Common.{ap}
 use Rattle.pk_nvme.specs.Bytes.{RoomyList}
-use Rattle.pk_words.proofs.ListLemmas.{page_some, says_page, says_end}
+use Rattle.pk_words.proofs.ListLemmas.{own_from, page_some, says_page, says_end}
 use Rattle.pk_words.proofs.words.Words.list_after.Goals as goal
 
 pub last_of-requires : goal.last_of-requires
@@ -16,3 +16,6 @@ pub returns-in-Ok-false-clause-piece : goal.returns-in-Ok-false-clause-piece
 returns-in-Ok-false-clause-piece g c =
     says_end (g.P.Port.state c.args.port.now) (g.P.Port.state c.list_page.new.port) _ c.in-Ok-false.field-0 _ c.in-Ok-false.field-0-test c.in-Ok-false.ensures.follows c.in-Ok-false.ensures.known
     (ap (λ (t : RoomyList). t.items) c.clear.ensures)
+
+pub list_page-requires-clause-own : goal.list_page-requires-clause-own
+list_page-requires-clause-own g c = own_from _ c.requires
