@@ -15,7 +15,7 @@ use Rattle.pk_rootfmt.specs.Held.{first_with}
 use Rattle.pk_rootfmt.specs.Newest.{newest_root, limits_if}
 use Rattle.pk_model.specs.Spaces.{limits_at}
 use Rattle.pk_rootfmt.proofs.LimitLemmas.{by_test}
-use Rattle.pk_rootfmt.proofs.PageLemmas.{bytes_same, same_bytes}
+use Rattle.pk_rootfmt.proofs.PageLemmas.{same_bytes}
 
 -- limits that a drive may have are those of a root, unless they are the one limit of the shape
 fits : (left : ℕ) (ls : List ℕ) → has_zero ls ≡ false → sum ls ≤ left → fit_in left ls ≡ true
@@ -34,13 +34,6 @@ fits left (l ∷ ls) no_zero within =
 
     not_zero : (n : ℕ) → (n == 0) ≡ false → nat_le 1 n ≡ true
     not_zero n e = grind (arith, nat_tests)
-
-pub whole_limits : (shape : Shape) (limits : List ℕ) → length limits ≡ 1 → slice_index limits 0 ≡ limit shape → [] ≡ written_limits shape limits
-whole_limits shape [] one is = absurd (omega (arith, one))
-whole_limits shape (l ∷ []) one is =
-    let same : bytes_eq (l ∷ []) (limit shape ∷ []) ≡ true = ap (λ (n : ℕ). bytes_eq (n ∷ []) (limit shape ∷ [])) is ∙ bytes_same (limit shape ∷ []) in
-    sym (ap (λ (b : Bool). if b then [] else l ∷ []) same)
-whole_limits shape (l ∷ k ∷ ls) one is = absurd (omega (arith, one))
 
 pub other_limits : (shape : Shape) (limits : List ℕ) → (length limits ≡ 1 → slice_index limits 0 ≡ limit shape → ⊥) → bytes_eq limits (limit shape ∷ []) ≡ false
 other_limits shape limits other = by_test (bytes_eq limits (limit shape ∷ [])) (bytes_eq limits (limit shape ∷ []) ≡ false)
