@@ -153,6 +153,44 @@ class Dump(unittest.TestCase):
         self.assertEqual((done.returncode, done.stdout), (8, ""))
         self.assertIn("there is no image\n", done.stderr)
 
+    def with_two_namespaces(self):
+        """A drive of two namespaces with the key `a` in both, and `b` in the second."""
+        os.remove(self.image)
+        pinkdrive.make(self.image, PAGE, 16, 64, program=PINK, limits=(100, 392))
+        with pinkdrive.Drive(self.image, program=PINK) as d:
+            d[b"a"] = b"1"
+            d.store(b"b", bytes(1000), namespace=2)
+            d.store(b"a", b"22", namespace=2)
+
+    def test_two_namespaces(self):
+        self.with_two_namespaces()
+        self.assertEqual({it["limits"] for it in self.of("root")}, {"100,392"})
+        entries = {(it["space"], it["key"], it["len"]) for it in self.of("entry")}
+        self.assertEqual(entries, {("1", "61", "1"), ("2", "62", "1000"), ("2", "61", "2")})
+        used = [
+            {"number": "1", "keys": "1", "live": "2", "limit": "100"},
+            {"number": "2", "keys": "2", "live": "6", "limit": "392"},
+        ]
+        self.assertEqual((self.of("space"), self.of("map")), (used, [{"keys": "3"}]))
+        text = self.run_dump().stdout
+        self.assertIn("limits of 100,392 pages", text)
+        self.assertIn("namespace 2: 2 keys in 6 of 392 pages", text)
+        self.assertIn("  2:61 ", text)
+
+    def test_one_namespace(self):
+        self.store({b"a": b"1"})
+        self.assertEqual({it["limits"] for it in self.of("root")}, {"492"})
+        self.assertEqual(self.of("space"), [{"number": "1", "keys": "1", "live": "2", "limit": "492"}])
+        self.assertEqual([it["space"] for it in self.of("entry")], ["1"])
+        self.assertNotIn("limits of", self.run_dump().stdout)
+
+    def test_an_entry_of_another_namespace(self):
+        self.with_two_namespaces()
+        pages = [int(it["number"]) for it in self.of("page") if it["of"] == "epoch"]
+        self.change(self.page(pages[0]) + 34, b"\2")
+        done = self.run_dump("lines")
+        self.assertIn(f"fails page={pages[0]}", done.stdout)
+
     def test_words(self):
         for words in (["what"], ["lines", "more"]):
             self.assertEqual(self.run_dump(*words).returncode, 2)
@@ -181,6 +219,14 @@ class Dump(unittest.TestCase):
         done = self.picture(self.run_dump("lines").stdout)
         self.assertEqual(done.returncode, 0)
         self.assertLess(len(done.stdout), 50000)
+
+    def test_the_picture_of_two_namespaces(self):
+        self.store({b"a": b"1"})
+        self.assertNotIn("namespace", self.picture(self.run_dump("lines").stdout).stdout)
+        self.with_two_namespaces()
+        drawn = self.picture(self.run_dump("lines").stdout).stdout
+        self.assertIn(">namespace 1: 1 keys in 2 of 100 pages</text>", drawn)
+        self.assertIn(">namespace 2: 2 keys in 6 of 392 pages</text>", drawn)
 
     def test_no_picture_is_no_file(self):
         place = self.image + ".svg"

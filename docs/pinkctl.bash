@@ -9,7 +9,7 @@ _pinkctl() {
     case ${COMP_WORDS[1]} in
         check) options+=" --json --wait --no-compare" ;;
         export) options+=" --output --force --format --from --prefix --namespace --wait --progress --quiet" ;;
-        import) options+=" --overwrite --make --namespace --dry-run --wait --progress --quiet" ;;
+        import) options+=" --overwrite --make --limits --namespace --dry-run --wait --progress --quiet" ;;
         backup) options+=" --wait --force --even-damaged --progress --quiet" ;;
         salvage) options+=" --wait --shape --sure-only --list --dry-run --progress --quiet" ;;
         shell) options+=" --wait --execute --raw --words" ;;

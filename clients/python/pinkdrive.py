@@ -358,7 +358,7 @@ def refusal_text(
         tail = ""
         if limits and limits.live_pages:
             pages, all_pages = limits.shape.pages_of(size), limits.live_pages
-            tail = f": its value takes {pages} pages, and the values of all keys at most {all_pages}"
+            tail = f": its value takes {pages} pages, and the values of its namespace at most {all_pages}"
         return f"no space for the key {key!r}{tail} (status 81h)"
     if status == 0x85:
         most = str(limits.shape.greatest_value) if limits else "fewer"

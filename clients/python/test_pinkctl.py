@@ -386,6 +386,22 @@ class ExportAndImport(OnImage):
         self.ctl("import", new, "--make", "512", "16", "64", input=b"store 61 61\n")
         self.assertEqual(self.held(new), {b"a": b"a"})
 
+    def test_namespaces(self):
+        new, other = self.path("new.img"), self.path("other.img")
+        self.ctl("import", new, "--make", "512", "16", "64", "--limits", "100,393", input=b"", status=2)
+        self.assertIn("together 493 pages", self.said)
+        self.ctl("import", new, "--make", "512", "16", "64", "--limits", "x", input=b"", status=2)
+        self.assertFalse(os.path.exists(new))
+        self.ctl("import", new, "--make", "512", "16", "64", "--limits", "100,392", input=b"store 61 61\n")
+        self.ctl("import", new, "--namespace", "2", input=b"store 61 62\nstore 62 63\n")
+        second = self.ctl("export", new, "--namespace", "2")
+        self.assertEqual(self.ctl("export", new).count(b"store "), 1)
+        self.ctl("import", other, "--make", "512", "16", "64", "--limits", "2,490", "--namespace", "2", input=second)
+        self.assertEqual((self.held(other), self.ctl("export", other, "--namespace", "2")), ({}, second))
+        found = self.check(path=other)
+        used = [(it["namespace"], it["limit"], it["keys"], it["value_pages"]) for it in found["namespaces"]]
+        self.assertEqual(used, [(1, 2, 0, 0), (2, 490, 2, 4)])
+
     def test_a_closed_pipe(self):
         self.small()
         done = subprocess.run(f"'{PINKCTL}' export '{self.image}' | head -1", shell=True, capture_output=True)
@@ -704,7 +720,7 @@ class Namespaces(unittest.TestCase):
         flash = self.read([], [(1, b"a", b"x")])
         self.assertEqual((flash.opens, flash.limits), (True, (492,)))
 
-    def test_a_namespace_that_the_drive_has_not(self):
+    def test_a_namespace_that_the_drive_does_not_have(self):
         for limits, space in ([100, 392], 3), ([492], 2), ([], 2):
             self.assertEqual(self.read(limits, [(space, b"a", b"x")]).fault.page, 32)
 

@@ -20,7 +20,7 @@ HERE = os.path.dirname(os.path.abspath(__file__))
 sys.path.insert(0, HERE)
 
 import pinkdrive
-from pinkdrive import Drive, DriveEnded, Opcode, make
+from pinkdrive import Drive, DriveEnded, Opcode, Shape, make
 
 PROGRAM = os.environ.get("PINK_PROGRAM", pinkdrive.PROGRAM)
 SMALL = (512, 16, 64)
@@ -46,6 +46,107 @@ class OnImage(unittest.TestCase):
     def bytes_of_image(self):
         with open(self.image, "rb") as it:
             return it.read()
+
+
+class Namespaces(OnImage):
+    """Drives of several namespaces."""
+
+    shape = None
+
+    def made(self, *limits):
+        make(self.image, *SMALL, program=PROGRAM, limits=limits)
+
+    def test_one_key_in_two(self):
+        self.made(100, 392)
+        with self.open() as d:
+            d.store(b"k", b"first")
+            self.assertFalse(d.exist(b"k", namespace=2))
+            d.store(b"k", b"second", if_absent=True, namespace=2)
+            d.store(b"l", b"other", namespace=2)
+            self.assertEqual((d[b"k"], d.retrieve(b"k", namespace=2)), (b"first", b"second"))
+            self.assertEqual(list(d.items_from(namespace=2)), [(b"k", b"second"), (b"l", b"other")])
+            self.assertEqual((list(d), list(d.keys_from(b"l"))), ([b"k"], []))
+            d.delete(b"k")
+            self.assertEqual((b"k" in d, d.length(b"k", namespace=2)), (False, 6))
+        with Drive(self.image, program=PROGRAM, namespace=2) as d:
+            self.assertEqual(dict(d), {b"k": b"second", b"l": b"other"})
+            self.assertEqual(d.limits.live_pages, 392)
+
+    def test_reports(self):
+        self.made(100, 92, 300)
+        with self.open() as d:
+            d.store(b"a", b"", namespace=3)
+            d.store(b"b", bytes(1000), namespace=3)
+            found = [d.report(namespace=it)[:3] for it in (1, 2, 3)]
+            self.assertEqual(found, [(0, 100, 0), (0, 92, 0), (6, 300, 2)])
+
+    def test_a_namespace_that_is_full(self):
+        self.made(100, 392)
+        with self.open() as d:
+            for number in range(50):
+                d.store(b"%d" % number, bytes(100))
+            with self.assertRaisesRegex(pinkdrive.CapacityExceeded, "takes 2 pages, and .* at most 100"):
+                d.store(b"50", bytes(100))
+            d.store(b"50", bytes(100), namespace=2)
+            self.assertEqual((d.report().live, d.report(namespace=2).live), (100, 2))
+
+    def test_a_namespace_that_is_not_there(self):
+        self.made(100, 392)
+        with self.open() as d:
+            for space in (0, 3, 8, 257, 2**32 - 1):
+                with self.assertRaisesRegex(pinkdrive.InvalidNamespaceOrFormat, f"no namespace {space} "):
+                    d.exist(b"k", namespace=space)
+        with self.assertRaises(pinkdrive.InvalidNamespaceOrFormat):
+            Drive(self.image, program=PROGRAM, namespace=3)
+
+    def test_limits_that_are_refused(self):
+        cases = [
+            ((100, 393), "together 493 pages; this drive has 492"),
+            ((0,), "a limit of at least one page"),
+            ((1,) * 9, "at most 8 namespaces, not 9"),
+        ]
+        for limits, text in cases:
+            with self.assertRaisesRegex(DriveEnded, text) as caught:
+                make(self.image, *SMALL, program=PROGRAM, stderr=subprocess.DEVNULL, limits=limits)
+            self.assertEqual((caught.exception.status, os.path.exists(self.image)), (2, False))
+
+    def test_one_limit_of_all_pages(self):
+        self.made(492)
+        other = self.image + "2"
+        make(other, *SMALL, program=PROGRAM)
+        with open(other, "rb") as it:
+            self.assertEqual(self.bytes_of_image(), it.read())
+
+    def test_as_dictionaries(self):
+        limits = (20, 60, 412)
+        self.made(*limits)
+        draw = random.Random(7)
+        held = [{} for _ in limits]
+        for _ in range(4):
+            with self.open() as d:
+                for _ in range(300):
+                    self.change(d, draw, limits, held)
+                for space, there in enumerate(held, 1):
+                    self.assertEqual(dict(d.items_from(namespace=space)), there)
+
+    def change(self, d, draw, limits, held):
+        """A Store or a Delete in one of the namespaces, as of a dictionary with a limit."""
+        space = draw.randrange(len(limits))
+        there, key = held[space], b"%d" % draw.randrange(16)
+        if draw.random() < 0.3:
+            if key in there:
+                d.delete(key, namespace=space + 1)
+                del there[key]
+            else:
+                self.assertRaises(KeyError, d.delete, key, namespace=space + 1)
+            return
+        value = draw.randbytes(draw.randrange(GREATEST + 1))
+        pages = sum(Shape(*SMALL).pages_of(len(it)) for name, it in there.items() if name != key)
+        if pages + Shape(*SMALL).pages_of(len(value)) > limits[space]:
+            self.assertRaises(pinkdrive.CapacityExceeded, d.store, key, value, namespace=space + 1)
+        else:
+            d.store(key, value, namespace=space + 1)
+            there[key] = value
 
 
 class WithSpareBlocks(OnImage):

@@ -198,7 +198,7 @@ class Commands(OnServer):
         self.assertEqual({c.reply() for _ in range(KEYS)}, {"OK"})
         reply = c.do("SET", "more", "x")
         self.assertTrue(str(reply).startswith("OOM "), reply)
-        self.assertIn(f"the values of all keys at most {LIMIT}", str(reply))
+        self.assertIn(f"the values of its namespace at most {LIMIT}", str(reply))
         self.assertEqual(c.do("SET", "0000", "y"), "OK")
 
 

@@ -389,7 +389,7 @@ def page_of_commit(image: Image, pages: Sequence[int]) -> Optional[int]:
 def read_epoch(
     image: Image, layout: Layout, part: str, number: int, blocks: tuple[int, ...], spaces: int = it.NAMESPACES
 ) -> Epoch:
-    """The commits of an epoch, up to the first that has no Whole page, of a drive with so many namespaces."""
+    """The commits of an epoch, up to the first that has no Whole page, of a drive with this many namespaces."""
     commits: list[Commit] = []
     keys: set[Key] = set()
     pages: set[int] = set()
@@ -404,7 +404,7 @@ def read_epoch(
         if commit is None or (commit.epoch, commit.place) != (number, index):
             raise Damaged(Fault(page, what, "it is not the journal page of this place", keys=keys_named(layout, data)))
         if any(entry.key.space > spaces for entry in commit.entries):
-            raise Damaged(Fault(page, what, "it has a key of a namespace that the drive has not", keys=keys_named(layout, data)))
+            raise Damaged(Fault(page, what, "it has a key of a namespace that the drive does not have", keys=keys_named(layout, data)))
         keys.update(entry.key for entry in commit.entries)
         if len(keys) > layout.buffer:
             raise Damaged(Fault(page, what, "the epoch has more keys than it may have", keys=keys_named(layout, data)))
@@ -431,7 +431,7 @@ def read_run(image: Image, layout: Layout, root: Root, level: int) -> list[Entry
         page = layout.run_page(blocks, index)
         why, entries = run_page_fault(image, layout, page, level, index, count, found)
         if not why and any(entry.key.space > max(1, len(root.limits)) for entry in entries):
-            why = "it has a key of a namespace that the drive has not"
+            why = "it has a key of a namespace that the drive does not have"
         if why:
             keys = keys_named(layout, image.page(page))
             raise Damaged(Fault(page, f"page {index} of run {level} of the index", why, keys=keys))

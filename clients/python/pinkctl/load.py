@@ -51,6 +51,11 @@ class Sent(NamedTuple):
     pending: pinkdrive.Pending
 
 
+def limits_of(words: str) -> list[int]:
+    """The limits that numbers between commas are."""
+    return [int(word) for word in words.split(",")]
+
+
 def add_parser(subparsers: Any) -> None:
     parser = subparsers.add_parser(
         "import",
@@ -62,6 +67,7 @@ def add_parser(subparsers: Any) -> None:
     parser.add_argument("input", metavar="FILE", nargs="?", default="-", help="the lines (default: standard input)")
     parser.add_argument("--overwrite", action="store_true", help="replace the values of keys that exist")
     parser.add_argument("--make", nargs=3, type=int, metavar=("P", "N", "M"), help="make the image first, as pink IMAGE make P N M")
+    parser.add_argument("--limits", type=limits_of, default=[], metavar="L1,L2,..", help="with --make: the limits of namespaces in pages")
     parser.add_argument("--dry-run", "-n", action="store_true", help="read the lines, and store nothing")
     parser.add_argument("--namespace", type=int, default=1, metavar="N", help="the namespace of the keys (default 1)")
     add_wait(parser)
@@ -215,10 +221,10 @@ def rehearse(args: argparse.Namespace, lines: BinaryIO) -> Optional[int]:
 
 def make_first(args: argparse.Namespace) -> None:
     shape = Shape(*args.make)
-    fault = shape_fault(shape)
+    fault = shape_fault(shape) or pinkdrive.limits_fault(pinkdrive.Shape(*args.make), args.limits)
     if fault:
         raise ToolError(f"--make: {fault}", Exit.USAGE)
-    make_image(args.image, args.make)
+    make_image(args.image, args.make, args.limits)
     progress.say(args, f"import: made {args.image}, for values of at most {Layout(shape).greatest:,} bytes, {Layout(shape).limit:,} pages")
 
 

@@ -15,12 +15,15 @@ use Rattle.pk_model.specs.Reading.{reading}
 use Rattle.pk_call.specs.Sight.{IsIdle}
 use Rattle.pk_call.specs.Drive.{HoldsMap}
 use Rattle.pk_call.specs.declared.types.Ticked.TheVariants.{Worked, Fault}
-use Rattle.pk_parts.specs.Parts.{Parts, frames_of, sight_of, is_half}
+use Rattle.pk_parts.specs.Parts.{Parts, drive_limits, frames_of, sight_of, is_half}
 use Rattle.pk_parts.specs.Moves.{StandsFor, StandsBetween}
 use Rattle.pk_parts.specs.Staying.{StaysOrFrees}
 use Rattle.pk_background.specs.Reclaiming.{ReclaimHolds, HoldsAll, FailsAll}
 use Rattle.pk_background.specs.Ticking.{MayTick, Advances}
-use Rattle.pk_parts.proofs.Unchanging.{for_its_map, agrees_ready, limits_are}
+use Rattle.pk_model.proofs.Growing.{reached_limits}
+use Rattle.pk_model.specs.Spaces.{limits_at}
+use Rattle.pk_parts.proofs.OwnLimits.{limits_on}
+use Rattle.pk_parts.proofs.Unchanging.{for_its_map, agrees_ready}
 use Rattle.pk_parts.proofs.Halves.{stands as whole_stands}
 use Rattle.pk_parts.proofs.Standing.{agrees_so, agrees_between, reads_as, reads_between, stands_between}
 use Rattle.pk_background.proofs.Ticking.{worked_fine, stopped_fine, stopped_idle, stopped_worked, worked_idle}
@@ -43,6 +46,9 @@ module _ (d : Parts) (old : BoardState) (m : MayTick d old) where
   pub its_whole : is_half d ≡ false → StandsFor d d.log.shape old.pages m.agrees.all
   its_whole none = whole_stands d d.log.shape old.pages m.agrees.all its_stand none
 
+  own_limits : limits_at d.log.shape old.pages ≡ drive_limits d
+  own_limits = limits_on d old.shape old.pages m.agrees
+
   -- of a drive of which no pair is half made
   pub whole_holds : (d' : Parts) (new : BoardState) → is_half d ≡ false → HoldsAll d d' old new → ReclaimHolds d' d.log.shape m.agrees.all old new
   whole_holds d' new none holds = holds d.log.shape m.agrees.all (its_whole none)
@@ -55,6 +61,9 @@ module _ (d : Parts) (old : BoardState) (m : MayTick d old) where
     grown : Grows d.log.shape old.pages new.pages → Grows (shape_or_none old.shape) old.pages new.pages
     grown grows = subst (λ o. Grows (shape_or_none o) old.pages new.pages) (sym (agrees_ready d old m.agrees).shape_is) grows
 
+    limits_after : Reaches d.log.shape old new (CrashFinds d.log.shape background old.pages m.agrees.all) → limits_at d.log.shape new.pages ≡ drive_limits d
+    limits_after cuts = reached_limits d.log.shape old new (CrashFinds d.log.shape background old.pages m.agrees.all) (agrees_ready d old m.agrees).shape_is cuts ∙ own_limits
+
     -- a step that worked: the map is unchanged, and less work remains
     pub made_advances : (is_half d ≡ true → is_half d' ≡ false) → Grows d.log.shape old.pages new.pages
         → (IsIdle d.log.shape old.pages (sight_of d) → ⊥) → d'.log.pending ≡ [] → ReclaimHolds d' d.log.shape m.agrees.all old new
@@ -64,7 +73,7 @@ module _ (d : Parts) (old : BoardState) (m : MayTick d old) where
         record {
           ticks = record {
             stands = λ _. for_its_map d old m.agrees (λ s f x. HoldsMap s f new (sight_of d') x)
-                (record { shape_is = ready.shape_is; frames_is = frames; limits_is = limits_are d.log.shape new.pages; map_is = reads_between d' d.log.shape new.pages m.agrees.all here.stands });
+                (record { shape_is = ready.shape_is; frames_is = frames; limits_is = limits_after here.cuts; map_is = reads_between d' d.log.shape new.pages m.agrees.all here.stands });
             cuts = λ _. for_its_map d old m.agrees (λ s f x. Reaches s old new (CrashFinds s background old.pages x)) here.cuts;
             cuts_stopped = λ e. absurd (false_true e);
             idle_rests = λ e. absurd (worked_idle e);
@@ -105,7 +114,7 @@ module _ (d : Parts) (old : BoardState) (m : MayTick d old) where
         record {
           ticks = record {
             stands = λ _. for_its_map d old m.agrees (λ s f x. HoldsMap s f new (sight_of d') x)
-                (record { shape_is = ready.shape_is; frames_is = frames; limits_is = limits_are d.log.shape new.pages; map_is = reads_as d' d.log.shape new.pages m.agrees.all still });
+                (record { shape_is = ready.shape_is; frames_is = frames; limits_is = ap (limits_at d.log.shape) pages_same ∙ own_limits; map_is = reads_as d' d.log.shape new.pages m.agrees.all still });
             cuts = λ _. for_its_map d old m.agrees (λ s f x. Reaches s old new (CrashFinds s background old.pages x)) (
               [],
               Reached-start old new (CrashFinds d.log.shape background old.pages m.agrees.all) (ap (λ (b : BoardState). b.shape) only) pages_same

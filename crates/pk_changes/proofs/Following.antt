@@ -70,7 +70,7 @@ module _ (a b : Parts) (n : ℕ) (s0 s1 : BoardState) (u : Unit {0}) (leaves : L
       let same = leaves.same_shape in
       record {
         ready = subst (λ (s : Shape). IsReady s1 s) (sym same) step.ready;
-        may = some_may_put a b s0 s1 key value place can.may keeps same;
+        may = some_may_put a b s0 s1 key value place can.ready can.may keeps same;
         short = subst (λ (s : Shape). length value ≤ greatest s) (sym same) can.short;
         few = few_after a b same less can.few;
       }
@@ -84,7 +84,7 @@ module _ (a b : Parts) (n : ℕ) (s0 s1 : BoardState) (u : Unit {0}) (leaves : L
       let same = leaves.same_shape in
       record {
         ready = subst (λ (s : Shape). IsReady s1 s) (sym same) step.ready;
-        may = some_may_take a b s0 s1 key place can.may keeps same;
+        may = some_may_take a b s0 s1 key place can.ready can.may keeps same;
         few = few_after a b same less can.few;
       }
 

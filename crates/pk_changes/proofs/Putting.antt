@@ -1,14 +1,14 @@
 -- A key gets a value, or loses its own: the steps of that, one after another.
-use Rattle.std.proofs.Common.{◌≡◌, inl, inr, ℕ, refl, sym, ap, subst, ◌∙◌, List, [], ◌++◌, length, Bool, Option, Some, Result, Ok, Err}
+use Rattle.std.proofs.Common.{◌≡◌, inl, inr, ℕ, ◌≤◌, refl, sym, ap, subst, ◌∙◌, List, [], ◌++◌, length, Bool, Option, Some, Result, Ok, Err}
 use Rattle.std.specs.Prelude.{OnOk, OnErr}
 use Rattle.std.specs.FinMap.{insert, remove}
 use Rattle.std.specs.FinMap.Entries.{find}
 use Rattle.pk_base.specs.Entry.{Place}
-use Rattle.pk_base.specs.Key.{Key, key_cmp}
+use Rattle.pk_base.specs.Key.{Key, key_cmp, space_of}
 use Rattle.pk_base.specs.Shape.{Shape, charge}
 use Rattle.pk_base.specs.Page.{Flash}
 use Rattle.pk_base.specs.EntryChecks.{IsPlace}
-use Rattle.pk_base.specs.Map.{Map}
+use Rattle.pk_base.specs.Map.{Map, live}
 use Rattle.pk_base.specs.Mark.{all_posted}
 use Rattle.pk_plan.specs.declared.owner.Owner.TheVariants.{Values as for_values}
 use Rattle.pk_nand.specs.declared.types.Fault.{Fault}
@@ -18,34 +18,52 @@ use Rattle.pk_nand.specs.Crash.{ReachedBy}
 use Rattle.pk_pool.specs.Blocks.{used_by}
 use Rattle.pk_model.specs.Growth.{Reaches, Goes}
 use Rattle.pk_model.specs.Crashes.{CrashFinds, commit, change}
-use Rattle.pk_model.proofs.Growing.{at_end, weaken, weaken_went, Reaches-then, Goes-then}
+use Rattle.pk_model.specs.Spaces.{in_space, limit_of, limits_at}
+use Rattle.pk_model.proofs.Growing.{at_end, weaken, weaken_went, Reaches-then, Goes-then, reached_limits}
 use Rattle.pk_values.specs.State.{needs_reclaim}
 use Rattle.pk_values.specs.Entries.{IsInOpen}
 use Rattle.pk_parts.specs.Parts.{Parts}
 use Rattle.pk_parts.specs.Moves.{StandsFor, Keeps, KeepsAll, BreaksAll, IsWritten}
 use Rattle.pk_changes.specs.Noting.{Puts, Drops}
-use Rattle.pk_changes.specs.Changes.{MayPut, MayTake, PutsAll, FailsToPut, TakesAll, FailsToTake}
+use Rattle.pk_changes.specs.Changes.{HasRoomFor, MayPut, MayTake, PutsAll, FailsToPut, TakesAll, FailsToTake}
 use Rattle.pk_parts.proofs.Keeping.{board_has}
 use Rattle.pk_changes.proofs.Changing.{IsStill, kept_goes, changes, change_goes}
 
 -- ---- a step that keeps the map leaves what a change requires
 
+-- with the same limits, the same room for a value
+room_moved : (shape : Shape) (old new : Flash) (m : Map) (key : Key) (value : List ℕ) → limits_at shape new ≡ limits_at shape old → HasRoomFor shape old m key value → HasRoomFor shape new m key value
+room_moved shape old new m key value same room = record {
+  spaced = subst (λ (limits : List ℕ). space_of key ≤ length limits) (sym same) room.spaced;
+  own = subst (λ (limits : List ℕ). live shape (in_space (space_of key) (insert m key value)) ≤ limit_of limits (space_of key)) (sym same) room.own;
+  all = room.all;
+}
+
+-- calls along which the tree grows keep both
+module _ (shape : Shape) (old new : BoardState) (P : Flash → List ℕ → Type 0) (has : old.shape ≡ Some shape) (reached : Reaches shape old new P) (key : Key) where
+  pub room_after : (m : Map) (value : List ℕ) → HasRoomFor shape old.pages m key value → HasRoomFor shape new.pages m key value
+  room_after m value = room_moved shape old.pages new.pages m key value (reached_limits shape old new P has reached)
+
+  pub spaced_after : space_of key ≤ length (limits_at shape old.pages) → space_of key ≤ length (limits_at shape new.pages)
+  spaced_after = subst (λ (limits : List ℕ). space_of key ≤ length limits) (sym (reached_limits shape old new P has reached))
+
 pub may_put_after : (a b : Parts) (shape : Shape) (m : Map) (old new : BoardState) (key : Key) (value : List ℕ) (place : Option Place)
-    → MayPut a shape old.pages m key value place → Keeps a b shape m old new
+    → old.shape ≡ Some shape → MayPut a shape old.pages m key value place → Keeps a b shape m old new
     → MayPut b shape new.pages m key value place
-may_put_after a b shape m old new key value place may keeps = record {
+may_put_after a b shape m old new key value place has may keeps = record {
   stands = keeps.stands;
   old_is = ap (find key_cmp key) (keeps.same_places may.stands) ∙ may.old_is;
   bytes = may.bytes;
-  room = may.room;
+  room = room_after shape old new (CrashFinds shape commit old.pages m) has keeps.cuts key m value may.room;
 }
 
 pub may_take_after : (a b : Parts) (shape : Shape) (m : Map) (old new : BoardState) (key : Key) (place : Place)
-    → MayTake a shape old.pages m key place → Keeps a b shape m old new → MayTake b shape new.pages m key place
-may_take_after a b shape m old new key place may keeps = record {
+    → old.shape ≡ Some shape → MayTake a shape old.pages m key place → Keeps a b shape m old new → MayTake b shape new.pages m key place
+may_take_after a b shape m old new key place has may keeps = record {
   stands = keeps.stands;
   old_is = ap (find key_cmp key) (keeps.same_places may.stands) ∙ may.old_is;
   bytes = may.bytes;
+  spaced = spaced_after shape old new (CrashFinds shape commit old.pages m) has keeps.cuts key may.spaced;
 }
 
 pub reclaim_same : (a b : Parts) (count : ℕ) (is : Bool) → b.log.shape ≡ a.log.shape → b.values ≡ a.values → used_by for_values b.pool.states ≡ used_by for_values a.pool.states
@@ -81,8 +99,9 @@ pub puts_later : (r : Result Unit Fault) (a b e : Parts) (s0 s1 s2 : BoardState)
     → OnOk r (PutsAll b e s1 s2 key value place) → OnOk r (PutsAll a e s0 s2 key value place)
 puts_later (Ok x) a b e s0 s1 s2 key value place ready keeps puts = λ shape m may.
     let one = keeps shape m may.stands in
-    let later = puts shape m (may_put_after a b shape m s0 s1 key value place may one) in
-    record { stands = later.stands; cuts = later_reaches shape s0 s1 (board_has a s0 shape m ready may.stands) m (insert m key value) one.cuts one.still s2 later.cuts }
+    let has = board_has a s0 shape m ready may.stands in
+    let later = puts shape m (may_put_after a b shape m s0 s1 key value place has may one) in
+    record { stands = later.stands; cuts = later_reaches shape s0 s1 has m (insert m key value) one.cuts one.still s2 later.cuts }
 puts_later (Err f) a b e s0 s1 s2 key value place ready keeps puts = tt
 
 pub fails_later : (r : Result Unit Fault) (a b : Parts) (s0 s1 s2 : BoardState) (key : Key) (value : List ℕ) (place : Option Place) → IsReady s0 a.log.shape → KeepsAll a b s0 s1
@@ -90,14 +109,16 @@ pub fails_later : (r : Result Unit Fault) (a b : Parts) (s0 s1 s2 : BoardState) 
 fails_later (Ok x) a b s0 s1 s2 key value place ready keeps puts = tt
 fails_later (Err f) a b s0 s1 s2 key value place ready keeps puts = λ shape m may.
     let one = keeps shape m may.stands in
-    later_goes shape s0 s1 (board_has a s0 shape m ready may.stands) m (insert m key value) one.cuts one.still s2 (puts shape m (may_put_after a b shape m s0 s1 key value place may one))
+    let has = board_has a s0 shape m ready may.stands in
+    later_goes shape s0 s1 has m (insert m key value) one.cuts one.still s2 (puts shape m (may_put_after a b shape m s0 s1 key value place has may one))
 
 pub takes_later : (r : Result Unit Fault) (a b e : Parts) (s0 s1 s2 : BoardState) (key : Key) (place : Place) → IsReady s0 a.log.shape → KeepsAll a b s0 s1
     → OnOk r (TakesAll b e s1 s2 key place) → OnOk r (TakesAll a e s0 s2 key place)
 takes_later (Ok x) a b e s0 s1 s2 key place ready keeps takes = λ shape m may.
     let one = keeps shape m may.stands in
-    let later = takes shape m (may_take_after a b shape m s0 s1 key place may one) in
-    record { stands = later.stands; cuts = later_reaches shape s0 s1 (board_has a s0 shape m ready may.stands) m (remove m key) one.cuts one.still s2 later.cuts }
+    let has = board_has a s0 shape m ready may.stands in
+    let later = takes shape m (may_take_after a b shape m s0 s1 key place has may one) in
+    record { stands = later.stands; cuts = later_reaches shape s0 s1 has m (remove m key) one.cuts one.still s2 later.cuts }
 takes_later (Err f) a b e s0 s1 s2 key place ready keeps takes = tt
 
 pub fails_to_take_later : (r : Result Unit Fault) (a b : Parts) (s0 s1 s2 : BoardState) (key : Key) (place : Place) → IsReady s0 a.log.shape → KeepsAll a b s0 s1
@@ -105,7 +126,8 @@ pub fails_to_take_later : (r : Result Unit Fault) (a b : Parts) (s0 s1 s2 : Boar
 fails_to_take_later (Ok x) a b s0 s1 s2 key place ready keeps takes = tt
 fails_to_take_later (Err f) a b s0 s1 s2 key place ready keeps takes = λ shape m may.
     let one = keeps shape m may.stands in
-    later_goes shape s0 s1 (board_has a s0 shape m ready may.stands) m (remove m key) one.cuts one.still s2 (takes shape m (may_take_after a b shape m s0 s1 key place may one))
+    let has = board_has a s0 shape m ready may.stands in
+    later_goes shape s0 s1 has m (remove m key) one.cuts one.still s2 (takes shape m (may_take_after a b shape m s0 s1 key place has may one))
 
 -- the step that was to keep the map stopped the drive
 pub put_broken : (a : Parts) (s0 s1 : BoardState) (key : Key) (value : List ℕ) (place : Option Place) → IsReady s0 a.log.shape → BreaksAll a s0 s1 → FailsToPut a s0 s1 key value place
@@ -141,15 +163,16 @@ drops_of d shape flash m key old may = record {
   whole = may.stands.whole;
   old_is = may.old_is;
   bytes = may.bytes;
+  spaced = may.spaced;
 }
 
 -- for some map
-pub some_puts : (a b : Parts) (s0 s1 : BoardState) (key : Key) (value : List ℕ) (page : ℕ) (old : Option Place)
+pub some_puts : (a b : Parts) (s0 s1 : BoardState) (key : Key) (value : List ℕ) (page : ℕ) (old : Option Place) → IsReady s0 a.log.shape
     → (m : Map) × MayPut a a.log.shape s0.pages m key value old → KeepsAll a b s0 s1 → b.log.shape ≡ a.log.shape
     → IsWritten b a.log.shape s1.pages key value page → IsPlace a.log.shape (record { page = page; len = length value }) → IsInOpen a.log.shape b.values page (charge a.log.shape (length value))
     → (flash : Flash) × (m : Map) × (x : List ℕ) × (length x ≡ length value) × Puts b b.log.shape flash m key x page old
-some_puts a b s0 s1 key value page old may keeps same written place in_open =
-    let mid = may_put_after a b a.log.shape may.0 s0 s1 key value old may.1 (keeps a.log.shape may.0 may.1.stands) in (
+some_puts a b s0 s1 key value page old ready may keeps same written place in_open =
+    let mid = may_put_after a b a.log.shape may.0 s0 s1 key value old ready.shape_is may.1 (keeps a.log.shape may.0 may.1.stands) in (
       s1.pages,
       may.0,
       value,
@@ -159,29 +182,30 @@ some_puts a b s0 s1 key value page old may keeps same written place in_open =
     )
 
 -- what a change requires, for some map, after a step that keeps it
-pub some_may_put : (a b : Parts) (s0 s1 : BoardState) (key : Key) (value : List ℕ) (place : Option Place)
+pub some_may_put : (a b : Parts) (s0 s1 : BoardState) (key : Key) (value : List ℕ) (place : Option Place) → IsReady s0 a.log.shape
     → (m : Map) × MayPut a a.log.shape s0.pages m key value place → KeepsAll a b s0 s1 → b.log.shape ≡ a.log.shape
     → (m : Map) × MayPut b b.log.shape s1.pages m key value place
-some_may_put a b s0 s1 key value place may keeps same =
-    (may.0, subst (λ (s : Shape). MayPut b s s1.pages may.0 key value place) (sym same) (may_put_after a b a.log.shape may.0 s0 s1 key value place may.1 (keeps a.log.shape may.0 may.1.stands)))
+some_may_put a b s0 s1 key value place ready may keeps same =
+    (may.0, subst (λ (s : Shape). MayPut b s s1.pages may.0 key value place) (sym same) (may_put_after a b a.log.shape may.0 s0 s1 key value place ready.shape_is may.1 (keeps a.log.shape may.0 may.1.stands)))
 
-pub some_may_take : (a b : Parts) (s0 s1 : BoardState) (key : Key) (place : Place) → (m : Map) × MayTake a a.log.shape s0.pages m key place → KeepsAll a b s0 s1 → b.log.shape ≡ a.log.shape
+pub some_may_take : (a b : Parts) (s0 s1 : BoardState) (key : Key) (place : Place) → IsReady s0 a.log.shape
+    → (m : Map) × MayTake a a.log.shape s0.pages m key place → KeepsAll a b s0 s1 → b.log.shape ≡ a.log.shape
     → (m : Map) × MayTake b b.log.shape s1.pages m key place
-some_may_take a b s0 s1 key place may keeps same =
-    (may.0, subst (λ (s : Shape). MayTake b s s1.pages may.0 key place) (sym same) (may_take_after a b a.log.shape may.0 s0 s1 key place may.1 (keeps a.log.shape may.0 may.1.stands)))
+some_may_take a b s0 s1 key place ready may keeps same =
+    (may.0, subst (λ (s : Shape). MayTake b s s1.pages may.0 key place) (sym same) (may_take_after a b a.log.shape may.0 s0 s1 key place ready.shape_is may.1 (keeps a.log.shape may.0 may.1.stands)))
 
 pub some_drops : (a : Parts) (s0 : BoardState) (key : Key) (old : Place) → (m : Map) × MayTake a a.log.shape s0.pages m key old → (flash : Flash) × (m : Map) × Drops a a.log.shape flash m key old
 some_drops a s0 key old may = (s0.pages, may.0, drops_of a a.log.shape s0.pages may.0 key old may.1)
 
 -- a drive represents some map after the entry
-pub some_put : (a b c : Parts) (s0 s1 : BoardState) (key : Key) (value : List ℕ) (page : ℕ) (old : Option Place)
+pub some_put : (a b c : Parts) (s0 s1 : BoardState) (key : Key) (value : List ℕ) (page : ℕ) (old : Option Place) → IsReady s0 a.log.shape
     → (m : Map) × MayPut a a.log.shape s0.pages m key value old → KeepsAll a b s0 s1 → b.log.shape ≡ a.log.shape → c.log.shape ≡ b.log.shape
     → IsWritten b a.log.shape s1.pages key value page → IsPlace a.log.shape (record { page = page; len = length value }) → IsInOpen a.log.shape b.values page (charge a.log.shape (length value))
     → ((shape : Shape) (flash : Flash) (m : Map) → Puts b shape flash m key value page old → StandsFor c shape flash (insert m key value))
     → (m : Map) × StandsFor c c.log.shape s1.pages m
-some_put a b c s0 s1 key value page old may keeps same same' written place in_open noted =
+some_put a b c s0 s1 key value page old ready may keeps same same' written place in_open noted =
     let one = keeps a.log.shape may.0 may.1.stands in
-    let mid = may_put_after a b a.log.shape may.0 s0 s1 key value old may.1 one in (
+    let mid = may_put_after a b a.log.shape may.0 s0 s1 key value old ready.shape_is may.1 one in (
       insert may.0 key value,
       subst (λ (s : Shape). StandsFor c s s1.pages (insert may.0 key value)) (sym same ∙ sym same')
           (noted a.log.shape s1.pages may.0 (puts_of b a.log.shape a.log.shape s1.pages may.0 key value page old refl mid written place in_open)),
@@ -193,7 +217,7 @@ module _ (a b c : Parts) (s0 s1 : BoardState) (key : Key) (value : List ℕ) (pa
     (noted : (shape : Shape) (flash : Flash) (m : Map) → Puts b shape flash m key value page old → StandsFor c shape flash (insert m key value)) where
   there : (shape : Shape) (m : Map) → MayPut a shape s0.pages m key value old → StandsFor c shape s1.pages (insert m key value)
   there shape m may =
-      let mid = may_put_after a b shape m s0 s1 key value old may (keeps shape m may.stands) in
+      let mid = may_put_after a b shape m s0 s1 key value old (board_has a s0 shape m ready may.stands) may (keeps shape m may.stands) in
       noted shape s1.pages m (puts_of b a.log.shape shape s1.pages m key value page old may.stands.with.shape_is mid written place in_open)
 
   pub put_changed : (r : Result Unit Fault) (e : Parts) (s2 : BoardState) → OnOk r (KeepsAll c e s1 s2) → OnOk r (PutsAll a e s0 s2 key value old)

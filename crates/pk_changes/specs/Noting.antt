@@ -47,7 +47,7 @@ pub record Drops (d : Parts) (shape : Shape) (flash : Flash) (m : Map) (key : Ke
   pub bytes : AreBytes key
   pub spaced : space_of key ≤ length (limits_at shape flash)
 
--- the pages of the value at a place; none if there is none
+-- the pages of a value at a place; none if there is none
 abbrev pub pages_at : Shape → Option Place → ℕ
 pages_at shape None = 0
 pages_at shape (Some p) = charge shape p.len

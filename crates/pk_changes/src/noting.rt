@@ -7,9 +7,9 @@ ghost use Rattle.pk_base.specs.Map.{Map};
 ghost use Rattle.pk_log.specs.State.{needs_freeze as needs_freeze_for, pushed};
 ghost use Rattle.pk_values.specs.Entries.{span_of, span_if_some};
 ghost use Rattle.pk_parts.specs.Moves.{StandsFor};
-ghost use Rattle.pk_base.specs.Key.{space_of};
-ghost use Rattle.pk_space.specs.Uses.{used_after};
 ghost use Rattle.pk_changes.specs.Noting.{Puts, Drops, pages_at as pages_at_by};
+ghost use Rattle.pk_space.specs.Uses.{used_after};
+ghost use Rattle.pk_base.specs.Key.{space_of};
 ghost use Rattle.pk_parts.specs.Staying.{Stays, IsNoted};
 
 use pk_base::{Entry, Key, Place, Shape};
@@ -39,7 +39,7 @@ fn span_if_there(shape: &Shape, place: &Option<Place>) -> Option<Span>
     }
 }
 
-/// How many pages it has; none if there is none.
+/// The pages of the value at a place; none if there is none.
 pub fn pages_at(shape: &Shape, place: &Option<Place>) -> u32
     requires { MatchOption place.now (Unit {0}) (λ p. p.len ≤ spec.greatest shape.now) }
     ensures { result ≡ pages_at_by shape.now place.now }
@@ -70,8 +70,8 @@ pub(crate) fn note_put<A: Region>(
     ensures rest { parts.new ≡ record parts.old {
       log = pushed parts.old.log (key, Some (record { page = page; len = len }));
       values = parts.new.values;
-      spaces = used_after parts.old.spaces (space_of key)
-        (pages_at_by parts.old.log.shape old) count;
+      spaces = used_after parts.old.spaces (space_of key) (pages_at_by parts.old.log.shape old)
+          count;
     } }
     ensures stands { (shape : spec.Shape) (flash : Flash) (m : Map) (value : List ℕ)
         → length value ≡ len → Puts parts.old shape flash m key value page old
@@ -83,11 +83,12 @@ pub(crate) fn note_put<A: Region>(
     let shape = parts.shape();
     let _ = key.bytes();
     let before = span_if_there(&shape, &old);
-    let held = pages_at(&shape, &old);
     let now = Span { page, count };
+    parts
+        .spaces
+        .change(key.space(), pages_at(&shape, &old), count);
     parts.log.push(Entry::Put { key, page, len });
     parts.values.replace(before, now);
-    parts.spaces.change(key.space(), held, count);
 }
 
 /// A key has no value from now on; it had the one at `old`.
@@ -102,7 +103,7 @@ pub(crate) fn note_gone<A: Region>(parts: &mut Parts<A>, key: Key, old: Place)
       log = pushed parts.old.log (key, None);
       values = parts.new.values;
       spaces = used_after parts.old.spaces (space_of key)
-        (spec.charge parts.old.log.shape old.len) 0;
+          (spec.charge parts.old.log.shape old.len) 0;
     } }
     ensures stands { (shape : spec.Shape) (flash : Flash) (m : Map)
         → Drops parts.old shape flash m key old → StandsFor parts.new shape flash (remove m key) }
@@ -112,7 +113,7 @@ pub(crate) fn note_gone<A: Region>(parts: &mut Parts<A>, key: Key, old: Place)
     let shape = parts.shape();
     let _ = key.bytes();
     let before = span_at(&shape, &old);
+    parts.spaces.change(key.space(), before.count, 0);
     parts.log.push(Entry::Gone { key });
     parts.values.remove(before);
-    parts.spaces.change(key.space(), before.count, 0);
 }

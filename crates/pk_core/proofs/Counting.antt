@@ -1,6 +1,5 @@
 -- The numbers of a Report, and those of the map.
-use Rattle.std.proofs.Common.{◌≡◌, ℕ, ◌+◌, ◌*◌, ◌<◌, ◌≤◌, refl, sym, ap, subst, ◌∙◌, arith, List, [], ◌++◌, length, sum, take, get_or, false, Option, Some, None, Ok}
-use Rattle.std.specs.FinMap.{len}
+use Rattle.std.proofs.Common.{◌≡◌, ℕ, ◌+◌, ◌*◌, ◌<◌, ◌≤◌, refl, sym, ap, subst, ◌∙◌, arith, List, [], ◌++◌, length, take, get_or, false, Option, Some, None, Ok}
 use Rattle.std.specs.List.{flat_map, AllByRecursion}
 use Rattle.std.proofs.lemmas.List.{flat_map_more, take_more}
 use Rattle.pk_base.specs.Fields.{u32}
@@ -16,28 +15,25 @@ use Rattle.pk_nvme.specs.Opcode.{op_of}
 use Rattle.pk_nvme.specs.declared.opcode.Opcode.{Opcode}
 use Rattle.pk_nvme.specs.declared.opcode.Opcode.TheVariants.{Flush, Retrieve, Report}
 use Rattle.pk_model.specs.Answer.{early, success}
-use Rattle.pk_model.specs.Bounds.{most_reads}
 use Rattle.pk_model.specs.Found.{Found}
 use Rattle.pk_model.specs.Reading.{reading}
 use Rattle.pk_model.specs.Run.{Step}
-use Rattle.pk_law_steps.specs.Under.{places}
 use Rattle.pk_law_steps.proofs.Untouched.{under_reads}
-use Rattle.pk_law_steps.proofs.Counting.{counts}
-use Rattle.pk_values.proofs.Standing.{total_of}
 use Rattle.pk_model.specs.Wear.{root_number, number_of}
 use Rattle.pk_model.specs.Spaces.{Terms, AreInSpaces, in_space, limits_at, one_space, terms_at}
 use Rattle.pk_model.proofs.HeldMap.{map_held}
 use Rattle.pk_model.proofs.SpaceLemmas.{is_whole}
-use Rattle.pk_call.specs.Sight.{InSpace, in_space_at}
+use Rattle.pk_call.specs.Sight.{InSpace, in_space_at, live_of_all}
 use Rattle.pk_call.specs.Drive.{CountsMap}
 use Rattle.pk_call.specs.Exec.{report_of}
 use Rattle.pk_call.specs.Seen.{reply_of}
 use Rattle.pk_call.specs.declared.types.Outcome.{Outcome}
-use Rattle.pk_parts.specs.Parts.{Parts, sight_of, counts_of, spaces_of, outputs_of, frames_of, terms_of, settled_parts}
+use Rattle.pk_parts.specs.Parts.{Parts, sight_of, counts_of, spaces_of, frames_of, terms_of, settled_parts}
 use Rattle.pk_parts.specs.Agreeing.{DriveOnFlashWith, DriveOnFlash}
 use Rattle.pk_core.specs.Done.{Does}
 use Rattle.pk_core.specs.Quiet.{DoneWithout}
-use Rattle.pk_core.proofs.Unchanging.{same_early, does_reads, flush_step, report_step, ok_sound, AnswersAll}
+use Rattle.pk_core.proofs.Unchanging.{same_early, does_reads, flush_step, report_step, ok_sound, other_within, AnswersAll, ReadsWithin}
+use Rattle.pk_parts.proofs.Using.{use_of_part}
 use Rattle.pk_parts.proofs.Unchanging.{own, for_its_map, reads_none, same_ok, whole_all, limits_are}
 use Rattle.pk_base.proofs.Logic.{some_same}
 
@@ -50,13 +46,6 @@ numbers_more xs into new i d less front before =
 
 -- ---- the map
 
--- what a Report says of the only namespace
-abbrev first_of : Parts → InSpace
-first_of d = in_space_at (spaces_of d) 1
-
-pub first_here : (d : Parts) (space : ℕ) → 1 ≤ space → space ≤ 1 → in_space_at (spaces_of d) space ≡ first_of d
-first_here d space some most = let is : space ≡ 1 = omega (arith, some, most) in ap (in_space_at (spaces_of d)) is
-
 -- its map may be a drive's
 held_with : (d : Parts) (shape : Shape) (flash : Flash) (top : ℕ × Root) (found : Found) (without all : Map)
     → DriveOnFlashWith d shape flash top found without all → IsHeldMap shape (limits_at shape flash) all
@@ -64,29 +53,40 @@ held_with d shape flash top found without all a =
     let storable = subst (λ (s : Shape). AllByRecursion (IsStorable s) d.log.pending) a.shape_is a.index.logs.pending_are in
     map_held shape flash d.log.pending all a.placed.is_shape a.is_flash storable (under_reads shape flash d.log.pending top found all a.pending)
 
-counts_map : (d : Parts) (shape : Shape) (flash : Flash) (top : ℕ × Root) (found : Found) (without all : Map)
-    → DriveOnFlashWith d shape flash top found without all → CountsMap shape (one_space (frames_of d) (limit shape)) 1 all (first_of d) (counts_of d)
-counts_map d shape flash top found without all a =
-    let c = counts shape flash d.log.pending top found all a.placed.is_shape a.is_flash a.pending in
-    let held = held_with d shape flash top found without all a in
-    let whole : all ≡ in_space 1 all = sym (is_whole shape all held.is_map) in
-    record {
-      live_is = total_of shape d.values d.pool (outputs_of d) flash (places found d.log.pending) a.placed ∙ sym c.live_is ∙ ap (live shape) whole;
-      limit_is = ap (λ s. limit s) a.shape_is;
-      keys_is = a.keys_are ∙ sym c.len_is ∙ ap len whole;
+-- each of its keys is of a namespace of the drive
+in_drive : (d : Parts) (shape : Shape) (flash : Flash) (top : ℕ × Root) (found : Found) (without all : Map) → DriveOnFlashWith d shape flash top found without all → AreInSpaces (length (drive_limits d)) all
+in_drive d shape flash top found without all a =
+    subst (λ (limits : List ℕ). AreInSpaces (length limits) all) (limits_with d shape flash top found without all a) (held_with d shape flash top found without all a).in_spaces
+
+counts_map : (d : Parts) (shape : Shape) (flash : Flash) (top : ℕ × Root) (found : Found) (without all : Map) → DriveOnFlashWith d shape flash top found without all
+    → (space : ℕ) → 1 ≤ space → space ≤ length (drive_limits d) → CountsMap shape (terms_of d) space all (in_space_at (spaces_of d) space) (counts_of d)
+counts_map d shape flash top found without all a space some most =
+    let few = few_with d shape flash top found without all a in
+    let used = use_of_part shape flash d.log.pending top found all d.spaces a.placed.is_shape a.is_flash a.pending a.uses space (some, omega (arith, most, few)) in
+    subst (λ (here : InSpace). CountsMap shape (terms_of d) space all here (counts_of d)) (sym (reported_here d space some most)) (record {
+      live_is = used.0;
+      limit_is = refl;
+      keys_is = used.1;
       pinned_is = a.index.levels_pinned ∙ ap (λ s. pinned s (frames_of d)) a.shape_is;
       frames_is = refl;
-      in_spaces = subst (λ (limits : List ℕ). AreInSpaces (length limits) all) (limits_are shape flash) held.in_spaces;
-    }
+      in_spaces = in_drive d shape flash top found without all a;
+    })
 
 -- they are the same as if the blocks that leave were free
-counts_settled : (d : Parts) (shape : Shape) (terms : Terms) (m : Map)
-    → CountsMap shape terms 1 m (first_of (settled_parts d)) (counts_of (settled_parts d)) → CountsMap shape terms 1 m (first_of d) (counts_of d)
-counts_settled d shape terms m c = record { live_is = c.live_is; limit_is = c.limit_is; keys_is = c.keys_is; pinned_is = c.pinned_is; frames_is = c.frames_is; in_spaces = c.in_spaces }
+counts_settled : (d : Parts) (shape : Shape) (terms : Terms) (space : ℕ) (m : Map)
+    → CountsMap shape terms space m (in_space_at (spaces_of (settled_parts d)) space) (counts_of (settled_parts d)) → CountsMap shape terms space m (in_space_at (spaces_of d) space) (counts_of d)
+counts_settled d shape terms space m c = record { live_is = c.live_is; limit_is = c.limit_is; keys_is = c.keys_is; pinned_is = c.pinned_is; frames_is = c.frames_is; in_spaces = c.in_spaces }
 
 -- on the drive's own shape
-pub counts_own : (d : Parts) (board : BoardState) (a : DriveOnFlash d board.shape board.pages) → CountsMap d.log.shape (terms_of d) 1 a.all (first_of d) (counts_of d)
-counts_own d board a = counts_settled d d.log.shape (terms_of d) a.all (counts_map (settled_parts d) d.log.shape board.pages a.top a.found a.without a.all (own d board a))
+pub counts_own : (d : Parts) (board : BoardState) (a : DriveOnFlash d board.shape board.pages) (space : ℕ) → 1 ≤ space → space ≤ length (drive_limits d)
+    → CountsMap d.log.shape (terms_of d) space a.all (in_space_at (spaces_of d) space) (counts_of d)
+counts_own d board a space some most =
+    counts_settled d d.log.shape (terms_of d) space a.all (counts_map (settled_parts d) d.log.shape board.pages a.top a.found a.without a.all (own d board a) space some most)
+
+-- so are the live pages of its key's namespace
+pub live_own : (d : Parts) (board : BoardState) (a : DriveOnFlash d board.shape board.pages) (space : ℕ) → 1 ≤ space → space ≤ length (drive_limits d)
+    → space_live d.spaces space ≡ live d.log.shape (in_space space a.all)
+live_own d board a space some most = sym (ap (λ (here : InSpace). here.live) (reported_here d space some most)) ∙ (counts_own d board a space some most).live_is
 
 -- the map that is read is its own
 read_is : (d : Parts) (shape : Shape) (flash : Flash) (m : Map) (a : DriveOnFlash d (Some shape) flash) → reading shape flash d.log.pending ≡ Ok m → a.all ≡ m
@@ -97,21 +97,52 @@ read_is d shape flash m a read =
     same_ok a.all m (sym (subst T same held) ∙ read)
 
 pub agrees_counts : (d : Parts) (shape : Shape) (flash : Flash) (m : Map) → DriveOnFlash d (Some shape) flash → reading shape flash d.log.pending ≡ Ok m
-    → CountsMap shape (terms_at shape flash (frames_of d)) 1 m (first_of d) (counts_of d)
-agrees_counts d shape flash m a read =
-    let one : Shape → Terms = λ s. one_space (frames_of d) (limit s) in
-    let here = counts_settled d a.shape (one a.shape) a.all (counts_map (settled_parts d) a.shape flash a.top a.found a.without a.all a.with) in
+    → (space : ℕ) → 1 ≤ space → space ≤ length (drive_limits d) → CountsMap shape (terms_at shape flash (frames_of d)) space m (in_space_at (spaces_of d) space) (counts_of d)
+agrees_counts d shape flash m a read space some most =
+    let C : Shape → List ℕ → Map → Type 0 = λ s limits x. CountsMap s (record { frames = frames_of d; limits = limits }) space x (in_space_at (spaces_of d) space) (counts_of d) in
+    let here : C a.shape (drive_limits d) a.all =
+    counts_settled d a.shape (terms_of d) space a.all (counts_map (settled_parts d) a.shape flash a.top a.found a.without a.all a.with space some most) in
     let same : a.shape ≡ shape = sym (some_same shape a.shape a.told_is) in
-    let map_is : a.all ≡ m = read_is d shape flash m a read in
-    let own = subst (λ s. CountsMap s (one s) 1 m (first_of d) (counts_of d)) same (subst (λ x. CountsMap a.shape (one a.shape) 1 x (first_of d) (counts_of d)) map_is here) in
-    subst (λ limits. CountsMap shape (record { frames = frames_of d; limits = limits }) 1 m (first_of d) (counts_of d)) (sym (limits_are shape flash)) own
+    let limits : limits_at shape flash ≡ drive_limits d = ap (λ (s : Shape). limits_at s flash) (sym (a.with.shape_is ∙ same)) ∙ limits_on d (Some shape) flash a in
+    subst (λ (ls : List ℕ). C shape ls m) (sym limits) (subst (λ (x : Map). C shape (drive_limits d) x) (read_is d shape flash m a read) (subst (λ (s : Shape). C s (drive_limits d) a.all) same here))
 
--- its live pages are those of the map
-pub agrees_live : (d : Parts) (shape : Shape) (flash : Flash) (m : Map) → DriveOnFlash d (Some shape) flash → reading shape flash d.log.pending ≡ Ok m → sum d.values.live.heads ≡ live shape m
+-- ---- the live pages of all namespaces
+
+reported_live : (shape : Shape) (u : Use) (from : ℕ) (limits : List ℕ) (es : List (Key × List ℕ)) → ((i : ℕ) → i < length limits → space_live u (from + i) ≡ space_pages shape (from + i) es)
+    → live_of_all (reported_from u from limits) ≡ space_pages_sum shape from (length limits) es
+reported_live shape u from [] es each = refl
+reported_live shape u from (most ∷ limits) es each =
+    let Is : ℕ → Type 0 = λ n. space_live u n ≡ space_pages shape n es in
+    let none : from + 0 ≡ from = omega arith in
+    let first : Is from = subst Is none (each 0 (omega arith)) in
+    let rest = reported_live shape u (from + 1) limits es (λ i less. let later : from + suc i ≡ from + 1 + i = omega arith in subst Is later (each (suc i) (omega (arith, less)))) in
+    let all = sum_by-cons (λ (x : ℕ). x) (space_live u from) (map (λ (s : InSpace). s.live) (reported_from u (from + 1) limits)) in
+    omega (arith, first, rest, all)
+
+live_with : (d : Parts) (shape : Shape) (flash : Flash) (top : ℕ × Root) (found : Found) (without all : Map)
+    → DriveOnFlashWith d shape flash top found without all → live_of_all (spaces_of d) ≡ live shape all
+live_with d shape flash top found without all a =
+    let few = few_with d shape flash top found without all a in
+    reported_live shape d.spaces 1 (drive_limits d) (entries all) (λ i less.
+    (use_of_part shape flash d.log.pending top found all d.spaces a.placed.is_shape a.is_flash a.pending a.uses (1 + i) (omega arith, omega (arith, less, few))).0
+    ∙ ap (pages_in shape) (entries_in (1 + i) all))
+    ∙ sym (all_parts shape (length (drive_limits d)) (entries all) (in_drive d shape flash top found without all a))
+
+-- they are those of the map
+pub agrees_live : (d : Parts) (shape : Shape) (flash : Flash) (m : Map) → DriveOnFlash d (Some shape) flash → reading shape flash d.log.pending ≡ Ok m → live_of_all (spaces_of d) ≡ live shape m
 agrees_live d shape flash m a read =
-    let held = held_with (settled_parts d) a.shape flash a.top a.found a.without a.all a.with in
-    let one : in_space 1 m ≡ m = subst (λ (x : Map). in_space 1 x ≡ x) (read_is d shape flash m a read) (is_whole a.shape a.all held.is_map) in
-    (agrees_counts d shape flash m a read).live_is ∙ ap (live shape) one
+    let same : a.shape ≡ shape = sym (some_same shape a.shape a.told_is) in
+    let here = live_with (settled_parts d) a.shape flash a.top a.found a.without a.all a.with in
+    subst (λ (x : Map). live_of_all (spaces_of d) ≡ live shape x) (read_is d shape flash m a read) (subst (λ (s : Shape). live_of_all (spaces_of d) ≡ live s a.all) same here)
+
+-- a u32 holds them
+pub agrees_few : (d : Parts) (shape : Shape) (flash : Flash) (m : Map) → DriveOnFlash d (Some shape) flash → reading shape flash d.log.pending ≡ Ok m → live_of_all (spaces_of d) ≤ 4294967295
+agrees_few d shape flash m a read =
+    let same : a.shape ≡ shape = sym (some_same shape a.shape a.told_is) in
+    let few = (held_with (settled_parts d) a.shape flash a.top a.found a.without a.all a.with).few in
+    let most = limit_few a.shape a.with.placed.is_shape in
+    let here = live_with (settled_parts d) a.shape flash a.top a.found a.without a.all a.with in
+    omega (arith, here, few, most)
 
 -- ---- roots
 
@@ -133,25 +164,28 @@ report_other : ◌≡◌ {A = Option Opcode} (Some Report) (Some Retrieve) → �
 report_other e = cc
 
 pub flush_done : (d : Parts) (o : Outcome) (into : List ℕ) → o ≡ record { status = 0; result = 0; data_len = 0; reads = 0; stopped = false } → DoneWithout d 0x00 o into
-flush_done d o into told board r v a few op passed =
+flush_done d o into told r op board v a few passed =
     let c = command_of r v in
-    let passes : early 1 d.log.shape c ≡ None = same_early d.log.shape r v ∙ passed in
+    let passes : early (length (drive_limits d)) d.log.shape c ≡ None = same_early (length (drive_limits d)) d.log.shape r v ∙ passed in
     let all : AnswersAll board (sight_of d) c (success 0 []) 0 =
-    for_its_map d board a (λ s f m. Step s f m c (success 0 []) m × (op_of r.opcode ≡ Some Retrieve → 0 ≤ most_reads s f m c))
-    (flush_step d.log.shape (frames_of d) a.all c passes (whole_all d board a) op, λ e. absurd (other_than Flush r.opcode (ap op_of op) flush_other e)) in
+    for_its_map d board a (λ s f m. Step s f m c (success 0 []) m × ReadsWithin s f (sight_of d) m c 0) (
+      flush_step d.log.shape (terms_of d) a.all c passes op,
+      other_within d.log.shape (terms_of d) (sight_of d) a.all c 0 (other_than Flush r.opcode (ap op_of op) flush_other),
+    ) in
     subst (λ (x : Outcome). Does board board (sight_of d) (sight_of d) c (reply_of x into) x.reads x.stopped) (sym told)
     (does_reads board board (sight_of d) c (success 0 []) 0 0 few few (reads_none board few) (omega arith) ok_sound all)
 
-pub report_done : (d : Parts) (o : Outcome) (into : List ℕ) → o ≡ record { status = 0; result = 0; data_len = 64; reads = 0; stopped = false }
-    → take 64 into ≡ report_of (first_of d) (counts_of d) → DoneWithout d 0xC2 o into
-report_done d o into told bytes board r v a few op passed =
+pub report_done : (d : Parts) (r : Request) (o : Outcome) (into : List ℕ) → 1 ≤ r.namespace → r.namespace ≤ length (drive_limits d)
+    → o ≡ record { status = 0; result = 0; data_len = 64; reads = 0; stopped = false }
+    → take 64 into ≡ report_of (in_space_at (spaces_of d) r.namespace) (counts_of d) → r.opcode ≡ 0xC2 → DoneFor d r o into
+report_done d r o into some most told bytes op board v a few passed =
     let c = command_of r v in
-    let passes : early 1 d.log.shape c ≡ None = same_early d.log.shape r v ∙ passed in
-    let counted = counts_own d board a in
+    let passes : early (length (drive_limits d)) d.log.shape c ≡ None = same_early (length (drive_limits d)) d.log.shape r v ∙ passed in
+    let counted = counts_own d board a r.namespace some most in
     let all : AnswersAll board (sight_of d) c (success 0 (take 64 into)) 0 =
-    for_its_map d board a (λ s f m. Step s f m c (success 0 (take 64 into)) m × (op_of r.opcode ≡ Some Retrieve → 0 ≤ most_reads s f m c)) (
-      report_step d.log.shape (frames_of d) a.all c passes (whole_all d board a) (first_of d) (counts_of d) (take 64 into) op counted bytes,
-      λ e. absurd (other_than Report r.opcode (ap op_of op) report_other e),
+    for_its_map d board a (λ s f m. Step s f m c (success 0 (take 64 into)) m × ReadsWithin s f (sight_of d) m c 0) (
+      report_step d.log.shape (terms_of d) a.all c passes (in_space_at (spaces_of d) r.namespace) (counts_of d) (take 64 into) op counted bytes,
+      other_within d.log.shape (terms_of d) (sight_of d) a.all c 0 (other_than Report r.opcode (ap op_of op) report_other),
     ) in
     subst (λ (x : Outcome). Does board board (sight_of d) (sight_of d) c (reply_of x into) x.reads x.stopped) (sym told)
     (does_reads board board (sight_of d) c (success 0 (take 64 into)) 0 0 few few (reads_none board few) (omega arith) ok_sound all)

@@ -1,7 +1,7 @@
 -- A List meets the contract of a drive.
-use Rattle.std.proofs.Common.{◌≡◌, inl, inr, ℕ, ◌-◌, min, refl, sym, ap, subst, ◌∙◌, arith, Bool, true, false, List, [], ◌∷◌, take, Option, Some, None}
+use Rattle.std.proofs.Common.{◌≡◌, inl, inr, ℕ, ◌-◌, min, refl, sym, ap, subst, ◌∙◌, arith, Bool, true, false, List, [], ◌∷◌, length, take, Option, Some, None}
 use Rattle.std.specs.List.{AllByRecursion}
-use Rattle.pk_base.specs.Shape.{Shape, IsShape, limit}
+use Rattle.pk_base.specs.Shape.{Shape, IsShape}
 use Rattle.pk_base.specs.Page.{Flash}
 use Rattle.pk_base.specs.Entry.{Entry}
 use Rattle.pk_base.specs.Map.{Map, IsMap, keys_from}
@@ -19,7 +19,7 @@ use Rattle.pk_model.specs.Run.{Step}
 use Rattle.pk_model.specs.Reading.{reading}
 use Rattle.pk_model.specs.Laws.{IsStorable}
 use Rattle.pk_model.proofs.HeldMap.{map_held}
-use Rattle.pk_model.proofs.Answering.{serves, IsAlone, serves_alone}
+use Rattle.pk_model.proofs.Answering.{serves}
 use Rattle.pk_law_steps.proofs.Untouched.{under_reads}
 use Rattle.pk_nand.specs.Effects.{OnlyFlash, OnlyReading}
 use Rattle.pk_call.specs.Call.{command_on}
@@ -29,7 +29,7 @@ use Rattle.pk_model.specs.Growth.{Reaches}
 use Rattle.pk_call.specs.Seen.{reply_of}
 use Rattle.pk_model.specs.Wear.{roots}
 use Rattle.pk_call.specs.declared.types.Outcome.{Outcome}
-use Rattle.pk_parts.specs.Parts.{Parts, sight_of, settled_parts, terms_of, frames_of}
+use Rattle.pk_parts.specs.Parts.{Parts, drive_limits, sight_of, settled_parts, terms_of}
 use Rattle.pk_parts.specs.Agreeing.{DriveOnFlash}
 use Rattle.pk_base.specs.Shape.{most_calls}
 use Rattle.pk_call.specs.Calling.{FewCalls}
@@ -39,11 +39,10 @@ use Rattle.pk_core.specs.Serving.{IsServable}
 use Rattle.pk_core.proofs.Callings.{few_of_shape}
 use Rattle.pk_core.proofs.Executing.{executes_walked}
 use Rattle.pk_index.specs.Keys.{keys_there}
-use Rattle.pk_core.specs.Listed.{first_listed, ListsInto}
-use Rattle.pk_core.proofs.Replies.{keys_begun, keys_listed}
+use Rattle.pk_core.specs.Listed.{first_listed, ListsInto, own_keys}
+use Rattle.pk_core.proofs.Replies.{keys_own, keys_listed}
 use Rattle.pk_base.proofs.Logic.{ok_same}
-use Rattle.pk_model.specs.Spaces.{one_space, limits_at}
-use Rattle.pk_model.proofs.SpaceLemmas.{is_whole}
+use Rattle.pk_model.specs.Spaces.{in_space, limits_at}
 use Rattle.pk_parts.proofs.Unchanging.{for_its_map}
 
 some_same : (x y : Shape) → ◌≡◌ {A = Option Shape} (Some x) (Some y) → x ≡ y
@@ -60,20 +59,20 @@ abbrev eleven : List ℕ
 eleven = 0 ∷ 0 ∷ 0 ∷ 0 ∷ 0 ∷ 0 ∷ 0 ∷ 0 ∷ 0 ∷ 0 ∷ 0 ∷ []
 
 module _ (d : Parts) (old new : BoardState) (r : Request) (o : Outcome) (into : List ℕ)
-    (a : DriveOnFlash d old.shape old.pages) (is : r.opcode ≡ 0x06) (passed : early 1 d.log.shape (command_of r []) ≡ None)
+    (a : DriveOnFlash d old.shape old.pages) (is : r.opcode ≡ 0x06) (passed : early (length (drive_limits d)) d.log.shape (command_of r []) ≡ None)
     (lists : (ess : List (List Entry)) → RunsOnFlash old.pages d.arena d.levels.runs ess
-    → ListsInto old new o into (list_bytes (fitting (min r.size 65536 - 4) (keys_there (first_listed (command_of r [])) (d.log.active.entries ∷ d.log.frozen.entries ∷ ess))))) where
+    → ListsInto old new o into (list_bytes (fitting (min r.size 65536 - 4) (own_keys r.namespace (keys_there (first_listed (command_of r [])) (d.log.active.entries ∷ d.log.frozen.entries ∷ ess)))))) where
   abbrev c : Command
   c = command_of r []
 
-  abbrev l : ListsInto old new o into (list_bytes (fitting (min r.size 65536 - 4) (keys_there (first_listed c) (d.log.active.entries ∷ d.log.frozen.entries ∷ a.found.runs))))
+  abbrev l : ListsInto old new o into (list_bytes (fitting (min r.size 65536 - 4) (own_keys r.namespace (keys_there (first_listed c) (d.log.active.entries ∷ d.log.frozen.entries ∷ a.found.runs)))))
   l = lists a.found.runs a.with.index.stand
 
   is_list : op_of c.opcode ≡ Some ListKeys
   is_list = ap op_of is
 
-  is_early : early 1 a.shape c ≡ None
-  is_early = subst (λ (s : Shape). early 1 s c ≡ None) a.with.shape_is passed
+  is_early : early (length (drive_limits d)) a.shape c ≡ None
+  is_early = subst (λ (s : Shape). early (length (drive_limits d)) s c ≡ None) a.with.shape_is passed
 
   -- each key of the map is one
   held : IsMap a.shape a.all
@@ -82,17 +81,15 @@ module _ (d : Parts) (old new : BoardState) (r : Request) (o : Outcome) (into : 
       (subst (λ (s : Shape). AllByRecursion (IsStorable s) d.log.pending) a.with.shape_is a.with.index.logs.pending_are)
       (under_reads a.shape old.pages d.log.pending a.top a.found a.all a.with.pending)).is_map
 
-  bytes_are : list_bytes (fitting (min r.size 65536 - 4) (keys_there (first_listed c) (d.log.active.entries ∷ d.log.frozen.entries ∷ a.found.runs)))
-      ≡ list_bytes (fitting (min c.size 65536 - 4) (keys_from (key c) a.all))
+  bytes_are : list_bytes (fitting (min r.size 65536 - 4) (own_keys r.namespace (keys_there (first_listed c) (d.log.active.entries ∷ d.log.frozen.entries ∷ a.found.runs))))
+      ≡ list_bytes (fitting (min c.size 65536 - 4) (keys_from (key c) (in_space c.namespace a.all)))
   bytes_are = ap (λ ks. list_bytes (fitting (min r.size 65536 - 4) ks))
-      (keys_listed (settled_parts d) a.shape old.pages a.top a.found a.without a.all (first_listed c) a.with ∙ keys_begun a.shape a.all c.namespace (take c.key_len c.key_bytes) held)
+      (ap (own_keys r.namespace) (keys_listed (settled_parts d) a.shape old.pages a.top a.found a.without a.all (first_listed c) a.with)
+      ∙ keys_own a.shape a.all c.namespace (take c.key_len c.key_bytes) held)
 
-  alone : (frames : ℕ) → IsAlone (one_space frames (limit a.shape)) (limit a.shape) a.all
-  alone frames = record { one = refl; whole = is_whole a.shape a.all held }
-
-  stepped : (frames : ℕ) → Step a.shape (one_space frames (limit a.shape)) a.all c (reply_of o into) a.all
-  stepped frames =
-      let did = serves_alone a.shape (one_space frames (limit a.shape)) (limit a.shape) a.all (alone frames) c eleven ListKeys is_list is_early refl in
+  stepped : Step a.shape (terms_of d) a.all c (reply_of o into) a.all
+  stepped =
+      let did = serves a.shape (terms_of d) a.all eleven c ListKeys is_list is_early refl in
       elim l.answered [
         | inl read ↦ inl (record {
           own = eleven;
@@ -116,7 +113,7 @@ module _ (d : Parts) (old new : BoardState) (r : Request) (o : Outcome) (into : 
   stands : ExecStands old new (sight_of d) (sight_of d) c (reply_of o into) o.reads
   stands shape terms m st =
       let here : Step d.log.shape (terms_of d) a.all c (reply_of o into) a.all =
-      subst (λ (s : Shape). Step s (one_space (frames_of d) (limit s)) a.all c (reply_of o into) a.all) (sym a.with.shape_is) (stepped (frames_of d)) in
+      subst (λ (s : Shape). Step s (terms_of d) a.all c (reply_of o into) a.all) (sym a.with.shape_is) stepped in
       record {
         left = m;
         stepped = for_its_map d old a (λ s t x. Step s t x c (reply_of o into) x) here shape terms m st;
@@ -127,6 +124,7 @@ module _ (d : Parts) (old new : BoardState) (r : Request) (o : Outcome) (into : 
           map_is = ap (λ (f : Flash). reading shape f d.log.pending) same_pages ∙ st.map_is;
         };
         bounded = λ other. absurd (not_retrieve (op_of c.opcode) is_list other);
+        held_bounded = λ other. absurd (not_retrieve (op_of c.opcode) is_list other);
       }
 
   reaches : (shape : Shape) (m : Map) → Reaches shape old new (CrashFinds shape (command_on old c) old.pages m)

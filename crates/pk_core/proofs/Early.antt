@@ -1,6 +1,5 @@
 -- A command that is refused by the checks that read it alone.
-use Rattle.std.proofs.Common.{◌≡◌, ◌≤◌, inl, ℕ, [], ◌∷◌, length, refl, sym, ap, subst, ◌∙◌, arith, false, List, Some}
-use Rattle.pk_base.specs.Shape.{limit}
+use Rattle.std.proofs.Common.{◌≡◌, ◌≤◌, inl, ℕ, length, refl, sym, ap, subst, ◌∙◌, arith, false, List, Some}
 use Rattle.pk_nvme.specs.Command.{Command}
 use Rattle.pk_nvme.specs.Reply.{refusal}
 use Rattle.pk_nand.specs.BoardState.{BoardState, shape_of as shape_told, shape_or_none}
@@ -9,12 +8,12 @@ use Rattle.pk_model.specs.Answer.{early}
 use Rattle.pk_model.proofs.Answering.{refuses_early}
 use Rattle.pk_call.specs.Seen.{reply_of}
 use Rattle.pk_call.specs.declared.types.Outcome.{Outcome}
-use Rattle.pk_parts.specs.Parts.{Parts, sight_of}
+use Rattle.pk_parts.specs.Parts.{Parts, drive_limits, sight_of}
 use Rattle.pk_parts.specs.Agreeing.{DriveOnFlash}
-use Rattle.pk_parts.proofs.Unchanging.{reads_none, limits_are}
+use Rattle.pk_parts.proofs.Unchanging.{reads_none}
 use Rattle.pk_core.specs.Done.{Does}
 use Rattle.pk_core.specs.Quiet.{eleven}
-use Rattle.pk_core.proofs.Standing.{stands_for}
+use Rattle.pk_core.proofs.Standing.{stands_for, own_limits}
 use Rattle.pk_core.proofs.Statuses.{early_sound}
 use Rattle.pk_core.proofs.Unchanging.{AnswersAll, does_reads}
 
@@ -22,17 +21,17 @@ use Rattle.pk_core.proofs.Unchanging.{AnswersAll, does_reads}
 pub told_shape : (d : Parts) (board : BoardState) → DriveOnFlash d board.shape board.pages → shape_told board ≡ d.log.shape
 told_shape d board agrees = ap shape_or_none agrees.told_is ∙ sym agrees.with.shape_is
 
-module _ (d : Parts) (board : BoardState) (c : Command) (status : ℕ) (agrees : DriveOnFlash d board.shape board.pages) (refused : early 1 d.log.shape c ≡ Some status) where
+module _ (d : Parts) (board : BoardState) (c : Command) (status : ℕ) (agrees : DriveOnFlash d board.shape board.pages) (refused : early (length (drive_limits d)) d.log.shape c ≡ Some status) where
   refused_all : AnswersAll board (sight_of d) c (refusal status) 0
   refused_all shape terms m stands =
       let here = (stands_for d board shape terms m agrees stands).with.shape_is in
-      let one : terms.limits ≡ limit shape ∷ [] = sym stands.limits_is ∙ limits_are shape board.pages in
-      let s = refuses_early shape terms m eleven c status ((λ i. early (length (one i)) (sym here i) c) ∙ refused) in
-      (inl (record { own = eleven; eleven = refl; replied = sym s.replied; leaves = sym s.leaves }), λ is. omega arith)
+      let same : terms.limits ≡ drive_limits d = sym (own_limits d board shape terms m agrees stands) in
+      let s = refuses_early shape terms m eleven c status ((λ i. early (length (same i)) (sym here i) c) ∙ refused) in
+      (inl (record { own = eleven; eleven = refl; replied = sym s.replied; leaves = sym s.leaves }), (λ is. omega arith, λ is. omega arith))
 
   -- it does nothing
   pub refused_done : (o : Outcome) (into : List ℕ) → board.reads ≤ last_count → o ≡ record { status = status; result = 0; data_len = 0; reads = 0; stopped = false }
       → Does board board (sight_of d) (sight_of d) c (reply_of o into) o.reads o.stopped
   refused_done o into few told =
       subst (λ (x : Outcome). Does board board (sight_of d) (sight_of d) c (reply_of x into) x.reads x.stopped) (sym told)
-      (does_reads board board (sight_of d) c (refusal status) 0 0 few few (reads_none board few) (omega arith) (early_sound d.log.shape c status refused) refused_all)
+      (does_reads board board (sight_of d) c (refusal status) 0 0 few few (reads_none board few) (omega arith) (early_sound (length (drive_limits d)) d.log.shape c status refused) refused_all)

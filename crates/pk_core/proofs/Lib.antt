@@ -8,6 +8,7 @@ pub mod Came
 pub mod Unchanging
 pub mod Counting
 pub mod Stepping
+pub mod SpaceRoom
 pub mod Served
 pub mod Replies
 pub mod Listing

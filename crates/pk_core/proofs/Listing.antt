@@ -1,9 +1,9 @@
 -- Keys that a walk gives, listed one after another.
-use Rattle.std.proofs.Common.{◌≡◌, ℕ, ◌+◌, ◌-◌, ◌<◌, ◌≤◌, refl, sym, ap, subst, ◌∙◌, arith, Bool, true, false, nat_le, min, List, [], ◌∷◌, ◌++◌, length, take, drop, flat_map, if◌then◌else◌, Option}
+use Rattle.std.proofs.Common.{◌≡◌, ℕ, ◌+◌, ◌-◌, ◌<◌, ◌≤◌, refl, sym, ap, subst, ◌∙◌, arith, Bool, true, false, nat_le, min, List, [], ◌∷◌, ◌++◌, length, take, drop, flat_map, if◌then◌else◌, ◌==◌, Option}
 use Rattle.std.proofs.Common.{Some, None, T, leb-false, leb→le}
 use Rattle.std.proofs.lemmas.List.{append_assoc, append-nil, flat_map_more, drop-append-le, length-take-le, drop-take, length-append}
 use Rattle.std.proofs.Math.Seq.{take-add}
-use Rattle.pk_base.specs.Key.{Key}
+use Rattle.pk_base.specs.Key.{Key, space_of}
 use Rattle.pk_base.specs.Shape.{Shape}
 use Rattle.pk_base.specs.Entry.{Entry, Place, key_of}
 use Rattle.pk_base.specs.Seen.{entry as seen}
@@ -30,7 +30,7 @@ use Rattle.pk_parts.specs.Agreeing.{DriveOnFlash}
 use Rattle.pk_parts.proofs.Unchanging.{agrees_ready}
 use Rattle.pk_core.specs.declared.filled.Filled.{Filled}
 use Rattle.pk_call.specs.declared.types.Outcome.{Outcome}
-use Rattle.pk_core.specs.Listed.{OffersKey, OffersFirst, OffersNext, Lists, ListsAll, ListsInto}
+use Rattle.pk_core.specs.Listed.{OffersKey, OffersFirst, OffersNext, Lists, ListsAll, ListsInto, own_keys}
 
 -- ---- one more key, or none
 
@@ -105,36 +105,36 @@ lists_stop all room into at ks none l =
     }
 
 -- what the next key left
-pub record ListsMore (all : List Key) (room : ℕ) (new : List ℕ) (at next : Filled) (later : List (Key × Place)) : Type 0 where
-  pub lists : Lists all room new next (keys_of later)
+pub record ListsMore (all : List Key) (room : ℕ) (new : List ℕ) (at next : Filled) (later : List Key) : Type 0 where
+  pub lists : Lists all room new next later
   pub same_room : next.room ≡ at.room
   pub longer : at.end < next.end
   pub within : next.end ≤ room
   pub few : next.count ≤ next.end
 
-pub lists_next : (all : List Key) (room : ℕ) (into new : List ℕ) (at next : Filled) (rest later : List (Key × Place)) → 4 ≤ at.end → at.end ≤ length into → at.count ≤ at.end
-    → Lists all room into at (keys_of rest) → OffersFirst into at room rest (Some next) new later → ListsMore all room new at next later
+pub lists_next : (all : List Key) (room : ℕ) (into new : List ℕ) (at next : Filled) (rest later : List Key) → 4 ≤ at.end → at.end ≤ length into → at.count ≤ at.end
+    → Lists all room into at rest → OffersFirst into at room rest (Some next) new later → ListsMore all room new at next later
 lists_next all room into new at next [] later least within few l o = absurd (some_none next o.0)
   where
     some_none : (n : Filled) → ◌≡◌ {A = Option Filled} (Some n) None → ⊥
     some_none n e = cc
 lists_next all room into new at next (x ∷ rest) later least within few l o =
-    let some = listed_some x.0 in
-    let end : next.end ≡ at.end + length (listed x.0) = ap (λ (n : Filled). n.end) o.0.0 in
+    let some = listed_some x in
+    let end : next.end ≡ at.end + length (listed x) = ap (λ (n : Filled). n.end) o.0.0 in
     let count : next.count ≡ at.count + 1 = ap (λ (n : Filled). n.count) o.0.0 in
     record {
-      lists = subst (λ (ys : List (Key × Place)). Lists all room new next (keys_of ys)) (sym o.1) (lists_more all room into new at next x.0 (keys_of rest) least within l o.0);
+      lists = subst (λ (ys : List Key). Lists all room new next ys) (sym o.1) (lists_more all room into new at next x rest least within l o.0);
       same_room = ap (λ (n : Filled). n.room) o.0.0;
       longer = omega (arith, end, some);
       within = o.0.1;
       few = omega (arith, end, some, count, few);
     }
 
-pub lists_last : (all : List Key) (room : ℕ) (into new : List ℕ) (at : Filled) (rest later : List (Key × Place))
-    → Lists all room into at (keys_of rest) → OffersFirst into at room rest None new later → ListsAll all room new at
+pub lists_last : (all : List Key) (room : ℕ) (into new : List ℕ) (at : Filled) (rest later : List Key)
+    → Lists all room into at rest → OffersFirst into at room rest None new later → ListsAll all room new at
 lists_last all room into new at [] later l o = subst (λ (ys : List ℕ). ListsAll all room ys at) (sym o.1) (lists_stop all room into at [] refl l)
 lists_last all room into new at (x ∷ rest) later l o = subst (λ (ys : List ℕ). ListsAll all room ys at) (sym o.0.1)
-    (lists_stop all room into at (x.0 ∷ keys_of rest) (fits_none (room - at.end) x.0 (keys_of rest) o.0.0) l)
+    (lists_stop all room into at (x ∷ rest) (fits_none (room - at.end) x rest o.0.0) l)
 
 -- ---- the number of keys at the start
 
@@ -155,20 +155,24 @@ pub left_once : (w : Walk) (flash : Flash) (arena : Frames) (rs : List Kept) (ac
 left_once w flash arena rs active frozen a b one other =
     one.is ∙ ap (λ (ess : List (List Entry)). wanted (is_wanted w.position) (visible (active ∷ frozen ∷ ess))) (one_of_each flash arena rs one.ess other.ess one.stand other.stand) ∙ sym other.is
 
--- the key of the entry that the walk gave was offered
-pub gives_key : (into new : List ℕ) (at : Filled) (room : ℕ) (e : RustEntry) (key : Key) (next : Option Filled) (rest later : List (Key × Place))
-    → key ≡ key_of (seen e) → WalkGives (Some e) rest later → OffersKey into at room key next new
-    → OffersFirst into at room rest next new later
-gives_key into new at room e key next [] later is gives o = absurd (some_none e gives.0)
+-- the key of the entry that the walk gave was offered, if it is of this namespace
+pub gives_key : (space : ℕ) (into new : List ℕ) (at : Filled) (room : ℕ) (e : RustEntry) (key : Key) (next : Option Filled) (rest later : List (Key × Place))
+    → key ≡ key_of (seen e) → WalkGives (Some e) rest later → OffersFirst into at room (own_keys space (key ∷ [])) next new []
+    → OffersFirst into at room (own_keys space (keys_of rest)) next new (own_keys space (keys_of later))
+gives_key space into new at room e key next [] later is gives o = absurd (some_none e gives.0)
   where
     some_none : (x : RustEntry) → ◌≡◌ {A = Option RustEntry} (Some x) None → ⊥
     some_none x same = cc
-gives_key into new at room e key next (x ∷ rest) later is gives o =
-    (subst (λ (k : Key). OffersKey into at room k next new) (is ∙ ap (λ (y : Entry). y.0) gives.0) o, gives.1)
+gives_key space into new at room e key next (x ∷ rest) later is gives o =
+    let T : Bool → Type 0 = λ t. OffersFirst into at room (if t then x.0 ∷ [] else []) next new []
+    → OffersFirst into at room (if t then x.0 ∷ own_keys space (keys_of rest) else []) next new (own_keys space (keys_of later)) in
+    elim (space_of x.0 == space) as T [ true ↦ λ one. (one.0, ap (λ (es : List (Key × Place)). own_keys space (keys_of es)) gives.1) | false ↦ λ none. none ]
+    (subst (λ (k : Key). OffersFirst into at room (own_keys space (k ∷ [])) next new []) (is ∙ ap (λ (y : Entry). y.0) gives.0) o)
 
-pub gives_none : (into : List ℕ) (at : Filled) (room : ℕ) (rest later : List (Key × Place)) → WalkGives None rest later → OffersFirst into at room rest None into later
-gives_none into at room [] later gives = (refl, refl)
-gives_none into at room (x ∷ rest) later gives = absurd gives
+pub gives_none : (space : ℕ) (into : List ℕ) (at : Filled) (room : ℕ) (rest later : List (Key × Place)) → WalkGives None rest later
+    → OffersFirst into at room (own_keys space (keys_of rest)) None into (own_keys space (keys_of later))
+gives_none space into at room [] later gives = (refl, refl)
+gives_none space into at room (x ∷ rest) later gives = absurd gives
 
 -- ---- the loop
 
@@ -180,13 +184,13 @@ LeftOf d w flash rest = IsLeft w flash d.arena d.levels.runs d.log.active.entrie
 pub at_first : (d e : Parts) (P : Levels → Frames → LogState → Type 0) → e ≡ record d { walk = e.walk } → P e.levels e.arena e.log → P d.levels d.arena d.log
 at_first d e P rest is = subst (λ (x : Parts). P x.levels x.arena x.log) rest is
 
--- A prefix of the keys that remained at first is listed, and those after it remain.
-pub record Fills (d : Parts) (old now : BoardState) (w : Walk) (room : ℕ) (start into : List ℕ) (at : Filled) : Type 0 where
+-- A prefix of the keys of this namespace that remained at first is listed, and those after it remain.
+pub record Fills (d : Parts) (old now : BoardState) (w : Walk) (space room : ℕ) (start into : List ℕ) (at : Filled) : Type 0 where
   pub all : List (Key × Place)
   pub all_left : LeftOf d d.walk old.pages all
   pub rest : List (Key × Place)
   pub left : LeftOf d w now.pages rest
-  pub lists : Lists (keys_of all) room into at (keys_of rest)
+  pub lists : Lists (own_keys space (keys_of all)) room into at (own_keys space (keys_of rest))
   pub least : 4 ≤ at.end
   pub room_is : at.room ≡ room
   pub within : at.end ≤ room
@@ -196,15 +200,15 @@ pub record Fills (d : Parts) (old now : BoardState) (w : Walk) (room : ℕ) (sta
   pub reads : Reads (pages_read d.levels.runs d.walk.cursors) (pages_read d.levels.runs w.cursors) old now
   pub size : length into ≡ length start
 
-module _ (d : Parts) (old : BoardState) (room : ℕ) (start : List ℕ) where
-  pub fills_start : (at : Filled) → at.end ≡ 4 → at.count ≡ 0 → at.room ≡ room → 4 ≤ room → MayWalk d.walk old d.levels d.arena d.log → Fills d old old d.walk room start start at
+module _ (d : Parts) (old : BoardState) (space room : ℕ) (start : List ℕ) where
+  pub fills_start : (at : Filled) → at.end ≡ 4 → at.count ≡ 0 → at.room ≡ room → 4 ≤ room → MayWalk d.walk old d.levels d.arena d.log → Fills d old old d.walk space room start start at
   fills_start at end count room_is least may = record {
     room_is = room_is;
     all = may.left.0;
     all_left = may.left.1;
     rest = may.left.0;
     left = may.left.1;
-    lists = lists_start (keys_of may.left.0) room start at end count;
+    lists = lists_start (own_keys space (keys_of may.left.0)) room start at end count;
     least = omega (arith, end);
     within = omega (arith, end, least);
     few = omega (arith, end, count);
@@ -214,28 +218,29 @@ module _ (d : Parts) (old : BoardState) (room : ℕ) (start : List ℕ) where
     size = refl;
   }
 
-  module _ (now : BoardState) (e : Parts) (into : List ℕ) (at : Filled) (f : Fills d old now e.walk room start into at) (same : e ≡ record d { walk = e.walk }) where
+  module _ (now : BoardState) (e : Parts) (into : List ℕ) (at : Filled) (f : Fills d old now e.walk space room start into at) (same : e ≡ record d { walk = e.walk }) where
     pub fills_may : d.walk.shape ≡ d.levels.shape → MayWalk e.walk now e.levels e.arena e.log
     fills_may shape = subst (λ (x : Parts). MayWalk e.walk now x.levels x.arena x.log) (sym same) (record { ready = f.ready; same_shape = f.same_shape ∙ shape; left = (f.rest, f.left) })
 
-    module _ (enough : room ≤ length start) (board : BoardState) (v : Walk) (next : Option Filled) (new : List ℕ) (given : OffersNext e.walk v now board e.levels e.arena e.log at next into new) where
+    module _ (enough : room ≤ length start) (board : BoardState) (v : Walk) (next : Option Filled) (new : List ℕ) (given : OffersNext e.walk v now board e.levels e.arena e.log space at next into new) where
       -- the room is the one that the loop began with
-      pub offers : (rest : List (Key × Place)) → LeftOf d e.walk now.pages rest → (later : List (Key × Place)) × OffersFirst into at room rest next new later × LeftOf d v board.pages later
+      pub offers : (rest : List (Key × Place)) → LeftOf d e.walk now.pages rest → (later : List (Key × Place)) × OffersFirst into at room (own_keys space (keys_of rest)) next new (own_keys space (keys_of later)) × LeftOf d v board.pages later
       offers rest left =
-          let here = at_first d e (λ l a g. OffersNext e.walk v now board l a g at next into new) same given in
+          let here = at_first d e (λ l a g. OffersNext e.walk v now board l a g space at next into new) same given in
           let x = here rest left in
-          (x.0, subst (λ (n : ℕ). OffersFirst into at n rest next new x.0) f.room_is x.1, x.2)
+          (x.0, subst (λ (n : ℕ). OffersFirst into at n (own_keys space (keys_of rest)) next new (own_keys space (keys_of x.0))) f.room_is x.1, x.2)
 
-      more : (n : Filled) (is : next ≡ Some n) → ListsMore (keys_of f.all) room new at n (offers f.rest f.left).0
+      more : (n : Filled) (is : next ≡ Some n) → ListsMore (own_keys space (keys_of f.all)) room new at n (own_keys space (keys_of (offers f.rest f.left).0))
       more n is =
           let in_room = f.within in
           let size = f.size in
-          lists_next (keys_of f.all) room into new at n f.rest (offers f.rest f.left).0 f.least (omega (arith, in_room, size, enough)) f.few f.lists
-          (subst (λ (x : Option Filled). OffersFirst into at room f.rest x new (offers f.rest f.left).0) is (offers f.rest f.left).1)
+          let kept = own_keys space (keys_of (offers f.rest f.left).0) in
+          lists_next (own_keys space (keys_of f.all)) room into new at n (own_keys space (keys_of f.rest)) kept f.least (omega (arith, in_room, size, enough)) f.few f.lists
+          (subst (λ (x : Option Filled). OffersFirst into at room (own_keys space (keys_of f.rest)) x new kept) is (offers f.rest f.left).1)
 
       pub fills_more : (n : Filled) (is : next ≡ Some n) → Walked e.walk v now board e.levels
           → Reads (pages_read e.levels.runs e.walk.cursors) (pages_read e.levels.runs v.cursors) now board → length new ≡ length into
-          → Fills d old board v room start new n
+          → Fills d old board v space room start new n
       fills_more n is walked reads size =
           let m = more n is in
           let least = f.least in
@@ -265,11 +270,12 @@ module _ (d : Parts) (old : BoardState) (room : ℕ) (start : List ℕ) where
           let within = m.within in
           omega (arith, longer, within)
 
-      pub fills_end : next ≡ None → (rest : List (Key × Place)) → LeftOf d d.walk old.pages rest → ListsAll (keys_of rest) room new at
+      pub fills_end : next ≡ None → (rest : List (Key × Place)) → LeftOf d d.walk old.pages rest → ListsAll (own_keys space (keys_of rest)) room new at
       fills_end is rest left =
-          subst (λ (es : List (Key × Place)). ListsAll (keys_of es) room new at) (left_once d.walk old.pages d.arena d.levels.runs d.log.active.entries d.log.frozen.entries f.all rest f.all_left left)
-          (lists_last (keys_of f.all) room into new at f.rest (offers f.rest f.left).0 f.lists
-          (subst (λ (x : Option Filled). OffersFirst into at room f.rest x new (offers f.rest f.left).0) is (offers f.rest f.left).1))
+          let kept = own_keys space (keys_of (offers f.rest f.left).0) in
+          subst (λ (es : List (Key × Place)). ListsAll (own_keys space (keys_of es)) room new at) (left_once d.walk old.pages d.arena d.levels.runs d.log.active.entries d.log.frozen.entries f.all rest f.all_left left)
+          (lists_last (own_keys space (keys_of f.all)) room into new at (own_keys space (keys_of f.rest)) kept f.lists
+          (subst (λ (x : Option Filled). OffersFirst into at room (own_keys space (keys_of f.rest)) x new kept) is (offers f.rest f.left).1))
 
     module _ (board : BoardState) (v : Walk) (none : pages_read d.levels.runs d.walk.cursors ≡ 0) (walked : Walked e.walk v now board e.levels) where
       few_read : pages_read d.levels.runs v.cursors ≤ most_read d.levels.runs
@@ -317,18 +323,18 @@ module _ (d e : Parts) (old : BoardState) (from : Key) (starts : Starts d e.walk
   starts_unread none = subst (λ (x : Parts). pages_read x.levels.runs e.walk.cursors ≡ 0) (sym rest) none
 
   -- the bytes of the whole List
-  pub starts_bytes : (room size : ℕ) (at : Filled) (into new : List ℕ) → room ≡ min size 65536
-      → ((left : List (Key × Place)) → IsLeft e.walk old.pages e.arena e.levels.runs e.log.active.entries e.log.frozen.entries left → ListsAll (keys_of left) room into at)
+  pub starts_bytes : (space room size : ℕ) (at : Filled) (into new : List ℕ) → room ≡ min size 65536
+      → ((left : List (Key × Place)) → IsLeft e.walk old.pages e.arena e.levels.runs e.log.active.entries e.log.frozen.entries left → ListsAll (own_keys space (keys_of left)) room into at)
       → take 4 new ≡ u32 at.count → drop 4 new ≡ drop 4 into → (ess : List (List Entry)) → RunsOnFlash old.pages d.arena d.levels.runs ess
-      → take at.end new ≡ list_bytes (fitting (min size 65536 - 4) (keys_there from (d.log.active.entries ∷ d.log.frozen.entries ∷ ess)))
-  starts_bytes room size at into new room_is lists front back ess stand =
+      → take at.end new ≡ list_bytes (fitting (min size 65536 - 4) (own_keys space (keys_there from (d.log.active.entries ∷ d.log.frozen.entries ∷ ess))))
+  starts_bytes space room size at into new room_is lists front back ess stand =
       let left = starts old.pages ess stand in
-      let here = at_first d e (λ l a g. (ks : List (Key × Place)) → IsLeft e.walk old.pages a l.runs g.active.entries g.frozen.entries ks → ListsAll (keys_of ks) room into at) rest lists in
-      list_done (keys_of left.0) room into new at (here left.0 left.1) front back ∙ (λ i. list_bytes (fitting (room_is i - 4) (left.2 i)))
+      let here = at_first d e (λ l a g. (ks : List (Key × Place)) → IsLeft e.walk old.pages a l.runs g.active.entries g.frozen.entries ks → ListsAll (own_keys space (keys_of ks)) room into at) rest lists in
+      list_done (own_keys space (keys_of left.0)) room into new at (here left.0 left.1) front back ∙ (λ i. list_bytes (fitting (room_is i - 4) (own_keys space (left.2 i))))
 
--- a List from the key that was computed for it
-pub from_first : (old new : BoardState) (o : Outcome) (into : List ℕ) (n : ℕ) (Stands : List (List Entry) → Type 0) (active frozen : List Entry) (from first : Key) → from ≡ first
-    → ((ess : List (List Entry)) → Stands ess → ListsInto old new o into (list_bytes (fitting n (keys_there from (active ∷ frozen ∷ ess)))))
-    → (ess : List (List Entry)) → Stands ess → ListsInto old new o into (list_bytes (fitting n (keys_there first (active ∷ frozen ∷ ess))))
-from_first old new o into n Stands active frozen from first same all ess stand =
-    subst (λ (k : Key). ListsInto old new o into (list_bytes (fitting n (keys_there k (active ∷ frozen ∷ ess))))) same (all ess stand)
+-- a List of a namespace from the key that was computed for it
+pub from_first : (old new : BoardState) (o : Outcome) (into : List ℕ) (n : ℕ) (Stands : List (List Entry) → Type 0) (active frozen : List Entry) (space : ℕ) (from first : Key) → from ≡ first
+    → ((ess : List (List Entry)) → Stands ess → ListsInto old new o into (list_bytes (fitting n (own_keys space (keys_there from (active ∷ frozen ∷ ess))))))
+    → (ess : List (List Entry)) → Stands ess → ListsInto old new o into (list_bytes (fitting n (own_keys space (keys_there first (active ∷ frozen ∷ ess)))))
+from_first old new o into n Stands active frozen space from first same all ess stand =
+    subst (λ (k : Key). ListsInto old new o into (list_bytes (fitting n (own_keys space (keys_there k (active ∷ frozen ∷ ess)))))) same (all ess stand)

@@ -43,8 +43,7 @@ module _ (shape : Shape) (frames reads : ℕ) (old new : BoardState) (d : Parts)
       let told : new.shape ≡ Some shape = ap (λ (s : BoardState). s.shape) done ∙ ready.shape_is in
       let here : StandsFor d shape old.pages o.all = record { top = o.top; found = o.found; without = o.all; with = o.with; whole = o.whole } in
       let there : StandsFor d shape new.pages o.all = subst (λ (f : Flash). StandsFor d shape f o.all) (sym (ap (λ (s : BoardState). s.pages) done)) here in
-      let stands = still_stands d new shape frames o.all told o.frames_are (between d shape new.pages o.all there) in
-      (o.all, record { shape_is = stands.shape_is; frames_is = stands.frames_is; limits_is = refl; map_is = stands.map_is })
+      (o.all, still_stands d new shape (terms_at shape new.pages frames) o.all told o.frames_are refl (between d shape new.pages o.all there))
 
   -- as many blocks are in use as have a page of a value
   pub blocks_behind : (tree : Tree) → IsTree shape new.pages tree → (sight_of d).counts.blocks ≡ live_blocks shape tree.found []

@@ -12,7 +12,7 @@ use Rattle.pk_call.specs.Answering.{AnswersCommand, CountsCalls, SettlesBackgrou
 use Rattle.pk_call.specs.Exec.{report_of}
 use Rattle.pk_call.specs.Running.{LeavesDrive}
 use Rattle.pk_call.specs.declared.types.Outcome.{Outcome}
-use Rattle.pk_parts.specs.Parts.{Parts, IsParts, sight_of}
+use Rattle.pk_parts.specs.Parts.{Parts, drive_limits, IsParts, sight_of}
 use Rattle.pk_background.proofs.Callings.{few_within, few_none}
 use Rattle.pk_parts.proofs.Staying.{stays_same, stays_opens}
 use Rattle.pk_core.specs.Agreeing.{DriveOnFlashBetween}
@@ -129,7 +129,7 @@ performs_none d old r v o refused = record {
 
 pub refused_ends : (d : Parts) (old : BoardState) (r : Request) (v : List ℕ) (o : Outcome) (into : List ℕ) (status : ℕ)
     → DriveOnFlashBetween d old.shape old.pages → d.stopped ≡ false → IsParts d → old.flash_faults ≤ last_count → old.reads ≤ last_count
-    → early 1 d.log.shape (command_of r v) ≡ Some status → o ≡ record { status = status; result = 0; data_len = 0; reads = 0; stopped = false }
+    → early (length (drive_limits d)) d.log.shape (command_of r v) ≡ Some status → o ≡ record { status = status; result = 0; data_len = 0; reads = 0; stopped = false }
     → HasEnded d d old old r v o into
 refused_ends d old r v o into status agreed runs keeps counted few is told = record {
   agreed = agreed;
@@ -138,20 +138,20 @@ refused_ends d old r v o into status agreed runs keeps counted few is told = rec
     agrees = λ _. agreed;
     does = refused_done d old (command_of r v) status agreed.0 is o into few told;
   };
-  performs = performs_none d old r v o (told_refused o status 0 0 0 false told (early_refuses d.log.shape (command_of r v) status is));
+  performs = performs_none d old r v o (told_refused o status 0 0 0 false told (early_refuses (length (drive_limits d)) d.log.shape (command_of r v) status is));
   keeps = keeps;
   counted = counted;
 }
 
 -- its reply is its status alone, which is neither a success nor that of a read that failed
-pub refused_answers : (d : Parts) (old : BoardState) (r : Request) (v : List ℕ) (o : Outcome) (into : List ℕ) (status : ℕ) → early 1 d.log.shape (command_of r v) ≡ Some status
+pub refused_answers : (d : Parts) (old : BoardState) (r : Request) (v : List ℕ) (o : Outcome) (into : List ℕ) (status : ℕ) → early (length (drive_limits d)) d.log.shape (command_of r v) ≡ Some status
     → o ≡ record { status = status; result = 0; data_len = 0; reads = 0; stopped = false } → AnswersBy d d old old r v o into into
 refused_answers d old r v o into status is told =
     let bare : o.data_len ≡ 0 = ap (λ (x : Outcome). x.data_len) told in
     record {
       refused = λ _. (ap (λ (x : Outcome). x.stopped) told, refl, refl);
-      fine = λ _. (told_sound o status 0 0 0 false told (early_sound d.log.shape (command_of r v) status is), refl);
-      bytes = λ _ zero. absurd (told_refused o status 0 0 0 false told (early_refuses d.log.shape (command_of r v) status is) zero);
+      fine = λ _. (told_sound o status 0 0 0 false told (early_sound (length (drive_limits d)) d.log.shape (command_of r v) status is), refl);
+      bytes = λ _ zero. absurd (told_refused o status 0 0 0 false told (early_refuses (length (drive_limits d)) d.log.shape (command_of r v) status is) zero);
       fits = omega (arith, bare);
       same = refl;
     }

@@ -1,5 +1,5 @@
 -- The answers of commands that change the map.
-use Rattle.std.proofs.Common.{◌≡◌, ◌≢◌, inl, inr, ℕ, ◌+◌, ◌-◌, ◌/◌, ◌%◌, ◌<◌, ◌≤◌, refl, sym, ap, subst, ◌∙◌, arith, Bool, true, false, not, ◌&&◌, ◌||◌, ◌==◌, List, [], length, sum, nat_le, is_some}
+use Rattle.std.proofs.Common.{◌≡◌, ◌≢◌, inl, inr, ℕ, ◌+◌, ◌-◌, ◌/◌, ◌%◌, ◌<◌, ◌≤◌, refl, sym, ap, subst, ◌∙◌, arith, Bool, true, false, not, ◌&&◌, ◌||◌, ◌==◌, List, [], length, nat_le, is_some}
 use Rattle.std.proofs.Common.{◌∷◌}
 use Rattle.std.proofs.Common.{min, Option, Some, None, Result, Ok, Err, leb-true}
 use Rattle.std.specs.Prelude.{MatchOption}
@@ -7,7 +7,7 @@ use Rattle.std.specs.FinMap.{get, insert, remove, contains_key}
 use Rattle.pk_base.specs.Choices.{or_else}
 use Rattle.pk_base.specs.Entry.{Place}
 use Rattle.pk_base.specs.Fields.{AreBytes}
-use Rattle.pk_base.specs.Key.{Key, IsKey}
+use Rattle.pk_base.specs.Key.{Key, IsKey, space_of}
 use Rattle.pk_base.specs.Shape.{Shape, charge, greatest, limit, page_entries}
 use Rattle.pk_base.specs.Page.{Flash}
 use Rattle.pk_base.specs.Map.{Map, live, pages_if_some}
@@ -23,7 +23,6 @@ use Rattle.pk_nvme.specs.Opcode.{op_of}
 use Rattle.pk_nvme.specs.declared.opcode.Opcode.{Opcode}
 use Rattle.pk_nvme.specs.declared.opcode.Opcode.TheVariants.{Store, Retrieve, Delete}
 use Rattle.pk_model.specs.Answer.{early, check, late_of, success, map_after}
-use Rattle.pk_model.specs.Bounds.{most_reads}
 use Rattle.pk_model.specs.Run.{Step}
 use Rattle.pk_call.specs.Sight.{Sight}
 use Rattle.pk_model.proofs.Answering.{serves, refuses_late, store_sized, serves_alone, ServesAlone}
@@ -51,19 +50,21 @@ use Rattle.pk_changes.specs.Changes.{Changes, StaysBetween}
 use Rattle.pk_core.specs.Whole.{MayPutBetween, MayStoreBetween, MayTakeBetween, CanPutBetween, CanTakeBetween, StoresWhole, TakesWhole}
 use Rattle.pk_background.specs.Spacing.{SameMap}
 use Rattle.pk_parts.proofs.Halves.{between}
-use Rattle.pk_core.specs.Serving.{IsServable, IsCounted, outcome_for, pages_at}
+use Rattle.pk_core.specs.Serving.{IsServable, IsCounted, outcome_for}
+use Rattle.pk_changes.specs.Noting.{pages_at}
+use Rattle.pk_space.specs.Uses.{space_live}
 use Rattle.pk_core.proofs.Standing.{stands_so}
 use Rattle.pk_parts.proofs.Standing.{agrees_so}
 use Rattle.pk_core.proofs.Counting.{counts_own}
 use Rattle.pk_core.proofs.Early.{told_shape}
-use Rattle.pk_core.proofs.Unchanging.{unread_step, refused_step, alone, value_of, same_early, does_reads, AnswersAll}
+use Rattle.pk_core.proofs.Unchanging.{unread_step, refused_step, alone, value_of, same_early, does_reads, other_within, AnswersAll, ReadsWithin}
 use Rattle.pk_parts.proofs.Unchanging.{own, looked, for_its_map, reads_none, agrees_ready, whole_all, limits_are}
-use Rattle.pk_model.specs.Spaces.{Terms, one_space, limits_at, in_space}
+use Rattle.pk_model.specs.Spaces.{Terms, one_space, limit_of, limits_at, in_space}
 
 -- ---- what a Store asks
 
-pub store_short : (shape : Shape) (r : Request) → r.opcode ≡ 0x01 → early 1 shape (command_of r []) ≡ None → r.size ≤ greatest shape
-store_short shape r is passed = store_sized 1 shape (command_of r []) (ap op_of is) passed
+pub store_short : (spaces : ℕ) (shape : Shape) (r : Request) → r.opcode ≡ 0x01 → early spaces shape (command_of r []) ≡ None → r.size ≤ greatest shape
+store_short spaces shape r is passed = store_sized spaces shape (command_of r []) (ap op_of is) passed
 
 -- ---- no other kind
 
@@ -86,7 +87,7 @@ ok_sound e = cc
 
 module _ (d : Parts) (old new : BoardState) (a : DriveOnFlash d old.shape old.pages) (c : Command) (after : Map)
     (count : IsCounted old new) (few_roots : roots new ≤ roots old + most_store_roots) (one : most_installs c.opcode c.size ≡ most_store_roots)
-    (rest : OnlyFlash old new) (other : op_of c.opcode ≡ Some Retrieve → ⊥) (leaves : map_after d.log.shape (limit d.log.shape ∷ []) a.all c ≡ after) where
+    (rest : OnlyFlash old new) (other : op_of c.opcode ≡ Some Retrieve → ⊥) (leaves : map_after d.log.shape (drive_limits d) a.all c ≡ after) where
   told : old.shape ≡ Some d.log.shape
   told = a.told_is ∙ ap (λ s. Some s) (sym a.with.shape_is)
 
@@ -100,8 +101,12 @@ module _ (d : Parts) (old new : BoardState) (a : DriveOnFlash d old.shape old.pa
   counted : new.reads ≡ min (old.reads + made) last_count
   counted = let up = count.up in let few = count.few in omega (arith, up, few)
 
-  its_limits : limits_at (shape_of old) old.pages ≡ limit d.log.shape ∷ []
-  its_limits = limits_are (shape_of old) old.pages ∙ ap (λ (s : Shape). limit s ∷ []) (told_shape d old a)
+  its_limits : limits_at (shape_of old) old.pages ≡ drive_limits d
+  its_limits = ap (λ (s : Shape). limits_at s old.pages) (told_shape d old a) ∙ limits_on d old.shape old.pages a
+
+  -- they are the same after calls along which the tree grows
+  limits_then : (P : Flash → List ℕ → Type 0) → Reaches d.log.shape old new P → limits_at d.log.shape new.pages ≡ drive_limits d
+  limits_then P reached = reached_limits d.log.shape old new P told reached ∙ limits_on d old.shape old.pages a
 
   -- if the change is cut, the command is
   exec_cut : (f : Flash) (q : List ℕ) → CrashFinds d.log.shape (change after) old.pages a.all f q → CrashFinds d.log.shape (command_on old c) old.pages a.all f q
@@ -118,12 +123,13 @@ module _ (d : Parts) (old new : BoardState) (a : DriveOnFlash d old.shape old.pa
       → NoFault old new → reply.status ≢ 0x88 → Step d.log.shape (terms_of d) a.all c reply after
       → Does old new (sight_of d) (sight_of e) c reply (new.reads - old.reads) false
   does_change e reply changed same_frames none sound step = record {
-    stands = λ _. for_its_map d old a (λ s f m. Executed s f new (sight_of e) m c reply made) (record {
+    stands = λ _. for_its_map d old a (λ s f m. Executed s f (sight_of d) new (sight_of e) m c reply made) (record {
       left = after;
       stepped = step;
-      stands = subst (λ (f : ℕ). HoldsMap d.log.shape (one_space f (limit d.log.shape)) new (sight_of e) after) same_frames
-          (stands_so e new d.log.shape after (same_shape ∙ told) (between e d.log.shape new.pages after changed.stands));
+      stands = still_stands e new d.log.shape (terms_of d) after (same_shape ∙ told) same_frames
+          (limits_then (CrashFinds d.log.shape (change after) old.pages a.all) changed.cuts) (between e d.log.shape new.pages after changed.stands);
       bounded = λ is. absurd (other is);
+      held_bounded = λ is. absurd (other is);
     });
     found = record {
       cuts = λ _. for_its_map d old a (λ s f m. Reaches s old new (CrashFinds s (command_on old c) old.pages m)) (
@@ -148,14 +154,15 @@ module _ (d : Parts) (old new : BoardState) (a : DriveOnFlash d old.shape old.pa
 
   -- a read failed before the change
   pub does_keep : (e : Parts) → SameMap e d.log.shape a.all old new → frames_of e ≡ frames_of d → Unread old new
-      → early 1 d.log.shape c ≡ None → Does old new (sight_of d) (sight_of e) c (refusal 0x88) (new.reads - old.reads) false
+      → early (length (drive_limits d)) d.log.shape c ≡ None → Does old new (sight_of d) (sight_of e) c (refusal 0x88) (new.reads - old.reads) false
   does_keep e kept same_frames unread passes = record {
-    stands = λ _. for_its_map d old a (λ s f m. Executed s f new (sight_of e) m c (refusal 0x88) made) (record {
+    stands = λ _. for_its_map d old a (λ s f m. Executed s f (sight_of d) new (sight_of e) m c (refusal 0x88) made) (record {
       left = a.all;
-      stepped = unread_step d.log.shape (frames_of d) a.all c passes;
-      stands = subst (λ (f : ℕ). HoldsMap d.log.shape (one_space f (limit d.log.shape)) new (sight_of e) a.all) same_frames
-          (stands_so e new d.log.shape a.all (same_shape ∙ told) (between e d.log.shape new.pages a.all kept.stands));
+      stepped = unread_step d.log.shape (terms_of d) a.all c passes;
+      stands = still_stands e new d.log.shape (terms_of d) a.all (same_shape ∙ told) same_frames
+          (limits_then (CrashFinds d.log.shape commit old.pages a.all) kept.cuts) (between e d.log.shape new.pages a.all kept.stands);
       bounded = λ is. absurd (other is);
+      held_bounded = λ is. absurd (other is);
     });
     found = record {
       cuts = λ _. for_its_map d old a (λ s f m. Reaches s old new (CrashFinds s (command_on old c) old.pages m))
@@ -212,24 +219,25 @@ few_same d e same few = subst (λ (s : Shape). length e.log.pending < page_entri
 
 -- ---- steps of the map
 
-module _ (shape : Shape) (frames : ℕ) (m : Map) (c : Command) (passed : early 1 shape c ≡ None) (whole : in_space 1 m ≡ m) where
-  abbrev terms : Terms
-  terms = one_space frames (limit shape)
+module _ (shape : Shape) (terms : Terms) (m : Map) (c : Command) (passed : early (length terms.limits) shape c ≡ None) where
+  -- the checks on the part of the map that its namespace has
+  abbrev late_here : Opcode → Option ℕ
+  late_here k = late_of shape (limit_of terms.limits c.namespace) (in_space c.namespace m) c (Some k)
 
-  served : (k : Opcode) → op_of c.opcode ≡ Some k → late_of shape (limit shape) m c (Some k) ≡ None → ServesAlone shape terms (limit shape) m (alone shape frames m c passed whole) c eleven k
-  served k is late = serves_alone shape terms (limit shape) m (alone shape frames m c passed whole) c eleven k is passed late
+  done : (k : Opcode) → op_of c.opcode ≡ Some k → late_here k ≡ None → Serves shape terms m eleven c k
+  done k is late = serves shape terms m eleven c k is passed late
 
-  store_leaves : op_of c.opcode ≡ Some Store → late_of shape (limit shape) m c (Some Store) ≡ None → map_after shape (limit shape ∷ []) m c ≡ insert m (key c) c.value
-  store_leaves is late = (served Store is late).leaves
+  store_leaves : op_of c.opcode ≡ Some Store → late_here Store ≡ None → map_after shape terms.limits m c ≡ insert m (key c) c.value
+  store_leaves is late = (done Store is late).leaves
 
-  store_step : op_of c.opcode ≡ Some Store → late_of shape (limit shape) m c (Some Store) ≡ None → Step shape terms m c (success 0 []) (insert m (key c) c.value)
-  store_step is late = let s = served Store is late in inl (record { own = eleven; eleven = refl; replied = sym s.replied; leaves = sym s.leaves })
+  store_step : op_of c.opcode ≡ Some Store → late_here Store ≡ None → Step shape terms m c (success 0 []) (insert m (key c) c.value)
+  store_step is late = let s = done Store is late in inl (record { own = eleven; eleven = refl; replied = sym s.replied; leaves = sym s.leaves })
 
-  delete_leaves : op_of c.opcode ≡ Some Delete → late_of shape (limit shape) m c (Some Delete) ≡ None → map_after shape (limit shape ∷ []) m c ≡ remove m (key c)
-  delete_leaves is late = (served Delete is late).leaves
+  delete_leaves : op_of c.opcode ≡ Some Delete → late_here Delete ≡ None → map_after shape terms.limits m c ≡ remove m (key c)
+  delete_leaves is late = (done Delete is late).leaves
 
-  delete_step : op_of c.opcode ≡ Some Delete → late_of shape (limit shape) m c (Some Delete) ≡ None → Step shape terms m c (success 0 []) (remove m (key c))
-  delete_step is late = let s = served Delete is late in inl (record { own = eleven; eleven = refl; replied = sym s.replied; leaves = sym s.leaves })
+  delete_step : op_of c.opcode ≡ Some Delete → late_here Delete ≡ None → Step shape terms m c (success 0 []) (remove m (key c))
+  delete_step is late = let s = done Delete is late in inl (record { own = eleven; eleven = refl; replied = sym s.replied; leaves = sym s.leaves })
 
 -- ---- the checks of a Store
 
@@ -296,44 +304,82 @@ module _ (d : Parts) (old : BoardState) (r : Request) (value : List ℕ) (k : Ke
   abbrev shape : Shape
   shape = d.log.shape
 
+  -- the part of the map that its namespace has, and the limit of that
+  abbrev part : Map
+  part = in_space r.namespace s.agrees.all
+
+  abbrev most : ℕ
+  most = limit_of (drive_limits d) (space_of k)
+
+  abbrev live_before : ℕ
+  live_before = space_live d.spaces (space_of k)
+
   abbrev after_pages : ℕ
-  after_pages = sum d.values.live.heads - pages_at d.log.shape o + charge d.log.shape r.size
+  after_pages = live_before - pages_at d.log.shape o + charge d.log.shape r.size
 
-  passes : early 1 d.log.shape c ≡ None
-  passes = same_early d.log.shape r value ∙ s.passed
+  passes : early (length (drive_limits d)) d.log.shape c ≡ None
+  passes = same_early (length (drive_limits d)) d.log.shape r value ∙ s.passed
 
-  live_is : sum d.values.live.heads ≡ live d.log.shape all
-  live_is = (counts_own d old s.agrees).live_is ∙ ap (live d.log.shape) (whole_all d old s.agrees)
+  its_space : IsSpace (length (drive_limits d)) r.namespace
+  its_space = key_spaced (length (drive_limits d)) d.log.shape (command_of r []) Store (λ n k. refl) (ap op_of op) s.passed
 
-  late_is : store_check r.options (is_some o) after_pages (limit d.log.shape) ≡ late_of d.log.shape (limit d.log.shape) all c (Some Store)
-  late_is = store_late d.log.shape all r value (is_some o) (sum d.values.live.heads) (pages_at d.log.shape o) (charge d.log.shape r.size) (limit d.log.shape)
-      (is_there_same d old s.agrees k o is_key looks ∙ ap (contains_key all) named) live_is
-      (pages_same d old s.agrees k o is_key looks ∙ ap (λ q. pages_if_some d.log.shape (get all q)) named) refl refl
+  -- the key is of this namespace
+  own_key : space_of k ≡ r.namespace
+  own_key = ap space_of named
 
-  pub store_refused : (status : ℕ) (e : Parts) (into : List ℕ) (outcome : Outcome) (reads : ℕ) → store_check r.options (is_some o) after_pages (limit d.log.shape) ≡ Some status → e ≡ d
+  pub key_within : space_of k ≤ length (drive_limits d)
+  key_within = subst (λ (n : ℕ). n ≤ length (drive_limits d)) (sym own_key) its_space.most
+
+  own_value : get part (key c) ≡ get all (key c)
+  own_value = get_own r.namespace all (take c.key_len c.key_bytes)
+
+  live_is : live_before ≡ live d.log.shape part
+  live_is = ap (space_live d.spaces) own_key ∙ live_own d old s.agrees r.namespace its_space.some its_space.most
+
+  most_is : most ≡ limit_of (drive_limits d) r.namespace
+  most_is = ap (limit_of (drive_limits d)) own_key
+
+  there_is : is_some o ≡ contains_key part (key c)
+  there_is = is_there_same d old s.agrees k o is_key looks ∙ ap (contains_key all) named ∙ ap is_some (sym own_value)
+
+  held_is : pages_at d.log.shape o ≡ pages_if_some d.log.shape (get part (key c))
+  held_is = pages_same d old s.agrees k o is_key looks ∙ ap (λ q. pages_if_some d.log.shape (get all q)) named ∙ ap (pages_if_some d.log.shape) (sym own_value)
+
+  late_is : store_check r.options (is_some o) after_pages most ≡ late_of d.log.shape (limit_of (drive_limits d) r.namespace) part c (Some Store)
+  late_is = λ i. store_check r.options (there_is i) (live_is i - held_is i + charge d.log.shape r.size) (most_is i)
+
+  pub store_refused : (status : ℕ) (e : Parts) (into : List ℕ) (outcome : Outcome) (reads : ℕ) → store_check r.options (is_some o) after_pages most ≡ Some status → e ≡ d
       → outcome ≡ record { status = status; result = 0; data_len = 0; reads = reads; stopped = false }
       → Does old old (sight_of d) (sight_of e) c (shown outcome into) 0 outcome.stopped
   store_refused status e into outcome reads failed same told_is =
-      let step = refused_step d.log.shape (frames_of d) all c passes (whole_all d old s.agrees) Store status (ap op_of op) (sym late_is ∙ failed) in
+      let step = refused_step d.log.shape (terms_of d) all c passes Store status (ap op_of op) (sym late_is ∙ failed) in
       let answers : AnswersAll old (sight_of d) c (refusal status) 0 =
-      for_its_map d old s.agrees (λ x f m. Step x f m c (refusal status) m × (op_of r.opcode ≡ Some Retrieve → 0 ≤ most_reads x f m c)) (step, λ is. absurd (store_other r.opcode op is)) in
+      for_its_map d old s.agrees (λ x f m. Step x f m c (refusal status) m × ReadsWithin x f (sight_of d) m c 0)
+      (step, other_within d.log.shape (terms_of d) (sight_of d) all c 0 (store_other r.opcode op)) in
       let done = does_reads old old (sight_of d) c (refusal status) 0 0 s.counted s.counted (reads_none old s.counted)
-      (omega arith) (not_unread r.options after_pages (limit d.log.shape) status (is_some o) failed) answers in
+      (omega arith) (not_unread r.options after_pages most status (is_some o) failed) answers in
       subst (λ (x : Outcome). Does old old (sight_of d) (sight_of e) c (shown x into) 0 x.stopped) (sym told_is)
       (subst (λ (x : Parts). Does old old (sight_of d) (sight_of x) c (refusal status) 0 false) (sym same) done)
 
-  module _ (passed : store_check r.options (is_some o) after_pages (limit d.log.shape) ≡ None) where
+  module _ (passed : store_check r.options (is_some o) after_pages most ≡ None) where
+    -- its namespace has room for the value
+    own_room : live d.log.shape (in_space (space_of k) (insert all k value)) ≤ limit_of (drive_limits d) (space_of k)
+    own_room =
+        let few = within r.options after_pages most (is_some o) passed in
+        let held = held_is ∙ ap (λ q. pages_if_some d.log.shape (get part q)) (sym named) in
+        let same = live_stored d.log.shape part k value live_before (pages_at d.log.shape o) (charge d.log.shape r.size) live_is held (ap (charge d.log.shape) (sym whole)) in
+        let put_in = ap (live d.log.shape) (in_space-insert r.namespace all k own_key value) in
+        subst (λ (n : ℕ). live d.log.shape (in_space n (insert all k value)) ≤ most) (sym own_key) (omega (arith, few, same, put_in))
+
     pub may_put : MayPutBetween d d.log.shape old.pages all k value o
     unfolding its_drive
     may_put =
-        let few = within r.options after_pages (limit d.log.shape) (is_some o) passed in
-        let same = live_stored d.log.shape all k value (sum d.values.live.heads) (pages_at d.log.shape o)
-        (charge d.log.shape r.size) live_is (pages_same d old s.agrees k o is_key looks) (ap (charge d.log.shape) (sym whole)) in
+        let some : 1 ≤ space_of k = subst (λ (n : ℕ). 1 ≤ n) (sym own_key) its_space.some in
         record {
           stands = its_drive d old s.agrees k o is_key looks;
           old_is = (placed_there d old s.agrees k o is_key looks).placed;
           bytes = bytes;
-          room = omega (arith, few, same);
+          room = has_room_for d old s.agrees k value some key_within own_room;
         }
 
     may_store : MayStoreBetween d d.log.shape old.pages all k value
@@ -343,15 +389,15 @@ module _ (d : Parts) (old : BoardState) (r : Request) (value : List ℕ) (k : Ke
     can_put = record {
       ready = agrees_ready d old s.agrees;
       may = (all, may_put);
-      short = let short = store_short d.log.shape r op s.passed in omega (arith, short, whole);
+      short = let short = store_short (length (drive_limits d)) d.log.shape r op s.passed in omega (arith, short, whole);
       few = s.few;
     }
 
-    late_none : late_of d.log.shape (limit d.log.shape) all c (Some Store) ≡ None
+    late_none : late_of d.log.shape (limit_of (drive_limits d) r.namespace) part c (Some Store) ≡ None
     late_none = sym late_is ∙ passed
 
-    leaves_put : map_after d.log.shape (limit d.log.shape ∷ []) all c ≡ insert all k value
-    leaves_put = store_leaves d.log.shape (frames_of d) all c passes (whole_all d old s.agrees) (ap op_of op) late_none ∙ ap (λ q. insert all q value) (sym named)
+    leaves_put : map_after d.log.shape (drive_limits d) all c ≡ insert all k value
+    leaves_put = store_leaves d.log.shape (terms_of d) all c passes (ap op_of op) late_none ∙ ap (λ q. insert all q value) (sym named)
 
     one_root : most_installs r.opcode r.size ≡ most_store_roots
     one_root = ap (λ x. most_installs x r.size) op
@@ -365,7 +411,7 @@ module _ (d : Parts) (old : BoardState) (r : Request) (value : List ℕ) (k : Ke
         let puts : Changes e d.log.shape all (insert all k value) old new = step.came.0 d.log.shape all may_store in
         let stepped : Step d.log.shape (terms_of d) all c (success 0 []) (insert all k value) =
         subst (λ q. Step d.log.shape (terms_of d) all c (success 0 []) (insert all q value)) (sym named)
-        (store_step d.log.shape (frames_of d) all c passes (whole_all d old s.agrees) (ap op_of op) late_none) in
+        (store_step d.log.shape (terms_of d) all c passes (ap op_of op) late_none) in
         let done = does_change d old new s.agrees c (insert all k value) count few one_root step.rest
         (store_other r.opcode op) leaves_put e (success 0 []) puts stays.frames step.came.1 ok_sound stepped in
         subst (λ (x : Outcome). Executes d e old new c x into (new.reads - old.reads)) (sym told_is) (record {
@@ -405,17 +451,21 @@ module _ (d : Parts) (old : BoardState) (r : Request) (v : List ℕ) (k : Key) (
   abbrev its_map : Map
   its_map = s.agrees.all
 
-  delete_passed : early 1 d.log.shape dc ≡ None
-  delete_passed = same_early d.log.shape r v ∙ s.passed
+  delete_passed : early (length (drive_limits d)) d.log.shape dc ≡ None
+  delete_passed = same_early (length (drive_limits d)) d.log.shape r v ∙ s.passed
+
+  delete_own : get (in_space r.namespace its_map) (key dc) ≡ get its_map (key dc)
+  delete_own = get_own r.namespace its_map (take dc.key_len dc.key_bytes)
 
   pub delete_missing : (e : Parts) (into : List ℕ) (outcome : Outcome) (reads : ℕ) → Looks d old.pages k None → e ≡ d
       → outcome ≡ record { status = 0x87; result = 0; data_len = 0; reads = reads; stopped = false }
       → Does old old (sight_of d) (sight_of e) dc (shown outcome into) 0 outcome.stopped
   delete_missing e into outcome reads looks same told_is =
       let missing : get its_map (key dc) ≡ None = subst (λ q. get its_map q ≡ None) named (looked d old s.agrees k None looks).there in
-      let step = refused_step d.log.shape (frames_of d) its_map dc delete_passed (whole_all d old s.agrees) Delete 0x87 (ap op_of op) (delete_fails its_map (key dc) missing) in
+      let step = refused_step d.log.shape (terms_of d) its_map dc delete_passed Delete 0x87 (ap op_of op) (delete_fails (in_space r.namespace its_map) (key dc) (delete_own ∙ missing)) in
       let answers : AnswersAll old (sight_of d) dc (refusal 0x87) 0 =
-      for_its_map d old s.agrees (λ x f m. Step x f m dc (refusal 0x87) m × (op_of r.opcode ≡ Some Retrieve → 0 ≤ most_reads x f m dc)) (step, λ is. absurd (delete_other r.opcode op is)) in
+      for_its_map d old s.agrees (λ x f m. Step x f m dc (refusal 0x87) m × ReadsWithin x f (sight_of d) m dc 0)
+      (step, other_within d.log.shape (terms_of d) (sight_of d) its_map dc 0 (delete_other r.opcode op)) in
       let done = does_reads old old (sight_of d) dc (refusal 0x87) 0 0 s.counted s.counted (reads_none old s.counted) (omega arith) missing_sound answers in
       subst (λ (x : Outcome). Does old old (sight_of d) (sight_of e) dc (shown x into) 0 x.stopped) (sym told_is)
       (subst (λ (x : Parts). Does old old (sight_of d) (sight_of x) dc (refusal 0x87) 0 false) (sym same) done)
@@ -423,18 +473,22 @@ module _ (d : Parts) (old : BoardState) (r : Request) (v : List ℕ) (k : Key) (
   module _ (p : Place) (looks : Looks d old.pages k (Some p)) where
     pub may_take : MayTakeBetween d d.log.shape old.pages its_map k p
     unfolding its_drive
-    may_take = record { stands = its_drive d old s.agrees k (Some p) is_key looks; old_is = (placed_there d old s.agrees k (Some p) is_key looks).placed; bytes = bytes }
+    may_take =
+        let its_space = key_spaced (length (drive_limits d)) d.log.shape (command_of r []) Delete (λ n k. refl) (ap op_of op) s.passed in
+        let own : space_of k ≤ length (drive_limits d) = subst (λ (n : ℕ). n ≤ length (drive_limits d)) (sym (ap space_of named)) its_space.most in
+        let spaced = subst (λ (limits : List ℕ). space_of k ≤ length limits) (sym (limits_on d old.shape old.pages s.agrees)) own in
+        record { stands = its_drive d old s.agrees k (Some p) is_key looks; old_is = (placed_there d old s.agrees k (Some p) is_key looks).placed; bytes = bytes; spaced = spaced }
 
     pub can_take : CanTakeBetween d old k p
     can_take = record { ready = agrees_ready d old s.agrees; may = (its_map, may_take); few = s.few }
 
-    gone_late : late_of d.log.shape (limit d.log.shape) its_map dc (Some Delete) ≡ None
+    gone_late : late_of d.log.shape (limit_of (drive_limits d) r.namespace) (in_space r.namespace its_map) dc (Some Delete) ≡ None
     gone_late =
         let there = value_of d old s.agrees k p is_key looks in
-        delete_passes its_map (key dc) there.value (subst (λ q. get its_map q ≡ Some there.value) named there.is_there)
+        delete_passes (in_space r.namespace its_map) (key dc) there.value (delete_own ∙ subst (λ q. get its_map q ≡ Some there.value) named there.is_there)
 
-    leaves_gone : map_after d.log.shape (limit d.log.shape ∷ []) its_map dc ≡ remove its_map k
-    leaves_gone = delete_leaves d.log.shape (frames_of d) its_map dc delete_passed (whole_all d old s.agrees) (ap op_of op) gone_late ∙ ap (λ q. remove its_map q) (sym named)
+    leaves_gone : map_after d.log.shape (drive_limits d) its_map dc ≡ remove its_map k
+    leaves_gone = delete_leaves d.log.shape (terms_of d) its_map dc delete_passed (ap op_of op) gone_late ∙ ap (λ q. remove its_map q) (sym named)
 
     gone_root : most_installs r.opcode r.size ≡ most_store_roots
     gone_root = ap (λ x. most_installs x r.size) op
@@ -448,7 +502,7 @@ module _ (d : Parts) (old : BoardState) (r : Request) (v : List ℕ) (k : Key) (
         let takes : Changes e d.log.shape its_map (remove its_map k) old new = step.came.0 d.log.shape its_map may_take in
         let stepped : Step d.log.shape (terms_of d) its_map dc (success 0 []) (remove its_map k) =
         subst (λ q. Step d.log.shape (terms_of d) its_map dc (success 0 []) (remove its_map q)) (sym named)
-        (delete_step d.log.shape (frames_of d) its_map dc delete_passed (whole_all d old s.agrees) (ap op_of op) gone_late) in
+        (delete_step d.log.shape (terms_of d) its_map dc delete_passed (ap op_of op) gone_late) in
         let done = does_change d old new s.agrees dc (remove its_map k) count few gone_root step.rest
         (delete_other r.opcode op) leaves_gone e (success 0 []) takes stays.frames step.came.1 ok_sound stepped in
         subst (λ (x : Outcome). Executes d e old new dc x into (new.reads - old.reads)) (sym told_is) (record {
@@ -490,7 +544,7 @@ does_behind d e f old mid new most c into o same made other count told_is does =
     record {
       stands = λ run shape frames m st.
           let y = x.stands run shape frames m (record { shape_is = st.shape_is; frames_is = st.frames_is; limits_is = st.limits_is; map_is = st.map_is }) in
-          record { left = y.left; stepped = y.stepped; stands = y.stands; bounded = λ k. absurd (other k) };
+          record { left = y.left; stepped = y.stepped; stands = y.stands; bounded = λ k. absurd (other k); held_bounded = λ k. absurd (other k) };
       found = record {
         cuts = λ run shape frames m st.
             let y = x.found.cuts run shape frames m (record { shape_is = st.shape_is; frames_is = st.frames_is; limits_is = st.limits_is; map_is = st.map_is }) in

@@ -1,15 +1,15 @@
 -- A drive that agrees with its board represents the map that the board holds.
-use Rattle.std.proofs.Common.{◌≡◌, ℕ, refl, sym, ap, subst, ◌∙◌, Option, Some, unwrap_or}
-use Rattle.pk_base.specs.Shape.{Shape, limit}
+use Rattle.std.proofs.Common.{◌≡◌, refl, sym, ap, subst, ◌∙◌, Option, Some, unwrap_or}
+use Rattle.pk_base.specs.Shape.{Shape}
 use Rattle.pk_base.specs.Page.{Flash}
 use Rattle.pk_base.specs.Map.{Map}
 use Rattle.pk_nand.specs.BoardState.{BoardState}
-use Rattle.pk_model.specs.Spaces.{Terms, one_space}
+use Rattle.pk_model.specs.Spaces.{Terms, limits_at}
 use Rattle.pk_call.specs.Drive.{HoldsMap}
-use Rattle.pk_parts.specs.Parts.{Parts, sight_of, frames_of}
+use Rattle.pk_parts.specs.Parts.{Parts, drive_limits, sight_of, frames_of, terms_of}
 use Rattle.pk_parts.specs.Agreeing.{DriveOnFlash}
 use Rattle.pk_parts.specs.Moves.{StandsBetween}
-use Rattle.pk_parts.proofs.Unchanging.{limits_are}
+use Rattle.pk_parts.proofs.OwnLimits.{limits_between}
 use Rattle.pk_parts.proofs.Standing.{reads_between, stands_between}
 use Rattle.pk_base.proofs.Logic.{ok_same}
 
@@ -26,14 +26,18 @@ stands_for d board shape terms m agrees stands =
     subst (λ x. StandsBetween d shape board.pages x) (ok_same agrees.all m (sym (reads_between d shape board.pages agrees.all here) ∙ stands.map_is)) here
 
 -- and the other way round
-pub stands_so : (d : Parts) (board : BoardState) (shape : Shape) (m : Map) → board.shape ≡ Some shape
-    → StandsBetween d shape board.pages m → HoldsMap shape (one_space (frames_of d) (limit shape)) board (sight_of d) m
-stands_so d board shape m told is = record { shape_is = told; frames_is = refl; limits_is = limits_are shape board.pages; map_is = reads_between d shape board.pages m is }
+pub stands_so : (d : Parts) (board : BoardState) (shape : Shape) (m : Map) → board.shape ≡ Some shape → StandsBetween d shape board.pages m → HoldsMap shape (terms_of d) board (sight_of d) m
+stands_so d board shape m told is = record { shape_is = told; frames_is = refl; limits_is = limits_between d shape board.pages m is; map_is = reads_between d shape board.pages m is }
 
 pub stands_here : (d : Parts) (told : Option Shape) (flash : Flash) → DriveOnFlash d told flash → (m : Map) × StandsBetween d d.log.shape flash m
 stands_here d told flash agrees = (agrees.all, stands_between d told flash agrees)
 
--- if the map of the drive is unchanged, the drive still represents it
-pub still_stands : (d : Parts) (board : BoardState) (shape : Shape) (frames : ℕ) (m : Map) → board.shape ≡ Some shape
-    → frames_of d ≡ frames → StandsBetween d shape board.pages m → HoldsMap shape (one_space frames (limit shape)) board (sight_of d) m
-still_stands d board shape frames m told same is = record { shape_is = told; frames_is = same; limits_is = limits_are shape board.pages; map_is = reads_between d shape board.pages m is }
+-- if the map of the drive and the limits are unchanged, the drive still represents it
+pub still_stands : (d : Parts) (board : BoardState) (shape : Shape) (terms : Terms) (m : Map) → board.shape ≡ Some shape → frames_of d ≡ terms.frames → limits_at shape board.pages ≡ terms.limits
+    → StandsBetween d shape board.pages m → HoldsMap shape terms board (sight_of d) m
+still_stands d board shape terms m told frames limits is = record { shape_is = told; frames_is = frames; limits_is = limits; map_is = reads_between d shape board.pages m is }
+
+-- the limits that a board has for a map of the drive are its own
+pub own_limits : (d : Parts) (board : BoardState) (shape : Shape) (terms : Terms) (m : Map)
+    → DriveOnFlash d board.shape board.pages → HoldsMap shape terms board (sight_of d) m → drive_limits d ≡ terms.limits
+own_limits d board shape terms m agrees stands = sym (limits_between d shape board.pages m (stands_for d board shape terms m agrees stands)) ∙ stands.limits_is

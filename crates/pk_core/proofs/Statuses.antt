@@ -48,19 +48,19 @@ module _ (P : ℕ → Type 0) (opcode : P 0x01) (namespace : P 0x0B) (key : P 0x
   size_says shape Tick size status is = absurd (none_some status is)
   size_says shape Report size status is = absurd (none_some status is)
 
-  fault_says : (shape : Shape) (c : Command) (k : Option Opcode) (status : ℕ) → fault_of 1 shape c k ≡ Some status → P status
-  fault_says shape c None status is = says P 0x01 status opcode is
-  fault_says shape c (Some k) status is = two_checks P (is_namespace 1 k c.namespace)
+  fault_says : (spaces : ℕ) (shape : Shape) (c : Command) (k : Option Opcode) (status : ℕ) → fault_of spaces shape c k ≡ Some status → P status
+  fault_says spaces shape c None status is = says P 0x01 status opcode is
+  fault_says spaces shape c (Some k) status is = two_checks P (is_namespace spaces k c.namespace)
       (is_key_length k c.key_len) 0x0B 0x86 status (size_fault shape k c.size) namespace key (size_says shape k c.size status) is
 
-pub early_refuses : (shape : Shape) (c : Command) (status : ℕ) → early 1 shape c ≡ Some status → status ≢ 0
-early_refuses shape c status is = fault_says (λ x. x ≢ 0) (λ e. omega (arith, e)) (λ e. omega (arith, e))
-    (λ e. omega (arith, e)) (λ e. omega (arith, e)) (λ e. omega (arith, e)) shape c (op_of c.opcode) status is
+pub early_refuses : (spaces : ℕ) (shape : Shape) (c : Command) (status : ℕ) → early spaces shape c ≡ Some status → status ≢ 0
+early_refuses spaces shape c status is = fault_says (λ x. x ≢ 0) (λ e. omega (arith, e)) (λ e. omega (arith, e))
+    (λ e. omega (arith, e)) (λ e. omega (arith, e)) (λ e. omega (arith, e)) spaces shape c (op_of c.opcode) status is
 
 -- nor does one of them report a read that failed
-pub early_sound : (shape : Shape) (c : Command) (status : ℕ) → early 1 shape c ≡ Some status → status ≢ 0x88
-early_sound shape c status is = fault_says (λ x. x ≢ 0x88) (λ e. omega (arith, e)) (λ e. omega (arith, e))
-    (λ e. omega (arith, e)) (λ e. omega (arith, e)) (λ e. omega (arith, e)) shape c (op_of c.opcode) status is
+pub early_sound : (spaces : ℕ) (shape : Shape) (c : Command) (status : ℕ) → early spaces shape c ≡ Some status → status ≢ 0x88
+early_sound spaces shape c status is = fault_says (λ x. x ≢ 0x88) (λ e. omega (arith, e)) (λ e. omega (arith, e))
+    (λ e. omega (arith, e)) (λ e. omega (arith, e)) (λ e. omega (arith, e)) spaces shape c (op_of c.opcode) status is
 
 -- ---- an outcome of such a status
 

@@ -33,7 +33,7 @@ use Rattle.pk_call.specs.declared.types.Outcome.{Outcome}
 use Rattle.pk_call.specs.declared.types.Ticked.{Ticked}
 use Rattle.pk_call.specs.declared.types.Ticked.TheVariants.{Worked, Idle, Fault}
 use Rattle.pk_model.proofs.Growing.{weaken, weaken_went, at_end, Reaches-then, Goes-then}
-use Rattle.pk_parts.specs.Parts.{Parts, sight_of, frames_of, terms_of}
+use Rattle.pk_parts.specs.Parts.{Parts, drive_limits, sight_of, terms_of}
 use Rattle.pk_parts.specs.Agreeing.{DriveOnFlash}
 use Rattle.pk_core.specs.Done.{Does}
 use Rattle.pk_core.specs.Quiet.{eleven}
@@ -47,7 +47,7 @@ use Rattle.pk_parts.proofs.Staying.{stays_same, stays_frees}
 use Rattle.pk_background.proofs.Callings.{few_more, spends_same, spends_within}
 use Rattle.pk_background.proofs.Ticking.{yes_no}
 use Rattle.pk_nand.proofs.Effects.{only_then}
-use Rattle.pk_model.specs.Spaces.{Terms, one_space}
+use Rattle.pk_model.specs.Spaces.{Terms}
 
 -- the drive agrees with its board after this many steps, of which none failed
 pub record Ongoing (first : Parts) (old : BoardState) (d : Parts) (board : BoardState) (made : ℕ) : Type 0 where
@@ -171,9 +171,9 @@ steps_within old new s t answer n k less w = record {
 
 -- ---- the answer of the command
 
-tick_step : (shape : Shape) (frames : ℕ) (m : Map) (c : Command) → early 1 shape c ≡ None → c.opcode ≡ 0xC0 → Step shape (one_space frames (limit shape)) m c (success 0 []) m
-tick_step shape frames m c passed is =
-    let s = serves shape (one_space frames (limit shape)) m eleven c Tick (ap op_of is) passed refl in
+tick_step : (shape : Shape) (terms : Terms) (m : Map) (c : Command) → early (length terms.limits) shape c ≡ None → c.opcode ≡ 0xC0 → Step shape terms m c (success 0 []) m
+tick_step shape terms m c passed is =
+    let s = serves shape terms m eleven c Tick (ap op_of is) passed refl in
     inl (record { own = eleven; eleven = refl; replied = sym s.replied; leaves = sym s.leaves })
 
 other_kind : (x : ℕ) → x ≡ 0xC0 → op_of x ≡ Some Retrieve → ⊥
@@ -182,9 +182,9 @@ other_kind x is e = let f : ◌≡◌ {A = Option Opcode} (Some Tick) (Some Retr
 ok_sound : ◌≡◌ {A = ℕ} 0 0x88 → ⊥
 ok_sound e = cc
 
-module _ (old new : BoardState) (d d' : Parts) (r : Request) (v : List ℕ) (a : DriveOnFlash d old.shape old.pages) (passed : early 1 d.log.shape (command_of r []) ≡ None) (op : r.opcode ≡ 0xC0) where
-  passes : early 1 d.log.shape (command_of r v) ≡ None
-  passes = same_early d.log.shape r v ∙ passed
+module _ (old new : BoardState) (d d' : Parts) (r : Request) (v : List ℕ) (a : DriveOnFlash d old.shape old.pages) (passed : early (length (drive_limits d)) d.log.shape (command_of r []) ≡ None) (op : r.opcode ≡ 0xC0) where
+  passes : early (length (drive_limits d)) d.log.shape (command_of r v) ≡ None
+  passes = same_early (length (drive_limits d)) d.log.shape r v ∙ passed
 
   -- the clauses that every answer has alike
   does_steps : (answer : Ticked) (reply : Reply) (reads : ℕ) → BackgroundSteps old new (sight_of d) (sight_of d') answer r.size → reads ≡ new.reads - old.reads
@@ -202,6 +202,7 @@ module _ (old new : BoardState) (d d' : Parts) (r : Request) (v : List ℕ) (a :
           stepped = for_its_map d old a (λ s f x. Step s f x (command_of r v) reply x) step shape frames m st;
           stands = w.stands runs shape frames m st;
           bounded = λ e. absurd (other_kind r.opcode op e);
+          held_bounded = λ e. absurd (other_kind r.opcode op e);
         };
         found = record {
           cuts = λ runs shape frames m st.
@@ -234,13 +235,13 @@ module _ (old new : BoardState) (d d' : Parts) (r : Request) (v : List ℕ) (a :
   by_answer : (answer : Ticked) (into : List ℕ) (reads : ℕ) → BackgroundSteps old new (sight_of d) (sight_of d') answer r.size → reads ≡ new.reads - old.reads
       → Does old new (sight_of d) (sight_of d') (command_of r v) (reply_of (outcome_of answer reads) into) reads (stopped_by answer)
   by_answer Worked into reads w is =
-      does_steps Worked (success 0 []) reads w is (tick_step d.log.shape (frames_of d) a.all (command_of r v) passes op)
+      does_steps Worked (success 0 []) reads w is (tick_step d.log.shape (terms_of d) a.all (command_of r v) passes op)
       (λ e _. absurd (ok_sound e)) (λ _. w.sound refl) (λ e. absurd (yes_no false refl e))
   by_answer Idle into reads w is =
-      does_steps Idle (success 0 []) reads w is (tick_step d.log.shape (frames_of d) a.all (command_of r v) passes op)
+      does_steps Idle (success 0 []) reads w is (tick_step d.log.shape (terms_of d) a.all (command_of r v) passes op)
       (λ e _. absurd (ok_sound e)) (λ _. w.sound refl) (λ e. absurd (yes_no false refl e))
   by_answer (Fault stopped) into reads w is =
-      does_steps (Fault stopped) (refusal 0x88) reads w is (unread_step d.log.shape (frames_of d) a.all (command_of r v) passes)
+      does_steps (Fault stopped) (refusal 0x88) reads w is (unread_step d.log.shape (terms_of d) a.all (command_of r v) passes)
       (λ _ e. w.unread (ap (λ b. Fault b) e)) (λ e. absurd (e refl)) (λ _. refl)
 
   pub tick_does : (answer : Ticked) (o : Outcome) (into : List ℕ) (reads : ℕ)

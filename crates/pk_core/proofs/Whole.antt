@@ -189,6 +189,13 @@ module _ (a b : Parts) (s0 s1 : BoardState) (ready : IsReady s0 a.log.shape) (w 
       let one = w.made shape m was in
       SameMap-then b shape m s0 s1 (between_has a s0 shape m ready was) (record { stands = one.stands; still = one.still; cuts = one.cuts }) c s2 (same shape m one.stands)
 
+  -- the limits are the same, and so is the room
+  room_then : (shape : Shape) (m : Map) (key : Key) (value : List ℕ) → StandsBetween a shape s0.pages m → HasRoomFor shape s0.pages m key value → HasRoomFor shape s1.pages m key value
+  room_then shape m key value was = room_after shape s0 s1 (CrashFinds shape commit s0.pages m) (between_has a s0 shape m ready was) (w.made shape m was).cuts key m value
+
+  spaced_then : (shape : Shape) (m : Map) (key : Key) → StandsBetween a shape s0.pages m → space_of key ≤ length (limits_at shape s0.pages) → space_of key ≤ length (limits_at shape s1.pages)
+  spaced_then shape m key was = spaced_after shape s0 s1 (CrashFinds shape commit s0.pages m) (between_has a s0 shape m ready was) (w.made shape m was).cuts key
+
   -- ---- a key gets a value
 
   module _ (key : Key) (value : List ℕ) where
@@ -206,7 +213,7 @@ module _ (a b : Parts) (s0 s1 : BoardState) (ready : IsReady s0 a.log.shape) (w 
               stands = (w.made a.log.shape m may.stands).stands;
               old_is = found_there key a.log.shape m may.stands ∙ may.old_is;
               bytes = may.bytes;
-              room = may.room;
+              room = room_then a.log.shape m key value may.stands may.room;
             }),
           );
           short = subst Q (sym w.same_shape) can.short;
@@ -215,7 +222,7 @@ module _ (a b : Parts) (s0 s1 : BoardState) (ready : IsReady s0 a.log.shape) (w 
 
     module _ (c : Parts) (s2 : BoardState) where
       store_may : (shape : Shape) (m : Map) → MayStoreBetween a shape s0.pages m key value → MayStore b shape s1.pages m key value
-      store_may shape m may = record { stands = (w.made shape m may.stands).stands; bytes = may.bytes; room = may.room }
+      store_may shape m may = record { stands = (w.made shape m may.stands).stands; bytes = may.bytes; room = room_then shape m key value may.stands may.room }
 
       stores_then : StoresAll b c s1 s2 key value → StoresBetween a c s0 s2 key value
       stores_then stores shape m may =
@@ -246,13 +253,26 @@ module _ (a b : Parts) (s0 s1 : BoardState) (ready : IsReady s0 a.log.shape) (w 
         let P : Shape → Type 0 = λ s. MayTake b s s1.pages m key p in
         record {
           ready = ready_then;
-          may = (m, subst P (sym w.same_shape) (record { stands = (w.made a.log.shape m may.stands).stands; old_is = found_there key a.log.shape m may.stands ∙ may.old_is; bytes = may.bytes }));
+          may = (
+            m,
+            subst P (sym w.same_shape) (record {
+              stands = (w.made a.log.shape m may.stands).stands;
+              old_is = found_there key a.log.shape m may.stands ∙ may.old_is;
+              bytes = may.bytes;
+              spaced = spaced_then a.log.shape m key may.stands may.spaced;
+            }),
+          );
           few = few_then_pending can.few;
         }
 
     module _ (c : Parts) (s2 : BoardState) where
       take_may : (shape : Shape) (m : Map) → MayTakeBetween a shape s0.pages m key p → MayTake b shape s1.pages m key p
-      take_may shape m may = record { stands = (w.made shape m may.stands).stands; old_is = found_there key shape m may.stands ∙ may.old_is; bytes = may.bytes }
+      take_may shape m may = record {
+        stands = (w.made shape m may.stands).stands;
+        old_is = found_there key shape m may.stands ∙ may.old_is;
+        bytes = may.bytes;
+        spaced = spaced_then shape m key may.stands may.spaced;
+      }
 
       takes_then : TakesAll b c s1 s2 key p → TakesBetween a c s0 s2 key p
       takes_then takes shape m may =

@@ -16,7 +16,7 @@ use Rattle.pk_model.specs.Answer.{early}
 use Rattle.pk_call.specs.Calling.{FewCalls}
 use Rattle.pk_call.specs.Seen.{reply_of}
 use Rattle.pk_call.specs.declared.types.Outcome.{Outcome}
-use Rattle.pk_parts.specs.Parts.{Parts, limits_of, sight_of}
+use Rattle.pk_parts.specs.Parts.{Parts, drive_limits, sight_of}
 use Rattle.pk_parts.specs.Agreeing.{DriveOnFlash}
 use Rattle.pk_core.specs.Done.{Does}
 
@@ -34,11 +34,15 @@ pub record ValueThere (shape : Shape) (flash : Flash) (m : Map) (key : Key) (p :
   pub short : p.len ≤ greatest shape
   pub front : (n : ℕ) → n ≤ p.len → IsFront shape flash p.page n key value
 
--- With no flash operation, a command of this opcode that passed the checks that read it alone has this result.
-abbrev pub DoneWithout : Parts → ℕ → Outcome → List ℕ → Type 0
-DoneWithout d opcode o into =
-    (board : BoardState) (r : Request) (v : List ℕ) → DriveOnFlash d board.shape board.pages → board.reads ≤ last_count → r.opcode ≡ opcode → early (length (limits_of d)) d.log.shape (command_of r []) ≡ None
+-- With no flash operation, this command has this result if it passed the checks that read it alone.
+abbrev pub DoneFor : Parts → Request → Outcome → List ℕ → Type 0
+DoneFor d r o into =
+    (board : BoardState) (v : List ℕ) → DriveOnFlash d board.shape board.pages → board.reads ≤ last_count → early (length (drive_limits d)) d.log.shape (command_of r []) ≡ None
     → Does board board (sight_of d) (sight_of d) (command_of r v) (reply_of o into) o.reads o.stopped
+
+-- so has each command of this opcode
+abbrev pub DoneWithout : Parts → ℕ → Outcome → List ℕ → Type 0
+DoneWithout d opcode o into = (r : Request) → r.opcode ≡ opcode → DoneFor d r o into
 
 -- eleven numbers
 abbrev pub eleven : List ℕ

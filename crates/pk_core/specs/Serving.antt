@@ -1,5 +1,6 @@
 -- Commands that change the map: what a drive needs to serve one.
 use Rattle.std.specs.Prelude.{◌≡◌, ◌≤◌, ◌<◌, ℕ, [], length, ◌+◌, true, false, None, Result, Ok, Err}
+use Rattle.pk_base.specs.declared.sizes.TheConstants.{MOST_SPACES}
 use Rattle.pk_base.specs.Shape.{page_entries}
 use Rattle.pk_nvme.specs.Seen.{command_of}
 use Rattle.pk_nvme.specs.declared.status.TheConstants.{SUCCESSFUL_COMPLETION, UNRECOVERED_ERROR}
@@ -11,7 +12,7 @@ use Rattle.pk_nand.specs.Calls.{last_count}
 use Rattle.pk_model.specs.Answer.{early}
 use Rattle.pk_model.specs.Wear.{is_worn}
 use Rattle.pk_call.specs.declared.types.Outcome.{Outcome}
-use Rattle.pk_parts.specs.Parts.{Parts, limits_of}
+use Rattle.pk_parts.specs.Parts.{Parts, drive_limits}
 use Rattle.pk_parts.specs.Agreeing.{DriveOnFlash}
 
 -- The drive matches its board, runs and is not worn out, and the request passed the checks that read it alone.
@@ -19,7 +20,8 @@ pub record IsServable (d : Parts) (board : BoardState) (r : Request) : Type 0 wh
   pub agrees : DriveOnFlash d board.shape board.pages
   pub runs : d.stopped ≡ false
   pub unworn : is_worn board ≡ false
-  pub passed : early (length (limits_of d)) d.log.shape (command_of r []) ≡ None
+  pub passed : early (length (drive_limits d)) d.log.shape (command_of r []) ≡ None
+  pub few_spaces : length (drive_limits d) ≤ MOST_SPACES
   pub few : length d.log.pending < page_entries d.log.shape
   pub counted : board.reads ≤ last_count
 

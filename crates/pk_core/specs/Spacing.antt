@@ -4,8 +4,8 @@ use Rattle.std.specs.FinMap.{insert}
 use Rattle.pk_base.specs.Fields.{AreBytes}
 use Rattle.pk_base.specs.Key.{Key}
 use Rattle.pk_base.specs.Page.{Flash}
-use Rattle.pk_base.specs.Shape.{Shape, greatest, limit, page_entries}
-use Rattle.pk_base.specs.Map.{Map, live}
+use Rattle.pk_base.specs.Shape.{Shape, greatest, page_entries}
+use Rattle.pk_base.specs.Map.{Map}
 use Rattle.pk_nand.specs.declared.types.Fault.{Fault}
 use Rattle.pk_nand.specs.BoardState.{BoardState}
 use Rattle.pk_nand.specs.Calls.{IsReady}
@@ -14,13 +14,13 @@ use Rattle.pk_model.specs.Growth.{Goes}
 use Rattle.pk_model.specs.Crashes.{CrashFinds, change}
 use Rattle.pk_parts.specs.Parts.{Parts}
 use Rattle.pk_parts.specs.Moves.{StandsFor}
-use Rattle.pk_changes.specs.Changes.{Changes}
+use Rattle.pk_changes.specs.Changes.{Changes, HasRoomFor}
 use Rattle.pk_background.specs.Emptying.{StepOrRead}
 use Rattle.pk_background.specs.Spacing.{SameMapAll}
 
 -- ---- a value is stored, wherever the former one of its key is
 
--- A key may get a value: the live pages are within their limit with it.
+-- A key may get a value: there is room for it.
 pub record MayStore (d : Parts) (shape : Shape) (flash : Flash) (m : Map) (key : Key) (value : List ℕ) : Type 0 where
   pub stands : StandsFor d shape flash m
   pub bytes : AreBytes key

@@ -4,23 +4,24 @@ use Rattle.std.specs.FinMap.{insert, remove}
 use Rattle.std.specs.FinMap.Entries.{find}
 use Rattle.pk_base.specs.Entry.{Place}
 use Rattle.pk_base.specs.Fields.{AreBytes}
-use Rattle.pk_base.specs.Key.{Key, key_cmp}
-use Rattle.pk_base.specs.Shape.{Shape, limit, greatest, page_entries}
+use Rattle.pk_base.specs.Key.{Key, key_cmp, space_of}
+use Rattle.pk_base.specs.Shape.{Shape, greatest, page_entries}
 use Rattle.pk_base.specs.Page.{Flash}
-use Rattle.pk_base.specs.Map.{Map, live}
+use Rattle.pk_base.specs.Map.{Map}
 use Rattle.pk_nand.specs.BoardState.{BoardState}
 use Rattle.pk_nand.specs.declared.types.Fault.{Fault}
 use Rattle.pk_nand.specs.Calls.{IsReady}
+use Rattle.pk_model.specs.Spaces.{limits_at}
 use Rattle.pk_model.specs.Growth.{Goes}
 use Rattle.pk_model.specs.Crashes.{CrashFinds, change}
 use Rattle.pk_law_steps.specs.Under.{places}
 use Rattle.pk_parts.specs.Parts.{Parts}
 use Rattle.pk_parts.specs.Moves.{StandsBetween}
-use Rattle.pk_changes.specs.Changes.{Changes}
+use Rattle.pk_changes.specs.Changes.{Changes, HasRoomFor}
 use Rattle.pk_background.specs.Emptying.{StepOrRead}
 use Rattle.pk_background.specs.Spacing.{SameMap}
 
--- A key may get a value: its value stood at this place until now, or there was none, and the live pages are within their limit with the new one.
+-- A key may get a value: its value stood at this place until now, or there was none, and there is room for the new one.
 pub record MayPutBetween (d : Parts) (shape : Shape) (flash : Flash) (m : Map) (key : Key) (value : List ℕ) (old : Option Place) : Type 0 where
   pub stands : StandsBetween d shape flash m
   pub old_is : find key_cmp key (places stands.found d.log.pending) ≡ old
@@ -33,11 +34,12 @@ pub record MayStoreBetween (d : Parts) (shape : Shape) (flash : Flash) (m : Map)
   pub bytes : AreBytes key
   pub room : HasRoomFor shape flash m key value
 
--- a key has its value at this place, and may lose it
+-- a key of a namespace of the drive has its value at this place, and may lose it
 pub record MayTakeBetween (d : Parts) (shape : Shape) (flash : Flash) (m : Map) (key : Key) (old : Place) : Type 0 where
   pub stands : StandsBetween d shape flash m
   pub old_is : find key_cmp key (places stands.found d.log.pending) ≡ Some old
   pub bytes : AreBytes key
+  pub spaced : space_of key ≤ length (limits_at shape flash)
 
 -- ---- for every map that the drive may represent
 

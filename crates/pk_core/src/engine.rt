@@ -139,7 +139,6 @@ impl<A: Region> Engine for Drive<A> {
     }
 
     fn live_pages(&self) -> u32 {
-        self.parts.known();
         self.parts.live_pages()
     }
 }

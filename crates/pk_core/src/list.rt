@@ -150,8 +150,6 @@ pub(crate) fn list<B: Nand, A: Region>(
     ensures room { length into.new ≡ length into.old }
 {
     let before = reads_so_far(board);
-    // so that a drive is known to have at most eight namespaces
-    let _ = parts.spaces();
     let room = request.size.min(MOST_LIST_BYTES);
     let first = first_key(request);
     parts.start_keys(&first);

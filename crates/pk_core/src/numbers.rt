@@ -4,7 +4,7 @@ ghost use Rattle.pk_call.specs.Exec.{report_of};
 ghost use Rattle.pk_call.specs.Seen.{counts_of, in_space_of};
 ghost use Rattle.pk_call.specs.Sight.{in_space_at};
 ghost use Rattle.pk_parts.specs.Parts as spec;
-ghost use Rattle.pk_core.specs.Quiet.{DoneWithout};
+ghost use Rattle.pk_core.specs.Quiet.{DoneFor};
 ghost use Rattle.pk_nvme.specs.declared.status.TheConstants.{SUCCESSFUL_COMPLETION};
 ghost use Rattle.pk_nvme.specs.declared.opcode.TheConstants.{REPORT};
 
@@ -50,7 +50,7 @@ pub(crate) fn report<A: Region>(parts: &Parts<A>, request: &Request, into: &mut 
     requires space { 1 ≤ request.now.namespace
         × request.now.namespace ≤ length (spec.spaces_of parts.now) }
     requires room { REPORT_BYTES ≤ length into.old }
-    ensures does { DoneWithout parts.now REPORT result into.new }
+    ensures does { request.now.opcode ≡ REPORT → DoneFor parts.now request.now result into.new }
     ensures told { (result.status ≡ SUCCESSFUL_COMPLETION) × (result.stopped ≡ false) }
     ensures bytes { take result.data_len into.new ≡ report_of
         (in_space_at (spec.spaces_of parts.now) request.now.namespace) (spec.counts_of parts.now) }

@@ -1,7 +1,7 @@
 //! The commands that change the map.
 ghost use Rattle.std.specs.Prelude.{◌≡◌, ◌≤◌, ◌+◌, ◌-◌, ℕ, is_some, List, [], length, false, true, None, Some, Err, MatchOption};
 ghost use Rattle.pk_base.specs.Fields.{AreBytes};
-ghost use Rattle.pk_base.specs.Key.{IsKey};
+ghost use Rattle.pk_base.specs.Key.{IsKey, space_of};
 ghost use Rattle.pk_base.specs.Shape as spec;
 ghost use Rattle.pk_nvme.specs.Command.{key as key_in};
 ghost use Rattle.pk_nvme.specs.Seen.{command_of};
@@ -9,12 +9,12 @@ ghost use Rattle.pk_model.specs.Answer.{store_fault as store_fault_of};
 ghost use Rattle.pk_core.specs.Done.{Executes};
 ghost use Rattle.pk_core.specs.Serving.{IsServable, IsCounted, outcome_for};
 ghost use Rattle.pk_changes.specs.Noting.{pages_at as pages_at_by};
-ghost use Rattle.pk_space.specs.Uses.{space_live};
-ghost use Rattle.pk_model.specs.Spaces.{limit_of};
 ghost use Rattle.pk_nvme.specs.declared.opcode.TheConstants.{STORE, DELETE};
 ghost use Rattle.pk_law_work.specs.Calls.{commit_calls, pair_calls, room_calls, room_roots, store_roots};
 ghost use Rattle.pk_background.specs.Costs.{Spends, space_and_put_calls};
-ghost use Rattle.pk_parts.specs.Parts.{is_half, limits_of};
+ghost use Rattle.pk_parts.specs.Parts.{drive_limits, is_half};
+ghost use Rattle.pk_space.specs.Uses.{space_live};
+ghost use Rattle.pk_model.specs.Spaces.{limit_of};
 ghost use Rattle.pk_parts.specs.Staying.{Stays, StaysOrOpens, IsNoted};
 ghost use Rattle.pk_core.specs.Programming.{QuietStore, QuietDelete};
 ghost use Rattle.pk_core.specs.LookedUp.{IsLookedUp, StoresOver, DeletesAt};
@@ -80,32 +80,30 @@ fn changed(answer: Result<(), Fault>, reads: u32) -> Outcome
     }
 }
 
-// The check of a Store of `count` pages that fails on the part of the map that its namespace has, if
-// the key has its value at this place.
+// The check of a Store of `count` pages that fails on the map, if the key has its value at this
+// place. What counts are the live pages of its namespace, and their limit.
 fn fault_of_store<A: Region>(
     parts: &Parts<A>,
     request: &Request,
+    key: &Key,
     old: &Option<Place>,
     count: u32,
 ) -> Option<u8>
     requires old_short { MatchOption old.now (Unit {0})
         (λ p. p.len ≤ spec.greatest parts.now.log.shape) }
     requires counted { count ≡ spec.charge parts.now.log.shape request.now.size }
-    requires space { 1 ≤ request.now.namespace
-        × request.now.namespace ≤ length (limits_of parts.now) }
+    requires space { space_of key.now ≤ length (drive_limits parts.now) }
     ensures { result ≡ store_fault_of (command_of request.now []) (is_some old.now)
-        (space_live parts.now.spaces request.now.namespace
-        - pages_at_by parts.now.log.shape old.now
+        (space_live parts.now.spaces (space_of key.now) - pages_at_by parts.now.log.shape old.now
         + spec.charge parts.now.log.shape request.now.size)
-        (limit_of (limits_of parts.now) request.now.namespace) }
+        (limit_of (drive_limits parts.now) (space_of key.now)) }
 {
-    // so that a drive is known to have at most eight namespaces
-    let _ = parts.spaces();
-    let space = request.namespace as u8;
-    let held = pages_at(&parts.shape(), old);
-    let left = parts.space_live(space).saturating_sub(held);
+    let shape = parts.shape();
+    let space = key.space();
+    let held = pages_at(&shape, old);
+    let left = parts.spaces.live(space).saturating_sub(held);
     let live = left as u64 + count as u64;
-    store_fault(request, old.is_some(), live, parts.space_limit(space) as u64)
+    store_fault(request, old.is_some(), live, parts.limit(space) as u64)
 }
 
 // A Store whose key has its value at this place, as was found since the board had this count of reads.
@@ -141,7 +139,7 @@ fn store_over<B: Nand, A: Region>(
 {
     known(&key);
     let count = parts.shape().charge(request.size);
-    match fault_of_store(parts, request, &old, count) {
+    match fault_of_store(parts, request, &key, &old, count) {
         Some(status) => refusal(status, reads_since(board, before)),
         None => {
             let answer = put_whole(parts, board, key, value, old, count);

@@ -1,5 +1,5 @@
 //! The trait of a drive over the board that it is handed.
-ghost use Rattle.std.specs.Prelude.{◌≡◌, ◌≤◌, ℕ, [], length, false, nat_le, is_err, Some, Option, Ok};
+ghost use Rattle.std.specs.Prelude.{◌≡◌, ◌≤◌, ℕ, [], length, min, false, nat_le, is_err, Some, Option, Ok};
 ghost use Rattle.pk_base.specs.Shape.{Shape};
 ghost use Rattle.pk_base.specs.Page.{Flash};
 ghost use Rattle.pk_base.specs.Map.{Map, live};
@@ -136,9 +136,10 @@ pub trait Engine {
             → agrees self.now (Some shape) flash → (sight self.now).stopped ≡ false
             → map_of shape flash (sight self.now) ≡ Ok m → IsSteady shape flash (sight self.now) };
 
-    /// The live pages of its map, on a drive that is not stopped.
+    /// The live pages of its map, on a drive that is not stopped: those of all namespaces together,
+    /// no more than a `u32` holds.
     fn live_pages(&self) -> u32
-        ensures number { result ≡ live_of_all (sight self.now).spaces }
+        ensures number { result ≡ min (live_of_all (sight self.now).spaces) 4294967295 }
         ensures map { (shape : Shape) (flash : Flash) (m : Map) → agrees self.now (Some shape) flash
             → (sight self.now).stopped ≡ false → map_of shape flash (sight self.now) ≡ Ok m
             → result ≡ live shape m };

@@ -16,34 +16,34 @@ use Rattle.pk_law_isolation.proofs.Lists.{Entries}
 use Rattle.pk_law_isolation.proofs.Parts.{get_alone}
 
 module _ (shape : Shape) where
-  abbrev part : ℕ → Entries → ℕ
-  part space es = pages_in shape (where_key key_cmp (λ k. space_of k == space) es)
+  abbrev pub space_pages : ℕ → Entries → ℕ
+  space_pages space es = pages_in shape (where_key key_cmp (λ k. space_of k == space) es)
 
   -- the pages of n namespaces from this one on
-  abbrev parts_sum : ℕ → ℕ → Entries → ℕ
-  parts_sum from zero es = 0
-  parts_sum from (suc n) es = part from es + parts_sum (from + 1) n es
+  abbrev pub space_pages_sum : ℕ → ℕ → Entries → ℕ
+  space_pages_sum from zero es = 0
+  space_pages_sum from (suc n) es = space_pages from es + space_pages_sum (from + 1) n es
 
-  none_sum : (from n : ℕ) → parts_sum from n [] ≡ 0
+  none_sum : (from n : ℕ) → space_pages_sum from n [] ≡ 0
   none_sum from zero = refl
   none_sum from (suc n) = let more = none_sum (from + 1) n in omega (arith, more)
 
   -- an entry of an earlier namespace adds nothing
-  other_part : (space : ℕ) (e : Key × List ℕ) (es : Entries) → (space_of e.0 == space) ≡ false → part space (e ∷ es) ≡ part space es
+  other_part : (space : ℕ) (e : Key × List ℕ) (es : Entries) → (space_of e.0 == space) ≡ false → space_pages space (e ∷ es) ≡ space_pages space es
   other_part space e es differ = ap (λ t. pages_in shape (cond t (e ∷ where_key key_cmp (λ k. space_of k == space) es) (where_key key_cmp (λ k. space_of k == space) es))) differ
 
-  own_part : (space : ℕ) (e : Key × List ℕ) (es : Entries) → (space_of e.0 == space) ≡ true → part space (e ∷ es) ≡ pages_of shape e.1 + part space es
+  own_part : (space : ℕ) (e : Key × List ℕ) (es : Entries) → (space_of e.0 == space) ≡ true → space_pages space (e ∷ es) ≡ pages_of shape e.1 + space_pages space es
   own_part space e es is = ap (λ t. pages_in shape (cond t (e ∷ where_key key_cmp (λ k. space_of k == space) es) (where_key key_cmp (λ k. space_of k == space) es))) is
 
-  before : (from n : ℕ) (e : Key × List ℕ) (es : Entries) → space_of e.0 < from → parts_sum from n (e ∷ es) ≡ parts_sum from n es
+  before : (from n : ℕ) (e : Key × List ℕ) (es : Entries) → space_of e.0 < from → space_pages_sum from n (e ∷ es) ≡ space_pages_sum from n es
   before from zero e es less = refl
   before from (suc n) e es less =
       λ i. other_part from e es (ne_eqb (space_of e.0) from (λ is. omega (arith, less, is))) i + before (from + 1) n e es (omega (arith, less)) i
 
   -- one of these namespaces adds its pages
-  within : (from n : ℕ) (e : Key × List ℕ) (es : Entries) → from ≤ space_of e.0 → space_of e.0 < from + n → parts_sum from n (e ∷ es) ≡ pages_of shape e.1 + parts_sum from n es
+  within : (from n : ℕ) (e : Key × List ℕ) (es : Entries) → from ≤ space_of e.0 → space_of e.0 < from + n → space_pages_sum from n (e ∷ es) ≡ pages_of shape e.1 + space_pages_sum from n es
   within from zero e es low high = absurd (omega (arith, low, high))
-  within from (suc n) e es low high = elim (space_of e.0 == from) as (λ t. (space_of e.0 == from) ≡ t → parts_sum from (suc n) (e ∷ es) ≡ pages_of shape e.1 + parts_sum from (suc n) es) [
+  within from (suc n) e es low high = elim (space_of e.0 == from) as (λ t. (space_of e.0 == from) ≡ t → space_pages_sum from (suc n) (e ∷ es) ≡ pages_of shape e.1 + space_pages_sum from (suc n) es) [
     | true ↦ λ is.
         let own = own_part from e es is in
         let rest = before (from + 1) n e es (let same = eqb-true (space_of e.0) from is in omega (arith, same)) in
@@ -59,17 +59,17 @@ module _ (shape : Shape) where
       beyond : (a b : ℕ) → a ≤ b → (a ≡ b → ⊥) → a < b
       beyond a b low apart = grind (arith, low, apart)
 
-  pub all_parts : (n : ℕ) (es : Entries) → AllByRecursion (λ e. (1 ≤ space_of e.0) × (space_of e.0 ≤ n)) es → pages_in shape es ≡ parts_sum 1 n es
+  pub all_parts : (n : ℕ) (es : Entries) → AllByRecursion (λ e. (1 ≤ space_of e.0) × (space_of e.0 ≤ n)) es → pages_in shape es ≡ space_pages_sum 1 n es
   all_parts n [] all = sym (none_sum 1 n)
   all_parts n (e ∷ es) all =
       ap (λ k. pages_of shape e.1 + k) (all_parts n es all.1) ∙ sym (within 1 n e es all.0.0 (omega (arith, all.0.1)))
 
   -- n namespaces within their limits
-  bounded : (from : ℕ) (limits : List ℕ) (es : Entries) → ((i : ℕ) → i < length limits → part (from + i) es ≤ slice_index limits i) → parts_sum from (length limits) es ≤ sum limits
+  bounded : (from : ℕ) (limits : List ℕ) (es : Entries) → ((i : ℕ) → i < length limits → space_pages (from + i) es ≤ slice_index limits i) → space_pages_sum from (length limits) es ≤ sum limits
   bounded from [] es each = omega arith
   bounded from (l ∷ ls) es each =
-      let first : part from es ≤ l = subst (λ k. part k es ≤ l) (omega arith) (each 0 (omega arith)) in
-      let rest = bounded (from + 1) ls es (λ i less. subst (λ k. part k es ≤ slice_index ls i) (omega arith) (each (suc i) (omega (arith, less)))) in
+      let first : space_pages from es ≤ l = subst (λ k. space_pages k es ≤ l) (omega arith) (each 0 (omega arith)) in
+      let rest = bounded (from + 1) ls es (λ i less. subst (λ k. space_pages k es ≤ slice_index ls i) (omega arith) (each (suc i) (omega (arith, less)))) in
       omega (arith, first, rest, sum_by-cons (λ (x : ℕ). x) l ls)
 
 pub within_sum : WithinSum

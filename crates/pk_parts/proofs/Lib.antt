@@ -4,9 +4,13 @@ pub mod Searching
 pub mod Standing
 pub mod Keeping
 pub mod Elsewhere
+pub mod Using
 pub mod Committing
 pub mod Reclaiming
+pub mod OwnLimits
+pub mod MapValues
 pub mod Unchanging
 pub mod Opening
 pub mod Sights
 pub mod Staying
+pub mod Holding

@@ -1,8 +1,8 @@
 -- What a lookup reads.
-use Rattle.std.proofs.Common.{◌≡◌, ℕ, zero, suc, ◌+◌, ◌-◌, ◌<◌, ◌≤◌, refl, sym, ap, subst, ◌∙◌, arith, min, List, [], ◌∷◌, Option, Some, Ok, Result}
+use Rattle.std.proofs.Common.{◌≡◌, ℕ, zero, suc, ◌+◌, ◌-◌, ◌<◌, ◌≤◌, refl, sym, ap, subst, ◌∙◌, arith, min, List, Option, Some, Ok, Result}
 use Rattle.std.specs.Prelude.{OnOk, OnErr, Err}
 use Rattle.pk_base.specs.Key.{Key}
-use Rattle.pk_base.specs.Shape.{Shape, limit}
+use Rattle.pk_base.specs.Shape.{Shape}
 use Rattle.pk_base.specs.Page.{Flash, IsFlash}
 use Rattle.pk_base.specs.Entry.{Place}
 use Rattle.pk_base.specs.Map.{Map}
@@ -11,17 +11,18 @@ use Rattle.pk_nand.specs.Calls.{Rose, counted, last_count, IsReady}
 use Rattle.pk_nand.specs.Operations.{ReadFailed}
 use Rattle.pk_nand.specs.Counts.{counted_by, after_reads}
 use Rattle.pk_level.specs.Levels.{ReadsUpTo, ReadFailsWithin}
-use Rattle.pk_model.specs.Spaces.{Terms, in_space, limits_at}
+use Rattle.pk_model.specs.Laws.{IsHeldMap}
+use Rattle.pk_model.specs.Spaces.{Terms, limits_at}
 use Rattle.pk_model.specs.Reading.{reading}
 use Rattle.pk_model.proofs.HeldMap.{map_held}
-use Rattle.pk_model.proofs.SpaceLemmas.{is_whole}
 use Rattle.pk_law_steps.proofs.Untouched.{under_reads}
 use Rattle.pk_call.specs.Drive.{HoldsMap}
-use Rattle.pk_parts.specs.Parts.{Parts, sight_of, terms_of, settled_parts}
+use Rattle.pk_parts.specs.Parts.{Parts, sight_of, drive_limits, terms_of, settled_parts}
 use Rattle.pk_parts.specs.Agreeing.{DriveOnFlashWith, DriveOnFlash, IsWhole}
 use Rattle.pk_parts.specs.Finding.{IsPlaceIn}
 use Rattle.pk_parts.specs.Quiet.{ReadsOnly, ReadsFailing, Looks}
 use Rattle.pk_parts.proofs.Halves.{with_whole}
+use Rattle.pk_parts.proofs.OwnLimits.{limits_on}
 use Rattle.pk_base.proofs.Logic.{some_same}
 
 -- ---- the board
@@ -75,11 +76,6 @@ reads_break old mid new most k n at before less failed =
 
 -- ---- the map of a drive
 
--- the limits on a flash: that of the shape alone
-pub limits_are : (shape : Shape) (flash : Flash) → limits_at shape flash ≡ limit shape ∷ []
-unfolding limits_at
-limits_are shape flash = refl
-
 pub same_ok : {E : Type 0} (x y : Map) → ◌≡◌ {A = Result Map E} (Ok x) (Ok y) → x ≡ y
 same_ok x y e = cc
 
@@ -97,7 +93,7 @@ module _ (d : Parts) (board : BoardState) (a : DriveOnFlash d board.shape board.
   for_its_map P here shape terms m st =
       let same_shape : d.log.shape ≡ shape = a.with.shape_is ∙ some_same a.shape shape (sym a.told_is ∙ st.shape_is) in
       let read = under_reads d.log.shape board.pages d.log.pending a.top a.found a.all own.pending in
-      let same_limits : limit d.log.shape ∷ [] ≡ terms.limits = ap (λ (s : Shape). limit s ∷ []) same_shape ∙ sym (limits_are shape board.pages) ∙ st.limits_is in
+      let same_limits : drive_limits d ≡ terms.limits = sym (limits_on d board.shape board.pages a) ∙ ap (λ (s : Shape). limits_at s board.pages) same_shape ∙ st.limits_is in
       let same_terms : terms_of d ≡ terms = λ i. record { frames = st.frames_is i; limits = same_limits i } in
       let Q : Shape → Type 0 = λ s. P s terms m in
       let R : Terms → Type 0 = λ t. P d.log.shape t m in
@@ -106,12 +102,12 @@ module _ (d : Parts) (board : BoardState) (a : DriveOnFlash d board.shape board.
       let same_map : a.all ≡ m = same_ok a.all m (sym read ∙ subst U (sym same_shape) st.map_is) in
       subst Q same_shape (subst R same_terms (subst S same_map here))
 
-  -- each key of its map is of its only namespace
-  pub whole_all : in_space 1 a.all ≡ a.all
-  whole_all =
-      let held = map_held d.log.shape board.pages d.log.pending a.all own.index.logs.is_shape own.is_flash own.index.logs.pending_are
-      (under_reads d.log.shape board.pages d.log.pending a.top a.found a.all own.pending) in
-      is_whole d.log.shape a.all held.is_map
+  -- its map is one that a flash holds within its limits
+  pub held_own : IsHeldMap d.log.shape (drive_limits d) a.all
+  held_own =
+      subst (λ (limits : List ℕ). IsHeldMap d.log.shape limits a.all) (limits_on d board.shape board.pages a)
+      (map_held d.log.shape board.pages d.log.pending a.all own.index.logs.is_shape own.is_flash own.index.logs.pending_are
+      (under_reads d.log.shape board.pages d.log.pending a.top a.found a.all own.pending))
 
   -- what a lookup says of this map
   pub looked : (k : Key) (p : Option Place) → Looks d board.pages k p → IsPlaceIn d.log.shape board.pages a.found d.log.pending a.all k p
@@ -125,14 +121,14 @@ less_reads old new n k less r = record { board = r.board; few = r.few; up = r.up
 less_failing : (old new : BoardState) (n k : ℕ) → n ≤ k → ReadsFailing old new n → ReadsFailing old new k
 less_failing old new n k less r = record { board = r.board; few = r.few; up = r.up; within = (let w = r.within in omega (arith, less, w)); rose = r.rose; flash = r.flash }
 
-pub looked_reads : {X Y : Type 0} (r : Result X Y) (old new : BoardState) (n p : ℕ) → old.reads ≤ last_count → n + p ≤ 4 → OnOk r (ReadsUpTo n old new) → OnOk r (ReadsOnly old new (4 - p))
-looked_reads (Ok x) old new n p few least (k, most, made) = less_reads old new (0 + k) (4 - p) (omega (arith, most, least)) (reads_more old old new 0 k (reads_none old few) made)
-looked_reads (Err y) old new n p few least made = tt
+pub looked_reads : {X Y : Type 0} (r : Result X Y) (old new : BoardState) (n most : ℕ) → old.reads ≤ last_count → n ≤ most → OnOk r (ReadsUpTo n old new) → OnOk r (ReadsOnly old new most)
+looked_reads (Ok x) old new n most few least (k, within, made) = less_reads old new (0 + k) most (omega (arith, within, least)) (reads_more old old new 0 k (reads_none old few) made)
+looked_reads (Err y) old new n most few least made = tt
 
-pub looked_failing : {X Y : Type 0} (r : Result X Y) (old new : BoardState) (n p : ℕ) → old.reads ≤ last_count
-    → n + p ≤ 4 → OnErr r (ReadFailsWithin n old new) → OnErr r (ReadsFailing old new (4 - p))
-looked_failing (Ok x) old new n p few least made = tt
-looked_failing (Err y) old new n p few least (k, at, less, failed) = less_failing old new (0 + n) (4 - p) (omega (arith, least)) (reads_break old old new 0 k n at (reads_none old few) less failed)
+pub looked_failing : {X Y : Type 0} (r : Result X Y) (old new : BoardState) (n most : ℕ) → old.reads ≤ last_count
+    → n ≤ most → OnErr r (ReadFailsWithin n old new) → OnErr r (ReadsFailing old new most)
+looked_failing (Ok x) old new n most few least made = tt
+looked_failing (Err y) old new n most few least (k, at, less, failed) = less_failing old new (0 + n) most (omega (arith, least)) (reads_break old old new 0 k n at (reads_none old few) less failed)
 
 -- ---- the answers of commands that look a key up
 

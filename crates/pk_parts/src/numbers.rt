@@ -6,7 +6,6 @@ ghost use Rattle.pk_call.specs.Sight.{in_space_at, live_of_all};
 ghost use Rattle.pk_base.specs.declared.sizes.TheConstants.{MOST_SPACES};
 ghost use Rattle.pk_model.specs.Spaces.{limit_of};
 ghost use Rattle.pk_parts.specs.Parts as spec;
-ghost use Rattle.pk_space.specs.Uses.{IsSpace, space_live};
 
 use crate::parts::Parts;
 use pk_call::Counts;
@@ -38,7 +37,7 @@ impl<A: Region> Parts<A> {
 
     /// How many namespaces the drive has.
     pub fn spaces(&self) -> u8
-        ensures value { result ≡ length (spec.limits_of self.now) }
+        ensures value { result ≡ length (spec.drive_limits self.now) }
         ensures number { result ≡ length (spec.spaces_of self.now) }
         ensures some { 1 ≤ result }
         ensures most { result ≤ MOST_SPACES }
@@ -46,20 +45,12 @@ impl<A: Region> Parts<A> {
         self.log.root().spaces()
     }
 
-    /// The limit of live pages of this namespace.
-    pub fn space_limit(&self, space: u8) -> u32
-        requires { 1 ≤ space × space ≤ length (spec.limits_of self.now) }
-        ensures { result ≡ limit_of (spec.limits_of self.now) space }
+    /// The live limit of this namespace, in pages.
+    pub fn limit(&self, space: u8) -> u32
+        requires { 1 ≤ space × space ≤ length (spec.drive_limits self.now) }
+        ensures { result ≡ limit_of (spec.drive_limits self.now) space }
     {
         self.log.root().space_limit(space)
-    }
-
-    /// The live pages of this namespace.
-    pub fn space_live(&self, space: u8) -> u32
-        requires { IsSpace space }
-        ensures { result ≡ space_live self.now.spaces space }
-    {
-        self.spaces.live(space)
     }
 
     /// The live pages of all namespaces, or the greatest number if they are more.
@@ -79,9 +70,11 @@ impl<A: Region> Parts<A> {
         ensures drive { counts_of result ≡ spec.counts_of self.now }
         ensures here { in_space_of result ≡ in_space_at (spec.spaces_of self.now) space }
     {
+        // so that a drive is known to have at most eight namespaces
+        let _ = self.spaces();
         Counts {
             live: self.spaces.live(space),
-            limit: self.log.root().space_limit(space),
+            limit: self.limit(space),
             keys: self.spaces.keys(space),
             pinned: self.levels.pinned() as u32,
             frames: self.arena.frames(),

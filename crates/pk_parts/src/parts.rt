@@ -1,5 +1,5 @@
 //! The parts of a drive.
-ghost use Rattle.std.specs.Prelude.{◌≡◌, length, sum};
+ghost use Rattle.std.specs.Prelude.{◌≡◌, length};
 ghost use Rattle.pk_parts.specs.Parts.{IsParts};
 ghost use Rattle.pk_parts.specs.Stopping.{failed_by};
 
@@ -118,13 +118,6 @@ impl<A: Region> Parts<A> {
         ensures { result ≡ self.now.log.root.number }
     {
         self.log.root().number()
-    }
-
-    /// How many pages the values of the map have.
-    pub fn total(&self) -> u32
-        ensures { result ≡ sum self.now.values.live.heads }
-    {
-        self.values.total()
     }
 
     /// Whether a call failed that stops the drive.

@@ -22,7 +22,11 @@ mod freezes;
 #[cfg(test)]
 mod halves;
 #[cfg(test)]
+mod held;
+#[cfg(test)]
 mod image;
+#[cfg(test)]
+mod isolation;
 #[cfg(test)]
 mod layered;
 #[cfg(test)]
@@ -41,6 +45,8 @@ mod runs;
 mod sessions;
 #[cfg(test)]
 mod space;
+#[cfg(test)]
+mod space_cuts;
 #[cfg(test)]
 mod spaces;
 #[cfg(test)]

@@ -1,15 +1,18 @@
 //! Consecutive commands on a made drive, each with its answer: options and lengths, namespaces, and the keys of a List.
 
-use crate::steps::{add, holds, made_board, posted, serve};
+use crate::steps::{add, ask, ended, holds, made, pages_left, posted, serve, worked_board, wrote};
+use pk_nand::PageState;
 use pk_nvme::Request;
-use pk_nvme::opcode::{DELETE, EXIST, FLUSH, LIST, REPORT, RETRIEVE, STORE};
+use pk_nvme::opcode::{DELETE, EXIST, FLUSH, LIST, REPORT, RETRIEVE, STORE, TICK};
 use pk_nvme::status::{
-    INVALID_COMMAND_OPCODE, INVALID_FIELD_IN_COMMAND, INVALID_KEY_SIZE,
-    INVALID_NAMESPACE_OR_FORMAT, KEY_DOES_NOT_EXIST, KEY_EXISTS, SUCCESSFUL_COMPLETION,
+    CAPACITY_EXCEEDED, INVALID_COMMAND_OPCODE, INVALID_FIELD_IN_COMMAND, INVALID_KEY_SIZE,
+    INVALID_NAMESPACE_OR_FORMAT, INVALID_VALUE_SIZE, KEY_DOES_NOT_EXIST, KEY_EXISTS,
+    SUCCESSFUL_COMPLETION,
 };
-use pk_test_scripts::Place;
+use pk_test_scripts::boards::Session;
 use pk_test_scripts::exits::DONE;
-use pk_test_scripts::script::{UNKNOWN, push_head};
+use pk_test_scripts::script::{Ask, UNKNOWN, Value, push_head};
+use pk_test_scripts::{MAKE_WORKED, Place};
 use std::alloc::Global;
 use std::process::Abort;
 use std::test::*;
@@ -104,6 +107,148 @@ const NAMESPACES: &[Row] = &[
     (UNKNOWN, 2, A, 1, 0, 0, INVALID_COMMAND_OPCODE, b""),
 ];
 
+// The words of drives of two and of three namespaces.
+const TWO: &[&str] = &["make", "512", "16", "64", "100", "392"];
+
+const THREE: &[&str] = &["make", "512", "16", "64", "100", "100", "292"];
+
+// Namespaces that a drive of two does not have, in the order of the checks: the opcode first, then the namespace, then the rest. Nothing
+// is stored.
+const ELSEWHERE: &[Row] = &[
+    (EXIST, 1, A, 1, 0, 0, KEY_DOES_NOT_EXIST, b""),
+    (EXIST, 2, A, 1, 0, 0, KEY_DOES_NOT_EXIST, b""),
+    (EXIST, 0, A, 1, 0, 0, INVALID_NAMESPACE_OR_FORMAT, b""),
+    (EXIST, 3, A, 1, 0, 0, INVALID_NAMESPACE_OR_FORMAT, b""),
+    (EXIST, 8, A, 1, 0, 0, INVALID_NAMESPACE_OR_FORMAT, b""),
+    (EXIST, 9, A, 1, 0, 0, INVALID_NAMESPACE_OR_FORMAT, b""),
+    (EXIST, 256, A, 1, 0, 0, INVALID_NAMESPACE_OR_FORMAT, b""),
+    (EXIST, 257, A, 1, 0, 0, INVALID_NAMESPACE_OR_FORMAT, b""),
+    (EXIST, 65_538, A, 1, 0, 0, INVALID_NAMESPACE_OR_FORMAT, b""),
+    (
+        EXIST,
+        0x8000_0001,
+        A,
+        1,
+        0,
+        0,
+        INVALID_NAMESPACE_OR_FORMAT,
+        b"",
+    ),
+    (EXIST, ALL, A, 1, 0, 0, INVALID_NAMESPACE_OR_FORMAT, b""),
+    (UNKNOWN, 0, A, 1, 0, 0, INVALID_COMMAND_OPCODE, b""),
+    (UNKNOWN, 2, A, 1, 0, 0, INVALID_COMMAND_OPCODE, b""),
+    (UNKNOWN, 3, A, 1, 0, 0, INVALID_COMMAND_OPCODE, b""),
+    (FLUSH, 2, A, 0, 0, 0, OK, b""),
+    (FLUSH, ALL, A, 0, 0, 0, OK, b""),
+    (FLUSH, 0, A, 0, 0, 0, INVALID_NAMESPACE_OR_FORMAT, b""),
+    (FLUSH, 3, A, 0, 0, 0, INVALID_NAMESPACE_OR_FORMAT, b""),
+    (TICK, 2, A, 0, 0, 0, OK, b""),
+    (TICK, 3, A, 0, 1000, 0, INVALID_NAMESPACE_OR_FORMAT, b""),
+    (TICK, ALL, A, 0, 0, 0, INVALID_NAMESPACE_OR_FORMAT, b""),
+    (REPORT, 3, A, 0, 64, 0, INVALID_NAMESPACE_OR_FORMAT, b""),
+    (REPORT, ALL, A, 0, 64, 0, INVALID_NAMESPACE_OR_FORMAT, b""),
+    (RETRIEVE, 3, A, 1, 64, 0, INVALID_NAMESPACE_OR_FORMAT, b""),
+    (DELETE, 3, A, 1, 0, 0, INVALID_NAMESPACE_OR_FORMAT, b""),
+    (STORE, 3, A, 1, 4, 0, INVALID_NAMESPACE_OR_FORMAT, b""),
+    (STORE, 258, A, 1, 4, 0, INVALID_NAMESPACE_OR_FORMAT, b""),
+    (STORE, 3, A, 0, 4, 0, INVALID_NAMESPACE_OR_FORMAT, b""),
+    (STORE, 2, A, 0, 4, 0, INVALID_KEY_SIZE, b""),
+    (STORE, 2, WHOLE, 17, 4, 0, INVALID_KEY_SIZE, b""),
+    (STORE, 2, A, 1, 4, 1, KEY_DOES_NOT_EXIST, b""),
+    (LIST, 3, A, 17, 3, 0, INVALID_NAMESPACE_OR_FORMAT, b""),
+    (LIST, 2, A, 17, 3, 0, INVALID_KEY_SIZE, b""),
+    (LIST, 2, A, 0, 3, 0, INVALID_FIELD_IN_COMMAND, b""),
+    (LIST, 1, A, 0, 64, 0, OK, b"\0\0\0\0"),
+    (LIST, 2, A, 0, 64, 0, OK, b"\0\0\0\0"),
+];
+
+// One key in two namespaces.
+const SHARED: &[Row] = &[
+    (STORE, 1, A, 1, 4, 0, OK, b""),
+    (EXIST, 2, A, 1, 0, 0, KEY_DOES_NOT_EXIST, b""),
+    (DELETE, 2, A, 1, 0, 0, KEY_DOES_NOT_EXIST, b""),
+    (RETRIEVE, 2, A, 1, 64, 0, KEY_DOES_NOT_EXIST, b""),
+    (STORE, 2, A, 1, 4, 1, KEY_DOES_NOT_EXIST, b""),
+    (STORE, 2, A, 1, 0, 2, OK, b""),
+    (STORE, 2, A, 1, 4, 2, KEY_EXISTS, b""),
+    (STORE, 1, A, 1, 4, 2, KEY_EXISTS, b""),
+    (DELETE, 1, A, 1, 0, 0, OK, b""),
+    (EXIST, 1, A, 1, 0, 0, KEY_DOES_NOT_EXIST, b""),
+    (EXIST, 2, A, 1, 0, 0, OK, b""),
+    (RETRIEVE, 2, A, 1, 64, 0, OK, b""),
+    (DELETE, 1, A, 1, 0, 0, KEY_DOES_NOT_EXIST, b""),
+    (DELETE, 2, A, 1, 0, 0, OK, b""),
+    (EXIST, 2, A, 1, 0, 0, KEY_DOES_NOT_EXIST, b""),
+];
+
+// Keys in three namespaces, which are listed next.
+const KEYS_OF_THREE: &[Row] = &[
+    (STORE, 3, A, 1, 4, 0, OK, b""),
+    (STORE, 2, B, 1, 4, 0, OK, b""),
+    (STORE, 1, WHOLE, 16, 4, 0, OK, b""),
+    (STORE, 2, BEFORE, 1, 4, 0, OK, b""),
+    (STORE, 1, A, 1, 4, 0, OK, b""),
+];
+
+// Each List ends with its namespace: those from a key after the last one of the namespace have no key.
+const LISTS_OF_THREE: &[Row] = &[
+    (LIST, 1, A, 0, 64, 0, OK, A_AND_WHOLE),
+    (LIST, 1, A, 1, 64, 0, OK, A_AND_WHOLE),
+    (LIST, 1, A, 2, 64, 0, OK, ONLY_WHOLE),
+    (LIST, 1, WHOLE, 16, 64, 0, OK, ONLY_WHOLE),
+    (LIST, 1, B, 1, 64, 0, OK, b"\0\0\0\0"),
+    (LIST, 2, A, 0, 64, 0, OK, b"\x02\0\0\0\x01\0\x60\0\x01\0b\0"),
+    (LIST, 2, BEFORE, 2, 64, 0, OK, b"\x01\0\0\0\x01\0b\0"),
+    (LIST, 2, A, 1, 64, 0, OK, b"\x01\0\0\0\x01\0b\0"),
+    (LIST, 2, B, 2, 64, 0, OK, b"\0\0\0\0"),
+    (LIST, 2, A, 0, 8, 0, OK, b"\x01\0\0\0\x01\0\x60\0"),
+    (LIST, 3, A, 0, 64, 0, OK, b"\x01\0\0\0\x01\0a\0"),
+    (LIST, 3, BEFORE, 1, 64, 0, OK, b"\x01\0\0\0\x01\0a\0"),
+    (LIST, 3, B, 1, 64, 0, OK, b"\0\0\0\0"),
+    (LIST, 4, A, 0, 64, 0, INVALID_NAMESPACE_OR_FORMAT, b""),
+];
+
+const A_AND_WHOLE: &[u8] = b"\x02\0\0\0\x01\0a\0\x10\0abcdefghijklmnop\0\0";
+
+// A Store after an opening needs a freeze, and background steps merge the frozen keys.
+const MERGING: [Ask; 2] = [
+    Ask::Store(0x61, Value { first: 1, len: 4 }),
+    Ask::Tick(1000),
+];
+
+const ONLY_WHOLE: &[u8] = b"\x01\0\0\0\x10\0abcdefghijklmnop\0\0";
+
+// Limits of one to six pages and the rest, in which 0, 1, 1, 2, 2 and 3 values of two pages have room. A value of 993 bytes takes four.
+const SIX: &[&str] = &["make", "512", "16", "64", "1", "2", "3", "4", "5", "6"];
+
+const FULL: &[Row] = &[
+    (STORE, 1, A, 1, 0, 0, CAPACITY_EXCEEDED, b""),
+    (STORE, 2, A, 1, 4, 0, OK, b""),
+    (STORE, 2, B, 1, 4, 0, CAPACITY_EXCEEDED, b""),
+    (STORE, 3, A, 1, 4, 0, OK, b""),
+    (STORE, 3, B, 1, 4, 0, CAPACITY_EXCEEDED, b""),
+    (STORE, 2, A, 1, 0, 0, OK, b""),
+    (STORE, 4, A, 1, 4, 0, OK, b""),
+    (STORE, 4, B, 1, 4, 0, OK, b""),
+    (STORE, 4, BEFORE, 1, 4, 0, CAPACITY_EXCEEDED, b""),
+    (DELETE, 4, A, 1, 0, 0, OK, b""),
+    (STORE, 4, BEFORE, 1, 4, 0, OK, b""),
+    (STORE, 4, A, 1, 4, 0, CAPACITY_EXCEEDED, b""),
+    (STORE, 5, A, 1, 4, 0, OK, b""),
+    (STORE, 5, B, 1, 4, 0, OK, b""),
+    (STORE, 5, BEFORE, 1, 4, 0, CAPACITY_EXCEEDED, b""),
+    (STORE, 6, A, 1, 4, 0, OK, b""),
+    (STORE, 6, B, 1, 4, 0, OK, b""),
+    (STORE, 6, BEFORE, 1, 4, 0, OK, b""),
+    (STORE, 6, WHOLE, 16, 4, 0, CAPACITY_EXCEEDED, b""),
+    (STORE, 1, A, 1, 2017, 0, INVALID_VALUE_SIZE, b""),
+    (STORE, 1, A, 1, 0, 1, KEY_DOES_NOT_EXIST, b""),
+    (STORE, 2, A, 1, 4, 2, KEY_EXISTS, b""),
+    (EXIST, 1, A, 1, 0, 0, KEY_DOES_NOT_EXIST, b""),
+    (EXIST, 2, B, 1, 0, 0, KEY_DOES_NOT_EXIST, b""),
+    (EXIST, 4, A, 1, 0, 0, KEY_DOES_NOT_EXIST, b""),
+];
+
 // Adds the entry of a row with this number, and the value of a Store.
 fn add_row(rt: &impl Abort, into: &mut Vec<u8>, cid: u16, row: &Row) {
     let (opcode, namespace, key, key_len, size, options, _, _) = *row;
@@ -118,9 +263,12 @@ fn add_row(rt: &impl Abort, into: &mut Vec<u8>, cid: u16, row: &Row) {
     };
     add(rt, into, &request.entry());
     if opcode == STORE {
-        add(rt, into, b"four".get(..size as usize).unwrap_or(b"four"));
+        add(rt, into, VALUE.get(..size as usize).unwrap_or(&VALUE));
     }
 }
+
+// The bytes of values.
+const VALUE: [u8; 2017] = [7; 2017];
 
 // Adds the record of a row.
 fn add_answer(rt: &impl Abort, into: &mut Vec<u8>, cid: u16, row: &Row) {
@@ -130,8 +278,14 @@ fn add_answer(rt: &impl Abort, into: &mut Vec<u8>, cid: u16, row: &Row) {
     add(rt, into, data);
 }
 
-// These commands in a session of a made drive have these answers.
-fn check(rt: &impl Abort, alloc: Global, name: &'static str, rows: &[Row]) -> Vec<u8> {
+// These commands in a session of a drive that has these pages have these answers.
+fn check_on(
+    rt: &impl Abort,
+    alloc: Global,
+    pages: Vec<PageState>,
+    name: &'static str,
+    rows: &[Row],
+) -> Session {
     let mut script = Vec::new(alloc);
     let mut want = Vec::new(alloc);
     let mut cid = 0u16;
@@ -140,9 +294,25 @@ fn check(rt: &impl Abort, alloc: Global, name: &'static str, rows: &[Row]) -> Ve
         add_row(rt, &mut script, cid, row);
         add_answer(rt, &mut want, cid, row);
     }
-    let session = serve(alloc, made_board(rt, alloc, script));
+    let session = serve(alloc, worked_board(rt, alloc, pages, script));
     posted(rt, &session, DONE, &want, Place::Named(name));
-    want
+    session
+}
+
+// The same on a drive that these words made.
+fn check_made(
+    rt: &impl Abort,
+    alloc: Global,
+    words: &[&str],
+    name: &'static str,
+    rows: &[Row],
+) -> Session {
+    check_on(rt, alloc, made(rt, alloc, words), name, rows)
+}
+
+// The same on a drive of one namespace.
+fn check(rt: &impl Abort, alloc: Global, name: &'static str, rows: &[Row]) -> Session {
+    check_made(rt, alloc, &MAKE_WORKED, name, rows)
 }
 
 /// Values of no byte, lengths of keys, options of a Store, Deletes, Lists into buffers of several sizes, and namespaces.
@@ -155,6 +325,37 @@ fn answers(rt: HostRuntime) {
     let _ = check(&rt, alloc, "lists", LISTS);
     let _ = check(&rt, alloc, "namespaces", NAMESPACES);
     let deleted = check(&rt, alloc, "deleted", DELETED);
-    let is_so = deleted.ends_with(&[5, 0, 0x0f, 1, 0, 0, 0, 0, 0, 0, 0, 0]);
+    let last = [5, 0, 0x0f, 1, 0, 0, 0, 0, 0, 0, 0, 0];
+    let is_so = deleted.flash.posted().ends_with(&last);
     holds(&rt, is_so, "the last dwords", Place::Named("deleted"));
+}
+
+/// On a drive of two namespaces: namespaces that it does not have, and one key in both.
+#[test]
+fn answers_of_two(rt: HostRuntime) {
+    let alloc = rt.alloc();
+    let elsewhere = check_made(&rt, alloc, TWO, "elsewhere", ELSEWHERE);
+    wrote(&rt, &elsewhere, 0, 0);
+    let _ = check_made(&rt, alloc, TWO, "shared", SHARED);
+}
+
+/// Lists of three namespaces: of keys in the buffer, after an opening, and of keys in run 1, which has frames.
+#[test]
+fn lists_of_three(rt: HostRuntime) {
+    let alloc = rt.alloc();
+    let stored = check_made(&rt, alloc, THREE, "keys", KEYS_OF_THREE);
+    let pages = pages_left(&rt, alloc, &stored.flash);
+    let _ = check_on(&rt, alloc, pages, "lists of a buffer", LISTS_OF_THREE);
+    let pages = pages_left(&rt, alloc, &stored.flash);
+    let merged = ask(&rt, alloc, pages, &MERGING);
+    ended(&rt, &merged, DONE, Place::Named("a merge"));
+    let pages = pages_left(&rt, alloc, &merged.flash);
+    let _ = check_on(&rt, alloc, pages, "lists of a run", LISTS_OF_THREE);
+}
+
+/// Limits of one to six pages.
+#[test]
+fn full_namespaces(rt: HostRuntime) {
+    let alloc = rt.alloc();
+    let _ = check_made(&rt, alloc, SIX, "limits", FULL);
 }

@@ -2,10 +2,10 @@
 //! fails ends the test.
 
 use pk_base::Shape;
-use pk_flash::{Flash, Left};
+use pk_flash::{Flash, Left, Room};
 use pk_nand::{Mark, PageState};
 pub use pk_test_scripts::MAKE_WORKED;
-use pk_test_scripts::boards::Session;
+use pk_test_scripts::boards::{Session, board_in};
 use pk_test_scripts::exits::DONE;
 use pk_test_scripts::script::{Answer, Ask};
 use pk_test_scripts::{Place, Program};
@@ -168,6 +168,23 @@ pub fn board(
     done(rt, pk_test_scripts::board(alloc, shape, pages, input))
 }
 
+// The room of a session of several hundred commands.
+const ROOM: Room = Room {
+    posted: 131_072,
+    marks: 4000,
+};
+
+/// A board with these pages and this input, with room for a session of several hundred commands.
+pub fn roomy_board(
+    rt: &impl Abort,
+    alloc: Global,
+    shape: Shape,
+    pages: Vec<PageState>,
+    input: Vec<u8>,
+) -> Flash {
+    done(rt, board_in(alloc, shape, pages, input, ROOM))
+}
+
 /// A board of 64 blocks with these pages and this input.
 pub fn worked_board(
     rt: &impl Abort,
@@ -209,6 +226,23 @@ pub fn ask(rt: &impl Abort, alloc: Global, pages: Vec<PageState>, asks: &[Ask]) 
 /// The pages that a board has now.
 pub fn pages_left(rt: &impl Abort, alloc: Global, flash: &Flash) -> Vec<PageState> {
     done(rt, pk_test_scripts::boards::pages_left(alloc, flash))
+}
+
+// Whether a page is in the same state as another.
+fn is_same(page: &PageState, other: &PageState) -> bool {
+    match (page, other) {
+        (PageState::Erased, PageState::Erased) | (PageState::Torn, PageState::Torn) => true,
+        (PageState::Whole(bytes), PageState::Whole(other)) => bytes.bytes() == other.bytes(),
+        _ => false,
+    }
+}
+
+/// Ends the test if these pages are not in the same states, one by one.
+pub fn same_pages(rt: &impl Abort, left: &[PageState], wanted: &[PageState], place: Place) {
+    holds(rt, left.len() == wanted.len(), "as many pages", place);
+    for i in 0..left.len().min(wanted.len()) {
+        holds(rt, is_same(&left[i], &wanted[i]), "a page", place);
+    }
 }
 
 /// The pages after the first k marks, of which the next, if there is one, leaves this.

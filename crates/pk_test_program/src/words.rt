@@ -2,8 +2,8 @@
 
 use crate::sessions::large_board;
 use crate::steps::{
-    MAKE_WORKED, Pink, add, blank, ended, holds, made, made_board, pages_left, posted, same, serve,
-    worked_board, wrote,
+    MAKE_WORKED, Pink, add, blank, ended, holds, made, made_board, pages_left, posted, same,
+    same_pages, serve, worked_board, wrote,
 };
 use pk_flash::{Flash, Left};
 use pk_gen::{MOST_VALUE_BYTES, Workload};
@@ -30,17 +30,19 @@ fn run_words(rt: &impl Abort, alloc: Global, text: &str, mut flash: Flash) -> Se
 // ---- on a board without an image
 
 // Words that need no image.
-const WELL: [&str; 6] = [
+const WELL: [&str; 8] = [
     "make 512 16 64",
     "make 512 16 64 100 392",
     "make 512 16 64 492",
     "make 512 16 64 1 1 1 1 1 1 1 485",
+    "make 512 8 1860 2",
+    "make 512 8 1861",
     "asm",
     "show",
 ];
 
 // Words outside the table.
-const OUTSIDE: [&str; 26] = [
+const OUTSIDE: [&str; 29] = [
     "make 512 32 64",
     "make 512 16 4096",
     "make 512 16 16",
@@ -53,6 +55,9 @@ const OUTSIDE: [&str; 26] = [
     "make 512 16 64 4294967295 493",
     "make 512 16 64 1 1 1 1 1 1 1 1 1",
     "make 512 8 1861 2",
+    "make 512 8 1861 9894",
+    "make 512 16 64 100 392 ",
+    "make 512 16 64 4294967296",
     "serve",
     "serve 16385",
     "serve 36 36",
@@ -330,15 +335,6 @@ fn generated(rt: &impl Abort, alloc: Global, start: u32, count: u32) -> Vec<u8> 
     script
 }
 
-// Whether a page is in the same state as another.
-fn is_same(page: &PageState, other: &PageState) -> bool {
-    match (page, other) {
-        (PageState::Erased, PageState::Erased) | (PageState::Torn, PageState::Torn) => true,
-        (PageState::Whole(bytes), PageState::Whole(other)) => bytes.bytes() == other.bytes(),
-        _ => false,
-    }
-}
-
 /// A workload is committed in groups: it leaves the pages that `serve` leaves of the same commands, by as many programs and erases.
 #[test]
 fn grouped_workload(rt: HostRuntime) {
@@ -354,8 +350,5 @@ fn grouped_workload(rt: HostRuntime) {
     wrote(&rt, &session, programs, served.flash.erase_count());
     let wanted = pages_left(&rt, alloc, &served.flash);
     let left = pages_left(&rt, alloc, &session.flash);
-    same(&rt, left.len() as u64, wanted.len() as u64, "pages");
-    for (page, other) in left.iter().zip(wanted.iter()) {
-        holds(&rt, is_same(page, other), "a page", place);
-    }
+    same_pages(&rt, &left, &wanted, place);
 }

@@ -150,6 +150,68 @@ pub fn root_page(
     page
 }
 
+/// The root with these limits of namespaces, at most eight, in place of one without limits. It names at most 20 blocks.
+pub fn with_limits(root: &[u8; 512], limits: &[u32]) -> [u8; 512] {
+    let mut page = *root;
+    page[96..136].copy_from_slice(&root[64..104]);
+    page[64..96].copy_from_slice(&[0; 32]);
+    put_u16(&mut page, 8, 3);
+    put_u32(&mut page, 20, limits.len().min(8) as u32);
+    for i in 0..limits.len().min(8) {
+        put_u32(&mut page, 64 + 4 * i, limits[i]);
+    }
+    page
+}
+
+// Puts the entry or head that begins here into namespace 2, if its key begins with at least this byte.
+fn put_second(page: &mut [u8], at: usize, first: u8) {
+    let key = page.get(at.saturating_add(4)).copied().unwrap_or(0);
+    match page.get_mut(at.saturating_add(2)) {
+        Some(byte) if key >= first => *byte = 1,
+        _ => {}
+    }
+}
+
+// The same with all entries of a page of an epoch or a run, or with the head in a value's first page; another page is unchanged.
+fn split_page(page: &mut [u8], first: u8) {
+    let count = match page.get(..8) {
+        Some(b"PINKJRNL") => page.get(20).copied().unwrap_or(0),
+        Some(b"PINKMETA") => page.get(10).copied().unwrap_or(0),
+        _ => 0,
+    };
+    for i in 0..count {
+        put_second(page, 32 + 32 * usize::from(i), first);
+    }
+    if page.get(24..32) == Some(b"PINKDATA".as_slice()) {
+        put_second(page, 0, first);
+    }
+}
+
+fn split_state(
+    alloc: Global,
+    page: &PageState,
+    first: u8,
+) -> Result<Option<PageState>, AllocError> {
+    match page {
+        PageState::Whole(bytes) => {
+            let mut own = bytes.bytes().to_vec(alloc)?;
+            split_page(&mut own, first);
+            Ok(Some(PageState::Whole(PageBytes::of(own))))
+        }
+        _ => Ok(None),
+    }
+}
+
+/// Puts the keys that begin with at least this byte into namespace 2, on all pages of epochs, runs and values.
+pub fn split_keys(alloc: Global, pages: &mut Vec<PageState>, first: u8) -> Result<(), AllocError> {
+    for i in 0..pages.len() {
+        if let Some(page) = split_state(alloc, &pages[i], first)? {
+            pages[i] = page;
+        }
+    }
+    Ok(())
+}
+
 // The head of a value, the value, and zeros up to whole pairs of pages.
 fn value_bytes(alloc: Global, key: u8, value: &Value) -> Result<Vec<u8>, AllocError> {
     let mut bytes = value_head(key, value.len).to_vec(alloc)?;

@@ -5,7 +5,8 @@
 //! list covers names a page that has no value.
 
 use crate::pages::{
-    Note, erased, journal_page, meta_page, root_page, write, write_pair, write_value,
+    Note, erased, journal_page, meta_page, root_page, split_keys, with_limits, write, write_pair,
+    write_value,
 };
 use crate::script::Value;
 use pk_nand::PageState;
@@ -144,6 +145,9 @@ fn last_notes() -> [Note; 2] {
     [there(1), there(60)]
 }
 
+// The entries of the runs.
+const RUNS: [u32; 4] = [2, 16, 31, 17];
+
 // Writes the root with this many epochs.
 fn write_root(
     alloc: Global,
@@ -151,7 +155,7 @@ fn write_root(
     epochs: u16,
     blocks: &[u16],
 ) -> Result<(), Fail> {
-    let page = root_page(7, 3, epochs, [2, 16, 31, 17], blocks);
+    let page = root_page(7, 3, epochs, RUNS, blocks);
     write_pair(alloc, pages, 0, &page)
 }
 
@@ -182,6 +186,15 @@ fn write_values(alloc: Global, pages: &mut Vec<PageState>) -> Result<(), Fail> {
 pub fn with_two_epochs(alloc: Global) -> Result<Vec<PageState>, Fail> {
     let mut pages = with_runs(alloc)?;
     write_two_epochs(alloc, &mut pages)?;
+    Ok(pages)
+}
+
+/// The same flash, but for keys from this one on, which are in namespace 2, and a root with these limits.
+pub fn with_two_spaces(alloc: Global, first: u8, limits: &[u32]) -> Result<Vec<PageState>, Fail> {
+    let mut pages = with_two_epochs(alloc)?;
+    split_keys(alloc, &mut pages, first)?;
+    let root = root_page(7, 3, 2, RUNS, &[2, 3, 4, 5, 6, 7, 8, 9]);
+    write_pair(alloc, &mut pages, 0, &with_limits(&root, limits))?;
     Ok(pages)
 }
 

@@ -45,8 +45,8 @@ pub enum Answer {
     Keys(&'static [u8]),
 }
 
-/// The entry of a command on a key of one or two bytes; 0 bytes name none.
-pub fn entry(cid: u16, opcode: u8, key: [u8; 2], key_len: u8, size: u32) -> [u8; 64] {
+// A command on a key of one or two bytes in namespace 1; 0 bytes name no key.
+fn request(cid: u16, opcode: u8, key: [u8; 2], key_len: u8, size: u32) -> Request {
     let mut bytes = [0u8; 16];
     bytes[0] = key[0];
     bytes[1] = key[1];
@@ -59,18 +59,22 @@ pub fn entry(cid: u16, opcode: u8, key: [u8; 2], key_len: u8, size: u32) -> [u8;
         size,
         options: 0,
     }
-    .entry()
 }
 
-fn entry_of(cid: u16, ask: &Ask) -> [u8; 64] {
+/// The entry of a command on a key of one or two bytes; 0 bytes name none.
+pub fn entry(cid: u16, opcode: u8, key: [u8; 2], key_len: u8, size: u32) -> [u8; 64] {
+    request(cid, opcode, key, key_len, size).entry()
+}
+
+fn request_of(cid: u16, ask: &Ask) -> Request {
     match ask {
-        Ask::Store(key, value) => entry(cid, STORE, [*key, 0], 1, value.len),
-        Ask::Retrieve(key) => entry(cid, RETRIEVE, [*key, 0], 1, 1000),
-        Ask::Delete(key) => entry(cid, DELETE, [*key, 0], 1, 0),
-        Ask::Flush => entry(cid, FLUSH, [0, 0], 0, 0),
-        Ask::Tick(steps) => entry(cid, TICK, [0, 0], 0, *steps),
-        Ask::List => entry(cid, LIST, [0, 0], 0, 1000),
-        Ask::Report => entry(cid, REPORT, [0, 0], 0, 0),
+        Ask::Store(key, value) => request(cid, STORE, [*key, 0], 1, value.len),
+        Ask::Retrieve(key) => request(cid, RETRIEVE, [*key, 0], 1, 1000),
+        Ask::Delete(key) => request(cid, DELETE, [*key, 0], 1, 0),
+        Ask::Flush => request(cid, FLUSH, [0, 0], 0, 0),
+        Ask::Tick(steps) => request(cid, TICK, [0, 0], 0, *steps),
+        Ask::List => request(cid, LIST, [0, 0], 0, 1000),
+        Ask::Report => request(cid, REPORT, [0, 0], 0, 0),
     }
 }
 
@@ -91,8 +95,10 @@ pub fn value_bytes(alloc: Global, value: &Value) -> Result<Vec<u8>, AllocError> 
     Ok(bytes)
 }
 
-fn push_ask(into: &mut Vec<u8>, cid: u16, ask: &Ask) -> Result<(), AllocError> {
-    into.extend_from_slice(&entry_of(cid, ask))?;
+fn push_ask(into: &mut Vec<u8>, cid: u16, namespace: u32, ask: &Ask) -> Result<(), AllocError> {
+    let mut request = request_of(cid, ask);
+    request.namespace = namespace;
+    into.extend_from_slice(&request.entry())?;
     match ask {
         Ask::Store(_, value) => push_value(into, value),
         _ => Ok(()),
@@ -105,7 +111,19 @@ pub fn script(alloc: Global, asks: &[Ask]) -> Result<Vec<u8>, AllocError> {
     let mut cid = 0u16;
     for ask in asks {
         cid = cid.wrapping_add(1);
-        push_ask(&mut bytes, cid, ask)?;
+        push_ask(&mut bytes, cid, 1, ask)?;
+    }
+    Ok(bytes)
+}
+
+/// The bytes of a script of commands, each with its namespace.
+pub fn script_over(alloc: Global, asks: &[(u32, Ask)]) -> Result<Vec<u8>, AllocError> {
+    let mut bytes = Vec::new(alloc);
+    let mut cid = 0u16;
+    for row in asks {
+        let (namespace, ask) = *row;
+        cid = cid.wrapping_add(1);
+        push_ask(&mut bytes, cid, namespace, &ask)?;
     }
     Ok(bytes)
 }

@@ -13,6 +13,7 @@ pub mod failing;
 pub mod large;
 pub mod listing;
 pub mod merged;
+pub mod namespaces;
 mod opened;
 mod plain;
 mod reading;

@@ -4,7 +4,7 @@ use pk_flash::Flash;
 use pk_test_scripts::Program;
 use std::alloc::Global;
 
-/// What opening answers, and of a flash that holds a map, how many keys it has.
+/// What opening answers, and of a flash that holds a map, how many keys namespace 1 has.
 #[derive(Clone, Copy, PartialEq, Eq)]
 pub enum Opened {
     Keys(u32),

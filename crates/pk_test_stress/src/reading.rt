@@ -1,7 +1,7 @@
 //! The map that pages hold, or the page at which reading it fails, in the order of docs/ARCHITECTURE.md's opening.
 
 use crate::plain::{
-    Item, Top, is_empty_from, is_head, pages_of, push_commit, push_meta, top_of, whole,
+    Item, Spaces, Top, is_empty_from, is_head, pages_of, push_commit, push_meta, top_of, whole,
 };
 use pk_base::Shape;
 use pk_nand::PageState;
@@ -12,8 +12,15 @@ use std::alloc::{AllocError, Global};
 pub enum Reading {
     NotFormatted,
     Damaged(u32),
-    /// The entries that count of the keys that exist, rising by key.
-    Map(Vec<Item>),
+    Map(Held),
+}
+
+/// What a drive holds: its namespaces, and the entries that count of the keys that exist, rising by
+/// namespace and then by key.
+#[derive(Drop)]
+pub struct Held {
+    pub spaces: Spaces,
+    pub items: Vec<Item>,
 }
 
 // A list of entries, or the page at which reading it fails.
@@ -59,6 +66,9 @@ fn newer(first: Option<Top>, later: Option<Top>) -> Option<Top> {
 
 // Whether a key counts before another one.
 fn is_before(one: &Item, other: &Item) -> bool {
+    if one.space != other.space {
+        return one.space < other.space;
+    }
     for i in 0..16usize {
         if one.key[i] != other.key[i] {
             return one.key[i] < other.key[i];
@@ -68,7 +78,7 @@ fn is_before(one: &Item, other: &Item) -> bool {
 }
 
 fn is_same_key(one: &Item, other: &Item) -> bool {
-    one.key == other.key && one.key_len == other.key_len
+    one.space == other.space && one.key == other.key && one.key_len == other.key_len
 }
 
 // The place of the first entry whose key is not before this one's.
@@ -129,6 +139,7 @@ fn epoch(
     alloc: Global,
     shape: &Shape,
     pages: &[PageState],
+    spaces: &Spaces,
     number: u64,
     blocks: &[u32],
 ) -> Result<List, AllocError> {
@@ -137,7 +148,7 @@ fn epoch(
         match page_of_commit(shape, pages, blocks, index) {
             None => return Ok(List::Entries(rising(alloc, &items)?)),
             Some((page, bytes)) => {
-                let is_one = push_commit(shape, bytes, number, index, &mut items)?;
+                let is_one = push_commit(shape, spaces, bytes, number, index, &mut items)?;
                 let keys = rising(alloc, &items)?.len();
                 if !is_one || keys > shape.buffer() as usize {
                     return Ok(List::Damaged(page));
@@ -171,6 +182,7 @@ fn run(
     alloc: Global,
     shape: &Shape,
     pages: &[PageState],
+    spaces: &Spaces,
     level: u8,
     entries: u32,
     blocks: &[u32],
@@ -182,7 +194,7 @@ fn run(
         let count = full.min(entries.saturating_sub(index.saturating_mul(full)));
         let from = items.len();
         let is_one = match whole(pages, page) {
-            Some(bytes) => push_meta(shape, bytes, level, index, count, &mut items)?,
+            Some(bytes) => push_meta(shape, spaces, bytes, level, index, count, &mut items)?,
             None => false,
         };
         if !is_one || !goes_on(&items, from, level) {
@@ -211,7 +223,8 @@ fn read_epochs(
     let blocks = top.blocks.as_slice();
     let older = if top.has_older {
         let blocks = blocks.get(2..4).unwrap_or(&[]);
-        match epoch(alloc, shape, pages, top.epoch.wrapping_sub(1), blocks)? {
+        let number = top.epoch.wrapping_sub(1);
+        match epoch(alloc, shape, pages, &top.spaces, number, blocks)? {
             List::Damaged(page) => return Ok(Some(page)),
             List::Entries(items) if items.is_empty() => {
                 return Ok(Some(page_in(shape, blocks, 0)));
@@ -225,6 +238,7 @@ fn read_epochs(
         alloc,
         shape,
         pages,
+        &top.spaces,
         top.epoch,
         blocks.get(..2).unwrap_or(&[]),
     )? {
@@ -250,7 +264,7 @@ fn read_runs(
     for count in &top.counts {
         level = level.saturating_add(1);
         let blocks = top.blocks.get(from..).unwrap_or(&[]);
-        match run(alloc, shape, pages, level, *count, blocks)? {
+        match run(alloc, shape, pages, &top.spaces, level, *count, blocks)? {
             List::Damaged(page) => return Ok(Some(page)),
             List::Entries(items) => cover(into, &items)?,
         }
@@ -260,17 +274,31 @@ fn read_runs(
     Ok(None)
 }
 
-// What the values before took: each of their pages, and their blocks.
+// What the values before took: each of their pages, how many of each namespace, and their blocks.
 #[derive(Drop)]
 struct Taken {
     pages: Vec<u32>,
+    in_spaces: [u32; 8],
     blocks: Vec<u32>,
+}
+
+// Adds these pages to those of a namespace: whether they are within its limit.
+fn count_in(spaces: &Spaces, space: u8, count: u32, taken: &mut Taken) -> bool {
+    let place = usize::from(space).wrapping_sub(1);
+    match taken.in_spaces.get_mut(place) {
+        Some(sum) => {
+            *sum = sum.saturating_add(count);
+            *sum <= spaces.limit(space)
+        }
+        None => false,
+    }
 }
 
 // Takes the pages of a value, if they may be its own.
 fn take(
     shape: &Shape,
     top: &Top,
+    space: u8,
     first: u32,
     count: u32,
     taken: &mut Taken,
@@ -289,8 +317,10 @@ fn take(
         }
         taken.pages.push(page)?;
     }
+    let is_within = count_in(&top.spaces, space, count, taken);
     Ok(
-        taken.pages.len() <= shape.limit() as usize
+        is_within
+            && taken.pages.len() <= shape.limit() as usize
             && taken.blocks.len() < shape.data_blocks() as usize,
     )
 }
@@ -329,12 +359,13 @@ fn with_values(
     let mut there = Vec::new(alloc);
     let mut taken = Taken {
         pages: Vec::new(alloc),
+        in_spaces: [0; 8],
         blocks: Vec::new(alloc),
     };
     for item in items {
         if let Some((first, len)) = item.place {
             let count = pages_of(shape, len).min(256) as u32;
-            if !take(shape, top, first, count, &mut taken)? {
+            if !take(shape, top, item.space, first, count, &mut taken)? {
                 return Ok(Reading::Damaged(first));
             }
             if let Some(page) = wrong_page(shape, pages, item, first, len) {
@@ -343,7 +374,10 @@ fn with_values(
             there.push(*item)?;
         }
     }
-    Ok(Reading::Map(there))
+    Ok(Reading::Map(Held {
+        spaces: top.spaces,
+        items: there,
+    }))
 }
 
 /// The map that these pages of a shape hold.

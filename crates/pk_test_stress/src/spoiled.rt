@@ -2,12 +2,13 @@
 //! writes nothing.
 
 use crate::opened::{Opened, Opens};
-use crate::plain::{Item, whole};
-use crate::reading::{Reading, reading_of};
+use crate::plain::{Item, pages_of, whole};
+use crate::reading::{Held, Reading, reading_of};
+use pk_base::Shape;
 use pk_flash::{Flash, Room};
 use pk_nand::{PageBytes, PageState};
 use pk_nvme::Request;
-use pk_nvme::opcode::{LIST, RETRIEVE};
+use pk_nvme::opcode::{LIST, REPORT, RETRIEVE};
 use pk_test_scripts::boards::{board_in, copied, worked};
 use pk_test_scripts::damage::with_one_key;
 use pk_test_scripts::exits::{DONE, WORN};
@@ -42,7 +43,7 @@ fn push_command(into: &mut Vec<u8>, opcode: u8, item: &Item) -> Result<(), Alloc
     let request = Request {
         opcode,
         cid: 1,
-        namespace: 1,
+        namespace: u32::from(item.space),
         key_len: item.key_len,
         key: item.key,
         size: 65_536,
@@ -51,16 +52,20 @@ fn push_command(into: &mut Vec<u8>, opcode: u8, item: &Item) -> Result<(), Alloc
     into.extend_from_slice(&request.entry())
 }
 
-// A List of all keys, and a Retrieve of each of these.
-fn asks(alloc: Global, items: &[Item]) -> Result<Vec<u8>, AllocError> {
+// A List of all keys of each namespace and a Report of it, and a Retrieve of each key.
+fn asks(alloc: Global, held: &Held) -> Result<Vec<u8>, AllocError> {
     let mut script = Vec::new(alloc);
-    let from = Item {
-        key: [0; 16],
-        key_len: 0,
-        place: None,
-    };
-    push_command(&mut script, LIST, &from)?;
-    for item in items {
+    for space in 1..=held.spaces.count {
+        let none = Item {
+            space,
+            key: [0; 16],
+            key_len: 0,
+            place: None,
+        };
+        push_command(&mut script, LIST, &none)?;
+        push_command(&mut script, REPORT, &none)?;
+    }
+    for item in &held.items {
         push_command(&mut script, RETRIEVE, item)?;
     }
     Ok(script)
@@ -76,14 +81,49 @@ fn push_spelled(into: &mut Vec<u8>, item: &Item) -> Result<(), AllocError> {
     Ok(())
 }
 
-// The data of a List that gives these keys.
-fn listed(alloc: Global, items: &[Item]) -> Result<Vec<u8>, AllocError> {
-    let mut data = Vec::new(alloc);
-    let count = items.len().min(1000) as u32;
-    data.extend_from_slice(&count.to_le_bytes())?;
+// How many of these keys are in a namespace.
+fn keys_in(items: &[Item], space: u8) -> u32 {
+    let mut count = 0u32;
     for item in items {
-        push_spelled(&mut data, item)?;
+        if item.space == space {
+            count = count.saturating_add(1);
+        }
     }
+    count
+}
+
+// How many pages the values of these keys of a namespace take.
+fn live_in(shape: &Shape, items: &[Item], space: u8) -> u32 {
+    let mut sum = 0u32;
+    for item in items {
+        if let Some((_, len)) = item.place {
+            if item.space == space {
+                sum = sum.saturating_add(pages_of(shape, len).min(256) as u32);
+            }
+        }
+    }
+    sum
+}
+
+// The data of a List that gives these keys of a namespace.
+fn listed(alloc: Global, items: &[Item], space: u8) -> Result<Vec<u8>, AllocError> {
+    let mut data = Vec::new(alloc);
+    data.extend_from_slice(&keys_in(items, space).to_le_bytes())?;
+    for item in items {
+        if item.space == space {
+            push_spelled(&mut data, item)?;
+        }
+    }
+    Ok(data)
+}
+
+// The first three numbers of a Report: the live pages, the limit and the keys of a namespace.
+fn reported(alloc: Global, shape: &Shape, held: &Held, space: u8) -> Result<Vec<u8>, AllocError> {
+    let mut data = Vec::new(alloc);
+    let live = live_in(shape, &held.items, space);
+    data.extend_from_slice(&live.to_le_bytes())?;
+    data.extend_from_slice(&held.spaces.limit(space).to_le_bytes())?;
+    data.extend_from_slice(&keys_in(&held.items, space).to_le_bytes())?;
     Ok(data)
 }
 
@@ -113,11 +153,22 @@ fn is_worn(pages: &[PageState]) -> bool {
     }
 }
 
+// The record that begins here has these data, which may go on: where the next one begins.
+fn record_from(posted: &[u8], at: usize, data: &[u8]) -> Option<usize> {
+    let record = record_at(posted, at)?;
+    let found = posted.get(record.data..record.end()).unwrap_or(&[]);
+    if record.is_done() && found.starts_with(data) {
+        Some(record.end())
+    } else {
+        None
+    }
+}
+
 // The record that begins here has these data: where the next one begins.
 fn record_with(posted: &[u8], at: usize, data: &[u8]) -> Option<usize> {
     let record = record_at(posted, at)?;
-    if posted.get(record.data..record.end()) == Some(data) {
-        Some(record.end())
+    if record.len == data.len() {
+        record_from(posted, at, data)
     } else {
         None
     }
@@ -156,24 +207,41 @@ fn have_values(
     Ok(at == posted.len())
 }
 
-fn served_board(alloc: Global, pages: &[PageState], items: &[Item]) -> Result<Flash, Fail> {
+fn served_board(alloc: Global, pages: &[PageState], held: &Held) -> Result<Flash, Fail> {
     let shape = worked()?;
-    let script = asks(alloc, items)?;
+    let script = asks(alloc, held)?;
     let pages = copies(alloc, pages)?;
     board_in(alloc, shape, pages, script, ROOM)
 }
 
-// The first record has these keys: where the next one begins.
-fn keys_end(alloc: Global, items: &[Item], posted: &[u8]) -> Result<Option<usize>, AllocError> {
-    let keys = listed(alloc, items)?;
-    Ok(record_with(posted, 0, &keys))
+// The first records have the keys and the numbers of each namespace: where the next one begins.
+fn numbers_end(
+    alloc: Global,
+    shape: &Shape,
+    held: &Held,
+    posted: &[u8],
+) -> Result<Option<usize>, AllocError> {
+    let mut at = 0usize;
+    for space in 1..=held.spaces.count {
+        let keys = listed(alloc, &held.items, space)?;
+        let Some(next) = record_with(posted, at, &keys) else {
+            return Ok(None);
+        };
+        let numbers = reported(alloc, shape, held, space)?;
+        match record_from(posted, next, &numbers) {
+            Some(end) => at = end,
+            None => return Ok(None),
+        }
+    }
+    Ok(Some(at))
 }
 
-// A session that ended so has these keys and values, and nothing else; or the drive is worn out, and served no command.
+// A session that ended so has these keys, numbers and values, and nothing else; or the drive is worn out, and served no command.
 fn has_map(
     alloc: Global,
+    shape: &Shape,
     pages: &[PageState],
-    items: &[Item],
+    held: &Held,
     status: u8,
     posted: &[u8],
 ) -> Result<bool, AllocError> {
@@ -183,17 +251,22 @@ fn has_map(
     if status != DONE {
         return Ok(false);
     }
-    match keys_end(alloc, items, posted)? {
-        Some(at) => have_values(alloc, pages, items, posted, at),
+    match numbers_end(alloc, shape, held, posted)? {
+        Some(at) => have_values(alloc, pages, &held.items, posted, at),
         None => Ok(false),
     }
 }
 
-// The session on these pages has these keys and values, and nothing else; or the drive is worn out, and serves no command.
-fn serves_map<O: Opens>(alloc: Global, pages: &[PageState], items: &[Item]) -> Result<bool, Fail> {
-    let mut flash = served_board(alloc, pages, items)?;
+// The session on these pages has these keys, numbers and values, and nothing else; or the drive is worn out, and serves no command.
+fn serves_map<O: Opens>(
+    alloc: Global,
+    shape: &Shape,
+    pages: &[PageState],
+    held: &Held,
+) -> Result<bool, Fail> {
+    let mut flash = served_board(alloc, pages, held)?;
     let status = serve::<O>(alloc, &mut flash);
-    Ok(has_map(alloc, pages, items, status, flash.posted())?)
+    Ok(has_map(alloc, shape, pages, held, status, flash.posted())?)
 }
 
 // ---- one flash
@@ -202,7 +275,7 @@ fn opened_of(reading: &Reading) -> Opened {
     match reading {
         Reading::NotFormatted => Opened::NotFormatted,
         Reading::Damaged(page) => Opened::Damaged(*page),
-        Reading::Map(items) => Opened::Keys(items.len().min(1000) as u32),
+        Reading::Map(held) => Opened::Keys(keys_in(&held.items, 1)),
     }
 }
 
@@ -226,13 +299,13 @@ fn is_as_read<O: Opens>(alloc: Global, pages: &[PageState], opened: Opened) -> R
         return Ok(false);
     }
     match &reading {
-        Reading::Map(items) => serves_map::<O>(alloc, pages, items),
+        Reading::Map(held) => serves_map::<O>(alloc, &shape, pages, held),
         _ => Ok(true),
     }
 }
 
 // Opening answers as the reading does, and writes nothing. How it answers.
-fn check<O: Opens>(
+pub(crate) fn check<O: Opens>(
     alloc: Global,
     pages: &[PageState],
     what: &'static str,
@@ -262,7 +335,7 @@ fn raised(alloc: Global, page: &PageState, at: usize, by: u8) -> Result<PageStat
     }
 }
 
-fn with_page(
+pub(crate) fn with_page(
     alloc: Global,
     pages: &[PageState],
     at: u32,
@@ -341,7 +414,11 @@ pub fn journal_bytes_by_all<O: Opens>(alloc: Global) -> Result<(), Fail> {
 const BY: [u8; 3] = [1, 128, 255];
 
 // Each byte of a page is changed in three ways.
-fn check_bytes<O: Opens>(alloc: Global, pages: &[PageState], page: u32) -> Result<(), Fail> {
+pub(crate) fn check_bytes<O: Opens>(
+    alloc: Global,
+    pages: &[PageState],
+    page: u32,
+) -> Result<(), Fail> {
     for way in 0..512 * 3usize {
         let _ = check_byte::<O>(alloc, pages, page, way / 3, BY[way % 3])?;
     }
@@ -350,7 +427,7 @@ fn check_bytes<O: Opens>(alloc: Global, pages: &[PageState], page: u32) -> Resul
 
 // The root, the first pages of the commits, the first pages of the runs, those of the values of the keys 33 and 80, and the second one of
 // the latter, which has zeros.
-const PAGES: [u32; 11] = [0, 32, 34, 64, 96, 112, 128, 144, 386, 480, 481];
+pub(crate) const PAGES: [u32; 11] = [0, 32, 34, 64, 96, 112, 128, 144, 386, 480, 481];
 
 /// Each byte of the root, of each commit of the epochs, of the first pages of the runs of all levels, and of pages of two values.
 pub fn every_byte<O: Opens>(alloc: Global) -> Result<(), Fail> {

@@ -80,6 +80,21 @@ fn others(rt: HostRuntime) -> Result<(), Fail> {
 }
 
 #[test]
+fn entries_elsewhere(rt: HostRuntime) -> Result<(), Fail> {
+    pk_test_stress::namespaces::entries_elsewhere::<Pink>(rt.alloc())
+}
+
+#[test]
+fn limits_passed(rt: HostRuntime) -> Result<(), Fail> {
+    pk_test_stress::namespaces::limits_passed::<Pink>(rt.alloc())
+}
+
+#[test]
+fn every_byte_of_two(rt: HostRuntime) -> Result<(), Fail> {
+    pk_test_stress::namespaces::every_byte_of_two::<Pink>(rt.alloc())
+}
+
+#[test]
 fn three_deep(rt: HostRuntime) -> Result<(), Fail> {
     pk_test_stress::deep::three_deep::<Pink>(rt.alloc(), &SHAPES[0])
 }

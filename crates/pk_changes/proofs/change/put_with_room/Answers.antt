@@ -24,7 +24,7 @@ pub note_put-requires-clause-puts : goal.note_put-requires-clause-puts
 note_put-requires-clause-puts g c =
     let e = c.in-Ok.ensures.step.ended in
     some_puts c.args.parts.now c.place_value.new.parts (g.B.Nand.state c.args.board.now) (g.B.Nand.state c.place_value.new.board) c.args.key c.args.value.now c.in-Ok.page c.args.old
-    c.requires.can.0.may e.keeps (ap (λ (d : Parts). d.log.shape) c.place_value.ensures.rest) e.written e.place e.in_open
+    c.requires.can.0.ready c.requires.can.0.may e.keeps (ap (λ (d : Parts). d.log.shape) c.place_value.ensures.rest) e.written e.place e.in_open
 
 pub commit_if_full-requires : goal.commit_if_full-requires
 commit_if_full-requires g c =
@@ -37,7 +37,7 @@ commit_if_full-requires g c =
         ready = subst (λ (s : Shape). IsReady (g.B.Nand.state c.place_value.new.board) s) (sym (two ∙ one)) step.ready;
         stands = some_put c.args.parts.now c.place_value.new.parts c.note_put.new.parts (g.B.Nand.state c.args.board.now)
             (g.B.Nand.state c.place_value.new.board) c.args.key c.args.value.now c.in-Ok.page c.args.old
-            c.requires.can.0.may e.keeps one two e.written e.place e.in_open (λ shape flash m p. c.note_put.ensures.stands shape flash m c.args.value.now refl p);
+            c.requires.can.0.ready c.requires.can.0.may e.keeps one two e.written e.place e.in_open (λ shape flash m p. c.note_put.ensures.stands shape flash m c.args.value.now refl p);
       };
     }
 

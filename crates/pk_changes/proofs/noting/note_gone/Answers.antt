@@ -1,4 +1,4 @@
-use Rattle.pk_changes.proofs.Entries.{gone_short, drops_held, gone_stands}
+use Rattle.pk_changes.proofs.Entries.{gone_short, drops_spaced, drops_held, gone_stands}
 use Rattle.std.proofs.Common.{ap}
 use Rattle.pk_parts.proofs.Staying.{note_stays}
 use Rattle.pk_changes.proofs.Programming.{pushed_more}
@@ -33,7 +33,7 @@ returns-clause-moves g c =
       values = c.parts.inside.values;
       reclaim = c.parts.inside.reclaim;
       pool = c.parts.inside.pool;
-      keys = c.parts.inside.keys;
+      spaces = c.parts.inside.spaces;
       stopped = c.parts.inside.stopped;
       walk = c.parts.inside.walk;
     })
@@ -46,3 +46,8 @@ pub push-requires-clause-whole : goal.push-requires-clause-whole
 push-requires-clause-whole g c =
     let p = rw (← c.parts.view_is) at c.requires.drops in
     p.2.whole.epoch
+
+pub push-requires-clause-spaced : goal.push-requires-clause-spaced
+push-requires-clause-spaced g c =
+    let p = rw (← c.parts.view_is) at c.requires.drops in
+    drops_spaced _ p.0 p.1 c.args.key c.args.old p.2

@@ -1,4 +1,6 @@
-use Rattle.std.proofs.Common.{refl, ap, arith, []}
+use Rattle.std.proofs.Common.{refl, sym, ap, subst, arith, ℕ, ◌≤◌, [], length}
+use Rattle.pk_parts.specs.Parts.{drive_limits}
+use Rattle.pk_parts.proofs.OwnLimits.{reported_length}
 use Rattle.pk_nvme.specs.Seen.{command_of}
 use Rattle.pk_nvme.specs.Opcode.{op_of}
 use Rattle.pk_nvme.specs.declared.opcode.Opcode.TheVariants.{Report}
@@ -15,7 +17,7 @@ returns-in-0-clause-executes g c =
     let s = c.requires.servable in
     executes_quiet c.args.parts.now c.args.parts.now (g.B.Nand.state c.args.board.now) (g.B.Nand.state c.args.board.now) c.args.request.now
     (command_of c.args.request.now c.args.value.now) c.flush.result c.args.into.now _ s refl refl c.flush.ensures.told.1
-    (c.flush.ensures.does c.args.into.now (g.B.Nand.state c.args.board.now) c.args.request.now c.args.value.now s.agrees s.counted c.in-0.is s.passed)
+    (c.flush.ensures.does c.args.into.now c.args.request.now c.in-0.is (g.B.Nand.state c.args.board.now) c.args.value.now s.agrees s.counted s.passed)
 
 pub returns-in-1-clause-executes : goal.returns-in-1-clause-executes
 returns-in-1-clause-executes g c = c.store.ensures.executes c.args.into.now
@@ -37,7 +39,7 @@ returns-in-194-clause-executes g c =
     let s = c.requires.servable in
     executes_quiet c.args.parts.now c.args.parts.now (g.B.Nand.state c.args.board.now) (g.B.Nand.state c.args.board.now) c.args.request.now
     (command_of c.args.request.now c.args.value.now) c.report.result c.report.new.into _ s refl refl c.report.ensures.told.1
-    (c.report.ensures.does (g.B.Nand.state c.args.board.now) c.args.request.now c.args.value.now s.agrees s.counted c.in-194.is s.passed)
+    (c.report.ensures.does c.in-194.is (g.B.Nand.state c.args.board.now) c.args.value.now s.agrees s.counted s.passed)
 
 pub returns-in-0-clause-performs : goal.returns-in-0-clause-performs
 returns-in-0-clause-performs g c =
@@ -90,5 +92,6 @@ returns-in-192-clause-performs g c =
 
 pub report-requires-clause-space : goal.report-requires-clause-space
 report-requires-clause-space g c =
-    let spaced = key_spaced 1 c.args.parts.now.log.shape (command_of c.args.request.now []) Report (λ n k. refl) (ap op_of c.in-194.is) c.requires.servable.passed in
-    (spaced.some, spaced.most)
+    let d = c.args.parts.now in
+    let spaced = key_spaced (length (drive_limits d)) d.log.shape (command_of c.args.request.now []) Report (λ n k. refl) (ap op_of c.in-194.is) c.requires.servable.passed in
+    (spaced.some, subst (λ (n : ℕ). c.args.request.now.namespace ≤ n) (sym (reported_length d.spaces 1 (drive_limits d))) spaced.most)

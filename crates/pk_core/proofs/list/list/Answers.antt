@@ -56,12 +56,12 @@ returns-in-Ok-clause-executes g c =
     let made = at_first c.args.parts.now c.start_keys.new.self (λ l a g. Reads 0 (most_read l.runs) old new) c.start_keys.ensures.rest c.in-Ok.ensures.reads in
     let up = (reads_between _ old new c.reads_so_far-before.ensures.last c.start_keys.ensures.few made).0 in
     let since : old.reads + c.reads_since.result ≡ new.reads = omega (arith, up, c.reads_since.ensures.reads, c.reads_so_far-before.ensures.value) in
-    let bytes = starts_bytes c.args.parts.now c.start_keys.new.self (g.B.Nand.state c.args.board.now) _ c.start_keys.ensures.left c.start_keys.ensures.rest c.min-room.result
+    let bytes = starts_bytes c.args.parts.now c.start_keys.new.self (g.B.Nand.state c.args.board.now) _ c.start_keys.ensures.left c.start_keys.ensures.rest c.args.request.now.namespace c.min-room.result
     c.args.request.now.size c.in-Ok.at c.put_left.new.into c.put_u32.new.bytes c.min-room.ensures c.in-Ok.ensures.lists.1 c.put_u32.ensures.front c.put_u32.ensures.back in
     let s = c.requires.servable in
     list_executes c.args.parts.now old new c.args.request.now c.served.result c.put_u32.new.bytes s.agrees c.requires.opcode s.passed
     (from_first old new c.served.result c.put_u32.new.bytes (min c.args.request.now.size 65536 - 4) (RunsOnFlash old.pages c.args.parts.now.arena c.args.parts.now.levels.runs)
-    c.args.parts.now.log.active.entries c.args.parts.now.log.frozen.entries c.first_key-first.result (first_listed (command_of c.args.request.now [])) c.first_key-first.ensures
+    c.args.parts.now.log.active.entries c.args.parts.now.log.frozen.entries c.args.request.now.namespace c.first_key-first.result (first_listed (command_of c.args.request.now [])) c.first_key-first.ensures
     (λ (ess : List (List Entry)) stand. lists_read _ old new _ _ _ _ _ c.served.ensures c.reads_since.ensures.count made since (bytes ess stand)))
     c.put_left.new.parts s (walks_on c.args.parts.now c.start_keys.new.self c.put_left.new.parts c.start_keys.ensures.rest c.in-Ok.ensures.rest)
 
@@ -72,12 +72,12 @@ returns-in-Ok-clause-only g c =
     let made = at_first c.args.parts.now c.start_keys.new.self (λ l a g. Reads 0 (most_read l.runs) old new) c.start_keys.ensures.rest c.in-Ok.ensures.reads in
     let up = (reads_between _ old new c.reads_so_far-before.ensures.last c.start_keys.ensures.few made).0 in
     let since : old.reads + c.reads_since.result ≡ new.reads = omega (arith, up, c.reads_since.ensures.reads, c.reads_so_far-before.ensures.value) in
-    let bytes = starts_bytes c.args.parts.now c.start_keys.new.self (g.B.Nand.state c.args.board.now) _ c.start_keys.ensures.left c.start_keys.ensures.rest c.min-room.result
+    let bytes = starts_bytes c.args.parts.now c.start_keys.new.self (g.B.Nand.state c.args.board.now) _ c.start_keys.ensures.left c.start_keys.ensures.rest c.args.request.now.namespace c.min-room.result
     c.args.request.now.size c.in-Ok.at c.put_left.new.into c.put_u32.new.bytes c.min-room.ensures c.in-Ok.ensures.lists.1 c.put_u32.ensures.front c.put_u32.ensures.back in
     let s = c.requires.servable in
     list_only c.args.parts.now old new c.args.request.now c.served.result c.put_u32.new.bytes s.agrees c.requires.opcode s.passed
     (from_first old new c.served.result c.put_u32.new.bytes (min c.args.request.now.size 65536 - 4) (RunsOnFlash old.pages c.args.parts.now.arena c.args.parts.now.levels.runs)
-    c.args.parts.now.log.active.entries c.args.parts.now.log.frozen.entries c.first_key-first.result (first_listed (command_of c.args.request.now [])) c.first_key-first.ensures
+    c.args.parts.now.log.active.entries c.args.parts.now.log.frozen.entries c.args.request.now.namespace c.first_key-first.result (first_listed (command_of c.args.request.now [])) c.first_key-first.ensures
     (λ (ess : List (List Entry)) stand. lists_read _ old new _ _ _ _ _ c.served.ensures c.reads_since.ensures.count made since (bytes ess stand)))
     c.put_left.new.parts (walks_on c.args.parts.now c.start_keys.new.self c.put_left.new.parts c.start_keys.ensures.rest c.in-Ok.ensures.rest) (few_listed _ _ old new made c.start_keys.ensures.within)
 

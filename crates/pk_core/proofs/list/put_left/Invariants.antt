@@ -4,7 +4,7 @@ use Rattle.pk_core.proofs.list.put_left.Given as goal
 
 abbrev pub invariant-loop-next : goal.invariant-loop-next
 invariant-loop-next g l = record {
-  fills : Fills l.fn.parts (g.B.Nand.state l.fn.board) (g.B.Nand.state l.board) l.parts.walk l.room l.fn.into l.into l.at;
+  fills : Fills l.fn.parts (g.B.Nand.state l.fn.board) (g.B.Nand.state l.board) l.parts.walk l.space l.room l.fn.into l.into l.at;
   rest : l.parts ≡ record l.fn.parts { walk = l.parts.walk };
 }
 

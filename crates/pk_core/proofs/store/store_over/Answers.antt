@@ -1,13 +1,17 @@
-use Rattle.std.proofs.Common.{ap, refl, sym, subst, ◌∙◌, length, ◌-◌, ◌+◌, sum, is_some, arith, false, ℕ}
+use Rattle.std.proofs.Common.{ap, refl, sym, subst, ◌∙◌, length, ◌-◌, ◌+◌, is_some, arith, false, ℕ}
 use Rattle.pk_nvme.specs.Seen.{command_of}
-use Rattle.pk_base.specs.Shape.{charge, limit}
+use Rattle.pk_base.specs.Shape.{charge}
 use Rattle.pk_call.specs.declared.types.Outcome.{Outcome}
 use Rattle.pk_core.specs.Done.{Executes}
-use Rattle.pk_core.specs.Serving.{pages_at}
+use Rattle.pk_changes.specs.Noting.{pages_at}
+use Rattle.pk_base.specs.Key.{space_of}
+use Rattle.pk_space.specs.Uses.{space_live}
+use Rattle.pk_model.specs.Spaces.{limit_of}
+use Rattle.pk_parts.specs.Parts.{terms_of}
 use Rattle.pk_core.proofs.LookedUp.{stores_none, stores_came}
 use Rattle.pk_core.proofs.Amounts.{store_few}
 use Rattle.pk_core.proofs.Executing.{executes_quiet}
-use Rattle.pk_core.proofs.Served.{short_place, can_put, store_refused, store_came, none_read}
+use Rattle.pk_core.proofs.Served.{short_place, key_within, can_put, store_refused, store_came, none_read}
 use Rattle.pk_core.proofs.Whole.{put_makes_whole}
 use Rattle.pk_core.proofs.Statuses.{told_refused, store_refuses}
 use Rattle.pk_background.proofs.Callings.{spends_same}
@@ -17,6 +21,12 @@ use Rattle.pk_core.proofs.store.store_over.Goals as goal
 pub fault_of_store-requires-clause-old_short : goal.fault_of_store-requires-clause-old_short
 fault_of_store-requires-clause-old_short g c = let r = c.requires.looked_up in short_place c.args.parts.now
     (g.B.Nand.state c.args.board.now) r.servable.agrees c.args.key c.args.old c.known.ensures.key r.looks
+
+pub fault_of_store-requires-clause-space : goal.fault_of_store-requires-clause-space
+fault_of_store-requires-clause-space g c =
+    let r = c.requires.looked_up in
+    key_within c.args.parts.now (g.B.Nand.state c.args.board.now) c.args.request.now c.args.value.now c.args.key c.args.old r.servable c.requires.opcode c.requires.whole
+    r.named c.known.ensures.key c.known.ensures.bytes r.looks
 
 pub put_whole-answer-requires-clause-can : goal.put_whole-answer-requires-clause-can
 put_whole-answer-requires-clause-can g c =
@@ -49,8 +59,8 @@ pub returns-in-Some-clause-stores : goal.returns-in-Some-clause-stores
 returns-in-Some-clause-stores g c =
     stores_none c.args.parts.now (g.B.Nand.state c.args.board.now) c.args.key c.refusal.result
     (told_refused c.refusal.result c.in-Some.status 0 0 _ false c.refusal.ensures
-    (store_refuses c.args.request.now.options (sum c.args.parts.now.values.live.heads - pages_at c.args.parts.now.log.shape c.args.old + charge c.args.parts.now.log.shape c.args.request.now.size)
-    (limit c.args.parts.now.log.shape) c.in-Some.status (is_some c.args.old) (sym c.fault_of_store.ensures ∙ c.in-Some.is))) _
+    (store_refuses c.args.request.now.options (space_live c.args.parts.now.spaces (space_of c.args.key) - pages_at c.args.parts.now.log.shape c.args.old + charge c.args.parts.now.log.shape c.args.request.now.size)
+    (limit_of (terms_of c.args.parts.now).limits (space_of c.args.key)) c.in-Some.status (is_some c.args.old) (sym c.fault_of_store.ensures ∙ c.in-Some.is))) _
 
 pub returns-in-None-clause-executes : goal.returns-in-None-clause-executes
 returns-in-None-clause-executes g c = λ into.

@@ -4,7 +4,8 @@ use Rattle.pk_core.proofs.Standing.{stands_for, stands_here, still_stands}
 use Rattle.pk_core.proofs.Committing.{committed, not_committed, agrees_committed}
 use Rattle.pk_parts.specs.Parts.{Parts, sight_of, frames_of}
 use Rattle.pk_parts.proofs.Halves.{not_made}
-use Rattle.pk_parts.proofs.Unchanging.{agrees_ready, limits_are}
+use Rattle.pk_model.proofs.Growing.{reached_limits}
+use Rattle.pk_parts.proofs.Unchanging.{agrees_ready}
 use Rattle.pk_core.proofs.Executing.{none_between, never}
 use Rattle.pk_core.proofs.Sights.{works_up, stops_up}
 use Rattle.pk_core.proofs.Steadying.{steadies}
@@ -42,9 +43,9 @@ returns-clause-answers g c = rw (← c.self.view_is) (
       stands = λ _ shape terms m stands.
           let before = g.B.Nand.state c.args.board.now in
           let was = stands_for c.self.inside.parts before shape terms m (rw (← c.self.view_is) at c.requires.runs).agrees.0 stands in
-          let now = still_stands _ new shape terms.frames m (ap (λ (s : BoardState). s.shape) e.step.works.rest ∙ stands.shape_is) (ap (λ (d : Parts). frames_of d) e.rest ∙ stands.frames_is)
-          (committed c.self.inside.parts c.commit_pending.new.self shape m before new was e.step.ended e.idle).stands in
-          record { shape_is = now.shape_is; frames_is = now.frames_is; limits_is = limits_are shape new.pages ∙ sym (limits_are shape before.pages) ∙ stands.limits_is; map_is = now.map_is };
+          let done = committed c.self.inside.parts c.commit_pending.new.self shape m before new was e.step.ended e.idle in
+          still_stands _ new shape terms m (ap (λ (s : BoardState). s.shape) e.step.works.rest ∙ stands.shape_is) (ap (λ (d : Parts). frames_of d) e.rest ∙ stands.frames_is)
+          (reached_limits shape before new _ stands.shape_is done.cuts ∙ stands.limits_is) done.stands;
       none = λ _. e.none;
       idle = λ none. let is = e.idle none in (refl, is.2, ap sight_of is.1);
     })

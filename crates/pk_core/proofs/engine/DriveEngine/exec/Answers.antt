@@ -7,13 +7,16 @@ use Rattle.pk_core.proofs.Early.{told_shape}
 use Rattle.pk_core.proofs.Recording.{HasEnded, AnswersBy, refused_ends, refused_answers, leaves_drive, answers_command, counts_calls, settles_background, shows_itself, waits_for_nothing}
 use Rattle.pk_core.proofs.engine.DriveEngine.exec.Given.{Over}
 use Rattle.pk_core.proofs.engine.DriveEngine.exec.Goals as goal
-use Rattle.pk_parts.proofs.Unchanging.{limits_are}
-use Rattle.pk_nand.specs.BoardState.{shape_of}
+use Rattle.pk_model.specs.Spaces.{limits_at}
+use Rattle.pk_parts.specs.Parts.{drive_limits}
+use Rattle.pk_parts.proofs.OwnLimits.{limits_on}
 
 -- ---- a command that is refused
 
-is_refused : (g : Over) (c : goal.After-refusal g) → early 1 c.self.inside.parts.log.shape (command_of c.args.request.now c.args.value.now) ≡ Some c.in-Some.status
-is_refused g c = ap (λ (s : Shape). early 1 s (command_of c.args.request.now c.args.value.now)) (sym c.shape.ensures) ∙ sym (c.early_fault.ensures c.args.value.now) ∙ c.in-Some.is
+is_refused : (g : Over) (c : goal.After-refusal g)
+    → early (length (drive_limits c.self.inside.parts)) c.self.inside.parts.log.shape (command_of c.args.request.now c.args.value.now) ≡ Some c.in-Some.status
+is_refused g c =
+    (λ i. early (sym c.spaces.ensures.value i) (sym c.shape.ensures i) (command_of c.args.request.now c.args.value.now)) ∙ sym (c.early_fault.ensures c.args.value.now) ∙ c.in-Some.is
 
 refused : (g : Over) (c : goal.After-refusal g)
     → HasEnded c.self.inside.parts c.self.inside.parts (g.B.Nand.state c.args.board.now) (g.B.Nand.state c.args.board.now) c.args.request.now c.args.value.now c.refusal.result c.args.into.now
@@ -66,11 +69,13 @@ answered g c =
     record {
       refused = λ some.
           let agrees = (rw (← c.self.view_is) at c.requires.serves).serves.running.agrees.0 in
-          let checks : Shape → Option ℕ = λ s. early 1 s (command_of c.args.request.now c.args.value.now) in
-          let none : checks c.self.inside.parts.log.shape ≡ None = ap checks (sym c.shape.ensures) ∙ sym (c.early_fault.ensures c.args.value.now) ∙ c.in-None.is in
+          let checks : ℕ → Shape → Option ℕ = λ n s. early n s (command_of c.args.request.now c.args.value.now) in
+          let d = c.self.inside.parts in
+          let none : checks (length (drive_limits d)) d.log.shape ≡ None =
+          (λ i. checks (sym c.spaces.ensures.value i) (sym c.shape.ensures i)) ∙ sym (c.early_fault.ensures c.args.value.now) ∙ c.in-None.is in
           let board = g.B.Nand.state c.args.board.now in
-          let here = ap (λ (limits : List ℕ). early (length limits) (shape_of board) (command_of c.args.request.now c.args.value.now)) (limits_are (shape_of board) board.pages)
-          ∙ ap checks (told_shape c.self.inside.parts board agrees) ∙ none in
+          let shape_is = told_shape d board agrees in
+          let here = (λ i. checks (length (limits_at (shape_is i) board.pages)) (shape_is i)) ∙ ap (λ (limits : List ℕ). checks (length limits) d.log.shape) (limits_on d board.shape board.pages agrees) ∙ none in
           let never : false ≡ true = subst IsSome here some in
           cc;
       fine = λ is. let r = e.report is in (r.fine, r.rests);
