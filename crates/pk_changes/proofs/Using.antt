@@ -97,7 +97,7 @@ here_own : (own n : ℕ) → here own own n ≡ n
 here_own own n = rw (eq-eqb own own refl) refl
 
 here_none : (own space : ℕ) → here own space 0 ≡ 0
-here_none own space = elim (own == space) as (λ b. (if b then 0 else 0) ≡ 0) [ true ↦ refl | false ↦ refl ]
+here_none own space = elim (own == space) as (λ b. ◌≡◌ {A = ℕ} (if b then 0 else 0) 0) [ true ↦ refl | false ↦ refl ]
 
 module _ (own : ℕ) (is_own : IsSpace own) (xs : List ℕ) (room : length xs ≡ MOST_SPACES) (former later : ℕ → ℕ) (was : (space : ℕ) → IsSpace space → slice_index xs (space - 1) ≡ former space)
     (gone come : ℕ) (moves : (space : ℕ) → later space + here own space gone ≡ former space + here own space come) where
@@ -195,13 +195,13 @@ module _ (shape : Shape) (is_shape : IsShape shape) (u : Use) (es : List (Key ×
         keys_room = set_length u.keys (space_of key - 1) (space_keys u (space_of key) - value_count held + value_count count) ∙ uses.keys_room;
         live = changes (space_of key) own u.live uses.live_room (λ n. pages_of_space shape n es) (λ n. pages_of_space shape n (put key_cmp key place es)) uses.live held count
             (λ n. let all = sum_put (pages_weight shape n) (pages_of_space shape n) refl (λ e xs. refl) key place es rising in
-                let its = ap (weight_if (pages_weight shape n) key) old_is ∙ pages_here shape n key old in
-                omega (arith, all, its)) can_leave.0;
+            let its = ap (weight_if (pages_weight shape n) key) old_is ∙ pages_here shape n key old in
+            omega (arith, all, its)) can_leave.0;
         keys = changes (space_of key) own u.keys uses.keys_room (λ n. keys_of_space n es) (λ n. keys_of_space n (put key_cmp key place es)) uses.keys (value_count held) (value_count count)
             (λ n. let all = sum_put (keys_weight n) (keys_of_space n) refl (λ e xs. refl) key place es rising in
-                let its = ap (weight_if (keys_weight n) key) old_is ∙ keys_here shape is_shape n key old in
-                let new = ap (here (space_of key) n) one in
-                omega (arith, all, its, new)) can_leave.1;
+            let its = ap (weight_if (keys_weight n) key) old_is ∙ keys_here shape is_shape n key old in
+            let new = ap (here (space_of key) n) one in
+            omega (arith, all, its, new)) can_leave.1;
       }
 
 -- ---- small numbers

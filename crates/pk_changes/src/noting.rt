@@ -71,7 +71,7 @@ pub(crate) fn note_put<A: Region>(
       log = pushed parts.old.log (key, Some (record { page = page; len = len }));
       values = parts.new.values;
       spaces = used_after parts.old.spaces (space_of key) (pages_at_by parts.old.log.shape old)
-        count;
+          count;
     } }
     ensures stands { (shape : spec.Shape) (flash : Flash) (m : Map) (value : List ℕ)
         → length value ≡ len → Puts parts.old shape flash m key value page old
@@ -103,7 +103,7 @@ pub(crate) fn note_gone<A: Region>(parts: &mut Parts<A>, key: Key, old: Place)
       log = pushed parts.old.log (key, None);
       values = parts.new.values;
       spaces = used_after parts.old.spaces (space_of key)
-        (spec.charge parts.old.log.shape old.len) 0;
+          (spec.charge parts.old.log.shape old.len) 0;
     } }
     ensures stands { (shape : spec.Shape) (flash : Flash) (m : Map)
         → Drops parts.old shape flash m key old → StandsFor parts.new shape flash (remove m key) }

@@ -253,12 +253,15 @@ module _ (a b : Parts) (s0 s1 : BoardState) (ready : IsReady s0 a.log.shape) (w 
         let P : Shape → Type 0 = λ s. MayTake b s s1.pages m key p in
         record {
           ready = ready_then;
-          may = (m, subst P (sym w.same_shape) (record {
-            stands = (w.made a.log.shape m may.stands).stands;
-            old_is = found_there key a.log.shape m may.stands ∙ may.old_is;
-            bytes = may.bytes;
-            spaced = spaced_then a.log.shape m key may.stands may.spaced;
-          }));
+          may = (
+            m,
+            subst P (sym w.same_shape) (record {
+              stands = (w.made a.log.shape m may.stands).stands;
+              old_is = found_there key a.log.shape m may.stands ∙ may.old_is;
+              bytes = may.bytes;
+              spaced = spaced_then a.log.shape m key may.stands may.spaced;
+            }),
+          );
           few = few_then_pending can.few;
         }
 

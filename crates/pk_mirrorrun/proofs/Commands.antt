@@ -1,82 +1,161 @@
 -- The commands of a word on each drive: which maps they leave, and how many roots they install.
-use Rattle.std.proofs.Common.{◌≡◌, inl, inr, ℕ, ◌+◌, ◌*◌, ◌≤◌, ◌⊎◌, ◌==◌, if◌then◌else◌, List, [], ◌∷◌, ◌++◌, Option, Some, None, refl, sym, ap, subst, ◌∙◌, arith}
-use Rattle.pk_base.specs.Shape.{Shape, limit}
+use Rattle.std.proofs.Common.{◌≡◌, inl, inr, ℕ, ◌+◌, ◌*◌, ◌≤◌, ◌⊎◌, ◌==◌, if◌then◌else◌, cond, true, false, length, List, [], ◌∷◌, ◌++◌, Option, Some, None, refl, sym, ap, subst, ◌∙◌, arith}
+use Rattle.std.specs.FinMap.{get as value_at, get-insert, get-remove}
+use Rattle.std.specs.Ordering.{eq_by_cmp}
+use Rattle.std.proofs.lemmas.Bool.{eq-eqb}
+use Rattle.pk_base.specs.Key.{Key, key_cmp, space_of}
+use Rattle.pk_base.specs.Shape.{Shape}
 use Rattle.pk_base.specs.Page.{Flash}
 use Rattle.pk_base.specs.Map.{Map}
-use Rattle.pk_nvme.specs.Command.{Command}
+use Rattle.pk_nvme.specs.Command.{Command, key as key_of}
 use Rattle.pk_nvme.specs.Opcode.{op_of}
 use Rattle.pk_nvme.specs.declared.opcode.TheConstants.{STORE, DELETE}
-use Rattle.pk_nvme.specs.declared.opcode.Opcode.TheVariants.{Retrieve, List as ListKeys}
-use Rattle.pk_model.specs.Answer.{map_after}
+use Rattle.pk_nvme.specs.declared.opcode.Opcode.{Opcode}
+use Rattle.pk_nvme.specs.declared.opcode.Opcode.TheVariants.{Flush, Store, Retrieve, List as ListKeys, Delete, Exist, Tick, Report}
+use Rattle.pk_model.specs.Answer.{refused, effect, map_after}
 use Rattle.pk_model.specs.Kept.{Kept}
 use Rattle.pk_model.specs.Reading.{Holds}
 use Rattle.pk_model.specs.Run.{Exchange, commands, RunWithin}
 use Rattle.pk_call.specs.Calling.{only_looks}
 use Rattle.pk_call.specs.Exec.{most_installs}
-use Rattle.pk_host.specs.Port.{PortState, LeftBySome}
-use Rattle.pk_host.specs.TookLaws.{left_both}
+use Rattle.pk_host.specs.Calls.{store_of, delete_of}
+use Rattle.pk_host.specs.declared.types.StoreRule.TheVariants.{Any}
+use Rattle.pk_host.specs.Port.{PortState}
 use Rattle.pk_port.specs.Chained.{installs_of, installs}
 use Rattle.pk_mirror.specs.Causes.{OnlyAsks, AreAsking}
 use Rattle.pk_mirror.specs.Spending.{OnlyLooks, LooksOr, opcode_count}
-use Rattle.pk_mirrorwords.specs.PairTasks.{PairTask, put, get, delete, list, resync, change_of, after_change}
+use Rattle.pk_mirrorwords.specs.PairTasks.{PairTask, put, get, delete, list, resync, change_of, after_change, map_left}
 use Rattle.pk_mirrorwords.specs.PairAnswers.{AreChange, AreOfFirst, AreOfPair, AreOfSecond}
-use Rattle.pk_mirrorrun.specs.PairTold.{map_left_by, most_pair_roots}
-use Rattle.pk_host.proofs.PageLemmas.{map_after_same}
-use Rattle.pk_host.proofs.LeftLemmas.{alone_left}
-use Rattle.pk_model.specs.Spaces.{Terms, in_space}
+use Rattle.pk_mirrorrun.specs.PairTold.{most_pair_roots}
+use Rattle.pk_model.specs.Spaces.{Terms, limit_of, in_space}
+use Rattle.pk_model.proofs.MapLemmas.{key_total}
+use Rattle.pk_model.proofs.SpaceLemmas.{by_keys, get_in_space, same_tied}
+use Rattle.pk_port.proofs.Isolating.{first_left}
 
 -- ---- maps
 
+-- the map after some of these commands, in their order
+abbrev LeftOf : Shape → List ℕ → Map → List Command → Map → Type 0
+LeftOf shape limits m [] m' = m' ≡ m
+LeftOf shape limits m (c ∷ cs) m' = LeftOf shape limits m cs m' ⊎ LeftOf shape limits (map_after shape limits m c) cs m'
+
+left_more : (shape : Shape) (limits : List ℕ) (m : Map) (cs : List Command) (m' : Map) (ds : List Command) → LeftOf shape limits m cs m' → LeftOf shape limits m (cs ++ ds) m'
+left_more shape limits m [] m' ds e = subst (λ (n : Map). LeftOf shape limits m ds n) (sym e) (none_left ds)
+  where
+    none_left : (ds : List Command) → LeftOf shape limits m ds m
+    none_left [] = refl
+    none_left (d ∷ ds) = inl (none_left ds)
+left_more shape limits m (c ∷ cs) m' ds (inl h) = inl (left_more shape limits m cs m' ds h)
+left_more shape limits m (c ∷ cs) m' ds (inr h) = inr (left_more shape limits (map_after shape limits m c) cs m' ds h)
+
 -- a run of commands leaves the map after some of them
-ran_left : (shape : Shape) (terms : Terms) (most : ℕ) → terms.limits ≡ most ∷ [] → (xs : List Exchange) (m m' : Map) → RunWithin shape terms m xs m' → LeftBySome shape most m (commands xs) m'
-ran_left shape terms most one [] m m' e = sym e
-ran_left shape terms most one (x ∷ xs) m m' (next, step, rest) = elim step.0 [
-  | inl answer ↦ inr (subst (λ (n : Map). LeftBySome shape most n (commands xs) m')
-      (answer.leaves ∙ ap (λ (limits : List ℕ). map_after shape limits m x.command) one) (ran_left shape terms most one xs next m' rest))
-  | inr unread ↦ inl (subst (λ (n : Map). LeftBySome shape most n (commands xs) m') unread.leaves (ran_left shape terms most one xs next m' rest))
+ran_left : (shape : Shape) (terms : Terms) (xs : List Exchange) (m m' : Map) → RunWithin shape terms m xs m' → LeftOf shape terms.limits m (commands xs) m'
+ran_left shape terms [] m m' e = sym e
+ran_left shape terms (x ∷ xs) m m' (next, step, rest) = elim step.0 [
+  | inl answer ↦ inr (subst (λ (n : Map). LeftOf shape terms.limits n (commands xs) m') answer.leaves (ran_left shape terms xs next m' rest))
+  | inr unread ↦ inl (subst (λ (n : Map). LeftOf shape terms.limits n (commands xs) m') unread.leaves (ran_left shape terms xs next m' rest))
 ]
 
--- a map of the first namespace stays one
-pub ran_alone : (shape : Shape) (terms : Terms) (most : ℕ) → terms.limits ≡ most ∷ [] → (xs : List Exchange) (m m' : Map) → in_space 1 m ≡ m → RunWithin shape terms m xs m' → in_space 1 m' ≡ m'
-ran_alone shape terms most one [] m m' alone e = subst (λ (n : Map). in_space 1 n ≡ n) e alone
-ran_alone shape terms most one (x ∷ xs) m m' alone (next, step, rest) = ran_alone shape terms most one xs next m' (elim step.0 [
-  | inl answer ↦ subst (λ (n : Map). in_space 1 n ≡ n) (sym (answer.leaves ∙ ap (λ (limits : List ℕ). map_after shape limits m x.command) one)) (alone_left shape most m x.command alone)
-  | inr unread ↦ subst (λ (n : Map). in_space 1 n ≡ n) (sym unread.leaves) alone
-]) rest
+keeps_map : (shape : Shape) (limits : List ℕ) (m : Map) (c : Command) (k : Opcode) → op_of c.opcode ≡ Some k → effect m c (Some k) ≡ m → map_after shape limits m c ≡ m
+unfolding map_after
+keeps_map shape limits m c k is stays = elim (refused shape limits m c) as (λ r. refused shape limits m c ≡ r → map_after shape limits m c ≡ m) [
+  | None ↦ λ e. (let left : map_after shape limits m c ≡ effect m c (Some k) = rw (e, is) refl in left ∙ stays)
+  | Some s ↦ λ e. rw e refl
+] refl
 
-none_left : (shape : Shape) (most : ℕ) (m : Map) (cs : List Command) → LeftBySome shape most m cs m
-none_left shape most m [] = refl
-none_left shape most m (c ∷ cs) = inl (none_left shape most m cs)
+asks_keep : (shape : Shape) (limits : List ℕ) (m : Map) (c : Command) → OnlyAsks c → map_after shape limits m c ≡ m
+asks_keep shape limits m c (inl (from, e)) = keeps_map shape limits m c ListKeys (ap (λ (d : Command). op_of d.opcode) e) refl
+asks_keep shape limits m c (inr (key, size, e)) = keeps_map shape limits m c Retrieve (ap (λ (d : Command). op_of d.opcode) e) refl
 
-asks_keep : (shape : Shape) (most : ℕ) (m : Map) (c : Command) → OnlyAsks c → map_after shape (most ∷ []) m c ≡ m
-asks_keep shape most m c (inl (from, e)) = map_after_same shape most m c ListKeys (ap (λ (d : Command). op_of d.opcode) e) refl
-asks_keep shape most m c (inr (key, size, e)) = map_after_same shape most m c Retrieve (ap (λ (d : Command). op_of d.opcode) e) refl
+asks_left : (shape : Shape) (limits : List ℕ) (m m' : Map) (asks change : List Command) → AreAsking asks → LeftOf shape limits m (asks ++ change) m' → LeftOf shape limits m change m'
+asks_left shape limits m m' [] change are h = h
+asks_left shape limits m m' (c ∷ asks) change are (inl h) = asks_left shape limits m m' asks change are.1 h
+asks_left shape limits m m' (c ∷ asks) change are (inr h) =
+    asks_left shape limits m m' asks change are.1 (subst (λ (n : Map). LeftOf shape limits n (asks ++ change) m') (asks_keep shape limits m c are.0) h)
 
-asks_left : (shape : Shape) (most : ℕ) (m m' : Map) (asks change : List Command) → AreAsking asks → LeftBySome shape most m (asks ++ change) m' → LeftBySome shape most m change m'
-asks_left shape most m m' [] change are h = h
-asks_left shape most m m' (c ∷ asks) change are (inl h) = asks_left shape most m m' asks change are.1 h
-asks_left shape most m m' (c ∷ asks) change are (inr h) =
-    asks_left shape most m m' asks change are.1 (subst (λ (n : Map). LeftBySome shape most n (asks ++ change) m') (asks_keep shape most m c are.0) h)
+change_left : (shape : Shape) (limits : List ℕ) (m m' : Map) (o : Option Command) (change : List Command)
+    → AreChange o change → LeftOf shape limits m change m' → (m' ≡ m) ⊎ (m' ≡ after_change shape limits m o)
+change_left shape limits m m' None change none h = inl (subst (λ (cs : List Command). LeftOf shape limits m cs m') none h)
+change_left shape limits m m' (Some c) change (inl none) h = inl (subst (λ (cs : List Command). LeftOf shape limits m cs m') none h)
+change_left shape limits m m' (Some c) change (inr one) h = subst (λ (cs : List Command). LeftOf shape limits m cs m') one h
 
-change_left : (shape : Shape) (most : ℕ) (m m' : Map) (o : Option Command) (change : List Command)
-    → AreChange o change → LeftBySome shape most m change m' → (m' ≡ m) ⊎ (m' ≡ after_change shape most m o)
-change_left shape most m m' None change none h = inl (subst (λ (cs : List Command). LeftBySome shape most m cs m') none h)
-change_left shape most m m' (Some c) change (inl none) h = inl (subst (λ (cs : List Command). LeftBySome shape most m cs m') none h)
-change_left shape most m m' (Some c) change (inr one) h = subst (λ (cs : List Command). LeftBySome shape most m cs m') one h
+-- commands of a word, or the first of them, leave the map before it or the one after it
+left_first : (task : PairTask) (shape : Shape) (limits : List ℕ) (m m' : Map) (cs : List Command) → AreOfFirst task cs → LeftOf shape limits m cs m' → (m' ≡ m) ⊎ (m' ≡ map_left shape limits task m)
+left_first task shape limits m m' cs are h =
+    change_left shape limits m m' (change_of task) are.change are.changing
+    (asks_left shape limits m m' are.asks are.change are.asking (subst (λ (ds : List Command). LeftOf shape limits m ds m') are.are h))
+
+pub ran_first : (task : PairTask) (shape : Shape) (terms : Terms) (m m' : Map) (xs : List Exchange) → AreOfFirst task (commands xs) → RunWithin shape terms m xs m'
+    → (m' ≡ m) ⊎ (m' ≡ map_left shape terms.limits task m)
+ran_first task shape terms m m' xs are ran = left_first task shape terms.limits m m' (commands xs) are (ran_left shape terms xs m m' ran)
 
 -- what is kept of a word's commands is the map before it or the one after it
-pub kept_first : (task : PairTask) (shape : Shape) (terms : Terms) → terms.limits ≡ limit shape ∷ [] → (m : Map) (cs : List Command) (n : Option ℕ) (posted : List ℕ) (f : Flash) → AreOfFirst task cs
+pub kept_first : (task : PairTask) (shape : Shape) (terms : Terms) (m : Map) (cs : List Command) (n : Option ℕ) (posted : List ℕ) (f : Flash) → AreOfFirst task cs
     → Kept shape terms m cs n posted f
-    → Holds shape f m ⊎ Holds shape f (map_left_by shape task m)
-kept_first task shape terms one m cs n posted f are k =
-    let served = ran_left shape terms (limit shape) one k.served m k.map_left k.ran in
-    let more = left_both shape (limit shape) m (commands k.served) k.map_left k.unserved k.map_left served (none_left shape (limit shape) k.map_left k.unserved) in
-    let whole = subst (λ (ds : List Command). LeftBySome shape (limit shape) m ds k.map_left) (k.from_front ∙ are.are) more in
-    let last = asks_left shape (limit shape) m k.map_left are.asks are.change are.asking whole in
-    elim (change_left shape (limit shape) m k.map_left (change_of task) are.change are.changing last) [
+    → Holds shape f m ⊎ Holds shape f (map_left shape terms.limits task m)
+kept_first task shape terms m cs n posted f are k =
+    let more = left_more shape terms.limits m (commands k.served) k.map_left k.unserved (ran_left shape terms k.served m k.map_left k.ran) in
+    let whole = subst (λ (ds : List Command). LeftOf shape terms.limits m ds k.map_left) k.from_front more in
+    elim (left_first task shape terms.limits m k.map_left cs are whole) [
       | inl before ↦ inl (subst (λ (n : Map). Holds shape f n) before k.held)
       | inr after ↦ inr (subst (λ (n : Map). Holds shape f n) after k.held)
     ]
+
+-- ---- the first namespace and the others
+
+-- a command in the first namespace keeps the values of keys of others
+pub others_kept : (shape : Shape) (limits : List ℕ) (m : Map) (c : Command) → c.namespace ≡ 1 → (q : Key) → (space_of q == 1) ≡ false → value_at (map_after shape limits m c) q ≡ value_at m q
+unfolding map_after
+others_kept shape limits m c first q other =
+    elim (refused shape limits m c) as (λ r. refused shape limits m c ≡ r → value_at (map_after shape limits m c) q ≡ value_at m q) [
+      | Some s ↦ λ e. rw e refl
+      | None ↦ λ e. rw e (by_effect (op_of c.opcode))
+    ] refl
+  where
+    apart : eq_by_cmp key_cmp q (key_of c) ≡ true → (eq_by_cmp key_cmp q (key_of c)) ≡ false
+    apart tie = absurd (
+        let same : space_of q ≡ 1 = ap space_of (same_tied q (key_of c) tie) ∙ first in
+        let clash : false ≡ true = sym other ∙ eq-eqb (space_of q) 1 same in cc
+        )
+
+    not_tied : eq_by_cmp key_cmp q (key_of c) ≡ false
+    not_tied = elim (eq_by_cmp key_cmp q (key_of c)) as (λ b. eq_by_cmp key_cmp q (key_of c) ≡ b → eq_by_cmp key_cmp q (key_of c) ≡ false) [ true ↦ λ tie. apart tie | false ↦ λ tie. tie ] refl
+
+    by_effect : (o : Option Opcode) → value_at (effect m c o) q ≡ value_at m q
+    by_effect None = refl
+    by_effect (Some Store) = get-insert key_total m (key_of c) c.value q ∙ ap (λ b. cond b (Some c.value) (value_at m q)) not_tied
+    by_effect (Some Delete) = get-remove key_total m (key_of c) q ∙ ap (λ b. cond b None (value_at m q)) not_tied
+    by_effect (Some Flush) = refl
+    by_effect (Some Retrieve) = refl
+    by_effect (Some ListKeys) = refl
+    by_effect (Some Exist) = refl
+    by_effect (Some Tick) = refl
+    by_effect (Some Report) = refl
+
+pub change_keeps_others : (task : PairTask) (shape : Shape) (limits : List ℕ) (m : Map) (q : Key) → (space_of q == 1) ≡ false → value_at (map_left shape limits task m) q ≡ value_at m q
+change_keeps_others (put key value) shape limits m q other = others_kept shape limits m (store_of key value Any) refl q other
+change_keeps_others (get key) shape limits m q other = refl
+change_keeps_others (delete key) shape limits m q other = others_kept shape limits m (delete_of key) refl q other
+change_keeps_others list shape limits m q other = refl
+change_keeps_others resync shape limits m q other = refl
+
+-- what a word leaves of the first namespace is what it leaves of a drive that has this namespace alone
+pub part_left : (task : PairTask) (shape : Shape) (terms : Terms) → 1 ≤ length terms.limits → (m : Map)
+    → in_space 1 (map_left shape terms.limits task m) ≡ map_left shape (limit_of terms.limits 1 ∷ []) task (in_space 1 m)
+part_left (put key value) shape terms some m = first_left shape terms some (store_of key value Any) refl m
+part_left (get key) shape terms some m = refl
+part_left (delete key) shape terms some m = first_left shape terms some (delete_of key) refl m
+part_left list shape terms some m = refl
+part_left resync shape terms some m = refl
+
+-- maps with the same first namespace and the same values of other keys are the same
+pub same_parts : (x y : Map) → in_space 1 x ≡ in_space 1 y → ((q : Key) → (space_of q == 1) ≡ false → value_at x q ≡ value_at y q) → x ≡ y
+same_parts x y part others = by_keys x y (λ q. elim (space_of q == 1) as (λ b. (space_of q == 1) ≡ b → value_at x q ≡ value_at y q) [
+  | true ↦ λ own.
+      ap (λ b. cond b (value_at x q) None) (sym own) ∙ sym (get_in_space 1 x q) ∙ ap (λ (m : Map). value_at m q) part
+      ∙ get_in_space 1 y q ∙ ap (λ b. cond b (value_at y q) None) own
+  | false ↦ λ other. others q other
+] refl)
 
 -- ---- roots
 
@@ -99,10 +178,10 @@ few_installs : (cs : List Command) → AreOfPair cs → installs cs ≤ 10 * (op
 few_installs [] h = omega arith
 few_installs (c ∷ cs) h = let one = one_installs c h.0 in let rest = few_installs cs h.1 in omega (arith, one, rest)
 
-pub second_installs : (first second : PortState) (m other : Map) (cs : List Command) → first.map ≡ Some m
-    → second.map ≡ Some other → AreOfSecond first second cs → installs cs ≤ most_pair_roots m other
+pub second_installs : (first second : PortState) (m other : Map) (cs : List Command) → first.map ≡ Some (in_space 1 m)
+    → second.map ≡ Some (in_space 1 other) → AreOfSecond first second cs → installs cs ≤ most_pair_roots m other
 second_installs first second m other cs told too are =
-    let few = are.few m other told too in
+    let few = are.few (in_space 1 m) (in_space 1 other) told too in
     let each = few_installs cs are.only in
     omega (arith, few, each)
 

@@ -1,16 +1,14 @@
 -- Two drives that are lent as ports to a pair.
-use Rattle.std.proofs.Common.{◌≡◌, inl, inr, ℕ, List, true, false, is_some, [], Ok, refl, sym, ap, subst, ◌∙◌, ◌∷◌}
+use Rattle.std.proofs.Common.{◌≡◌, ◌≤◌, inl, inr, ℕ, List, true, false, is_some, [], Ok, refl, sym, ap, subst, ◌∙◌, ◌∷◌}
 use Rattle.pk_base.specs.Entry.{Entry}
-use Rattle.pk_base.specs.Shape.{Shape, IsShape, limit}
+use Rattle.pk_base.specs.Shape.{Shape, limit}
 use Rattle.pk_base.specs.Map.{Map}
 use Rattle.pk_nand.specs.BoardState.{BoardState}
 use Rattle.pk_nand.specs.Calls.{IsReady}
 use Rattle.pk_model.specs.Reading.{reading, Holds}
 use Rattle.pk_call.specs.Sight.{Sight}
 use Rattle.pk_call.specs.Drive.{HoldsMap}
-use Rattle.pk_model.specs.Laws.{MapHeld}
 use Rattle.pk_model.specs.Spaces.{limit_of, in_space}
-use Rattle.pk_model.proofs.SpaceLemmas.{is_whole}
 use Rattle.pk_port.specs.Steps.{Mounted, Standing, mount, seen}
 use Rattle.pk_port.proofs.Stepping.{part_of}
 use Rattle.pk_mirror.specs.Pair.{Mirrored}
@@ -24,32 +22,31 @@ told_both shape a c m n h g = ap is_some (ap part_of g) ∙ sym (ap is_some (ap 
 
 -- two boards of one shape that hold maps, and a mirror that is split
 pub told_pair : (mirror : Mirrored) (shape : Shape) (a c : Mounted) (f g : ℕ)
-    → mirror ≡ record { shape = shape; split = true } → a.terms.limits ≡ limit shape ∷ [] → c.terms.limits ≡ limit shape ∷ [] → (m n : Map) → Holds shape a.board.pages m → Holds shape c.board.pages n
+    → mirror ≡ record { shape = shape; split = true } → limit_of c.terms.limits 1 ≡ limit_of a.terms.limits 1 → limit_of a.terms.limits 1 ≤ limit shape → (m n : Map) → Holds shape a.board.pages m → Holds shape c.board.pages n
     → IsToldPair mirror (seen shape a f) (seen shape c g)
-told_pair mirror shape a c f g is one two m n h k = record {
+told_pair mirror shape a c f g is one most m n h k = record {
   pair = record {
     first_shape = sym (ap (λ (x : Mirrored). x.shape) is);
     second_shape = sym (ap (λ (x : Mirrored). x.shape) is);
-    limit = ap (λ (limits : List ℕ). limit_of limits 1) (two ∙ sym one);
+    limit = one;
     both_tell = told_both shape a.board c.board m n h k;
     in_step = λ off. absurd (let clash : true ≡ false = sym (ap (λ (x : Mirrored). x.split) is) ∙ off in cc);
   };
-  limit_is = ap (λ (limits : List ℕ). limit_of limits 1) one;
+  limit_most = most;
   map = in_space 1 m;
   told = ap part_of h;
 }
 
 -- a drive that was opened serves
-pub serving : (shape : Shape) (b : BoardState) (d : Sight) → IsShape shape → MapHeld → IsReady b shape → d.stopped ≡ false → d.pending ≡ [] → (m : Map) × HoldsMap shape (mount b d).terms b d m
+pub serving : (shape : Shape) (b : BoardState) (d : Sight) → IsReady b shape → d.stopped ≡ false → d.pending ≡ [] → (m : Map) × HoldsMap shape (mount b d).terms b d m
     → IsServing shape b d
-serving shape b d is_shape law ready runs none stands =
+serving shape b d ready runs none stands =
     let holds : Holds shape b.pages stands.0 = subst (λ (p : List Entry). reading shape b.pages p ≡ Ok stands.0) none stands.1.map_is in
     record {
       shape_is = ready.shape_is;
       runs = runs;
       map = stands.0;
       holds = holds;
-      alone = is_whole shape stands.0 (law shape b.pages [] stands.0 is_shape ready.flash tt holds).is_map;
     }
 
 -- what was said of two ports that keep their shape, of the drives and boards when they are given back

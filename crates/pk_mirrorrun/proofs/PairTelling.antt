@@ -1,6 +1,7 @@
 -- What a word of a pair makes of both boards.
-use Rattle.std.proofs.Common.{◌≡◌, ◌⊎◌, inl, inr, ℕ, ◌+◌, ◌≤◌, List, [], Option, Some, None, refl, sym, ap, subst, ◌∙◌, true, false, arith, ◌∷◌}
-use Rattle.pk_base.specs.Shape.{Shape, limit}
+use Rattle.std.proofs.Common.{◌≡◌, ◌⊎◌, inl, inr, ℕ, ◌+◌, ◌≤◌, List, [], length, Option, Some, None, refl, sym, ap, subst, ◌∙◌, true, false, arith, ◌∷◌}
+use Rattle.std.specs.FinMap.{get as value_at}
+use Rattle.pk_base.specs.Shape.{Shape}
 use Rattle.pk_base.specs.Page.{Flash}
 use Rattle.pk_base.specs.Map.{Map}
 use Rattle.pk_nvme.specs.Command.{Command}
@@ -24,7 +25,7 @@ use Rattle.pk_port.specs.Asking.{KeptSilently, KeptWord}
 use Rattle.pk_port.specs.Steps.{Standing, HasCause, standing, seen}
 use Rattle.pk_port.proofs.Stepping.{part_of, part_held}
 use Rattle.pk_port.proofs.Serving.{mounted_limits}
-use Rattle.pk_serve.proofs.Limiting.{limits_one}
+use Rattle.pk_serve.proofs.Limiting.{limits_some}
 use Rattle.pk_port.specs.Chained.{installs, AllServed, HaltedAt, Chained}
 use Rattle.pk_port.specs.declared.halt.Halt.{Halt}
 use Rattle.pk_port.specs.declared.halt.Halt.TheVariants.{Stopped, Worn as UsedUp}
@@ -34,35 +35,40 @@ use Rattle.pk_wordrun.specs.Ends.{end_of}
 use Rattle.pk_wordrun.specs.declared.end.WordEnd.{WordEnd}
 use Rattle.pk_wordrun.specs.declared.end.WordEnd.TheVariants.{Done, Output}
 use Rattle.pk_wordrun.proofs.Telling.{keeps-flash}
-use Rattle.pk_mirrorwords.specs.PairTasks.{PairTask, map_left, text_of}
+use Rattle.pk_mirrorwords.specs.PairTasks.{PairTask, map_left}
 use Rattle.pk_mirrorwords.specs.PairAnswers.{PairSaid, PairFault, AreOfFirst, AreOfSecond}
-use Rattle.pk_mirrorrun.specs.PairTold.{IsServing, EitherUnread, map_left_by, text_by, Walk, BothWalked, end_by, KeptFirst, KeptSecond, PairAnswered, PairEnds, most_pair_roots, UsedRoots, PairTold}
-use Rattle.pk_mirrorrun.proofs.Commands.{ran_alone, kept_first, first_installs, second_installs}
-use Rattle.pk_base.proofs.Logic.{ok_same, some_same}
+use Rattle.pk_mirrorrun.specs.PairTold.{IsServing, EitherUnread, text_by, Walk, BothWalked, end_by, KeptFirst, KeptSecond, PairAnswered, PairEnds, most_pair_roots, UsedRoots, PairTold}
+use Rattle.pk_mirrorrun.proofs.Commands.{ran_first, kept_first, change_keeps_others, part_left, same_parts, first_installs, second_installs}
+use Rattle.pk_base.proofs.Logic.{some_same}
 
 -- ---- one drive
 
--- its limits are those of its flash, and its map is of the first namespace alone
+-- its limits are those of its flash, and it has a namespace
 pub record Begins (shape : Shape) (start : Map) (p : Standing) : Type 0 where
   pub within : limits_at shape p.on.board.pages ≡ p.on.terms.limits
-  pub alone : in_space 1 start ≡ start
+  pub some : 1 ≤ length p.on.terms.limits
 
 pub begins_as : (shape : Shape) (start : Map) (board : BoardState) (drive : Sight) (faults : ℕ) (halt : Option Halt) → IsServing shape board drive → Holds shape board.pages start
     → Begins shape start (standing board drive faults halt)
-begins_as shape start board drive faults halt s holds = record {
-  within = mounted_limits shape board drive s.shape_is;
-  alone = (let same : s.map ≡ start = ok_same s.map start (sym s.holds ∙ holds) in subst (λ (m : Map). in_space 1 m ≡ m) same s.alone);
-}
+begins_as shape start board drive faults halt s holds =
+    let within = mounted_limits shape board drive s.shape_is in
+    record { within = within; some = subst (λ (limits : List ℕ). 1 ≤ length limits) within (limits_some shape board.pages [] start holds) }
 
-one_limit : (shape : Shape) (start : Map) (p : Standing) → Begins shape start p → p.on.terms.limits ≡ limit shape ∷ []
-one_limit shape start p begun = sym begun.within ∙ limits_one shape p.on.board.pages
+-- the first namespace of the map after the session, as the port reports it
+part_is : (shape : Shape) (start : Map) (cs : List Command) (p q : Standing) (w : AllServed shape start cs p q) (m : Map)
+    → part_of (reading shape q.on.board.pages []) ≡ Some m → in_space 1 w.asked.left ≡ m
+part_is shape start cs p q w m told = part_held (reading shape q.on.board.pages []) w.asked.left m w.asked.held told
 
--- what the port reports is the map after the session
-left_is : (shape : Shape) (start : Map) (cs : List Command) (p q : Standing) (begun : Begins shape start p) (w : AllServed shape start cs p q) (m : Map)
-    → part_of (reading shape q.on.board.pages []) ≡ Some m → w.asked.left ≡ m
-left_is shape start cs p q begun w m told =
-    sym (ran_alone shape p.on.terms (limit shape) (one_limit shape start p begun) w.asked.answered.all start w.asked.left begun.alone w.asked.answered.ran)
-    ∙ part_held (reading shape q.on.board.pages []) w.asked.left m w.asked.held told
+-- the map after the session, if the port reports what the word leaves of the first namespace
+left_is : (task : PairTask) (shape : Shape) (start : Map) (cs : List Command) (p q : Standing) (begun : Begins shape start p) (w : AllServed shape start cs p q) → AreOfFirst task cs
+    → part_of (reading shape q.on.board.pages []) ≡ Some (map_left shape (limit_of p.on.terms.limits 1 ∷ []) task (in_space 1 start)) → w.asked.left ≡ map_left shape p.on.terms.limits task start
+left_is task shape start cs p q begun w are told =
+    same_parts w.asked.left (map_left shape p.on.terms.limits task start)
+    (part_is shape start cs p q w _ told ∙ sym (part_left task shape p.on.terms begun.some start))
+    (λ k other. elim (ran_first task shape p.on.terms start w.asked.left w.asked.answered.all (subst (AreOfFirst task) (sym w.asked.answered.are) are) w.asked.answered.ran) [
+      | inl before ↦ ap (λ (m : Map). value_at m k) before ∙ sym (change_keeps_others task shape p.on.terms.limits start k other)
+      | inr after ↦ ap (λ (m : Map). value_at m k) after
+    ])
 
 module _ (shape : Shape) (start : Map) (cs : List Command) (p q : Standing) where
   -- if the board was cut, the commands were kept
@@ -98,12 +104,12 @@ module _ (shape : Shape) (start : Map) (cs : List Command) (p q : Standing) wher
   ]
 
   -- the second of a pair
-  second_kept : Chained shape start cs p q → Goes shape p.on.board q.on.board (KeptSecond shape)
+  second_kept : Chained shape start cs p q → Goes shape p.on.board q.on.board (KeptSecond shape p.on.terms.limits)
   second_kept w =
       let run = kept_by w in (
         run.0,
         weaken_went run.0 p.on.board q.on.board (KeptSilently shape p.on.terms start cs (rise p.on.board.read_faults q.on.board.read_faults))
-            (KeptSecond shape) (λ f posted k. record { map = k.1.map_left; held = k.1.held; silent = k.0 }) run.1,
+            (KeptSecond shape p.on.terms.limits) (λ f posted k. record { map = k.1.map_left; held = k.1.held; same_limits = k.1.same_limits; silent = k.0 }) run.1,
         run.2,
       )
 
@@ -136,23 +142,34 @@ module _ (task : PairTask) (shape : Shape) (m other : Map) (cs ds : List Command
   abbrev d : BoardState
   d = q'.on.board
 
-  -- without a post
-  silent : (failed : Type 0) (n : Option ℕ) (f : Flash) (posted : List ℕ) → KeptSilently shape p.on.terms m cs n f posted → KeptFirst task failed shape m f posted
-  silent failed n f posted k = record { held = kept_first task shape p.on.terms (one_limit shape m p begun) m cs n [] f are k.1; said = inl k.0 }
+  -- the limits of the first
+  abbrev limits : List ℕ
+  limits = p.on.terms.limits
 
-  first_silent : (failed : Type 0) → Goes shape a b (KeptFirst task failed shape m)
+  -- in the words of the flash
+  first_by : (new : BoardState) (failed : Type 0) → Goes shape a new (KeptFirst task failed shape limits m) → Goes shape a new (KeptFirst task failed shape (limits_at shape a.pages) m)
+  first_by new failed = subst (λ (ls : List ℕ). Goes shape a new (KeptFirst task failed shape ls m)) (sym begun.within)
+
+  second_by : Goes shape c d (KeptSecond shape (limits_at shape c.pages))
+  second_by = subst (λ (ls : List ℕ). Goes shape c d (KeptSecond shape ls)) (sym begun'.within) (second_kept shape other ds q q' too)
+
+  -- without a post
+  silent : (failed : Type 0) (n : Option ℕ) (f : Flash) (posted : List ℕ) → KeptSilently shape p.on.terms m cs n f posted → KeptFirst task failed shape limits m f posted
+  silent failed n f posted k = record { held = kept_first task shape p.on.terms m cs n [] f are k.1; same_limits = k.1.same_limits; said = inl k.0 }
+
+  first_silent : (failed : Type 0) → Goes shape a b (KeptFirst task failed shape limits m)
   first_silent failed =
       let run = kept_by shape m cs p p' walk in (
         run.0,
         weaken_went run.0 a b (KeptSilently shape p.on.terms m cs (rise a.read_faults b.read_faults))
-            (KeptFirst task failed shape m) (silent failed (rise a.read_faults b.read_faults)) run.1,
+            (KeptFirst task failed shape limits m) (silent failed (rise a.read_faults b.read_faults)) run.1,
         run.2,
       )
 
   ended : (end : WordEnd) → PairEnds task shape m a b c d end → PairTold task shape m other a b c d end
   ended end ends = record {
-    first_kept = first_silent (EitherUnread a b c d);
-    second_kept = second_kept shape other ds q q' too;
+    first_kept = first_by b (EitherUnread a b c d) (first_silent (EitherUnread a b c d));
+    second_kept = second_by;
     ends = ends;
     first_used = used_by shape m cs p p' m other (first_installs task m other cs are) walk;
     second_used = used_by shape other ds q q' m other few too;
@@ -194,25 +211,23 @@ module _ (task : PairTask) (shape : Shape) (m other : Map) (cs ds : List Command
       (said : PairSaid (BothUnworn a c) task (seen shape p.on p.faults) (seen shape p'.on p'.faults) (seen shape q.on q.faults) (seen shape q'.on q'.faults) (in_space 1 m) text) where
     -- what the text says of the map that the first drive holds
     abbrev Says : List Exchange → List ℕ → Map → Type 0
-    Says all t left = ((left ≡ map_left_by shape task m) × (t ≡ text_by shape task m)) ⊎ (EitherUnread a b c d × (t ≡ failed_line))
-
-    -- the first namespace is all, and its limit is that of the shape
-    left_whole : map_left shape (limit_of p.on.terms.limits 1) task (in_space 1 m) ≡ map_left_by shape task m
-    left_whole = λ i. map_left shape (limit_of (one_limit shape m p begun i) 1) task (begun.alone i)
-
-    text_whole : text_of shape (limit_of p.on.terms.limits 1) task (in_space 1 m) ≡ text_by shape task m
-    text_whole = λ i. text_of shape (limit_of (one_limit shape m p begun i) 1) task (begun.alone i)
+    Says all t left = ((left ≡ map_left shape limits task m) × (t ≡ text_by shape limits task m)) ⊎ (EitherUnread a b c d × (t ≡ failed_line))
 
     says : Says w.asked.answered.all text w.asked.left
     says = elim said [
-      | inl (unworn, done) ↦ inl (left_is shape m cs p p' begun w (map_left_by shape task m) (done.first_left ∙ ap (λ (n : Map). Some n) left_whole), done.spelled ∙ text_whole)
+      | inl (unworn, done) ↦ inl (left_is task shape m cs p p' begun w are done.first_left, done.spelled)
       | inr unread ↦ inr unread
     ]
 
-    posting : (from to : Meter) (f : Flash) (posted : List ℕ) → KeptWord Says shape p.on.terms m cs from to f posted → KeptFirst task (EitherUnread a b c d) shape m f posted
-    posting from to f posted (k, inl none) = record { held = kept_first task shape p.on.terms (one_limit shape m p begun) m cs (rise from.read_faults to.read_faults) [] f are k; said = inl none }
+    posting : (from to : Meter) (f : Flash) (posted : List ℕ) → KeptWord Says shape p.on.terms m cs from to f posted → KeptFirst task (EitherUnread a b c d) shape limits m f posted
+    posting from to f posted (k, inl none) = record {
+      held = kept_first task shape p.on.terms m cs (rise from.read_faults to.read_faults) [] f are k;
+      same_limits = k.same_limits;
+      said = inl none;
+    }
     posting from to f posted (k, inr s) = record {
-      held = kept_first task shape p.on.terms (one_limit shape m p begun) m cs (rise from.read_faults to.read_faults) [] f are k;
+      held = kept_first task shape p.on.terms m cs (rise from.read_faults to.read_faults) [] f are k;
+      same_limits = k.same_limits;
       said = elim s.says [
         | inl (left, spelled) ↦ inr (inl (subst (λ (x : Map). Holds shape f x) left s.held, (s.unposted, s.front ∙ spelled)))
         | inr (failed, spelled) ↦ inr (inr (failed, (s.unposted, s.front ∙ spelled)))
@@ -227,10 +242,14 @@ module _ (task : PairTask) (shape : Shape) (m other : Map) (cs ds : List Command
     finished_says : PairAnswered task shape m a (after_post b text) c d text ⊎ (EitherUnread a b c d × (text ≡ failed_line))
     finished_says = elim said [
       | inl (unworn, done) ↦ inl (record {
-        text_is = done.spelled ∙ text_whole;
-        first_holds = subst (λ (x : Map). Holds shape b.pages x) (left_is shape m cs p p' begun w (map_left_by shape task m) (done.first_left ∙ ap (λ (n : Map). Some n) left_whole)) w.asked.held;
-        second_holds = subst (λ (x : Map). Holds shape d.pages x)
-            (left_is shape other ds q q' begun' v (map_left_by shape task m) (done.second_left ∙ ap (λ (n : Map). Some n) left_whole)) v.asked.held;
+        text_is = done.spelled ∙ ap (λ (ls : List ℕ). text_by shape ls task m) (sym begun.within);
+        first_holds = subst (λ (x : Map). Holds shape b.pages x)
+            (left_is task shape m cs p p' begun w are done.first_left ∙ ap (λ (ls : List ℕ). map_left shape ls task m) (sym begun.within)) w.asked.held;
+        second_holds = (
+          v.asked.left,
+          v.asked.held,
+          part_is shape other ds q q' v _ done.second_left ∙ sym (part_left task shape p.on.terms begun.some m) ∙ ap (λ (ls : List ℕ). in_space 1 (map_left shape ls task m)) (sym begun.within),
+        );
         first_unworn = unworn.0;
         second_unworn = unworn.1;
       })
@@ -246,8 +265,9 @@ module _ (task : PairTask) (shape : Shape) (m other : Map) (cs ds : List Command
         let run = asked-posts Says shape p.on.terms m cs a b w.asked text says in
         let goes = Goes-reaches shape a (after_post b text) word run in
         record {
-          first_kept = (goes.0, weaken_went goes.0 a (after_post b text) word (KeptFirst task (EitherUnread a b c d) shape m) (posting (meter a) (meter b)) goes.1, goes.2);
-          second_kept = second_kept shape other ds q q' too;
+          first_kept = first_by (after_post b text) (EitherUnread a b c d)
+              (goes.0, weaken_went goes.0 a (after_post b text) word (KeptFirst task (EitherUnread a b c d) shape limits m) (posting (meter a) (meter b)) goes.1, goes.2);
+          second_kept = second_by;
           ends = record {
             text = text;
             posted = ap (λ t. longer t text) (ap (λ (s : BoardState). s.posted) w.asked.rest);
@@ -271,10 +291,11 @@ module _ (task : PairTask) (shape : Shape) (m other : Map) (cs ds : List Command
         let run = asked-post_failed Says shape p.on.terms m cs a b w.asked text says last failed in
         let same : last.read_faults ≡ b.read_faults = ap (λ (s : BoardState). s.read_faults) failed.rest in
         let same_stop : last.stop_faults ≡ b.stop_faults = ap (λ (s : BoardState). s.stop_faults) failed.rest in
-        let F : ℕ → Type 0 = λ k. Goes shape a last (KeptFirst task (Rose a.read_faults k ⊎ Rose c.read_faults d.read_faults) shape m) in
+        let F : ℕ → Type 0 = λ k. Goes shape a last (KeptFirst task (Rose a.read_faults k ⊎ Rose c.read_faults d.read_faults) shape (limits_at shape a.pages) m) in
         record {
-          first_kept = subst F (sym same) (run.0, weaken_went run.0 a last word (KeptFirst task (EitherUnread a b c d) shape m) (posting (meter a) (meter b)) run.1, run.2);
-          second_kept = second_kept shape other ds q q' too;
+          first_kept = subst F (sym same) (first_by last (EitherUnread a b c d)
+              (run.0, weaken_went run.0 a last word (KeptFirst task (EitherUnread a b c d) shape limits m) (posting (meter a) (meter b)) run.1, run.2));
+          second_kept = second_by;
           ends = subst (λ (k : ℕ). Rose k last.out_faults) (ap (λ (s : BoardState). s.out_faults) w.asked.rest) failed.faults;
           first_used =
               let R : BoardState → Type 0 = λ s. roots s ≤ roots a + most_pair_roots m other in
@@ -309,7 +330,7 @@ module _ (task : PairTask) (shape : Shape) (m other : Map) (p p' q q' : Standing
 
   few_roots : installs too.0 ≤ most_pair_roots m other
   few_roots = second_installs (seen shape p.on p.faults) (seen shape q.on q.faults) m other too.0
-      (ap part_of holds ∙ ap (λ (n : Map). Some n) begun.alone) (ap part_of holds' ∙ ap (λ (n : Map). Some n) begun'.alone) too.1
+      (ap part_of holds) (ap part_of holds') too.1
 
   pub tells-halted : (end : WordEnd) → Some end ≡ end_by p'.halt q'.halt → PairTold task shape m other p.on.board p'.on.board q.on.board q'.on.board end
   tells-halted end by = told-halted task shape m other walk.0 too.0 p p' q q' walk.1 few_roots begun begun' one two p'.halt q'.halt end first second refl refl (sym by)

@@ -1,7 +1,7 @@
 -- What a word of a pair did to both boards, from the opened drives on.
 use Rattle.std.specs.Prelude.{◌≡◌, ◌⊎◌, ℕ, ◌+◌, ◌*◌, ◌≤◌, List, [], ◌++◌, Option, Some, None, true, false}
 use Rattle.std.specs.FinMap.{len}
-use Rattle.pk_base.specs.Shape.{Shape, limit}
+use Rattle.pk_base.specs.Shape.{Shape}
 use Rattle.pk_base.specs.Page.{Flash}
 use Rattle.pk_base.specs.Map.{Map}
 use Rattle.pk_nand.specs.BoardState.{BoardState}
@@ -9,7 +9,7 @@ use Rattle.pk_nvme.specs.Command.{Command}
 use Rattle.pk_nand.specs.Calls.{Rose, longer}
 use Rattle.pk_model.specs.Growth.{Goes}
 use Rattle.pk_nvme.specs.declared.limits.TheConstants.{NAMESPACE}
-use Rattle.pk_model.specs.Spaces.{in_space}
+use Rattle.pk_model.specs.Spaces.{limits_at, limit_of, in_space}
 use Rattle.pk_model.specs.Reading.{Holds}
 use Rattle.pk_call.specs.Sight.{Sight}
 use Rattle.pk_model.specs.Wear.{is_worn, roots}
@@ -27,12 +27,17 @@ use Rattle.pk_mirrorwords.specs.PairTasks.{PairTask, map_left, text_of}
 abbrev pub EitherUnread : BoardState → BoardState → BoardState → BoardState → Type 0
 EitherUnread a b c d = Rose a.read_faults b.read_faults ⊎ Rose c.read_faults d.read_faults
 
--- the map that a word leaves, and what it says, on drives of this shape
-abbrev pub map_left_by : Shape → PairTask → Map → Map
-map_left_by shape task m = map_left shape (limit shape) task m
+-- what a word says, on a drive with these limits: it asks the first namespace
+abbrev pub text_by : Shape → List ℕ → PairTask → Map → List ℕ
+text_by shape limits task m = text_of shape (limit_of limits NAMESPACE) task (in_space NAMESPACE m)
 
-abbrev pub text_by : Shape → PairTask → Map → List ℕ
-text_by shape task m = text_of shape (limit shape) task m
+-- the flash holds a map of which the first namespace is this part
+abbrev pub HoldsPart : Shape → Flash → Map → Type 0
+HoldsPart shape flash part = (m : Map) × Holds shape flash m × (in_space NAMESPACE m ≡ part)
+
+-- the limit of the first namespace of a flash
+abbrev pub first_limit : Shape → Flash → ℕ
+first_limit shape flash = limit_of (limits_at shape flash) NAMESPACE
 
 -- commands of this kind, one after another, took a port to another
 abbrev pub Walk : Shape → (List Command → Type 0) → Standing → Standing → Type 0
@@ -48,38 +53,40 @@ end_by None None = None
 end_by None (Some halt) = Some (end_of halt)
 end_by (Some halt) second = Some (end_of halt)
 
--- a drive that is not stopped, on a board of this shape that holds a map, of which the first namespace is all
+-- a drive that is not stopped, on a board of this shape that holds a map
 pub record IsServing (shape : Shape) (board : BoardState) (drive : Sight) : Type 0 where
   pub shape_is : board.shape ≡ Some shape
   pub runs : drive.stopped ≡ false
   pub map : Map
   pub holds : Holds shape board.pages map
-  pub alone : in_space NAMESPACE map ≡ map
 
 -- ---- at every cut
 
--- The first drive holds its map or the one after the word. What was posted begins the text of the word, and the drive holds the map after it if a
--- byte was posted; or it begins the line that says that a read failed, and one did.
-pub record KeptFirst (task : PairTask) (failed : Type 0) (shape : Shape) (m : Map) (flash : Flash) (posted : List ℕ) : Type 0 where
-  pub held : Holds shape flash m ⊎ Holds shape flash (map_left_by shape task m)
+-- The first drive holds its map or the one after the word, within these limits. What was posted begins the text of the word, and the drive holds
+-- the map after it if a byte was posted; or it begins the line that says that a read failed, and one did.
+pub record KeptFirst (task : PairTask) (failed : Type 0) (shape : Shape) (limits : List ℕ) (m : Map) (flash : Flash) (posted : List ℕ) : Type 0 where
+  pub held : Holds shape flash m ⊎ Holds shape flash (map_left shape limits task m)
+  pub same_limits : limits_at shape flash ≡ limits
   pub said :
       (posted ≡ [])
-      ⊎ ((Holds shape flash (map_left_by shape task m) × ((rest : List ℕ) × (posted ++ rest ≡ text_by shape task m)))
+      ⊎ ((Holds shape flash (map_left shape limits task m) × ((rest : List ℕ) × (posted ++ rest ≡ text_by shape limits task m)))
       ⊎ (failed × ((rest : List ℕ) × (posted ++ rest ≡ failed_line))))
 
--- The second holds a map, and nothing is posted on it.
-pub record KeptSecond (shape : Shape) (flash : Flash) (posted : List ℕ) : Type 0 where
+-- The second holds a map, within these limits, and nothing is posted on it.
+pub record KeptSecond (shape : Shape) (limits : List ℕ) (flash : Flash) (posted : List ℕ) : Type 0 where
   pub map : Map
   pub held : Holds shape flash map
+  pub same_limits : limits_at shape flash ≡ limits
   pub silent : posted ≡ []
 
 -- ---- ends
 
--- The text is the definition's, and both drives hold the map after the word. Neither drive was worn when the word began.
+-- The text is the definition's, and both drives hold the map after the word: the second has its first namespace. Neither drive was worn when the
+-- word began.
 pub record PairAnswered (task : PairTask) (shape : Shape) (m : Map) (a b c d : BoardState) (text : List ℕ) : Type 0 where
-  pub text_is : text ≡ text_by shape task m
-  pub first_holds : Holds shape b.pages (map_left_by shape task m)
-  pub second_holds : Holds shape d.pages (map_left_by shape task m)
+  pub text_is : text ≡ text_by shape (limits_at shape a.pages) task m
+  pub first_holds : Holds shape b.pages (map_left shape (limits_at shape a.pages) task m)
+  pub second_holds : HoldsPart shape d.pages (in_space NAMESPACE (map_left shape (limits_at shape a.pages) task m))
   pub first_unworn : is_worn a ≡ false
   pub second_unworn : is_worn c ≡ false
 
@@ -100,9 +107,9 @@ PairEnds task shape m a b c d FlashFailed = Rose a.stop_faults b.stop_faults ⊎
 PairEnds task shape m a b c d Worn = (is_worn b ≡ true) ⊎ (is_worn d ≡ true)
 
 -- most roots that the commands of a word install on a drive, each at most ten: a Delete of each key of the second, a Store of each of the first, and the
--- word's own command
+-- word's own command, in the first namespace
 abbrev pub most_pair_roots : Map → Map → ℕ
-most_pair_roots m other = 10 * (len m + len other + 1)
+most_pair_roots m other = 10 * (len (in_space NAMESPACE m) + len (in_space NAMESPACE other) + 1)
 
 -- If the numbers of roots are used up, the word installed no more than these, or a program or an erase had failed.
 abbrev pub UsedRoots : Map → Map → BoardState → BoardState → Type 0
@@ -111,8 +118,8 @@ UsedRoots m other a b = Rose a.stop_faults b.stop_faults ⊎ (roots b ≤ roots 
 -- A word on two drives of this shape, of which the first held this map and the second that one. Wherever either was cut it was kept, and the word
 -- ended so.
 pub record PairTold (task : PairTask) (shape : Shape) (m other : Map) (a b c d : BoardState) (end : WordEnd) : Type 0 where
-  pub first_kept : Goes shape a b (KeptFirst task (EitherUnread a b c d) shape m)
-  pub second_kept : Goes shape c d (KeptSecond shape)
+  pub first_kept : Goes shape a b (KeptFirst task (EitherUnread a b c d) shape (limits_at shape a.pages) m)
+  pub second_kept : Goes shape c d (KeptSecond shape (limits_at shape c.pages))
   pub ends : PairEnds task shape m a b c d end
   pub first_used : UsedRoots m other a b
   pub second_used : UsedRoots m other c d

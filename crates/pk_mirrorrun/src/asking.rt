@@ -11,7 +11,7 @@ ghost use Rattle.pk_port.specs.Steps.{mount, standing, seen as seen_on};
 ghost use Rattle.pk_words.specs.Said.{Spoken};
 ghost use Rattle.pk_mirrorwords.specs.PairTasks.{seen, IsAllowed};
 ghost use Rattle.pk_mirrorwords.specs.PairAnswers.{PairSaid, PairFault, AreOfFirst, AreOfSecond};
-ghost use Rattle.pk_mirrorrun.specs.PairTold.{IsServing, Walk, BothWalked};
+ghost use Rattle.pk_mirrorrun.specs.PairTold.{first_limit, IsServing, Walk, BothWalked};
 
 use pk_base::Shape;
 use pk_drive::Engine;
@@ -47,6 +47,8 @@ pub fn ask<D: Engine, B: Nand, E: Engine, C: Nand>(
     // The maps, the words and the memory.
     requires first_runs { IsServing shape (B.state first.old) (D.sight first_drive.old) }
     requires second_runs { IsServing shape (C.state second.old) (E.sight second_drive.old) }
+    requires one_limit { first_limit shape (C.state second.old).pages
+        ≡ first_limit shape (B.state first.old).pages }
     requires mirror { mirror.old ≡ record { shape = shape; split = true } }
     requires shape { room.old.shape ≡ shape }
     requires allowed { IsAllowed (seen task.now) }

@@ -6,7 +6,7 @@ ghost use Rattle.pk_call.specs.Drive.{HoldsMap};
 ghost use Rattle.pk_model.specs.Reading.{Holds};
 ghost use Rattle.pk_port.specs.Steps.{mount};
 ghost use Rattle.pk_mirrorwords.specs.PairTasks.{seen, IsAllowed};
-ghost use Rattle.pk_mirrorrun.specs.PairTold.{PairTold};
+ghost use Rattle.pk_mirrorrun.specs.PairTold.{first_limit, PairTold};
 
 use crate::telling::tell;
 use pk_base::Shape;
@@ -104,7 +104,9 @@ impl PairSpeaker {
             (mount (C.state second.old) (E.sight second_drive.old)).terms (C.state second.old)
             (E.sight second_drive.old) m }
 
-        // The word.
+        // The limit that both have, and the word.
+        requires one_limit { first_limit self (C.state second.old).pages
+            ≡ first_limit self (B.state first.old).pages }
         requires allowed { IsAllowed (seen task) }
 
         // What it did, from the maps that the flashes hold.

@@ -7,7 +7,7 @@ ghost use Rattle.pk_call.specs.Running.{HasRoomForData};
 ghost use Rattle.pk_port.specs.Ready.{Fits};
 ghost use Rattle.pk_words.specs.Said.{Spoken};
 ghost use Rattle.pk_mirrorwords.specs.PairTasks.{seen, IsAllowed};
-ghost use Rattle.pk_mirrorrun.specs.PairTold.{PairTold, IsServing, end_by};
+ghost use Rattle.pk_mirrorrun.specs.PairTold.{first_limit, PairTold, IsServing, end_by};
 
 use crate::asking::ask;
 use pk_base::Shape;
@@ -56,6 +56,8 @@ pub fn tell<D: Engine, B: Board, E: Engine, C: Board>(
     // The maps, the words and the memory.
     requires first_runs { IsServing shape (B.state first.old) (D.sight first_drive.old) }
     requires second_runs { IsServing shape (C.state second.old) (E.sight second_drive.old) }
+    requires one_limit { first_limit shape (C.state second.old).pages
+        ≡ first_limit shape (B.state first.old).pages }
     requires mirror { mirror.old ≡ record { shape = shape; split = true } }
     requires shape { room.old.shape ≡ shape }
     requires allowed { IsAllowed (seen task.now) }

@@ -133,8 +133,8 @@ module _ (task : PairTask) (p p1 p' q q1 q' : PortState) (cs ds : List Command) 
   pub done_later : (text : List ℕ) → PairDone task p1 p' q' m text → PairDone task p p' q' m text
   done_later text h = record {
     spelled = h.spelled ∙ ap (λ (s : Shape). text_of s p1.limit task m) t.shape ∙ ap (λ (n : ℕ). text_of p.shape n task m) t.limit;
-    first_left = h.first_left ∙ ap (λ (s : Shape). Some (map_left s p1.limit task m)) t.shape ∙ ap (λ (n : ℕ). Some (map_left p.shape n task m)) t.limit;
-    second_left = h.second_left ∙ ap (λ (s : Shape). Some (map_left s p1.limit task m)) t.shape ∙ ap (λ (n : ℕ). Some (map_left p.shape n task m)) t.limit;
+    first_left = h.first_left ∙ ap (λ (s : Shape). Some (map_left s (p1.limit ∷ []) task m)) t.shape ∙ ap (λ (n : ℕ). Some (map_left p.shape (n ∷ []) task m)) t.limit;
+    second_left = h.second_left ∙ ap (λ (s : Shape). Some (map_left s (p1.limit ∷ []) task m)) t.shape ∙ ap (λ (n : ℕ). Some (map_left p.shape (n ∷ []) task m)) t.limit;
   }
 
   pub fails_later : (e : MirrorError) → PairFails task p1 p' q1 q' m e → PairFails task p p' q q' m e

@@ -79,7 +79,7 @@ existed_line a there e =
 module _ {X : Type 0} (old new : Mirrored) (p p' q q' : PortState) (c : Command) (k : Opcode) (of : Reply → Result X HostError) (tells : Tells of) (is : op_of c.opcode ≡ Some k)
     (plain : (shape : Shape) (most frames : ℕ) (m : Map) (own : List ℕ) → (reply_of shape most frames m own c (Some k)).status ≡ 0)
     (step : old.split ≡ false) (pair : IsPair old p q) (m : Map) (told : p.map ≡ Some m)
-    (task : PairTask) (text_is : text_of p.shape p.limit task m ≡ answered_line p.shape p.limit m c) (left_is : map_left p.shape p.limit task m ≡ map_after p.shape (p.limit ∷ []) m c) where
+    (task : PairTask) (text_is : text_of p.shape p.limit task m ≡ answered_line p.shape p.limit m c) (left_is : map_left p.shape (p.limit ∷ []) task m ≡ map_after p.shape (p.limit ∷ []) m c) where
   -- the first's answer, if both did it
   done_reply : (x : X) → Writes old new p p' q q' c of (Ok x) → (a : Reply) × (of a ≡ Ok x) × (a.status ≡ status_by (refused p.shape (p.limit ∷ []) m c))
   done_reply x w = elim w [

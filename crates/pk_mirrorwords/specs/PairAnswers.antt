@@ -1,5 +1,5 @@
 -- What a word asks of two ports, and what it says of their maps.
-use Rattle.std.specs.Prelude.{◌≡◌, ◌⊎◌, ℕ, ◌+◌, ◌≤◌, List, [], ◌++◌, Option, Some, None, Result, Ok, Err, false}
+use Rattle.std.specs.Prelude.{◌≡◌, ◌⊎◌, ℕ, ◌+◌, ◌≤◌, List, [], ◌∷◌, ◌++◌, Option, Some, None, Result, Ok, Err, false}
 use Rattle.std.specs.List.{AllByRecursion}
 use Rattle.std.specs.FinMap.{len}
 use Rattle.pk_base.specs.Shape.{limit}
@@ -41,8 +41,8 @@ PairFault first first' second second' = Rose first.port_faults first'.port_fault
 -- The word was done: the text is the definition's, and both drives hold the map that the word leaves.
 pub record PairDone (task : PairTask) (first first' second' : PortState) (m : Map) (text : List ℕ) : Type 0 where
   pub spelled : text ≡ text_of first.shape first.limit task m
-  pub first_left : first'.map ≡ Some (map_left first.shape first.limit task m)
-  pub second_left : second'.map ≡ Some (map_left first.shape first.limit task m)
+  pub first_left : first'.map ≡ Some (map_left first.shape (first.limit ∷ []) task m)
+  pub second_left : second'.map ≡ Some (map_left first.shape (first.limit ∷ []) task m)
 
 -- that, after commands of which this is said; or a read failed and the text says so
 abbrev pub PairSaid : Type 0 → PairTask → PortState → PortState → PortState → PortState → Map → List ℕ → Type 0

@@ -43,13 +43,13 @@ change_of (delete key) = Some (delete_of key)
 change_of list = None
 change_of resync = None
 
-abbrev pub after_change : Shape → ℕ → Map → Option Command → Map
-after_change shape most m None = m
-after_change shape most m (Some c) = map_after shape (most ∷ []) m c
+abbrev pub after_change : Shape → List ℕ → Map → Option Command → Map
+after_change shape limits m None = m
+after_change shape limits m (Some c) = map_after shape limits m c
 
--- the map that a word leaves, on drives with this limit of live pages
-abbrev pub map_left : Shape → ℕ → PairTask → Map → Map
-map_left shape most task m = after_change shape most m (change_of task)
+-- the map that a word leaves, on a drive with these limits
+abbrev pub map_left : Shape → List ℕ → PairTask → Map → Map
+map_left shape limits task m = after_change shape limits m (change_of task)
 
 -- the status of a command by the definition
 abbrev pub status_by : Option ℕ → ℕ

@@ -5,14 +5,16 @@ use Rattle.pk_base.specs.Map.{Map}
 use Rattle.pk_base.specs.Refusal.{Refusal}
 use Rattle.pk_nand.specs.BoardState.{BoardState}
 use Rattle.pk_nand.specs.Calls.{Rose, Loaded, longer}
+use Rattle.pk_nvme.specs.declared.limits.TheConstants.{NAMESPACE}
+use Rattle.pk_model.specs.Spaces.{limits_at, in_space}
 use Rattle.pk_model.specs.Growth.{Goes}
 use Rattle.pk_model.specs.Reading.{Holds, Refuses}
 use Rattle.pk_model.specs.Wear.{is_worn, roots}
 use Rattle.pk_serve.specs.Complete.{NoneRose, far_below}
 use Rattle.pk_wordrun.specs.Told.{KeepsInput}
 use Rattle.pk_wordrun.specs.declared.end.WordEnd.{WordEnd}
-use Rattle.pk_mirrorwords.specs.PairTasks.{PairTask}
-use Rattle.pk_mirrorrun.specs.PairTold.{EitherUnread, map_left_by, text_by, KeptFirst, KeptSecond, PairEnds, UsedRoots, most_pair_roots}
+use Rattle.pk_mirrorwords.specs.PairTasks.{PairTask, map_left}
+use Rattle.pk_mirrorrun.specs.PairTold.{EitherUnread, text_by, HoldsPart, first_limit, KeptFirst, KeptSecond, PairEnds, UsedRoots, most_pair_roots}
 use Rattle.pk_top.specs.declared.status.TheConstants.Status.{DONE, OUTPUT, FLASH, MEMORY, NO_DRIVE, WORN}
 use Rattle.pk_top.specs.declared.asking.TheConstants.{WORD_FRAMES}
 use Rattle.pk_top.specs.Asks.{word_status}
@@ -29,8 +31,8 @@ NotFound old new status = LoadRefused old new status ⊎ ((status ≡ NO_DRIVE.0
 -- Whatever map the first held: every cut of it holds that map or the one after the word, and what was posted is the word's. Every cut of the second
 -- holds a map.
 pub record KeepsPair (task : PairTask) (shape : Shape) (loaded new loaded' new' : BoardState) : Type 0 where
-  pub first : Goes shape loaded new (λ flash posted. (m : Map) → Holds shape loaded.pages m → KeptFirst task (EitherUnread loaded new loaded' new') shape m flash posted)
-  pub second : Goes shape loaded' new' (λ flash posted. (m : Map) → Holds shape loaded'.pages m → KeptSecond shape flash posted)
+  pub first : Goes shape loaded new (λ flash posted. (m : Map) → Holds shape loaded.pages m → KeptFirst task (EitherUnread loaded new loaded' new') shape (limits_at shape loaded.pages) m flash posted)
+  pub second : Goes shape loaded' new' (λ flash posted. (m : Map) → Holds shape loaded'.pages m → KeptSecond shape (limits_at shape loaded'.pages) flash posted)
 
 -- Both drives were opened, and the word came to this end.
 pub record AskedPair (task : PairTask) (shape : Shape) (loaded new loaded' new' : BoardState) (end : WordEnd) : Type 0 where
@@ -43,12 +45,24 @@ pub record AskedPair (task : PairTask) (shape : Shape) (loaded new loaded' new' 
   pub second_used : UsedRoots start other loaded' new'
   pub few : most_pair_roots start other < far_below
 
+-- Both drives were opened, and the limits of their first namespaces differ.
+pub record LimitsDiffer (shape : Shape) (loaded new loaded' new' : BoardState) (status : ℕ) : Type 0 where
+  pub tells : status ≡ NO_DRIVE.0
+  pub start : Map
+  pub holds : Holds shape loaded.pages start
+  pub other : Map
+  pub holds_other : Holds shape loaded'.pages other
+  pub differ : first_limit shape loaded.pages ≢ first_limit shape loaded'.pages
+  pub first_opened : new ≡ behind_opening shape WORD_FRAMES loaded
+  pub second_opened : new' ≡ behind_opening shape WORD_FRAMES loaded'
+
 -- How a word ends on two images of one shape: memory was missing and nothing was done; or the first drive was not opened, and the second not tried;
--- or the second was not opened; or the word came to an end.
+-- or the second was not opened; or their limits differ; or the word came to an end.
 pub data PairOutcome (task : PairTask) (shape : Shape) (loaded new loaded' new' : BoardState) (status : ℕ) : Type 0 where
   no_speaker : status ≡ MEMORY.0 → new ≡ loaded → new' ≡ loaded' → PairOutcome task shape loaded new loaded' new' status
   first_unopened : NotServed shape loaded new status → new' ≡ loaded' → PairOutcome task shape loaded new loaded' new' status
   second_unopened : new ≡ behind_opening shape WORD_FRAMES loaded → NotServed shape loaded' new' status → PairOutcome task shape loaded new loaded' new' status
+  limits_differ : LimitsDiffer shape loaded new loaded' new' status → PairOutcome task shape loaded new loaded' new' status
   pair_asked : (end : WordEnd) → status ≡ word_status end → AskedPair task shape loaded new loaded' new' end → PairOutcome task shape loaded new loaded' new' status
 
 -- What was done on two images of one shape, from their loads on. No input was read.
@@ -87,9 +101,17 @@ pub data PairRun (task : PairTask) (old new old' new' : BoardState) (status : �
 
 -- ---- statuses and their causes
 
--- the images have no pair of drives: one has no drive, or their shapes differ
+-- both boards have this shape, and the limits of their first namespaces differ
+abbrev pub HaveOtherLimits : Shape → BoardState → BoardState → Type 0
+HaveOtherLimits shape a b = (a.shape ≡ Some shape) × (b.shape ≡ Some shape) × (first_limit shape a.pages ≢ first_limit shape b.pages)
+
+-- the images have no pair of drives: one has no drive, or their shapes or limits differ
 abbrev pub HasNoPair : BoardState → BoardState → Type 0
-HasNoPair new new' = HasNoDrive new ⊎ (HasNoDrive new' ⊎ ((shape other : Shape) × (new.shape ≡ Some shape) × (new'.shape ≡ Some other) × (shape ≢ other)))
+HasNoPair new new' =
+    HasNoDrive new
+    ⊎ (HasNoDrive new'
+    ⊎ (((shape other : Shape) × (new.shape ≡ Some shape) × (new'.shape ≡ Some other) × (shape ≢ other))
+    ⊎ ((shape : Shape) × HaveOtherLimits shape new new')))
 
 -- a program or an erase of either failed; or a flash operation of either, before anything was posted
 abbrev pub PairFlashFailed : BoardState → BoardState → BoardState → BoardState → Type 0
@@ -106,10 +128,12 @@ pub record PairTells (old new old' new' : BoardState) (status : ℕ) : Type 0 wh
   pub no_drive : status ≡ NO_DRIVE.0 → HasNoPair new new' × Untouched old new × Untouched old' new'
   pub worn : status ≡ WORN.0 → (is_worn new ≡ true) ⊎ (is_worn new' ≡ true)
 
--- the boards hold no pair: their shapes differ, or the flash of one holds no map
+-- the boards hold no pair: their shapes differ, or the flash of one holds no map, or their limits differ
 abbrev pub LacksPair : Shape → Shape → BoardState → BoardState → Type 0
 LacksPair shape other old old' =
-    (shape ≢ other) ⊎ (((refusal : Refusal) × Refuses shape old.pages refusal) ⊎ ((refusal : Refusal) × Refuses other old'.pages refusal))
+    (shape ≢ other)
+    ⊎ (((refusal : Refusal) × Refuses shape old.pages refusal)
+    ⊎ (((refusal : Refusal) × Refuses other old'.pages refusal) ⊎ (first_limit shape old.pages ≢ first_limit other old'.pages)))
 
 -- Two boards that hold their pages from the start, and no pair: the status is that of a missing drive, unless a flash operation failed before that was
 -- known, or memory ran out.
@@ -120,12 +144,13 @@ PairRefused old old' status =
 
 -- ---- completeness
 
--- On two boards that hold their pages from the start, each a map of one shape, far from worn, where no call fails: the word is done, both drives hold the
--- map after it, and its text is the definition's; or memory was missing, and nothing was done.
+-- On two boards that hold their pages from the start, each a map of one shape, with one limit, far from worn, where no call fails: the word is done,
+-- both drives hold the map after it, the second its first namespace, and its text is the definition's; or memory was missing, and nothing was done.
 abbrev pub PairWhole : PairTask → BoardState → BoardState → BoardState → BoardState → ℕ → Type 0
 PairWhole task old new old' new' status =
     (shape : Shape) (m other : Map) → old.shape ≡ Some shape → old'.shape ≡ Some shape → Holds shape old.pages m → Holds shape old'.pages other
-    → roots old < far_below → roots old' < far_below → NoneRose old new → NoneRose old' new'
+    → first_limit shape old.pages ≡ first_limit shape old'.pages → roots old < far_below → roots old' < far_below → NoneRose old new → NoneRose old' new'
     → (Rose old.flash_faults new.flash_faults → ⊥) → (Rose old'.flash_faults new'.flash_faults → ⊥)
-    → ((status ≡ DONE.0) × (new.posted ≡ longer old.posted (text_by shape task m)) × Holds shape new.pages (map_left_by shape task m) × Holds shape new'.pages (map_left_by shape task m))
+    → ((status ≡ DONE.0) × (new.posted ≡ longer old.posted (text_by shape (limits_at shape old.pages) task m)) × Holds shape new.pages (map_left shape (limits_at shape old.pages) task m)
+    × HoldsPart shape new'.pages (in_space NAMESPACE (map_left shape (limits_at shape old.pages) task m)))
     ⊎ ((status ≡ MEMORY.0) × Untouched old new × Untouched old' new')

@@ -1,6 +1,11 @@
 //! The words that ask a pair of drives, on two images.
-ghost use Rattle.std.specs.Prelude.{◌≡◌, ◌≢◌, ◌⊎◌, None, Some, map, IfOk, IfErr, MatchBool};
+ghost use Rattle.std.specs.Prelude.{◌≡◌, ◌≢◌, ◌⊎◌, None, Some, Ok, false, map, IfOk, IfErr, MatchBool};
+ghost use Rattle.pk_base.specs.Map.{Map};
+ghost use Rattle.pk_base.specs.Page.{Flash};
+ghost use Rattle.pk_base.specs.Shape.{Shape as Form};
+ghost use Rattle.pk_call.specs.Sight.{map_of};
 ghost use Rattle.pk_nand.specs.Calls.{IsReady, Loaded};
+ghost use Rattle.pk_mirrorrun.specs.PairTold.{first_limit as limit_by};
 ghost use Rattle.pk_mirrorwords.specs.PairTasks.{PairTask as Asked, seen, IsAllowed};
 ghost use Rattle.pk_top.specs.PairWords as spec;
 ghost use Rattle.pk_top.specs.PairRuns.{NotFound, AsksPair, PairRun, PairRefused, PairTells, PairWhole};
@@ -13,6 +18,7 @@ use crate::serving::of_open_error;
 use crate::status::Status;
 use pk_base::Shape;
 use pk_core::Drive;
+use pk_drive::Engine;
 use pk_mirrorrun::PairSpeaker;
 use pk_mirrorwords::PairTask;
 use pk_model::laws::held_map;
@@ -79,7 +85,19 @@ fn is_same(one: Shape, two: Shape) -> bool
         && one.blocks() == two.blocks()
 }
 
-/// Opens the drives of both images and does what a word asks of them.
+/// The limit of the first namespace of a drive, in pages.
+fn first_limit<D: Engine>(drive: &D) -> u32
+    ensures { (shape : Form) → (flash : Flash) → (m : Map) → D.agrees drive.now (Some shape) flash
+        → (D.sight drive.now).stopped ≡ false → map_of shape flash (D.sight drive.now) ≡ Ok m
+        → result ≡ limit_by shape flash }
+{
+    // so that the first namespace is known to be there
+    let _ = drive.spaces();
+    drive.counts(1).limit
+}
+
+/// Opens the drives of both images and does what a word asks of them, if their first namespaces have
+/// one limit.
 fn ask_images<B: Board, C: Board>(
     alloc: Global,
     shape: Shape,
@@ -100,7 +118,12 @@ fn ask_images<B: Board, C: Board>(
     };
     match Drive::open(alloc, first, shape, WORD_FRAMES) {
         Ok(mut one) => match Drive::open(alloc, second, shape, WORD_FRAMES) {
-            Ok(mut two) => of_word_end(speaker.run(&mut one, first, &mut two, second, task)),
+            Ok(mut two) => {
+                if first_limit(&one) != first_limit(&two) {
+                    return Status::NO_DRIVE;
+                }
+                of_word_end(speaker.run(&mut one, first, &mut two, second, task))
+            }
             Err(error) => of_open_error(error),
         },
         Err(error) => of_open_error(error),

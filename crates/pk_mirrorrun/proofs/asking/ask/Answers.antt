@@ -1,7 +1,9 @@
-use Rattle.std.proofs.Common.{rules, ap}
-use Rattle.pk_model.specs.Spaces.{in_space}
+use Rattle.std.proofs.Common.{◌≤◌, ◌∙◌, ℕ, List, [], rules, sym, ap, subst}
+use Rattle.pk_base.specs.Shape.{limit}
+use Rattle.pk_model.specs.Spaces.{limit_of, in_space}
 use Rattle.pk_port.proofs.Stepping.{part_of}
-use Rattle.pk_port.proofs.Serving.{mounted_one}
+use Rattle.pk_port.proofs.Serving.{mounted_limits}
+use Rattle.pk_serve.proofs.Limiting.{first_most}
 use Rattle.pk_port.specs.Steps.{mount, standing}
 use Rattle.pk_mirror.proofs.PairLemmas.{on_ok_map}
 use Rattle.pk_mirrorwords.specs.PairTasks.{seen}
@@ -13,8 +15,13 @@ answer_pair-requires-clause-pair g c = told_pair c.args.mirror.now c.args.shape
     (mount (g.B.Nand.state c.args.first.now) (g.D.Engine.sight c.args.first_drive.now))
     (mount (g.C.Nand.state c.args.second.now) (g.E.Engine.sight c.args.second_drive.now))
     c.args.first_tally.now.faults c.args.second_tally.now.faults c.requires.mirror
-    (mounted_one c.args.shape (g.B.Nand.state c.args.first.now) (g.D.Engine.sight c.args.first_drive.now) c.requires.first_runs.shape_is)
-    (mounted_one c.args.shape (g.C.Nand.state c.args.second.now) (g.E.Engine.sight c.args.second_drive.now) c.requires.second_runs.shape_is) c.requires.first_runs.map c.requires.second_runs.map
+    (ap (λ (limits : List ℕ). limit_of limits 1) (sym (mounted_limits c.args.shape (g.C.Nand.state c.args.second.now) (g.E.Engine.sight c.args.second_drive.now) c.requires.second_runs.shape_is))
+    ∙ c.requires.one_limit
+    ∙ ap (λ (limits : List ℕ). limit_of limits 1) (mounted_limits c.args.shape (g.B.Nand.state c.args.first.now) (g.D.Engine.sight c.args.first_drive.now) c.requires.first_runs.shape_is))
+    (subst (λ (limits : List ℕ). limit_of limits 1 ≤ limit c.args.shape)
+    (mounted_limits c.args.shape (g.B.Nand.state c.args.first.now) (g.D.Engine.sight c.args.first_drive.now) c.requires.first_runs.shape_is)
+    (first_most c.args.shape (g.B.Nand.state c.args.first.now).pages [] c.requires.first_runs.map c.requires.first_runs.holds))
+    c.requires.first_runs.map c.requires.second_runs.map
     c.requires.first_runs.holds c.requires.second_runs.holds
 
 pub returns-clause-said : goal.returns-clause-said

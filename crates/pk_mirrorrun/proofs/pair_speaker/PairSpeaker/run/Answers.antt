@@ -1,11 +1,11 @@
-use Rattle.std.proofs.Common.{sym, subst}
+use Rattle.std.proofs.Common.{◌≡◌, sym, subst}
 use Rattle.pk_base.specs.Shape.{Shape}
 use Rattle.pk_base.specs.Map.{Map}
 use Rattle.pk_nand.specs.Calls.{IsReady}
 use Rattle.pk_call.specs.Drive.{HoldsMap}
 use Rattle.pk_model.specs.Reading.{Holds}
 use Rattle.pk_mirrorwords.specs.PairTasks.{seen}
-use Rattle.pk_mirrorrun.specs.PairTold.{PairTold}
+use Rattle.pk_mirrorrun.specs.PairTold.{first_limit, PairTold}
 use Rattle.pk_port.specs.Steps.{mount}
 use Rattle.pk_wordrun.proofs.Opening.{fits-somehow}
 use Rattle.pk_mirrorrun.proofs.Lending.{serving}
@@ -35,7 +35,7 @@ tell-requires-clause-first_runs g c =
     let d = g.D.Engine.sight c.args.first_drive.now in
     let R : Shape → Type 0 = λ s. IsReady b s in
     let H : Shape → Type 0 = λ s. (m : Map) × HoldsMap s (mount b d).terms b d m in
-    serving c.self.inside.shape b d c.known.ensures c.held_map.ensures
+    serving c.self.inside.shape b d
     (subst R (sym c.self.view_is) c.requires.first_ready) c.requires.first_runs c.requires.first_none (subst H (sym c.self.view_is) c.requires.first_stands)
 
 pub tell-requires-clause-second_runs : goal.tell-requires-clause-second_runs
@@ -44,8 +44,13 @@ tell-requires-clause-second_runs g c =
     let d = g.E.Engine.sight c.args.second_drive.now in
     let R : Shape → Type 0 = λ s. IsReady b s in
     let H : Shape → Type 0 = λ s. (m : Map) × HoldsMap s (mount b d).terms b d m in
-    serving c.self.inside.shape b d c.known.ensures c.held_map.ensures
+    serving c.self.inside.shape b d
     (subst R (sym c.self.view_is) c.requires.second_ready) c.requires.second_runs c.requires.second_none (subst H (sym c.self.view_is) c.requires.second_stands)
+
+pub tell-requires-clause-one_limit : goal.tell-requires-clause-one_limit
+tell-requires-clause-one_limit g c =
+    let T : Shape → Type 0 = λ s. first_limit s (g.C.Nand.state c.args.second.now).pages ≡ first_limit s (g.B.Nand.state c.args.first.now).pages in
+    subst T (sym c.self.view_is) c.requires.one_limit
 
 pub returns : goal.returns
 returns g c =
