@@ -64,7 +64,7 @@ pub silent : (task : Task) (from to : Meter) (shape : Shape) (terms : Terms) (st
     → KeptTask task from to shape terms start flash []
 silent (answer q) from to shape terms start flash holds within = (kept-none shape terms start _ from.read_faults to.read_faults flash holds within, inl refl)
 silent (list key) from to shape terms start flash holds within =
-    let lines = key_lines (wanted_keys key (in_space 1 start)) in record { held = holds; text = lines; says = (refl, inl refl); unposted = lines; front = refl }
+    let lines = key_lines (wanted_keys key (in_space 1 start)) in record { held = holds; same_limits = within; text = lines; says = (refl, inl refl); unposted = lines; front = refl }
 silent (generate begin count) from to shape terms start flash holds within = (kept-none shape terms start _ from.read_faults to.read_faults flash holds within, inl refl)
 
 -- what a word keeps is a flash that holds a map
