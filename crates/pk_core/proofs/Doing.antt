@@ -41,7 +41,6 @@ use Rattle.pk_core.proofs.Executing.{executes_walked}
 use Rattle.pk_index.specs.Keys.{keys_there}
 use Rattle.pk_core.specs.Listed.{first_listed, ListsInto, own_keys}
 use Rattle.pk_core.proofs.Replies.{keys_own, keys_listed}
-use Rattle.pk_base.proofs.Logic.{ok_same}
 use Rattle.pk_model.specs.Spaces.{in_space, limits_at}
 use Rattle.pk_parts.proofs.Unchanging.{for_its_map}
 

@@ -33,7 +33,7 @@ pub looked_up : (d e : Parts) (old mid : BoardState) (r : Request) (k : Key) (p 
     → e ≡ d → Looks d old.pages k p → ReadsOnly old mid (most_looks d) → IsLookedUp e mid r k p before
 looked_up d e old mid r k p before s named is same looks made =
     let n : ℕ = mid.reads in
-    let here : IsServable d (record old { reads = n }) r = record { agrees = s.agrees; runs = s.runs; unworn = s.unworn; passed = s.passed; few = s.few; counted = made.few } in
+    let here : IsServable d (record old { reads = n }) r = record { agrees = s.agrees; runs = s.runs; unworn = s.unworn; passed = s.passed; few_spaces = s.few_spaces; few = s.few; counted = made.few } in
     let there : IsServable d mid r = subst (λ (b : BoardState). IsServable d b r) (sym made.board) here in
     record {
       servable = subst (λ (x : Parts). IsServable x mid r) (sym same) there;

@@ -8,7 +8,7 @@ use Rattle.pk_base.specs.Choices.{or_else}
 use Rattle.pk_base.specs.Entry.{Place}
 use Rattle.pk_base.specs.Fields.{AreBytes}
 use Rattle.pk_base.specs.Key.{Key, IsKey, space_of}
-use Rattle.pk_base.specs.Shape.{Shape, charge, greatest, limit, page_entries}
+use Rattle.pk_base.specs.Shape.{Shape, charge, greatest, page_entries}
 use Rattle.pk_base.specs.Page.{Flash}
 use Rattle.pk_base.specs.Map.{Map, live, pages_if_some}
 use Rattle.pk_nvme.specs.Command.{Command, key}
@@ -25,19 +25,18 @@ use Rattle.pk_nvme.specs.declared.opcode.Opcode.TheVariants.{Store, Retrieve, De
 use Rattle.pk_model.specs.Answer.{early, check, late_of, success, map_after}
 use Rattle.pk_model.specs.Run.{Step}
 use Rattle.pk_call.specs.Sight.{Sight}
-use Rattle.pk_model.proofs.Answering.{serves, refuses_late, store_sized, serves_alone, ServesAlone}
-use Rattle.pk_model.proofs.Machines.{store_check, store_late, live_stored}
+use Rattle.pk_model.proofs.Answering.{serves, store_sized, IsSpace, Serves, key_spaced}
+use Rattle.pk_model.proofs.Machines.{store_check, live_stored}
 use Rattle.pk_nand.specs.Effects.{NoFault, OnlyFlash}
 use Rattle.pk_call.specs.Call.{command_on}
-use Rattle.pk_call.specs.Drive.{HoldsMap}
 use Rattle.pk_model.specs.Growth.{Reaches, Goes}
 use Rattle.pk_call.specs.Exec.{Executed, most_installs, most_store_roots}
 use Rattle.pk_model.specs.Crashes.{CrashFinds, commit, change}
 use Rattle.pk_call.specs.Seen.{reply_of as shown}
 use Rattle.pk_model.specs.Wear.{roots}
 use Rattle.pk_call.specs.declared.types.Outcome.{Outcome}
-use Rattle.pk_model.proofs.Growing.{weaken, weaken_went}
-use Rattle.pk_parts.specs.Parts.{Parts, sight_of, frames_of, terms_of}
+use Rattle.pk_model.proofs.Growing.{weaken, weaken_went, reached_limits}
+use Rattle.pk_parts.specs.Parts.{Parts, sight_of, frames_of, terms_of, drive_limits}
 use Rattle.pk_parts.specs.Agreeing.{DriveOnFlash}
 use Rattle.pk_core.specs.Done.{Does, Executes}
 use Rattle.pk_parts.specs.Finding.{IsPlaceIn}
@@ -53,13 +52,15 @@ use Rattle.pk_parts.proofs.Halves.{between}
 use Rattle.pk_core.specs.Serving.{IsServable, IsCounted, outcome_for}
 use Rattle.pk_changes.specs.Noting.{pages_at}
 use Rattle.pk_space.specs.Uses.{space_live}
-use Rattle.pk_core.proofs.Standing.{stands_so}
 use Rattle.pk_parts.proofs.Standing.{agrees_so}
-use Rattle.pk_core.proofs.Counting.{counts_own}
 use Rattle.pk_core.proofs.Early.{told_shape}
-use Rattle.pk_core.proofs.Unchanging.{unread_step, refused_step, alone, value_of, same_early, does_reads, other_within, AnswersAll, ReadsWithin}
-use Rattle.pk_parts.proofs.Unchanging.{own, looked, for_its_map, reads_none, agrees_ready, whole_all, limits_are}
-use Rattle.pk_model.specs.Spaces.{Terms, one_space, limit_of, limits_at, in_space}
+use Rattle.pk_core.proofs.Unchanging.{unread_step, refused_step, value_of, same_early, does_reads, other_within, AnswersAll, ReadsWithin}
+use Rattle.pk_parts.proofs.Unchanging.{own, looked, for_its_map, reads_none, agrees_ready}
+use Rattle.pk_model.specs.Spaces.{Terms, limit_of, limits_at, in_space}
+use Rattle.pk_model.proofs.SpaceLemmas.{get_own, in_space-insert}
+use Rattle.pk_core.proofs.SpaceRoom.{has_room_for}
+use Rattle.pk_core.proofs.Counting.{live_own}
+use Rattle.pk_core.proofs.Standing.{still_stands}
 
 -- ---- what a Store asks
 

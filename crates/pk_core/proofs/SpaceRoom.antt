@@ -1,13 +1,12 @@
 -- A value that its namespace has room for has room among all values.
-use Rattle.std.proofs.Common.{◌≡◌, ℕ, ◌≤◌, ◌==◌, true, false, List, length, sum, sym, ap, subst, ◌∙◌, arith, eqb-true}
+use Rattle.std.proofs.Common.{◌≡◌, ℕ, ◌≤◌, ◌==◌, true, false, List, length, sym, ap, subst, ◌∙◌, arith, eqb-true, refl}
 use Rattle.std.specs.FinMap.{insert, entries, entries-insert}
 use Rattle.std.specs.List.{AllByRecursion}
 use Rattle.pk_base.specs.Key.{Key, space_of}
-use Rattle.pk_base.specs.Shape.{limit}
 use Rattle.pk_base.specs.Map.{Map, live}
 use Rattle.pk_nand.specs.BoardState.{BoardState}
 use Rattle.pk_law_isolation.proofs.Sums.{within_sum}
-use Rattle.pk_model.specs.Spaces.{AreInSpaces, in_space, limit_of, limits_at}
+use Rattle.pk_model.specs.Spaces.{AreInSpaces, in_space, limit_of}
 use Rattle.pk_model.proofs.Entries.{all_put}
 use Rattle.pk_model.proofs.MapLemmas.{key_total}
 use Rattle.pk_model.proofs.SpaceLemmas.{in_space-insert-other}

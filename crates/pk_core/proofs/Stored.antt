@@ -38,7 +38,7 @@ use Rattle.pk_background.specs.Spacing.{SameMapAll, MovesOrReads, StaysSame, nee
 use Rattle.pk_core.proofs.Amounts.{store_few, numbers_last}
 use Rattle.pk_changes.proofs.Changing.{kept_goes}
 use Rattle.pk_parts.proofs.Keeping.{board_has}
-use Rattle.pk_changes.proofs.Putting.{later_reaches, later_goes}
+use Rattle.pk_changes.proofs.Putting.{later_reaches, later_goes, room_after}
 use Rattle.pk_background.proofs.ReadSteps.{Passes, passes_none, reading_then, reading_failed, running_says}
 use Rattle.pk_background.proofs.SameMaps.{same_of, same_unread, passes_moved, SameMapAll-then}
 use Rattle.pk_background.proofs.SpaceSteps.{wanted_full}

@@ -4,7 +4,7 @@ use Rattle.std.specs.Prelude.{IsOk, OnOk}
 use Rattle.std.specs.FinMap.{insert, remove}
 use Rattle.std.specs.FinMap.Entries.{find}
 use Rattle.pk_base.specs.Entry.{Entry, Place}
-use Rattle.pk_base.specs.Key.{Key, key_cmp}
+use Rattle.pk_base.specs.Key.{Key, key_cmp, space_of}
 use Rattle.pk_base.specs.Page.{Flash}
 use Rattle.pk_base.specs.Map.{Map}
 use Rattle.pk_base.specs.Shape.{Shape, charge, greatest, page_entries}
@@ -30,7 +30,7 @@ use Rattle.pk_background.specs.Pairing.{FinishesHalf, FailsToFinish, FinishesOr}
 use Rattle.pk_parts.specs.Staying.{Stays, StaysOrOpens}
 use Rattle.pk_changes.specs.Programming.{PutsQuietly, TakesQuietly, ReadsQuietly}
 use Rattle.pk_background.specs.Costs.{Spends, space_and_put_calls}
-use Rattle.pk_changes.specs.Changes.{MayPut, MayTake, CanPut, CanTake, TakesAll, FailsToTake, TakesOrReads, StaysBetween}
+use Rattle.pk_changes.specs.Changes.{MayPut, MayTake, CanPut, CanTake, TakesAll, FailsToTake, TakesOrReads, StaysBetween, HasRoomFor}
 use Rattle.pk_background.specs.Spacing.{SameMapAll}
 use Rattle.pk_core.specs.Programming.{ReadsNone}
 use Rattle.pk_core.specs.Spacing.{MayStore, StoresAll, FailsToStore, StoresOrReads, store_most}
@@ -39,7 +39,7 @@ use Rattle.pk_core.specs.Whole.{CanTakeBetween}
 use Rattle.pk_background.proofs.Callings.{few_program, few_same, spends_then}
 use Rattle.pk_parts.proofs.Halves.{whole_of, with_whole, not_made, is_whole}
 use Rattle.pk_parts.proofs.Keeping.{KeepsAll-none}
-use Rattle.pk_changes.proofs.Putting.{later_reaches, later_goes}
+use Rattle.pk_changes.proofs.Putting.{later_reaches, later_goes, room_after, spaced_after}
 use Rattle.pk_background.proofs.ReadSteps.{Passes, reading_then, running_says}
 use Rattle.pk_background.proofs.SameMaps.{SameMap-then, same_of}
 use Rattle.pk_parts.proofs.Staying.{opens_behind, stays_same, stays_then}

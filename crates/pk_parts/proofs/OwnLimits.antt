@@ -1,6 +1,6 @@
 -- The limits of a drive's namespaces are those on its flash; what each namespace reports.
 use Rattle.std.proofs.Common.{◌≡◌, ℕ, zero, suc, ◌+◌, ◌-◌, ◌<◌, ◌≤◌, refl, sym, ap, subst, ◌∙◌, arith, T, ◌&&◌, nat_le, leb→le, List, [], ◌∷◌, length, sum, Option, Some}
-use Rattle.std.specs.Prelude.{slice_index}
+use Rattle.std.specs.Prelude.{slice_index, slice_index_or}
 use Rattle.std.proofs.lemmas.List.Sums.{sum_by-cons}
 use Rattle.pk_base.specs.Shape.{Shape, limit}
 use Rattle.pk_base.specs.Page.{Flash, page_at}
@@ -9,6 +9,7 @@ use Rattle.pk_base.specs.declared.sizes.TheConstants.{MOST_SPACES}
 use Rattle.pk_base.proofs.Logic.{left_part, right_part}
 use Rattle.pk_nand.specs.BoardState.{BoardState}
 use Rattle.pk_rootfmt.specs.Root.{Root, is_root, is_laid_out, are_limits, has_limits_room, fit_in, limits_of as all_limits}
+use Rattle.pk_rootfmt.specs.Held.{Held}
 use Rattle.pk_space.specs.Uses.{Use, space_live, space_keys}
 use Rattle.pk_model.specs.Found.{Found}
 use Rattle.pk_model.specs.Growth.{Reaches}
@@ -43,6 +44,11 @@ limits_on d told flash a = ap (λ (s : Shape). limits_at s flash) a.with.shape_i
 pub limits_kept : (d e : Parts) (shape : Shape) (old new : BoardState) (P : Flash → List ℕ → Type 0) → old.shape ≡ Some shape → limits_at shape old.pages ≡ drive_limits d
     → limits_at shape new.pages ≡ drive_limits e → Reaches shape old new P → drive_limits e ≡ drive_limits d
 limits_kept d e shape old new P told before after reached = sym after ∙ (reached_limits shape old new P told reached ∙ before)
+
+-- those of a root that memory holds
+pub held_limits : (held : Held) (shape : Shape) (root : Root) → held ≡ record { shape = shape; root = root } → all_limits held.shape held.root.limits ≡ root_limits shape root
+unfolding root_limits
+held_limits held shape root is = ap (λ (h : Held). all_limits h.shape h.root.limits) is
 
 -- ---- at least one, and at most eight
 
@@ -103,8 +109,12 @@ reported_length u space (most ∷ limits) = ap suc (reported_length u (space + 1
 abbrev pub report_in : Use → List ℕ → ℕ → InSpace
 report_in u limits space = record { live = space_live u space; limit = limit_of limits space; keys = space_keys u space }
 
+-- of a namespace that the drive does not have
+abbrev nothing_reported : InSpace
+nothing_reported = record { live = 0; limit = 0; keys = 0 }
+
 reported_at : (u : Use) (first i : ℕ) (limits : List ℕ) → i < length limits
-    → in_space_at (reported_from u first limits) (i + 1) ≡ record { live = space_live u (first + i); limit = slice_index limits i; keys = space_keys u (first + i) }
+    → slice_index_or (reported_from u first limits) i nothing_reported ≡ record { live = space_live u (first + i); limit = slice_index limits i; keys = space_keys u (first + i) }
 reported_at u first i [] less = absurd (omega (arith, less))
 reported_at u first zero (most ∷ limits) less =
     let same : first ≡ first + 0 = omega arith in
@@ -115,7 +125,6 @@ reported_at u first (suc i) (most ∷ limits) less =
 
 pub reported_here : (d : Parts) (space : ℕ) → 1 ≤ space → space ≤ length (drive_limits d) → in_space_at (spaces_of d) space ≡ report_in d.spaces (drive_limits d) space
 reported_here d space some most =
-    let before : space ≡ space - 1 + 1 = omega (arith, some) in
     let again : 1 + (space - 1) ≡ space = omega (arith, some) in
-    ap (in_space_at (spaces_of d)) before ∙ reported_at d.spaces 1 (space - 1) (drive_limits d) (omega (arith, some, most))
+    reported_at d.spaces 1 (space - 1) (drive_limits d) (omega (arith, some, most))
     ∙ ap (λ (n : ℕ). record { live = space_live d.spaces n; limit = slice_index (drive_limits d) (space - 1); keys = space_keys d.spaces n }) again

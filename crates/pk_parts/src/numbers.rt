@@ -72,8 +72,9 @@ impl<A: Region> Parts<A> {
     {
         // so that a drive is known to have at most eight namespaces
         let _ = self.spaces();
+        let live = self.spaces.live(space);
         Counts {
-            live: self.spaces.live(space),
+            live,
             limit: self.limit(space),
             keys: self.spaces.keys(space),
             pinned: self.levels.pinned() as u32,

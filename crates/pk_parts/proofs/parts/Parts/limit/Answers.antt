@@ -1,12 +1,12 @@
-use Rattle.std.proofs.Common.{◌≡◌, ◌≤◌, ◌∙◌, ap, sym, arith}
-use Rattle.pk_base.specs.Shape.{limit}
-use Rattle.pk_model.specs.Spaces.{limit_of}
-use Rattle.pk_parts.specs.Parts.{terms_of}
+use Rattle.std.proofs.Common.{◌∙◌, ◌-◌, ◌≤◌, List, ℕ, sym, ap, subst, length}
+use Rattle.std.specs.Prelude.{slice_index}
+use Rattle.pk_parts.specs.Parts.{drive_limits}
+use Rattle.pk_parts.proofs.OwnLimits.{held_limits}
 use Rattle.pk_parts.proofs.parts.Parts.limit.Goals as goal
 
+pub space_limit-requires : goal.space_limit-requires
+space_limit-requires g c =
+    (c.requires.0, subst (λ (limits : List ℕ). c.args.space ≤ length limits) (sym (held_limits c.root.result.now _ _ c.root.ensures ∙ ap drive_limits c.self.view_is)) c.requires.1)
+
 pub returns : goal.returns
-returns g c =
-    let some : 1 ≤ c.args.space = c.requires.0 in
-    let most : c.args.space ≤ 1 = c.requires.1 in
-    let only : c.args.space ≡ 1 = omega (arith, some, most) in
-    c.limit.ensures.value ∙ ap limit c.shape.ensures ∙ ap (limit_of (terms_of c.args.self.now).limits) (sym only)
+returns g c = c.space_limit.ensures ∙ ap (λ (limits : List ℕ). slice_index limits (c.args.space - 1)) (held_limits c.root.result.now _ _ c.root.ensures ∙ ap drive_limits c.self.view_is)
